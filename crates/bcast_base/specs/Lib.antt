@@ -1,0 +1,2 @@
+pub mod Bis
+pub mod Numbers

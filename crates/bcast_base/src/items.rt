@@ -1,0 +1,85 @@
+ghost use Rattle.std.specs.Prelude.{◌≡◌, ◌<◌, ◌++◌, ◌∷◌, [], length, slice_get, Some, OnOk, OnErr};
+
+use crate::memory::Memory;
+use crate::octets::Octets;
+use std::alloc::Global;
+use std::marker::Model;
+
+/// A list that keeps the allocator that it was made with. Places count from 0.
+#[derive(Drop)]
+pub struct Items<T> {
+    items: Vec<T>,
+}
+
+impl<T> Model for Items<T> {
+    ghost use Rattle.std.specs.Prelude.{List};
+
+    ghost Value = { List T };
+
+    ghost view = { λ a. a.items.items };
+}
+
+impl<T: Drop> Items<T> {
+    /// The empty list. It takes no memory.
+    pub fn new(alloc: Global) -> Items<T>
+        ensures { result ≡ [] }
+    {
+        Items {
+            items: Vec::new(alloc),
+        }
+    }
+
+    /// Puts an item at the end.
+    pub fn push(&mut self, item: T) -> Result<(), Memory>
+        ensures ok { OnOk result (self.new ≡ self.old ++ item ∷ []) }
+        ensures err { OnErr result (self.new ≡ self.old) }
+    {
+        Ok(self.items.push(item)?)
+    }
+
+    /// How many items there are.
+    pub fn count(&self) -> usize
+        ensures { result ≡ length self.now }
+    {
+        self.items.len()
+    }
+
+    /// The item at place `i`, from 0.
+    pub fn item(&self, i: usize) -> &T
+        requires { i < length self.now }
+        ensures { slice_get self.now i ≡ Some result.now }
+    {
+        &self.items[i]
+    }
+
+    /// The items in order.
+    pub fn as_slice(&self) -> &[T]
+        ensures { result.now ≡ self.now }
+    {
+        self.items.as_slice()
+    }
+}
+
+/// Numbers of calls, from 1.
+pub type Calls = Items<u64>;
+
+/// The PDUs of an event.
+pub type EventPdus = Items<Octets>;
+
+/// Times in µs.
+pub type Times = Items<u64>;
+
+#[cfg(test)]
+mod tests {
+    use super::*;
+    use std::test::Fail;
+
+    #[test]
+    fn a_list_lends_what_was_pushed(rt: HostRuntime) -> Result<(), Fail> {
+        let mut calls = Calls::new(rt.alloc());
+        calls.push(7)?;
+        calls.push(9)?;
+        assert_eq!(rt; calls.as_slice(), [7, 9].as_slice());
+        Ok(())
+    }
+}

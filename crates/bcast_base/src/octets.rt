@@ -1,0 +1,103 @@
+ghost use Rattle.std.specs.Prelude.{◌≡◌, ◌≤◌, ◌++◌, ◌∷◌, [], length, take, IfOk, OnOk, OnErr};
+
+use crate::memory::Memory;
+use std::alloc::Global;
+use std::marker::Model;
+
+/// A string of octets that keeps the allocator that it was made with.
+#[derive(Drop)]
+pub struct Octets {
+    octets: Vec<u8>,
+}
+
+impl Model for Octets {
+    ghost use Rattle.std.specs.Prelude.{List, ℕ};
+
+    ghost Value = { List ℕ };
+
+    ghost view = { λ a. a.octets.items };
+}
+
+impl Octets {
+    /// No octets. It takes no memory.
+    pub fn new(alloc: Global) -> Octets
+        ensures { result ≡ [] }
+    {
+        Octets {
+            octets: Vec::new(alloc),
+        }
+    }
+
+    /// The same octets in new memory.
+    pub fn copy(alloc: Global, from: &[u8]) -> Result<Octets, Memory>
+        ensures { IfOk result (λ octets. octets ≡ from.now) }
+    {
+        Ok(Octets {
+            octets: Vec::from_slice(alloc, from)?,
+        })
+    }
+
+    /// Puts an octet at the end.
+    pub fn push(&mut self, octet: u8) -> Result<(), Memory>
+        ensures ok { OnOk result (self.new ≡ self.old ++ octet ∷ []) }
+        ensures err { OnErr result (self.new ≡ self.old) }
+    {
+        Ok(self.octets.push(octet)?)
+    }
+
+    /// Puts octets at the end.
+    pub fn append(&mut self, from: &[u8]) -> Result<(), Memory>
+        ensures ok { OnOk result (self.new ≡ self.old ++ from.now) }
+        ensures err { OnErr result (self.new ≡ self.old) }
+    {
+        Ok(self.octets.extend_from_slice(from)?)
+    }
+
+    /// The octets.
+    pub fn as_slice(&self) -> &[u8]
+        ensures { result.now ≡ self.now }
+    {
+        self.octets.as_slice()
+    }
+
+    /// Drops all octets, and keeps the room.
+    pub fn clear(&mut self)
+        ensures { self.new ≡ [] }
+    {
+        self.octets.clear();
+    }
+
+    /// The same octets in memory of the same allocator.
+    pub fn copy_again(&self) -> Result<Octets, Memory>
+        ensures { IfOk result (λ octets. octets ≡ self.now) }
+    {
+        Ok(Octets {
+            octets: self.octets.clone()?,
+        })
+    }
+
+    /// Keeps the first `n` octets, or all where there are fewer. It takes no memory.
+    pub fn truncate(&mut self, n: usize)
+        ensures { self.new ≡ take n self.old }
+    {
+        self.octets.truncate(n);
+    }
+}
+
+#[cfg(test)]
+mod tests {
+    use super::*;
+    use std::test::Fail;
+
+    #[test]
+    fn each_call_that_takes_memory_succeeds_once(rt: HostRuntime) -> Result<(), Fail> {
+        let mut octets = Octets::copy(rt.alloc(), &[1, 2])?;
+        octets.push(3)?;
+        octets.append(&[4, 5])?;
+        let mut again = octets.copy_again()?;
+        assert_eq!(rt; again.as_slice(), [1, 2, 3, 4, 5].as_slice());
+        again.truncate(2);
+        assert_eq!(rt; again.as_slice(), [1, 2].as_slice());
+        Ok(())
+    }
+}
