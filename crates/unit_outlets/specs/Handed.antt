@@ -1,0 +1,21 @@
+-- What a receiver hands up: units that are valid, with their octets, and units that are lost (Core 5.2, volume 6
+-- part G, section 1), each with its stream and its time in µs.
+use Rattle.std.specs.Prelude.{ℕ, ◌≡◌, List, Result, Ok, Err}
+use Rattle.unit_outlets.specs.Faults.{Rose}
+use Rattle.unit_outlets.specs.declared.fault.TakerFault.{TakerFault}
+use Rattle.unit_outlets.specs.declared.fault.TakerFault.TheVariants.{Failed, Memory}
+
+pub data Handed : Type 0 where
+  valid : (bis time : ℕ) (octets : List ℕ) → Handed
+  lost : (bis time : ℕ) → Handed
+
+-- what a taker counts: its faults, and its wants of memory
+pub record Counts : Type 0 where
+  pub faults : ℕ
+  pub wants : ℕ
+
+-- a refusal is counted, and nothing else is
+abbrev pub Caused : Counts → Counts → Result (Unit {0}) TakerFault → Type 0
+Caused old new (Ok _) = new ≡ old
+Caused old new (Err Failed) = Rose old.faults new.faults × (new.wants ≡ old.wants)
+Caused old new (Err Memory) = Rose old.wants new.wants × (new.faults ≡ old.faults)

@@ -1,0 +1,32 @@
+use crate::{FailingTally, LastUnits, Outlet, OutletFault, Tally, take_at};
+use bcast_base::Calls;
+use std::test::*;
+
+#[test]
+fn the_last_two_of_three_units_are_kept(rt: HostRuntime) -> Result<(), Fail> {
+    let mut last = LastUnits::new(rt.alloc(), 2)?;
+    for unit in [[0xaa], [0xbb], [0xcc]] {
+        last.take(&unit)?;
+    }
+    assert!(rt; last.last(0).is_some_and(|unit| unit == [0xcc].as_slice()));
+    assert!(rt; last.last(1).is_some_and(|unit| unit == [0xbb].as_slice()));
+    assert!(rt; last.last(2).is_none());
+    assert_eq!(rt; (last.units(), last.octets()), (3, 3));
+    Ok(())
+}
+
+#[test]
+fn a_box_fails_at_its_listed_call(rt: HostRuntime) -> Result<(), Fail> {
+    let mut failing = Calls::new(rt.alloc());
+    failing.push(2)?;
+    let mut boxes: Vec<Box<dyn Outlet>> = Vec::new(rt.alloc());
+    boxes.push(Box::new(rt.alloc(), Tally::new())?)?;
+    boxes.push(Box::new(rt.alloc(), FailingTally::new(failing))?)?;
+    assert_eq!(rt; take_at(&mut boxes, 1, &[1, 2, 3, 4, 5]), Ok(()));
+    assert_eq!(rt; take_at(&mut boxes, 1, &[6]), Err(OutletFault::Failed));
+    assert_eq!(rt; take_at(&mut boxes, 1, &[7, 8]), Ok(()));
+    assert_eq!(rt; take_at(&mut boxes, 0, &[9]), Ok(()));
+    assert_eq!(rt; (boxes[1].units(), boxes[1].octets()), (2, 7));
+    assert_eq!(rt; (boxes[0].units(), boxes[0].octets()), (1, 1));
+    Ok(())
+}
