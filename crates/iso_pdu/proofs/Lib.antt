@@ -1,0 +1,4 @@
+pub mod Lists
+pub mod PartsRead
+pub mod PdusRead
+pub mod Packs

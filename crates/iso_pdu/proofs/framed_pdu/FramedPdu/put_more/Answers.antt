@@ -1,0 +1,24 @@
+use Rattle.std.proofs.Common.{arith, refl}
+use Rattle.iso_pdu.proofs.Packs.{put_more_packed}
+use Rattle.iso_pdu.proofs.framed_pdu.FramedPdu.put_more.Goals as goal
+
+pub invariant_of-self : goal.invariant_of-self
+invariant_of-self c =
+    let puts = put_more_packed c.self.inside.max_pdu c.self.inside.len c.self.inside.octets c.put_segment-self-inside.result c.put_segment-self-inside.new.octets
+    c.header_of-header.result c.args.complete c.args.part.now c.args.self.now c.self.view_is c.self.told c.self.invariant
+    c.header_of-header.ensures c.requires c.put_segment-self-inside.ensures.count c.put_segment-self-inside.ensures.put in
+    puts.packed
+
+pub returns-clause-put : goal.returns-clause-put
+returns-clause-put c =
+    let puts = put_more_packed c.self.inside.max_pdu c.self.inside.len c.self.inside.octets c.put_segment-self-inside.result c.put_segment-self-inside.new.octets
+    c.header_of-header.result c.args.complete c.args.part.now c.args.self.now c.self.view_is c.self.told c.self.invariant
+    c.header_of-header.ensures c.requires c.put_segment-self-inside.ensures.count c.put_segment-self-inside.ensures.put in
+    rw (← c.self.view_is, puts.parts) refl
+
+pub returns-clause-room : goal.returns-clause-room
+returns-clause-room c =
+    let puts = put_more_packed c.self.inside.max_pdu c.self.inside.len c.self.inside.octets c.put_segment-self-inside.result c.put_segment-self-inside.new.octets
+    c.header_of-header.result c.args.complete c.args.part.now c.args.self.now c.self.view_is c.self.told c.self.invariant
+    c.header_of-header.ensures c.requires c.put_segment-self-inside.ensures.count c.put_segment-self-inside.ensures.put in
+    rw (← c.self.view_is) (omega (arith, puts.room))

@@ -1,0 +1,34 @@
+use Rattle.std.proofs.Common.{◌≡◌, ◌+◌, ◌≤◌, ℕ, List, length, Result, Ok, Err}
+use Rattle.std.specs.Prelude.{MatchResult, IfOk, IfErr}
+use Rattle.iso_pdu.specs.declared.fault.PduFault.{PduFault}
+use Rattle.iso_pdu.specs.declared.pdu.Pdu.{Pdu}
+use Rattle.iso_pdu.specs.Faults.{FaultIs}
+use Rattle.iso_pdu.specs.Layout.{PduIs, HasAtMost}
+use Rattle.iso_pdu.specs.Reading.{read_of}
+use Rattle.iso_pdu.specs.Views.{content_of}
+use Rattle.iso_pdu.proofs.PdusRead.{read_of-spelled, read_of-fault, pdu_long}
+use Rattle.iso_pdu.proofs.pdu.read_pdu.Goals as goal
+
+abbrev Answers : ℕ → List ℕ → Result Pdu PduFault → Type 0
+Answers max_pdu octets read = MatchResult read (λ p. read_of max_pdu octets ≡ Ok (content_of p)) (λ fault. read_of max_pdu octets ≡ Err fault)
+
+layout_of : (max_pdu : ℕ) (octets : List ℕ) (read : Result Pdu PduFault) → Answers max_pdu octets read → IfOk read (λ p. PduIs (content_of p) octets × (length octets ≤ max_pdu + 2))
+layout_of max_pdu octets (Ok p) e = read_of-spelled max_pdu (content_of p) octets e
+layout_of max_pdu octets (Err fault) e = tt
+
+within_of : (max_pdu : ℕ) (octets : List ℕ) (read : Result Pdu PduFault) → Answers max_pdu octets read → IfOk read (λ p. HasAtMost max_pdu (content_of p))
+within_of max_pdu octets (Ok p) e = pdu_long max_pdu (content_of p) octets (read_of-spelled max_pdu (content_of p) octets e)
+within_of max_pdu octets (Err fault) e = tt
+
+cut_of : (max_pdu : ℕ) (octets : List ℕ) (read : Result Pdu PduFault) → Answers max_pdu octets read → IfErr read (λ fault. FaultIs max_pdu fault octets)
+cut_of max_pdu octets (Ok p) e = tt
+cut_of max_pdu octets (Err fault) e = read_of-fault max_pdu fault octets e
+
+pub returns-clause-layout : goal.returns-clause-layout
+returns-clause-layout c = layout_of c.args.max_pdu c.args.from.now c.read_fields.result c.read_fields.ensures
+
+pub returns-clause-within : goal.returns-clause-within
+returns-clause-within c = within_of c.args.max_pdu c.args.from.now c.read_fields.result c.read_fields.ensures
+
+pub returns-clause-cut : goal.returns-clause-cut
+returns-clause-cut c = cut_of c.args.max_pdu c.args.from.now c.read_fields.result c.read_fields.ensures

@@ -1,0 +1,9 @@
+use Rattle.std.proofs.Common.{◌≤◌, length, drop, arith, ◌∙◌, sym}
+use Rattle.iso_pdu.proofs.PartsRead.{result_err-nothing}
+use Rattle.std.proofs.lemmas.List.{length-drop}
+use Rattle.iso_pdu.proofs.segment.check_segments.Goals as goal
+
+pub returns : goal.returns
+returns c =
+    let none : length (drop c.segments.place c.args.payload.now) ≤ 0 = omega (arith, length-drop c.segments.place c.args.payload.now) in
+    sym (result_err-nothing c.segments.place (drop c.segments.place c.args.payload.now) none) ∙ c.segments.invariant.1

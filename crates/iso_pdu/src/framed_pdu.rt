@@ -1,0 +1,115 @@
+ghost use Rattle.std.specs.Prelude.{◌≡◌, ◌<◌, ◌≤◌, ◌+◌, ◌*◌, ◌^◌, [], ◌∷◌, ◌++◌, length, take, drop, Ok};
+ghost use Rattle.iso_pdu.specs.Layout.{start, more, framed, bit};
+ghost use Rattle.iso_pdu.specs.Packing.{room_in};
+ghost use Rattle.iso_pdu.specs.Reading.{read_of};
+ghost use Rattle.iso_pdu.specs.Spelling.{segments, pdu, offset_octets};
+
+use crate::pdu::write_payload;
+use std::marker::Model;
+
+/// A framed PDU that is filled segment by segment.
+#[derive(Drop)]
+pub struct FramedPdu {
+    octets: [u8; 251],
+    len: usize,
+    max_pdu: u8,
+}
+
+impl Model for FramedPdu {
+    ghost use Rattle.iso_pdu.specs.Packing.{Packed, packed_in, IsPacked};
+
+    ghost Value = { Packed };
+
+    ghost view = { λ a. packed_in a.max_pdu a.len a.octets };
+
+    ghost invariant = { λ a. IsPacked a.max_pdu a.len a.octets };
+}
+
+impl FramedPdu {
+    /// An empty PDU whose payload has room for `max_pdu` octets, at most 251.
+    pub fn new(max_pdu: u8) -> FramedPdu
+        requires { max_pdu ≤ 251 }
+        ensures { result ≡ record { max_pdu = max_pdu; parts = [] } }
+    {
+        FramedPdu {
+            octets: [0; 251],
+            len: 0,
+            max_pdu,
+        }
+    }
+
+    /// How many octets are left of the payload.
+    pub fn room(&self) -> u8
+        ensures room { result ≡ room_in self.now }
+        ensures within { length (segments self.now.parts) ≤ self.now.max_pdu }
+    {
+        self.max_pdu - self.len as u8
+    }
+
+    /// Puts the first segment of a unit, which takes 5 octets and those of the part. `time_offset`, in µs, is below 2^24.
+    pub fn put_start(&mut self, time_offset: u32, complete: bool, part: &[u8])
+        requires room { 5 + length part.now ≤ room_in self.old }
+        requires offset { time_offset < 2 ^ 24 }
+        ensures put { self.new ≡ record self.old { parts = self.old.parts ++ start time_offset complete part.now ∷ [] } }
+        ensures room { room_in self.new + 5 + length part.now ≡ room_in self.old }
+    {
+        let offset = spell_offset(time_offset);
+        let header = header_of(0, complete);
+        self.len = put_segment(&mut self.octets, self.len, header, &offset, part);
+    }
+
+    /// Puts a further segment of a unit, which takes 2 octets and those of the part.
+    pub fn put_more(&mut self, complete: bool, part: &[u8])
+        requires { 2 + length part.now ≤ room_in self.old }
+        ensures put { self.new ≡ record self.old { parts = self.old.parts ++ more complete part.now ∷ [] } }
+        ensures room { room_in self.new + 2 + length part.now ≡ room_in self.old }
+    {
+        let header = header_of(1, complete);
+        self.len = put_segment(&mut self.octets, self.len, header, &[], part);
+    }
+
+    /// Writes the PDU, and answers how many octets it has.
+    pub fn write(&self, into: &mut [u8; 253]) -> usize
+        ensures count { result ≡ 2 + length (segments self.now.parts) }
+        ensures spelled { take result into.new ≡ pdu (framed self.now.parts) }
+        ensures rest { drop result into.new ≡ drop result into.old }
+        ensures read { read_of self.now.max_pdu (take result into.new) ≡ Ok (framed self.now.parts) }
+    {
+        write_payload(0b10, &self.octets[..self.len], into)
+    }
+}
+
+// A segment's header: SC, and whether the unit is complete.
+fn header_of(start_bit: u8, complete: bool) -> u8
+    requires { start_bit ≤ 1 }
+    ensures { result ≡ start_bit + 2 * bit complete }
+{
+    if complete { start_bit + 2 } else { start_bit }
+}
+
+// The octets of a time offset, the least first.
+fn spell_offset(time_offset: u32) -> [u8; 3]
+    requires { time_offset < 2 ^ 24 }
+    ensures { result ≡ offset_octets time_offset }
+{
+    let low = (time_offset % 256) as u8;
+    let middle = (time_offset / 256 % 256) as u8;
+    let high = (time_offset / 65536) as u8;
+    [low, middle, high]
+}
+
+// Puts a segment behind the first `len` octets, and answers how many they are with it.
+fn put_segment(octets: &mut [u8; 251], len: usize, header: u8, offset: &[u8], part: &[u8]) -> usize
+    requires { len + 2 + length offset.now + length part.now ≤ 251 }
+    ensures count { result ≡ len + 2 + length offset.now + length part.now }
+    ensures put { take result octets.new ≡ take len octets.old ++ header ∷ (length offset.now + length part.now) ∷ (offset.now ++ part.now) }
+{
+    let body = len + 2;
+    let behind = body + offset.len();
+    let end = behind + part.len();
+    octets[len] = header;
+    octets[len + 1] = (offset.len() + part.len()) as u8;
+    octets[body..behind].copy_from_slice(offset);
+    octets[behind..end].copy_from_slice(part);
+    end
+}
