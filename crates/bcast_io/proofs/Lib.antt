@@ -1,0 +1,4 @@
+pub mod Transfers
+pub mod Slices
+pub mod LineLaws
+pub mod ReadingLaws

@@ -1,0 +1,76 @@
+-- One call after another, on what a source has left and what a sink took.
+use Rattle.std.proofs.Common.{ℕ, ◌+◌, List, [], ◌++◌, Option, None, Some, take, drop, refl, sym, ap, subst, ◌∙◌, append_assoc, append-nil, take-append-drop}
+use Rattle.std.proofs.Math.Seq.{take-add}
+use Rattle.std.specs.Io.KnownBytes.{Appends, Consumes, Keeps}
+use Rattle.bcast_io.specs.Writing.{AppendsFront}
+
+-- nothing was taken, and nothing written
+pub Consumes-nothing : (a : Option (List ℕ)) → Consumes a a []
+Consumes-nothing None = tt
+Consumes-nothing (Some x) = refl
+
+pub Appends-nothing : (a : Option (List ℕ)) → Appends a a []
+Appends-nothing None = tt
+Appends-nothing (Some x) = sym (append-nil x)
+
+-- one read after another
+pub Consumes-then : (a b c : Option (List ℕ)) (xs ys : List ℕ) → Consumes a b xs → Consumes b c ys → Consumes a c (xs ++ ys)
+Consumes-then None b c xs ys p q = tt
+Consumes-then (Some x) None c xs ys p q = absurd p
+Consumes-then (Some x) (Some y) None xs ys p q = absurd q
+Consumes-then (Some x) (Some y) (Some z) xs ys p q = p ∙ ap (λ l. xs ++ l) q ∙ sym (append_assoc xs ys z)
+
+-- a refused read after others
+pub Consumes-kept : (a b c : Option (List ℕ)) (xs : List ℕ) → Consumes a b xs → Keeps b c → Consumes a c xs
+Consumes-kept None b c xs p q = tt
+Consumes-kept (Some x) None c xs p q = absurd p
+Consumes-kept (Some x) (Some y) None xs p q = absurd q
+Consumes-kept (Some x) (Some y) (Some z) xs p q = p ∙ ap (λ l. xs ++ l) (sym q)
+
+-- one write after another
+pub Appends-then : (a b c : Option (List ℕ)) (xs ys : List ℕ) → Appends a b xs → Appends b c ys → Appends a c (xs ++ ys)
+Appends-then None b c xs ys p q = tt
+Appends-then (Some x) None c xs ys p q = absurd p
+Appends-then (Some x) (Some y) None xs ys p q = absurd q
+Appends-then (Some x) (Some y) (Some z) xs ys p q = q ∙ ap (λ l. l ++ ys) p ∙ append_assoc x xs ys
+
+-- a refused write after others
+pub Appends-kept : (a b c : Option (List ℕ)) (xs : List ℕ) → Appends a b xs → Keeps b c → Appends a c xs
+Appends-kept None b c xs p q = tt
+Appends-kept (Some x) None c xs p q = absurd p
+Appends-kept (Some x) (Some y) None xs p q = absurd q
+Appends-kept (Some x) (Some y) (Some z) xs p q = q ∙ p
+
+-- what was written whole was a front of what was to be written
+pub AppendsFront-of_all : (a b : Option (List ℕ)) (xs : List ℕ) → Appends a b xs → AppendsFront a b xs
+AppendsFront-of_all a b xs p = record { front = xs; rest = []; whole = sym (append-nil xs); appended = p }
+
+-- nothing is a front of anything
+pub AppendsFront-nothing : (a b : Option (List ℕ)) (xs : List ℕ) → Keeps a b → AppendsFront a b xs
+AppendsFront-nothing a b xs p = record { front = []; rest = xs; whole = refl; appended = Appends-kept a a b [] (Appends-nothing a) p }
+
+-- whole writes, and then one that was cut short
+pub AppendsFront-then : (a b c : Option (List ℕ)) (xs ys : List ℕ) → Appends a b xs → AppendsFront b c ys → AppendsFront a c (xs ++ ys)
+AppendsFront-then a b c xs ys p q = record {
+  front = xs ++ q.front;
+  rest = q.rest;
+  whole = ap (λ l. xs ++ l) q.whole ∙ sym (append_assoc xs q.front q.rest);
+  appended = Appends-then a b c xs q.front p q.appended;
+}
+
+-- more was to be written than what was cut short
+pub AppendsFront-of_more : (a b : Option (List ℕ)) (xs ys : List ℕ) → AppendsFront a b xs → AppendsFront a b (xs ++ ys)
+AppendsFront-of_more a b xs ys p = record {
+  front = p.front;
+  rest = p.rest ++ ys;
+  whole = ap (λ l. l ++ ys) p.whole ∙ append_assoc p.front p.rest ys;
+  appended = p.appended;
+}
+
+-- a front of a list, cut at a number
+pub AppendsFront-cut : (a b : Option (List ℕ)) (n : ℕ) (xs : List ℕ) → Appends a b (take n xs) → AppendsFront a b xs
+AppendsFront-cut a b n xs p = record { front = take n xs; rest = drop n xs; whole = sym (take-append-drop n xs); appended = p }
+
+-- a front of a list was written, and then a front of the rest
+pub Appends-more : (a b c : Option (List ℕ)) (n k : ℕ) (xs : List ℕ) → Appends a b (take n xs) → Appends b c (take k (drop n xs)) → Appends a c (take (n + k) xs)
+Appends-more a b c n k xs p q = subst (Appends a c) (sym (take-add n k xs)) (Appends-then a b c _ _ p q)

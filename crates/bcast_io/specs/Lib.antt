@@ -1,0 +1,8 @@
+pub mod Faults
+pub mod Causes
+pub mod Scripts
+pub mod Stores
+pub mod Writing
+pub mod TextLines
+pub mod Reading
+pub mod Answering

@@ -1,0 +1,46 @@
+-- The lines of a scenario text. The text, the octet that ends its lines and its limits are this project's own.
+use Rattle.std.specs.Prelude.{ℕ, ◌≢◌, ◌+◌, ◌==◌, All, nat_le, Bool, true, false, List, [], ◌∷◌, ◌++◌, length, if◌then◌else◌}
+
+-- the octet that ends a line
+abbrev pub newline : ℕ
+newline = 10
+
+-- no octet ends a line
+abbrev pub NoNewline : List ℕ → Type 0
+NoNewline xs = All (λ x. x ≢ newline) xs
+
+-- the most octets of a text, and of a line without its end
+abbrev pub text_limit : ℕ
+text_limit = 67108864
+
+abbrev pub line_limit : ℕ
+line_limit = 9000
+
+-- a line is its octets without the end, or has more than the limit of them, or holds the octet past the limit of the text
+pub data TextLine : Type 0 where
+  plain : List ℕ → TextLine
+  too_long : TextLine
+  past : TextLine
+
+-- the line of these octets
+abbrev pub line_of : List ℕ → TextLine
+line_of octets = if nat_le (length octets) line_limit then plain octets else too_long
+
+-- the line that the end of the text ends, where there is one
+abbrev pub last_line : Bool → List ℕ → List TextLine
+last_line false part = []
+last_line true [] = []
+last_line true (x ∷ xs) = line_of (x ∷ xs) ∷ []
+
+-- The lines of what follows `taken` octets of a text, of which the last are `part`, the line so far. What follows is the
+-- rest of the text, or a front of it, whose last line is not whole yet. A line past the limit of the text is the last.
+unfoldable pub lines_from : Bool → ℕ → List ℕ → List ℕ → List TextLine
+lines_from at_end taken part [] = last_line at_end part
+lines_from at_end taken part (x ∷ xs) =
+    if nat_le text_limit taken then past ∷ []
+    else (if x == newline then line_of part ∷ lines_from at_end (taken + 1) [] xs
+    else lines_from at_end (taken + 1) (part ++ x ∷ []) xs)
+
+-- the lines of a text, or the whole lines of a front of it
+abbrev pub lines_of : Bool → List ℕ → List TextLine
+lines_of at_end text = lines_from at_end 0 [] text

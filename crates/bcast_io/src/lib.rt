@@ -1,0 +1,27 @@
+//! Where octets come from and go to: sources, sinks, whole writes and a reader of lines.
+#![tactic(auto)]
+
+mod adapters;
+mod endless;
+mod faithful;
+mod line_buffer;
+mod line_reader;
+mod memory;
+mod read_ahead;
+mod script;
+mod sink;
+mod source;
+mod whole;
+
+pub use adapters::{ReadSource, WriteSink};
+pub use endless::EndlessSource;
+pub use faithful::{FaithfulSink, FaithfulSource};
+pub use line_reader::{LINE_LIMIT, LineRead, LineReader, TEXT_LIMIT};
+pub use memory::{MemorySink, MemorySource};
+pub use read_ahead::AHEAD_LIMIT;
+pub use sink::{ByteSink, SinkFault};
+pub use source::{ByteSource, Failed};
+pub use whole::write_whole;
+
+#[cfg(test)]
+mod tests;

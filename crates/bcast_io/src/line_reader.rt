@@ -1,0 +1,307 @@
+ghost use Rattle.std.specs.Prelude.{◌≡◌, ◌<◌, ◌≤◌, ◌+◌, ◌-◌, min, false, true, [], ◌++◌, None, Some, Ok, length, take, drop, slice_index, IfOk, OnOk, OnErr, IsSome, IfSome, IfNone};
+ghost use Rattle.std.specs.Io.KnownBytes.{IsAtEnd};
+ghost use Rattle.bcast_io.specs.Faults.{Rose};
+ghost use Rattle.bcast_io.specs.TextLines.{NoNewline, line_of, line_limit, newline, text_limit};
+ghost use Rattle.bcast_io.specs.Reading.{IsSound, IsReady, IsPast, Reads, Took, BreaksOff};
+ghost use Rattle.bcast_io.specs.Answering.{Names, Finds, Ends, GoesOn, Answers};
+
+use crate::line_buffer::LineBuffer;
+use crate::read_ahead::ReadAhead;
+use crate::source::{ByteSource, Failed};
+use bcast_base::Memory;
+use memchr::memchr;
+use std::alloc::Global;
+use std::marker::Model;
+use std::mem;
+
+/// The most octets of a text.
+pub const TEXT_LIMIT: usize = 67_108_864;
+
+/// The most octets of a line without its end.
+pub const LINE_LIMIT: usize = 9_000;
+
+/// The octet that ends a line.
+const NEWLINE: u8 = b'\n';
+
+/// What was read.
+#[derive(Clone, Copy, Debug, PartialEq, Eq)]
+pub enum LineRead {
+    /// A line, which `line` lends.
+    Line,
+    /// A line of more than 9,000 octets without its end. It was read to its end and not kept.
+    LineTooLong,
+    /// The line holds octet 67,108,865 of the text.
+    TextTooLong,
+    /// No octet is left.
+    End,
+}
+
+/// Reads a text line by line.
+#[derive(Drop)]
+pub struct LineReader {
+    ahead: ReadAhead,
+    part: LineBuffer,
+    line: LineBuffer,
+    taken: usize,
+    is_over: bool,
+    is_line: bool,
+}
+
+impl Model for LineReader {
+    ghost use Rattle.std.specs.Prelude.{◌≡◌, ◌≤◌, true, [], length};
+    ghost use Rattle.bcast_io.specs.TextLines.{text_limit, line_limit};
+    ghost use Rattle.bcast_io.specs.Reading.{Reading, held};
+
+    ghost Value = { Reading };
+
+    ghost view = { λ a. record {
+      ahead = a.ahead;
+      part = a.part;
+      taken = a.taken;
+      over = a.is_over;
+      line = held a.is_line a.line;
+    } };
+
+    ghost invariant = { λ a. (length a.ahead ≤ 65536) × (a.taken ≤ text_limit)
+        × (length a.line ≤ line_limit) × (a.is_over ≡ true → (a.ahead ≡ []) × (a.part ≡ [])) };
+}
+
+impl LineReader {
+    /// Nothing read yet, with all the space that it will need.
+    pub fn new(alloc: Global) -> Result<LineReader, Memory>
+        ensures { IfOk result (λ reader. reader ≡ record {
+          ahead = [];
+          part = [];
+          taken = 0;
+          over = false;
+          line = None;
+        }) }
+    {
+        Ok(LineReader {
+            ahead: ReadAhead::new(alloc)?,
+            part: LineBuffer::new(alloc)?,
+            line: LineBuffer::new(alloc)?,
+            taken: 0,
+            is_over: false,
+            is_line: false,
+        })
+    }
+
+    /// The last line without its end. Condition: the last answer was `Line`.
+    pub fn line(&self) -> &[u8]
+        requires { IsSome self.now.line }
+        ensures value { self.now.line ≡ Some result.now }
+        ensures least { length result.now ≤ line_limit }
+    {
+        self.line.as_slice()
+    }
+
+    // Ends the line so far.
+    fn end_line(&mut self) -> LineRead
+        ensures names { Names result self.new.line (line_of self.old.part) }
+        ensures part { self.new.part ≡ [] }
+        ensures ahead { self.new.ahead ≡ self.old.ahead }
+        ensures taken { self.new.taken ≡ self.old.taken }
+        ensures over { self.new.over ≡ self.old.over }
+        ensures sound { IsSound self.new }
+    {
+        self.is_line = self.part.len() <= LINE_LIMIT;
+        if self.is_line {
+            mem::swap(&mut self.part, &mut self.line);
+        }
+        self.part.clear();
+        if self.is_line {
+            LineRead::Line
+        } else {
+            LineRead::LineTooLong
+        }
+    }
+
+    // Moves the first octets ahead to the line so far.
+    fn take_part(&mut self, n: usize)
+        requires going { self.old.over ≡ false }
+        requires within { n ≤ length self.old.ahead }
+        requires fits { self.old.taken + n ≤ text_limit }
+        ensures part { self.new.part ≡ take 9001 (self.old.part ++ take n self.old.ahead) }
+        ensures ahead { self.new.ahead ≡ drop n self.old.ahead }
+        ensures taken { self.new.taken ≡ self.old.taken + n }
+        ensures over { self.new.over ≡ false }
+        ensures line { self.new.line ≡ None }
+    {
+        self.part.append(&self.ahead.as_slice()[..n]);
+        self.ahead.consume(n);
+        self.taken += n;
+        self.is_line = false;
+    }
+
+    // Passes over the end of a line.
+    fn skip_end(&mut self)
+        requires some { 0 < length self.old.ahead }
+        requires fits { self.old.taken < text_limit }
+        ensures part { self.new.part ≡ self.old.part }
+        ensures ahead { self.new.ahead ≡ drop 1 self.old.ahead }
+        ensures taken { self.new.taken ≡ self.old.taken + 1 }
+        ensures over { self.new.over ≡ self.old.over }
+    {
+        self.ahead.consume(1);
+        self.taken += 1;
+    }
+
+    // Takes the line whose end is at this place ahead.
+    fn take_line(&mut self, at: usize) -> LineRead
+        requires going { self.old.over ≡ false }
+        requires within { at < length self.old.ahead }
+        requires fits { self.old.taken + at < text_limit }
+        requires end { slice_index self.old.ahead at ≡ newline }
+        requires before { NoNewline (take at self.old.ahead) }
+        ensures found { Finds result self.old self.new }
+        ensures over { self.new.over ≡ false }
+        ensures sound { IsSound self.new }
+    {
+        self.take_part(at);
+        self.skip_end();
+        self.end_line()
+    }
+
+    // The answer that the octets ahead have, where there is one. Else they all go to the line so far.
+    fn line_ahead(&mut self) -> Option<LineRead>
+        requires { self.old.over ≡ false }
+        ensures found { IfSome result (λ read. Finds read self.old self.new) }
+        ensures none { IfNone result (Reads self.old self.new [] []) }
+        ensures all { IfNone result (self.new.ahead ≡ []) }
+        ensures taken { IfNone result (self.new.taken ≡ self.old.taken + length self.old.ahead) }
+        ensures line { IfNone result (self.new.line ≡ None) }
+        ensures over { self.new.over ≡ false }
+        ensures sound { IsSound self.new }
+    {
+        let ahead = self.ahead.as_slice();
+        let count = ahead.len().min(TEXT_LIMIT - self.taken);
+        match find_newline(&ahead[..count]) {
+            Some(at) => Some(self.take_line(at)),
+            None => self.take_front(count),
+        }
+    }
+
+    // Takes all that may be taken of a line whose end is not ahead.
+    fn take_front(&mut self, n: usize) -> Option<LineRead>
+        requires going { self.old.over ≡ false }
+        requires most { n ≡ min (length self.old.ahead) (text_limit - self.old.taken) }
+        requires fits { self.old.taken ≤ text_limit }
+        requires none { NoNewline (take n self.old.ahead) }
+        ensures found { IfSome result (λ read. Finds read self.old self.new) }
+        ensures none { IfNone result (Reads self.old self.new [] []) }
+        ensures all { IfNone result (self.new.ahead ≡ []) }
+        ensures taken { IfNone result (self.new.taken ≡ self.old.taken + length self.old.ahead) }
+        ensures line { IfNone result (self.new.line ≡ None) }
+        ensures over { self.new.over ≡ false }
+        ensures sound { IsSound self.new }
+    {
+        self.take_part(n);
+        if self.ahead.as_slice().is_empty() {
+            return None;
+        }
+        Some(LineRead::TextTooLong)
+    }
+
+    // One read where nothing is ahead. It gives how many octets came.
+    fn fill<S: ByteSource>(&mut self, source: &mut S) -> Result<usize, Failed>
+        requires empty { self.old.ahead ≡ [] }
+        requires going { self.old.over ≡ false }
+        ensures took { Took self.old self.new (S.left source.old) (S.left source.new) [] }
+        ensures count { IfOk result (λ n. n ≡ length self.new.ahead) }
+        ensures end { IfOk result (λ n. n ≡ 0 → IsAtEnd (S.left source.new)) }
+        ensures none_failed { OnOk result (S.faults source.new ≡ S.faults source.old) }
+        ensures kept { OnErr result (self.new.ahead ≡ []) }
+        ensures failed { OnErr result (Rose (S.faults source.old) (S.faults source.new)) }
+        ensures taken { self.new.taken ≡ self.old.taken }
+        ensures line { self.new.line ≡ self.old.line }
+        ensures over { self.new.over ≡ false }
+        ensures sound { IsSound self.new }
+    {
+        self.ahead.fill(source)
+    }
+
+    // The answer at the end of the input.
+    fn last_line(&mut self) -> LineRead
+        requires empty { self.old.ahead ≡ [] }
+        requires going { self.old.over ≡ false }
+        ensures ends { Ends result self.old self.new }
+        ensures over { self.new.over ≡ true }
+        ensures sound { IsSound self.new }
+    {
+        if self.part.len() == 0 {
+            self.is_over = true;
+            self.is_line = false;
+            return LineRead::End;
+        }
+        let read = self.end_line();
+        self.is_over = true;
+        read
+    }
+
+    // Reads on, where nothing is ahead and the line isn't whole.
+    fn read_on<S: ByteSource>(&mut self, source: &mut S) -> Result<LineRead, Failed>
+        requires empty { self.old.ahead ≡ [] }
+        requires going { self.old.over ≡ false }
+        requires fits { self.old.taken ≤ text_limit }
+        requires line { self.old.line ≡ None }
+        ensures answer { IfOk result (λ read. Answers read self.old self.new (S.left source.old) (S.left source.new)) }
+        ensures failed { OnErr result (BreaksOff self.old self.new (S.left source.old) (S.left source.new)) }
+        ensures none_failed { OnOk result (S.faults source.new ≡ S.faults source.old) }
+        ensures cause { OnErr result (Rose (S.faults source.old) (S.faults source.new)) }
+        ensures end { self.new.over ≡ true → IsAtEnd (S.left source.new) }
+        ensures sound { IsSound self.new }
+    {
+        'reads: loop {
+            if self.fill(source)? == 0 {
+                return Ok(self.last_line());
+            }
+            match self.line_ahead() {
+                Some(read) => return Ok(read),
+                None => continue 'reads,
+            }
+        }
+    }
+
+    /// Reads one line. It takes no memory, and no call of the source follows once the octets that were
+    /// read give the answer. After `Failed` the next call goes on with the line, and after `End` and
+    /// `TextTooLong` each later call answers the same without a read.
+    pub fn next_line<S: ByteSource>(&mut self, source: &mut S) -> Result<LineRead, Failed>
+        ensures answer { IfOk result (λ read. Answers read self.old self.new (S.left source.old) (S.left source.new)) }
+        ensures failed { OnErr result (BreaksOff self.old self.new (S.left source.old) (S.left source.new)) }
+        ensures none_failed { OnOk result (S.faults source.new ≡ S.faults source.old) }
+        ensures cause { OnErr result (Rose (S.faults source.old) (S.faults source.new)) }
+
+        // At most 65,536 octets past those of the lines so far were taken.
+        ensures sound { IsSound self.new }
+
+        // No read is made where the octets ahead give the answer, nor after the end.
+        ensures unread { IsReady self.old → source.new ≡ source.old }
+        ensures over { self.old.over ≡ true
+            → (result ≡ Ok LineRead.End) × (self.new.over ≡ true) × (source.new ≡ source.old) }
+        ensures past { IsPast self.old → (result ≡ Ok LineRead.TextTooLong) × (source.new ≡ source.old) }
+        ensures end { self.old.over ≡ false → self.new.over ≡ true → IsAtEnd (S.left source.new) }
+
+        // There are no more lines than this number, which falls with each of them.
+        ensures goes_on { IfOk result (λ read. GoesOn read self.old self.new) }
+    {
+        if self.is_over {
+            self.is_line = false;
+            return Ok(LineRead::End);
+        }
+        match self.line_ahead() {
+            Some(read) => Ok(read),
+            None => self.read_on(source),
+        }
+    }
+}
+
+// The place of the first end of a line.
+fn find_newline(from: &[u8]) -> Option<usize>
+    ensures none { IfNone result (NoNewline from.now) }
+    ensures within { IfSome result (λ i. i < length from.now) }
+    ensures at { IfSome result (λ i. slice_index from.now i ≡ newline) }
+    ensures before { IfSome result (λ i. NoNewline (take i from.now)) }
+{
+    memchr(NEWLINE, from)
+}

@@ -1,0 +1,6 @@
+pub mod Bounds
+pub mod Faults
+pub mod Rows
+pub mod Schedule
+pub mod Time
+pub mod Widths

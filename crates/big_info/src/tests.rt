@@ -1,0 +1,75 @@
+use crate::{BigInfo, Group, GroupFault, check_group};
+use std::test::Fail;
+
+/// One unit of 4 octets every 10 ms on LE 2M, sent once.
+const SINGLE: BigInfo = BigInfo {
+    big_offset: 0,
+    big_offset_units: 0,
+    iso_interval: 8,
+    num_bis: 1,
+    nse: 1,
+    bn: 1,
+    sub_interval: 0,
+    pto: 0,
+    bis_spacing: 0,
+    irc: 1,
+    max_pdu: 4,
+    seed_access_address: 0,
+    sdu_interval: 10000,
+    max_sdu: 4,
+    base_crc_init: 0,
+    chm: 0,
+    phy: 1,
+    bis_payload_count: 0,
+    framing: 0,
+    cipher: None,
+};
+
+fn times(group: &Group) -> (u32, u32, u32) {
+    (group.horizon(), group.mpt(), group.sync_delay())
+}
+
+#[test]
+fn gives_the_worked_times(rt: HostRuntime) -> Result<(), Fail> {
+    assert!(rt; SINGLE.fits());
+    let single = check_group(&SINGLE)?;
+    assert_eq!(rt; times(&single), (0, 60, 60));
+
+    let ahead = BigInfo {
+        nse: 4,
+        irc: 2,
+        pto: 1,
+        sub_interval: 400,
+        ..SINGLE
+    };
+    assert!(rt; ahead.fits());
+    assert_eq!(rt; times(&check_group(&ahead)?), (2, 60, 1260));
+
+    let stereo = BigInfo {
+        max_sdu: 100,
+        max_pdu: 100,
+        num_bis: 2,
+        nse: 3,
+        irc: 2,
+        pto: 1,
+        sub_interval: 600,
+        bis_spacing: 1800,
+        ..SINGLE
+    };
+    assert!(rt; stereo.fits());
+    assert_eq!(rt; times(&check_group(&stereo)?), (1, 444, 3444));
+    Ok(())
+}
+
+#[test]
+fn refuses_the_worked_group(rt: HostRuntime) {
+    let info = BigInfo {
+        nse: 2,
+        bn: 2,
+        sub_interval: 400,
+        ..SINGLE
+    };
+    assert!(rt; info.fits());
+    let fault = check_group(&info).err();
+    assert_eq!(rt; fault.map(GroupFault::number), Some(10));
+}

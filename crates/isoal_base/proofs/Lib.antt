@@ -1,0 +1,3 @@
+pub mod Ranges
+pub mod Heards
+pub mod Steps

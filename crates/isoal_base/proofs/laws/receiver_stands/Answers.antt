@@ -1,0 +1,12 @@
+use Rattle.isoal_base.proofs.Steps.{stands_new, stands_hear, stands_close}
+use Rattle.isoal_base.proofs.laws.receiver_stands.Goals as goal
+
+pub returns-clause-new : goal.returns-clause-new
+returns-clause-new g c read stay = stands_new read stay
+
+pub returns-clause-hear : goal.returns-clause-hear
+returns-clause-hear g c takes stay calls event kept number octets some stands =
+    stands_hear takes stay calls event kept number octets some stands
+
+pub returns-clause-close : goal.returns-clause-close
+returns-clause-close g c read stay calls event kept some stands = stands_close read stay calls event kept some stands

@@ -1,0 +1,10 @@
+//! What the receivers and senders of both framings share.
+#![tactic(auto)]
+
+mod heard;
+mod laid;
+mod laws;
+
+pub use heard::Heard;
+pub use laid::{EventLaid, PutFault};
+pub use laws::{heard_is_first, receiver_stands};

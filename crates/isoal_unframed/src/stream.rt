@@ -1,0 +1,69 @@
+ghost use Rattle.std.specs.Prelude.{◌≡◌, ◌≤◌, ◌<◌, ◌+◌, ◌*◌, ◌^◌, ◌%◌};
+ghost use Rattle.big_info.specs.Schedule.{horizon_of, per_event_of, per_unit_of};
+
+use bcast_base::Bis;
+use big_info::Group;
+use sync_reference::{anchor, render, unframed_reference};
+
+/// The unframed stream that a sink takes, from its first event on.
+#[derive(Clone, Copy)]
+pub(crate) struct Stream {
+    pub(crate) group: Group,
+    pub(crate) bis: Bis,
+    /// The first event, and its anchor in µs.
+    pub(crate) first: u64,
+    pub(crate) origin: u64,
+    /// The presentation delay in µs.
+    pub(crate) delay: u32,
+    pub(crate) ghost unframed: { group.info.framing ≡ 0 },
+    pub(crate) ghost first_event: { first ≤ 2 ^ 39 },
+    pub(crate) ghost times: { origin ≤ 2 ^ 61 + 2 ^ 23 },
+    pub(crate) ghost delays: { delay < 2 ^ 24 },
+}
+
+impl Stream {
+    /// How many numbers the H + 1 events of the window have.
+    pub(crate) fn window(&self) -> usize
+        ensures { result ≡ (horizon_of self.now.group.info + 1) * self.now.group.info.bn }
+    {
+        (self.group.horizon() as usize + 1) * usize::from(self.group.info.bn)
+    }
+
+    /// The place of an event's first number, in a ring of H + 1 events.
+    #[tactic(auto, using(crate::proofs::Places::event_fits))]
+    pub(crate) fn place(&self, event: u64) -> usize
+        ensures exact { result ≡ event % (horizon_of self.now.group.info + 1) * self.now.group.info.bn }
+        ensures within { result + self.now.group.info.bn ≤ (horizon_of self.now.group.info + 1) * self.now.group.info.bn }
+    {
+        let turn = (event % (u64::from(self.group.horizon()) + 1)) as usize;
+        turn * usize::from(self.group.info.bn)
+    }
+
+    /// k: the slots of an event.
+    pub(crate) fn slots(&self) -> usize
+        ensures { result ≡ per_event_of self.now.group.info }
+    {
+        self.group.per_event() as usize
+    }
+
+    /// m: the numbers of a slot.
+    pub(crate) fn places(&self) -> usize
+        ensures exact { result ≡ per_unit_of self.now.group.info }
+        ensures all { per_event_of self.now.group.info * result ≡ self.now.group.info.bn }
+    {
+        self.group.per_unit() as usize
+    }
+
+    /// When the unit of a slot, from 0, is rendered, in µs.
+    pub(crate) fn time(&self, event: u64, slot: usize) -> u64
+        requires first { self.now.first ≤ event }
+        requires event { event < 2 ^ 39 }
+        requires slot { slot < per_event_of self.now.group.info }
+    {
+        let anchor = anchor(self.origin, self.first, event, self.group.iso_us());
+        render(
+            unframed_reference(&self.group, anchor, slot as u8),
+            self.delay,
+        )
+    }
+}

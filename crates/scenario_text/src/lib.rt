@@ -1,0 +1,12 @@
+//! The lines of a scenario: what each line says, and the first word that doesn't fit its place.
+#![tactic(auto)]
+
+mod cursor;
+mod decimal;
+mod fault;
+mod line;
+mod step;
+
+pub use fault::LineFault;
+pub use line::{read_line, read_line_in};
+pub use step::Step;

@@ -1,0 +1,60 @@
+use crate::{anchor, framed_reference, render, unframed_reference};
+use big_info::{BigInfo, check_group};
+use std::test::Fail;
+
+/// Two units of 4 octets every 10 ms on LE 2M, sent once.
+const UNFRAMED: BigInfo = BigInfo {
+    big_offset: 0,
+    big_offset_units: 0,
+    iso_interval: 8,
+    num_bis: 1,
+    nse: 2,
+    bn: 2,
+    sub_interval: 400,
+    pto: 0,
+    bis_spacing: 0,
+    irc: 1,
+    max_pdu: 4,
+    seed_access_address: 0,
+    sdu_interval: 5000,
+    max_sdu: 4,
+    base_crc_init: 0,
+    chm: 0,
+    phy: 1,
+    bis_payload_count: 0,
+    framing: 0,
+    cipher: None,
+};
+
+#[test]
+fn renders_the_worked_units(rt: HostRuntime) -> Result<(), Fail> {
+    assert!(rt; UNFRAMED.fits());
+    let unframed = check_group(&UNFRAMED)?;
+    let first = anchor(20000, 7, 7, unframed.iso_us());
+    let next = anchor(20000, 7, 8, unframed.iso_us());
+    assert_eq!(rt; (first, next), (20000, 30000));
+    assert_eq!(rt;
+        render(unframed_reference(&unframed, first, 0), 40000),
+        60460
+    );
+    assert_eq!(rt;
+        render(unframed_reference(&unframed, first, 1), 40000),
+        65460
+    );
+
+    let info = BigInfo {
+        sdu_interval: 10884,
+        max_sdu: 8,
+        max_pdu: 10,
+        framing: 1,
+        ..UNFRAMED
+    };
+    assert!(rt; info.fits());
+    let framed = check_group(&info)?;
+    assert_eq!(rt;
+        render(framed_reference(&framed, 20000, 5000), 40000),
+        76368
+    );
+    assert_eq!(rt; framed_reference(&framed, 0, 16777215), 0);
+    Ok(())
+}
