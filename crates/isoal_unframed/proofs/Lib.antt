@@ -1,1 +1,15 @@
+mod Airs
+mod Events
+mod Handing
+mod Kept
+mod Laid
 mod Places
+mod Rows
+mod Runs
+mod SlotSteps
+mod Stands
+mod Struck
+mod Turns
+mod UnitLaws
+mod Vecs
+mod Windows

@@ -1,11 +1,23 @@
 //! The sender and the receiver of an unframed stream: units and their fragments.
 #![tactic(auto)]
 
+mod air_laws;
 mod cell;
+mod in_call;
+mod laws;
+#[cfg(test)]
+mod out_tests;
 mod ring;
+mod run;
+mod slots;
 mod stream;
 mod unframed_in;
 mod unframed_out;
+mod window;
 
+pub use air_laws::{a_slot_carries_its_unit, each_number_is_laid, slots_add_up, the_rest_waits};
+pub use in_call::InCall;
+pub use laws::{unit_is_assembled, units_are_struck};
+pub use run::run_calls;
 pub use unframed_in::UnframedIn;
 pub use unframed_out::UnframedOut;

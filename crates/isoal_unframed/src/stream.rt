@@ -1,5 +1,7 @@
 ghost use Rattle.std.specs.Prelude.{◌≡◌, ◌≤◌, ◌<◌, ◌+◌, ◌*◌, ◌^◌, ◌%◌};
-ghost use Rattle.big_info.specs.Schedule.{horizon_of, per_event_of, per_unit_of};
+ghost use Rattle.big_info.specs.Schedule.{per_event_of, per_unit_of};
+ghost use Rattle.isoal_base.specs.Stays.{window_of};
+ghost use Rattle.isoal_unframed.specs.Windows.{time_of};
 
 use bcast_base::Bis;
 use big_info::Group;
@@ -22,9 +24,11 @@ pub(crate) struct Stream {
 }
 
 impl Stream {
+    ghost use Rattle.isoal_unframed.specs.Streams.{stay_of, place_of, place_at};
+
     /// How many numbers the H + 1 events of the window have.
     pub(crate) fn window(&self) -> usize
-        ensures { result ≡ (horizon_of self.now.group.info + 1) * self.now.group.info.bn }
+        ensures { result ≡ window_of self.now.group.info }
     {
         (self.group.horizon() as usize + 1) * usize::from(self.group.info.bn)
     }
@@ -32,11 +36,26 @@ impl Stream {
     /// The place of an event's first number, in a ring of H + 1 events.
     #[tactic(auto, using(crate::proofs::Places::event_fits))]
     pub(crate) fn place(&self, event: u64) -> usize
-        ensures exact { result ≡ event % (horizon_of self.now.group.info + 1) * self.now.group.info.bn }
-        ensures within { result + self.now.group.info.bn ≤ (horizon_of self.now.group.info + 1) * self.now.group.info.bn }
+        ensures exact { result ≡ place_of self.now.group.info event }
+        ensures within { result + self.now.group.info.bn ≤ window_of self.now.group.info }
     {
         let turn = (event % (u64::from(self.group.horizon()) + 1)) as usize;
         turn * usize::from(self.group.info.bn)
+    }
+
+    /// The place of the number at this index of the window of an event.
+    pub(crate) fn place_at(&self, event: u64, index: usize) -> usize
+        requires { index < window_of self.now.group.info }
+        ensures exact { result ≡ place_at self.now.group.info event index }
+        ensures within { result < window_of self.now.group.info }
+    {
+        let window = self.window();
+        let place = self.place(event) + index;
+        if place < window {
+            place
+        } else {
+            place - window
+        }
     }
 
     /// k: the slots of an event.
@@ -59,6 +78,7 @@ impl Stream {
         requires first { self.now.first ≤ event }
         requires event { event < 2 ^ 39 }
         requires slot { slot < per_event_of self.now.group.info }
+        ensures { result ≡ time_of (stay_of self.now) event slot }
     {
         let anchor = anchor(self.origin, self.first, event, self.group.iso_us());
         render(

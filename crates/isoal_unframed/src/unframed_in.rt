@@ -1,15 +1,22 @@
-ghost use Rattle.std.specs.Prelude.{◌≡◌, ◌≤◌, ◌<◌, ◌+◌, ◌*◌, ◌^◌, ◌%◌, length, vec_len};
-ghost use Rattle.big_info.specs.Schedule.{horizon_of, per_event_of, per_unit_of};
-ghost use Rattle.isoal_unframed.specs.Cells.{Within};
+ghost use Rattle.std.specs.Prelude.{◌≡◌, ◌≤◌, ◌<◌, ◌+◌, ◌*◌, ◌^◌, List, [], ◌∷◌, length, replicate, IfOk, None};
+ghost use Rattle.big_info.specs.Bounds.{Bounds};
+ghost use Rattle.big_info.specs.Schedule.{per_event_of};
+ghost use Rattle.unit_outlets.specs.Handed.{Caused};
+ghost use Rattle.isoal_base.specs.Hearing.{answer_of};
+ghost use Rattle.isoal_base.specs.Stays.{Call, hear, close, opened, window_of};
+ghost use Rattle.isoal_unframed.specs.Histories.{units_of};
+ghost use Rattle.isoal_unframed.specs.Units.{unframed};
+ghost use Rattle.isoal_unframed.specs.Windows.{Stands, HandsOver, after_hear, after_close, owed, held_in_event};
 
-use crate::cell::Cell;
 use crate::ring::Ring;
 use crate::stream::Stream;
+use crate::window::{hand_event, held, keep};
 use bcast_base::{Bis, Memory};
 use big_info::Group;
 use iso_pdu::{Pdu, read_pdu};
 use isoal_base::Heard;
 use std::alloc::Global;
+use std::marker::Model;
 use unit_outlets::{TakerFault, UnitTaker};
 
 /// The receiver of an unframed stream from the moment that a sink is put on a group. It keeps the PDUs of the open
@@ -19,10 +26,24 @@ pub struct UnframedIn {
     stream: Stream,
     event: u64,
     ring: Ring,
-    ghost room: { vec_len ring.cells ≡ (horizon_of stream.group.info + 1) * stream.group.info.bn },
-    ghost octets: { ring.max_pdu ≡ stream.group.info.max_pdu },
-    ghost order: { stream.first ≤ event },
-    ghost last: { event ≤ 2 ^ 39 },
+}
+
+impl Model for UnframedIn {
+    ghost use Rattle.isoal_unframed.specs.Cells.{turned};
+    ghost use Rattle.isoal_unframed.specs.Receivers.{IsReceiver};
+    ghost use Rattle.isoal_unframed.specs.Rings.{kept_of};
+    ghost use Rattle.isoal_unframed.specs.Streams.{stay_of, place_of};
+    ghost use Rattle.isoal_unframed.specs.Windows.{Window};
+
+    ghost Value = { Window };
+
+    ghost view = { λ a. record {
+      stay = stay_of a.stream;
+      event = a.event;
+      kept = turned (place_of a.stream.group.info a.event) (kept_of a.ring);
+    } };
+
+    ghost invariant = { λ a. IsReceiver a.stream a.event a.ring };
 }
 
 impl UnframedIn {
@@ -39,6 +60,11 @@ impl UnframedIn {
         requires event { first_event ≤ 2 ^ 39 }
         requires anchor { anchor ≤ 2 ^ 61 + 2 ^ 23 }
         requires delay { delay < 2 ^ 24 }
+        ensures { IfOk result (λ receiver. receiver ≡ record {
+          stay = record { info = group.now.info; bis = bis; first = first_event; origin = anchor; delay = delay };
+          event = first_event;
+          kept = replicate (window_of group.now.info) None;
+        }) }
     {
         let stream = Stream {
             group: *group,
@@ -56,58 +82,70 @@ impl UnframedIn {
 
     /// The open event.
     pub fn open_event(&self) -> u64
-        ensures { result ≡ self.now.event }
+        ensures event { result ≡ self.now.event }
+        ensures bound { result ≤ 2 ^ 39 }
+        ensures kept { length self.now.kept ≡ window_of self.now.stay.info }
     {
         self.event
     }
 
-    /// Hears a PDU under its payload number. It takes no memory.
-    pub fn hear(&mut self, number: u64, pdu: &[u8]) -> Heard {
+    /// Hears a PDU under its payload number, and answers the first that holds: the octets are no PDU; it is none of an
+    /// unframed stream; the number is below those of the open event, or past the window; a PDU of that number is kept;
+    /// else it is kept. It takes no memory.
+    pub fn hear(&mut self, number: u64, pdu: &[u8]) -> Heard
+        ensures answer { result ≡ answer_of unframed self.old.stay.info self.old.event self.old.kept number pdu.now }
+        ensures step { self.new ≡ after_hear number pdu.now self.old }
+        ensures stands { (calls : List Call) → Stands calls self.old → Stands (hear number pdu.now ∷ calls) self.new }
+    {
+        self.take_in(number, pdu)
+    }
+
+    /// Hands the units of the open event to the taker, and opens the next event. After a fault of the taker the event is
+    /// closed too, and the units behind the one that was refused are not handed. It takes no memory.
+    pub fn close<T: UnitTaker>(&mut self, taker: &mut T) -> Result<(), TakerFault>
+        requires { self.old.event < 2 ^ 39 }
+        ensures step { self.new ≡ after_close self.old }
+        ensures hands { HandsOver (owed self.old) (T.calls taker.old) (T.calls taker.new) result }
+        ensures cause { Caused (T.counts taker.old) (T.counts taker.new) result }
+        ensures stands { (calls : List Call) → Stands calls self.old → Stands (close ∷ calls) self.new }
+        ensures units { (calls : List Call) → Stands calls self.old → HandsOver (units_of self.old.stay calls (opened self.old.stay calls)) (T.calls taker.old) (T.calls taker.new) result }
+    {
+        self.hand_units(taker)
+    }
+
+    /// Answers a PDU, and keeps its part where the answer is that it is kept.
+    fn take_in(&mut self, number: u64, pdu: &[u8]) -> Heard
+        ensures answer { result ≡ answer_of unframed self.old.stay.info self.old.event self.old.kept number pdu.now }
+        ensures step { self.new ≡ after_hear number pdu.now self.old }
+        ensures bounds { Bounds self.old.stay.info }
+    {
         match read_pdu(pdu, self.stream.group.info.max_pdu) {
             Err(fault) => Heard::Malformed(fault),
-            Ok(Pdu::Fragment(part)) => self.keep(number, Cell::Fragment(part.len() as u8), part),
-            Ok(Pdu::End(part)) => self.keep(number, Cell::End(part.len() as u8), part),
+            Ok(Pdu::Fragment(part)) => {
+                keep(
+                    &self.stream,
+                    self.event,
+                    &mut self.ring,
+                    number,
+                    false,
+                    part,
+                )
+            }
+            Ok(Pdu::End(part)) => {
+                keep(&self.stream, self.event, &mut self.ring, number, true, part)
+            }
             Ok(_) => Heard::WrongKind,
         }
     }
 
-    /// Keeps a part under its payload number.
-    fn keep(&mut self, number: u64, cell: Cell, part: &[u8]) -> Heard
-        requires part { length part.now ≤ self.old.stream.group.info.max_pdu }
-        requires cell { Within self.old.stream.group.info.max_pdu cell }
-    {
-        let first = self.event * u64::from(self.stream.group.info.bn);
-        if number < first {
-            return Heard::Late;
-        }
-        if number - first >= self.stream.window() as u64 {
-            return Heard::Beyond;
-        }
-        let place = self.place((number - first) as usize);
-        if !self.ring.is_empty(place) {
-            return Heard::Repeat;
-        }
-        self.ring.put(place, cell, part);
-        Heard::Kept
-    }
-
-    /// The place in the ring of the number at this index of the window.
-    fn place(&self, index: usize) -> usize
-        requires { index < vec_len self.now.ring.cells }
-        ensures { result < vec_len self.now.ring.cells }
-    {
-        let window = self.stream.window();
-        let place = self.stream.place(self.event) + index;
-        if place < window {
-            place
-        } else {
-            place - window
-        }
-    }
-
-    /// Hands the units of the open event to the taker, and opens the next event.
-    pub fn close<T: UnitTaker>(&mut self, taker: &mut T) -> Result<(), TakerFault>
+    /// Hands the units of the open event, empties its places and opens the next event.
+    fn hand_units<T: UnitTaker>(&mut self, taker: &mut T) -> Result<(), TakerFault>
         requires { self.old.event < 2 ^ 39 }
+        ensures step { self.new ≡ after_close self.old }
+        ensures hands { HandsOver (owed self.old) (T.calls taker.old) (T.calls taker.new) result }
+        ensures cause { Caused (T.counts taker.old) (T.counts taker.new) result }
+        ensures bounds { Bounds self.old.stay.info }
+        ensures plain { self.old.stay.info.framing ≡ 0 }
     {
         let handed = hand_event(&self.stream, self.event, &mut self.ring, taker);
         let first = self.stream.place(self.event);
@@ -118,40 +156,10 @@ impl UnframedIn {
     }
 
     /// How many octets are held of units of the open event that are not handed yet.
-    #[tactic(auto, using(crate::proofs::Places::slot_fits))]
-    pub fn held(&self) -> usize {
-        let max_sdu = usize::from(self.stream.group.info.max_sdu);
-        let places = self.stream.places();
-        let mut first = self.stream.place(self.event);
-        let mut sum = 0usize;
-        'slots: for _ in 0..self.stream.slots() {
-            sum += self.ring.held(first, places, max_sdu);
-            first += places;
-        }
-        sum
+    pub fn held(&self) -> usize
+        ensures held { result ≡ held_in_event self.now.stay self.now.kept }
+        ensures bound { result ≤ per_event_of self.now.stay.info * self.now.stay.info.max_sdu }
+    {
+        held(&self.stream, self.event, &self.ring)
     }
-}
-
-/// Hands the units of an event.
-#[tactic(auto, using(crate::proofs::Places::slot_fits))]
-fn hand_event<T: UnitTaker>(
-    stream: &Stream,
-    event: u64,
-    ring: &mut Ring,
-    taker: &mut T,
-) -> Result<(), TakerFault>
-    requires room { vec_len ring.old.cells ≡ (horizon_of stream.now.group.info + 1) * stream.now.group.info.bn }
-    requires first { stream.now.first ≤ event }
-    requires event { event < 2 ^ 39 }
-    ensures places { vec_len ring.new.cells ≡ vec_len ring.old.cells }
-    ensures max_pdu { ring.new.max_pdu ≡ ring.old.max_pdu }
-{
-    let places = stream.places();
-    let mut first = stream.place(event);
-    'slots: for slot in 0..stream.slots() {
-        let time = stream.time(event, slot);
-        ring.hand_slot(stream, first, time, taker)?;
-        first += places;
-    }
-    Ok(())
 }

@@ -1,28 +1,46 @@
-ghost use Rattle.std.specs.Prelude.{◌≡◌, ◌≤◌, ◌<◌, length};
+ghost use Rattle.std.specs.Prelude.{◌≡◌, ◌≤◌, ◌*◌, ◌∷◌, List, [], length, drop, IfOk, IfErr, OnOk, OnErr};
+ghost use Rattle.big_info.specs.Schedule.{per_event_of, per_unit_of};
+ghost use Rattle.big_info.specs.declared.info.BigInfo.{BigInfo};
+ghost use Rattle.isoal_unframed.specs.Air.{unframed_air};
+ghost use Rattle.isoal_unframed.specs.Calls.{Call, accept, lay, begun};
+ghost use Rattle.isoal_unframed.specs.Sender.{MayWait, PutFaultIs, StandsFor, after_event, event_pdus, laid_in, with_unit};
 
+use crate::slots::lay_slots;
 use bcast_base::{EventPdus, Memory, Octets, Times};
 use big_info::Group;
-use iso_pdu::{write_end, write_fragment};
 use isoal_base::{EventLaid, PutFault};
 use std::alloc::Global;
 use std::collections::VecDeque;
+use std::marker::Model;
 
 /// The most units that wait for a slot.
 const BACKLOG: usize = 16;
 
-/// The sender of an unframed stream. Each unit takes the next slot of an event that is laid.
+/// The sender of an unframed stream (Core 5.2, volume 6 part G, section 2.1). Each unit takes the next slot of an event
+/// that is laid, and is cut into fragments of at most Max_PDU octets.
 #[derive(Drop)]
 pub struct UnframedOut {
     alloc: Global,
     group: Group,
     waiting: VecDeque<Octets>,
     ghost unframed: { group.info.framing ≡ 0 },
+    ghost few: { length waiting.items ≤ 16 },
+}
+
+impl Model for UnframedOut {
+    ghost use Rattle.isoal_unframed.specs.Sender.{Sender};
+
+    ghost Value = { Sender };
+
+    ghost view = { λ s. record { info = s.group.info; waiting = s.waiting.items } };
 }
 
 impl UnframedOut {
     /// A sender before its first event. It takes no memory.
     pub fn new(alloc: Global, group: &Group) -> UnframedOut
         requires { group.now.info.framing ≡ 0 }
+        ensures empty { result ≡ record { info = group.now.info; waiting = [] } }
+        ensures stands { StandsFor group.now.info [] result }
     {
         UnframedOut {
             alloc,
@@ -32,7 +50,24 @@ impl UnframedOut {
     }
 
     /// Gives a unit to the stream; it waits for its slot.
-    pub fn put(&mut self, octets: &[u8]) -> Result<(), PutFault> {
+    ///
+    /// It is refused as TooLong where it has more than Max_SDU octets, and else as Backlog where 16 units wait. A refused
+    /// unit changes nothing.
+    pub fn put(&mut self, octets: &[u8]) -> Result<(), PutFault>
+        ensures may_wait { OnOk result (MayWait self.old octets.now) }
+        ensures ok { OnOk result (self.new ≡ with_unit self.old octets.now) }
+        ensures fault { IfErr result (λ fault. PutFaultIs self.old octets.now fault) }
+        ensures err { OnErr result (self.new ≡ self.old) }
+        ensures stands { OnOk result ((info : BigInfo) (calls : List Call) → StandsFor info calls self.old → StandsFor info (accept octets.now ∷ calls) self.new) }
+    {
+        self.put_unit(octets)
+    }
+
+    fn put_unit(&mut self, octets: &[u8]) -> Result<(), PutFault>
+        ensures ok { OnOk result (MayWait self.old octets.now × (self.new ≡ with_unit self.old octets.now)) }
+        ensures fault { IfErr result (λ fault. PutFaultIs self.old octets.now fault) }
+        ensures err { OnErr result (self.new ≡ self.old) }
+    {
         if octets.len() > usize::from(self.group.info.max_sdu) {
             return Err(PutFault::TooLong);
         }
@@ -43,53 +78,44 @@ impl UnframedOut {
         Ok(())
     }
 
-    /// Lays the next event: its slots take the units that wait, in order.
-    pub fn lay_event(&mut self) -> Result<EventLaid, Memory> {
-        let slots = self.group.per_event() as usize;
-        let mut pdus = EventPdus::new(self.alloc);
-        for slot in 0..slots {
-            let unit = match self.waiting.get(slot) {
-                Some(unit) => Some(unit.as_slice()),
-                None => None,
-            };
-            lay_slot(self.alloc, &self.group, unit, &mut pdus)?;
-        }
-        for _ in 0..slots {
-            let _ = self.waiting.pop_front();
-        }
+    /// Lays the next event: its slots take the units that wait, in order, and no unit is left out of it as stale. Want of
+    /// memory changes nothing.
+    pub fn lay_event(&mut self) -> Result<EventLaid, Memory>
+        ensures ok { IfOk result (λ event. (laid_in event ≡ record { pdus = event_pdus self.old.info self.old.waiting; stale = [] }) × (self.new ≡ after_event self.old)) }
+        ensures err { OnErr result (self.new ≡ self.old) }
+        ensures count { IfOk result (λ event. length event.pdus ≡ self.old.info.bn) }
+        ensures stands { OnOk result ((info : BigInfo) (calls : List Call) → StandsFor info calls self.old → StandsFor info (lay ∷ calls) self.new) }
+        ensures laid { IfOk result (λ event. (info : BigInfo) (calls : List Call) → StandsFor info calls self.old
+            → unframed_air info (lay ∷ calls) ≡ record { event = laid_in event; begun = begun info (lay ∷ calls) } ∷ unframed_air info calls) }
+    {
+        self.lay_next()
+    }
+
+    fn lay_next(&mut self) -> Result<EventLaid, Memory>
+        ensures whole { self.old.info.bn ≡ per_event_of self.old.info * per_unit_of self.old.info }
+        ensures ok { IfOk result (λ event. (laid_in event ≡ record { pdus = event_pdus self.old.info self.old.waiting; stale = [] }) × (self.new ≡ after_event self.old)) }
+        ensures err { OnErr result (self.new ≡ self.old) }
+    {
+        let pdus = self.next_pdus()?;
+        pop_units(&mut self.waiting, self.group.per_event());
         Ok(EventLaid {
             pdus,
             stale: Times::new(self.alloc),
         })
     }
+
+    fn next_pdus(&self) -> Result<EventPdus, Memory>
+        ensures { IfOk result (λ pdus. pdus ≡ event_pdus self.now.info self.now.waiting) }
+    {
+        lay_slots(self.alloc, &self.group, &self.waiting)
+    }
 }
 
-/// Lays the PDUs of a slot: full fragments, the end, and then padding; padding alone where there is no unit.
-fn lay_slot(
-    alloc: Global,
-    group: &Group,
-    unit: Option<&[u8]>,
-    pdus: &mut EventPdus,
-) -> Result<(), Memory> {
-    let max_pdu = usize::from(group.info.max_pdu);
-    let mut left = unit;
-    let mut room = [0u8; 253];
-    for _ in 0..group.per_unit() {
-        let count = match left {
-            None => write_fragment(&[], &mut room),
-            Some(octets) if octets.len() > max_pdu => {
-                left = Some(&octets[max_pdu..]);
-                write_fragment(&octets[..max_pdu], &mut room)
-            }
-            Some(octets) if octets.len() <= 251 => {
-                left = None;
-                write_end(octets, &mut room)
-            }
-            Some(_) => 0,
-        };
-        if count <= 253 {
-            pdus.push(Octets::copy(alloc, &room[..count])?)?;
-        }
+/// Takes the first `count` units out of the queue, or all where there are fewer.
+fn pop_units(waiting: &mut VecDeque<Octets>, count: u32)
+    ensures { waiting.new.items ≡ drop count waiting.old.items }
+{
+    'units: for _ in 0..count {
+        let _ = waiting.pop_front();
     }
-    Ok(())
 }

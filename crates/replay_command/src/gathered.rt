@@ -24,7 +24,7 @@ pub struct Gathered {
 impl Gathered {
     ghost use Rattle.replay_command.specs.Gathering.{counts_of};
 
-    pub fn new(alloc: Global) -> Gathered {
+    pub(crate) fn new(alloc: Global) -> Gathered {
         Gathered {
             alloc,
             units: Vec::new(alloc),

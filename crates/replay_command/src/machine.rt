@@ -5,6 +5,7 @@ use crate::gathered::Gathered;
 use crate::refusal::Refusal;
 use crate::sink::Sink;
 use crate::source::{Described, Source};
+use crate::steps::Place;
 use crate::stop::Stop;
 use crate::version::Version;
 use bcast_base::{Memory, Octets};
@@ -40,7 +41,7 @@ pub struct Machine {
 
 impl Machine {
     /// A scenario before its first line.
-    pub fn new(alloc: Global) -> Result<Machine, Memory> {
+    pub(crate) fn new(alloc: Global) -> Result<Machine, Memory> {
         Ok(Machine {
             alloc,
             version: None,
@@ -53,12 +54,12 @@ impl Machine {
     }
 
     /// Whether the scenario ended.
-    pub fn is_over(&self) -> bool {
+    pub(crate) fn is_over(&self) -> bool {
         self.is_over
     }
 
     /// Runs a line, and puts what it prints at the end of the text.
-    pub fn line(
+    pub(crate) fn line(
         &mut self,
         line: &[u8],
         outlets: &mut Vec<Box<dyn Outlet>>,
@@ -147,7 +148,41 @@ impl Machine {
                 back,
                 bis,
                 subevent,
-            } => self.hear(sink, back, bis, subevent),
+            } => self.hear(
+                sink,
+                Place {
+                    back,
+                    bis,
+                    subevent,
+                },
+            ),
+            Step::Air { sink, lose } => self.air(sink, lose),
+            Step::Inject {
+                sink,
+                back,
+                bis,
+                subevent,
+                octets,
+            } => {
+                let place = Place {
+                    back,
+                    bis,
+                    subevent,
+                };
+                self.inject(sink, place, &octets, text)
+            }
+            Step::Sniff {
+                back,
+                bis,
+                subevent,
+            } => self.sniff(
+                Place {
+                    back,
+                    bis,
+                    subevent,
+                },
+                text,
+            ),
             Step::End => self.end(outlets, text),
         }
     }

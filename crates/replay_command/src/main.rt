@@ -10,6 +10,8 @@ mod source;
 mod status;
 mod steps;
 mod stop;
+#[cfg(test)]
+mod tests;
 mod transcript;
 mod version;
 mod words;

@@ -1,4 +1,5 @@
-ghost use Rattle.std.specs.Prelude.{◌≡◌, ◌≤◌};
+ghost use Rattle.std.specs.Prelude.{◌≡◌, ◌≢◌, ◌↔◌, [], Ok, Some};
+ghost use Rattle.bcast_io.specs.Faults.{Rose};
 
 use crate::machine::Machine;
 use crate::refusal::Refusal;
@@ -19,7 +20,18 @@ pub fn replay<S: ByteSource, K: ByteSink>(
     source: &mut S,
     sink: &mut K,
     outlets: &mut Vec<Box<dyn Outlet>>,
-) -> Status {
+) -> Status
+    // Any word is Usage, and nothing is read or written then.
+    ensures usage { (result ≡ Status.Usage) ↔ (words.now ≢ []) }
+    ensures unread { result ≡ Status.Usage → source.new ≡ source.old }
+    ensures unwritten { result ≡ Status.Usage → sink.new ≡ sink.old }
+
+    // A fault comes only where the count rose, and each other answer leaves it.
+    ensures read_fault { result ≡ Status.ReadFault → Rose (S.faults source.old) (S.faults source.new) }
+    ensures no_read_fault { result ≢ Status.ReadFault → S.faults source.new ≡ S.faults source.old }
+    ensures write_fault { result ≡ Status.WriteFault → Rose (K.faults sink.old) (K.faults sink.new) }
+    ensures no_write_fault { result ≢ Status.WriteFault → K.faults sink.new ≡ K.faults sink.old }
+{
     match mode_of(words) {
         Mode::Usage => Status::Usage,
         Mode::Replay => match run(alloc, source, sink, outlets) {
@@ -35,7 +47,13 @@ fn run<S: ByteSource, K: ByteSink>(
     source: &mut S,
     sink: &mut K,
     outlets: &mut Vec<Box<dyn Outlet>>,
-) -> Result<Status, Memory> {
+) -> Result<Status, Memory>
+    ensures never_usage { result ≢ Ok Status.Usage }
+    ensures read_fault { result ≡ Ok Status.ReadFault → Rose (S.faults source.old) (S.faults source.new) }
+    ensures no_read_fault { result ≢ Ok Status.ReadFault → S.faults source.new ≡ S.faults source.old }
+    ensures write_fault { result ≡ Ok Status.WriteFault → Rose (K.faults sink.old) (K.faults sink.new) }
+    ensures no_write_fault { result ≢ Ok Status.WriteFault → K.faults sink.new ≡ K.faults sink.old }
+{
     let mut reader = LineReader::new(alloc)?;
     let mut machine = Machine::new(alloc)?;
     let mut text = Octets::new(alloc);
@@ -62,7 +80,12 @@ fn finish<K: ByteSink>(
     line: u64,
     text: &mut Octets,
     sink: &mut K,
-) -> Result<Option<Status>, Memory> {
+) -> Result<Option<Status>, Memory>
+    ensures never_usage { result ≢ Ok (Some Status.Usage) }
+    ensures never_read_fault { result ≢ Ok (Some Status.ReadFault) }
+    ensures write_fault { result ≡ Ok (Some Status.WriteFault) → Rose (K.faults sink.old) (K.faults sink.new) }
+    ensures no_write_fault { result ≢ Ok (Some Status.WriteFault) → K.faults sink.new ≡ K.faults sink.old }
+{
     let status = match end {
         Ok(()) => None,
         Err(Stop::Memory) => return Err(Memory),

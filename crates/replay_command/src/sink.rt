@@ -2,6 +2,7 @@ ghost use Rattle.std.specs.Prelude.{◌≡◌, ◌≤◌, ◌<◌, ◌+◌, ◌^
 
 use bcast_base::{Bis, BisSet, Memory};
 use big_info::Group;
+use isoal_base::Heard;
 use isoal_unframed::UnframedIn;
 use std::alloc::Global;
 use unit_outlets::{TakerFault, UnitTaker};
@@ -13,31 +14,44 @@ struct Receiver {
     stream: UnframedIn,
 }
 
+/// What a sink made of a PDU that was handed to it.
+#[derive(Clone, Copy, Debug, PartialEq, Eq)]
+pub enum Hearing {
+    /// The sink is on no group.
+    NotOnGroup,
+    /// The sink doesn't take the stream.
+    NotTaken,
+    /// The subevent carries no payload.
+    NoNumber,
+    /// What the receiver of the stream made of it.
+    Heard(Heard),
+}
+
 /// A sink: the place of its box in the list, and a receiver a stream where it is on a group.
 #[derive(Drop)]
 pub struct Sink {
     alloc: Global,
     outlet: usize,
-    receivers: Vec<Receiver>,
+    receivers: Option<Vec<Receiver>>,
 }
 
 impl Sink {
     /// A sink that is on no group.
-    pub fn new(alloc: Global, outlet: usize) -> Sink {
+    pub(crate) fn new(alloc: Global, outlet: usize) -> Sink {
         Sink {
             alloc,
             outlet,
-            receivers: Vec::new(alloc),
+            receivers: None,
         }
     }
 
     /// The place of its box.
-    pub fn outlet(&self) -> usize {
+    pub(crate) fn outlet(&self) -> usize {
         self.outlet
     }
 
     /// Puts the sink on a group from this event on, whose anchor is given in µs. What it held is dropped.
-    pub fn tune(
+    pub(crate) fn tune(
         &mut self,
         group: &Group,
         which: BisSet,
@@ -61,24 +75,34 @@ impl Sink {
             let stream = UnframedIn::new(self.alloc, group, bis, event, anchor, delay)?;
             receivers.push(Receiver { bis, stream })?;
         }
-        self.receivers = receivers;
+        self.receivers = Some(receivers);
         Ok(())
     }
 
-    /// Hears a PDU of this payload number on a stream, where the sink takes the stream.
-    pub fn hear(&mut self, bis: Bis, number: u64, pdu: &[u8]) {
-        for receiver in self.receivers.iter_mut() {
+    /// Hands the sink a PDU that was heard on a stream, with its payload number where it has one.
+    pub(crate) fn hear(&mut self, bis: Bis, number: Option<u64>, pdu: &[u8]) -> Hearing {
+        let Some(receivers) = &mut self.receivers else {
+            return Hearing::NotOnGroup;
+        };
+        for receiver in receivers.iter_mut() {
             if receiver.bis == bis {
-                let _ = receiver.stream.hear(number, pdu);
+                return match number {
+                    Some(number) => Hearing::Heard(receiver.stream.hear(number, pdu)),
+                    None => Hearing::NoNumber,
+                };
             }
         }
+        Hearing::NotTaken
     }
 
     /// Closes the open event of each stream, by rising index, where it is this event or an earlier one.
-    pub fn tick<T: UnitTaker>(&mut self, event: u64, taker: &mut T) -> Result<(), TakerFault>
+    pub(crate) fn tick<T: UnitTaker>(&mut self, event: u64, taker: &mut T) -> Result<(), TakerFault>
         requires { event < 2 ^ 39 }
     {
-        for receiver in self.receivers.iter_mut() {
+        let Some(receivers) = &mut self.receivers else {
+            return Ok(());
+        };
+        for receiver in receivers.iter_mut() {
             if receiver.stream.open_event() <= event {
                 receiver.stream.close(taker)?;
             }

@@ -64,7 +64,7 @@ pub struct Source {
 
 impl Source {
     /// Starts a source of an unframed group before this event.
-    pub fn new(
+    pub(crate) fn new(
         alloc: Global,
         group: &Group,
         described: &Described,
@@ -87,42 +87,42 @@ impl Source {
     }
 
     /// The group.
-    pub fn group(&self) -> &Group
+    pub(crate) fn group(&self) -> &Group
         ensures { result.now ≡ self.now.group }
     {
         &self.group
     }
 
     /// The presentation delay in µs.
-    pub fn delay(&self) -> u32
+    pub(crate) fn delay(&self) -> u32
         ensures { result < 2 ^ 24 }
     {
         self.delay
     }
 
     /// The next event.
-    pub fn next_event(&self) -> u64
+    pub(crate) fn next_event(&self) -> u64
         ensures { result ≤ 2 ^ 39 }
     {
         self.next
     }
 
     /// The anchor of the next event, in µs.
-    pub fn next_anchor(&self) -> u64
+    pub(crate) fn next_anchor(&self) -> u64
         ensures { result ≤ 2 ^ 61 }
     {
         anchor(self.origin, self.first, self.next, self.group.iso_us())
     }
 
     /// Whether the group has a stream of this index.
-    pub fn has(&self, bis: Bis) -> bool
+    pub(crate) fn has(&self, bis: Bis) -> bool
         ensures { IsTrue result ↔ (bis ≤ self.now.group.info.num_bis) }
     {
         bis.get() <= self.group.info.num_bis
     }
 
     /// Whether the group has each stream of a set.
-    pub fn has_all(&self, which: BisSet) -> bool {
+    pub(crate) fn has_all(&self, which: BisSet) -> bool {
         for index in 1..=31u8 {
             if let Some(bis) = Bis::new(index) {
                 if which.has(bis) && !self.has(bis) {
@@ -134,7 +134,7 @@ impl Source {
     }
 
     /// The event that is open, which is the last one performed until it is closed.
-    pub fn open_event(&self) -> Option<u64>
+    pub(crate) fn open_event(&self) -> Option<u64>
         ensures { IfSome result (λ event. event < 2 ^ 39) }
     {
         if self.is_open && self.next > 0 {
@@ -145,7 +145,7 @@ impl Source {
     }
 
     /// Ends the open event, which is answered.
-    pub fn end(&mut self) -> Option<u64>
+    pub(crate) fn end(&mut self) -> Option<u64>
         ensures { IfSome result (λ event. event < 2 ^ 39) }
     {
         let open = self.open_event();
@@ -154,7 +154,7 @@ impl Source {
     }
 
     /// Gives a unit to a stream, in an unframed group without a time.
-    pub fn put(&mut self, bis: Bis, time: Option<u64>, octets: &[u8]) -> Result<(), Stop> {
+    pub(crate) fn put(&mut self, bis: Bis, time: Option<u64>, octets: &[u8]) -> Result<(), Stop> {
         if !self.has(bis) {
             return Err(Stop::Refused(Refusal::NoSuchBis));
         }
@@ -175,7 +175,7 @@ impl Source {
     }
 
     /// Whether the payload counter has room for the next event and all that it lays.
-    pub fn has_room(&self) -> bool
+    pub(crate) fn has_room(&self) -> bool
         ensures { IsTrue result → self.now.next < 2 ^ 39 }
     {
         let laid = self.next + u64::from(self.group.horizon()) + 1;
@@ -183,7 +183,7 @@ impl Source {
     }
 
     /// Performs the next event: lays what it and the events ahead of it carry, and puts it on the air.
-    pub fn perform(&mut self) -> Result<(), Memory>
+    pub(crate) fn perform(&mut self) -> Result<(), Memory>
         requires { self.old.next < 2 ^ 39 }
     {
         let ahead = self.group.horizon() as usize;
@@ -196,8 +196,24 @@ impl Source {
         Ok(())
     }
 
+    /// Whether an event was performed.
+    pub(crate) fn is_on_air(&self) -> bool {
+        self.next > self.first
+    }
+
+    /// Whether a PDU of an event is the last of each `lose` PDUs, in the order of events, streams and subevents. With
+    /// 0 none is.
+    pub(crate) fn is_lost(&self, event: u64, bis: Bis, subevent: u8, lose: u8) -> bool
+        requires { event ≤ 2 ^ 39 }
+    {
+        let info = &self.group.info;
+        let stream = event * u64::from(info.num_bis) + u64::from(bis.get() - 1);
+        let count = stream * u64::from(info.nse) + u64::from(subevent);
+        lose > 0 && count % u64::from(lose) == u64::from(lose - 1)
+    }
+
     /// The PDU of a stream and a subevent in the event `back` before the last one, with that event.
-    pub fn heard_at(&self, back: u8, bis: Bis, subevent: u8) -> Result<(u64, &[u8]), Refusal>
+    pub(crate) fn heard_at(&self, back: u8, bis: Bis, subevent: u8) -> Result<(u64, &[u8]), Refusal>
         ensures { IfOk result (λ heard. heard.0 ≤ 2 ^ 39) }
     {
         match self.air.heard_at(back, bis, subevent) {

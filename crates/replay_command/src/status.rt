@@ -21,7 +21,7 @@ pub enum Status {
 
 impl Status {
     /// The exit status of the program.
-    pub fn exit_code(self) -> u8 {
+    pub(crate) fn exit_code(self) -> u8 {
         match self {
             Status::Done => 0,
             Status::Refused { .. } => 1,
@@ -34,7 +34,7 @@ impl Status {
     }
 
     /// What the program says on standard error.
-    pub fn message(self) -> Option<&'static str> {
+    pub(crate) fn message(self) -> Option<&'static str> {
         match self {
             Status::Done | Status::Refused { .. } => None,
             Status::Usage => Some("usage: replay [--migrate | --toml | --seed N --events M]"),

@@ -7,21 +7,29 @@ use crate::refusal::Refusal;
 use crate::sink::Sink;
 use crate::source::{Described, Source};
 use crate::stop::Stop;
-use crate::transcript::{put_lost, put_sum, put_valid};
+use crate::transcript::{put_heard, put_lost, put_pdu, put_sum, put_valid};
 use crate::version::Version;
 use bcast_base::{Bis, BisSet, Octets};
 use big_info::check_group_within;
 use radio_schedule::payload_of;
 use unit_outlets::{Outlet, OutletFault, TakerFault, take_at};
 
+/// A place on the air: the event `back` before the last one, a stream and a subevent.
+#[derive(Clone, Copy)]
+pub struct Place {
+    pub back: u8,
+    pub bis: Bis,
+    pub subevent: u8,
+}
+
 impl Machine {
     /// `group`: describes the source, once.
-    pub fn group(&mut self, described: Described) -> Result<(), Stop> {
+    pub(crate) fn group(&mut self, described: Described) -> Result<(), Stop> {
         if !matches!(self.phase, Phase::Absent) {
             return Err(Stop::Refused(Refusal::Order));
         }
         let info = &described.info;
-        if info.framing == 1 || info.max_sdu > u16::from(info.max_pdu) {
+        if info.framing == 1 {
             return Err(Stop::Refused(Refusal::NotBuilt));
         }
         self.phase = Phase::Described(described);
@@ -29,7 +37,7 @@ impl Machine {
     }
 
     /// `start`: starts the source, once.
-    pub fn start(&mut self, first: u64) -> Result<(), Stop>
+    pub(crate) fn start(&mut self, first: u64) -> Result<(), Stop>
         requires { first < 2 ^ 39 }
     {
         let limits = self.version.unwrap_or(Version::One).limits();
@@ -49,7 +57,7 @@ impl Machine {
     }
 
     /// `sink`: a new sink with the next box.
-    pub fn sink(&mut self, sink: u8, outlets: &Vec<Box<dyn Outlet>>) -> Result<(), Stop>
+    pub(crate) fn sink(&mut self, sink: u8, outlets: &Vec<Box<dyn Outlet>>) -> Result<(), Stop>
         requires { sink ≤ 7 }
     {
         let place = usize::from(sink);
@@ -65,7 +73,7 @@ impl Machine {
     }
 
     /// `tuned`: puts a sink on the group from the next event on.
-    pub fn tuned(&mut self, sink: u8, which: BisSet) -> Result<(), Stop>
+    pub(crate) fn tuned(&mut self, sink: u8, which: BisSet) -> Result<(), Stop>
         requires { sink ≤ 7 }
     {
         let Phase::Started(source) = &self.phase else {
@@ -84,7 +92,12 @@ impl Machine {
     }
 
     /// `unit`: gives the source a unit of a stream.
-    pub fn unit(&mut self, bis: Bis, time: Option<u64>, octets: &Octets) -> Result<(), Stop> {
+    pub(crate) fn unit(
+        &mut self,
+        bis: Bis,
+        time: Option<u64>,
+        octets: &Octets,
+    ) -> Result<(), Stop> {
         match &mut self.phase {
             Phase::Started(source) => source.put(bis, time, octets.as_slice()),
             _ => Err(Stop::Refused(Refusal::Order)),
@@ -92,7 +105,7 @@ impl Machine {
     }
 
     /// `event`: closes the open event, and performs the next one.
-    pub fn event(
+    pub(crate) fn event(
         &mut self,
         outlets: &mut Vec<Box<dyn Outlet>>,
         text: &mut Octets,
@@ -109,7 +122,7 @@ impl Machine {
     }
 
     /// `hear`: hands a sink a PDU of an event that was performed.
-    pub fn hear(&mut self, sink: u8, back: u8, bis: Bis, subevent: u8) -> Result<(), Stop>
+    pub(crate) fn hear(&mut self, sink: u8, place: Place) -> Result<(), Stop>
         requires { sink ≤ 7 }
     {
         let Phase::Started(source) = &self.phase else {
@@ -118,15 +131,74 @@ impl Machine {
         let Some(sink) = &mut self.sinks[usize::from(sink)] else {
             return Err(Stop::Refused(Refusal::NoSuchSink));
         };
-        let (event, pdu) = source.heard_at(back, bis, subevent)?;
-        if let Some(number) = payload_of(source.group(), event, subevent) {
-            sink.hear(bis, number, pdu);
+        let (event, pdu) = source.heard_at(place.back, place.bis, place.subevent)?;
+        let number = payload_of(source.group(), event, place.subevent);
+        let _ = sink.hear(place.bis, number, pdu);
+        Ok(())
+    }
+
+    /// `air`: hands a sink all PDUs of the last event but those that are lost.
+    pub(crate) fn air(&mut self, sink: u8, lose: u8) -> Result<(), Stop>
+        requires { sink ≤ 7 }
+    {
+        let Phase::Started(source) = &self.phase else {
+            return Err(Stop::Refused(Refusal::Order));
+        };
+        let Some(sink) = &mut self.sinks[usize::from(sink)] else {
+            return Err(Stop::Refused(Refusal::NoSuchSink));
+        };
+        if !source.is_on_air() {
+            return Err(Stop::Refused(Refusal::NotOnAir));
+        }
+        for index in 1..=source.group().info.num_bis {
+            let Some(bis) = Bis::new(index) else {
+                continue;
+            };
+            for subevent in 0..source.group().info.nse {
+                let (event, pdu) = source.heard_at(0, bis, subevent)?;
+                if !source.is_lost(event, bis, subevent, lose) {
+                    let _ = sink.hear(bis, payload_of(source.group(), event, subevent), pdu);
+                }
+            }
         }
         Ok(())
     }
 
+    /// `inject`: hands a sink other octets in the place of a PDU, and prints what it made of them.
+    pub(crate) fn inject(
+        &mut self,
+        sink: u8,
+        place: Place,
+        octets: &Octets,
+        text: &mut Octets,
+    ) -> Result<(), Stop>
+        requires { sink ≤ 7 }
+    {
+        let Phase::Started(source) = &self.phase else {
+            return Err(Stop::Refused(Refusal::Order));
+        };
+        let Some(hearer) = &mut self.sinks[usize::from(sink)] else {
+            return Err(Stop::Refused(Refusal::NoSuchSink));
+        };
+        let (event, _) = source.heard_at(place.back, place.bis, place.subevent)?;
+        let number = payload_of(source.group(), event, place.subevent);
+        let heard = hearer.hear(place.bis, number, octets.as_slice());
+        put_heard(text, sink, heard)?;
+        Ok(())
+    }
+
+    /// `sniff`: prints a PDU of an event that was performed.
+    pub(crate) fn sniff(&self, place: Place, text: &mut Octets) -> Result<(), Stop> {
+        let Phase::Started(source) = &self.phase else {
+            return Err(Stop::Refused(Refusal::Order));
+        };
+        let (event, pdu) = source.heard_at(place.back, place.bis, place.subevent)?;
+        put_pdu(text, event, place.bis.get(), place.subevent, pdu)?;
+        Ok(())
+    }
+
     /// `end`: closes the open event, and prints the sums of the living sinks by rising number.
-    pub fn end(
+    pub(crate) fn end(
         &mut self,
         outlets: &mut Vec<Box<dyn Outlet>>,
         text: &mut Octets,

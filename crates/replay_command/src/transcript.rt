@@ -1,8 +1,10 @@
 //! The lines of the transcript, each at the end of a text.
 
 use crate::refusal::Refusal;
+use crate::sink::Hearing;
 use bcast_base::{Memory, Octets};
 use hex::encode_to_slice;
+use isoal_base::Heard;
 use itoa::Buffer;
 
 /// The most octets that are put at once as digits.
@@ -40,7 +42,7 @@ fn put_unit(text: &mut Octets, sink: u8, bis: u8, time: u64) -> Result<(), Memor
 }
 
 /// `unit N B at TIME valid LENGTH OCTETS`
-pub fn put_valid(
+pub(crate) fn put_valid(
     text: &mut Octets,
     sink: u8,
     bis: u8,
@@ -56,13 +58,60 @@ pub fn put_valid(
 }
 
 /// `unit N B at TIME lost`
-pub fn put_lost(text: &mut Octets, sink: u8, bis: u8, time: u64) -> Result<(), Memory> {
+pub(crate) fn put_lost(text: &mut Octets, sink: u8, bis: u8, time: u64) -> Result<(), Memory> {
     put_unit(text, sink, bis, time)?;
     text.append(b" lost\n")
 }
 
+/// `pdu EVENT B SUBEVENT OCTETS`
+pub(crate) fn put_pdu(
+    text: &mut Octets,
+    event: u64,
+    bis: u8,
+    subevent: u8,
+    pdu: &[u8],
+) -> Result<(), Memory> {
+    text.append(b"pdu ")?;
+    put_number(text, event)?;
+    text.append(b" ")?;
+    put_number(text, u64::from(bis))?;
+    text.append(b" ")?;
+    put_number(text, u64::from(subevent))?;
+    text.append(b" ")?;
+    put_octets(text, pdu)?;
+    text.append(b"\n")
+}
+
+/// `heard N` and what the sink made of the PDU, with the number of the fault of one that is malformed.
+pub(crate) fn put_heard(text: &mut Octets, sink: u8, heard: Hearing) -> Result<(), Memory> {
+    text.append(b"heard ")?;
+    put_number(text, u64::from(sink))?;
+    text.append(b" ")?;
+    text.append(name_of_hearing(heard).as_bytes())?;
+    if let Hearing::Heard(Heard::Malformed(fault)) = heard {
+        text.append(b" ")?;
+        put_number(text, u64::from(fault.number()))?;
+    }
+    text.append(b"\n")
+}
+
+/// The name of an answer of a sink in the scenario language.
+fn name_of_hearing(heard: Hearing) -> &'static str {
+    match heard {
+        Hearing::NotOnGroup => "NotOnGroup",
+        Hearing::NotTaken => "NotTaken",
+        Hearing::NoNumber => "NoNumber",
+        Hearing::Heard(Heard::Malformed(_)) => "Malformed",
+        Hearing::Heard(Heard::WrongKind) => "WrongKind",
+        Hearing::Heard(Heard::Late) => "Late",
+        Hearing::Heard(Heard::Beyond) => "Beyond",
+        Hearing::Heard(Heard::Repeat) => "Repeat",
+        Hearing::Heard(Heard::Kept) => "Kept",
+    }
+}
+
 /// `sum N UNITS OCTETS`
-pub fn put_sum(text: &mut Octets, sink: u8, units: u64, octets: u64) -> Result<(), Memory> {
+pub(crate) fn put_sum(text: &mut Octets, sink: u8, units: u64, octets: u64) -> Result<(), Memory> {
     text.append(b"sum ")?;
     put_number(text, u64::from(sink))?;
     text.append(b" ")?;
@@ -73,7 +122,7 @@ pub fn put_sum(text: &mut Octets, sink: u8, units: u64, octets: u64) -> Result<(
 }
 
 /// `line L: NAME`, with a number behind the names that have one.
-pub fn put_refusal(text: &mut Octets, line: u64, reason: Refusal) -> Result<(), Memory> {
+pub(crate) fn put_refusal(text: &mut Octets, line: u64, reason: Refusal) -> Result<(), Memory> {
     text.append(b"line ")?;
     put_number(text, line)?;
     text.append(b": ")?;

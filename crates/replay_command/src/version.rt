@@ -11,7 +11,7 @@ pub enum Version {
 
 impl Version {
     /// The version of this number.
-    pub fn of(number: u8) -> Version {
+    pub(crate) fn of(number: u8) -> Version {
         if number == 2 {
             Version::Two
         } else {
@@ -20,7 +20,7 @@ impl Version {
     }
 
     /// Its number.
-    pub fn number(self) -> u8
+    pub(crate) fn number(self) -> u8
         ensures { (result ≡ 1) ⊎ (result ≡ 2) }
     {
         match self {
@@ -30,7 +30,7 @@ impl Version {
     }
 
     /// How far its groups may reach.
-    pub fn limits(self) -> Limits
+    pub(crate) fn limits(self) -> Limits
         ensures { result.horizon ≤ 31 }
     {
         match self {

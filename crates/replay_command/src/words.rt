@@ -1,3 +1,5 @@
+ghost use Rattle.std.specs.Prelude.{◌≡◌, ◌≢◌, []};
+
 use bcast_base::Items;
 
 /// The words of the command line, without the program's name.
@@ -13,7 +15,10 @@ pub enum Mode {
 }
 
 /// What the words ask for.
-pub fn mode_of(words: &Words) -> Mode {
+pub(crate) fn mode_of(words: &Words) -> Mode
+    ensures replay { result ≡ Mode.Replay → words.now ≡ [] }
+    ensures usage { result ≡ Mode.Usage → words.now ≢ [] }
+{
     if words.count() == 0 {
         Mode::Replay
     } else {

@@ -119,16 +119,17 @@ impl<'a> Cursor<'a> {
         }
     }
 
-    /// Octets as pairs of hexadecimal digits, or `-` for none; at most 4,095.
-    pub fn octets(&mut self, alloc: Global) -> Result<Octets, LineFault>
-        ensures { IfOk result (λ octets. length octets ≤ 4095) }
+    /// Octets as pairs of hexadecimal digits, or `-` for none; at most `most`.
+    pub fn octets(&mut self, alloc: Global, most: usize) -> Result<Octets, LineFault>
+        requires { most ≤ 4095 }
+        ensures { IfOk result (λ octets. length octets ≤ most) }
     {
         let word = self.word()?;
         if matches!(word, b"-") {
             return Ok(Octets::new(alloc));
         }
         let count = word.len() / 2;
-        if word.is_empty() || count > MOST_OCTETS {
+        if word.is_empty() || count > most {
             return Err(self.misfit());
         }
         let mut room = [0u8; MOST_OCTETS];

@@ -4,6 +4,7 @@
 mod cursor;
 mod decimal;
 mod fault;
+mod later;
 mod line;
 mod step;
 

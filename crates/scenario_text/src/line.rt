@@ -3,6 +3,7 @@ ghost use Rattle.scenario_text.specs.Ranges.{IsInRange};
 
 use crate::cursor::Cursor;
 use crate::fault::LineFault;
+use crate::later::is_of_the_language;
 use crate::step::Step;
 use bcast_base::BisSet;
 use std::alloc::Global;
@@ -41,57 +42,15 @@ fn step_of(alloc: Global, version: u8, line: &[u8]) -> Result<Step, LineFault>
         b"group" => group(&mut words)?,
         b"start" => start(&mut words)?,
         b"sink" => sink(version, &mut words)?,
+        b"air" => air(&mut words)?,
+        b"inject" => inject(alloc, &mut words)?,
+        b"sniff" => sniff(&mut words)?,
         b"end" => Step::End,
         _ if is_of_the_language(version, name) => return Err(LineFault::NotBuilt),
         _ => return Err(LineFault::BadLine { word: 0 }),
     };
     words.finish()?;
     Ok(step)
-}
-
-/// The first words of the lines of both versions that are not built yet.
-const LATER: [&[u8]; 29] = [
-    b"ident",
-    b"subgroup",
-    b"meta",
-    b"bis",
-    b"cipher",
-    b"pac",
-    b"locate",
-    b"context",
-    b"air",
-    b"inject",
-    b"sniff",
-    b"announce",
-    b"train",
-    b"write",
-    b"add",
-    b"modify",
-    b"remove",
-    b"code",
-    b"serve",
-    b"tell",
-    b"read",
-    b"drain",
-    b"show",
-    b"lose",
-    b"drop",
-    b"terminate",
-    b"control",
-    b"forge",
-    b"stop",
-];
-
-/// The first words of the lines of version 2 alone, none of which is built yet.
-const LATER_IN_VERSION_2: [&[u8]; 10] = [
-    b"assist", b"apart", b"awrite", b"aserve", b"atell", b"aread", b"adrain", b"ashow", b"source",
-    b"relay",
-];
-
-/// Whether a line that begins with this word, and is not built yet, is one of the language in this version.
-fn is_of_the_language(version: u8, name: &[u8]) -> bool {
-    LATER.iter().any(|word| *word == name)
-        || (version == 2 && LATER_IN_VERSION_2.iter().any(|word| *word == name))
 }
 
 fn scenario(words: &mut Cursor<'_>) -> Result<Step, LineFault>
@@ -171,7 +130,7 @@ fn unit(alloc: Global, words: &mut Cursor<'_>) -> Result<Step, LineFault>
     Ok(Step::Unit {
         bis: words.bis(1)?,
         time: words.time()?,
-        octets: words.octets(alloc)?,
+        octets: words.octets(alloc, 4_095)?,
     })
 }
 
@@ -180,6 +139,37 @@ fn hear(words: &mut Cursor<'_>) -> Result<Step, LineFault>
 {
     Ok(Step::Hear {
         sink: words.octet(0, 7)?,
+        back: words.octet(0, 31)?,
+        bis: words.bis(1)?,
+        subevent: words.octet(0, 30)?,
+    })
+}
+
+fn air(words: &mut Cursor<'_>) -> Result<Step, LineFault>
+    ensures { IfOk result IsInRange }
+{
+    Ok(Step::Air {
+        sink: words.octet(0, 7)?,
+        lose: words.octet(0, 255)?,
+    })
+}
+
+fn inject(alloc: Global, words: &mut Cursor<'_>) -> Result<Step, LineFault>
+    ensures { IfOk result IsInRange }
+{
+    Ok(Step::Inject {
+        sink: words.octet(0, 7)?,
+        back: words.octet(0, 31)?,
+        bis: words.bis(1)?,
+        subevent: words.octet(0, 30)?,
+        octets: words.octets(alloc, 300)?,
+    })
+}
+
+fn sniff(words: &mut Cursor<'_>) -> Result<Step, LineFault>
+    ensures { IfOk result IsInRange }
+{
+    Ok(Step::Sniff {
         back: words.octet(0, 31)?,
         bis: words.bis(1)?,
         subevent: words.octet(0, 30)?,

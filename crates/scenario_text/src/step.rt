@@ -57,6 +57,26 @@ pub enum Step {
         bis: Bis,
         subevent: u8,
     },
+    /// Hands a sink all PDUs of the last event but those that are lost: none where `lose` is 0, else of each `lose`
+    /// PDUs the last.
+    Air {
+        sink: u8,
+        lose: u8,
+    },
+    /// Hands a sink other octets in the place of a PDU.
+    Inject {
+        sink: u8,
+        back: u8,
+        bis: Bis,
+        subevent: u8,
+        octets: Octets,
+    },
+    /// Shows a PDU of the event that came `back` before the last.
+    Sniff {
+        back: u8,
+        bis: Bis,
+        subevent: u8,
+    },
     /// Ends the scenario.
     End,
 }

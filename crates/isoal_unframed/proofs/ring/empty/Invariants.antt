@@ -1,7 +1,6 @@
-use Rattle.std.proofs.Common.{take}
-use Rattle.std.specs.List.{All}
-use Rattle.isoal_unframed.specs.Cells.{Within}
+use Rattle.std.proofs.Common.{◌≡◌, take, replicate}
+use Rattle.isoal_unframed.specs.declared.cell.Cell.TheVariants.{Empty}
 use Rattle.isoal_unframed.proofs.ring.empty.Given as goal
 
 abbrev pub invariant-loop-cell : goal.invariant-loop-cell
-invariant-loop-cell l = All (Within 0) (take l.cell-index l.cells)
+invariant-loop-cell l = take l.cell-index l.cells ≡ replicate l.cell-index Empty

@@ -1,5 +1,9 @@
-use Rattle.std.proofs.Common.{◌≤◌}
+use Rattle.std.proofs.Common.{◌≡◌, ◌≤◌, ◌+◌, ◌-◌, drop}
+use Rattle.isoal_unframed.specs.Cells.{held_cells}
 use Rattle.isoal_unframed.proofs.ring.held.Given as goal
 
 abbrev pub invariant-places : goal.invariant-places
-invariant-places l = l.room ≤ l.max_sdu
+invariant-places l = record {
+  bound : l.sum ≤ l.max_sdu;
+  held : l.sum + held_cells (l.max_sdu - l.sum) (drop l.cell-index l.cells) ≡ held_cells l.max_sdu l.cells;
+}

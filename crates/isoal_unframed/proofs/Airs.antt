@@ -1,0 +1,55 @@
+-- The state of a sender against the calls that it took.
+use Rattle.std.proofs.Common.{ℕ, ◌≡◌, ◌≤◌, ◌+◌, ◌*◌, ◌-◌, min, zero, suc, List, [], ◌∷◌, ◌++◌, length, drop, arith, ◌∙◌, ap, sym, refl}
+use Rattle.std.proofs.lemmas.List.{drop-append-le, drop-drop, drop_min, length-append, length-drop}
+use Rattle.big_info.specs.declared.info.BigInfo.{BigInfo}
+use Rattle.big_info.specs.Schedule.{per_event_of, per_unit_of}
+use Rattle.isoal_unframed.proofs.Events.{next_event_is}
+use Rattle.isoal_unframed.specs.Air.{Laid, unframed_air}
+use Rattle.isoal_unframed.specs.Calls.{Call, accept, lay, accepted, begun, lays}
+use Rattle.isoal_unframed.specs.Sender.{Sender, StandsFor, after_event, event_pdus, with_unit}
+
+-- no more units have their slot than were accepted
+pub begun_within : (info : BigInfo) (calls : List Call) → begun info calls ≤ length (accepted calls)
+begun_within info [] = omega arith
+begun_within info (accept octets ∷ calls) = omega (arith, begun_within info calls, length-append (accepted calls) (octets ∷ []))
+begun_within info (lay ∷ calls) = omega arith
+
+pub stands_accept : (info : BigInfo) (calls : List Call) (sender : Sender) (unit : List ℕ) → StandsFor info calls sender → StandsFor info (accept unit ∷ calls) (with_unit sender unit)
+stands_accept info calls sender unit stands = record {
+  group = stands.group;
+  waiting = ap (λ xs. xs ++ unit ∷ []) stands.waiting ∙ sym (drop-append-le (begun info calls) (accepted calls) (unit ∷ []) (begun_within info calls));
+}
+
+pub stands_lay : (info : BigInfo) (calls : List Call) (sender : Sender) → StandsFor info calls sender → StandsFor info (lay ∷ calls) (after_event sender)
+stands_lay info calls sender stands =
+    let k = per_event_of info in
+    let t = begun info calls in
+    let swapped : min (length (accepted calls)) (t + k) ≡ min (t + k) (length (accepted calls)) = omega arith in
+    record {
+      group = stands.group;
+      waiting = ap (λ i. drop (per_event_of i) sender.waiting) stands.group ∙ ap (drop k) stands.waiting ∙ drop-drop k t (accepted calls)
+          ∙ sym (ap (λ n. drop n (accepted calls)) swapped ∙ drop_min (t + k) (accepted calls));
+    }
+
+pub waiting_is : (info : BigInfo) (calls : List Call) (sender : Sender) → StandsFor info calls sender → length sender.waiting ≡ length (accepted calls) - begun info calls
+waiting_is info calls sender stands = ap length stands.waiting ∙ length-drop (begun info calls) (accepted calls)
+
+lays_accepted : (calls : List Call) (n : ℕ) → accepted (lays n calls) ≡ accepted calls
+lays_accepted calls zero = refl
+lays_accepted calls (suc n) = lays_accepted calls n
+
+pub lays_begun : (info : BigInfo) (calls : List Call) (n : ℕ) → begun info (lays n calls) ≡ min (length (accepted calls)) (begun info calls + n * per_event_of info)
+lays_begun info calls zero = omega (arith, begun_within info calls)
+lays_begun info calls (suc n) =
+    let same : accepted (lays n calls) ≡ accepted calls = lays_accepted calls n in
+    let more : suc n * per_event_of info ≡ n * per_event_of info + per_event_of info = omega arith in
+    rw (same, lays_begun info calls n, more) (omega arith)
+
+pub newest_is : (info : BigInfo) (calls : List Call) (sender : Sender) (event : Laid) → sender.info.bn ≡ per_event_of sender.info * per_unit_of sender.info → StandsFor info calls sender
+    → event ≡ record { pdus = event_pdus sender.info sender.waiting; stale = [] }
+    → unframed_air info (lay ∷ calls) ≡ record { event = event; begun = begun info (lay ∷ calls) } ∷ unframed_air info calls
+newest_is info calls sender event whole stands is =
+    let now : event ≡ record { pdus = event_pdus info sender.waiting; stale = [] } =
+    is ∙ ap (λ i. record { pdus = event_pdus i sender.waiting; stale = [] }) stands.group in
+    let bn : info.bn ≡ per_event_of info * per_unit_of info = rw (sym stands.group) whole in
+    ap (λ (e : Laid). record { event = e; begun = begun info (lay ∷ calls) } ∷ unframed_air info calls) (next_event_is info calls sender bn stands ∙ sym now)

@@ -1,0 +1,89 @@
+-- Units that are handed one by one.
+use Rattle.std.proofs.Common.{ℕ, zero, suc, ◌≡◌, ◌+◌, ◌-◌, ◌*◌, ◌<◌, ◌≤◌, List, [], ◌∷◌, ◌++◌, length, take, drop, get_or, Option, Result, Ok, Err, sym, ap, ◌∙◌, subst, arith}
+use Rattle.std.specs.Prelude.{IsErr}
+use Rattle.std.proofs.lemmas.List.{take_more, take-take, drop-drop, append_assoc, append-nil, take_all}
+use Rattle.std.proofs.lemmas.Bool.{false≢true}
+use Rattle.std.proofs.lemmas.List.FromFn.{get_or-map-range_with_len, length-map-range_with_len}
+use Rattle.big_info.specs.Schedule.{per_event_of, per_unit_of}
+use Rattle.iso_pdu.specs.Layout.{Content}
+use Rattle.unit_outlets.specs.Handed.{Handed}
+use Rattle.unit_outlets.specs.declared.fault.TakerFault.{TakerFault}
+use Rattle.isoal_base.specs.Stays.{Stay}
+use Rattle.isoal_unframed.specs.Units.{unit_of}
+use Rattle.isoal_unframed.specs.Windows.{HandsOver, time_of, handed_of, owed_at, owed_of}
+
+pub hand_more : (units old now new : List Handed) (unit : Handed) (n : ℕ) → now ≡ old ++ take n units → n < length units
+    → get_or units n unit ≡ unit → new ≡ now ++ unit ∷ [] → new ≡ old ++ take (n + 1) units
+hand_more units old now new unit n before below here after =
+    after ∙ ap (λ xs. xs ++ unit ∷ []) before ∙ append_assoc old (take n units) (unit ∷ [])
+    ∙ ap (λ u. old ++ (take n units ++ u ∷ [])) (sym here)
+    ∙ ap (λ xs. old ++ xs) (sym (take_more units n unit below))
+
+pub hand_stops : (units old now new : List Handed) (unit : Handed) (n : ℕ) (fault : TakerFault) → now ≡ old ++ take n units → n < length units
+    → HandsOver (unit ∷ []) now new (Err fault) → HandsOver units old new (Err fault)
+hand_stops units old now new unit n fault before below (zero, under, after) = (n, below, after ∙ append-nil now ∙ before)
+hand_stops units old now new unit n fault before below (suc m, under, after) = absurd (omega arith)
+
+pub length-owed : (stay : Stay) (event : ℕ) (kept : List (Option Content)) → length (owed_of stay event kept) ≡ per_event_of stay.info
+length-owed stay event kept = length-map-range_with_len (owed_at stay event kept) 0 (per_event_of stay.info)
+
+pub get-owed : (stay : Stay) (event : ℕ) (kept : List (Option Content)) (slot : ℕ) (d : Handed) → slot < per_event_of stay.info
+    → get_or (owed_of stay event kept) slot d ≡ owed_at stay event kept slot
+get-owed stay event kept slot d below =
+    get_or-map-range_with_len (owed_at stay event kept) 0 (per_event_of stay.info) slot slot d below (omega arith)
+
+pub front_more : {A : Type 0} (start first : ℕ) (was now new : List A) → start ≤ first → take start now ≡ take start was
+    → take first new ≡ take first now → take start new ≡ take start was
+front_more start first was now new order before same =
+    sym (take-take start first new order) ∙ ap (take start) same ∙ take-take start first now order ∙ before
+
+pub behind_more : {A : Type 0} (first m end : ℕ) (was now new : List A) → drop first now ≡ drop first was
+    → drop (first + m) new ≡ drop (first + m) now → first + m ≤ end → drop end new ≡ drop end was
+behind_more first m end was now new before same order =
+    let sum : first + m + (end - (first + m)) ≡ end = omega arith in
+    ap (λ k. drop k new) (sym sum) ∙ sym (drop-drop (end - (first + m)) (first + m) new)
+    ∙ ap (drop (end - (first + m))) (same ∙ sym (drop-drop m first now) ∙ ap (drop m) before ∙ drop-drop m first was)
+    ∙ drop-drop (end - (first + m)) (first + m) was ∙ ap (λ k. drop k was) sum
+
+pub unit_same : (stay : Stay) (event slot time first start places : ℕ) (was now : List (Option Content))
+    → time ≡ time_of stay event slot → first ≡ start + slot * places → places ≡ per_unit_of stay.info → drop first now ≡ drop first was
+    → handed_of stay.bis time (unit_of stay.info.max_sdu (take (per_unit_of stay.info) (drop first now)))
+    ≡ owed_at stay event (drop start was) slot
+unit_same stay event slot time first start places was now is_time is_first is_places same =
+    ap (λ t. handed_of stay.bis t (unit_of stay.info.max_sdu (take (per_unit_of stay.info) (drop first now)))) is_time
+    ∙ ap (λ xs. handed_of stay.bis (time_of stay event slot) (unit_of stay.info.max_sdu (take (per_unit_of stay.info) xs)))
+    (same ∙ ap (λ k. drop k was) (is_first ∙ ap (λ m. start + slot * m) is_places) ∙ sym (drop-drop (slot * per_unit_of stay.info) start was))
+
+pub owed_more : (stay : Stay) (event slot slots time first start places : ℕ) (was kept : List (Option Content)) (old now new : List Handed)
+    → time ≡ time_of stay event slot → first ≡ start + slot * places → places ≡ per_unit_of stay.info → drop first kept ≡ drop first was
+    → slot < slots → slots ≡ per_event_of stay.info → now ≡ old ++ take slot (owed_of stay event (drop start was))
+    → new ≡ now ++ handed_of stay.bis time (unit_of stay.info.max_sdu (take (per_unit_of stay.info) (drop first kept))) ∷ []
+    → new ≡ old ++ take (slot + 1) (owed_of stay event (drop start was))
+owed_more stay event slot slots time first start places was kept old now new is_time is_first is_places same below all before after =
+    let unit : handed_of stay.bis time (unit_of stay.info.max_sdu (take (per_unit_of stay.info) (drop first kept))) ≡ owed_at stay event (drop start was) slot =
+    unit_same stay event slot time first start places was kept is_time is_first is_places same in
+    let under : slot < per_event_of stay.info = subst (λ k. slot < k) all below in
+    hand_more (owed_of stay event (drop start was)) old now new (owed_at stay event (drop start was) slot) slot before
+    (subst (λ k. slot < k) (sym (length-owed stay event (drop start was))) under)
+    (get-owed stay event (drop start was) slot (owed_at stay event (drop start was) slot) under)
+    (after ∙ ap (λ u. now ++ u ∷ []) unit)
+
+hands_err : (units old now : List Handed) (fault : TakerFault) (r : Result (Unit {0}) TakerFault) → IsErr r
+    → HandsOver units old now (Err fault) → HandsOver units old now r
+hands_err units old now fault (Ok x) is hands = absurd (false≢true is)
+hands_err units old now fault (Err other) is hands = hands
+
+pub owed_stops : (stay : Stay) (event slot slots : ℕ) (kept : List (Option Content)) (old now new : List Handed) (unit : Handed) (fault : TakerFault)
+    → (r : Result (Unit {0}) TakerFault) → IsErr r
+    → slot < slots → slots ≡ per_event_of stay.info → now ≡ old ++ take slot (owed_of stay event kept)
+    → HandsOver (unit ∷ []) now new (Err fault) → HandsOver (owed_of stay event kept) old new r
+owed_stops stay event slot slots kept old now new unit fault r is below all before hands =
+    hands_err (owed_of stay event kept) old new fault r is
+    (hand_stops (owed_of stay event kept) old now new unit slot fault before
+    (subst (λ k. slot < k) (sym (length-owed stay event kept)) (subst (λ k. slot < k) all below)) hands)
+
+pub owed_all : (stay : Stay) (event slot slots : ℕ) (kept : List (Option Content)) (old now : List Handed)
+    → slots ≤ slot → slots ≡ per_event_of stay.info → now ≡ old ++ take slot (owed_of stay event kept) → now ≡ old ++ owed_of stay event kept
+owed_all stay event slot slots kept old now past all before =
+    before ∙ ap (λ xs. old ++ xs) (take_all slot (owed_of stay event kept)
+    (subst (λ k. k ≤ slot) (all ∙ sym (length-owed stay event kept)) past))

@@ -1,0 +1,194 @@
+-- The unit of a slot whose kept PDUs are the laid ones.
+use Rattle.std.proofs.Common.{ℕ, zero, suc, ◌≡◌, ◌+◌, ◌-◌, ◌*◌, ◌/◌, ◌%◌, ◌<◌, ◌≤◌, true, cond, ltb, leb, eqb, min, max, List, [], ◌∷◌, ◌++◌, length, take, drop, Option, Some, None, refl, sym, ap, ◌∙◌, subst, inl, inr, arith}
+use Rattle.std.specs.Int.{div_ceil}
+use Rattle.std.specs.Prelude.{slice_get}
+use Rattle.std.proofs.Math.Nat.{add-div_left, add-mod_left, mod-eq_of_lt, div-eq_of_lt, mod_self, div_self, add-mul}
+use Rattle.std.proofs.lemmas.Nat.{mul-le}
+use Rattle.std.proofs.lemmas.Grind.{div_ceil_times}
+use Rattle.std.proofs.lemmas.Bool.{cond-true, cond-false, lt-ltb, le-ltb, le-leb, eq-eqb, ne_eqb, cases_lt, cases_order}
+use Rattle.std.proofs.lemmas.List.{drop-drop, length-drop, append_assoc, take-append-drop}
+use Rattle.std.proofs.lemmas.Option.{none-some, same_Some, cond_some}
+use Rattle.iso_pdu.specs.Layout.{Content, fragment, end}
+use Rattle.isoal_base.specs.Slot.{fragments_of, laid_unit, laid}
+use Rattle.isoal_unframed.specs.Units.{unit_after}
+
+-- what is left of a unit behind its first fragment
+abbrev pub rest_of : ℕ → List ℕ → Option (List ℕ)
+rest_of m unit = cond (leb (length unit) m) None (Some (drop m unit))
+
+ceil_small : (x m : ℕ) → 0 < x → x ≤ m → div_ceil x m ≡ 1
+ceil_small x m some fits = elim (cases_lt x m) [
+  | inl below ↦
+      let q : x / m ≡ 0 = div-eq_of_lt below in
+      let r : x % m ≡ x = mod-eq_of_lt below in
+      ap (λ k. k + min 1 (x % m)) q ∙ ap (λ k. 0 + min 1 k) r ∙ omega arith
+  | inr past ↦
+      let same : x ≡ m = omega arith in
+      let positive : 0 < m = omega arith in
+      ap (λ k. div_ceil k m) same ∙ ap (λ k. k + min 1 (m % m)) (div_self positive) ∙ ap (λ k. 1 + min 1 k) (mod_self m) ∙ omega arith
+]
+
+ceil_more : (x m : ℕ) → 0 < m → div_ceil (m + x) m ≡ div_ceil x m + 1
+ceil_more x m some =
+    ap (λ k. k + min 1 ((m + x) % m)) (add-div_left x some) ∙ ap (λ k. x / m + 1 + min 1 k) (add-mod_left m x) ∙ omega arith
+
+ceil_some : (x m : ℕ) → 0 < x → 0 < m → 1 ≤ div_ceil x m
+ceil_some x m some positive = elim (cases_lt x m) [
+  | inl below ↦ subst (λ k. 1 ≤ k) (sym (ceil_small x m some (omega arith))) (omega arith)
+  | inr past ↦
+      let sum : m + (x - m) ≡ x = omega arith in
+      let more : div_ceil x m ≡ div_ceil (x - m) m + 1 = ap (λ k. div_ceil k m) (sym sum) ∙ ceil_more (x - m) m positive in
+      omega arith
+]
+
+pub one_fragment : (m : ℕ) (unit : List ℕ) → 0 < m → length unit ≤ m → fragments_of m unit ≡ 1
+one_fragment m unit positive fits = elim (cases_order (length unit) 0) [
+  | inl none ↦
+      let q : 0 / m ≡ 0 = div-eq_of_lt positive in
+      let r : 0 % m ≡ 0 = mod-eq_of_lt positive in
+      ap (λ k. max 1 (div_ceil k m)) none ∙ ap (λ k. max 1 (k + min 1 (0 % m))) q ∙ ap (λ k. max 1 (0 + min 1 k)) r ∙ omega arith
+  | inr other ↦ elim other [
+    | inl below ↦ absurd (omega arith)
+    | inr some ↦ ap (max 1) (ceil_small (length unit) m some fits) ∙ omega arith
+  ]
+]
+
+pub more_fragments : (m : ℕ) (unit : List ℕ) → 0 < m → m < length unit → fragments_of m unit ≡ fragments_of m (drop m unit) + 1
+more_fragments m unit positive past =
+    let left : length (drop m unit) ≡ length unit - m = length-drop m unit in
+    let sum : length unit ≡ m + length (drop m unit) = omega arith in
+    let some : 1 ≤ div_ceil (length (drop m unit)) m = ceil_some (length (drop m unit)) m (omega arith) positive in
+    ap (λ k. max 1 (div_ceil k m)) sum ∙ ap (max 1) (ceil_more (length (drop m unit)) m positive) ∙ omega arith
+
+-- a laid PDU by its place
+pub laid_full : (m : ℕ) (unit : List ℕ) (r : ℕ) → r + 1 < fragments_of m unit → laid_unit m unit r ≡ fragment (take m (drop (r * m) unit))
+laid_full m unit r below = cond-true (ltb (r + 1) (fragments_of m unit)) (fragment (take m (drop (r * m) unit)))
+    (cond (eqb (r + 1) (fragments_of m unit)) (end (drop (r * m) unit)) (fragment [])) (lt-ltb (r + 1) (fragments_of m unit) below)
+
+pub laid_end : (m : ℕ) (unit : List ℕ) (r : ℕ) → r + 1 ≡ fragments_of m unit → laid_unit m unit r ≡ end (drop (r * m) unit)
+laid_end m unit r is =
+    cond-false (ltb (r + 1) (fragments_of m unit)) (fragment (take m (drop (r * m) unit)))
+    (cond (eqb (r + 1) (fragments_of m unit)) (end (drop (r * m) unit)) (fragment [])) (le-ltb (r + 1) (fragments_of m unit) (omega arith))
+    ∙ cond-true (eqb (r + 1) (fragments_of m unit)) (end (drop (r * m) unit)) (fragment []) (eq-eqb (r + 1) (fragments_of m unit) is)
+
+pub laid_padding : (m : ℕ) (unit : List ℕ) (r : ℕ) → fragments_of m unit < r + 1 → laid_unit m unit r ≡ fragment []
+laid_padding m unit r past =
+    cond-false (ltb (r + 1) (fragments_of m unit)) (fragment (take m (drop (r * m) unit)))
+    (cond (eqb (r + 1) (fragments_of m unit)) (end (drop (r * m) unit)) (fragment [])) (le-ltb (r + 1) (fragments_of m unit) (omega arith))
+    ∙ cond-false (eqb (r + 1) (fragments_of m unit)) (end (drop (r * m) unit)) (fragment []) (ne_eqb (r + 1) (fragments_of m unit) (λ is. omega arith))
+
+-- behind the first place lies what is left of the unit
+pub laid_next : (m : ℕ) (unit : List ℕ) (r : ℕ) → 0 < m → m < length unit → laid_unit m unit (r + 1) ≡ laid_unit m (drop m unit) r
+laid_next m unit r positive past =
+    let count : fragments_of m unit ≡ fragments_of m (drop m unit) + 1 = more_fragments m unit positive past in
+    let place : (r + 1) * m ≡ m + r * m = omega arith in
+    let octets : drop ((r + 1) * m) unit ≡ drop (r * m) (drop m unit) = ap (λ k. drop k unit) place ∙ sym (drop-drop (r * m) m unit) in
+    elim (cases_order (r + 1) (fragments_of m (drop m unit))) [
+      | inl is ↦ laid_end m unit (r + 1) (omega arith) ∙ ap end octets ∙ sym (laid_end m (drop m unit) r is)
+      | inr other ↦ elim other [
+        | inl below ↦ laid_full m unit (r + 1) (omega arith) ∙ ap (λ xs. fragment (take m xs)) octets ∙ sym (laid_full m (drop m unit) r below)
+        | inr over ↦ laid_padding m unit (r + 1) (omega arith) ∙ sym (laid_padding m (drop m unit) r over)
+      ]
+    ]
+
+pub laid_behind : (m : ℕ) (unit : List ℕ) (r : ℕ) → 0 < m → length unit ≤ m → laid_unit m unit (r + 1) ≡ fragment []
+laid_behind m unit r positive fits =
+    let one : fragments_of m unit ≡ 1 = one_fragment m unit positive fits in
+    laid_padding m unit (r + 1) (omega arith)
+
+-- the slot keeps no PDU but the laid ones
+abbrev pub Agrees : ℕ → Option (List ℕ) → List (Option Content) → Type 0
+Agrees m unit slot = (r : ℕ) → (content : Content) → slice_get slot r ≡ Some (Some content) → content ≡ laid m unit r
+
+-- the slot keeps all that carry the unit
+abbrev pub Carries : ℕ → List ℕ → List (Option Content) → Type 0
+Carries m unit slot = (r : ℕ) → r < fragments_of m unit → (content : Content) × (slice_get slot r ≡ Some (Some content))
+
+-- padding has no unit
+pub padding_none : (m most : ℕ) (front : List ℕ) (slot : List (Option Content)) → Agrees m None slot → unit_after most front slot ≡ None
+padding_none m most front [] agrees = refl
+padding_none m most front (None ∷ slot) agrees = refl
+padding_none m most front (Some content ∷ slot) agrees =
+    ap (λ c. unit_after most front (Some c ∷ slot)) (agrees 0 content refl)
+    ∙ padding_none m most (front ++ []) slot (λ r other is. agrees (suc r) other is)
+
+-- where the slot keeps all that carry the unit, it has the unit
+pub carried_unit : (m most : ℕ) (front unit : List ℕ) (slot : List (Option Content)) → 0 < m → length (front ++ unit) ≤ most
+    → Agrees m (Some unit) slot → Carries m unit slot → unit_after most front slot ≡ Some (front ++ unit)
+carried_unit m most front unit [] positive fits agrees carries =
+    absurd (none-some (Some (carries 0 (omega arith)).0) (carries 0 (omega arith)).1)
+carried_unit m most front unit (None ∷ slot) positive fits agrees carries =
+    absurd (none-some (carries 0 (omega arith)).0 (same_Some None (Some (carries 0 (omega arith)).0) (carries 0 (omega arith)).1))
+carried_unit m most front unit (Some content ∷ slot) positive fits agrees carries =
+    let start : 0 * m ≡ 0 = omega arith in
+    let here : content ≡ laid_unit m unit 0 = agrees 0 content refl in
+    elim (cases_lt m (length unit)) [
+      | inl past ↦
+          let count : fragments_of m unit ≡ fragments_of m (drop m unit) + 1 = more_fragments m unit positive past in
+          let full : content ≡ fragment (take m unit) = here ∙ laid_full m unit 0 (omega arith) ∙ ap (λ k. fragment (take m (drop k unit))) start in
+          let whole : (front ++ take m unit) ++ drop m unit ≡ front ++ unit =
+          append_assoc front (take m unit) (drop m unit) ∙ ap (λ xs. front ++ xs) (take-append-drop m unit) in
+          ap (λ c. unit_after most front (Some c ∷ slot)) full
+          ∙ carried_unit m most (front ++ take m unit) (drop m unit) slot positive (subst (λ xs. length xs ≤ most) (sym whole) fits)
+          (λ r other is. agrees (suc r) other is ∙ ap (laid_unit m unit) (omega arith) ∙ laid_next m unit r positive past)
+          (λ r below. carries (suc r) (omega arith))
+          ∙ ap Some whole
+      | inr small ↦
+          let one : fragments_of m unit ≡ 1 = one_fragment m unit positive small in
+          let last : content ≡ end unit = here ∙ laid_end m unit 0 (omega arith) ∙ ap (λ k. end (drop k unit)) start in
+          ap (λ c. unit_after most front (Some c ∷ slot)) last
+          ∙ cond-true (leb (length (front ++ unit)) most) (Some (front ++ unit)) None (le-leb (length (front ++ unit)) most fits)
+    ]
+
+carries_more : (content : Content) (slot : List (Option Content)) (n count : ℕ) → count ≡ n + 1
+    → ((r : ℕ) → r < n → (other : Content) × (slice_get slot r ≡ Some (Some other)))
+    → (r : ℕ) → r < count → (other : Content) × (slice_get (Some content ∷ slot) r ≡ Some (Some other))
+carries_more content slot n count is rest zero below = (content, refl)
+carries_more content slot n count is rest (suc r) below = rest r (omega arith)
+
+carries_one : (content : Content) (slot : List (Option Content)) (count : ℕ) → count ≡ 1
+    → (r : ℕ) → r < count → (other : Content) × (slice_get (Some content ∷ slot) r ≡ Some (Some other))
+carries_one content slot count is zero below = (content, refl)
+carries_one content slot count is (suc r) below = absurd (omega arith)
+
+-- a unit that a slot has is the laid one, and the slot keeps all that carry it
+pub unit_carried : (m most : ℕ) (front unit : List ℕ) (slot : List (Option Content)) (octets : List ℕ) → 0 < m
+    → Agrees m (Some unit) slot → unit_after most front slot ≡ Some octets → Carries m unit slot × (octets ≡ front ++ unit)
+unit_carried m most front unit [] octets positive agrees is = absurd (none-some octets is)
+unit_carried m most front unit (None ∷ slot) octets positive agrees is = absurd (none-some octets is)
+unit_carried m most front unit (Some content ∷ slot) octets positive agrees is =
+    let start : 0 * m ≡ 0 = omega arith in
+    let here : content ≡ laid_unit m unit 0 = agrees 0 content refl in
+    elim (cases_lt m (length unit)) [
+      | inl past ↦
+          let count : fragments_of m unit ≡ fragments_of m (drop m unit) + 1 = more_fragments m unit positive past in
+          let full : content ≡ fragment (take m unit) = here ∙ laid_full m unit 0 (omega arith) ∙ ap (λ k. fragment (take m (drop k unit))) start in
+          let whole : (front ++ take m unit) ++ drop m unit ≡ front ++ unit =
+          append_assoc front (take m unit) (drop m unit) ∙ ap (λ xs. front ++ xs) (take-append-drop m unit) in
+          let rest : Carries m (drop m unit) slot × (octets ≡ (front ++ take m unit) ++ drop m unit) =
+          unit_carried m most (front ++ take m unit) (drop m unit) slot octets positive
+          (λ r other at. agrees (suc r) other at ∙ ap (laid_unit m unit) (omega arith) ∙ laid_next m unit r positive past)
+          (sym (ap (λ c. unit_after most front (Some c ∷ slot)) full) ∙ is) in
+          (carries_more content slot (fragments_of m (drop m unit)) (fragments_of m unit) count rest.0, rest.1 ∙ whole)
+      | inr small ↦
+          let one : fragments_of m unit ≡ 1 = one_fragment m unit positive small in
+          let last : content ≡ end unit = here ∙ laid_end m unit 0 (omega arith) ∙ ap (λ k. end (drop k unit)) start in
+          let both : (leb (length (front ++ unit)) most ≡ true) × (front ++ unit ≡ octets) =
+          cond_some (leb (length (front ++ unit)) most) (front ++ unit) octets (sym (ap (λ c. unit_after most front (Some c ∷ slot)) last) ∙ is) in
+          (carries_one content slot (fragments_of m unit) one, sym both.1)
+    ]
+
+-- a unit of at most Max_SDU octets fits its slot
+pub fragments_fit : (m most : ℕ) (unit : List ℕ) → 0 < m → 0 < most → length unit ≤ most → fragments_of m unit ≤ div_ceil most m
+fragments_fit m most unit positive some fits =
+    let least : 1 ≤ div_ceil most m = ceil_some most m some positive in
+    elim (cases_lt (div_ceil most m) (div_ceil (length unit) m)) [
+      | inl above ↦
+          let upper : div_ceil (length unit) m * m < length unit + m = (div_ceil_times (length unit) m positive).1 in
+          let lower : most ≤ div_ceil most m * m = (div_ceil_times most m positive).0 in
+          let product : (div_ceil most m + 1) * m ≤ div_ceil (length unit) m * m =
+          mul-le (div_ceil most m + 1) m (div_ceil (length unit) m) m (omega arith) (omega arith) in
+          let sum : (div_ceil most m + 1) * m ≡ div_ceil most m * m + m = add-mul (div_ceil most m) 1 m ∙ omega arith in
+          absurd (omega arith)
+      | inr within ↦ omega arith
+    ]

@@ -1,0 +1,120 @@
+-- A ring that is read from a place on.
+use Rattle.std.proofs.Common.{ℕ, zero, suc, ◌≡◌, ◌+◌, ◌-◌, ◌%◌, ◌<◌, ◌≤◌, ◌⊎◌, cond, ltb, List, [], ◌∷◌, ◌++◌, length, take, drop, set, replicate, get_or, Option, None, refl, sym, ap, ◌∙◌, inl, inr, arith}
+use Rattle.std.proofs.Math.Nat.{suc-mod, mod-eq_of_lt, mod_self, mod-lt}
+use Rattle.std.proofs.lemmas.Bool.{cases_Bool, cond-true, cond-false, ltb-true, ltb-false, cases_lt}
+use Rattle.std.proofs.lemmas.List.{length-take-le, length-drop, length-append, append-nil, append_assoc, take_at, drop_at, drop-append-le, take-append-le, drop_all, drop-drop, drop-set-add, drop-set-lt, take-set-le, set-append_left, set-append_right, get_or_append_left, get_or-append_right, get_or-drop, get_or-take, length-replicate}
+use Rattle.iso_pdu.specs.Layout.{Content}
+use Rattle.isoal_unframed.specs.Cells.{turned}
+
+-- the place of an index
+abbrev pub spot : ℕ → ℕ → ℕ → ℕ
+spot place index window = cond (ltb (place + index) window) (place + index) (place + index - window)
+
+pub length-turned : (place : ℕ) (kept : List (Option Content)) → place ≤ length kept → length (turned place kept) ≡ length kept
+length-turned place kept within =
+    let rest : length (drop place kept) ≡ length kept - place = length-drop place kept in
+    let front : length (take place kept) ≡ place = length-take-le place kept within in
+    length-append (drop place kept) (take place kept) ∙ omega arith
+
+pub get-turned : (place index : ℕ) (kept : List (Option Content)) → place ≤ length kept → index < length kept
+    → get_or (turned place kept) index None ≡ get_or kept (spot place index (length kept)) None
+get-turned place index kept within below =
+    let rest : length (drop place kept) ≡ length kept - place = length-drop place kept in
+    elim (cases_Bool (ltb (place + index) (length kept))) [
+      | inl low ↦
+          let under : place + index < length kept = ltb-true (place + index) (length kept) low in
+          get_or_append_left (drop place kept) (take place kept) None index (omega arith)
+          ∙ get_or-drop place kept index None
+          ∙ ap (λ i. get_or kept i None) (sym (cond-true (ltb (place + index) (length kept)) (place + index) (place + index - length kept) low))
+      | inr high ↦
+          let past : length kept ≤ place + index = ltb-false (place + index) (length kept) high in
+          let same : index - (length kept - place) ≡ place + index - length kept = omega arith in
+          get_or-append_right (drop place kept) (take place kept) (length kept - place) index None rest (omega arith)
+          ∙ get_or-take place kept (index - (length kept - place)) None (omega arith)
+          ∙ ap (λ i. get_or kept i None) (same ∙ sym (cond-false (ltb (place + index) (length kept)) (place + index) (place + index - length kept) high))
+    ]
+
+-- `take` in front of a write, and a write in front
+take-set_low : {A : Type 0} (n i : ℕ) (x : A) (xs : List A) → i < n → take n (set xs i x) ≡ set (take n xs) i x
+take-set_low zero i x xs below = absurd (omega arith)
+take-set_low (suc n) i x [] below = refl
+take-set_low (suc n) zero x (y ∷ xs) below = refl
+take-set_low (suc n) (suc i) x (y ∷ xs) below = ap (λ ys. y ∷ ys) (take-set_low n i x xs (omega arith))
+
+pub set-turned : (place index : ℕ) (kept : List (Option Content)) (entry : Option Content) → place ≤ length kept → index < length kept
+    → turned place (set kept (spot place index (length kept)) entry) ≡ set (turned place kept) index entry
+set-turned place index kept entry within below =
+    let rest : length (drop place kept) ≡ length kept - place = length-drop place kept in
+    elim (cases_Bool (ltb (place + index) (length kept))) [
+      | inl low ↦
+          let under : place + index < length kept = ltb-true (place + index) (length kept) low in
+          let order : place ≤ place + index = omega arith in
+          ap (λ i. turned place (set kept i entry)) (cond-true (ltb (place + index) (length kept)) (place + index) (place + index - length kept) low)
+          ∙ ap (λ xs. xs ++ take place (set kept (place + index) entry)) (drop-set-add place kept index entry)
+          ∙ ap (λ xs. set (drop place kept) index entry ++ xs) (take-set-le place kept (place + index) entry order)
+          ∙ sym (set-append_left (drop place kept) (take place kept) index entry (omega arith))
+      | inr high ↦
+          let past : length kept ≤ place + index = ltb-false (place + index) (length kept) high in
+          let under : place + index - length kept < place = omega arith in
+          let same : place + index - length kept ≡ index - (length kept - place) = omega arith in
+          ap (λ i. turned place (set kept i entry)) (cond-false (ltb (place + index) (length kept)) (place + index) (place + index - length kept) high)
+          ∙ ap (λ xs. xs ++ take place (set kept (place + index - length kept) entry)) (drop-set-lt place kept (place + index - length kept) entry under)
+          ∙ ap (λ xs. drop place kept ++ xs) (take-set_low place (place + index - length kept) entry kept under)
+          ∙ ap (λ i. drop place kept ++ set (take place kept) i entry) same
+          ∙ sym (set-append_right (drop place kept) (take place kept) (length kept - place) index entry rest (omega arith))
+    ]
+
+-- the next event's place
+pub next_turn : (event turns : ℕ) → 0 < turns
+    → ((event % turns + 1 < turns) × ((event + 1) % turns ≡ event % turns + 1))
+    ⊎ ((event % turns + 1 ≡ turns) × ((event + 1) % turns ≡ 0))
+next_turn event turns some =
+    let one : event + 1 ≡ suc event = omega arith in
+    let below : event % turns < turns = mod-lt event some in
+    let step : (event + 1) % turns ≡ suc (event % turns) % turns = ap (λ n. n % turns) one ∙ suc-mod event turns in
+    elim (cases_lt (suc (event % turns)) turns) [
+      | inl more ↦
+          let same : suc (event % turns) ≡ event % turns + 1 = omega arith in
+          inl (omega arith, step ∙ mod-eq_of_lt more ∙ same)
+      | inr full ↦
+          let all : suc (event % turns) ≡ turns = omega arith in
+          inr (omega arith, step ∙ ap (λ n. n % turns) all ∙ mod_self turns)
+    ]
+
+-- the open event's places are emptied, and the ring is read from the next event's place on
+pub turned_next : (place bn : ℕ) (was now : List (Option Content)) → place + bn ≤ length was
+    → now ≡ take place was ++ (replicate bn None ++ drop (place + bn) was)
+    → turned (place + bn) now ≡ drop bn (turned place was) ++ replicate bn None
+turned_next place bn was now within is =
+    let front : length (take place was) ≡ place = length-take-le place was (omega arith) in
+    let many : length (replicate {A = Option Content} bn None) ≡ bn = length-replicate bn None in
+    let both : length (take place was ++ replicate bn None) ≡ place + bn = length-append (take place was) (replicate bn None) ∙ omega arith in
+    let joined : now ≡ (take place was ++ replicate bn None) ++ drop (place + bn) was =
+    is ∙ sym (append_assoc (take place was) (replicate bn None) (drop (place + bn) was)) in
+    let rest : length (drop place was) ≡ length was - place = length-drop place was in
+    ap (turned (place + bn)) joined
+    ∙ ap (λ xs. xs ++ take (place + bn) ((take place was ++ replicate bn None) ++ drop (place + bn) was))
+    (drop_at (take place was ++ replicate bn None) (drop (place + bn) was) (place + bn) both)
+    ∙ ap (λ xs. drop (place + bn) was ++ xs) (take_at (take place was ++ replicate bn None) (drop (place + bn) was) (place + bn) both)
+    ∙ sym (append_assoc (drop (place + bn) was) (take place was) (replicate bn None))
+    ∙ ap (λ xs. (xs ++ take place was) ++ replicate bn None) (sym (drop-drop bn place was))
+    ∙ ap (λ xs. xs ++ replicate bn None) (sym (drop-append-le bn (drop place was) (take place was) (omega arith)))
+
+pub turned_round : (place bn : ℕ) (was now : List (Option Content)) → place + bn ≡ length was
+    → now ≡ take place was ++ (replicate bn None ++ drop (place + bn) was)
+    → turned 0 now ≡ drop bn (turned place was) ++ replicate bn None
+turned_round place bn was now full is =
+    let rest : length (drop place was) ≡ bn = length-drop place was ∙ omega arith in
+    append-nil now ∙ is
+    ∙ ap (λ xs. take place was ++ (replicate bn None ++ xs)) (drop_all (place + bn) was (omega arith))
+    ∙ ap (λ xs. take place was ++ xs) (append-nil (replicate bn None))
+    ∙ ap (λ xs. xs ++ replicate bn None) (sym (drop_at (drop place was) (take place was) bn rest))
+
+-- the first numbers of a ring that is read from a place on
+pub take-turned : (place at n : ℕ) (kept : List (Option Content)) → place + (at + n) ≤ length kept
+    → take n (drop at (turned place kept)) ≡ take n (drop at (drop place kept))
+take-turned place at n kept within =
+    let rest : length (drop place kept) ≡ length kept - place = length-drop place kept in
+    let left : length (drop at (drop place kept)) ≡ length (drop place kept) - at = length-drop at (drop place kept) in
+    ap (take n) (drop-append-le at (drop place kept) (take place kept) (omega arith))
+    ∙ take-append-le n (drop at (drop place kept)) (take place kept) (omega arith)

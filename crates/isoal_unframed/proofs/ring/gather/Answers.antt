@@ -1,0 +1,21 @@
+use Rattle.std.proofs.Common.{◌≤◌, ◌∙◌, arith}
+use Rattle.isoal_unframed.specs.declared.cell.Cell.TheVariants.{Fragment}
+use Rattle.isoal_unframed.proofs.Kept.{gather_more, cell_fits, place_room}
+use Rattle.isoal_unframed.proofs.ring.gather.Goals as goal
+
+pub places-preserved : goal.places-preserved
+places-preserved c =
+    let fits : c.in-Fragment.part ≤ c.args.max_pdu =
+    cell_fits c.args.max_pdu c.places.cell-index c.args.cells.now (Fragment c.in-Fragment.part) c.requires.within c.places-test.true c.in-Fragment.is in
+    let fits_count : c.from-count.result ≤ c.args.max_pdu = omega arith in
+    record {
+      place = omega arith;
+      together = omega arith;
+      unit = gather_more c.args.max_pdu c.args.max_sdu c.places.len c.places.from c.from-count.result c.in-Fragment.part c.places.cell-index
+          c.args.cells.now c.places.block c.copy_within.new.self c.places-test.true c.in-Fragment.is c.from-count.ensures
+          fits_count c.places.invariant.together
+          (place_room c.args.max_pdu c.places.cell-index c.places.from c.from-count.result c.args.cells.now c.args.block.now c.places.block
+          c.places.invariant.place c.places-test.true fits_count c.requires.room (omega arith))
+          c.copy_within.ensures.after
+          ∙ c.places.invariant.unit;
+    }

@@ -1,0 +1,22 @@
+use Rattle.std.proofs.Common.{◌≡◌, ◌++◌, ◌∷◌, ◌∙◌, subst, sym, ap, take, get_or, arith}
+use Rattle.isoal_unframed.specs.Histories.{handed}
+use Rattle.isoal_unframed.specs.Runs.{call_of, after_all}
+use Rattle.isoal_unframed.specs.declared.in_call.InCall.TheVariants.{Close}
+use Rattle.isoal_unframed.specs.Windows.{Stands}
+use Rattle.isoal_unframed.proofs.Runs.{after_more}
+use Rattle.isoal_unframed.proofs.run.run_calls.Goals as goal
+
+pub calls-preserved : goal.calls-preserved
+calls-preserved g c = record {
+  stay = c.step.ensures.stay ∙ c.calls.invariant.stay;
+  event = omega (arith, c.step.ensures.event, c.calls.invariant.event);
+  stands = λ past stands.
+      subst (λ history. Stands history c.step.new.receiver) (after_more c.args.calls.now c.calls.call-index Close past c.calls-test.true)
+      (c.step.ensures.stands (after_all (take c.calls.call-index c.args.calls.now) past) (c.calls.invariant.stands past stands));
+  handed = λ past before stands is.
+      subst (λ history. g.T.UnitTaker.calls c.step.new.taker ≡ before ++ handed c.args.receiver.now.stay history) (after_more c.args.calls.now c.calls.call-index Close past c.calls-test.true)
+      (c.in_ok-step.ensures.handed (after_all (take c.calls.call-index c.args.calls.now) past) before (c.calls.invariant.stands past stands)
+      (subst (λ stay. g.T.UnitTaker.calls c.calls.taker ≡ before ++ handed stay (after_all (take c.calls.call-index c.args.calls.now) past)) (sym c.calls.invariant.stay)
+      (c.calls.invariant.handed past before stands is))
+      ∙ ap (λ stay. before ++ handed stay (call_of (get_or c.args.calls.now c.calls.call-index Close) ∷ after_all (take c.calls.call-index c.args.calls.now) past)) c.calls.invariant.stay);
+}

@@ -1,0 +1,9 @@
+use Rattle.std.proofs.Common.{◌≡◌}
+use Rattle.std.specs.List.{flat_map, range_with_len, slice_get}
+use Rattle.big_info.specs.Schedule.{per_unit_of}
+use Rattle.isoal_unframed.specs.Sender.{slot_pdus}
+use Rattle.isoal_unframed.proofs.slots.lay_slots.Given as goal
+
+abbrev pub invariant-slots : goal.invariant-slots
+invariant-slots l =
+    l.pdus ≡ flat_map (λ slot. slot_pdus l.group.info.max_pdu (per_unit_of l.group.info) (slice_get l.waiting.items slot)) (range_with_len 0 l.slot)

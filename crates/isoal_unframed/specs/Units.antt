@@ -1,0 +1,43 @@
+-- The unit of a slot of an unframed stream (Core 5.2, volume 6 part G, section 2.1), from what is kept of the slot's
+-- payload numbers, in order.
+use Rattle.std.specs.Prelude.{ℕ, ◌+◌, ◌-◌, ◌≤◌, ◌≡◌, nat_le, List, [], ◌∷◌, ◌++◌, length, map, Option, Some, None, if◌then◌else◌}
+use Rattle.std.specs.List.{concat}
+use Rattle.iso_pdu.specs.Layout.{Content, end, fragment, framed, control}
+
+-- what an unframed stream takes: fragments and ends
+abbrev pub unframed : Content → Option Content
+unframed (end octets) = Some (end octets)
+unframed (fragment octets) = Some (fragment octets)
+unframed (framed parts) = None
+unframed (control octets) = None
+
+-- the first f - 1 numbers are kept as fragments and the f-th as an end, and these parts together are the octets
+pub record IsUnit (max_sdu : ℕ) (slot : List (Option Content)) (octets : List ℕ) : Type 0 where
+  pub fragments : List (List ℕ)
+  pub last : List ℕ
+  pub others : List (Option Content)
+  pub slot_is : slot ≡ map (λ part. Some (fragment part)) fragments ++ Some (end last) ∷ others
+  pub octets_are : octets ≡ concat fragments ++ last
+  pub fits : length octets ≤ max_sdu
+
+-- the same from left to right, behind a front that is read already
+abbrev pub unit_after : ℕ → List ℕ → List (Option Content) → Option (List ℕ)
+unit_after max_sdu front [] = None
+unit_after max_sdu front (None ∷ slot) = None
+unit_after max_sdu front (Some (end part) ∷ slot) = if nat_le (length (front ++ part)) max_sdu then Some (front ++ part) else None
+unit_after max_sdu front (Some (fragment part) ∷ slot) = unit_after max_sdu (front ++ part) slot
+unit_after max_sdu front (Some (framed parts) ∷ slot) = None
+unit_after max_sdu front (Some (control part) ∷ slot) = None
+
+abbrev pub unit_of : ℕ → List (Option Content) → Option (List ℕ)
+unit_of max_sdu slot = unit_after max_sdu [] slot
+
+-- Held: the octets of the longest front of a slot's numbers that are kept, with an end at most in the last place and
+-- at most so many octets
+abbrev pub held_in : ℕ → List (Option Content) → ℕ
+held_in room [] = 0
+held_in room (None ∷ slot) = 0
+held_in room (Some (end part) ∷ slot) = if nat_le (length part) room then length part else 0
+held_in room (Some (fragment part) ∷ slot) = if nat_le (length part) room then length part + held_in (room - length part) slot else 0
+held_in room (Some (framed parts) ∷ slot) = 0
+held_in room (Some (control part) ∷ slot) = 0

@@ -1,0 +1,53 @@
+use crate::UnframedOut;
+use big_info::{BigInfo, check_group};
+use isoal_base::EventLaid;
+use std::test::Fail;
+
+/// Units of at most 8 octets every 10 ms in two PDUs of at most 4 on LE 2M, each sent once.
+const FRAGMENTS: BigInfo = BigInfo {
+    big_offset: 0,
+    big_offset_units: 0,
+    iso_interval: 8,
+    num_bis: 1,
+    nse: 2,
+    bn: 2,
+    sub_interval: 400,
+    pto: 0,
+    bis_spacing: 0,
+    irc: 1,
+    max_pdu: 4,
+    seed_access_address: 0,
+    sdu_interval: 10000,
+    max_sdu: 8,
+    base_crc_init: 0,
+    chm: 0,
+    phy: 1,
+    bis_payload_count: 0,
+    framing: 0,
+    cipher: None,
+};
+
+fn has_pdus(event: &EventLaid, first: &[u8], second: &[u8]) -> bool {
+    match event.pdus.as_slice() {
+        [one, other] => one.as_slice() == first && other.as_slice() == second,
+        _ => false,
+    }
+}
+
+#[test]
+fn a_short_unit_is_padded_and_a_long_one_is_cut(rt: HostRuntime) -> Result<(), Fail> {
+    assert!(rt; FRAGMENTS.fits());
+    let group = check_group(&FRAGMENTS)?;
+    let mut out = UnframedOut::new(rt.alloc(), &group);
+
+    out.put(&[0x01, 0x02, 0x03, 0x04])?;
+    let short = out.lay_event()?;
+    assert!(rt; has_pdus(&short, &[0x00, 0x04, 0x01, 0x02, 0x03, 0x04], &[0x01, 0x00]));
+
+    out.put(&[0x11, 0x12, 0x13, 0x14, 0x15, 0x16, 0x17, 0x18])?;
+    let long = out.lay_event()?;
+    let first = [0x01, 0x04, 0x11, 0x12, 0x13, 0x14];
+    let second = [0x00, 0x04, 0x15, 0x16, 0x17, 0x18];
+    assert!(rt; has_pdus(&long, &first, &second));
+    Ok(())
+}

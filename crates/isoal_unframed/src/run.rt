@@ -1,0 +1,48 @@
+ghost use Rattle.std.specs.Prelude.{◌≡◌, ◌≤◌, ◌<◌, ◌+◌, ◌^◌, List, ◌∷◌, ◌++◌, length, OnOk};
+ghost use Rattle.unit_outlets.specs.Handed.{Handed};
+ghost use Rattle.isoal_base.specs.Stays.{Call};
+ghost use Rattle.isoal_unframed.specs.Histories.{handed};
+ghost use Rattle.isoal_unframed.specs.Runs.{call_of, after_all};
+ghost use Rattle.isoal_unframed.specs.Windows.{Stands};
+
+use crate::in_call::InCall;
+use crate::unframed_in::UnframedIn;
+use unit_outlets::{TakerFault, UnitTaker};
+
+/// Makes the calls in order, up to the first fault of the taker. Each of them may be a close, so the open event and
+/// their number together are at most 2^39.
+pub fn run_calls<T: UnitTaker>(
+    receiver: &mut UnframedIn,
+    calls: &[InCall<'_>],
+    taker: &mut T,
+) -> Result<(), TakerFault>
+    requires { receiver.old.event + length calls.now ≤ 2 ^ 39 }
+    ensures stands { (past : List Call) → Stands past receiver.old → OnOk result (Stands (after_all calls.now past) receiver.new) }
+    ensures handed { (past : List Call) → (before : List Handed) → Stands past receiver.old → T.calls taker.old ≡ before ++ handed receiver.old.stay past → OnOk result (T.calls taker.new ≡ before ++ handed receiver.old.stay (after_all calls.now past)) }
+{
+    'calls: for call in calls {
+        step(receiver, *call, taker)?;
+    }
+    Ok(())
+}
+
+/// Makes a call.
+fn step<T: UnitTaker>(
+    receiver: &mut UnframedIn,
+    call: InCall<'_>,
+    taker: &mut T,
+) -> Result<(), TakerFault>
+    requires { receiver.old.event < 2 ^ 39 }
+    ensures stay { receiver.new.stay ≡ receiver.old.stay }
+    ensures event { receiver.new.event ≤ receiver.old.event + 1 }
+    ensures stands { (past : List Call) → Stands past receiver.old → Stands (call_of call.entry ∷ past) receiver.new }
+    ensures handed { (past : List Call) → (before : List Handed) → Stands past receiver.old → T.calls taker.old ≡ before ++ handed receiver.old.stay past → OnOk result (T.calls taker.new ≡ before ++ handed receiver.old.stay (call_of call.entry ∷ past)) }
+{
+    match call {
+        InCall::Hear { number, pdu } => {
+            let _heard = receiver.hear(number, pdu);
+            Ok(())
+        }
+        InCall::Close => receiver.close(taker),
+    }
+}
