@@ -1,6 +1,7 @@
 mod Airs
 mod Events
 mod Handing
+mod HeldLaws
 mod Kept
 mod Laid
 mod Places

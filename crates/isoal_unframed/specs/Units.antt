@@ -32,8 +32,41 @@ unit_after max_sdu front (Some (control part) ∷ slot) = None
 abbrev pub unit_of : ℕ → List (Option Content) → Option (List ℕ)
 unit_of max_sdu slot = unit_after max_sdu [] slot
 
--- Held: the octets of the longest front of a slot's numbers that are kept, with an end at most in the last place and
--- at most so many octets
+-- the octets of fragments and ends
+abbrev pub octets_in : Content → List ℕ
+octets_in (end octets) = octets
+octets_in (fragment octets) = octets
+octets_in (framed parts) = []
+octets_in (control octets) = []
+
+-- how many octets parts have together
+abbrev pub count_in : List Content → ℕ
+count_in [] = 0
+count_in (part ∷ parts) = length (octets_in part) + count_in parts
+
+-- fragments, and an end at most in the last place
+abbrev pub EndsLast : List Content → Type 0
+EndsLast [] = Unit {0}
+EndsLast (fragment octets ∷ parts) = EndsLast parts
+EndsLast (end octets ∷ parts) = parts ≡ []
+EndsLast (framed segments ∷ parts) = ⊥
+EndsLast (control octets ∷ parts) = ⊥
+
+-- a front of a slot's numbers that are kept, with an end at most in the last place and at most so many octets
+pub record IsFront (max_sdu : ℕ) (slot : List (Option Content)) (parts : List Content) : Type 0 where
+  pub others : List (Option Content)
+  pub slot_is : slot ≡ map Some parts ++ others
+  pub ends_last : EndsLast parts
+  pub fits : count_in parts ≤ max_sdu
+
+-- Held of a slot: the octets of the longest such front
+pub record IsHeld (max_sdu : ℕ) (slot : List (Option Content)) (octets : ℕ) : Type 0 where
+  pub front : List Content
+  pub is_front : IsFront max_sdu slot front
+  pub longest : (other : List Content) → IsFront max_sdu slot other → length other ≤ length front
+  pub octets_are : octets ≡ count_in front
+
+-- the same from left to right
 abbrev pub held_in : ℕ → List (Option Content) → ℕ
 held_in room [] = 0
 held_in room (None ∷ slot) = 0

@@ -11,13 +11,15 @@ mod ring;
 mod run;
 mod slots;
 mod stream;
+#[cfg(test)]
+mod tests;
 mod unframed_in;
 mod unframed_out;
 mod window;
 
 pub use air_laws::{a_slot_carries_its_unit, each_number_is_laid, slots_add_up, the_rest_waits};
 pub use in_call::InCall;
-pub use laws::{unit_is_assembled, units_are_struck};
+pub use laws::{longest_front_is_held, unit_is_assembled, units_are_struck};
 pub use run::run_calls;
 pub use unframed_in::UnframedIn;
 pub use unframed_out::UnframedOut;

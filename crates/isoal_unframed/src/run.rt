@@ -1,8 +1,8 @@
-ghost use Rattle.std.specs.Prelude.{◌≡◌, ◌≤◌, ◌<◌, ◌+◌, ◌^◌, List, ◌∷◌, ◌++◌, length, OnOk};
-ghost use Rattle.unit_outlets.specs.Handed.{Handed};
+ghost use Rattle.std.specs.Prelude.{◌≡◌, ◌≤◌, ◌<◌, ◌+◌, ◌^◌, ℕ, List, ◌∷◌, ◌++◌, length, take, OnOk, OnErr};
+ghost use Rattle.unit_outlets.specs.Handed.{Handed, Caused};
 ghost use Rattle.isoal_base.specs.Stays.{Call};
 ghost use Rattle.isoal_unframed.specs.Histories.{handed};
-ghost use Rattle.isoal_unframed.specs.Runs.{call_of, after_all};
+ghost use Rattle.isoal_unframed.specs.Runs.{call_of, after_all, Stopped};
 ghost use Rattle.isoal_unframed.specs.Windows.{Stands};
 
 use crate::in_call::InCall;
@@ -19,6 +19,8 @@ pub fn run_calls<T: UnitTaker>(
     requires { receiver.old.event + length calls.now ≤ 2 ^ 39 }
     ensures stands { (past : List Call) → Stands past receiver.old → OnOk result (Stands (after_all calls.now past) receiver.new) }
     ensures handed { (past : List Call) → (before : List Handed) → Stands past receiver.old → T.calls taker.old ≡ before ++ handed receiver.old.stay past → OnOk result (T.calls taker.new ≡ before ++ handed receiver.old.stay (after_all calls.now past)) }
+    ensures stopped { (past : List Call) → (before : List Handed) → Stands past receiver.old → T.calls taker.old ≡ before ++ handed receiver.old.stay past → OnErr result (Stopped calls.now past before receiver.new (T.calls taker.new)) }
+    ensures cause { Caused (T.counts taker.old) (T.counts taker.new) result }
 {
     'calls: for call in calls {
         step(receiver, *call, taker)?;
@@ -37,6 +39,8 @@ fn step<T: UnitTaker>(
     ensures event { receiver.new.event ≤ receiver.old.event + 1 }
     ensures stands { (past : List Call) → Stands past receiver.old → Stands (call_of call.entry ∷ past) receiver.new }
     ensures handed { (past : List Call) → (before : List Handed) → Stands past receiver.old → T.calls taker.old ≡ before ++ handed receiver.old.stay past → OnOk result (T.calls taker.new ≡ before ++ handed receiver.old.stay (call_of call.entry ∷ past)) }
+    ensures front { (past : List Call) → (before : List Handed) → Stands past receiver.old → T.calls taker.old ≡ before ++ handed receiver.old.stay past → OnErr result ((n : ℕ) × (T.calls taker.new ≡ before ++ take n (handed receiver.old.stay (call_of call.entry ∷ past)))) }
+    ensures cause { Caused (T.counts taker.old) (T.counts taker.new) result }
 {
     match call {
         InCall::Hear { number, pdu } => {

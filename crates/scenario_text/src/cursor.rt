@@ -1,24 +1,35 @@
-ghost use Rattle.std.specs.Prelude.{◌≤◌, ◌^◌, ◌<◌, length, IfOk, IfSome};
+ghost use Rattle.std.specs.Prelude.{◌≡◌, ◌≤◌, ◌^◌, ◌<◌, ◌+◌, ◌-◌, ◌∷◌, ℕ, List, [], Some, None, length, IfOk, IfSome, IsTrue, ◌≢◌, ◌↔◌};
+ghost use Rattle.scenario_text.specs.Reading.{GivesNext, Fails, Left, next, word_in, decimal_in, framing_in, time_in, octets_in, perhaps_of, rising_of, with_stream as stream_in, ended};
+ghost use Rattle.scenario_text.specs.Words.{words_of};
+ghost use Rattle.scenario_text.specs.Rests.{words_after, octets_after};
 
-use crate::decimal::decimal;
 use crate::fault::LineFault;
-use bcast_base::{Bis, Octets};
-use hex::decode_to_slice;
+use crate::word::{decimal_within, framing_of, octets_of, time_of};
+use bcast_base::{Bis, BisSet, Octets};
 use memchr::memchr;
 use std::alloc::Global;
+use std::marker::Model;
 
 /// The greatest time that a unit may have, in µs.
 const GREATEST_TIME: u64 = 1 << 62;
 
-/// The most octets that a word of the lines built so far spells.
-const MOST_OCTETS: usize = 4_095;
-
 /// The octets up to the first space, and those after it where there is one.
-fn split_word(line: &[u8]) -> (&[u8], Option<&[u8]>) {
+fn split_word(line: &[u8]) -> (&[u8], Option<&[u8]>)
+    ensures words { words_of line.now ≡ result.0.now ∷ words_after result.1 }
+    ensures shorter { octets_after result.1 ≤ length line.now }
+{
     match memchr(b' ', line) {
         None => (line, None),
         Some(end) => (&line[..end], Some(&line[end + 1..])),
     }
+}
+
+/// The set with one stream more.
+fn with_stream(which: BisSet, bis: Bis) -> BisSet
+    requires { 1 ≤ bis }
+    ensures { result ≡ stream_in which bis }
+{
+    which.with(bis)
 }
 
 /// The words of a line that are still to be read, and how many were read before.
@@ -28,8 +39,22 @@ pub struct Cursor<'a> {
     read: u64,
 }
 
+impl<'a> Model for Cursor<'a> {
+    ghost use Rattle.std.specs.Prelude.{◌≤◌, ◌+◌, ◌^◌, ◌-◌};
+    ghost use Rattle.scenario_text.specs.Reading.{Left};
+    ghost use Rattle.scenario_text.specs.Rests.{words_after, octets_after};
+
+    ghost Value = { Left };
+
+    ghost view = { λ a. record { words = words_after a.rest; read = a.read } };
+
+    ghost invariant = { λ a. a.read + octets_after a.rest ≤ 2 ^ 64 - 1 };
+}
+
 impl<'a> Cursor<'a> {
-    pub fn new(line: &'a [u8]) -> Cursor<'a> {
+    pub fn new(line: &'a [u8]) -> Cursor<'a>
+        ensures { result ≡ record { words = words_of line.now; read = 0 } }
+    {
         Cursor {
             rest: Some(line),
             read: 0,
@@ -37,42 +62,51 @@ impl<'a> Cursor<'a> {
     }
 
     /// The fault of the word that was read last.
-    fn misfit(&self) -> LineFault {
+    fn misfit(&self) -> LineFault
+        ensures { result ≡ LineFault.BadLine (self.now.read - 1) }
+    {
         LineFault::BadLine {
             word: self.read.saturating_sub(1),
         }
     }
 
     /// Whether a word is left.
-    pub fn has_more(&self) -> bool {
+    pub fn has_more(&self) -> bool
+        ensures { IsTrue result ↔ (self.now.words ≢ []) }
+    {
         self.rest.is_some()
     }
 
     /// The next word, which may be empty; BadLine where none is left.
-    pub fn word(&mut self) -> Result<&'a [u8], LineFault> {
+    pub fn word(&mut self) -> Result<&'a [u8], LineFault>
+        ensures { GivesNext (λ word. word.now) result self.new (next word_in self.old) }
+    {
         let Some(rest) = self.rest else {
             return Err(LineFault::BadLine { word: self.read });
         };
-        self.read = self.read.saturating_add(1);
+        self.read += 1;
         let (word, rest) = split_word(rest);
         self.rest = rest;
         Ok(word)
     }
 
     /// A decimal from `least` to `greatest`.
+    #[tactic(auto, using(crate::proofs::NextWords::fits, crate::proofs::NextWords::misfits, crate::proofs::OneWord::decimal_range))]
     pub fn number(&mut self, least: u64, greatest: u64) -> Result<u64, LineFault>
-        ensures { IfOk result (λ n. (least ≤ n) × (n ≤ greatest)) }
+        ensures range { IfOk result (λ n. (least ≤ n) × (n ≤ greatest)) }
+        ensures gives { GivesNext (λ n. n) result self.new (next (decimal_in least greatest) self.old) }
     {
         let word = self.word()?;
-        match decimal(word) {
-            Some(n) if least <= n && n <= greatest => Ok(n),
-            _ => Err(self.misfit()),
+        match decimal_within(word, least, greatest) {
+            Some(n) => Ok(n),
+            None => Err(self.misfit()),
         }
     }
 
     /// A decimal of at most `greatest` that is an octet.
     pub fn octet(&mut self, least: u8, greatest: u8) -> Result<u8, LineFault>
-        ensures { IfOk result (λ n. (least ≤ n) × (n ≤ greatest)) }
+        ensures range { IfOk result (λ n. (least ≤ n) × (n ≤ greatest)) }
+        ensures gives { GivesNext (λ n. n) result self.new (next (decimal_in least greatest) self.old) }
     {
         Ok(self.number(u64::from(least), u64::from(greatest))? as u8)
     }
@@ -80,13 +114,18 @@ impl<'a> Cursor<'a> {
     /// A decimal that fits a number of so many bits, at most 32.
     pub fn bits(&mut self, width: u32) -> Result<u32, LineFault>
         requires { width ≤ 32 }
-        ensures { IfOk result (λ n. n < 2 ^ width) }
+        ensures range { IfOk result (λ n. n < 2 ^ width) }
+        ensures gives { GivesNext (λ n. n) result self.new (next (decimal_in 0 (2 ^ width - 1)) self.old) }
     {
         Ok(self.number(0, (1u64 << width) - 1)? as u32)
     }
 
     /// The index of a stream, from `least` to 31.
-    pub fn bis(&mut self, least: u8) -> Result<Bis, LineFault> {
+    pub fn bis(&mut self, least: u8) -> Result<Bis, LineFault>
+        requires { 1 ≤ least }
+        ensures range { IfOk result (λ bis. (least ≤ bis) × (bis ≤ 31)) }
+        ensures gives { GivesNext (λ n. n) result self.new (next (decimal_in least 31) self.old) }
+    {
         let index = self.octet(least, 31)?;
         match Bis::new(index) {
             Some(bis) => Ok(bis),
@@ -94,53 +133,74 @@ impl<'a> Cursor<'a> {
         }
     }
 
-    /// `unframed` is 0 and `framed` is 1.
-    pub fn framing(&mut self) -> Result<u8, LineFault>
-        ensures { IfOk result (λ framing. framing ≤ 1) }
+    /// A decimal from `least` to `greatest`, where a word is left.
+    pub fn perhaps(&mut self, least: u16, greatest: u16) -> Result<Option<u16>, LineFault>
+        ensures { GivesNext (λ n. n) result self.new (perhaps_of least greatest self.old.read self.old.words) }
     {
-        match self.word()? {
-            b"unframed" => Ok(0),
-            b"framed" => Ok(1),
-            _ => Err(self.misfit()),
+        if !self.has_more() {
+            return Ok(None);
+        }
+        Ok(Some(self.number(u64::from(least), u64::from(greatest))? as u16))
+    }
+
+    /// One index or more, each above the one before.
+    pub fn rising(&mut self) -> Result<BisSet, LineFault>
+        ensures { GivesNext (λ n. n) result self.new (rising_of self.old) }
+    {
+        let first = self.bis(1)?;
+        let mut which = with_stream(BisSet::new(), first);
+        let mut last = first.get();
+        'indices: while self.has_more() {
+            let bis = self.bis(last + 1)?;
+            which = with_stream(which, bis);
+            last = bis.get();
+        }
+        Ok(which)
+    }
+
+    /// `unframed` is 0 and `framed` is 1.
+    #[tactic(auto, using(crate::proofs::NextWords::fits, crate::proofs::NextWords::misfits, crate::proofs::OneWord::framing_range))]
+    pub fn framing(&mut self) -> Result<u8, LineFault>
+        ensures range { IfOk result (λ framing. framing ≤ 1) }
+        ensures gives { GivesNext (λ n. n) result self.new (next framing_in self.old) }
+    {
+        let word = self.word()?;
+        match framing_of(word) {
+            Some(framing) => Ok(framing),
+            None => Err(self.misfit()),
         }
     }
 
     /// `-`, or a decimal of at most 2 ^ 62.
+    #[tactic(auto, using(crate::proofs::NextWords::fits, crate::proofs::NextWords::misfits))]
     pub fn time(&mut self) -> Result<Option<u64>, LineFault>
-        ensures { IfOk result (λ time. IfSome time (λ t. t ≤ 2 ^ 62)) }
+        ensures { GivesNext (λ n. n) result self.new (next (time_in (2 ^ 62)) self.old) }
     {
         let word = self.word()?;
-        if matches!(word, b"-") {
-            return Ok(None);
-        }
-        match decimal(word) {
-            Some(time) if time <= GREATEST_TIME => Ok(Some(time)),
-            _ => Err(self.misfit()),
+        match time_of(word, GREATEST_TIME) {
+            Some(time) => Ok(time),
+            None => Err(self.misfit()),
         }
     }
 
     /// Octets as pairs of hexadecimal digits, or `-` for none; at most `most`.
+    #[tactic(auto, using(crate::proofs::NextWords::fits, crate::proofs::NextWords::misfits))]
     pub fn octets(&mut self, alloc: Global, most: usize) -> Result<Octets, LineFault>
         requires { most ≤ 4095 }
-        ensures { IfOk result (λ octets. length octets ≤ most) }
+        ensures range { IfOk result (λ octets. length octets ≤ most) }
+        ensures gives { GivesNext (λ n. n) result self.new (next (octets_in most) self.old) }
     {
         let word = self.word()?;
-        if matches!(word, b"-") {
-            return Ok(Octets::new(alloc));
-        }
-        let count = word.len() / 2;
-        if word.is_empty() || count > most {
-            return Err(self.misfit());
-        }
-        let mut room = [0u8; MOST_OCTETS];
-        match decode_to_slice(word, &mut room[..count]) {
-            Ok(()) => Ok(Octets::copy(alloc, &room[..count])?),
-            Err(_) => Err(self.misfit()),
+        match octets_of(alloc, word, most)? {
+            Some(octets) => Ok(octets),
+            None => Err(self.misfit()),
         }
     }
 
     /// BadLine where a word is left.
-    pub fn finish(&self) -> Result<(), LineFault> {
+    pub fn finish(&self) -> Result<(), LineFault>
+        ensures { result ≡ ended self.now.read self.now.words }
+    {
         if self.rest.is_some() {
             Err(LineFault::BadLine { word: self.read })
         } else {

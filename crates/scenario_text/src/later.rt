@@ -1,3 +1,6 @@
+ghost use Rattle.std.specs.Prelude.{◌≡◌, map};
+ghost use Rattle.scenario_text.specs.Table.{is_among as among, is_later};
+
 /// The first words of the lines of both versions that are not built yet.
 const LATER: [&[u8]; 26] = [
     b"ident",
@@ -34,8 +37,24 @@ const LATER_IN_VERSION_2: [&[u8]; 10] = [
     b"relay",
 ];
 
+/// Whether the word is one of these.
+fn is_among(word: &[u8], others: &[&[u8]]) -> bool
+    ensures { result ≡ among word.now (map (λ x. x.now) others.now) }
+{
+    for other in others {
+        if word == *other {
+            return true;
+        }
+    }
+    false
+}
+
 /// Whether a line that begins with this word, and is not built yet, is one of the language in this version.
-pub fn is_of_the_language(version: u8, name: &[u8]) -> bool {
-    LATER.iter().any(|word| *word == name)
-        || (version == 2 && LATER_IN_VERSION_2.iter().any(|word| *word == name))
+pub fn is_of_the_language(version: u8, name: &[u8]) -> bool
+    ensures { result ≡ is_later version name.now }
+{
+    if is_among(name, &LATER) {
+        return true;
+    }
+    version == 2 && is_among(name, &LATER_IN_VERSION_2)
 }

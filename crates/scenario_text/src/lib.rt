@@ -7,6 +7,7 @@ mod fault;
 mod later;
 mod line;
 mod step;
+mod word;
 
 pub use fault::LineFault;
 pub use line::{read_line, read_line_in};

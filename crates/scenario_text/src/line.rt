@@ -1,5 +1,9 @@
-ghost use Rattle.std.specs.Prelude.{◌≡◌, ◌⊎◌, IfOk, IfSome};
+ghost use Rattle.std.specs.Prelude.{◌≡◌, ◌≤◌, ◌⊎◌, IfOk, IfSome, IfNone, codes};
 ghost use Rattle.scenario_text.specs.Ranges.{IsInRange};
+ghost use Rattle.scenario_text.specs.Reading.{Gives, GivesNext, at_line, spelled_by, reading};
+ghost use Rattle.scenario_text.specs.Table.{most_slots as slots_in};
+ghost use Rattle.scenario_text.specs.Lines.{spelling, spelling_of, LineIs, IsBlank};
+ghost use Rattle.scenario_text.specs.declared.step.Step.{Step};
 
 use crate::cursor::Cursor;
 use crate::fault::LineFault;
@@ -10,7 +14,16 @@ use std::alloc::Global;
 
 /// Reads a line of a scenario of version 1: `None` for an empty line or a comment.
 pub fn read_line(alloc: Global, line: &[u8]) -> Result<Option<Step>, LineFault>
-    ensures { IfOk result (λ read. IfSome read IsInRange) }
+    ensures in_range { IfOk result (λ read. IfSome read IsInRange) }
+    // A step that is read is the one that the line says.
+    ensures found { IfOk result (λ read. IfSome read (λ step. LineIs 1 step line.now)) }
+    // A step that the line says is read, unless memory runs out.
+    ensures only { (step : Step) → LineIs 1 step line.now → Gives (λ read. read) result (Ok (Some step)) }
+    // None comes exactly for an empty line or a comment.
+    ensures blank { IsBlank line.now → result ≡ Ok None }
+    ensures none { IfOk result (λ read. IfNone read (IsBlank line.now)) }
+    // Which fault it is.
+    ensures exact { Gives spelling_of result (reading 1 line.now) }
 {
     read_line_in(alloc, 1, line)
 }
@@ -18,7 +31,26 @@ pub fn read_line(alloc: Global, line: &[u8]) -> Result<Option<Step>, LineFault>
 /// Reads a line of a scenario of this version: `None` for an empty line or a comment.
 pub fn read_line_in(alloc: Global, version: u8, line: &[u8]) -> Result<Option<Step>, LineFault>
     requires { (version ≡ 1) ⊎ (version ≡ 2) }
-    ensures { IfOk result (λ read. IfSome read IsInRange) }
+    ensures in_range { IfOk result (λ read. IfSome read IsInRange) }
+    // A step that is read is the one that the line says.
+    ensures found { IfOk result (λ read. IfSome read (λ step. LineIs version step line.now)) }
+    // A step that the line says is read, unless memory runs out.
+    ensures only { (step : Step) → LineIs version step line.now → Gives (λ read. read) result (Ok (Some step)) }
+    // None comes exactly for an empty line or a comment.
+    ensures blank { IsBlank line.now → result ≡ Ok None }
+    ensures none { IfOk result (λ read. IfNone read (IsBlank line.now)) }
+    // Which fault it is.
+    ensures exact { Gives spelling_of result (reading version line.now) }
+{
+    read(alloc, version, line)
+}
+
+/// What the line reads as.
+#[tactic(auto, unfolding(crate::specs::Reading::reading))]
+fn read(alloc: Global, version: u8, line: &[u8]) -> Result<Option<Step>, LineFault>
+    ensures in_range { IfOk result (λ read. IfSome read IsInRange) }
+    ensures blank { IsBlank line.now → result ≡ Ok None }
+    ensures exact { Gives spelling_of result (reading version line.now) }
 {
     match line.first() {
         None => Ok(None),
@@ -28,40 +60,76 @@ pub fn read_line_in(alloc: Global, version: u8, line: &[u8]) -> Result<Option<St
 }
 
 /// The step of a line that is neither empty nor a comment.
+#[tactic(auto, unfolding(crate::specs::Reading::spelled_by))]
 fn step_of(alloc: Global, version: u8, line: &[u8]) -> Result<Step, LineFault>
-    ensures { IfOk result IsInRange }
+    ensures in_range { IfOk result IsInRange }
+    ensures gives { Gives spelling result (spelled_by version line.now) }
 {
     let mut words = Cursor::new(line);
     let name = words.word()?;
-    let step = match name {
-        b"unit" => unit(alloc, &mut words)?,
-        b"event" => Step::Event,
-        b"hear" => hear(&mut words)?,
-        b"tuned" => tuned(&mut words)?,
-        b"scenario" => scenario(&mut words)?,
-        b"group" => group(&mut words)?,
-        b"start" => start(&mut words)?,
-        b"sink" => sink(version, &mut words)?,
-        b"air" => air(&mut words)?,
-        b"inject" => inject(alloc, &mut words)?,
-        b"sniff" => sniff(&mut words)?,
-        b"end" => Step::End,
-        _ if is_of_the_language(version, name) => return Err(LineFault::NotBuilt),
-        _ => return Err(LineFault::BadLine { word: 0 }),
-    };
+    let step = named(alloc, version, name, &mut words)?;
     words.finish()?;
     Ok(step)
 }
 
+/// The step that the words after this first word spell.
+fn named(alloc: Global, version: u8, name: &[u8], words: &mut Cursor<'_>) -> Result<Step, LineFault>
+    ensures in_range { IfOk result IsInRange }
+    ensures gives { GivesNext spelling result words.new (at_line version name.now words.old) }
+{
+    if name == b"unit".as_slice() {
+        return unit(alloc, words);
+    }
+    if name == b"event".as_slice() {
+        return Ok(Step::Event);
+    }
+    if name == b"hear".as_slice() {
+        return hear(words);
+    }
+    if name == b"tuned".as_slice() {
+        return tuned(words);
+    }
+    if name == b"scenario".as_slice() {
+        return scenario(words);
+    }
+    if name == b"group".as_slice() {
+        return group(words);
+    }
+    if name == b"start".as_slice() {
+        return start(words);
+    }
+    if name == b"sink".as_slice() {
+        return sink(version, words);
+    }
+    if name == b"air".as_slice() {
+        return air(words);
+    }
+    if name == b"inject".as_slice() {
+        return inject(alloc, words);
+    }
+    if name == b"sniff".as_slice() {
+        return sniff(words);
+    }
+    if name == b"end".as_slice() {
+        return Ok(Step::End);
+    }
+    if is_of_the_language(version, name) {
+        return Err(LineFault::NotBuilt);
+    }
+    Err(LineFault::BadLine { word: 0 })
+}
+
 fn scenario(words: &mut Cursor<'_>) -> Result<Step, LineFault>
-    ensures { IfOk result IsInRange }
+    ensures in_range { IfOk result IsInRange }
+    ensures gives { GivesNext spelling result words.new (at_line 1 (codes "scenario") words.old) }
 {
     let version = words.octet(1, 2)?;
     Ok(Step::Scenario { version })
 }
 
 fn group(words: &mut Cursor<'_>) -> Result<Step, LineFault>
-    ensures { IfOk result IsInRange }
+    ensures in_range { IfOk result IsInRange }
+    ensures gives { GivesNext spelling result words.new (at_line 1 (codes "group") words.old) }
 {
     Ok(Step::Group {
         framing: words.framing()?,
@@ -83,49 +151,47 @@ fn group(words: &mut Cursor<'_>) -> Result<Step, LineFault>
 }
 
 fn start(words: &mut Cursor<'_>) -> Result<Step, LineFault>
-    ensures { IfOk result IsInRange }
+    ensures in_range { IfOk result IsInRange }
+    ensures gives { GivesNext spelling result words.new (at_line 1 (codes "start") words.old) }
 {
     let first = words.number(0, 549_755_813_887)?;
     Ok(Step::Start { first })
 }
 
-fn sink(version: u8, words: &mut Cursor<'_>) -> Result<Step, LineFault>
-    ensures { IfOk result IsInRange }
+/// The most receive states of a sink.
+fn most_slots(version: u8) -> u8
+    ensures same { result ≡ slots_in version }
+    ensures some { result ≤ 8 }
 {
-    let slots = if version == 2 { 8 } else { 4 };
+    if version == 2 { 8 } else { 4 }
+}
+
+fn sink(version: u8, words: &mut Cursor<'_>) -> Result<Step, LineFault>
+    ensures in_range { IfOk result IsInRange }
+    ensures gives { GivesNext spelling result words.new (at_line version (codes "sink") words.old) }
+{
     Ok(Step::Sink {
         sink: words.octet(0, 7)?,
         streams: words.octet(1, 31)?,
-        slots: words.octet(1, slots)?,
-        mtu: if words.has_more() {
-            Some(words.number(23, 517)? as u16)
-        } else {
-            None
-        },
+        slots: words.octet(1, most_slots(version))?,
+        mtu: words.perhaps(23, 517)?,
     })
 }
 
 /// One index or more, each above the one before.
 fn tuned(words: &mut Cursor<'_>) -> Result<Step, LineFault>
-    ensures { IfOk result IsInRange }
+    ensures in_range { IfOk result IsInRange }
+    ensures gives { GivesNext spelling result words.new (at_line 1 (codes "tuned") words.old) }
 {
-    let sink = words.octet(0, 7)?;
-    let first = words.bis(1)?;
-    let mut which = BisSet::new().with(first);
-    let mut last = first.get();
-    for _ in 0..31 {
-        if !words.has_more() {
-            break;
-        }
-        let bis = words.bis(last + 1)?;
-        which = which.with(bis);
-        last = bis.get();
-    }
-    Ok(Step::Tuned { sink, which })
+    Ok(Step::Tuned {
+        sink: words.octet(0, 7)?,
+        which: words.rising()?,
+    })
 }
 
 fn unit(alloc: Global, words: &mut Cursor<'_>) -> Result<Step, LineFault>
-    ensures { IfOk result IsInRange }
+    ensures in_range { IfOk result IsInRange }
+    ensures gives { GivesNext spelling result words.new (at_line 1 (codes "unit") words.old) }
 {
     Ok(Step::Unit {
         bis: words.bis(1)?,
@@ -135,7 +201,8 @@ fn unit(alloc: Global, words: &mut Cursor<'_>) -> Result<Step, LineFault>
 }
 
 fn hear(words: &mut Cursor<'_>) -> Result<Step, LineFault>
-    ensures { IfOk result IsInRange }
+    ensures in_range { IfOk result IsInRange }
+    ensures gives { GivesNext spelling result words.new (at_line 1 (codes "hear") words.old) }
 {
     Ok(Step::Hear {
         sink: words.octet(0, 7)?,
@@ -146,7 +213,8 @@ fn hear(words: &mut Cursor<'_>) -> Result<Step, LineFault>
 }
 
 fn air(words: &mut Cursor<'_>) -> Result<Step, LineFault>
-    ensures { IfOk result IsInRange }
+    ensures in_range { IfOk result IsInRange }
+    ensures gives { GivesNext spelling result words.new (at_line 1 (codes "air") words.old) }
 {
     Ok(Step::Air {
         sink: words.octet(0, 7)?,
@@ -155,7 +223,8 @@ fn air(words: &mut Cursor<'_>) -> Result<Step, LineFault>
 }
 
 fn inject(alloc: Global, words: &mut Cursor<'_>) -> Result<Step, LineFault>
-    ensures { IfOk result IsInRange }
+    ensures in_range { IfOk result IsInRange }
+    ensures gives { GivesNext spelling result words.new (at_line 1 (codes "inject") words.old) }
 {
     Ok(Step::Inject {
         sink: words.octet(0, 7)?,
@@ -167,7 +236,8 @@ fn inject(alloc: Global, words: &mut Cursor<'_>) -> Result<Step, LineFault>
 }
 
 fn sniff(words: &mut Cursor<'_>) -> Result<Step, LineFault>
-    ensures { IfOk result IsInRange }
+    ensures in_range { IfOk result IsInRange }
+    ensures gives { GivesNext spelling result words.new (at_line 1 (codes "sniff") words.old) }
 {
     Ok(Step::Sniff {
         back: words.octet(0, 31)?,

@@ -14,4 +14,5 @@ invariant-calls g l = record {
   handed : (past : List Call) → (before : List Handed) → Stands past l.initial.receiver
       → g.T.UnitTaker.calls l.initial.taker ≡ before ++ handed l.initial.receiver.stay past
       → g.T.UnitTaker.calls l.taker ≡ before ++ handed l.initial.receiver.stay (after_all (take l.call-index l.calls) past);
+  counts : g.T.UnitTaker.counts l.taker ≡ g.T.UnitTaker.counts l.initial.taker;
 }

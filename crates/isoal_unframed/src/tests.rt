@@ -1,0 +1,159 @@
+ghost use Rattle.std.specs.Prelude.{◌≡◌, ◌++◌, ◌∷◌, [], map, OnOk, OnErr, IsErr};
+ghost use Rattle.unit_outlets.specs.Handed.{Caused};
+ghost use Rattle.isoal_unframed.specs.Windows.{handed_of};
+
+use crate::UnframedIn;
+use bcast_base::{Bis, Memory, Octets};
+use big_info::{BigInfo, check_group};
+use iso_pdu::PduFault;
+use isoal_base::Heard;
+use std::alloc::Global;
+use std::test::Fail;
+use unit_outlets::{TakerFault, UnitTaker};
+
+/// Units of at most 8 octets every 10 ms, in two PDUs of at most 4 octets, sent once.
+const FRAGMENTS: BigInfo = BigInfo {
+    big_offset: 0,
+    big_offset_units: 0,
+    iso_interval: 8,
+    num_bis: 1,
+    nse: 2,
+    bn: 2,
+    sub_interval: 400,
+    pto: 0,
+    bis_spacing: 0,
+    irc: 1,
+    max_pdu: 4,
+    seed_access_address: 0,
+    sdu_interval: 10000,
+    max_sdu: 8,
+    base_crc_init: 0,
+    chm: 0,
+    phy: 1,
+    bis_payload_count: 0,
+    framing: 0,
+    cipher: None,
+};
+
+/// A unit that was handed: its octets, or none where it is lost.
+#[derive(Drop)]
+struct TakenUnit {
+    bis: Bis,
+    time: u64,
+    octets: Option<Octets>,
+}
+
+/// A taker that keeps all units.
+#[derive(Drop)]
+struct Taken {
+    alloc: Global,
+    units: Vec<TakenUnit>,
+    wants: u64,
+}
+
+impl Taken {
+    fn put(&mut self, bis: Bis, time: u64, octets: Option<Octets>) -> Result<(), Memory>
+        ensures ok { OnOk result (map (λ u. handed_of u.bis u.time u.octets) self.new.units.items ≡ map (λ u. handed_of u.bis u.time u.octets) self.old.units.items ++ handed_of bis time octets ∷ []) }
+        ensures err { OnErr result (self.new.units.items ≡ self.old.units.items) }
+        ensures wants { self.new.wants ≡ self.old.wants }
+    {
+        self.units.push(TakenUnit { bis, time, octets })?;
+        Ok(())
+    }
+
+    fn want(&mut self) -> Result<(), TakerFault>
+        ensures refused { IsErr result }
+        ensures cause { Caused (record { faults = 0; wants = self.old.wants }) (record { faults = 0; wants = self.new.wants }) result }
+        ensures units { self.new.units.items ≡ self.old.units.items }
+    {
+        self.wants = self.wants.saturating_add(1);
+        Err(TakerFault::Memory)
+    }
+}
+
+impl UnitTaker for Taken {
+    ghost calls = { λ t. map (λ u. handed_of u.bis u.time u.octets) t.units.items };
+
+    ghost counts = { λ t. record { faults = 0; wants = t.wants } };
+
+    fn valid(&mut self, bis: Bis, time: u64, octets: &[u8]) -> Result<(), TakerFault> {
+        let Ok(octets) = Octets::copy(self.alloc, octets) else {
+            return self.want();
+        };
+        match self.put(bis, time, Some(octets)) {
+            Ok(()) => Ok(()),
+            Err(_) => self.want(),
+        }
+    }
+
+    fn lost(&mut self, bis: Bis, time: u64) -> Result<(), TakerFault> {
+        match self.put(bis, time, None) {
+            Ok(()) => Ok(()),
+            Err(_) => self.want(),
+        }
+    }
+}
+
+#[test]
+fn what_is_held_is_handed_at_the_close(rt: HostRuntime) -> Result<(), Fail> {
+    assert!(rt; FRAGMENTS.fits());
+    let group = check_group(&FRAGMENTS)?;
+    let bis = Bis::new(1).ok_or("no stream")?;
+    let mut receiver = UnframedIn::new(rt.alloc(), &group, bis, 0, 20000, 40000)?;
+    let mut taken = Taken {
+        alloc: rt.alloc(),
+        units: Vec::new(rt.alloc()),
+        wants: 0,
+    };
+    assert_eq!(rt; receiver.hear(1, &[0, 0]), Heard::Kept);
+    assert_eq!(rt; receiver.held(), 0);
+    assert_eq!(rt; receiver.hear(0, &[1, 4, 1, 2, 3, 4]), Heard::Kept);
+    assert_eq!(rt; receiver.hear(0, &[1, 4, 5, 6, 7, 8]), Heard::Repeat);
+    assert_eq!(rt; receiver.held(), 4);
+    receiver.close(&mut taken)?;
+    assert_eq!(rt; receiver.held(), 0);
+    assert_eq!(rt; receiver.open_event(), 1);
+    assert_eq!(rt; taken.units.len(), 1);
+    assert_eq!(rt; taken.units[0].time, 60460);
+    assert!(rt;
+        taken.units[0]
+            .octets
+            .as_ref()
+            .is_some_and(|unit| unit.as_slice() == [1, 2, 3, 4].as_slice())
+    );
+    Ok(())
+}
+
+#[test]
+fn each_pdu_gets_the_first_answer_that_holds(rt: HostRuntime) -> Result<(), Fail> {
+    let group = check_group(&FRAGMENTS)?;
+    let bis = Bis::new(1).ok_or("no stream")?;
+    let mut receiver = UnframedIn::new(rt.alloc(), &group, bis, 0, 20000, 40000)?;
+    let mut taken = Taken {
+        alloc: rt.alloc(),
+        units: Vec::new(rt.alloc()),
+        wants: 0,
+    };
+    assert_eq!(rt; receiver.hear(0, &[0]), Heard::Malformed(PduFault::Short));
+    assert_eq!(rt;
+        receiver.hear(0, &[0, 2, 0xee]),
+        Heard::Malformed(PduFault::LengthDiffers)
+    );
+    assert_eq!(rt; receiver.hear(0, &[2, 0]), Heard::WrongKind);
+    assert_eq!(rt; receiver.hear(2, &[0, 1, 0xee]), Heard::Beyond);
+    assert_eq!(rt; receiver.hear(0, &[0, 1, 0xee]), Heard::Kept);
+    assert_eq!(rt; receiver.hear(0, &[0, 1, 0xff]), Heard::Repeat);
+    receiver.close(&mut taken)?;
+    assert_eq!(rt; receiver.hear(0, &[0, 1, 0xee]), Heard::Late);
+    receiver.close(&mut taken)?;
+    assert_eq!(rt; taken.units.len(), 2);
+    assert!(rt;
+        taken.units[0]
+            .octets
+            .as_ref()
+            .is_some_and(|unit| unit.as_slice() == [0xee].as_slice())
+    );
+    assert_eq!(rt; taken.units[1].time, 70460);
+    assert!(rt; taken.units[1].octets.is_none());
+    Ok(())
+}

@@ -1,0 +1,157 @@
+-- What one word spells, and the ranges that follow.
+use Rattle.std.proofs.Common.{leb, ◌≡◌, ◌≤◌, ◌<◌, ℕ, ◌/◌, ◌%◌, ◌^◌, Bool, true, false, cond, List, [], ◌∷◌, length, None, Some, Result, Ok, Err, refl, ap, sym, ◌∙◌, arith, decimal, ◌&&◌, inl, inr}
+use Rattle.std.specs.Prelude.{IsOk, IsErr, MatchResult}
+use Rattle.std.specs.Str.{bytes_eq}
+use Rattle.std.specs.Str.Parse.{digits_value}
+use Rattle.std.proofs.lemmas.Slice.Eq.{bytes_eq-Decides}
+use Rattle.std.proofs.lemmas.Fmt.{digits_value-decimal, decimal_injective}
+use Rattle.std.proofs.lemmas.Bool.{leb-true, le-leb, lt-leb, cases_eq}
+use Rattle.hex.specs.Hex.{decode_of, decode_sized}
+use Rattle.hex.proofs.HexLemmas.{decode_of-ok, decode_of-odd, decode_sized-odd, decode_sized-twice}
+use Rattle.hex.specs.declared.error.FromHexError.{FromHexError}
+use Rattle.scenario_text.specs.Reading.{decimal_in, framing_in, octets_in, within}
+use Rattle.scenario_text.proofs.Decimals.{own}
+
+-- ---- decimals
+
+pub decimal_fits : (least greatest n : ℕ) (word : List ℕ) → n < 2 ^ 64 → word ≡ decimal n → least ≤ n → n ≤ greatest → decimal_in least greatest word ≡ Some n
+unfolding decimal_in
+decimal_fits least greatest n word small e low high =
+    let value : digits_value 10 word ≡ n = ap (digits_value 10) e ∙ digits_value-decimal own n small in
+    let same : bytes_eq word (decimal n) ≡ true = (bytes_eq-Decides word (decimal n)).1 e in
+    rw (value, same, le-leb least n low, le-leb n greatest high) refl
+
+both : (a b c : Bool) → (a && (b && c)) ≡ true → (a ≡ true) × (b ≡ true) × (c ≡ true)
+both true true true e = (refl, refl, refl)
+both true true false e = absurd cc
+both true false c e = absurd cc
+both false b c e = absurd cc
+
+not_chosen : {X : Type 0} (b : Bool) (x : X) → (b ≡ true → ⊥) → cond b (Some x) None ≡ None
+not_chosen true x h = absurd (h refl)
+not_chosen false x h = refl
+
+pub decimal_misfits : (least greatest : ℕ) (word : List ℕ) → greatest < 2 ^ 64 → ((n : ℕ) → n < 2 ^ 64 → word ≡ decimal n → least ≤ n → n ≤ greatest → ⊥) → decimal_in least greatest word ≡ None
+unfolding decimal_in
+decimal_misfits least greatest word small fails = not_chosen _ _ (λ passes.
+    let tests = both _ _ _ passes in
+    let n = digits_value 10 word in
+    let high = leb-true n greatest tests.2 in
+    fails n (omega arith) ((bytes_eq-Decides word (decimal n)).0 tests.0) (leb-true least n tests.1) high)
+
+some_is : {X : Type 0} (b : Bool) (x y : X) → cond b (Some x) None ≡ Some y → (b ≡ true) × (x ≡ y)
+some_is true x y e = (refl, cc)
+some_is false x y e = absurd cc
+
+pub decimal_range : (least greatest n : ℕ) (word : List ℕ) → decimal_in least greatest word ≡ Some n → (least ≤ n) × (n ≤ greatest)
+unfolding decimal_in
+decimal_range least greatest n word e =
+    let found = some_is _ _ n e in
+    let tests = both _ _ _ found.0 in
+    rw (← found.1) (leb-true least (digits_value 10 word) tests.1, leb-true (digits_value 10 word) greatest tests.2)
+
+pub decimal_is : (least greatest n : ℕ) (word : List ℕ) → decimal_in least greatest word ≡ Some n → word ≡ decimal n
+unfolding decimal_in
+decimal_is least greatest n word e =
+    let value = digits_value 10 word in
+    let found = some_is _ _ n e in
+    let tests = both (bytes_eq word (decimal value)) (leb least value) (leb value greatest) found.0 in
+    (bytes_eq-Decides word (decimal (digits_value 10 word))).0 tests.0 ∙ ap decimal found.1
+
+framed_is : (a b : Bool) (n : ℕ) → cond a (Some 0) (cond b (Some 1) None) ≡ Some n → n ≤ 1
+framed_is true b n e = let zero : 0 ≡ n = cc in omega arith
+framed_is false true n e = let one : 1 ≡ n = cc in omega arith
+framed_is false false n e = absurd cc
+
+pub framing_range : (n : ℕ) (word : List ℕ) → framing_in word ≡ Some n → n ≤ 1
+unfolding framing_in
+framing_range n word e = framed_is _ _ n e
+
+pub too_small : (least greatest n : ℕ) (word : List ℕ) → n < 2 ^ 64 → greatest < 2 ^ 64 → word ≡ decimal n → n < least → decimal_in least greatest word ≡ None
+too_small least greatest n word small bound e low = decimal_misfits least greatest word bound (λ m fits is from to.
+    let same : m ≡ n = decimal_injective m n fits small (sym is ∙ e) in
+    omega arith)
+
+pub too_great : (least greatest n : ℕ) (word : List ℕ) → n < 2 ^ 64 → greatest < 2 ^ 64 → word ≡ decimal n → greatest < n → decimal_in least greatest word ≡ None
+too_great least greatest n word small bound e high = decimal_misfits least greatest word bound (λ m fits is from to.
+    let same : m ≡ n = decimal_injective m n fits small (sym is ∙ e) in
+    omega arith)
+
+-- ---- octets
+
+half : (word : List ℕ) (n : ℕ) → n ≡ length word / 2 → decode_sized word n ≡ decode_of word
+half word n e = elim (cases_eq (length word % 2) 1) [
+  | inl odd ↦ decode_sized-odd word n odd ∙ sym (decode_of-odd word odd)
+  | inr even ↦ decode_sized-twice word n (omega arith)
+]
+
+written : (read : Result (List ℕ) FromHexError) (r : Result (Unit {0}) FromHexError) (out : List ℕ) → MatchResult read (λ bytes. (r ≡ Ok tt) × (out ≡ bytes)) (λ e. r ≡ Err e)
+    → (IsOk r → read ≡ Ok out) × ((IsOk r → ⊥) → IsErr read)
+written (Ok bytes) r out h = (λ ok. ap (λ (b : List ℕ). Ok b) (sym h.1), λ no. absurd (no (rw h.0 refl)))
+written (Err e) r out h = (λ ok. absurd (cc (rw h at ok)), λ no. refl)
+
+pub written_half : (word : List ℕ) (n : ℕ) (r : Result (Unit {0}) FromHexError) (out : List ℕ) → n ≡ length word / 2
+    → MatchResult (decode_sized word n) (λ bytes. (r ≡ Ok tt) × (out ≡ bytes)) (λ e. r ≡ Err e)
+    → (IsOk r → decode_of word ≡ Ok out) × ((IsOk r → ⊥) → IsErr (decode_of word))
+written_half word n r out e h = written (decode_of word) r out (rw (half word n e) at h)
+
+pub dash : (most : ℕ) (word : List ℕ) → word ≡ 45 ∷ [] → octets_in most word ≡ Some []
+unfolding octets_in
+dash most word e = rw e refl
+
+pub empty_word : (most : ℕ) (word : List ℕ) → length word ≡ 0 → octets_in most word ≡ None
+unfolding octets_in
+empty_word most [] e = refl
+empty_word most (x ∷ word) e = absurd (omega arith)
+
+other_word : (most : ℕ) (word : List ℕ) → (length word ≡ 0 → ⊥) → bytes_eq word (45 ∷ []) ≡ false → octets_in most word ≡ within most (decode_of word)
+unfolding octets_in
+other_word most [] some e = absurd (some refl)
+other_word most (x ∷ word) some e = rw e refl
+
+within_err : (most : ℕ) (read : Result (List ℕ) FromHexError) → IsErr read → within most read ≡ None
+within_err most (Ok bytes) e = absurd (cc e)
+within_err most (Err f) e = refl
+
+within_long : (most : ℕ) (read : Result (List ℕ) FromHexError) → ((bytes : List ℕ) → read ≡ Ok bytes → most < length bytes) → within most read ≡ None
+within_long most (Ok bytes) h = rw (lt-leb (length bytes) most (h bytes refl)) refl
+within_long most (Err f) h = refl
+
+pub no_digits : (most : ℕ) (word : List ℕ) → (length word ≡ 0 → ⊥) → bytes_eq word (45 ∷ []) ≡ false → IsErr (decode_of word) → octets_in most word ≡ None
+no_digits most word some e err = other_word most word some e ∙ within_err most (decode_of word) err
+
+pub too_long : (most : ℕ) (word : List ℕ) → (length word ≡ 0 → ⊥) → bytes_eq word (45 ∷ []) ≡ false → most < length word / 2 → octets_in most word ≡ None
+too_long most word some e long = other_word most word some e ∙ within_long most (decode_of word) (λ bytes ok. let len = (decode_of-ok word bytes ok).2 in omega arith)
+
+pub pairs : (most : ℕ) (word bytes : List ℕ) → (length word ≡ 0 → ⊥) → bytes_eq word (45 ∷ []) ≡ false → decode_of word ≡ Ok bytes → length word / 2 ≤ most → octets_in most word ≡ Some bytes
+pairs most word bytes some e ok fits =
+    let len = (decode_of-ok word bytes ok).2 in
+    let short : length bytes ≤ most = omega arith in
+    other_word most word some e ∙ rw (ok, le-leb (length bytes) most short) refl
+
+within_range : (most : ℕ) (read : Result (List ℕ) FromHexError) (bytes : List ℕ) → within most read ≡ Some bytes → length bytes ≤ most
+within_range most (Ok octets) bytes e = let found = some_is _ _ bytes e in rw (← found.1) (leb-true (length octets) most found.0)
+within_range most (Err f) bytes e = absurd cc
+
+chosen_range : (b : Bool) (most : ℕ) (read : Result (List ℕ) FromHexError) (bytes : List ℕ) → cond b (Some []) (within most read) ≡ Some bytes → length bytes ≤ most
+chosen_range true most read bytes e = let none : [] ≡ bytes = cc in rw (← none) (omega arith)
+chosen_range false most read bytes e = within_range most read bytes e
+
+pub octets_range : (most : ℕ) (word bytes : List ℕ) → octets_in most word ≡ Some bytes → length bytes ≤ most
+unfolding octets_in
+octets_range most [] bytes e = absurd cc
+octets_range most (x ∷ word) bytes e = chosen_range _ most _ bytes e
+
+-- ---- a word that is compared with a text
+
+pub same_text : (word text known : List ℕ) (r : Bool) → r ≡ bytes_eq word text → text ≡ known → r ≡ true → word ≡ known
+same_text word text known r e is h = (bytes_eq-Decides word text).0 (sym e ∙ h) ∙ is
+
+pub other_text : (word text known : List ℕ) (r : Bool) → r ≡ bytes_eq word text → text ≡ known → r ≡ false → bytes_eq word known ≡ false
+other_text word text known r e is h = ap (bytes_eq word) (sym is) ∙ (sym e ∙ h)
+
+pub within_is : (most : ℕ) (read : Result (List ℕ) FromHexError) (bytes : List ℕ) → within most read ≡ Some bytes → (read ≡ Ok bytes) × (length bytes ≤ most)
+within_is most (Ok octets) bytes e =
+    let found = some_is _ _ bytes e in
+    (ap (λ (b : List ℕ). Ok b) found.1, rw (← found.1) (leb-true (length octets) most found.0))
+within_is most (Err f) bytes e = absurd cc

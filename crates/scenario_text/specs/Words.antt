@@ -1,0 +1,15 @@
+-- The words of a line: what stands between single spaces. Between two spaces side by side stands an empty word.
+use Rattle.std.specs.Prelude.{ℕ, List, [], ◌∷◌, ◌==◌, if◌then◌else◌}
+
+-- the octet of a space
+abbrev pub space : ℕ
+space = 32
+
+-- an octet at the front of the first word
+abbrev pub onto_first : ℕ → List (List ℕ) → List (List ℕ)
+onto_first octet [] = (octet ∷ []) ∷ []
+onto_first octet (word ∷ words) = (octet ∷ word) ∷ words
+
+abbrev pub words_of : List ℕ → List (List ℕ)
+words_of [] = [] ∷ []
+words_of (octet ∷ line) = if octet == space then [] ∷ words_of line else onto_first octet (words_of line)

@@ -1,0 +1,86 @@
+ghost use Rattle.std.specs.Prelude.{◌≡◌, ◌≤◌, ◌/◌, length, IfOk, IsErr, IsTrue};
+ghost use Rattle.hex.specs.Hex.{decode_of};
+ghost use Rattle.scenario_text.specs.Reading.{decimal_in, framing_in, time_in, octets_in};
+
+use crate::decimal::decimal;
+use bcast_base::{Memory, Octets};
+use hex::decode_to_slice;
+use std::alloc::Global;
+
+/// The most octets that a word of the lines built so far spells.
+const MOST_OCTETS: usize = 4_095;
+
+/// The number from `least` to `greatest` that a word spells.
+#[tactic(auto, using(crate::proofs::OneWord::decimal_fits, crate::proofs::OneWord::decimal_misfits))]
+pub fn decimal_within(word: &[u8], least: u64, greatest: u64) -> Option<u64>
+    ensures { result ≡ decimal_in least greatest word.now }
+{
+    let n = decimal(word)?;
+    if n < least {
+        return None;
+    }
+    if greatest < n {
+        return None;
+    }
+    Some(n)
+}
+
+/// `unframed` is 0 and `framed` is 1.
+#[tactic(auto, unfolding(crate::specs::Reading::framing_in))]
+pub fn framing_of(word: &[u8]) -> Option<u8>
+    ensures { result ≡ framing_in word.now }
+{
+    if word == b"unframed".as_slice() {
+        Some(0)
+    } else if word == b"framed".as_slice() {
+        Some(1)
+    } else {
+        None
+    }
+}
+
+/// `-` for none, or a number of at most `greatest`.
+#[tactic(auto, unfolding(crate::specs::Reading::time_in))]
+pub fn time_of(word: &[u8], greatest: u64) -> Option<Option<u64>>
+    ensures { result ≡ time_in greatest word.now }
+{
+    if word == b"-".as_slice() {
+        return Some(None);
+    }
+    match decimal_within(word, 0, greatest) {
+        Some(time) => Some(Some(time)),
+        None => None,
+    }
+}
+
+/// Whether a word is pairs of hexadecimal digits, and what they spell.
+fn decodes(word: &[u8], octets: &mut [u8]) -> bool
+    requires { length octets.old ≡ length word.now / 2 }
+    ensures yes { IsTrue result → decode_of word.now ≡ Ok octets.new }
+    ensures no { ¬ IsTrue result → IsErr (decode_of word.now) }
+{
+    decode_to_slice(word, octets).is_ok()
+}
+
+/// At most `most` octets as pairs of hexadecimal digits, or `-` for none.
+pub fn octets_of(alloc: Global, word: &[u8], most: usize) -> Result<Option<Octets>, Memory>
+    requires { most ≤ 4095 }
+    ensures { IfOk result (λ octets. octets ≡ octets_in most word.now) }
+{
+    if word == b"-".as_slice() {
+        return Ok(Some(Octets::new(alloc)));
+    }
+    if word.is_empty() {
+        return Ok(None);
+    }
+    let count = word.len() / 2;
+    if count > most {
+        return Ok(None);
+    }
+    let mut room = [0u8; MOST_OCTETS];
+    let octets = &mut room[..count];
+    if !decodes(word, octets) {
+        return Ok(None);
+    }
+    Ok(Some(Octets::copy(alloc, octets)?))
+}
