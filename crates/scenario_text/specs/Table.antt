@@ -1,4 +1,5 @@
--- The table of the lines of a scenario: the first word of each, and the places of the words after it.
+-- The table of the lines of a scenario, which are a language of this project: the first word of each line, and the places
+-- of the words after it.
 use Rattle.std.specs.Prelude.{ℕ, ◌^◌, ◌-◌, ◌==◌, Bool, false, ◌||◌, if◌then◌else◌, List, [], ◌∷◌, Option, None, Some, codes, bytes_eq}
 
 pub data Place : Type 0 where

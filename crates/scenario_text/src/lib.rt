@@ -7,6 +7,8 @@ mod fault;
 mod later;
 mod line;
 mod step;
+#[cfg(test)]
+mod tests;
 mod word;
 
 pub use fault::LineFault;
