@@ -1,2 +1,7 @@
 pub mod Order
 pub mod BoundsOf
+pub mod Sums
+pub mod Words
+pub mod Ciphers
+pub mod Fields
+pub mod Spellings

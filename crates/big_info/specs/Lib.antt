@@ -1,5 +1,6 @@
 pub mod Bounds
 pub mod Faults
+pub mod Layout
 pub mod Rows
 pub mod Schedule
 pub mod Time

@@ -1,4 +1,7 @@
-use crate::{FramedPdu, Pdu, PduFault, Segment, read_pdu, write_end, write_fragment};
+use crate::{
+    Control, ControlFault, FramedPdu, Pdu, PduFault, Segment, read_control, read_pdu, write_end,
+    write_fragment, write_terminate,
+};
 
 // A unit of 8 octets, 5000 µs before its event, over two PDUs with room for 10 octets.
 const START: [u8; 12] = [2, 10, 0, 8, 0x88, 0x13, 0, 0xd0, 0xd1, 0xd2, 0xd3, 0xd4];
@@ -96,4 +99,37 @@ fn each_fault_has_its_number_and_place(rt: HostRuntime) {
     assert_eq!(rt; number(&[2, 4, 0, 2, 0xaa, 0xbb], 10), Some(5));
     assert_eq!(rt; fault_of(&[0, 0], 10), None);
     assert_eq!(rt; fault_of(&[2, 0], 10), None);
+}
+
+#[test]
+fn control_payloads_are_read(rt: HostRuntime) {
+    let rows: [(&[u8], Result<Control, ControlFault>); 6] = [
+        (
+            &[0x01, 0x13, 0x01, 0x00],
+            Ok(Control::Terminate {
+                reason: 19,
+                instant: 1,
+            }),
+        ),
+        (&[0, 0, 0, 0, 0, 0, 0, 0], Ok(Control::ChannelMap)),
+        (&[], Err(ControlFault::Opcode)),
+        (&[0x02], Err(ControlFault::Opcode)),
+        (&[0x01, 0x13, 0x01], Err(ControlFault::ControlLength)),
+        (
+            &[0, 0, 0, 0, 0, 0, 0, 0, 0],
+            Err(ControlFault::ControlLength),
+        ),
+    ];
+    for (octets, answer) in rows {
+        assert!(rt; read_control(octets) == answer);
+    }
+}
+
+// Reason 19 at event 1.
+#[test]
+fn a_group_that_ends_is_written(rt: HostRuntime) {
+    assert_eq!(rt;
+        write_terminate(19, 1),
+        [0x03, 0x04, 0x01, 0x13, 0x01, 0x00]
+    );
 }

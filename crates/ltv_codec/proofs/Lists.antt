@@ -1,0 +1,257 @@
+-- What is read is spelled so, what is spelled so is read, and a fault is the one at the cut.
+use Rattle.std.proofs.Common.{◌≡◌, ℕ, zero, suc, ◌+◌, ◌<◌, ◌≤◌, ◌⊎◌, Bool, true, false, cond, ltb, List, [], ◌∷◌, ◌++◌, length, get_or, take, drop, Option, Some, None, Result, Ok, Err, refl, sym, ap, subst, ◌∙◌, append_assoc, arith, inl, inr, add-zero}
+use Rattle.std.specs.List.{AllByRecursion}
+use Rattle.std.proofs.lemmas.Bool.{cases_lt, lt-ltb, le-ltb, ltb-true}
+use Rattle.std.proofs.lemmas.List.{take_at, drop_at, take-append-drop, length-append, length-take, append-nil}
+use Rattle.std.proofs.lemmas.List.Concat.{flat_map-cons}
+use Rattle.octet_fields.specs.Spelling.{IsOctets}
+use Rattle.octet_fields.specs.Reading.{counted_in}
+use Rattle.octet_fields.proofs.Fields.{IsOctets-drop, counted_takes}
+use Rattle.ltv_codec.specs.declared.fault.LtvBad.{LtvBad}
+use Rattle.ltv_codec.specs.declared.fault.LtvBad.TheVariants.{ZeroLength, Short}
+use Rattle.ltv_codec.specs.declared.ltvs.Ltv.{Ltv}
+use Rattle.ltv_codec.specs.Faults.{StandsZero, StandsShort, IsBad}
+use Rattle.ltv_codec.specs.Layout.{Fits, structure, spelling, IsLtvList}
+use Rattle.ltv_codec.specs.Reading.{before, ltvs_from, ltvs_of, IsStructure, IsBadAt}
+
+-- ---- the front of what is read
+
+inside : (place count : ℕ) (octets : List ℕ) → count ≤ length octets → ltvs_from place count octets ≡ ltvs_from (place + count) zero (drop count octets)
+unfolding ltvs_from
+inside place zero octets h = ap (λ (p : ℕ). ltvs_from p zero octets) (sym (add-zero place))
+inside place (suc count) [] h = absurd (omega arith)
+inside place (suc count) (octet ∷ octets) h =
+    inside (place + 1) count octets (omega arith) ∙ ap (λ (p : ℕ). ltvs_from p zero (drop count octets)) (omega arith)
+
+abbrev pub made : ℕ → List ℕ → Ltv
+made kind value = record { kind = kind; value = value }
+
+whole_read : (place kind : ℕ) (value others : List ℕ)
+    → ltvs_from place zero (suc (length value) ∷ kind ∷ (value ++ others)) ≡ before (made kind value) (ltvs_from (place + (2 + length value)) zero others)
+unfolding ltvs_from
+whole_read place kind value others =
+    let fits : ltb (length (kind ∷ (value ++ others))) (suc (length value)) ≡ false = le-ltb _ _ (omega (arith, length-append value others)) in
+    let front : take (length value) (value ++ others) ≡ value = take_at value others (length value) refl in
+    let back : drop (length value) (value ++ others) ≡ others = drop_at value others (length value) refl in
+    let there : place + 1 + 1 + length value ≡ place + (2 + length value) = omega arith in
+    rw (fits, inside (place + 1 + 1) (length value) (value ++ others) (omega (arith, length-append value others)), front, back, there) refl
+
+pub structure_read : (place : ℕ) (octets : List ℕ) (kind : ℕ) (value others : List ℕ) → IsStructure octets kind value others
+    → ltvs_from place zero octets ≡ before (made kind value) (ltvs_from (place + (2 + length value)) zero others)
+structure_read place octets kind value others s =
+    let count : 1 + length value ≡ suc (length value) = omega arith in
+    ap (ltvs_from place zero) (s.parts ∙ ap (λ (n : ℕ). n ∷ kind ∷ (value ++ others)) count) ∙ whole_read place kind value others
+
+zero_read : (place : ℕ) (octets : List ℕ) → StandsZero octets → ltvs_from place zero octets ≡ Err (ZeroLength place)
+unfolding ltvs_from
+zero_read place [] h = absurd h
+zero_read place (zero ∷ octets) h = refl
+zero_read place (suc count ∷ octets) h = absurd (omega (arith, h))
+
+short_read : (place : ℕ) (octets : List ℕ) → StandsShort octets → ltvs_from place zero octets ≡ Err (Short place)
+unfolding ltvs_from
+short_read place [] h = absurd h
+short_read place (zero ∷ octets) h = absurd (omega (arith, h))
+short_read place (suc count ∷ octets) h = rw (lt-ltb (length octets) (suc count) h) refl
+
+-- ---- the front of octets, and what the code met there
+
+pub is_zero : (place : ℕ) (octets rest : List ℕ) → counted_in octets ≡ Some ([], rest) → IsBadAt place octets (ZeroLength place)
+is_zero place octets rest e = rw ((counted_takes octets [] rest e).parts) (zero_read place (0 ∷ rest) refl)
+
+not_counted : (count : ℕ) (octets : List ℕ) (b : Bool) → ltb (length octets) count ≡ b → cond {A = Option (List ℕ × List ℕ)} b None (Some (take count octets, drop count octets)) ≡ None → length octets < count
+not_counted count octets true e n = ltb-true _ _ e
+not_counted count octets false e n = absurd cc
+
+pub is_short : (place : ℕ) (octets : List ℕ) → 0 < length octets → counted_in octets ≡ None → IsBadAt place octets (Short place)
+is_short place [] h e = absurd (omega arith)
+is_short place (count ∷ octets) h e = short_read place (count ∷ octets) (not_counted count octets (ltb (length octets) count) refl e)
+
+pub is_structure : (octets : List ℕ) (kind : ℕ) (value rest : List ℕ) → IsOctets octets → counted_in octets ≡ Some (kind ∷ value, rest) → IsStructure octets kind value rest
+is_structure octets kind value rest h e =
+    let parts = (counted_takes octets (kind ∷ value) rest e).parts in
+    let count : length (kind ∷ value) ≡ 1 + length value = omega arith in
+    let first : length (kind ∷ value) < 256 = subst (λ (os : List ℕ). get_or os 0 0 < 256) parts (h 0) in
+    record { parts = parts ∙ ap (λ (n : ℕ). n ∷ kind ∷ (value ++ rest)) count; fits = omega (arith, first) }
+
+front_of : (octets : List ℕ) → IsOctets octets → (octets ≡ []) ⊎ StandsZero octets ⊎ StandsShort octets ⊎ ((kind : ℕ) × (value : List ℕ) × (others : List ℕ) × IsStructure octets kind value others)
+front_of [] h = inl refl
+front_of (zero ∷ octets) h = inr (inl refl)
+front_of (suc count ∷ []) h = inr (inr (inl (omega arith)))
+front_of (suc count ∷ kind ∷ octets) h =
+    elim (cases_lt (length (kind ∷ octets)) (suc count)) [
+      | inl lt ↦ inr (inr (inl lt))
+      | inr le ↦
+          let long : length (take count octets) ≡ count = omega (arith, length-take count octets, le) in
+          let sized : suc count ≡ 1 + length (take count octets) = omega (arith, long) in
+          let parts : suc count ∷ kind ∷ octets ≡ (1 + length (take count octets)) ∷ kind ∷ (take count octets ++ drop count octets) =
+          ap (λ (n : ℕ). n ∷ kind ∷ octets) sized ∙ ap (λ (os : List ℕ). (1 + length (take count octets)) ∷ kind ∷ os) (sym (take-append-drop count octets)) in
+          let small : suc count < 256 = h 0 in
+          inr (inr (inr (kind, take count octets, drop count octets, record { parts = parts; fits = omega (arith, long, small) })))
+    ]
+
+others_fit : (octets : List ℕ) (kind : ℕ) (value others : List ℕ) → IsStructure octets kind value others → IsOctets octets → IsOctets others × (length others + (2 + length value) ≡ length octets)
+others_fit octets kind value others s h =
+    let all : IsOctets ((1 + length value) ∷ kind ∷ (value ++ others)) = subst IsOctets s.parts h in
+    let body : IsOctets (value ++ others) = λ i. all (suc (suc i)) in
+    let rest : IsOctets others = subst IsOctets (drop_at value others (length value) refl) (IsOctets-drop (length value) (value ++ others) body) in
+    let long : length octets ≡ length ((1 + length value) ∷ kind ∷ (value ++ others)) = ap length s.parts in
+    (rest, omega (arith, long, length-append value others))
+
+-- ---- what is spelled so is read
+
+-- structures, and what is read behind them
+abbrev pub behind : List Ltv → Result (List Ltv) LtvBad → Result (List Ltv) LtvBad
+behind front (Ok ltvs) = Ok (front ++ ltvs)
+behind front (Err bad) = Err bad
+
+behind-none : (read : Result (List Ltv) LtvBad) → behind [] read ≡ read
+behind-none (Ok ltvs) = refl
+behind-none (Err bad) = refl
+
+behind-first : (ltv : Ltv) (front : List Ltv) (read : Result (List Ltv) LtvBad) → before ltv (behind front read) ≡ behind (ltv ∷ front) read
+behind-first ltv front (Ok ltvs) = refl
+behind-first ltv front (Err bad) = refl
+
+pub behind-more : (front : List Ltv) (ltv : Ltv) (read : Result (List Ltv) LtvBad) → behind front (before ltv read) ≡ behind (front ++ ltv ∷ []) read
+behind-more front ltv (Ok ltvs) = ap (λ (ls : List Ltv). Ok ls) (sym (append_assoc front (ltv ∷ []) ltvs))
+behind-more front ltv (Err bad) = refl
+
+spelled : (ltv : Ltv) (ltvs : List Ltv) (rest : List ℕ) → spelling (ltv ∷ ltvs) ++ rest ≡ (1 + length ltv.value) ∷ ltv.kind ∷ (ltv.value ++ (spelling ltvs ++ rest))
+spelled ltv ltvs rest = ap (λ (os : List ℕ). os ++ rest) (flat_map-cons structure ltv ltvs) ∙ append_assoc (structure ltv) (spelling ltvs) rest
+
+pub spelled_read : (place : ℕ) (ltvs : List Ltv) (rest : List ℕ) → AllByRecursion Fits ltvs → ltvs_from place zero (spelling ltvs ++ rest) ≡ behind ltvs (ltvs_from (place + length (spelling ltvs)) zero rest)
+spelled_read place [] rest h = ap (λ (p : ℕ). ltvs_from p zero rest) (sym (add-zero place)) ∙ sym (behind-none (ltvs_from (place + 0) zero rest))
+spelled_read place (ltv ∷ ltvs) rest h =
+    let first = structure_read place (spelling (ltv ∷ ltvs) ++ rest) ltv.kind ltv.value (spelling ltvs ++ rest) (record { parts = spelled ltv ltvs rest; fits = h.0 }) in
+    let others = spelled_read (place + (2 + length ltv.value)) ltvs rest h.1 in
+    let len : length (spelling (ltv ∷ ltvs)) ≡ 2 + length ltv.value + length (spelling ltvs) =
+    ap length (flat_map-cons structure ltv ltvs) ∙ length-append (structure ltv) (spelling ltvs) ∙ omega arith in
+    let there : place + (2 + length ltv.value) + length (spelling ltvs) ≡ place + length (spelling (ltv ∷ ltvs)) = omega (arith, len) in
+    first ∙ ap (before ltv) others ∙ behind-first ltv ltvs (ltvs_from (place + (2 + length ltv.value) + length (spelling ltvs)) zero rest)
+    ∙ ap (λ (p : ℕ). behind (ltv ∷ ltvs) (ltvs_from p zero rest)) there
+
+nothing_read : (place : ℕ) → ltvs_from place zero [] ≡ Ok []
+unfolding ltvs_from
+nothing_read place = refl
+
+pub list_read : (ltvs : List Ltv) (octets : List ℕ) → IsLtvList ltvs octets → ltvs_of octets ≡ Ok ltvs
+list_read ltvs octets l =
+    ap ltvs_of (l.spelled ∙ sym (append-nil (spelling ltvs))) ∙ spelled_read 0 ltvs [] l.fit
+    ∙ ap (behind ltvs) (nothing_read (0 + length (spelling ltvs))) ∙ ap (λ (ls : List Ltv). Ok ls) (append-nil ltvs)
+
+-- ---- what is read is spelled so
+
+ok_same : (xs ys : List Ltv) → (let r : List Ltv → Result (List Ltv) LtvBad = λ zs. Ok zs in r xs ≡ r ys) → xs ≡ ys
+ok_same xs ys e = cc
+
+before_ok : (ltv : Ltv) (read : Result (List Ltv) LtvBad) (ltvs : List Ltv) → before ltv read ≡ Ok ltvs → (others : List Ltv) × (read ≡ Ok others) × (ltv ∷ others ≡ ltvs)
+before_ok ltv (Ok others) ltvs e = (others, refl, cc)
+before_ok ltv (Err bad) ltvs e = absurd cc
+
+err_not_ok : (bad : LtvBad) (ltvs : List Ltv) → (let r : Result (List Ltv) LtvBad = Err bad in r ≡ Ok ltvs) → ⊥
+err_not_ok bad ltvs e = cc
+
+is_longer : (octets : List ℕ) (kind : ℕ) (value others : List ℕ) (ltvs : List Ltv) → IsStructure octets kind value others → IsLtvList ltvs others → IsLtvList (made kind value ∷ ltvs) octets
+is_longer octets kind value others ltvs s l = record {
+  fit = (s.fits, l.fit);
+  spelled = s.parts ∙ ap (λ (os : List ℕ). (1 + length value) ∷ kind ∷ (value ++ os)) l.spelled ∙ sym (flat_map-cons structure (made kind value) ltvs);
+}
+
+read_within : (n place : ℕ) (octets : List ℕ) (ltvs : List Ltv) → length octets ≤ n → IsOctets octets → ltvs_from place zero octets ≡ Ok ltvs → IsLtvList ltvs octets
+read_within zero place [] ltvs h fits e = subst (λ (ls : List Ltv). IsLtvList ls []) (ok_same [] ltvs (sym (nothing_read place) ∙ e)) (record { fit = tt; spelled = refl })
+read_within zero place (octet ∷ octets) ltvs h fits e = absurd (omega arith)
+read_within (suc n) place octets ltvs h fits e =
+    elim (front_of octets fits) [
+      | inl none ↦
+          let at_end : ltvs_from place zero [] ≡ Ok ltvs = sym (ap (ltvs_from place zero) none) ∙ e in
+          rw none (subst (λ (ls : List Ltv). IsLtvList ls []) (ok_same [] ltvs (sym (nothing_read place) ∙ at_end)) (record { fit = tt; spelled = refl }))
+      | inr (inl stands) ↦ absurd (err_not_ok (ZeroLength place) ltvs (sym (zero_read place octets stands) ∙ e))
+      | inr (inr (inl stands)) ↦ absurd (err_not_ok (Short place) ltvs (sym (short_read place octets stands) ∙ e))
+      | inr (inr (inr (kind, value, others, s))) ↦
+          let rest = others_fit octets kind value others s fits in
+          let b = before_ok (made kind value) (ltvs_from (place + (2 + length value)) zero others) ltvs (sym (structure_read place octets kind value others s) ∙ e) in
+          let l = read_within n (place + (2 + length value)) others b.0 (omega (arith, rest.1)) rest.0 b.1 in
+          subst (λ (ls : List Ltv). IsLtvList ls octets) b.2 (is_longer octets kind value others b.0 s l)
+    ]
+
+pub read_list : (ltvs : List Ltv) (octets : List ℕ) → IsOctets octets → ltvs_of octets ≡ Ok ltvs → IsLtvList ltvs octets
+read_list ltvs octets fits e = read_within (length octets) 0 octets ltvs (omega arith) fits e
+
+-- ---- a fault is the one at the cut
+
+-- whole structures, and behind them, from this place on, a Length that is wrong
+record Cut (place : ℕ) (bad : LtvBad) (octets : List ℕ) : Type 0 where
+  ltvs : List Ltv
+  front : List ℕ
+  rest : List ℕ
+  list : IsLtvList ltvs front
+  parts : octets ≡ front ++ rest
+  what : ((bad ≡ ZeroLength (place + length front)) × StandsZero rest) ⊎ ((bad ≡ Short (place + length front)) × StandsShort rest)
+
+bad_same : (a b : LtvBad) → (let r : LtvBad → Result (List Ltv) LtvBad = λ x. Err x in r a ≡ r b) → a ≡ b
+bad_same a b e = cc
+
+before_bad : (ltv : Ltv) (read : Result (List Ltv) LtvBad) (bad : LtvBad) → before ltv read ≡ Err bad → read ≡ Err bad
+before_bad ltv (Ok others) bad e = absurd cc
+before_bad ltv (Err other) bad e = e
+
+empty_list : IsLtvList [] []
+empty_list = record { fit = tt; spelled = refl }
+
+further : (place : ℕ) (bad : LtvBad) (octets : List ℕ) (kind : ℕ) (value others : List ℕ) → IsStructure octets kind value others → Cut (place + (2 + length value)) bad others → Cut place bad octets
+further place bad octets kind value others s c =
+    let there : place + (2 + length value) + length c.front ≡ place + length ((1 + length value) ∷ kind ∷ (value ++ c.front)) = omega (arith, length-append value c.front) in
+    record {
+      ltvs = made kind value ∷ c.ltvs;
+      front = (1 + length value) ∷ kind ∷ (value ++ c.front);
+      rest = c.rest;
+      list = is_longer ((1 + length value) ∷ kind ∷ (value ++ c.front)) kind value c.front c.ltvs (record { parts = refl; fits = s.fits }) c.list;
+      parts = s.parts ∙ ap (λ (os : List ℕ). (1 + length value) ∷ kind ∷ (value ++ os)) c.parts ∙ ap (λ (os : List ℕ). (1 + length value) ∷ kind ∷ os) (sym (append_assoc value c.front c.rest));
+      what = subst (λ (p : ℕ). ((bad ≡ ZeroLength p) × StandsZero c.rest) ⊎ ((bad ≡ Short p) × StandsShort c.rest)) there c.what;
+    }
+
+nothing_bad : (place : ℕ) (bad : LtvBad) → ltvs_from place zero [] ≡ Err bad → ⊥
+unfolding ltvs_from
+nothing_bad place bad e = cc
+
+cut_within : (n place : ℕ) (octets : List ℕ) (bad : LtvBad) → length octets ≤ n → IsOctets octets → ltvs_from place zero octets ≡ Err bad → Cut place bad octets
+cut_within zero place [] bad h fits e = absurd (nothing_bad place bad e)
+cut_within zero place (octet ∷ octets) bad h fits e = absurd (omega arith)
+cut_within (suc n) place octets bad h fits e =
+    elim (front_of octets fits) [
+      | inl none ↦ absurd (nothing_bad place bad (sym (ap (ltvs_from place zero) none) ∙ e))
+      | inr (inl stands) ↦
+          let same : ZeroLength place ≡ bad = bad_same (ZeroLength place) bad (sym (zero_read place octets stands) ∙ e) in
+          record { ltvs = []; front = []; rest = octets; list = empty_list; parts = refl; what = inl (sym same ∙ ap (λ (p : ℕ). ZeroLength p) (sym (add-zero place)), stands) }
+      | inr (inr (inl stands)) ↦
+          let same : Short place ≡ bad = bad_same (Short place) bad (sym (short_read place octets stands) ∙ e) in
+          record { ltvs = []; front = []; rest = octets; list = empty_list; parts = refl; what = inr (sym same ∙ ap (λ (p : ℕ). Short p) (sym (add-zero place)), stands) }
+      | inr (inr (inr (kind, value, others, s))) ↦
+          let rest = others_fit octets kind value others s fits in
+          let b = before_bad (made kind value) (ltvs_from (place + (2 + length value)) zero others) bad (sym (structure_read place octets kind value others s) ∙ e) in
+          further place bad octets kind value others s (cut_within n (place + (2 + length value)) others bad (omega (arith, rest.1)) rest.0 b)
+    ]
+
+is_bad : (bad : LtvBad) (octets : List ℕ) → Cut 0 bad octets → IsBad bad octets
+is_bad bad octets c =
+    elim c.what [
+      | inl (same, stands) ↦ rw same (c.ltvs, c.front, c.rest, c.list, omega arith, stands, c.parts)
+      | inr (same, stands) ↦ rw same (c.ltvs, c.front, c.rest, c.list, omega arith, stands, c.parts)
+    ]
+
+pub read_bad : (bad : LtvBad) (octets : List ℕ) → IsOctets octets → ltvs_of octets ≡ Err bad → IsBad bad octets
+read_bad bad octets fits e = is_bad bad octets (cut_within (length octets) 0 octets bad (omega arith) fits e)
+
+cut_read : (bad : ℕ → LtvBad) (octets : List ℕ) (ltvs : List Ltv) (front rest : List ℕ) → IsLtvList ltvs front → octets ≡ front ++ rest
+    → ltvs_from (length front) zero rest ≡ Err (bad (length front)) → ltvs_of octets ≡ Err (bad (length front))
+cut_read bad octets ltvs front rest l parts stands =
+    let there : 0 + length (spelling ltvs) ≡ length front = omega (arith, ap length l.spelled) in
+    ap ltvs_of (parts ∙ ap (λ (os : List ℕ). os ++ rest) l.spelled) ∙ spelled_read 0 ltvs rest l.fit
+    ∙ ap (λ (p : ℕ). behind ltvs (ltvs_from p zero rest)) there ∙ ap (behind ltvs) stands
+
+pub bad_read : (bad : LtvBad) (octets : List ℕ) → IsBad bad octets → ltvs_of octets ≡ Err bad
+bad_read (ZeroLength place) octets (ltvs, front, rest, l, there, stands, parts) =
+    cut_read (λ p. ZeroLength p) octets ltvs front rest l parts (zero_read (length front) rest stands) ∙ ap (λ (p : ℕ). Err (ZeroLength p)) there
+bad_read (Short place) octets (ltvs, front, rest, l, there, stands, parts) =
+    cut_read (λ p. Short p) octets ltvs front rest l parts (short_read (length front) rest stands) ∙ ap (λ (p : ℕ). Err (Short p)) there

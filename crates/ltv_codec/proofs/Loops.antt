@@ -1,0 +1,207 @@
+-- Reading structures one after the other, as a loop does.
+use Rattle.std.proofs.Common.{◌≡◌, ℕ, zero, suc, ◌+◌, ◌-◌, ◌<◌, ◌≤◌, Bool, true, false, cond, eqb, List, [], ◌∷◌, ◌++◌, length, get_or, take, drop, Some, None, Result, Ok, Err, refl, sym, ap, subst, ◌∙◌, arith}
+use Rattle.std.specs.Result.{result_err, result_unwrap_or}
+use Rattle.std.specs.Prelude.{OnOk, IfOk, IfErr}
+use Rattle.std.proofs.lemmas.List.{length-append, append-nil, take_at}
+use Rattle.std.proofs.lemmas.Bool.{eqb-true}
+use Rattle.std.proofs.lemmas.Option.{same_Some}
+use Rattle.octet_fields.specs.Spelling.{IsOctets}
+use Rattle.ltv_codec.specs.declared.fault.LtvBad.TheVariants.{ZeroLength}
+use Rattle.ltv_codec.specs.declared.fault.LtvFault.{LtvFault}
+use Rattle.ltv_codec.specs.declared.fault.LtvFault.TheVariants as faults
+use Rattle.ltv_codec.specs.Faults.{IsBad, IsFault}
+use Rattle.ltv_codec.specs.Layout.{Fits, spelling, IsLtvList}
+use Rattle.std.specs.List.{AllByRecursion}
+use Rattle.octet_fields.specs.Reading.{place_in, counted_in}
+use Rattle.ltv_codec.specs.declared.fault.LtvBad.{LtvBad}
+use Rattle.ltv_codec.specs.declared.ltvs.Ltv.{Ltv}
+use Rattle.ltv_codec.specs.Reading.{before, ltvs_from, ltvs_of, ltvs_in, bad_of, IsStructure, IsBadAt, Gives}
+use Rattle.ltv_codec.specs.Values.{first_of, first_in}
+use Rattle.ltv_codec.proofs.Lists.{made, behind, behind-more, structure_read, is_zero, is_structure, read_list, read_bad}
+
+-- ---- the rest of octets that are read
+
+pub shorter : (rest : List ℕ) (kind : ℕ) (value others : List ℕ) → IsStructure rest kind value others → length others + (2 + length value) ≡ length rest
+shorter rest kind value others s = omega (arith, ap length s.parts, length-append value others)
+
+-- the structure at the front, and what is read behind it at its place
+pub one_read : (from rest : List ℕ) (kind : ℕ) (value others : List ℕ) → length rest ≤ length from → IsStructure rest kind value others
+    → ltvs_from (place_in from rest) 0 rest ≡ before (made kind value) (ltvs_from (place_in from others) 0 others)
+one_read from rest kind value others h s =
+    let there : place_in from rest + (2 + length value) ≡ place_in from others = omega (arith, shorter rest kind value others s) in
+    structure_read (place_in from rest) rest kind value others s ∙ ap (λ (p : ℕ). before (made kind value) (ltvs_from p 0 others)) there
+
+before-bad : (ltv : Ltv) (read : Result (List Ltv) LtvBad) → result_err (before ltv read) ≡ result_err read
+before-bad ltv (Ok ltvs) = refl
+before-bad ltv (Err bad) = refl
+
+before-in : (ltv : Ltv) (read : Result (List Ltv) LtvBad) → result_err read ≡ None → result_unwrap_or (before ltv read) [] ≡ ltv ∷ result_unwrap_or read []
+before-in ltv (Ok ltvs) e = refl
+before-in ltv (Err bad) e = absurd cc
+
+-- a loop that ended has read everything
+pub ended : (is_empty : Bool) (rest : List ℕ) → is_empty ≡ eqb (length rest) 0 → is_empty ≡ true → length rest ≡ 0
+ended is_empty rest e t = eqb-true _ _ (sym e ∙ t)
+
+-- ---- checking
+
+-- what is wrong with the octets is wrong with the rest of them
+pub record Unread (from rest : List ℕ) : Type 0 where
+  pub within : length rest ≤ length from
+  pub same : result_err (ltvs_from (place_in from rest) 0 rest) ≡ bad_of from
+
+pub unread_first : (from : List ℕ) → Unread from from
+unread_first from =
+    let there : place_in from from ≡ 0 = omega arith in
+    record { within = omega arith; same = ap (λ (p : ℕ). result_err (ltvs_from p 0 from)) there }
+
+pub unread_next : (from rest : List ℕ) (kind : ℕ) (value others : List ℕ) → IsStructure rest kind value others → Unread from rest → Unread from others
+unread_next from rest kind value others s u =
+    record {
+      within = omega (arith, u.within, shorter rest kind value others s);
+      same = sym (before-bad (made kind value) (ltvs_from (place_in from others) 0 others)) ∙ ap result_err (sym (one_read from rest kind value others u.within s)) ∙ u.same;
+    }
+
+pub unread_bad : (from rest : List ℕ) (bad : LtvBad) → Unread from rest → ltvs_from (place_in from rest) 0 rest ≡ Err bad → bad_of from ≡ Some bad
+unread_bad from rest bad u e = sym u.same ∙ ap result_err e
+
+nothing_is_read : (place : ℕ) (rest : List ℕ) → length rest ≡ 0 → ltvs_from place 0 rest ≡ Ok []
+unfolding ltvs_from
+nothing_is_read place [] h = refl
+nothing_is_read place (octet ∷ rest) h = absurd (omega (arith, h))
+
+pub unread_none : (from rest : List ℕ) → Unread from rest → length rest ≡ 0 → bad_of from ≡ None
+unread_none from rest u h = sym u.same ∙ ap result_err (nothing_is_read (place_in from rest) rest h)
+
+-- ---- decoding
+
+-- the octets are read as the structures so far and what the rest is read as
+pub record Undecoded (from : List ℕ) (list : List Ltv) (rest : List ℕ) : Type 0 where
+  pub within : length rest ≤ length from
+  pub same : behind list (ltvs_from (place_in from rest) 0 rest) ≡ ltvs_of from
+
+behind-none : (read : Result (List Ltv) LtvBad) → behind [] read ≡ read
+behind-none (Ok ltvs) = refl
+behind-none (Err bad) = refl
+
+pub undecoded_first : (from : List ℕ) → Undecoded from [] from
+undecoded_first from =
+    let there : place_in from from ≡ 0 = omega arith in
+    record { within = omega arith; same = behind-none (ltvs_from (place_in from from) 0 from) ∙ ap (λ (p : ℕ). ltvs_from p 0 from) there }
+
+pub undecoded_next : (from : List ℕ) (list : List Ltv) (rest : List ℕ) (kind : ℕ) (value others : List ℕ) → IsStructure rest kind value others → Undecoded from list rest
+    → Undecoded from (list ++ made kind value ∷ []) others
+undecoded_next from list rest kind value others s u =
+    record {
+      within = omega (arith, u.within, shorter rest kind value others s);
+      same = sym (behind-more list (made kind value) (ltvs_from (place_in from others) 0 others)) ∙ ap (behind list) (sym (one_read from rest kind value others u.within s)) ∙ u.same;
+    }
+
+pub undecoded_bad : (from : List ℕ) (list : List Ltv) (rest : List ℕ) (bad : LtvBad) → Undecoded from list rest → ltvs_from (place_in from rest) 0 rest ≡ Err bad → ltvs_of from ≡ Err bad
+undecoded_bad from list rest bad u e = sym u.same ∙ ap (behind list) e
+
+pub undecoded_none : (from : List ℕ) (list : List Ltv) (rest : List ℕ) → Undecoded from list rest → length rest ≡ 0 → ltvs_of from ≡ Ok list
+undecoded_none from list rest u h = sym u.same ∙ ap (behind list) (nothing_is_read (place_in from rest) rest h) ∙ ap (λ (ls : List Ltv). Ok ls) (append-nil list)
+
+-- ---- the first value of a type
+
+-- the first value is that of the rest, and the rest is a list
+pub record Unfound (from : List ℕ) (kind : ℕ) (rest : List ℕ) : Type 0 where
+  pub unread : Unread from rest
+  pub same : first_of kind (result_unwrap_or (ltvs_from (place_in from rest) 0 rest) []) ≡ first_in kind from
+
+pub unfound_first : (from : List ℕ) (kind : ℕ) → Unfound from kind from
+unfound_first from kind =
+    let there : place_in from from ≡ 0 = omega arith in
+    record { unread = unread_first from; same = ap (λ (p : ℕ). first_of kind (result_unwrap_or (ltvs_from p 0 from) [])) there }
+
+-- the rest is a structure and a list
+opened : (from : List ℕ) (kind : ℕ) (rest : List ℕ) (found : ℕ) (value others : List ℕ) → bad_of from ≡ None → IsStructure rest found value others → Unfound from kind rest
+    → cond (eqb found kind) (Some value) (first_of kind (result_unwrap_or (ltvs_from (place_in from others) 0 others) [])) ≡ first_in kind from
+opened from kind rest found value others good s u =
+    let next : Unread from others = unread_next from rest found value others s u.unread in
+    let read : result_unwrap_or (ltvs_from (place_in from rest) 0 rest) [] ≡ made found value ∷ result_unwrap_or (ltvs_from (place_in from others) 0 others) [] =
+    ap (λ (r : Result (List Ltv) LtvBad). result_unwrap_or r []) (one_read from rest found value others u.unread.within s)
+    ∙ before-in (made found value) (ltvs_from (place_in from others) 0 others) (next.same ∙ good) in
+    sym (ap (first_of kind) read) ∙ u.same
+
+pub unfound_next : (from : List ℕ) (kind : ℕ) (rest : List ℕ) (found : ℕ) (value others : List ℕ) → bad_of from ≡ None → eqb found kind ≡ false → IsStructure rest found value others → Unfound from kind rest
+    → Unfound from kind others
+unfound_next from kind rest found value others good e s u =
+    record {
+      unread = unread_next from rest found value others s u.unread;
+      same = sym (ap (λ (b : Bool). cond b (Some value) (first_of kind (result_unwrap_or (ltvs_from (place_in from others) 0 others) []))) e) ∙ opened from kind rest found value others good s u;
+    }
+
+pub unfound_found : (from : List ℕ) (kind : ℕ) (rest : List ℕ) (found : ℕ) (value others : List ℕ) → bad_of from ≡ None → eqb found kind ≡ true → IsStructure rest found value others → Unfound from kind rest
+    → first_in kind from ≡ Some value
+unfound_found from kind rest found value others good e s u =
+    sym (opened from kind rest found value others good s u) ∙ ap (λ (b : Bool). cond b (Some value) (first_of kind (result_unwrap_or (ltvs_from (place_in from others) 0 others) []))) e
+
+pub unfound_none : (from : List ℕ) (kind : ℕ) (rest : List ℕ) → Unfound from kind rest → length rest ≡ 0 → first_in kind from ≡ None
+unfound_none from kind rest u h = sym u.same ∙ ap (λ (r : Result (List Ltv) LtvBad). first_of kind (result_unwrap_or r [])) (nothing_is_read (place_in from rest) rest h)
+
+pub unfound_bad : (from : List ℕ) (kind : ℕ) (rest : List ℕ) (bad : LtvBad) → bad_of from ≡ None → Unfound from kind rest → ltvs_from (place_in from rest) 0 rest ≡ Err bad → ⊥
+unfound_bad from kind rest bad good u e =
+    let found : Some bad ≡ None = sym (unread_bad from rest bad u.unread e) ∙ good in
+    cc
+
+-- ---- the front of octets that are read
+
+pub empty_body : (place : ℕ) (octets body after : List ℕ) → counted_in octets ≡ Some (body, after) → length body < 1 → IsBadAt place octets (ZeroLength place)
+empty_body place octets [] after e h = is_zero place octets after e
+empty_body place octets (kind ∷ value) after e h = absurd (omega (arith, h))
+
+pub full_body : (octets body after : List ℕ) → IsOctets octets → counted_in octets ≡ Some (body, after) → 1 ≤ length body
+    → IsStructure octets (get_or body 0 0) (take (length body - 1) (drop 1 body)) after
+full_body octets [] after fits e h = absurd (omega (arith, h))
+full_body octets (kind ∷ value) after fits e h =
+    let all : take (length (kind ∷ value) - 1) value ≡ value = ap (λ (n : ℕ). take n value) (omega arith) ∙ ap (take (length value)) (sym (append-nil value)) ∙ take_at value [] (length value) refl in
+    subst (λ (v : List ℕ). IsStructure octets kind v after) (sym all) (is_structure octets kind value after fits e)
+
+-- ---- what the calls promise
+
+ok_in : (read : Result (List Ltv) LtvBad) → result_err read ≡ None → read ≡ Ok (result_unwrap_or read [])
+ok_in (Ok ltvs) e = refl
+ok_in (Err bad) e = absurd cc
+
+err_in : (read : Result (List Ltv) LtvBad) (bad : LtvBad) → result_err read ≡ Some bad → read ≡ Err bad
+err_in (Ok ltvs) bad e = absurd cc
+err_in (Err other) bad e = ap (λ (b : LtvBad). Err b) (same_Some other bad e)
+
+-- octets that are an LTV list are the one that is read
+pub list_in : (octets : List ℕ) → IsOctets octets → bad_of octets ≡ None → IsLtvList (ltvs_in octets) octets
+list_in octets fits e = read_list (ltvs_in octets) octets fits (ok_in (ltvs_of octets) e)
+
+pub checked_list : (octets : List ℕ) (result : Result (Unit {0}) LtvBad) → IsOctets octets → result_err result ≡ bad_of octets → OnOk result (IsLtvList (ltvs_in octets) octets)
+checked_list octets (Ok _) fits e = list_in octets fits (sym e)
+checked_list octets (Err bad) fits e = tt
+
+pub checked_cut : (octets : List ℕ) (result : Result (Unit {0}) LtvBad) → IsOctets octets → result_err result ≡ bad_of octets → IfErr result (λ bad. IsBad bad octets)
+checked_cut octets (Ok _) fits e = tt
+checked_cut octets (Err bad) fits e = read_bad bad octets fits (err_in (ltvs_of octets) bad (sym e))
+
+pub decoded_list : (octets : List ℕ) (result : Result (List Ltv) LtvFault) → IsOctets octets → Gives result (ltvs_of octets) → IfOk result (λ ltvs. IsLtvList ltvs octets)
+decoded_list octets (Ok ltvs) fits given = read_list ltvs octets fits given
+decoded_list octets (Err fault) fits given = tt
+
+pub decoded_cut : (octets : List ℕ) (result : Result (List Ltv) LtvFault) → IsOctets octets → Gives result (ltvs_of octets) → IfErr result (λ fault. IsFault fault octets)
+decoded_cut octets (Ok ltvs) fits given = tt
+decoded_cut octets (Err faults.Memory) fits given = tt
+decoded_cut octets (Err (faults.Bad bad)) fits given = read_bad bad octets fits given
+
+-- ---- encoding
+
+take_all : (ltvs : List Ltv) (i : ℕ) → length ltvs ≤ i → take i ltvs ≡ ltvs
+take_all [] zero le = refl
+take_all [] (suc i) le = refl
+take_all (ltv ∷ ltvs) zero le = absurd (omega arith)
+take_all (ltv ∷ ltvs) (suc i) le = ap (λ (ls : List Ltv). ltv ∷ ls) (take_all ltvs i (omega arith))
+
+pub fits_at : (ltvs : List Ltv) (i : ℕ) (ltv : Ltv) → AllByRecursion Fits ltvs → i < length ltvs → ltv ≡ get_or ltvs i ltv → length ltv.value ≤ 254
+fits_at [] i ltv h lt e = absurd (omega arith)
+fits_at (first ∷ ltvs) zero ltv h lt e = rw e (h.0)
+fits_at (first ∷ ltvs) (suc i) ltv h lt e = fits_at ltvs i ltv h.1 (omega arith) e
+
+pub all_spelled : (ltvs : List Ltv) (octets : List ℕ) (i : ℕ) → AllByRecursion Fits ltvs → length ltvs ≤ i → octets ≡ spelling (take i ltvs) → IsLtvList ltvs octets
+all_spelled ltvs octets i h le e = record { fit = h; spelled = e ∙ ap spelling (take_all ltvs i le) }

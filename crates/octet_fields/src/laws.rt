@@ -1,0 +1,27 @@
+//! What is read of each kind of field is spelled so, and what is spelled so is read, whatever follows.
+ghost use Rattle.std.specs.Prelude.{◌≡◌, ◌<◌, ◌*◌, ◌^◌, ◌++◌, List, ℕ, length, Some};
+ghost use Rattle.octet_fields.specs.Reading.{octet_in, octets_in, number_in, counted_in, place_in, Takes};
+ghost use Rattle.octet_fields.specs.Spelling.{IsOctets, octet, number, counted};
+
+/// What is read is spelled so, each octet of it.
+#[tactic(auto, using(crate::proofs::Fields::octet_takes))]
+pub fn read_is_spelled()
+    ensures octet { (from : List ℕ) (value : ℕ) (rest : List ℕ) → octet_in from ≡ Some (value, rest) → Takes from (octet value) rest }
+    ensures octets { (k : ℕ) (from value rest : List ℕ) → octets_in k from ≡ Some (value, rest) → Takes from value rest × (length value ≡ k) }
+    ensures number { (k : ℕ) (from : List ℕ) (value : ℕ) (rest : List ℕ) → IsOctets from → number_in k from ≡ Some (value, rest) → Takes from (number k value) rest × (value < 2 ^ (8 * k)) }
+    ensures counted { (from value rest : List ℕ) → counted_in from ≡ Some (value, rest) → Takes from (counted value) rest }
+{}
+
+/// What is spelled so is read, whatever follows.
+#[tactic(auto, using(crate::proofs::Fields::number_again))]
+pub fn spelled_is_read()
+    ensures octet { (value : ℕ) (rest : List ℕ) → octet_in (octet value ++ rest) ≡ Some (value, rest) }
+    ensures octets { (value rest : List ℕ) → octets_in (length value) (value ++ rest) ≡ Some (value, rest) }
+    ensures number { (k value : ℕ) (rest : List ℕ) → value < 2 ^ (8 * k) → number_in k (number k value ++ rest) ≡ Some (value, rest) }
+    ensures counted { (value rest : List ℕ) → counted_in (counted value ++ rest) ≡ Some (value, rest) }
+{}
+
+/// The place of the octets that are left is that of the cut behind those in front of them.
+pub fn place_is_cut()
+    ensures { (front rest : List ℕ) → place_in (front ++ rest) rest ≡ length front }
+{}
