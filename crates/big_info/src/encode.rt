@@ -1,4 +1,4 @@
-ghost use Rattle.std.specs.Prelude.{◌≡◌, length, take, drop, Some};
+ghost use Rattle.std.specs.Prelude.{◌≡◌, take, drop, Some};
 ghost use Rattle.bcast_base.specs.Numbers.{Le};
 ghost use Rattle.big_info.specs.Layout.{CipherIs, Spells, number_of, octet_count};
 ghost use Rattle.big_info.specs.Widths.{FitsWidths};

@@ -1,4 +1,4 @@
-ghost use Rattle.std.specs.Prelude.{◌≡◌, ◌/◌, ◌<◌, ◌≤◌};
+ghost use Rattle.std.specs.Prelude.{◌≡◌, ◌/◌};
 ghost use Rattle.big_info.specs.Schedule.{group_count, horizon_of, per_event_of, per_unit_of};
 ghost use Rattle.big_info.specs.Widths.{FitsWidths};
 

@@ -77,7 +77,6 @@ fn decode_structures(alloc: Global, from: &[u8]) -> Result<Ltvs, LtvFault>
 }
 
 // Type and value of the structure at the front of `rest`, the last octets of `whole`, and the octets behind it.
-
 fn structure_at<'a>(whole: &[u8], rest: &'a [u8]) -> Result<(u8, &'a [u8], &'a [u8]), LtvBad>
     requires within { length rest.now ≤ length whole.now }
     requires more { 0 < length rest.now }

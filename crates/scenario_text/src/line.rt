@@ -9,7 +9,6 @@ use crate::cursor::Cursor;
 use crate::fault::LineFault;
 use crate::later::is_of_the_language;
 use crate::step::Step;
-use bcast_base::BisSet;
 use std::alloc::Global;
 
 /// Reads a line of a scenario of version 1: `None` for an empty line or a comment.
