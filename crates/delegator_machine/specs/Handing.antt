@@ -1,0 +1,25 @@
+-- What a sink hands up as events are over (Core 5.2, volume 6 part G, section 2.1): for each stream that it takes, by rising
+-- index, the units of its open event, where that is over.
+use Rattle.std.specs.Prelude.{ℕ, nat_le, List, [], Option, Some, None, if◌then◌else◌}
+use Rattle.std.specs.List.{flat_map}
+use Rattle.unit_outlets.specs.Handed.{Handed}
+use Rattle.isoal_base.specs.Stays as stays
+use Rattle.isoal_base.specs.Stays.{Stay, opened}
+use Rattle.isoal_unframed.specs.Histories.{units_of}
+use Rattle.delegator_machine.specs.Calls.{Tuning, Call, place}
+use Rattle.delegator_machine.specs.Streams.{stay_on, stream_calls, streams_of}
+
+-- the units of a stream's open event, where all events up to this one are over
+abbrev pub units_by : ℕ → Stay → List stays.Call → List Handed
+units_by event stay calls = if nat_le (opened stay calls) event then units_of stay calls (opened stay calls) else []
+
+abbrev pub units_on : ℕ → List Call → Tuning → ℕ → List Handed
+units_on event calls tuning bis = units_by event (stay_on tuning bis) (stream_calls (stay_on tuning bis) calls)
+
+abbrev pub handed_by : ℕ → List Call → Option Tuning → List Handed
+handed_by event calls None = []
+handed_by event calls (Some tuning) = flat_map (units_on event calls tuning) (streams_of tuning.which)
+
+-- what a tick with this event hands after these calls
+abbrev pub handed_at : List Call → ℕ → List Handed
+handed_at calls event = handed_by event calls (place calls)

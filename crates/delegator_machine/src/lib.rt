@@ -1,0 +1,11 @@
+//! A sink: the group that it is on, the streams that it takes of it, and the units that it hands up.
+#![tactic(auto)]
+
+mod delegator;
+mod laws;
+mod on_group;
+mod refuser;
+mod streams;
+
+pub use delegator::Delegator;
+pub use laws::one_event_is_open;
