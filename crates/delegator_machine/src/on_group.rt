@@ -48,7 +48,7 @@ impl SinkOnGroup {
         requires delay { delay < 2 ^ 24 }
         ensures { IfOk result (λ on. on ≡ fresh_on (record { info = group.now.info; which = which; first = event; anchor = anchor; delay = delay })) }
     {
-        let mut streams = Vec::new(alloc);
+        let mut streams = Vec::with_capacity(alloc, 31)?;
         'indices: for index in 1..32u8 {
             let Some(bis) = Bis::new(index) else {
                 continue;
