@@ -1,6 +1,6 @@
 -- The payload number that the schedule gives is that of the definition.
-use Rattle.std.proofs.Common.{ℕ, ◌≡◌, ◌<◌, ◌^◌, Bool, true, false, ltb, Option, Some, None, SomeIff, refl, sym, ap, ◌∙◌, cond, inl, inr, arith}
-use Rattle.std.proofs.lemmas.Bool.{cases_Bool, ltb-true, ltb-false, lt-ltb, cond-true, cond-false}
+use Rattle.std.proofs.Common.{ℕ, ◌≡◌, ◌<◌, ◌^◌, Bool, true, false, ltb, Option, Some, None, SomeIff, refl, sym, ap, ◌∙◌, cond}
+use Rattle.std.proofs.lemmas.Bool.{ltb-true, lt-ltb, cond-true}
 use Rattle.std.specs.Prelude.{◌&&◌}
 use Rattle.big_info.specs.declared.info.BigInfo.{BigInfo}
 use Rattle.radio_schedule.specs.PayloadNumber.{payload_number}

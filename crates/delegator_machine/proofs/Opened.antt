@@ -1,5 +1,5 @@
 -- The open event of a stream by the ticks alone.
-use Rattle.std.proofs.Common.{ℕ, ◌≡◌, ◌+◌, ◌^◌, Bool, true, false, cond, eqb, leb, List, [], ◌∷◌, Option, Some, None, refl, sym, ap, ◌∙◌, arith}
+use Rattle.std.proofs.Common.{ℕ, ◌≡◌, ◌+◌, Bool, true, false, cond, eqb, leb, List, [], ◌∷◌, Option, Some, None, refl, ap, ◌∙◌, arith}
 use Rattle.isoal_base.specs.Stays as stays
 use Rattle.isoal_base.specs.Stays.{Stay, opened}
 use Rattle.delegator_machine.specs.Calls.{Tuning, Call, tune, hear, tick}

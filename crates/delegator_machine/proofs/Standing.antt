@@ -1,5 +1,5 @@
 -- A sink that stands for its calls stands for them and one more.
-use Rattle.std.proofs.Common.{ℕ, ◌≡◌, ◌≢◌, ◌+◌, ◌-◌, ◌*◌, ◌<◌, ◌≤◌, Bool, true, false, cond, eqb, leb, List, [], ◌∷◌, ◌++◌, map, drop, replicate, Option, Some, None, option_map, refl, sym, ap, ◌∙◌, subst, arith}
+use Rattle.std.proofs.Common.{ℕ, ◌≡◌, ◌+◌, ◌-◌, ◌≤◌, Bool, true, false, cond, eqb, leb, List, [], ◌∷◌, ◌++◌, map, Option, Some, None, option_map, refl, sym, ap, ◌∙◌, subst, arith}
 use Rattle.std.specs.List.{filter, flat_map, range_with_len}
 use Rattle.std.proofs.lemmas.Bool.{cond-true, cond-false, eq-eqb, ne_eqb}
 use Rattle.std.proofs.lemmas.List.FromFn.{get_or-map-range_with_len}
@@ -7,7 +7,6 @@ use Rattle.std.proofs.lemmas.List.Folds.{flat_map-map}
 use Rattle.std.proofs.lemmas.Option.{same_Some}
 use Rattle.big_info.specs.Bounds.{Bounds}
 use Rattle.unit_outlets.specs.Handed.{Handed}
-use Rattle.isoal_base.specs.declared.hearing.Hearing.{Hearing}
 use Rattle.isoal_base.specs.declared.hearing.Hearing.TheVariants as hearings
 use Rattle.isoal_base.specs.Hearing.{read_as}
 use Rattle.isoal_base.specs.Stays as stays
@@ -15,15 +14,14 @@ use Rattle.isoal_base.specs.Stays.{Stay, opened, window_of}
 use Rattle.isoal_base.proofs.Ranges.{map_same, map_changed}
 use Rattle.isoal_base.proofs.Steps.{stands_new, stands_hear, stands_close}
 use Rattle.isoal_unframed.specs.Units.{unframed}
-use Rattle.isoal_unframed.specs.Histories.{units_of}
-use Rattle.isoal_unframed.specs.Windows.{Window, after_hear, after_close, owed}
+use Rattle.isoal_unframed.specs.Windows.{after_hear, after_close}
 use Rattle.isoal_unframed.proofs.Stands.{owed_is}
 use Rattle.delegator_machine.specs.Calls.{Tuning, Call, tune, hear, tick, place}
 use Rattle.delegator_machine.specs.Handing.{units_by, units_on, handed_by, handed_at}
 use Rattle.delegator_machine.specs.Hearings.{entries_of, hearing_on, hearing_at, hearing_of}
 use Rattle.delegator_machine.specs.Sinks.{OnGroup, StandsFor, window_after, stream_after, on_after}
 use Rattle.delegator_machine.specs.Steps.{fresh, fresh_at, fresh_on, answer_at, answer_on, hear_at, hear_on, stream_at, owed_by, owed_on, tick_at, tick_on}
-use Rattle.delegator_machine.specs.Streams.{is_in, number_of, stay_on, stream_calls, streams_of, with_hear, with_tick}
+use Rattle.delegator_machine.specs.Streams.{is_in, number_of, stay_on, stream_calls, with_hear, with_tick}
 
 window_new : (stay : Stay) → fresh stay ≡ window_after stay []
 window_new stay =
