@@ -16,6 +16,7 @@ use Rattle.isoal_base.proofs.Steps.{stands_new, stands_hear, stands_close}
 use Rattle.isoal_unframed.specs.Units.{unframed}
 use Rattle.isoal_unframed.specs.Windows.{after_hear, after_close}
 use Rattle.isoal_unframed.proofs.Stands.{owed_is}
+use Rattle.delegator_machine.proofs.Sets.{flat_map_filter}
 use Rattle.delegator_machine.specs.Calls.{Tuning, Call, tune, hear, tick, place}
 use Rattle.delegator_machine.specs.Handing.{units_by, units_on, handed_by, handed_at}
 use Rattle.delegator_machine.specs.Hearings.{entries_of, hearing_on, hearing_at, hearing_of}
@@ -115,18 +116,6 @@ tick_after tuning calls event some =
     (map_twice (stream_after tuning calls) (tick_at event) (range_with_len 1 31)
     ∙ map_same (λ bis. tick_at event (stream_after tuning calls bis)) (stream_after tuning (tick event ∷ calls)) 1 31
     (λ bis least below. tick_cases (is_in tuning.which bis) event (stay_on tuning bis) (stream_calls (stay_on tuning bis) calls) some))
-
-flat_map_one : (taken : Bool) (f : ℕ → List Handed) (x : ℕ) (xs : List ℕ)
-    → cond taken (f x) [] ++ flat_map f xs ≡ flat_map f (cond taken (x ∷ xs) xs)
-flat_map_one true f x xs = refl
-flat_map_one false f x xs = refl
-
--- what is handed of the elements that pass a test
-flat_map_filter : (test : ℕ → Bool) (f : ℕ → List Handed) (xs : List ℕ)
-    → flat_map (λ x. cond (test x) (f x) []) xs ≡ flat_map f (filter test xs)
-flat_map_filter test f [] = refl
-flat_map_filter test f (x ∷ xs) =
-    ap (λ ys. cond (test x) (f x) [] ++ ys) (flat_map_filter test f xs) ∙ flat_map_one (test x) f x (filter test xs)
 
 flat_map_same : (f g : ℕ → List Handed) (xs : List ℕ) → ((x : ℕ) → f x ≡ g x) → flat_map f xs ≡ flat_map g xs
 flat_map_same f g [] same = refl
