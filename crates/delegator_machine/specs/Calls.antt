@@ -1,5 +1,5 @@
--- The calls that a sink took, the newest first, and the group that it is on (Basic Audio Profile 1.0, section 6.6: a sink
--- synchronizes to a BIG and to some of its BISes).
+-- The calls that a sink took, the newest first, and the group that it is on (Core 5.2, volume 6 part B, section 4.4.6: a
+-- synchronized receiver takes some of the streams of a group).
 use Rattle.std.specs.Prelude.{ℕ, List, [], ◌∷◌, Option, Some, None}
 use Rattle.big_info.specs.declared.info.BigInfo.{BigInfo}
 

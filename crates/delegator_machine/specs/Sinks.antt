@@ -1,9 +1,9 @@
 -- What a sink keeps, and the calls that it stands for.
-use Rattle.std.specs.Prelude.{ℕ, ◌≡◌, List, map, replicate, Option, Some, None, option_map, if◌then◌else◌}
+use Rattle.std.specs.Prelude.{ℕ, ◌≡◌, List, map, Option, Some, None, option_map, if◌then◌else◌}
 use Rattle.std.specs.List.{range_with_len}
 use Rattle.big_info.specs.declared.info.BigInfo.{BigInfo}
 use Rattle.isoal_base.specs.Stays as stays
-use Rattle.isoal_base.specs.Stays.{Stay, opened, window_of}
+use Rattle.isoal_base.specs.Stays.{Stay, opened}
 use Rattle.isoal_unframed.specs.Windows.{Window}
 use Rattle.delegator_machine.specs.Calls.{Tuning, Call, place}
 use Rattle.delegator_machine.specs.Hearings.{entries_of}
@@ -13,10 +13,6 @@ use Rattle.delegator_machine.specs.Streams.{is_in, stay_on, stream_calls}
 pub record OnGroup : Type 0 where
   pub info : BigInfo
   pub streams : List (Option Window)
-
--- the window of a stream on which nothing was heard yet
-abbrev pub fresh : Stay → Window
-fresh stay = record { stay = stay; event = stay.first; kept = replicate (window_of stay.info) None }
 
 -- the window of a stream after these calls
 abbrev pub window_after : Stay → List stays.Call → Window
@@ -32,3 +28,8 @@ on_after calls tuning = record { info = tuning.info; streams = map (stream_after
 -- the sink is where these calls left it, and each stream keeps what it heard
 pub record StandsFor (calls : List Call) (sink : Option OnGroup) : Type 0 where
   pub place_is : sink ≡ option_map (on_after calls) (place calls)
+
+-- what is true of every sink that is on a group: the group is unframed, and there is a place for each index
+pub record Keeps (info : BigInfo) (places : ℕ) : Type 0 where
+  pub plain : info.framing ≡ 0
+  pub room : places ≡ 31

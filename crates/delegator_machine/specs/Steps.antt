@@ -1,14 +1,27 @@
 -- What each call makes of what a sink keeps.
-use Rattle.std.specs.Prelude.{ℕ, ◌-◌, nat_le, List, [], map, Option, Some, None, option_map, slice_index_or, slice_set, if◌then◌else◌}
-use Rattle.std.specs.List.{flat_map}
+use Rattle.std.specs.Prelude.{ℕ, ◌-◌, nat_le, List, [], map, replicate, Option, Some, None, slice_index_or, slice_set, if◌then◌else◌}
+use Rattle.std.specs.List.{flat_map, range_with_len}
 use Rattle.unit_outlets.specs.Handed.{Handed}
 use Rattle.isoal_base.specs.declared.hearing.Hearing.{Hearing}
 use Rattle.isoal_base.specs.declared.hearing.Hearing.TheVariants as hearings
 use Rattle.isoal_base.specs.Hearing.{answer_of}
+use Rattle.isoal_base.specs.Stays.{Stay, window_of}
 use Rattle.isoal_unframed.specs.Units.{unframed}
 use Rattle.isoal_unframed.specs.Windows.{Window, after_hear, after_close, owed}
+use Rattle.delegator_machine.specs.Calls.{Tuning}
 use Rattle.delegator_machine.specs.Sinks.{OnGroup}
-use Rattle.delegator_machine.specs.Streams.{number_of}
+use Rattle.delegator_machine.specs.Streams.{is_in, number_of, stay_on}
+
+-- the window of a stream on which nothing was heard yet
+abbrev pub fresh : Stay → Window
+fresh stay = record { stay = stay; event = stay.first; kept = replicate (window_of stay.info) None }
+
+-- the place of a stream, and all of them, as the sink is put on the group
+abbrev pub fresh_at : Tuning → ℕ → Option Window
+fresh_at tuning bis = if is_in tuning.which bis then Some (fresh (stay_on tuning bis)) else None
+
+abbrev pub fresh_on : Tuning → OnGroup
+fresh_on tuning = record { info = tuning.info; streams = map (fresh_at tuning) (range_with_len 1 31) }
 
 -- what the place of a stream makes of a PDU
 abbrev pub answer_at : Option ℕ → List ℕ → Option Window → Hearing

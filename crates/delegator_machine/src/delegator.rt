@@ -69,10 +69,10 @@ impl Delegator {
         ensures answer { (calls : List Call) → StandsFor calls self.old → result ≡ hearing_of calls event bis subevent pdu.now }
         ensures stands { (calls : List Call) → StandsFor calls self.old → StandsFor (hear event bis subevent pdu.now ∷ calls) self.new }
     {
-        match &mut self.group {
-            None => Hearing::NotOnGroup,
-            Some(on) => on.hear(event, bis, subevent, pdu),
-        }
+        let Some(on) = &mut self.group else {
+            return Hearing::NotOnGroup;
+        };
+        on.hear(event, bis, subevent, pdu)
     }
 
     /// All events up to this one are over: closes the open event of each stream where it is at most this event, and hands
@@ -84,9 +84,9 @@ impl Delegator {
         ensures stands { (calls : List Call) → StandsFor calls self.old → StandsFor (tick event ∷ calls) self.new }
         ensures cause { Caused (T.counts taker.old) (T.counts taker.new) result }
     {
-        match &mut self.group {
-            None => Ok(()),
-            Some(on) => on.tick(event, taker),
-        }
+        let Some(on) = &mut self.group else {
+            return Ok(());
+        };
+        on.tick(event, taker)
     }
 }

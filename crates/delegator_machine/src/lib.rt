@@ -8,4 +8,4 @@ mod refuser;
 mod streams;
 
 pub use delegator::Delegator;
-pub use laws::one_event_is_open;
+pub use laws::{each_stream_hands_its_units, one_event_is_open, streams_rise};

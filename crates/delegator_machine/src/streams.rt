@@ -1,16 +1,16 @@
 //! The place of a stream at a sink: its receiver, where the sink takes it.
-ghost use Rattle.std.specs.Prelude.{◌≡◌, ◌≤◌, ◌<◌, ◌^◌, IfOk, None, Some, if◌then◌else◌};
+ghost use Rattle.std.specs.Prelude.{◌≡◌, ◌≤◌, ◌<◌, ◌^◌, IfOk};
 ghost use Rattle.unit_outlets.specs.Handed.{Caused};
 ghost use Rattle.isoal_unframed.specs.Windows.{HandsOver};
-ghost use Rattle.delegator_machine.specs.Sinks.{fresh};
-ghost use Rattle.delegator_machine.specs.Steps.{answer_at, hear_at, owed_by, tick_at};
-ghost use Rattle.delegator_machine.specs.Streams.{is_in};
+ghost use Rattle.delegator_machine.specs.Steps.{answer_at, fresh_at, hear_at, owed_by, tick_at};
+ghost use Rattle.delegator_machine.specs.Streams.{number_of};
 
 use crate::refuser::Refuser;
 use bcast_base::{Bis, BisSet, Memory};
 use big_info::Group;
 use isoal_base::Hearing;
 use isoal_unframed::UnframedIn;
+use radio_schedule::payload_of;
 use std::alloc::Global;
 use unit_outlets::{TakerFault, UnitTaker};
 
@@ -28,7 +28,7 @@ pub(crate) fn stream_of(
     requires event { event ≤ 2 ^ 39 }
     requires anchor { anchor ≤ 2 ^ 61 }
     requires delay { delay < 2 ^ 24 }
-    ensures { IfOk result (λ stream. stream ≡ (if is_in which bis then Some (fresh (record { info = group.now.info; bis = bis; first = event; origin = anchor; delay = delay })) else None)) }
+    ensures { IfOk result (λ stream. stream ≡ fresh_at (record { info = group.now.info; which = which; first = event; anchor = anchor; delay = delay }) bis) }
 {
     if !which.has(bis) {
         return Ok(None);
@@ -37,22 +37,34 @@ pub(crate) fn stream_of(
     Ok(Some(stream))
 }
 
-/// Hears a PDU, under its payload number where it has one.
-pub(crate) fn hear_number(
+/// Hears a PDU in a subevent of an event.
+pub(crate) fn hear_in(
     stream: &mut Option<UnframedIn>,
-    number: Option<u64>,
+    group: &Group,
+    event: u64,
+    subevent: u8,
     pdu: &[u8],
 ) -> Hearing
-    ensures answer { result ≡ answer_at number pdu.now stream.old }
-    ensures step { stream.new ≡ hear_at number pdu.now stream.old }
+    requires { event ≤ 2 ^ 39 }
+    ensures answer { result ≡ answer_at (number_of group.now.info event subevent) pdu.now stream.old }
+    ensures step { stream.new ≡ hear_at (number_of group.now.info event subevent) pdu.now stream.old }
 {
     match stream {
         None => Hearing::NotTaken,
-        Some(receiver) => match number {
+        Some(receiver) => match number(group, event, subevent) {
             None => Hearing::NoNumber,
             Some(number) => Hearing::Heard(receiver.hear(number, pdu)),
         },
     }
+}
+
+/// The payload number of a subevent of an event.
+#[tactic(auto, using(crate::proofs::Numbers::number_is))]
+fn number(group: &Group, event: u64, subevent: u8) -> Option<u64>
+    requires { event ≤ 2 ^ 39 }
+    ensures { result ≡ number_of group.now.info event subevent }
+{
+    payload_of(group, event, subevent)
 }
 
 /// Closes the open event where it is at most this event, and hands its units.
