@@ -183,6 +183,7 @@ impl Machine {
                 },
                 text,
             ),
+            Step::Drop { .. } | Step::Stop => Err(Stop::Refused(Refusal::NotBuilt)),
             Step::End => self.end(outlets, text),
         }
     }

@@ -5,4 +5,7 @@ pub mod MoreWords
 pub mod OneWord
 pub mod Streams
 pub mod Spelling
+pub mod Places
+pub mod StepValues
+pub mod StepRows
 pub mod Steps

@@ -4,7 +4,7 @@ use Rattle.hex.specs.Hex.{decode_of}
 use Rattle.scenario_text.specs.Words.{words_of}
 use Rattle.scenario_text.specs.Table.{Place, between, framing_word, time_up_to, octets_up_to, perhaps, rising, table, row_of}
 use Rattle.scenario_text.specs.declared.step.Step.{Step}
-use Rattle.scenario_text.specs.declared.step.Step.TheVariants.{Scenario, Group, Start, Sink, Tuned, Unit, Event, Hear, Air, Inject, Sniff, End}
+use Rattle.scenario_text.specs.declared.step.Step.TheVariants.{Scenario, Group, Start, Sink, Tuned, Unit, Event, Hear, Air, Inject, Sniff, Drop, Stop, End}
 use Rattle.scenario_text.specs.Reading.{Value, number, maybe, string, Spelled, with_stream, comment}
 
 -- the first word of a step's line, and its values in the order of the line
@@ -33,11 +33,13 @@ spelling (Inject sink back bis subevent octets) = record {
   values = number sink ∷ number back ∷ number bis ∷ number subevent ∷ string octets ∷ [];
 }
 spelling (Sniff back bis subevent) = record { first = codes "sniff"; values = number back ∷ number bis ∷ number subevent ∷ [] }
+spelling (Drop sink) = record { first = codes "drop"; values = number sink ∷ [] }
+spelling Stop = record { first = codes "stop"; values = [] }
 spelling End = record { first = codes "end"; values = [] }
 
 abbrev pub spelling_of : Option Step → Option Spelled
 spelling_of None = None
-spelling_of (Some step) = Some (spelling step)
+spelling_of (Some this) = Some (spelling this)
 
 -- each index lies from a least one to 31, and above the one before
 abbrev pub Rising : ℕ → List ℕ → Type 0

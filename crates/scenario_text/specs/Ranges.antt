@@ -2,7 +2,7 @@
 -- the widths of the BIGInfo (Core 5.2, volume 6 part B, section 4.4.6.11).
 use Rattle.std.specs.Prelude.{ℕ, ◌≤◌, ◌<◌, ◌^◌, ⊤, length}
 use Rattle.scenario_text.specs.declared.step.Step.{Step}
-use Rattle.scenario_text.specs.declared.step.Step.TheVariants.{Scenario, Group, Start, Sink, Tuned, Unit, Event, Hear, Air, Inject, Sniff, End}
+use Rattle.scenario_text.specs.declared.step.Step.TheVariants.{Scenario, Group, Start, Sink, Tuned, Unit, Event, Hear, Air, Inject, Sniff, Drop, Stop, End}
 
 pub record GroupRanges (framing origin delay iso sdu max_sdu max_pdu num_bis bn nse irc pto sub spacing phy : ℕ) : Type 0 where
   pub framing_is : framing ≤ 1
@@ -36,4 +36,6 @@ IsInRange (Hear sink back bis subevent) = (sink ≤ 7) × (back ≤ 31) × (sube
 IsInRange (Air sink lose) = sink ≤ 7
 IsInRange (Inject sink back bis subevent octets) = (sink ≤ 7) × (back ≤ 31) × (subevent ≤ 30) × (length octets ≤ 300)
 IsInRange (Sniff back bis subevent) = (back ≤ 31) × (subevent ≤ 30)
+IsInRange (Drop sink) = sink ≤ 7
+IsInRange Stop = ⊤
 IsInRange End = ⊤

@@ -59,6 +59,8 @@ table version =
     ∷ record { first = codes "air"; places = sink ∷ between 0 255 ∷ [] }
     ∷ record { first = codes "inject"; places = sink ∷ back ∷ stream ∷ subevent ∷ octets_up_to 300 ∷ [] }
     ∷ record { first = codes "sniff"; places = back ∷ stream ∷ subevent ∷ [] }
+    ∷ record { first = codes "drop"; places = sink ∷ [] }
+    ∷ record { first = codes "stop"; places = [] }
     ∷ record { first = codes "end"; places = [] }
     ∷ []
 
@@ -77,7 +79,7 @@ later_words =
     codes "ident" ∷ codes "subgroup" ∷ codes "meta" ∷ codes "bis" ∷ codes "cipher" ∷ codes "pac" ∷ codes "locate"
     ∷ codes "context" ∷ codes "announce" ∷ codes "train" ∷ codes "write" ∷ codes "add" ∷ codes "modify"
     ∷ codes "remove" ∷ codes "code" ∷ codes "serve" ∷ codes "tell" ∷ codes "read" ∷ codes "drain" ∷ codes "show"
-    ∷ codes "lose" ∷ codes "drop" ∷ codes "terminate" ∷ codes "control" ∷ codes "forge" ∷ codes "stop" ∷ []
+    ∷ codes "lose" ∷ codes "terminate" ∷ codes "control" ∷ codes "forge" ∷ []
 
 abbrev pub later_words_of_2 : List (List ℕ)
 later_words_of_2 =

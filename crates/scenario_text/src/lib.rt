@@ -5,6 +5,7 @@ mod cursor;
 mod decimal;
 mod fault;
 mod later;
+mod laws;
 mod line;
 mod step;
 #[cfg(test)]
@@ -12,5 +13,6 @@ mod tests;
 mod word;
 
 pub use fault::LineFault;
+pub use laws::a_line_says_one_step;
 pub use line::{read_line, read_line_in};
 pub use step::Step;

@@ -3,6 +3,7 @@ ghost use Rattle.scenario_text.specs.Ranges.{IsInRange};
 ghost use Rattle.scenario_text.specs.Reading.{Gives, GivesNext, at_line, spelled_by, reading};
 ghost use Rattle.scenario_text.specs.Table.{most_slots as slots_in};
 ghost use Rattle.scenario_text.specs.Lines.{spelling, spelling_of, LineIs, IsBlank};
+ghost use Rattle.scenario_text.specs.Steps.{read_of};
 ghost use Rattle.scenario_text.specs.declared.step.Step.{Step};
 
 use crate::cursor::Cursor;
@@ -23,6 +24,8 @@ pub fn read_line(alloc: Global, line: &[u8]) -> Result<Option<Step>, LineFault>
     ensures none { IfOk result (λ read. IfNone read (IsBlank line.now)) }
     // Which fault it is.
     ensures exact { Gives spelling_of result (reading 1 line.now) }
+    // What it answers is what the line reads as.
+    ensures reads { Gives (λ read. read) result (read_of 1 line.now) }
 {
     read_line_in(alloc, 1, line)
 }
@@ -40,6 +43,8 @@ pub fn read_line_in(alloc: Global, version: u8, line: &[u8]) -> Result<Option<St
     ensures none { IfOk result (λ read. IfNone read (IsBlank line.now)) }
     // Which fault it is.
     ensures exact { Gives spelling_of result (reading version line.now) }
+    // What it answers is what the line reads as.
+    ensures reads { Gives (λ read. read) result (read_of version line.now) }
 {
     read(alloc, version, line)
 }
@@ -108,6 +113,12 @@ fn named(alloc: Global, version: u8, name: &[u8], words: &mut Cursor<'_>) -> Res
     }
     if name == b"sniff".as_slice() {
         return sniff(words);
+    }
+    if name == b"drop".as_slice() {
+        return drop_sink(words);
+    }
+    if name == b"stop".as_slice() {
+        return Ok(Step::Stop);
     }
     if name == b"end".as_slice() {
         return Ok(Step::End);
@@ -243,4 +254,12 @@ fn sniff(words: &mut Cursor<'_>) -> Result<Step, LineFault>
         bis: words.bis(1)?,
         subevent: words.octet(0, 30)?,
     })
+}
+
+fn drop_sink(words: &mut Cursor<'_>) -> Result<Step, LineFault>
+    ensures in_range { IfOk result IsInRange }
+    ensures gives { GivesNext spelling result words.new (at_line 1 (codes "drop") words.old) }
+{
+    let sink = words.octet(0, 7)?;
+    Ok(Step::Drop { sink })
 }

@@ -77,6 +77,12 @@ pub enum Step {
         bis: Bis,
         subevent: u8,
     },
+    /// Ends a sink.
+    Drop {
+        sink: u8,
+    },
+    /// Stops the source.
+    Stop,
     /// Ends the scenario.
     End,
 }

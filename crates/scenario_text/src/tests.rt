@@ -17,6 +17,8 @@ fn a_fault_has_the_number_of_the_first_word_that_does_not_fit(rt: HostRuntime) {
     assert_eq!(rt; fault_of(rt.alloc(), b"event "), bad(1));
     assert_eq!(rt; fault_of(rt.alloc(), b"air  0 1"), bad(1));
     assert_eq!(rt; fault_of(rt.alloc(), b" end"), bad(0));
+    assert_eq!(rt; fault_of(rt.alloc(), b"drop 8"), bad(1));
+    assert_eq!(rt; fault_of(rt.alloc(), b"stop 0"), bad(1));
 }
 
 #[test]

@@ -1,0 +1,12 @@
+//! The lines of a transcript, each put at the end of a text.
+#![tactic(auto)]
+
+mod hearing;
+mod line;
+mod octets;
+mod refusal;
+mod word;
+
+pub use hearing::put_heard;
+pub use line::{put_lost, put_pdu, put_sum, put_valid};
+pub use refusal::{Refusal, put_refusal};

@@ -1,0 +1,97 @@
+ghost use Rattle.std.specs.Prelude.{◌≡◌, ◌++◌, OnOk, OnErr};
+ghost use Rattle.transcript_text.specs.Fronts.{AFront};
+ghost use Rattle.transcript_text.specs.Lines.{valid_line, lost_line, pdu_line, sum_line};
+
+use crate::word::{Word, put_line};
+use bcast_base::{Memory, Octets};
+
+/// Puts the line of a unit that was rebuilt, with its time in µs.
+///
+/// After Memory a front of the line stands at the end of the text.
+pub fn put_valid(
+    text: &mut Octets,
+    sink: u8,
+    bis: u8,
+    time: u64,
+    octets: &[u8],
+) -> Result<(), Memory>
+    ensures ok { OnOk result (text.new ≡ text.old ++ valid_line sink bis time octets.now) }
+    ensures err { OnErr result (AFront text.old text.new (valid_line sink bis time octets.now)) }
+{
+    put_line(
+        text,
+        b"unit",
+        &[
+            Word::Number(u64::from(sink)),
+            Word::Number(u64::from(bis)),
+            Word::Text(b"at"),
+            Word::Number(time),
+            Word::Text(b"valid"),
+            Word::Number(octets.len() as u64),
+            Word::Octets(octets),
+        ],
+    )
+}
+
+/// Puts the line of a unit that was not rebuilt, with its time in µs.
+///
+/// After Memory a front of the line stands at the end of the text.
+pub fn put_lost(text: &mut Octets, sink: u8, bis: u8, time: u64) -> Result<(), Memory>
+    ensures ok { OnOk result (text.new ≡ text.old ++ lost_line sink bis time) }
+    ensures err { OnErr result (AFront text.old text.new (lost_line sink bis time)) }
+{
+    put_line(
+        text,
+        b"unit",
+        &[
+            Word::Number(u64::from(sink)),
+            Word::Number(u64::from(bis)),
+            Word::Text(b"at"),
+            Word::Number(time),
+            Word::Text(b"lost"),
+        ],
+    )
+}
+
+/// Puts the line of a PDU that an event sent.
+///
+/// After Memory a front of the line stands at the end of the text.
+pub fn put_pdu(
+    text: &mut Octets,
+    event: u64,
+    bis: u8,
+    subevent: u8,
+    octets: &[u8],
+) -> Result<(), Memory>
+    ensures ok { OnOk result (text.new ≡ text.old ++ pdu_line event bis subevent octets.now) }
+    ensures err { OnErr result (AFront text.old text.new (pdu_line event bis subevent octets.now)) }
+{
+    put_line(
+        text,
+        b"pdu",
+        &[
+            Word::Number(event),
+            Word::Number(u64::from(bis)),
+            Word::Number(u64::from(subevent)),
+            Word::Octets(octets),
+        ],
+    )
+}
+
+/// Puts the line of a sink's sums: the units that its box took, and their octets.
+///
+/// After Memory a front of the line stands at the end of the text.
+pub fn put_sum(text: &mut Octets, sink: u8, units: u64, octets: u64) -> Result<(), Memory>
+    ensures ok { OnOk result (text.new ≡ text.old ++ sum_line sink units octets) }
+    ensures err { OnErr result (AFront text.old text.new (sum_line sink units octets)) }
+{
+    put_line(
+        text,
+        b"sum",
+        &[
+            Word::Number(u64::from(sink)),
+            Word::Number(units),
+            Word::Number(octets),
+        ],
+    )
+}

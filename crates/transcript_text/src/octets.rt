@@ -1,0 +1,47 @@
+ghost use Rattle.std.specs.Prelude.{◌≡◌, ◌++◌, OnOk, OnErr, ◌<◌, ◌≤◌, length};
+ghost use Rattle.hex.specs.Hex.{encode_lower};
+ghost use Rattle.transcript_text.specs.Fronts.{AFront};
+ghost use Rattle.transcript_text.specs.Lines.{digits};
+
+use bcast_base::{Memory, Octets};
+use hex::encode_to_slice;
+
+/// The most octets that are put at once as digits.
+const CHUNK: usize = 256;
+
+/// At most 256 octets in lower-case digits.
+fn put_chunk(text: &mut Octets, octets: &[u8]) -> Result<(), Memory>
+    requires { length octets.now ≤ 256 }
+    ensures ok { OnOk result (text.new ≡ text.old ++ encode_lower octets.now) }
+    ensures err { OnErr result (text.new ≡ text.old) }
+{
+    let mut room = [0u8; 2 * CHUNK];
+    let digits = &mut room[..2 * octets.len()];
+    let _ = encode_to_slice(octets, digits);
+    text.append(digits)
+}
+
+/// Octets in lower-case digits.
+fn put_digits(text: &mut Octets, octets: &[u8]) -> Result<(), Memory>
+    ensures ok { OnOk result (text.new ≡ text.old ++ encode_lower octets.now) }
+    ensures err { OnErr result (AFront text.old text.new (encode_lower octets.now)) }
+{
+    let mut rest = octets;
+    'chunks: while !rest.is_empty() {
+        let (chunk, others) = rest.split_at(rest.len().min(CHUNK));
+        put_chunk(text, chunk)?;
+        rest = others;
+    }
+    Ok(())
+}
+
+/// Octets in lower-case digits, or `-` for none.
+pub(crate) fn put_octets(text: &mut Octets, octets: &[u8]) -> Result<(), Memory>
+    ensures ok { OnOk result (text.new ≡ text.old ++ digits octets.now) }
+    ensures err { OnErr result (AFront text.old text.new (digits octets.now)) }
+{
+    if octets.is_empty() {
+        return text.push(b'-');
+    }
+    put_digits(text, octets)
+}

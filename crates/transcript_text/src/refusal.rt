@@ -1,0 +1,102 @@
+ghost use Rattle.std.specs.Prelude.{◌≡◌, ◌++◌, OnOk, OnErr};
+ghost use Rattle.transcript_text.specs.Fronts.{AFront};
+ghost use Rattle.transcript_text.specs.Lines.{refusal_line, refusal_name, refusal_number};
+
+use crate::word::{Word, put_named};
+use bcast_base::{Memory, Octets};
+use big_info::GroupFault;
+
+/// Why a line of a scenario is refused, by the names of the scenario language.
+#[derive(Clone, Copy, Debug, PartialEq, Eq)]
+pub enum Refusal {
+    /// The line holds octet 67,108,865 of the text.
+    TextTooLong,
+    /// The line has more than 9,000 octets without its end.
+    LineTooLong,
+    /// The line is not of the grammar: the number of the first word that doesn't fit, from 0.
+    BadLine { word: u64 },
+    /// The line, or what it describes, is of the language and not built yet.
+    NotBuilt,
+    /// A step follows `end`.
+    AfterEnd,
+    /// The step stands in the wrong phase.
+    Order,
+    /// The numbers of the group don't go together.
+    BadGroup { fault: GroupFault },
+    /// No sink of this number lives.
+    NoSuchSink,
+    /// A sink of this number lives already.
+    SinkTwice,
+    /// No box is left for a sink.
+    NoOutlet,
+    /// The group has no stream of this index.
+    NoSuchBis,
+    /// The unit has more than Max_SDU octets.
+    UnitTooLong,
+    /// The time of the unit doesn't fit the framing or the times before.
+    TimeOrder,
+    /// 16 units of the stream wait.
+    Backlog,
+    /// The group has no such subevent.
+    NoSuchSubevent,
+    /// The event is not on the air.
+    NotOnAir,
+    /// The payload counter would pass its last number.
+    CounterEnds,
+    /// The text ends without `end`.
+    NoEnd,
+}
+
+/// The name of a refusal in the scenario language.
+fn name_of(reason: Refusal) -> &'static [u8]
+    ensures { result.now ≡ refusal_name reason }
+{
+    match reason {
+        Refusal::TextTooLong => b"TextTooLong",
+        Refusal::LineTooLong => b"LineTooLong",
+        Refusal::BadLine { .. } => b"BadLine",
+        Refusal::NotBuilt => b"NotBuilt",
+        Refusal::AfterEnd => b"AfterEnd",
+        Refusal::Order => b"Order",
+        Refusal::BadGroup { .. } => b"BadGroup",
+        Refusal::NoSuchSink => b"NoSuchSink",
+        Refusal::SinkTwice => b"SinkTwice",
+        Refusal::NoOutlet => b"NoOutlet",
+        Refusal::NoSuchBis => b"NoSuchBis",
+        Refusal::UnitTooLong => b"UnitTooLong",
+        Refusal::TimeOrder => b"TimeOrder",
+        Refusal::Backlog => b"Backlog",
+        Refusal::NoSuchSubevent => b"NoSuchSubevent",
+        Refusal::NotOnAir => b"NotOnAir",
+        Refusal::CounterEnds => b"CounterEnds",
+        Refusal::NoEnd => b"NoEnd",
+    }
+}
+
+/// The number behind the name.
+fn number_of(reason: Refusal) -> Option<u64>
+    ensures { result ≡ refusal_number reason }
+{
+    match reason {
+        Refusal::BadLine { word } => Some(word),
+        Refusal::BadGroup { fault } => Some(u64::from(fault.number())),
+        _ => None,
+    }
+}
+
+/// Puts the line of a refusal, with the number of the line that is refused, from 1; behind BadLine stands the number of
+/// the word, and behind BadGroup that of the fault.
+///
+/// After Memory a front of the line stands at the end of the text.
+pub fn put_refusal(text: &mut Octets, line: u64, reason: Refusal) -> Result<(), Memory>
+    ensures ok { OnOk result (text.new ≡ text.old ++ refusal_line line reason) }
+    ensures err { OnErr result (AFront text.old text.new (refusal_line line reason)) }
+{
+    put_named(
+        text,
+        b"line",
+        Word::Label(line),
+        name_of(reason),
+        number_of(reason),
+    )
+}
