@@ -47,3 +47,13 @@ brought rules (line ∷ earlier) = brought rules earlier ++ rules.output earlier
 abbrev pub Accepted : {L R : Type 0} → Rules L R → List L → Type 0
 Accepted rules [] = Unit {0}
 Accepted rules (line ∷ earlier) = Accepted rules earlier × (rules.refusal earlier line ≡ None)
+
+abbrev pub accepted_unless : {L R : Type 0} → List L → Option R → List L → List L
+accepted_unless history (Some reason) all = history
+accepted_unless history None all = all
+
+-- the history and those of these lines that come before the first refusal, the newest first
+abbrev pub accepted_of : {L R : Type 0} → Rules L R → List L → List L → List L
+accepted_of rules history [] = history
+accepted_of rules history (line ∷ lines) =
+    accepted_unless history (rules.refusal history line) (accepted_of rules (line ∷ history) lines)

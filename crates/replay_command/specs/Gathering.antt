@@ -2,6 +2,7 @@
 -- taker.
 use Rattle.std.specs.Prelude.{ℕ, List, map, Option, Some, None}
 use Rattle.unit_outlets.specs.Handed.{Handed, valid, lost, Counts}
+use Rattle.scenario_history.specs.Boxes.{SinkUnit}
 use Rattle.replay_command.specs.declared.gathered.HandedUnit.{HandedUnit}
 use Rattle.replay_command.specs.declared.gathered.Gathered.{Gathered}
 
@@ -17,3 +18,7 @@ calls_of gathered = map handed_of gathered.units.items
 
 abbrev pub counts_of : Gathered → Counts
 counts_of gathered = record { faults = 0; wants = gathered.wants }
+
+-- these units of a sink with its box
+abbrev pub units_for : ℕ → ℕ → List Handed → List SinkUnit
+units_for sink box units = map (λ unit. record { sink = sink; box = box; unit = unit }) units

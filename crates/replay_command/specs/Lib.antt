@@ -1,1 +1,7 @@
+pub mod Versions
 pub mod Gathering
+pub mod Machines
+pub mod Handing
+pub mod Meets
+pub mod LineMeets
+pub mod Replayed

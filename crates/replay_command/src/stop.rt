@@ -1,35 +1,24 @@
-use crate::refusal::Refusal;
+ghost use Rattle.std.specs.Prelude.{◌≡◌};
+ghost use Rattle.replay_command.specs.declared.stop.Stop.TheVariants.{Memory as NoMemory};
+
 use bcast_base::Memory;
-use std::alloc::{AllocError, AllocFailed};
+use transcript_text::Refusal;
 
 /// Why a step is the last one.
 #[derive(Clone, Copy, Debug, PartialEq, Eq)]
 pub enum Stop {
+    /// The step is refused.
     Refused(Refusal),
+    /// The box of a sink failed.
     OutletFault,
+    /// Memory ran out.
     Memory,
 }
 
-impl From<Refusal> for Stop {
-    fn from(reason: Refusal) -> Stop {
-        Stop::Refused(reason)
-    }
-}
-
 impl From<Memory> for Stop {
+    ghost from_gives = { λ _ stop. stop ≡ NoMemory };
+
     fn from(_memory: Memory) -> Stop {
-        Stop::Memory
-    }
-}
-
-impl From<AllocError> for Stop {
-    fn from(_memory: AllocError) -> Stop {
-        Stop::Memory
-    }
-}
-
-impl<T: Drop> From<AllocFailed<T>> for Stop {
-    fn from(_memory: AllocFailed<T>) -> Stop {
         Stop::Memory
     }
 }

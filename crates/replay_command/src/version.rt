@@ -1,4 +1,5 @@
-ghost use Rattle.std.specs.Prelude.{◌≡◌, ◌≤◌, ◌⊎◌};
+ghost use Rattle.std.specs.Prelude.{◌≡◌, ◌≤◌};
+ghost use Rattle.scenario_history.specs.Refusals.{horizon_in};
 
 use big_info::Limits;
 
@@ -10,8 +11,14 @@ pub enum Version {
 }
 
 impl Version {
+    ghost use Rattle.replay_command.specs.Versions.{number_of};
+
     /// The version of this number.
-    pub(crate) fn of(number: u8) -> Version {
+    pub(crate) fn of(number: u8) -> Version
+        requires least { 1 ≤ number }
+        requires greatest { number ≤ 2 }
+        ensures { number_of result ≡ number }
+    {
         if number == 2 {
             Version::Two
         } else {
@@ -21,7 +28,7 @@ impl Version {
 
     /// Its number.
     pub(crate) fn number(self) -> u8
-        ensures { (result ≡ 1) ⊎ (result ≡ 2) }
+        ensures { result ≡ number_of self }
     {
         match self {
             Version::One => 1,
@@ -31,7 +38,8 @@ impl Version {
 
     /// How far its groups may reach.
     pub(crate) fn limits(self) -> Limits
-        ensures { result.horizon ≤ 31 }
+        ensures horizon { result.horizon ≡ horizon_in (number_of self) }
+        ensures least { result.horizon ≤ 31 }
     {
         match self {
             Version::One => Limits::VERSION_1,

@@ -1,0 +1,143 @@
+-- What a call of `replay` read, wrote and handed to the boxes, by how it ended. `starts` and `ends` are the accounts of
+-- the boxes before and after it, `left` and `left'` what the source had left, `kept` and `kept'` what the sink had taken.
+-- The language and its statuses are this project's own.
+use Rattle.std.specs.Prelude.{ℕ, ◌≡◌, ◌≤◌, ◌<◌, ◌⊎◌, Bool, true, false, List, [], ◌∷◌, ◌++◌, length, reverse, Option, None, Some, Result, Ok, Err}
+use Rattle.std.specs.Io.KnownBytes.{Appends, Consumes, IsAtEnd}
+use Rattle.bcast_io.specs.TextLines.{TextLine, lines_of}
+use Rattle.bcast_io.specs.Writing.{AppendsFront}
+use Rattle.unit_outlets.specs.Account.{Account}
+use Rattle.source_machine.specs.Airs.{airs_of}
+use Rattle.transcript_text.specs.declared.refusal.Refusal.{Refusal}
+use Rattle.transcript_text.specs.declared.refusal.Refusal.TheVariants.{NoEnd}
+use Rattle.line_runs.specs.Runs.{through, refused, Accepted}
+use Rattle.scenario_history.specs.Boxes.{SinkUnit, Took}
+use Rattle.scenario_history.specs.Output.{unit_lines}
+use Rattle.scenario_history.specs.Lines.{rules_of, steps_of, handed_on}
+use Rattle.scenario_history.specs.Transcript.{out_of, end_after, transcript_of, transcript_end, units_of}
+use Rattle.replay_command.specs.Handing.{BoxFails}
+use Rattle.replay_command.specs.LineMeets.{refusal_at}
+
+-- what may follow the octets read: where the input was at its end, nothing
+abbrev pub MayFollow : Bool → Bool → List ℕ → Type 0
+MayFollow over at_end more = over ≡ true → (at_end ≡ true) × (more ≡ [])
+
+-- the octets that a call took from its source; `over` says that it met the end of the input
+pub record TextRead (left left' : Option (List ℕ)) (text : List ℕ) (over : Bool) : Type 0 where
+  pub consumed : Consumes left left' text
+  pub at_end : over ≡ true → IsAtEnd left'
+
+-- Done: the text was read to its end, its transcript has no refusal and was written, and the boxes took its units
+pub record Done (starts ends : List Account) (left left' kept kept' : Option (List ℕ)) : Type 0 where
+  pub text : List ℕ
+  pub read : TextRead left left' text true
+  pub through_all : transcript_end airs_of starts (lines_of true text) ≡ through
+  pub written : Appends kept kept' (transcript_of airs_of starts (lines_of true text))
+  pub boxes : Took starts ends (units_of airs_of starts (lines_of true text))
+
+-- Refused: the transcript ends with this refusal at this line whatever follows the octets read, and was written. NoEnd
+-- comes only at the end of the input.
+pub record RefusedAt (starts ends : List Account) (left left' kept kept' : Option (List ℕ)) (line : ℕ) (reason : Refusal) : Type 0 where
+  pub text : List ℕ
+  pub over : Bool
+  pub read : TextRead left left' text over
+  pub no_end : reason ≡ NoEnd → over ≡ true
+  pub ends_so : (at_end : Bool) (more : List ℕ) → MayFollow over at_end more → transcript_end airs_of starts (lines_of at_end (text ++ more)) ≡ refused line reason
+  pub octets : List ℕ
+  pub transcript : (at_end : Bool) (more : List ℕ) → MayFollow over at_end more → transcript_of airs_of starts (lines_of at_end (text ++ more)) ≡ octets
+  pub written : Appends kept kept' octets
+  pub units : List SinkUnit
+  pub handed : (at_end : Bool) (more : List ℕ) → MayFollow over at_end more → units_of airs_of starts (lines_of at_end (text ++ more)) ≡ units
+  pub boxes : Took starts ends units
+
+-- ReadFault: what the whole lines read bring was written, and none of them is refused
+pub record ReadFaulted (starts ends : List Account) (left left' kept kept' : Option (List ℕ)) : Type 0 where
+  pub text : List ℕ
+  pub read : TextRead left left' text false
+  pub through_all : end_after airs_of starts (lines_of false text) ≡ through
+  pub written : Appends kept kept' (out_of airs_of starts (lines_of false text))
+  pub boxes : Took starts ends (units_of airs_of starts (lines_of false text))
+
+-- what the lines of a text, or the whole lines of a front of it, bring
+abbrev pub brought_by : Bool → List Account → List ℕ → List ℕ
+brought_by true starts text = transcript_of airs_of starts (lines_of true text)
+brought_by false starts text = out_of airs_of starts (lines_of false text)
+
+-- the boxes took a front of the units of these lines
+pub record BoxesCut (starts ends : List Account) (lines : List TextLine) : Type 0 where
+  pub done : List SinkUnit
+  pub rest : List SinkUnit
+  pub split : units_of airs_of starts lines ≡ done ++ rest
+  pub boxes : Took starts ends done
+
+-- the boxes took a front of the units of these lines, and then one of them failed at the next unit and counted it
+pub record BoxFailed (starts ends : List Account) (lines : List TextLine) : Type 0 where
+  pub before : List SinkUnit
+  pub behind : List SinkUnit
+  pub units : List SinkUnit
+  pub split : units_of airs_of starts lines ≡ before ++ units ++ behind
+  pub accounts : List Account
+  pub boxes : Took starts accounts before
+  pub text : List ℕ
+  pub told : List ℕ
+  pub fails : BoxFails units text told accounts ends
+
+-- WriteFault and Memory: a front of what the lines read bring was written, and the boxes took a front of their units;
+-- at most one box failed
+pub record Broken (starts ends : List Account) (left left' kept kept' : Option (List ℕ)) : Type 0 where
+  pub text : List ℕ
+  pub over : Bool
+  pub read : TextRead left left' text over
+  pub written : AppendsFront kept kept' (brought_by over starts text)
+  pub boxes : BoxesCut starts ends (lines_of over text) ⊎ BoxFailed starts ends (lines_of over text)
+
+-- OutletFault: the lines before one were run, and none is refused; the box of a unit that this line hands up failed, and
+-- what was brought before that unit was written
+pub record OutletFaulted (starts ends : List Account) (left left' kept kept' : Option (List ℕ)) : Type 0 where
+  pub text : List ℕ
+  pub over : Bool
+  pub read : TextRead left left' text over
+  pub earlier : List TextLine
+  pub line : TextLine
+  pub lines : (at_end : Bool) (more : List ℕ) → MayFollow over at_end more
+      → (later : List TextLine) × (lines_of at_end (text ++ more) ≡ reverse earlier ++ line ∷ later)
+  pub accepted : Accepted (rules_of airs_of starts) (line ∷ earlier)
+  pub accounts : List Account
+  pub before : Took starts accounts (units_of airs_of starts (reverse earlier))
+  pub told : List ℕ
+  pub fails : BoxFails (handed_on airs_of earlier line) (out_of airs_of starts (reverse earlier)) told accounts ends
+  pub written : Appends kept kept' told
+
+-- At most so many octets were read past the end of this line, from 1: but for the last ones, the octets that a call took
+-- from its source hold no more lines.
+pub record ReadsAhead (left left' : Option (List ℕ)) (line : ℕ) : Type 0 where
+  pub upto : List ℕ
+  pub ahead : List ℕ
+  pub consumed : Consumes left left' (upto ++ ahead)
+  pub least : length ahead ≤ 65536
+  pub within : length (lines_of true upto) ≤ line
+
+-- What was written ends within the octets that this line brings: it is the least line such that it and those before it
+-- bring more than what was written.
+pub record CutAt (starts : List Account) (left left' kept kept' : Option (List ℕ)) (line : ℕ) : Type 0 where
+  pub text : List ℕ
+  pub over : Bool
+  pub read : TextRead left left' text over
+  pub earlier : List TextLine
+  pub last : TextLine
+  pub later : List TextLine
+  pub lines : lines_of over text ≡ reverse earlier ++ last ∷ later
+  pub number : line ≡ length earlier + 1
+  pub accepted : Accepted (rules_of airs_of starts) earlier
+  pub front : List ℕ
+  pub written : Appends kept kept' front
+  pub not_before : length (out_of airs_of starts (reverse earlier)) ≤ length front
+  pub longer : length front < length (out_of airs_of starts (reverse (last ∷ earlier)))
+
+-- the line of NoEnd wasn't written whole
+pub record NoEndCut (starts : List Account) (left left' kept kept' : Option (List ℕ)) : Type 0 where
+  pub text : List ℕ
+  pub read : TextRead left left' text true
+  pub ends_so : transcript_end airs_of starts (lines_of true text) ≡ refused (length (lines_of true text) + 1) NoEnd
+  pub front : List ℕ
+  pub written : Appends kept kept' front
+  pub not_before : length (out_of airs_of starts (lines_of true text)) ≤ length front

@@ -1,0 +1,112 @@
+-- Which box a sink has, what each close hands up, and what the boxes took (the units are the SDUs of Core 5.2, volume 6
+-- part G, section 1). Boxes count from 0, in the order of their list.
+use Rattle.std.specs.Prelude.{ℕ, ◌+◌, ◌==◌, Bool, false, List, [], ◌∷◌, ◌++◌, map, length, sum, slice_get, slice_index_or, slice_set, option_map, ◌≡◌, Option, None, Some, if◌then◌else◌}
+use Rattle.std.specs.List.{flat_map, range_with_len}
+use Rattle.circular_buffer.specs.Buffer.{keep_last}
+use Rattle.unit_outlets.specs.Account.{Account, fresh, with_unit}
+use Rattle.unit_outlets.specs.Handed.{Handed, valid, lost}
+use Rattle.delegator_machine.specs.Calls.{Call}
+use Rattle.delegator_machine.specs.Handing.{handed_at}
+use Rattle.scenario_text.specs.declared.step.Step.{Step}
+use Rattle.scenario_text.specs.declared.step.Step.TheVariants.{Sink, Event, Drop, Stop, End}
+use Rattle.scenario_history.specs.Steps.{sinks_made}
+use Rattle.scenario_history.specs.Source.{Airs, open_event}
+use Rattle.scenario_history.specs.Sinks.{sink_calls}
+
+-- how many sinks may live
+abbrev pub most_sinks : ℕ
+most_sinks = 8
+
+-- the numbers that sinks have
+unfoldable pub sink_numbers : List ℕ
+sink_numbers = range_with_len 0 most_sinks
+
+abbrev pub box_after : ℕ → Step → List Step → Option ℕ → Option ℕ
+box_after n (Sink sink streams slots mtu) earlier box = if sink == n then Some (sinks_made earlier) else box
+box_after n (Drop sink) earlier box = if sink == n then None else box
+box_after n _ earlier box = box
+
+-- the box of the sink of this number, where it lives
+abbrev pub box_of : ℕ → List Step → Option ℕ
+box_of n [] = None
+box_of n (step ∷ earlier) = box_after n step earlier (box_of n earlier)
+
+-- a unit that a sink hands up, with the box of the sink
+pub record SinkUnit : Type 0 where
+  pub sink : ℕ
+  pub box : ℕ
+  pub unit : Handed
+
+-- what a sink hands up after these calls as an event is closed, by rising stream and then in order
+abbrev pub closing_by : ℕ → ℕ → List Call → Option ℕ → List SinkUnit
+closing_by event n calls None = []
+closing_by event n calls (Some box) = map (λ unit. record { sink = n; box = box; unit = unit }) (handed_at calls event)
+
+-- what all sinks hand up as an event is closed, by rising number
+abbrev pub closing_at : Airs → List Step → Option ℕ → List SinkUnit
+closing_at airs steps None = []
+closing_at airs steps (Some event) = flat_map (λ n. closing_by event n (sink_calls airs n steps) (box_of n steps)) sink_numbers
+
+abbrev pub closing : Airs → List Step → List SinkUnit
+closing airs steps = closing_at airs steps (open_event steps)
+
+-- what the step after these hands up
+abbrev pub handed_by : Airs → List Step → Step → List SinkUnit
+handed_by airs earlier Event = closing airs earlier
+handed_by airs earlier Stop = closing airs earlier
+handed_by airs earlier End = closing airs earlier
+handed_by airs earlier _ = []
+
+-- all that was handed up, in order
+abbrev pub handed_up : Airs → List Step → List SinkUnit
+handed_up airs [] = []
+handed_up airs (step ∷ earlier) = handed_up airs earlier ++ handed_by airs earlier step
+
+-- ---- the boxes
+
+-- no box stands at this place
+abbrev pub no_account : Account
+no_account = fresh false 0 None
+
+abbrev pub account_at : List Account → ℕ → Account
+account_at accounts box = slice_index_or accounts box no_account
+
+-- a valid unit goes to a box
+abbrev pub with_handed : List Account → ℕ → Handed → List Account
+with_handed accounts box (valid bis time octets) = slice_set accounts box (with_unit octets (account_at accounts box))
+with_handed accounts box (lost bis time) = accounts
+
+-- the boxes after these units, each valid one of which went to the box of its sink
+abbrev pub accounts_after : List Account → List SinkUnit → List Account
+accounts_after accounts [] = accounts
+accounts_after accounts (unit ∷ units) = accounts_after (with_handed accounts unit.box unit.unit) units
+
+-- ---- what went to a box
+
+abbrev pub onto_valid : Bool → Handed → List (List ℕ) → List (List ℕ)
+onto_valid is_its (valid bis time octets) units = if is_its then octets ∷ units else units
+onto_valid is_its (lost bis time) units = units
+
+-- the octets of the valid units that go to a box, in order
+abbrev pub valid_for : ℕ → List SinkUnit → List (List ℕ)
+valid_for box [] = []
+valid_for box (unit ∷ units) = onto_valid (unit.box == box) unit.unit (valid_for box units)
+
+-- the units that a box keeps after these: the newest, up to the greatest number
+abbrev pub kept_with : ℕ → List (List ℕ) → Option (List (List ℕ)) → Option (List (List ℕ))
+kept_with greatest [] kept = kept
+kept_with greatest (unit ∷ units) None = None
+kept_with greatest (unit ∷ units) (Some kept) = Some (keep_last greatest (kept ++ unit ∷ units))
+
+-- an account with these units: its sums grow by their number and their octets
+abbrev pub with_units : Account → List (List ℕ) → Account
+with_units account units = record account {
+  units = account.units + length units;
+  octets = account.octets + sum (map length units);
+  kept = kept_with account.greatest units account.kept;
+}
+
+-- each box took the valid units of its sink among these, and nothing else happened to it
+abbrev pub Took : List Account → List Account → List SinkUnit → Type 0
+Took starts ends units =
+    (box : ℕ) → slice_get ends box ≡ option_map (λ account. with_units account (valid_for box units)) (slice_get starts box)

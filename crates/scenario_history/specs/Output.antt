@@ -1,0 +1,44 @@
+-- What each step prints. The lines are the scenario language's own; the units and times in them are after Core 5.2,
+-- volume 6 part G, sections 2.1 and 3.2.
+use Rattle.std.specs.Prelude.{ℕ, ◌+◌, List, [], ◌∷◌, ◌++◌, map, length, Option, None, Some}
+use Rattle.std.specs.List.{flat_map, sum}
+use Rattle.unit_outlets.specs.Account.{Account}
+use Rattle.delegator_machine.specs.Hearings.{hearing_of}
+use Rattle.transcript_text.specs.Lines.{handed_line, pdu_line, heard_line, sum_line}
+use Rattle.scenario_text.specs.declared.step.Step.{Step}
+use Rattle.scenario_text.specs.declared.step.Step.TheVariants.{Event, Inject, Sniff, Drop, Stop, End}
+use Rattle.scenario_history.specs.Source.{Airs, event_back, pdu_in}
+use Rattle.scenario_history.specs.Sinks.{sink_calls}
+use Rattle.scenario_history.specs.Boxes.{SinkUnit, sink_numbers, account_at, box_of, closing, valid_for, handed_up, handed_by}
+
+abbrev pub unit_line : SinkUnit → List ℕ
+unit_line unit = handed_line unit.sink unit.unit
+
+abbrev pub unit_lines : List SinkUnit → List ℕ
+unit_lines units = flat_map unit_line units
+
+-- the sums of a box: those at the start, and the count and the octets of the valid units that were handed to it
+abbrev pub sum_of : List Account → List SinkUnit → ℕ → ℕ → List ℕ
+sum_of starts units n box =
+    sum_line n ((account_at starts box).units + length (valid_for box units)) ((account_at starts box).octets + sum (map length (valid_for box units)))
+
+abbrev pub sum_if : List Account → List SinkUnit → ℕ → Option ℕ → List ℕ
+sum_if starts units n None = []
+sum_if starts units n (Some box) = sum_of starts units n box
+
+-- the sums of the living sinks, by rising number
+abbrev pub sums_of : List Account → List SinkUnit → List Step → List ℕ
+sums_of starts units steps = flat_map (λ n. sum_if starts units n (box_of n steps)) sink_numbers
+
+-- what a step after these prints, with these accounts at the start
+abbrev pub output_of : Airs → List Account → List Step → Step → List ℕ
+output_of airs starts steps Event = unit_lines (closing airs steps)
+output_of airs starts steps Stop = unit_lines (closing airs steps)
+output_of airs starts steps End =
+    unit_lines (closing airs steps) ++ sums_of starts (handed_up airs steps ++ closing airs steps) steps
+output_of airs starts steps (Drop sink) = sum_if starts (handed_up airs steps) sink (box_of sink steps)
+output_of airs starts steps (Inject sink back bis subevent octets) =
+    heard_line sink (hearing_of (sink_calls airs sink steps) (event_back steps back) bis subevent octets)
+output_of airs starts steps (Sniff back bis subevent) =
+    pdu_line (event_back steps back) bis subevent (pdu_in airs steps (event_back steps back) bis subevent)
+output_of airs starts steps _ = []

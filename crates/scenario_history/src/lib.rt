@@ -1,0 +1,6 @@
+//! What a scenario means: its steps looked back at, and its transcript.
+#![tactic(auto)]
+
+mod laws;
+
+pub use laws::stub;
