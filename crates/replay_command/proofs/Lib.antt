@@ -1,1 +1,2 @@
 pub mod Handings
+pub mod Closings

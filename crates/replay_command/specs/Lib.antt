@@ -5,3 +5,6 @@ pub mod Handing
 pub mod Meets
 pub mod LineMeets
 pub mod Replayed
+pub mod Closing
+pub mod Groups
+pub mod Stops

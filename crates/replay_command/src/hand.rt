@@ -91,7 +91,7 @@ fn hand_unit(
 }
 
 /// Hands units of a sink in order.
-fn hand_units(
+pub(crate) fn hand_units(
     units: &[HandedUnit],
     sink: u8,
     place: usize,
