@@ -1,9 +1,9 @@
 -- What the streams of a source send (Core 5.2, volume 6 part B, section 4.4.6, and part G, section 2): the air of each,
 -- and the PDU of it that a subevent carries.
-use Rattle.std.specs.Prelude.{ℕ, ◌+◌, ◌-◌, ◌≡◌, List, [], ◌∷◌, length, map, Option, Some, None, slice_get, option_and_then}
+use Rattle.std.specs.Prelude.{ℕ, ◌-◌, ◌≡◌, List, [], ◌∷◌, length, map, Option, Some, None, slice_get, option_and_then}
 use Rattle.std.specs.List.{AllZip, range_with_len}
 use Rattle.radio_schedule.specs.PayloadNumber.{payload_number}
-use Rattle.isoal_unframed.specs.Air.{Air, Entry, pdu_at, unframed_air}
+use Rattle.isoal_unframed.specs.Air.{Air, pdu_at, unframed_air}
 use Rattle.source_machine.specs.Calls.{Setup, Call, given, stream_calls}
 
 -- the air of a stream after these calls

@@ -4,6 +4,8 @@ use Rattle.std.specs.Prelude.{ℕ, ◌+◌, ◌*◌, ◌^◌, ◌==◌, ◌&&◌
 use Rattle.big_info.specs.Schedule.{horizon_of}
 use Rattle.radio_schedule.specs.declared.air.AirFault.{AirFault}
 use Rattle.radio_schedule.specs.declared.air.AirFault.TheVariants.{NoSuchBis as NoStream, NoSuchSubevent, NotOnAir}
+use Rattle.isoal_base.specs.declared.laid.PutFault.{PutFault}
+use Rattle.isoal_base.specs.declared.laid.PutFault.TheVariants as put_faults
 use Rattle.isoal_unframed.specs.Air.{Air}
 use Rattle.source_machine.specs.Calls.{Setup, Call, events, next_of}
 use Rattle.source_machine.specs.Airs.{waiting_of}
@@ -45,3 +47,10 @@ refused_unit give_faults.Memory = None
 abbrev pub refused_event : EventFault → Option EventFault
 refused_event event_faults.CounterEnds = Some event_faults.CounterEnds
 refused_event event_faults.Memory = None
+
+-- what a sender's refusal is called here
+abbrev pub of_sender : PutFault → GiveFault
+of_sender put_faults.TooLong = give_faults.UnitTooLong
+of_sender put_faults.TimeOrder = give_faults.TimeOrder
+of_sender put_faults.Backlog = give_faults.Backlog
+of_sender put_faults.Memory = give_faults.Memory

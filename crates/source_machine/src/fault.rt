@@ -1,8 +1,9 @@
 ghost use Rattle.std.specs.Prelude.{◌≡◌};
-ghost use Rattle.source_machine.specs.declared.fault.EventFault.TheVariants.{Memory as NoMemoryForEvent};
-ghost use Rattle.source_machine.specs.declared.fault.GiveFault.TheVariants.{Memory as NoMemoryForUnit};
+ghost use Rattle.source_machine.specs.declared.fault.EventFault.TheVariants.{Memory as NoMemory};
+ghost use Rattle.source_machine.specs.Faults.{of_sender};
 
 use bcast_base::Memory;
+use isoal_base::PutFault;
 
 /// Why a source refused a unit.
 #[derive(Clone, Copy, Debug, PartialEq, Eq)]
@@ -28,8 +29,21 @@ pub enum EventFault {
     Memory,
 }
 
+impl From<PutFault> for GiveFault {
+    ghost from_gives = { λ put fault. fault ≡ of_sender put };
+
+    fn from(put: PutFault) -> GiveFault {
+        match put {
+            PutFault::TooLong => GiveFault::UnitTooLong,
+            PutFault::TimeOrder => GiveFault::TimeOrder,
+            PutFault::Backlog => GiveFault::Backlog,
+            PutFault::Memory => GiveFault::Memory,
+        }
+    }
+}
+
 impl From<Memory> for EventFault {
-    ghost from_gives = { λ _ fault. fault ≡ NoMemoryForEvent };
+    ghost from_gives = { λ _ fault. fault ≡ NoMemory };
 
     fn from(_memory: Memory) -> EventFault {
         EventFault::Memory

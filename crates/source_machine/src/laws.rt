@@ -6,6 +6,8 @@ ghost use Rattle.radio_schedule.specs.PayloadNumber.{payload_number};
 ghost use Rattle.source_machine.specs.Airs.{AreAirs, airs_of, pdu_of};
 ghost use Rattle.source_machine.specs.Calls.{Call, Setup, next_of, stream_calls};
 
+use isoal_unframed::each_number_is_laid;
+
 /// The calls of a source fix the airs of its streams.
 pub fn one_air()
     ensures same { (setup : Setup) (calls : List Call) (airs others : List Air) → AreAirs setup calls airs → AreAirs setup calls others → airs ≡ others }
@@ -19,5 +21,7 @@ pub fn air_is_by_division()
         → setup.info ≡ group.info → setup.first ≤ event → event < next_of setup calls
         → 1 ≤ bis → bis ≤ group.info.num_bis → subevent < group.info.nse
         → pdu_of setup (airs_of setup calls) event bis subevent
-            ≡ Some (laid_u setup.info (stream_calls setup.info bis calls) (payload_number setup.info (event - setup.first) subevent)) }
-{}
+        ≡ Some (laid_u setup.info (stream_calls setup.info bis calls) (payload_number setup.info (event - setup.first) subevent)) }
+{
+    each_number_is_laid();
+}

@@ -1,14 +1,17 @@
-ghost use Rattle.std.specs.Prelude.{◌≡◌, ◌≤◌, ◌<◌, ◌∷◌, ◌+◌, ◌-◌, ◌*◌, List, [], length, slice_get, option_and_then, Some, IfOk, IfErr, OnOk, OnErr};
-ghost use Rattle.big_info.specs.declared.info.BigInfo.{BigInfo};
+ghost use Rattle.std.specs.Prelude.{◌≡◌, ◌≤◌, ◌<◌, ◌+◌, ◌/◌, ◌%◌, [], length, Some, IfOk, IfErr, OnOk, OnErr};
+ghost use Rattle.std.specs.List.{AllZip};
 ghost use Rattle.big_info.specs.Schedule.{horizon_of};
-ghost use Rattle.isoal_unframed.specs.Calls.{Call, lay as lays_one};
-ghost use Rattle.source_machine.specs.Sources.{kept_of, stream_after};
-ghost use Rattle.source_machine.specs.Streams.{Grows, Lays};
+ghost use Rattle.isoal_unframed.specs.Sender.{PutFaultIs};
+ghost use Rattle.radio_schedule.specs.PayloadNumber.{payload_number};
+ghost use Rattle.source_machine.specs.Sources.{stream_after};
+ghost use Rattle.source_machine.specs.Streams.{Accepts, Grows, Lays, sender_of, sent_of};
 
 use bcast_base::{EventPdus, Memory};
 use big_info::Group;
 use circular_buffer::HeapCircularBuffer;
+use isoal_base::PutFault;
 use isoal_unframed::UnframedOut;
+use radio_schedule::payload_of;
 use std::alloc::Global;
 use std::marker::Model;
 
@@ -23,14 +26,14 @@ pub(crate) struct Stream {
 }
 
 impl Model for Stream {
-    ghost use Rattle.std.specs.Prelude.{◌≡◌, ◌+◌, length, All};
-    ghost use Rattle.source_machine.specs.Sources.{Stream, kept_of};
+    ghost use Rattle.source_machine.specs.Sources.{Stream};
+    ghost use Rattle.source_machine.specs.Streams.{Keeps};
 
     ghost Value = { Stream };
 
     ghost view = { λ s. record { info = s.out.info; waiting = s.out.waiting; laid = s.laid.items } };
 
-    ghost invariant = { λ s. (s.laid.capacity ≡ kept_of s.out.info) × All (λ pdus. length pdus ≡ s.out.info.bn) s.laid.items };
+    ghost invariant = { λ s. Keeps s.out.info s.laid.capacity s.laid.items };
 }
 
 impl Stream {
@@ -65,4 +68,49 @@ impl Stream {
         let _ = self.laid.push_back(event.pdus);
         Ok(())
     }
+
+    /// Gives a unit to the sender.
+    pub(crate) fn give(&mut self, octets: &[u8]) -> Result<(), PutFault>
+        ensures ok { OnOk result (Accepts octets.now self.old self.new) }
+        ensures err { OnErr result (self.new ≡ self.old) }
+        ensures fault { IfErr result (λ fault. PutFaultIs (sender_of self.old) octets.now fault) }
+    {
+        self.out.put(octets)
+    }
+
+    /// The PDU that a subevent, from 0, carried in the event `back` events before the last one that was performed.
+    pub(crate) fn sent(&self, group: &Group, back: u8, subevent: u8) -> &[u8]
+        requires group { self.now.info ≡ group.now.info }
+        requires subevent { subevent < group.now.info.nse }
+        requires kept { back + horizon_of group.now.info < length self.now.laid }
+        ensures { sent_of self.now back subevent ≡ Some result.now }
+    {
+        let (ahead, place) = carried(group, subevent);
+        let behind = group.horizon() - ahead + u32::from(back);
+        let pdus = self.laid.nth_back(behind as usize).unwrap();
+        pdus.item(place).as_slice()
+    }
+}
+
+/// How many events ahead the payload of a subevent, from 0, is, and its place in that event.
+fn carried(group: &Group, subevent: u8) -> (u32, usize)
+    requires { subevent < group.now.info.nse }
+    ensures ahead { result.0 ≡ payload_number group.now.info 0 subevent / group.now.info.bn }
+    ensures place { result.1 ≡ payload_number group.now.info 0 subevent % group.now.info.bn }
+    ensures within { result.0 ≤ horizon_of group.now.info }
+{
+    let number = payload_of(group, 0, subevent).unwrap();
+    let bn = u64::from(group.info.bn);
+    ((number / bn) as u32, (number % bn) as usize)
+}
+
+/// Lays the next `count` events of each stream.
+pub(crate) fn lay_all(streams: &mut [Stream], count: u32) -> Result<(), Memory>
+    ensures ok { OnOk result (AllZip (Lays count) streams.old streams.new) }
+    ensures err { OnErr result (AllZip Grows streams.old streams.new) }
+{
+    'streams: for stream in streams.iter_mut() {
+        stream.lay(count)?;
+    }
+    Ok(())
 }
