@@ -1,5 +1,5 @@
 -- What the calls of a source say of its streams.
-use Rattle.std.proofs.Common.{ℕ, ◌≡◌, ◌≢◌, ◌≤◌, ◌+◌, ◌-◌, zero, suc, Option, Some, List, [], ◌∷◌, ◌++◌, length, arith, ◌∙◌, ap, sym, refl, inl, inr}
+use Rattle.std.proofs.Common.{ℕ, ◌≡◌, ◌≢◌, ◌<◌, ◌≤◌, ◌+◌, ◌-◌, zero, suc, Option, Some, List, [], ◌∷◌, ◌++◌, length, arith, ◌∙◌, ap, sym, refl, inl, inr}
 use Rattle.std.proofs.lemmas.Bool.{cases_eq, eq-eqb, ne_eqb}
 use Rattle.std.proofs.lemmas.List.{length-drop}
 use Rattle.std.proofs.lemmas.List.FromFn.{get_or-map-range_with_len, length-map-range_with_len}
@@ -7,7 +7,7 @@ use Rattle.std.proofs.lemmas.Option.{slice_get-get_or}
 use Rattle.std.specs.List.{range_with_len, slice_get}
 use Rattle.big_info.specs.declared.info.BigInfo.{BigInfo}
 use Rattle.big_info.specs.Schedule.{horizon_of}
-use Rattle.isoal_unframed.specs.Air.{Air, unframed_air}
+use Rattle.isoal_unframed.specs.Air.{Air, event_at, unframed_air}
 use Rattle.isoal_unframed.specs.Calls.{Call as StreamCall, accept, lay, lays, accepted, begun, events as laid_events}
 use Rattle.source_machine.specs.Airs.{AreAirs, airs_of, begun_in, begun_of, waiting_of}
 use Rattle.source_machine.specs.Calls.{Setup, Call, give, event, events, given, stream_calls, laid_with}
@@ -105,3 +105,33 @@ are_airs setup calls = zip_from_map (λ bis. unframed_air setup.info (stream_cal
 pub airs_only : (setup : Setup) (calls : List Call) (airs : List Air) → AreAirs setup calls airs → airs ≡ airs_of setup calls
 airs_only setup calls airs are =
     AllZip-map (λ bis. unframed_air setup.info (stream_calls setup.info bis calls)) (range_with_len 1 setup.info.num_bis) airs are
+
+-- what was laid stays whatever is laid behind it
+lays_keep : (info : BigInfo) (calls : List StreamCall) (n e : ℕ) → e < laid_events calls
+    → event_at (unframed_air info (lays n calls)) e ≡ event_at (unframed_air info calls) e
+lays_keep info calls zero e below = refl
+lays_keep info calls (suc n) e below =
+    let count : length (unframed_air info (lays n calls)) ≡ n + laid_events calls = air_length info (lays n calls) ∙ lays_events calls n in
+    rw (ne_eqb (length (unframed_air info (lays n calls))) e (λ same. omega (arith, same, count, below))) (lays_keep info calls n e below)
+
+call_keeps : (info : BigInfo) (bis e : ℕ) (call : Call) (calls : List Call) → e < laid_events (stream_calls info bis calls)
+    → (e < laid_events (stream_calls info bis (call ∷ calls)))
+    × (event_at (unframed_air info (stream_calls info bis (call ∷ calls))) e ≡ event_at (unframed_air info (stream_calls info bis calls)) e)
+call_keeps info bis e (give stream time octets) calls below =
+    elim (cases_eq stream bis) [
+      | inl same ↦ rw (eq-eqb stream bis same) (below, refl)
+      | inr other ↦ rw (ne_eqb stream bis other) (below, refl)
+    ]
+call_keeps info bis e event calls below =
+    let sent = stream_calls info bis calls in
+    let count : laid_events (lays (laid_with info calls) sent) ≡ laid_with info calls + laid_events sent = lays_events sent (laid_with info calls) in
+    (omega (arith, count, below), lays_keep info sent (laid_with info calls) e below)
+
+pub calls_keep : (info : BigInfo) (bis e : ℕ) (later calls : List Call) → e < laid_events (stream_calls info bis calls)
+    → (e < laid_events (stream_calls info bis (later ++ calls)))
+    × (event_at (unframed_air info (stream_calls info bis (later ++ calls))) e ≡ event_at (unframed_air info (stream_calls info bis calls)) e)
+calls_keep info bis e [] calls below = (below, refl)
+calls_keep info bis e (call ∷ later) calls below =
+    let before = calls_keep info bis e later calls below in
+    let here = call_keeps info bis e call (later ++ calls) before.0 in
+    (here.0, here.1 ∙ before.1)

@@ -1,5 +1,5 @@
 -- The PDU that a stream keeps of an event that was performed.
-use Rattle.std.proofs.Common.{ℕ, ◌≡◌, ◌<◌, ◌≤◌, ◌+◌, ◌-◌, ◌*◌, ◌/◌, ◌%◌, min, Option, Some, None, List, [], length, arith, ◌∙◌, ap, sym, inl, inr}
+use Rattle.std.proofs.Common.{ℕ, ◌≡◌, ◌<◌, ◌≤◌, ◌+◌, ◌-◌, ◌*◌, ◌/◌, ◌%◌, min, Option, Some, None, List, [], ◌++◌, length, arith, ◌∙◌, ap, sym, refl, inl, inr}
 use Rattle.std.proofs.lemmas.List.FromFn.{get_or-map-range_with_len, length-map-range_with_len}
 use Rattle.std.proofs.lemmas.Nat.{div-mul-add, mod-mul-add, mod_below}
 use Rattle.std.proofs.lemmas.Option.{none-some, slice_get-get_or}
@@ -9,13 +9,15 @@ use Rattle.std.specs.List.{slice_get}
 use Rattle.std.specs.Option.{option_and_then}
 use Rattle.big_info.specs.declared.info.BigInfo.{BigInfo}
 use Rattle.big_info.specs.Schedule.{group_count, horizon_of}
-use Rattle.isoal_unframed.specs.Air.{Air, Laid, event_at, pdu_at, unframed_air}
+use Rattle.isoal_unframed.specs.Air.{Air, Laid, event_at, laid_u, pdu_at, unframed_air}
+use Rattle.isoal_unframed.specs.Calls.{events as laid_events}
 use Rattle.radio_schedule.specs.PayloadNumber.{ahead_of, payload_number}
-use Rattle.source_machine.specs.Airs.{airs_of, pdu_of}
+use Rattle.source_machine.specs.Airs.{airs_of, content_at, pdu_of}
+use Rattle.iso_pdu.specs.Spelling.{pdu as spelled}
 use Rattle.source_machine.specs.Calls.{Setup, Call, events, next_of, stream_calls}
 use Rattle.source_machine.specs.Sources.{kept_of, last_laid, pdus_at, pdus_in, stream_of}
 use Rattle.source_machine.specs.Streams.{sent_of}
-use Rattle.source_machine.proofs.Histories.{ahead_laid, air_at, air_length}
+use Rattle.source_machine.proofs.Histories.{ahead_laid, air_at, air_length, calls_keep}
 
 pub event_of_number : (info : BigInfo) (event subevent : ℕ) → 1 ≤ info.bn
     → payload_number info event subevent / info.bn ≡ event + ahead_of info (subevent / info.bn)
@@ -79,3 +81,39 @@ ahead_within info subevent some whole within =
           let steps : info.pto * (g - info.irc + 1) ≤ info.pto * (group_count info - info.irc) = mul-le-mul_left info.pto (omega arith) in
           rw (le-ltb g info.irc later) (omega arith)
     ]
+
+-- the events of the payloads that an event carries are laid with it
+pub carried_is_laid : (setup : Setup) (calls : List Call) (event bis subevent : ℕ) → 1 ≤ setup.info.bn
+    → group_count setup.info * setup.info.bn ≡ setup.info.nse → setup.first ≤ event → event < next_of setup calls → subevent < setup.info.nse
+    → payload_number setup.info (event - setup.first) subevent / setup.info.bn < laid_events (stream_calls setup.info bis calls)
+carried_is_laid setup calls event bis subevent some whole least past within =
+    let info = setup.info in
+    let near : ahead_of info (subevent / info.bn) ≤ horizon_of info = ahead_within info subevent some whole within in
+    let at : payload_number info (event - setup.first) subevent / info.bn ≡ event - setup.first + ahead_of info (subevent / info.bn) =
+    event_of_number info (event - setup.first) subevent some in
+    let all : laid_events (stream_calls info bis calls) ≡ events calls + horizon_of info = ahead_laid info bis calls (omega arith) in
+    omega arith
+
+pub sent_stays : (setup : Setup) (later calls : List Call) (event bis subevent : ℕ) → 1 ≤ setup.info.bn
+    → group_count setup.info * setup.info.bn ≡ setup.info.nse → setup.first ≤ event → event < next_of setup calls
+    → 1 ≤ bis → bis ≤ setup.info.num_bis → subevent < setup.info.nse
+    → pdu_of setup (airs_of setup (later ++ calls)) event bis subevent ≡ pdu_of setup (airs_of setup calls) event bis subevent
+sent_stays setup later calls event bis subevent some whole least past bis_least bis_within within =
+    let info = setup.info in
+    let number : ℕ = payload_number info (event - setup.first) subevent in
+    let kept = calls_keep info bis (number / info.bn) later calls (carried_is_laid setup calls event bis subevent some whole least past within) in
+    ap (option_and_then (λ air. pdu_at info.bn air number)) (air_at setup (later ++ calls) bis bis_least bis_within)
+    ∙ ap (option_and_then (λ laid. slice_get laid.pdus (number % info.bn))) kept.1
+    ∙ sym (ap (option_and_then (λ air. pdu_at info.bn air number)) (air_at setup calls bis bis_least bis_within))
+
+-- the PDU at a payload number, where the payload counter has passed the events before the first one
+pub number_counted : (setup : Setup) (calls : List Call) (event bis subevent : ℕ) → 1 ≤ setup.info.bn → setup.first ≤ event
+    → laid_u setup.info (stream_calls setup.info bis calls) (payload_number setup.info (event - setup.first) subevent)
+    ≡ spelled (content_at setup calls bis (payload_number setup.info event subevent))
+number_counted setup calls event bis subevent some least =
+    let info = setup.info in
+    let counted : payload_number info event subevent / info.bn - setup.first ≡ payload_number info (event - setup.first) subevent / info.bn =
+    omega (arith, event_of_number info event subevent some, event_of_number info (event - setup.first) subevent some) in
+    let place : payload_number info event subevent % info.bn ≡ payload_number info (event - setup.first) subevent % info.bn =
+    place_of_number info event subevent some ∙ sym (place_of_number info (event - setup.first) subevent some) in
+    rw (counted, place) refl

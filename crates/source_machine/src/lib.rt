@@ -5,7 +5,9 @@ mod broadcast;
 mod fault;
 mod laws;
 mod stream;
+#[cfg(test)]
+mod tests;
 
 pub use broadcast::Broadcast;
 pub use fault::{EventFault, GiveFault};
-pub use laws::{air_is_by_division, one_air};
+pub use laws::{air_is_by_division, one_air, what_was_sent_stays};
