@@ -22,8 +22,8 @@ line_of described = record { info = described.info; origin = described.origin; d
 
 -- the source is as the steps leave it
 abbrev pub PhaseIs : List Step → Phase → Type 0
-PhaseIs steps phases.Absent = (group_of steps ≡ None) × (start_of steps ≡ None)
-PhaseIs steps (phases.Described described) = (group_of steps ≡ Some (line_of described)) × (start_of steps ≡ None)
+PhaseIs steps phases.Absent = (group_of steps ≡ None) × (start_of steps ≡ None) × (source_calls steps ≡ [])
+PhaseIs steps (phases.Described described) = (group_of steps ≡ Some (line_of described)) × (start_of steps ≡ None) × (source_calls steps ≡ [])
 PhaseIs steps (phases.Started source) =
     (is_some (group_of steps) ≡ true) × (is_some (start_of steps) ≡ true) × (source.setup ≡ setup_of steps) × SourceStands (source_calls steps) source
 
