@@ -22,7 +22,7 @@ version_is (Some v) = refl
 pub start_passes : (boxes first horizon : ℕ) (steps : List Step) (line : GroupLine) → is_first steps ≡ false → group_of steps ≡ Some line
     → start_of steps ≡ None → horizon ≡ horizon_in (version_of steps) → first_fault horizon line.info ≡ None
     → phase_refusal airs_of boxes steps (Start first) ≡ None
-start_passes boxes first horizon steps line later group start h fault = rw (later, group, start, (← h), fault) refl
+start_passes boxes first horizon steps line later group start h fault = rw (later, group, start, ← h, fault) refl
 
 pub setup_is : (first : ℕ) (steps : List Step) (line : GroupLine) (setup : Setup) → group_of steps ≡ Some line → setup ≡ setup_from line first
     → setup ≡ setup_of (Start first ∷ steps)

@@ -8,3 +8,4 @@ pub mod Replayed
 pub mod Closing
 pub mod Groups
 pub mod Stops
+pub mod Sums

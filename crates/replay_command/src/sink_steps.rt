@@ -1,0 +1,106 @@
+//! The steps that make a sink, put it on the group and end it.
+ghost use Rattle.std.specs.Prelude.{◌≡◌, ◌≤◌, ℕ, List, length, map, false};
+ghost use Rattle.unit_outlets.specs.Account.{Account};
+ghost use Rattle.scenario_text.specs.declared.step.Step.{Step};
+ghost use Rattle.scenario_text.specs.declared.step.Step.TheVariants.{Sink as SinkStep, Tuned as TunedStep, Drop as DropStep};
+ghost use Rattle.scenario_history.specs.Refusals.{is_first, has_beyond};
+ghost use Rattle.replay_command.specs.Machines.{Stands};
+ghost use Rattle.replay_command.specs.Meets.{BoxesStand, Quiet, Tells};
+
+use crate::machine::{Machine, Phase};
+use crate::sink::Sink;
+use crate::stop::Stop;
+use crate::sums::put_sum_at;
+use bcast_base::{Bis, BisSet, Octets};
+use big_info::Group;
+use delegator_machine::Delegator;
+use transcript_text::Refusal;
+use unit_outlets::Outlet;
+
+impl Machine {
+    /// `sink`: a new sink with the next box, of so many.
+    pub(crate) fn sink(&mut self, sink: u8, boxes: usize) -> Result<(), Stop>
+        requires { sink ≤ 7 }
+        ensures { (steps : List Step) (streams slots : ℕ) (mtu : Option ℕ) → Stands steps self.old → is_first steps ≡ false
+            → Quiet boxes steps (SinkStep sink streams slots mtu) self.new result }
+    {
+        let place = usize::from(sink);
+        if self.sinks[place].is_some() {
+            return Err(Stop::Refused(Refusal::SinkTwice));
+        }
+        if self.outlets >= boxes {
+            return Err(Stop::Refused(Refusal::NoOutlet));
+        }
+        self.sinks[place] = Some(Sink {
+            outlet: self.outlets,
+            delegator: Delegator::new(self.alloc),
+        });
+        self.outlets += 1;
+        Ok(())
+    }
+
+    /// `tuned`: puts a sink on the group from the next event on.
+    pub(crate) fn tuned(&mut self, sink: u8, which: BisSet) -> Result<(), Stop>
+        requires { sink ≤ 7 }
+        ensures { (boxes : ℕ) (steps : List Step) → Stands steps self.old → is_first steps ≡ false
+            → Quiet boxes steps (TunedStep sink which) self.new result }
+    {
+        if self.is_stopped {
+            return Err(Stop::Refused(Refusal::Order));
+        }
+        let Phase::Started(source) = &self.phase else {
+            return Err(Stop::Refused(Refusal::Order));
+        };
+        let Some(sink) = &mut self.sinks[usize::from(sink)] else {
+            return Err(Stop::Refused(Refusal::NoSuchSink));
+        };
+        if is_beyond(source.group(), which) {
+            return Err(Stop::Refused(Refusal::NoSuchBis));
+        }
+        let event = source.next_event();
+        let anchor = source.next_anchor();
+        match sink
+            .delegator
+            .tune(source.group(), which, event, anchor, source.delay())
+        {
+            Ok(()) => Ok(()),
+            Err(_) => Err(Stop::Memory),
+        }
+    }
+
+    /// `drop`: prints the sums of a sink's box, and ends the sink.
+    pub(crate) fn drop_sink(
+        &mut self,
+        sink: u8,
+        outlets: &Vec<Box<dyn Outlet>>,
+        text: &mut Octets,
+    ) -> Result<(), Stop>
+        requires { sink ≤ 7 }
+        ensures { (starts : List Account) (steps : List Step) → Stands steps self.old → is_first steps ≡ false
+            → BoxesStand starts steps (map account outlets.now.items) → Tells starts steps (DropStep sink) self.new text.old text.new result }
+    {
+        let Some(entry) = &self.sinks[usize::from(sink)] else {
+            return Err(Stop::Refused(Refusal::NoSuchSink));
+        };
+        match put_sum_at(sink, entry.outlet, outlets, text) {
+            Ok(()) => {}
+            Err(_) => return Err(Stop::Memory),
+        }
+        self.sinks[usize::from(sink)] = None;
+        Ok(())
+    }
+}
+
+/// Whether the set has an index above those of the group.
+fn is_beyond(group: &Group, which: BisSet) -> bool
+    ensures { result ≡ has_beyond group.now.info which }
+{
+    for index in 1..=31u8 {
+        if let Some(bis) = Bis::new(index) {
+            if index > group.info.num_bis && which.has(bis) {
+                return true;
+            }
+        }
+    }
+    false
+}
