@@ -149,3 +149,18 @@ pub between_next_at : (boxes : ℕ → Option ℕ) (calls : ℕ → List Call) (
 between_next_at boxes calls event number at sinks entry gathered next text told told2 before mid after same eight within b s =
     let P : ℕ → Type 0 = λ i. Between boxes calls event (number + 1) (slice_set sinks i entry) next text told2 before after in
     subst P (sym same) (between_next boxes calls event number sinks entry gathered next text told told2 before mid after eight within b s)
+
+-- the entry of a number among all
+pub entry_of : (boxes : ℕ → Option ℕ) (calls : ℕ → List Call) (n at : ℕ) (sinks : List (Option Sink)) (d : Option Sink)
+    → at ≡ n → length sinks ≡ most_sinks → n < most_sinks → EntriesAre boxes calls sinks → EntryIs (boxes n) (calls n) (Some (get_or sinks at d))
+entry_of boxes calls n at sinks d same eight below are =
+    let inside : at < length sinks = omega arith in
+    let Q : Option (Option Sink) → Type 0 = λ o. EntryIs (boxes n) (calls n) o in
+    let here : slice_get sinks n ≡ slice_get sinks at = ap (slice_get sinks) (sym same) in
+    subst Q (here ∙ slice_get-get_or sinks at d inside) (are n below)
+
+pub entry_read : (boxes : ℕ → Option ℕ) (calls : ℕ → List Call) (n at : ℕ) (sinks : List (Option Sink)) (entry : Option Sink)
+    → at ≡ n → length sinks ≡ most_sinks → n < most_sinks → entry ≡ get_or sinks at entry → EntriesAre boxes calls sinks → EntryIs (boxes n) (calls n) (Some entry)
+entry_read boxes calls n at sinks entry same eight below is are =
+    let Q : Option Sink → Type 0 = λ e. EntryIs (boxes n) (calls n) (Some e) in
+    subst Q (sym is) (entry_of boxes calls n at sinks entry same eight below are)

@@ -9,3 +9,4 @@ pub mod Closing
 pub mod Groups
 pub mod Stops
 pub mod Sums
+pub mod Beyond

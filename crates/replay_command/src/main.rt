@@ -1,7 +1,6 @@
 //! The program `replay`: reads a scenario, runs it line by line and writes its transcript.
 #![tactic(auto)]
 
-mod air_steps;
 mod close;
 mod described;
 mod gathered;

@@ -1,9 +1,10 @@
 //! The steps that make a sink, put it on the group and end it.
-ghost use Rattle.std.specs.Prelude.{◌≡◌, ◌≤◌, ℕ, List, length, map, false};
+ghost use Rattle.std.specs.Prelude.{◌≡◌, ◌≤◌, ◌<◌, ◌+◌, ℕ, List, Option, map, false};
 ghost use Rattle.unit_outlets.specs.Account.{Account};
 ghost use Rattle.scenario_text.specs.declared.step.Step.{Step};
 ghost use Rattle.scenario_text.specs.declared.step.Step.TheVariants.{Sink as SinkStep, Tuned as TunedStep, Drop as DropStep};
 ghost use Rattle.scenario_history.specs.Refusals.{is_first, has_beyond};
+ghost use Rattle.replay_command.specs.Beyond.{beyond_at};
 ghost use Rattle.replay_command.specs.Machines.{Stands};
 ghost use Rattle.replay_command.specs.Meets.{BoxesStand, Quiet, Tells};
 
@@ -12,7 +13,6 @@ use crate::sink::Sink;
 use crate::stop::Stop;
 use crate::sums::put_sum_at;
 use bcast_base::{Bis, BisSet, Octets};
-use big_info::Group;
 use delegator_machine::Delegator;
 use transcript_text::Refusal;
 use unit_outlets::Outlet;
@@ -54,7 +54,7 @@ impl Machine {
         let Some(sink) = &mut self.sinks[usize::from(sink)] else {
             return Err(Stop::Refused(Refusal::NoSuchSink));
         };
-        if is_beyond(source.group(), which) {
+        if is_beyond(source.group().info.num_bis, which) {
             return Err(Stop::Refused(Refusal::NoSuchBis));
         }
         let event = source.next_event();
@@ -91,15 +91,24 @@ impl Machine {
     }
 }
 
-/// Whether the set has an index above those of the group.
-fn is_beyond(group: &Group, which: BisSet) -> bool
-    ensures { result ≡ has_beyond group.now.info which }
+/// Whether the index after this place, from 0, is in the set and above those of the group.
+fn is_beyond_at(num_bis: u8, which: BisSet, place: u8) -> bool
+    requires { place < 31 }
+    ensures { result ≡ beyond_at num_bis which (place + 1) }
 {
-    for index in 1..=31u8 {
-        if let Some(bis) = Bis::new(index) {
-            if index > group.info.num_bis && which.has(bis) {
-                return true;
-            }
+    match Bis::new(place + 1) {
+        Some(bis) => which.has(bis) && place + 1 > num_bis,
+        None => false,
+    }
+}
+
+/// Whether the set has an index above those of the group.
+fn is_beyond(num_bis: u8, which: BisSet) -> bool
+    ensures { result ≡ has_beyond num_bis which }
+{
+    'places: for place in 0..31u8 {
+        if is_beyond_at(num_bis, which, place) {
+            return true;
         }
     }
     false

@@ -83,9 +83,9 @@ abbrev pub counter_ends : Option EventFault → Option Refusal
 counter_ends None = None
 counter_ends (Some fault) = Some CounterEnds
 
--- an index is above those of the group
-abbrev pub has_beyond : BigInfo → ℕ → Bool
-has_beyond info which = list_any (λ bis. nat_lt info.num_bis bis) (streams_of which)
+-- an index of the set is above those of a group with so many streams
+unfoldable pub has_beyond : ℕ → ℕ → Bool
+has_beyond num_bis which = list_any (λ bis. nat_lt num_bis bis) (streams_of which)
 
 -- what is refused of a step that stands in the right phase, where there are so many boxes
 abbrev pub own_refusal : Airs → ℕ → List Step → Step → Option Refusal
@@ -97,7 +97,7 @@ own_refusal airs boxes steps (Sink sink streams slots mtu) =
     option_or (refuse_if (is_some (box_of sink steps)) SinkTwice) (refuse_if (nat_le boxes (sinks_made steps)) NoOutlet)
 own_refusal airs boxes steps (Drop sink) = no_sink sink steps
 own_refusal airs boxes steps (Tuned sink which) =
-    option_or (no_sink sink steps) (refuse_if (has_beyond (setup_of steps).info which) NoSuchBis)
+    option_or (no_sink sink steps) (refuse_if (has_beyond (setup_of steps).info.num_bis which) NoSuchBis)
 own_refusal airs boxes steps (Unit bis time octets) =
     option_map give_refusal (give_fault (setup_of steps) (source_calls steps) (airs (setup_of steps) (source_calls steps)) bis time octets)
 own_refusal airs boxes steps Event = counter_ends (event_fault (setup_of steps) (source_calls steps))
