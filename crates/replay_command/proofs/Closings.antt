@@ -88,13 +88,13 @@ between_next boxes calls event number sinks entry gathered next text told told2 
     let inside : number < length sinks = omega arith in
     let h = hands_then (closings event boxes calls (range_with_len 0 number)) (closing_by event number (calls number) (boxes number)) text told told2 before mid after (Ok tt) b.lines b.boxes_are s.hands in
     record {
-      done = λ n below. entry_after boxes calls event number sinks entry n inside s.ticked.entry_is b.done below (nat_same n number);
+      done = λ n below. entry_after boxes calls event number sinks entry n inside s.is_ticked.entry_is b.done below (nat_same n number);
       left = λ n least below.
           let other : n ≢ number = λ e. omega arith in
           let Q : Option (Option Sink) → Type 0 = λ o. EntryIs (boxes n) (calls n) o in
           let more : number ≤ n = omega arith in
           subst Q (sym (get_set_other sinks number n entry other)) (b.left n more below);
-      empty = s.ticked.empty;
+      empty = s.is_ticked.empty;
       lines = h.0 ∙ ap (λ units. text ++ unit_lines units) (sym (closings_more event boxes calls number));
       boxes_are = h.1 ∙ ap (accounts_after before) (sym (closings_more event boxes calls number));
     }
@@ -113,7 +113,7 @@ between_ends boxes calls event number k sinks sinks2 entry gathered next text to
       hands = subst P (sym (closings_split event boxes calls (number + 1) k all ∙ ap (λ units. units ++ rest) (closings_more event boxes calls number)))
           (hands_stop (front ++ here) rest text told2 before after stop
           (hands_then front here text told told2 before mid after (Err stop) b.lines b.boxes_are s.hands));
-      ticked = tt;
+      is_ticked = tt;
     }
 
 pub between_over : (boxes : ℕ → Option ℕ) (calls : ℕ → List Call) (event number : ℕ) (sinks : List (Option Sink)) (gathered : Gathered)
@@ -125,7 +125,7 @@ between_over boxes calls event number sinks gathered text told before after all 
     let e = closings_split event boxes calls number 0 zero_more ∙ append-nil (closings event boxes calls (range_with_len 0 number)) in
     record {
       hands = (b.lines ∙ ap (λ units. text ++ unit_lines units) (sym e), b.boxes_are ∙ ap (accounts_after before) (sym e));
-      ticked = record {
+      is_ticked = record {
         entries = λ n below. let less : n < number = omega arith in b.done n less;
         empty = b.empty;
       };

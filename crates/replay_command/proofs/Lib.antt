@@ -3,3 +3,7 @@ pub mod Closings
 pub mod Starts
 pub mod SumLaws
 pub mod Beyonds
+pub mod OneSink
+pub mod Tunings
+pub mod SinkSteps
+pub mod CloseSteps

@@ -10,3 +10,4 @@ pub mod Groups
 pub mod Stops
 pub mod Sums
 pub mod Beyond
+pub mod Tuning

@@ -2,6 +2,7 @@
 #![tactic(auto)]
 
 mod close;
+mod close_steps;
 mod described;
 mod gathered;
 mod hand;

@@ -1,11 +1,13 @@
 //! The steps that make a sink, put it on the group and end it.
-ghost use Rattle.std.specs.Prelude.{◌≡◌, ◌≤◌, ◌<◌, ◌+◌, ℕ, List, Option, map, false};
+ghost use Rattle.std.specs.Prelude.{◌≡◌, ◌≤◌, ◌<◌, ◌+◌, ℕ, List, Option, Some, map, false};
 ghost use Rattle.unit_outlets.specs.Account.{Account};
 ghost use Rattle.scenario_text.specs.declared.step.Step.{Step};
 ghost use Rattle.scenario_text.specs.declared.step.Step.TheVariants.{Sink as SinkStep, Tuned as TunedStep, Drop as DropStep};
 ghost use Rattle.scenario_history.specs.Refusals.{is_first, has_beyond};
 ghost use Rattle.replay_command.specs.Beyond.{beyond_at};
-ghost use Rattle.replay_command.specs.Machines.{Stands};
+ghost use Rattle.delegator_machine.specs.Calls.{Call};
+ghost use Rattle.replay_command.specs.Machines.{EntryIs, Stands};
+ghost use Rattle.replay_command.specs.Tuning.{IsStarted, Tunes, TunesSink};
 ghost use Rattle.replay_command.specs.Meets.{BoxesStand, Quiet, Tells};
 
 use crate::machine::{Machine, Phase};
@@ -14,6 +16,7 @@ use crate::stop::Stop;
 use crate::sums::put_sum_at;
 use bcast_base::{Bis, BisSet, Octets};
 use delegator_machine::Delegator;
+use source_machine::Broadcast;
 use transcript_text::Refusal;
 use unit_outlets::Outlet;
 
@@ -51,21 +54,7 @@ impl Machine {
         let Phase::Started(source) = &self.phase else {
             return Err(Stop::Refused(Refusal::Order));
         };
-        let Some(sink) = &mut self.sinks[usize::from(sink)] else {
-            return Err(Stop::Refused(Refusal::NoSuchSink));
-        };
-        if is_beyond(source.group().info.num_bis, which) {
-            return Err(Stop::Refused(Refusal::NoSuchBis));
-        }
-        let event = source.next_event();
-        let anchor = source.next_anchor();
-        match sink
-            .delegator
-            .tune(source.group(), which, event, anchor, source.delay())
-        {
-            Ok(()) => Ok(()),
-            Err(_) => Err(Stop::Memory),
-        }
+        tune_entry(&mut self.sinks[usize::from(sink)], source, which)
     }
 
     /// `drop`: prints the sums of a sink's box, and ends the sink.
@@ -88,6 +77,36 @@ impl Machine {
         }
         self.sinks[usize::from(sink)] = None;
         Ok(())
+    }
+}
+
+/// Puts the sink of an entry on the group, from the next event on.
+fn tune_entry(entry: &mut Option<Sink>, source: &Broadcast, which: BisSet) -> Result<(), Stop>
+    ensures { (steps : List Step) (box : Option ℕ) (calls : List Call) → IsStarted steps source.now → EntryIs box calls (Some entry.old)
+        → Tunes steps which box calls entry.new result }
+{
+    match entry {
+        Some(sink) => tune_sink(&mut sink.delegator, source, which),
+        None => Err(Stop::Refused(Refusal::NoSuchSink)),
+    }
+}
+
+/// Puts a sink on these streams of the group, from the next event on.
+fn tune_sink(
+    delegator: &mut Delegator,
+    source: &Broadcast,
+    which: BisSet,
+) -> Result<(), Stop>
+    ensures { (steps : List Step) (calls : List Call) → IsStarted steps source.now → TunesSink steps which calls delegator.new result }
+{
+    if is_beyond(source.group().info.num_bis, which) {
+        return Err(Stop::Refused(Refusal::NoSuchBis));
+    }
+    let event = source.next_event();
+    let anchor = source.next_anchor();
+    match delegator.tune(source.group(), which, event, anchor, source.delay()) {
+        Ok(()) => Ok(()),
+        Err(_) => Err(Stop::Memory),
     }
 }
 
