@@ -7,3 +7,6 @@ pub mod OneSink
 pub mod Tunings
 pub mod SinkSteps
 pub mod CloseSteps
+pub mod Airing
+pub mod StepLaws
+pub mod LineLaws

@@ -11,3 +11,4 @@ pub mod Stops
 pub mod Sums
 pub mod Beyond
 pub mod Tuning
+pub mod Airing

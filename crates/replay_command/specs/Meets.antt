@@ -6,7 +6,7 @@ use Rattle.scenario_text.specs.declared.step.Step.{Step}
 use Rattle.scenario_history.specs.Steps.{sinks_made}
 use Rattle.scenario_history.specs.Boxes.{accounts_after, handed_up, handed_by}
 use Rattle.scenario_history.specs.Output.{output_of}
-use Rattle.scenario_history.specs.Refusals.{phase_refusal}
+use Rattle.scenario_history.specs.Refusals.{phase_refusal, refusal_of}
 use Rattle.replay_command.specs.declared.machine.Machine.{Machine}
 use Rattle.replay_command.specs.declared.stop.Stop.{Stop}
 use Rattle.replay_command.specs.declared.stop.Stop.TheVariants.{Refused, OutletFault, Memory}
@@ -45,3 +45,15 @@ Meets starts steps next new text told before after (Err OutletFault) =
     (phase_refusal airs_of (length starts) steps next ≡ None) × BoxFails (handed_by airs_of steps next) text told before after
 Meets starts steps next new text told before after (Err Memory) =
     (after ≡ before) ⊎ ((phase_refusal airs_of (length starts) steps next ≡ None) × CutShort (handed_by airs_of steps next) before after)
+
+-- a step, with the refusal of one that follows `end` beside the others
+abbrev pub StepMeets : List Account → List Step → Step → Machine → List ℕ → List ℕ → List Account → List Account → Result (Unit {0}) Stop → Type 0
+StepMeets starts steps next new text told before after (Ok _) =
+    (refusal_of airs_of (length starts) steps next ≡ None) × Stands (next ∷ steps) new
+    × (told ≡ text ++ output_of airs_of starts steps next) × (after ≡ accounts_after before (handed_by airs_of steps next))
+StepMeets starts steps next new text told before after (Err (Refused reason)) =
+    (refusal_of airs_of (length starts) steps next ≡ Some reason) × (told ≡ text) × (after ≡ before)
+StepMeets starts steps next new text told before after (Err OutletFault) =
+    (refusal_of airs_of (length starts) steps next ≡ None) × BoxFails (handed_by airs_of steps next) text told before after
+StepMeets starts steps next new text told before after (Err Memory) =
+    (after ≡ before) ⊎ ((refusal_of airs_of (length starts) steps next ≡ None) × CutShort (handed_by airs_of steps next) before after)

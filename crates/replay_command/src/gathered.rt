@@ -24,7 +24,10 @@ pub struct Gathered {
 impl Gathered {
     ghost use Rattle.replay_command.specs.Gathering.{counts_of};
 
-    pub(crate) fn new(alloc: Global) -> Gathered {
+    /// Nothing gathered yet. It takes no memory.
+    pub(crate) fn new(alloc: Global) -> Gathered
+        ensures { result.units.items ≡ [] }
+    {
         Gathered {
             alloc,
             units: Vec::new(alloc),

@@ -6,7 +6,7 @@ ghost use Rattle.scenario_text.specs.declared.step.Step.{Step as Said};
 ghost use Rattle.scenario_history.specs.Steps.{is_over};
 ghost use Rattle.scenario_history.specs.Refusals.{is_first};
 ghost use Rattle.replay_command.specs.Machines.{Stands};
-ghost use Rattle.replay_command.specs.Meets.{BoxesStand, Meets};
+ghost use Rattle.replay_command.specs.Meets.{BoxesStand, Meets, StepMeets};
 
 use crate::air_steps::Place;
 use crate::machine::Machine;

@@ -1,0 +1,12 @@
+use Rattle.std.proofs.Common.{ℕ, Option, unwrap_or, ◌∙◌, ap}
+use Rattle.scenario_history.specs.Lines.{steps_of}
+use Rattle.replay_command.specs.Versions.{number_of}
+use Rattle.replay_command.proofs.Starts.{version_is}
+use Rattle.replay_command.proofs.LineLaws.{line_meets}
+use Rattle.replay_command.proofs.machine.Machine.line.Goals as goal
+
+pub returns-in-Ok-Some : goal.returns-in-Ok-Some
+returns-in-Ok-Some g c starts lines stand =
+    let version = c.number-version.ensures ∙ ap number_of c.unwrap_or.ensures ∙ version_is c.args.self.now.version ∙ ap (λ (o : Option ℕ). unwrap_or o 1) stand.stands.version in
+    line_meets starts lines c.args.line.now c.number-version.result c.in-Ok-Some.step c.step.new.self c.args.text.now c.step.new.text _ _ c.step.result stand.boxes version
+        ? (c.step.ensures starts (steps_of lines) stand.stands stand.boxes)
