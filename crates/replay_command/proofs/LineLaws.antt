@@ -93,13 +93,13 @@ pub line_meets : (starts : List Account) (lines : List TextLine) (line : List �
 line_meets starts lines line version made new text told before after r boxes is reads m =
     said_meets starts lines (plain line) made new text told before after r boxes (ap (λ v. said_by (read_of v line)) (sym is) ∙ ap said_by reads) m
 
-get_replicate : (n k : ℕ) → n < k → slice_get (replicate k (None {T = Sink})) n ≡ Some None
-get_replicate n zero below = absurd (omega arith)
-get_replicate zero (suc k) below = refl
-get_replicate (suc n) (suc k) below = get_replicate n k (omega arith)
+get_replicate : (x : Option Sink) (n k : ℕ) → n < k → slice_get (replicate k x) n ≡ Some x
+get_replicate x n zero below = absurd (omega arith)
+get_replicate x zero (suc k) below = refl
+get_replicate x (suc n) (suc k) below = get_replicate x n k (omega arith)
 
 pub none_made : (sinks : List (Option Sink)) (n k : ℕ) → sinks ≡ replicate k None → n < k → slice_get sinks n ≡ Some None
-none_made sinks n k is below = ap (λ s. slice_get s n) is ∙ get_replicate n k below
+none_made sinks n k is below = ap (λ s. slice_get s n) is ∙ get_replicate None n k below
 
 pub nothing_handed : (starts : List Account) → BoxesStand starts [] starts
 nothing_handed starts = record { accounts_are = refl; room = omega arith }
