@@ -5,3 +5,5 @@ pub mod Handing
 pub mod Meets
 pub mod LineMeets
 pub mod Replayed
+pub mod Ended
+pub mod Between
