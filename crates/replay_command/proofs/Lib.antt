@@ -4,3 +4,4 @@ pub mod RefusalLaws
 pub mod Endings
 pub mod LineEndings
 pub mod LineSteps
+pub mod Completing

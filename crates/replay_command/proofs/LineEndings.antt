@@ -92,7 +92,7 @@ brings_units starts history line done rest accepted none split later =
 -- ---- what the boxes took
 
 -- the units of an accepted line come behind those of the history
-units_line : (starts : List Account) (history : List TextLine) (line : TextLine) (later : List TextLine)
+pub units_line : (starts : List Account) (history : List TextLine) (line : TextLine) (later : List TextLine)
     → Accepted (rules_of airs_of starts) history → refusal_at starts history line ≡ None
     → (rest : List SinkUnit) × (units_of airs_of starts (reverse history ++ line ∷ later) ≡ handed_up airs_of (steps_of history) ++ (handed_on airs_of history line ++ rest))
 units_line starts history line later accepted none =

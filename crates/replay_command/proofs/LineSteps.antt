@@ -19,7 +19,8 @@ use Rattle.replay_command.specs.LineMeets.{LinesStand, LineMeets}
 use Rattle.replay_command.specs.Replayed.{Comes, ReadsAhead, Broken}
 use Rattle.replay_command.specs.Ended.{Ended}
 use Rattle.replay_command.specs.Between.{ReadTo, TextIs, NextIs, RunTo, Refuses, Puts, StepRuns, LineRuns}
-use Rattle.replay_command.proofs.ReadingOn.{comes_of, ahead_of}
+use Rattle.bcast_io.proofs.Transfers.{Appends-nothing}
+use Rattle.replay_command.proofs.ReadingOn.{read_none, comes_of, ahead_of}
 use Rattle.replay_command.proofs.LineEndings.{ends_refusal, step_put, outlet_put, step_memory}
 
 -- ---- a step
@@ -109,3 +110,39 @@ pub step_line : (starts : List Account) (history : List TextLine) (line : TextLi
     → LineRuns starts history left left' kept kept' reader machine accounts result
 step_line starts history line left left' kept kept' reader machine accounts None r s = (line, r, s)
 step_line starts history line left left' kept kept' reader machine accounts (Some status) r s = s
+
+-- ---- the loop
+
+-- the lines so far were read and run
+pub record Running (starts accounts : List Account) (left left' kept kept' : Option (List ℕ)) (number : ℕ) (reader : Reading) (machine : Machine) : Type 0 where
+  pub lines : List TextLine
+  pub is_next : number ≡ length lines + 1
+  pub read : ReadTo left left' lines reader
+  pub run : RunTo starts lines kept kept' machine accounts
+
+pub running_none : (starts : List Account) (left kept : Option (List ℕ)) (reader : Reading) (machine : Machine)
+    → reader ≡ record { ahead = []; part = []; taken = 0; over = false; line = None } → ((start : List Account) → LinesStand start [] machine start)
+    → Running starts starts left left kept kept 1 reader machine
+running_none starts left kept reader machine new stands = record {
+  lines = [];
+  is_next = omega arith;
+  read = read_none left reader new;
+  run = record { accepted = tt; written = Appends-nothing kept; stands = stands starts };
+}
+
+pub running_more : (starts before after : List Account) (left mid left' kept put kept' : Option (List ℕ)) (number next : ℕ) (old new : Reading) (machine machine' : Machine) (result : Option Status)
+    → Running starts before left mid kept put number old machine → next ≡ number + 1 → result ≡ None
+    → ((lines : List TextLine) → number ≡ length lines + 1 → ReadTo left mid lines old → RunTo starts lines kept put machine before → LineRuns starts lines left left' kept kept' new machine' after result)
+    → Running starts after left left' kept kept' next new machine'
+running_more starts before after left mid left' kept put kept' number next old new machine machine' result r is none runs =
+    let P : Option Status → Type 0 = λ x. LineRuns starts r.lines left left' kept kept' new machine' after x in
+    let m = subst P none (runs r.lines r.is_next r.read r.run) in
+    record { lines = m.0 ∷ r.lines; is_next = omega (arith, r.is_next); read = m.1; run = m.2 }
+
+pub running_ends : (starts before after : List Account) (left mid left' kept put kept' : Option (List ℕ)) (number : ℕ) (old new : Reading) (machine machine' : Machine) (result : Option Status) (status : Status)
+    → Running starts before left mid kept put number old machine → result ≡ Some status
+    → ((lines : List TextLine) → number ≡ length lines + 1 → ReadTo left mid lines old → RunTo starts lines kept put machine before → LineRuns starts lines left left' kept kept' new machine' after result)
+    → Ended status starts after left left' kept kept'
+running_ends starts before after left mid left' kept put kept' number old new machine machine' result status r some runs =
+    let P : Option Status → Type 0 = λ x. LineRuns starts r.lines left left' kept kept' new machine' after x in
+    subst P some (runs r.lines r.is_next r.read r.run)
