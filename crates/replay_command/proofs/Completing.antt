@@ -122,17 +122,17 @@ failure text starts ends left' kept kept' o =
     let mid = map_some (λ account. with_units account (valid_for place f.done)) (slice_get o.accounts place) f.box.before (sym (took_all o.accounts f.done place) ∙ f.box.here) in
     let start = map_some (λ account. with_units account (valid_for place us)) (slice_get starts place) mid.0 (sym (o.before place) ∙ mid.1) in
     let same : with_units (with_units start.0 (valid_for place us)) (valid_for place f.done) ≡ f.box.before =
-        ap (λ account. with_units account (valid_for place f.done)) start.2 ∙ mid.2 in
+    ap (λ account. with_units account (valid_for place f.done)) start.2 ∙ mid.2 in
     let r = rest_of text left' o.comes.text o.comes.over o.comes.read in
     let at = o.comes.lines true r.0 r.2 in
     let more = units_line starts o.earlier o.line at.0 o.accepted.0 o.accepted.1 in
     let all : units_of airs_of starts (lines_of true text) ≡ us ++ (f.done ++ (f.unit ∷ (f.rest ++ more.0))) =
-        ap (λ t. units_of airs_of starts (lines_of true t)) r.1
-        ∙ ap (units_of airs_of starts) at.1
-        ∙ more.1
-        ∙ ap (λ front. front ++ (handed_on airs_of o.earlier o.line ++ more.0)) (sym (units_all starts o.earlier o.accepted.0))
-        ∙ ap (λ units. us ++ (units ++ more.0)) f.split
-        ∙ ap (λ units. us ++ units) (append_assoc f.done (f.unit ∷ f.rest) more.0) in
+    ap (λ t. units_of airs_of starts (lines_of true t)) r.1
+    ∙ ap (units_of airs_of starts) at.1
+    ∙ more.1
+    ∙ ap (λ front. front ++ (handed_on airs_of o.earlier o.line ++ more.0)) (sym (units_all starts o.earlier o.accepted.0))
+    ∙ ap (λ units. us ++ (units ++ more.0)) f.split
+    ∙ ap (λ units. us ++ units) (append_assoc f.done (f.unit ∷ f.rest) more.0) in
     let taken : List (List ℕ) = valid_for place us ++ valid_for place f.done in
     record {
       place = place;
@@ -192,7 +192,7 @@ module _ (text : List ℕ) (starts ends : List Account) (left' kept kept' : Opti
   room_at : (status : Status) → Ended status starts ends (Some text) left' kept kept' → RoomForText starts text → status ≢ statuses.OutletFault
   room_at status e room is =
       no_room starts ends (units_of airs_of starts (lines_of true text))
-        (failure text starts ends left' kept kept' (ended_at status statuses.OutletFault starts ends (Some text) left' kept kept' e is)) room
+      (failure text starts ends left' kept kept' (ended_at status statuses.OutletFault starts ends (Some text) left' kept kept' e is)) room
 
   no_fault_at : (status : Status) → Ended status starts ends (Some text) left' kept kept'
       → (status ≡ statuses.ReadFault → OutsideRose read read') → (status ≡ statuses.WriteFault → OutsideRose write write')

@@ -107,7 +107,7 @@ module _ (starts : List Account) (history : List TextLine) (accepted : Accepted 
 -- ---- the units of further lines
 
 handed_with : (steps : List Step) (said : Said) → handed_up airs_of (with_said said steps) ≡ handed_up airs_of steps ++ handed_said airs_of steps said
-handed_with steps (a_step step) = refl
+handed_with steps (a_step next) = refl
 handed_with steps nothing = sym (append-nil (handed_up airs_of steps))
 handed_with steps (unsaid reason) = sym (append-nil (handed_up airs_of steps))
 

@@ -1,7 +1,7 @@
 -- What the loop of `replay` does at a line, put together.
 use Rattle.std.proofs.Common.{◌≡◌, ◌≢◌, ℕ, ◌+◌, ◌<◌, ◌≤◌, Bool, true, false, List, [], ◌∷◌, ◌++◌, length, refl, sym, ap, subst, ◌∙◌, arith, Option, None, Some, Result, Ok, Err, inl, inr}
-use Rattle.bcast_io.specs.TextLines.{TextLine, plain, too_long, past}
-use Rattle.bcast_io.specs.Reading.{Reading}
+use Rattle.bcast_io.specs.TextLines.{TextLine, plain, too_long, past, text_limit}
+use Rattle.bcast_io.specs.Reading.{Reading, lines_left}
 use Rattle.bcast_io.specs.declared.line_reader.LineRead.{LineRead}
 use Rattle.bcast_io.specs.declared.line_reader.LineRead.TheVariants.{Line, LineTooLong, TextTooLong, End}
 use Rattle.bcast_io.specs.declared.source.Failed.{Failed}
@@ -129,6 +129,9 @@ running_none starts left kept reader machine new stands = record {
   read = read_none left reader new;
   run = record { accepted = tt; written = Appends-nothing kept; stands = stands starts };
 }
+
+pub bound_none : (reader : Reading) → reader ≡ record { ahead = []; part = []; taken = 0; over = false; line = None } → 1 + lines_left reader ≤ text_limit + 2
+bound_none reader new = let P : Reading → Type 0 = λ r. 1 + lines_left r ≤ text_limit + 2 in subst P (sym new) (omega arith)
 
 pub running_more : (starts before after : List Account) (left mid left' kept put kept' : Option (List ℕ)) (number next : ℕ) (old new : Reading) (machine machine' : Machine) (result : Option Status)
     → Running starts before left mid kept put number old machine → next ≡ number + 1 → result ≡ None
