@@ -9,6 +9,8 @@ mod replay;
 mod sink;
 mod status;
 mod stop;
+#[cfg(test)]
+mod tests;
 mod version;
 mod words;
 

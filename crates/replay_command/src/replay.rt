@@ -28,7 +28,12 @@ use transcript_text::{Refusal, put_refusal};
 use unit_outlets::Outlet;
 
 /// Runs the scenario that the source gives, a step a line, and writes its transcript to the sink. Each `sink` line
-/// takes the next box. The lines of a step are written before the next line is read.
+/// takes the next box of the list. The lines of a step are written before the next line is read.
+///
+/// `Done` comes where the text was read to its end and no line is refused. `Refused` has the line, from 1, and the reason;
+/// the line of the refusal was written, and nothing behind it was run. `Usage` comes for any word. `ReadFault`,
+/// `WriteFault` and `OutletFault` come only where the count of the source, of the sink or of a box rose. After `Memory` a
+/// front of the transcript was written.
 pub fn replay<S: ByteSource, K: ByteSink>(
     alloc: Global,
     words: &Words,
