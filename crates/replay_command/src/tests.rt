@@ -13,6 +13,7 @@ use bcast_io::{
 };
 use rows::{ROWS, Row};
 use std::alloc::Global;
+use std::process::Abort;
 use std::test::*;
 use transcript_text::Refusal;
 use unit_outlets::{FailingTally, Outlet, Tally};
