@@ -1,8 +1,8 @@
 -- One call after another, on what a source has left and what a sink took.
-use Rattle.std.proofs.Common.{ℕ, ◌+◌, List, [], ◌++◌, Option, None, Some, take, drop, refl, sym, ap, subst, ◌∙◌, append_assoc, append-nil, take-append-drop}
+use Rattle.std.proofs.Common.{ℕ, ◌+◌, ◌<◌, List, [], ◌++◌, Option, None, Some, length, take, drop, refl, sym, ap, subst, ◌∙◌, append_assoc, append-nil, take-append-drop, length-drop, arith}
 use Rattle.std.proofs.Math.Seq.{take-add}
 use Rattle.std.specs.Io.KnownBytes.{Appends, Consumes, Keeps}
-use Rattle.bcast_io.specs.Writing.{AppendsFront}
+use Rattle.bcast_io.specs.Writing.{AppendsFront, AppendsShort}
 
 -- nothing was taken, and nothing written
 pub Consumes-nothing : (a : Option (List ℕ)) → Consumes a a []
@@ -70,6 +70,11 @@ AppendsFront-of_more a b xs ys p = record {
 -- a front of a list, cut at a number
 pub AppendsFront-cut : (a b : Option (List ℕ)) (n : ℕ) (xs : List ℕ) → Appends a b (take n xs) → AppendsFront a b xs
 AppendsFront-cut a b n xs p = record { front = take n xs; rest = drop n xs; whole = sym (take-append-drop n xs); appended = p }
+
+-- a list, cut before its end
+pub AppendsShort-cut : (a b : Option (List ℕ)) (n : ℕ) (xs : List ℕ) → n < length xs → Appends a b (take n xs) → AppendsShort a b xs
+AppendsShort-cut a b n xs some p =
+    record { front = take n xs; rest = drop n xs; whole = sym (take-append-drop n xs); appended = p; some = omega (arith, length-drop n xs) }
 
 -- a front of a list was written, and then a front of the rest
 pub Appends-more : (a b c : Option (List ℕ)) (n k : ℕ) (xs : List ℕ) → Appends a b (take n xs) → Appends b c (take k (drop n xs)) → Appends a c (take (n + k) xs)

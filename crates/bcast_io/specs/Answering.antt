@@ -34,6 +34,13 @@ GoesOn LineTooLong old new = lines_left new < lines_left old
 GoesOn TextTooLong old new = Unit {0}
 GoesOn End old new = Unit {0}
 
+-- an answer that is a line begins the next one anew
+abbrev pub Anew : LineRead → Reading → Type 0
+Anew Line new = new.part ≡ []
+Anew LineTooLong new = new.part ≡ []
+Anew TextTooLong new = Unit {0}
+Anew End new = Unit {0}
+
 -- what was answered of the octets ahead and those that a call took from its source
 abbrev pub Answers : LineRead → Reading → Reading → Option (List ℕ) → Option (List ℕ) → Type 0
 Answers Line old new left left' = (octets : List ℕ) × (new.line ≡ Some octets) × Took old new left left' (plain octets ∷ [])

@@ -1,5 +1,5 @@
 -- A write that was cut short.
-use Rattle.std.specs.Prelude.{ℕ, ◌≡◌, List, ◌++◌, Option}
+use Rattle.std.specs.Prelude.{ℕ, ◌≡◌, ◌<◌, List, ◌++◌, length, Option}
 use Rattle.std.specs.Io.KnownBytes.{Appends}
 
 -- known octets grew by a front of these
@@ -8,3 +8,11 @@ pub record AppendsFront (old new : Option (List ℕ)) (from : List ℕ) : Type 0
   pub rest : List ℕ
   pub whole : from ≡ front ++ rest
   pub appended : Appends old new front
+
+-- known octets grew by a front of these, and octets of them are left
+pub record AppendsShort (old new : Option (List ℕ)) (from : List ℕ) : Type 0 where
+  pub front : List ℕ
+  pub rest : List ℕ
+  pub whole : from ≡ front ++ rest
+  pub appended : Appends old new front
+  pub some : 0 < length rest

@@ -3,7 +3,7 @@ ghost use Rattle.std.specs.Io.KnownBytes.{IsAtEnd};
 ghost use Rattle.bcast_io.specs.Faults.{Rose};
 ghost use Rattle.bcast_io.specs.TextLines.{NoNewline, line_of, line_limit, newline, text_limit};
 ghost use Rattle.bcast_io.specs.Reading.{IsSound, IsReady, IsPast, Reads, Took, BreaksOff};
-ghost use Rattle.bcast_io.specs.Answering.{Names, Finds, Ends, GoesOn, Answers};
+ghost use Rattle.bcast_io.specs.Answering.{Names, Finds, Ends, GoesOn, Anew, Answers};
 
 use crate::line_buffer::LineBuffer;
 use crate::read_ahead::ReadAhead;
@@ -155,6 +155,7 @@ impl LineReader {
         requires end { slice_index self.old.ahead at ≡ newline }
         requires before { NoNewline (take at self.old.ahead) }
         ensures found { Finds result self.old self.new }
+        ensures anew { Anew result self.new }
         ensures over { self.new.over ≡ false }
         ensures sound { IsSound self.new }
     {
@@ -167,6 +168,7 @@ impl LineReader {
     fn line_ahead(&mut self) -> Option<LineRead>
         requires { self.old.over ≡ false }
         ensures found { IfSome result (λ read. Finds read self.old self.new) }
+        ensures anew { IfSome result (λ read. Anew read self.new) }
         ensures none { IfNone result (Reads self.old self.new [] []) }
         ensures all { IfNone result (self.new.ahead ≡ []) }
         ensures taken { IfNone result (self.new.taken ≡ self.old.taken + length self.old.ahead) }
@@ -189,6 +191,7 @@ impl LineReader {
         requires fits { self.old.taken ≤ text_limit }
         requires none { NoNewline (take n self.old.ahead) }
         ensures found { IfSome result (λ read. Finds read self.old self.new) }
+        ensures anew { IfSome result (λ read. Anew read self.new) }
         ensures none { IfNone result (Reads self.old self.new [] []) }
         ensures all { IfNone result (self.new.ahead ≡ []) }
         ensures taken { IfNone result (self.new.taken ≡ self.old.taken + length self.old.ahead) }
@@ -226,6 +229,7 @@ impl LineReader {
         requires empty { self.old.ahead ≡ [] }
         requires going { self.old.over ≡ false }
         ensures ends { Ends result self.old self.new }
+        ensures anew { Anew result self.new }
         ensures over { self.new.over ≡ true }
         ensures sound { IsSound self.new }
     {
@@ -250,6 +254,7 @@ impl LineReader {
         ensures none_failed { OnOk result (S.faults source.new ≡ S.faults source.old) }
         ensures cause { OnErr result (Rose (S.faults source.old) (S.faults source.new)) }
         ensures end { self.new.over ≡ true → IsAtEnd (S.left source.new) }
+        ensures anew { IfOk result (λ read. Anew read self.new) }
         ensures sound { IsSound self.new }
     {
         'reads: loop {
@@ -284,6 +289,9 @@ impl LineReader {
 
         // There are no more lines than this number, which falls with each of them.
         ensures goes_on { IfOk result (λ read. GoesOn read self.old self.new) }
+
+        // No octet of the next line was passed.
+        ensures anew { IfOk result (λ read. Anew read self.new) }
     {
         if self.is_over {
             self.is_line = false;

@@ -1,7 +1,7 @@
 -- A run over an accepted history and what follows it.
 use Rattle.std.proofs.Common.{◌≡◌, ℕ, ◌+◌, List, [], ◌∷◌, ◌++◌, length, reverse, refl, sym, ◌∙◌, ap, append_assoc, Option, None, Some, arith}
 use Rattle.std.proofs.lemmas.List.{append-nil, reverse-append}
-use Rattle.line_runs.specs.Runs.{Rules, End, through, refused, number_after, out, out_unless, end_of, end_unless, brought, Accepted}
+use Rattle.line_runs.specs.Runs.{Rules, End, through, refused, number_after, out, out_unless, end_of, end_unless, brought, Accepted, accepted_of}
 
 pub reverse_onto : {L : Type 0} (line : L) (earlier lines : List L)
     → reverse (line ∷ earlier) ++ lines ≡ reverse earlier ++ line ∷ lines
@@ -33,3 +33,15 @@ end_accepted rules (line ∷ earlier) lines accepted =
     ap (end_of rules []) (reverse_onto line earlier lines)
     ∙ end_accepted rules earlier (line ∷ lines) accepted.0
     ∙ end_next rules earlier lines line accepted.1
+
+accepted_next : {L R : Type 0} (rules : Rules L R) (earlier lines : List L) (line : L) → rules.refusal earlier line ≡ None
+    → accepted_of rules earlier (line ∷ lines) ≡ accepted_of rules (line ∷ earlier) lines
+accepted_next rules earlier lines line none = rw none refl
+
+pub accepted_accepted : {L R : Type 0} (rules : Rules L R) (history lines : List L) → Accepted rules history
+    → accepted_of rules [] (reverse history ++ lines) ≡ accepted_of rules history lines
+accepted_accepted rules [] lines accepted = refl
+accepted_accepted rules (line ∷ earlier) lines accepted =
+    ap (accepted_of rules []) (reverse_onto line earlier lines)
+    ∙ accepted_accepted rules earlier (line ∷ lines) accepted.0
+    ∙ accepted_next rules earlier lines line accepted.1

@@ -48,9 +48,10 @@ accounts_append (u ∷ us) vs old = accounts_append us vs (with_handed old u.box
 
 pub hands_then : (us vs : List SinkUnit) (text told told2 : List ℕ) (old mid new : List Account) (r : Result (Unit {0}) Stop)
     → told ≡ text ++ unit_lines us → mid ≡ accounts_after old us → Hands vs told told2 mid new r → Hands (us ++ vs) text told2 old new r
-hands_then us vs text told told2 old mid new (Ok x) t a h =
-    (h.0 ∙ ap (λ front. front ++ unit_lines vs) t ∙ append_assoc text (unit_lines us) (unit_lines vs) ∙ ap (λ rest. text ++ rest) (sym (lines_append us vs)),
-     h.1 ∙ ap (λ accounts. accounts_after accounts vs) a ∙ sym (accounts_append us vs old))
+hands_then us vs text told told2 old mid new (Ok x) t a h = (
+  h.0 ∙ ap (λ front. front ++ unit_lines vs) t ∙ append_assoc text (unit_lines us) (unit_lines vs) ∙ ap (λ rest. text ++ rest) (sym (lines_append us vs)),
+  h.1 ∙ ap (λ accounts. accounts_after accounts vs) a ∙ sym (accounts_append us vs old),
+)
 hands_then us vs text told told2 old mid new (Err (Refused reason)) t a h = h
 hands_then us vs text told told2 old mid new (Err OutletFault) t a h = record {
   done = us ++ h.done;

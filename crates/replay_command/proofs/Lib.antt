@@ -10,3 +10,9 @@ pub mod CloseSteps
 pub mod Airing
 pub mod StepLaws
 pub mod LineLaws
+pub mod ReadingOn
+pub mod RefusalLaws
+pub mod Endings
+pub mod LineEndings
+pub mod LineSteps
+pub mod Completing

@@ -12,3 +12,5 @@ pub mod Sums
 pub mod Beyond
 pub mod Tuning
 pub mod Airing
+pub mod Ended
+pub mod Between

@@ -1,7 +1,7 @@
 -- What a call of `replay` read, wrote and handed to the boxes, by how it ended. `starts` and `ends` are the accounts of
 -- the boxes before and after it, `left` and `left'` what the source had left, `kept` and `kept'` what the sink had taken.
 -- The language and its statuses are this project's own.
-use Rattle.std.specs.Prelude.{ℕ, ◌≡◌, ◌≤◌, ◌<◌, ◌⊎◌, Bool, true, false, List, [], ◌∷◌, ◌++◌, length, reverse, Option, None, Some, Result, Ok, Err}
+use Rattle.std.specs.Prelude.{ℕ, ◌≡◌, ◌≤◌, ◌<◌, ◌⊎◌, ◌+◌, Bool, true, false, List, [], ◌∷◌, ◌++◌, length, reverse, Option, None, Some, Result, Ok, Err}
 use Rattle.std.specs.Io.KnownBytes.{Appends, Consumes, IsAtEnd}
 use Rattle.bcast_io.specs.TextLines.{TextLine, lines_of}
 use Rattle.bcast_io.specs.Writing.{AppendsFront}
@@ -25,6 +25,14 @@ MayFollow over at_end more = over ≡ true → (at_end ≡ true) × (more ≡ []
 pub record TextRead (left left' : Option (List ℕ)) (text : List ℕ) (over : Bool) : Type 0 where
   pub consumed : Consumes left left' text
   pub at_end : over ≡ true → IsAtEnd left'
+
+-- This line comes after these in the text, whatever follows the octets that a call took from its source.
+pub record Comes (left left' : Option (List ℕ)) (earlier : List TextLine) (line : TextLine) : Type 0 where
+  pub text : List ℕ
+  pub over : Bool
+  pub read : TextRead left left' text over
+  pub lines : (at_end : Bool) (more : List ℕ) → MayFollow over at_end more
+      → (later : List TextLine) × (lines_of at_end (text ++ more) ≡ reverse earlier ++ line ∷ later)
 
 -- Done: the text was read to its end, its transcript has no refusal and was written, and the boxes took its units
 pub record Done (starts ends : List Account) (left left' kept kept' : Option (List ℕ)) : Type 0 where
@@ -90,23 +98,6 @@ pub record Broken (starts ends : List Account) (left left' kept kept' : Option (
   pub written : AppendsFront kept kept' (brought_by over starts text)
   pub boxes : BoxesCut starts ends (lines_of over text) ⊎ BoxFailed starts ends (lines_of over text)
 
--- OutletFault: the lines before one were run, and none is refused; the box of a unit that this line hands up failed, and
--- what was brought before that unit was written
-pub record OutletFaulted (starts ends : List Account) (left left' kept kept' : Option (List ℕ)) : Type 0 where
-  pub text : List ℕ
-  pub over : Bool
-  pub read : TextRead left left' text over
-  pub earlier : List TextLine
-  pub line : TextLine
-  pub lines : (at_end : Bool) (more : List ℕ) → MayFollow over at_end more
-      → (later : List TextLine) × (lines_of at_end (text ++ more) ≡ reverse earlier ++ line ∷ later)
-  pub accepted : Accepted (rules_of airs_of starts) (line ∷ earlier)
-  pub accounts : List Account
-  pub before : Took starts accounts (units_of airs_of starts (reverse earlier))
-  pub told : List ℕ
-  pub fails : BoxFails (handed_on airs_of earlier line) (out_of airs_of starts (reverse earlier)) told accounts ends
-  pub written : Appends kept kept' told
-
 -- At most so many octets were read past the end of this line, from 1: but for the last ones, the octets that a call took
 -- from its source hold no more lines.
 pub record ReadsAhead (left left' : Option (List ℕ)) (line : ℕ) : Type 0 where
@@ -115,6 +106,20 @@ pub record ReadsAhead (left left' : Option (List ℕ)) (line : ℕ) : Type 0 whe
   pub consumed : Consumes left left' (upto ++ ahead)
   pub least : length ahead ≤ 65536
   pub within : length (lines_of true upto) ≤ line
+
+-- OutletFault: the lines before one were run, and none is refused; the box of a unit that this line hands up failed, and
+-- what was brought before that unit was written. No octet was read but for those that follow the line in one read ahead.
+pub record OutletFaulted (starts ends : List Account) (left left' kept kept' : Option (List ℕ)) : Type 0 where
+  pub earlier : List TextLine
+  pub line : TextLine
+  pub comes : Comes left left' earlier line
+  pub ahead : ReadsAhead left left' (length earlier + 1)
+  pub accepted : Accepted (rules_of airs_of starts) (line ∷ earlier)
+  pub accounts : List Account
+  pub before : Took starts accounts (units_of airs_of starts (reverse earlier))
+  pub told : List ℕ
+  pub fails : BoxFails (handed_on airs_of earlier line) (out_of airs_of starts (reverse earlier)) told accounts ends
+  pub written : Appends kept kept' told
 
 -- What was written ends within the octets that this line brings: it is the least line such that it and those before it
 -- bring more than what was written.
@@ -141,3 +146,9 @@ pub record NoEndCut (starts : List Account) (left left' kept kept' : Option (Lis
   pub front : List ℕ
   pub written : Appends kept kept' front
   pub not_before : length (out_of airs_of starts (lines_of true text)) ≤ length front
+
+-- WriteFault: what was written ends within what a line brings, and at most so many octets were read past the end of that
+-- line; or it ends within the line of NoEnd
+abbrev pub WriteCut : List Account → Option (List ℕ) → Option (List ℕ) → Option (List ℕ) → Option (List ℕ) → Type 0
+WriteCut starts left left' kept kept' =
+    ((line : ℕ) × CutAt starts left left' kept kept' line × ReadsAhead left left' line) ⊎ NoEndCut starts left left' kept kept'

@@ -15,11 +15,7 @@ use transcript_text::{put_lost, put_valid};
 use unit_outlets::{Outlet, OutletFault, TakerFault, take_at};
 
 /// Puts a unit into the box at a place, where there is one.
-fn put_in_box(
-    outlets: &mut Vec<Box<dyn Outlet>>,
-    place: usize,
-    octets: &[u8],
-) -> Result<(), Stop>
+fn put_in_box(outlets: &mut Vec<Box<dyn Outlet>>, place: usize, octets: &[u8]) -> Result<(), Stop>
     ensures { BoxTakes place octets.now (map account outlets.old.items) (map account outlets.new.items) result }
 {
     if place >= outlets.len() {

@@ -8,12 +8,65 @@ mod described;
 mod gathered;
 mod hand;
 mod machine;
+mod replay;
 mod sink;
 mod sink_steps;
 mod source_steps;
 mod step;
 mod stop;
 mod sums;
+mod status;
+mod stop;
+#[cfg(test)]
+mod tests;
 mod version;
+mod words;
 
-fn main(_rt: HostRuntime) {}
+use bcast_base::Memory;
+use bcast_io::{ReadSource, WriteSink};
+use replay::replay;
+use status::Status;
+use std::process::ExitCode;
+use std::rt::Env;
+use std::{env, io};
+use unit_outlets::{Outlet, Tally};
+use words::Words;
+
+/// How many boxes the program has.
+const BOXES: usize = 8;
+
+fn main(rt: HostRuntime) -> ExitCode {
+    let status = match run(&rt) {
+        Ok(status) => status,
+        Err(_) => Status::Memory,
+    };
+    if let Some(message) = status.message() {
+        let _ = eprintln!(rt; "{message}");
+    }
+    ExitCode::from(status.exit_code())
+}
+
+/// Runs the program over standard input and output, with a box for each sink that may live.
+fn run<R: Input + Print + Env + AllocGlobal>(rt: &R) -> Result<Status, Memory> {
+    let alloc = rt.alloc();
+    let words = words_of(rt)?;
+    let mut outlets: Vec<Box<dyn Outlet>> = Vec::new(alloc);
+    for _ in 0..BOXES {
+        outlets.push(Box::new(alloc, Tally::new())?)?;
+    }
+    let mut source = ReadSource::new(rt.reader());
+    let mut sink = WriteSink::new(io::writer(rt));
+    Ok(replay(alloc, &words, &mut source, &mut sink, &mut outlets))
+}
+
+/// The words of the command line, without the program's name.
+fn words_of<R: Env + AllocGlobal>(rt: &R) -> Result<Words, Memory> {
+    let mut words = Words::new(rt.alloc());
+    let Ok(args) = env::args(rt) else {
+        return Err(Memory);
+    };
+    for word in args.skip(1) {
+        words.push(word)?;
+    }
+    Ok(words)
+}

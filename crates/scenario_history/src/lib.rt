@@ -3,4 +3,4 @@
 
 mod laws;
 
-pub use laws::stub;
+pub use laws::{boxes_take_their_units, stub};

@@ -1,0 +1,218 @@
+-- Which statuses come, and what the boxes took of a text that its source tells.
+use Rattle.std.proofs.Common.{◌≡◌, ◌≢◌, ℕ, ◌+◌, ◌^◌, ◌<◌, ◌≤◌, zero, suc, Bool, true, false, eq-eqb, List, [], ◌∷◌, ◌++◌, length, reverse, map, refl, sym, ap, subst, ◌∙◌, append_assoc, arith, Option, None, Some, Result, Ok, Err, slice_get, slice_set, length-append, IsTrue}
+use Rattle.std.specs.Prelude.{option_map, sum}
+use Rattle.std.proofs.lemmas.List.{append-nil, map-append}
+use Rattle.std.proofs.lemmas.List.Sums.{sum_by-cons, sum_by-append}
+use Rattle.std.specs.Io.KnownBytes.{Consumes, IsAtEnd}
+use Rattle.bcast_io.specs.Faults.{Rose as OutsideRose}
+use Rattle.bcast_io.specs.TextLines.{TextLine, lines_of}
+use Rattle.unit_outlets.specs.Account.{Account, Fits}
+use Rattle.unit_outlets.specs.Faults.{Rose}
+use Rattle.unit_outlets.specs.Handed.{Handed, valid}
+use Rattle.unit_outlets.specs.Took.{TookAt}
+use Rattle.source_machine.specs.Airs.{airs_of}
+use Rattle.transcript_text.specs.declared.refusal.Refusal.{Refusal}
+use Rattle.line_runs.specs.Runs.{End, through, refused}
+use Rattle.scenario_history.specs.Boxes.{SinkUnit, accounts_after, onto_valid, valid_for, with_units, Took}
+use Rattle.scenario_history.specs.Lines.{handed_on}
+use Rattle.scenario_history.specs.Transcript.{transcript_end, units_of}
+use Rattle.scenario_history.proofs.BoxLaws.{took_all, valid_append}
+use Rattle.replay_command.specs.declared.status.Status.{Status}
+use Rattle.replay_command.specs.declared.status.Status.TheVariants as statuses
+use Rattle.replay_command.specs.Replayed.{MayFollow, TextRead, Done, RefusedAt, OutletFaulted}
+use Rattle.replay_command.specs.Ended.{Ended, IsDoneOrMemory, IsNoFault, IsWhole, AheadOf, NoneFailed, Holds, RoomFor, RoomForText, Complete}
+use Rattle.replay_command.proofs.Endings.{units_all}
+use Rattle.replay_command.proofs.LineEndings.{units_line}
+
+-- ---- a source that tells its text
+
+-- what follows the octets read
+told : (text : List ℕ) (left' : Option (List ℕ)) (front : List ℕ) → Consumes (Some text) left' front → (rest : List ℕ) × (left' ≡ Some rest) × (text ≡ front ++ rest)
+told text None front c = absurd c
+told text (Some rest) front c = (rest, refl, c)
+
+rest_of : (text : List ℕ) (left' : Option (List ℕ)) (front : List ℕ) (over : Bool) → TextRead (Some text) left' front over
+    → (rest : List ℕ) × (text ≡ front ++ rest) × MayFollow over true rest
+rest_of text left' front over read =
+    let t = told text left' front read.consumed in
+    (t.0, t.2, λ is. (refl, subst IsAtEnd t.1 (read.at_end is)))
+
+took_as : (starts ends : List Account) (us vs : List SinkUnit) → us ≡ vs → Took starts ends us → Took starts ends vs
+took_as starts ends us vs e t = let P : List SinkUnit → Type 0 = λ u. Took starts ends u in subst P e t
+
+whole_at : (text : List ℕ) (starts ends : List Account) (left' kept kept' : Option (List ℕ)) (status : Status) → Ended status starts ends (Some text) left' kept kept' → IsWhole status
+    → Took starts ends (units_of airs_of starts (lines_of true text))
+whole_at text starts ends left' kept kept' statuses.Done d whole =
+    let r = rest_of text left' d.text true d.read in
+    let same : text ≡ d.text = r.1 ∙ ap (λ rest. d.text ++ rest) (r.2 refl).1 ∙ append-nil d.text in
+    took_as starts ends _ _ (ap (λ t. units_of airs_of starts (lines_of true t)) (sym same)) d.boxes
+whole_at text starts ends left' kept kept' (statuses.Refused line reason) d whole =
+    let r = rest_of text left' d.0.text d.0.over d.0.read in
+    took_as starts ends _ _ (sym (ap (λ t. units_of airs_of starts (lines_of true t)) r.1 ∙ d.0.handed true r.0 r.2)) d.0.boxes
+whole_at text starts ends left' kept kept' statuses.Usage d whole = absurd whole
+whole_at text starts ends left' kept kept' statuses.ReadFault d whole = absurd whole
+whole_at text starts ends left' kept kept' statuses.WriteFault d whole = absurd whole
+whole_at text starts ends left' kept kept' statuses.OutletFault d whole = absurd whole
+whole_at text starts ends left' kept kept' statuses.Memory d whole = absurd whole
+
+left_at : (status : Status) (text : List ℕ) (starts ends : List Account) (left left' kept kept' : Option (List ℕ)) → left ≡ Some text
+    → Ended status starts ends left left' kept kept' → Ended status starts ends (Some text) left' kept kept'
+left_at status text starts ends left left' kept kept' is e = let P : Option (List ℕ) → Type 0 = λ l. Ended status starts ends l left' kept kept' in subst P is e
+
+pub ended_whole : (text : List ℕ) (starts ends : List Account) (left left' kept kept' : Option (List ℕ)) (status : Status) → Ended status starts ends left left' kept kept'
+    → left ≡ Some text → IsWhole status → Took starts ends (units_of airs_of starts (lines_of true text))
+ended_whole text starts ends left left' kept kept' status e is whole =
+    whole_at text starts ends left' kept kept' status (left_at status text starts ends left left' kept kept' is e) whole
+
+pub ended_ahead : (status : Status) (starts ends : List Account) (left left' kept kept' : Option (List ℕ)) → Ended status starts ends left left' kept kept'
+    → AheadOf status starts left left' kept kept'
+ended_ahead statuses.Done starts ends left left' kept kept' e = tt
+ended_ahead (statuses.Refused line reason) starts ends left left' kept kept' e = e.1
+ended_ahead statuses.Usage starts ends left left' kept kept' e = tt
+ended_ahead statuses.ReadFault starts ends left left' kept kept' e = tt
+ended_ahead statuses.WriteFault starts ends left left' kept kept' e = e.1
+ended_ahead statuses.OutletFault starts ends left left' kept kept' e = tt
+ended_ahead statuses.Memory starts ends left left' kept kept' e = tt
+
+pub ended_at : (status other : Status) (starts ends : List Account) (left left' kept kept' : Option (List ℕ)) → Ended status starts ends left left' kept kept'
+    → status ≡ other → Ended other starts ends left left' kept kept'
+ended_at status other starts ends left left' kept kept' e is = let P : Status → Type 0 = λ s. Ended s starts ends left left' kept kept' in subst P is e
+
+-- ---- the box that failed
+
+map_some : {A : Type 0} (f : A → A) (o : Option A) (b : A) → option_map f o ≡ Some b → (a : A) × (o ≡ Some a) × (f a ≡ b)
+map_some f None b e = cc
+map_some f (Some a) b e = (a, refl, cc)
+
+set_here : {A : Type 0} (xs : List A) (i : ℕ) (b x : A) → slice_get xs i ≡ Some b → slice_get (slice_set xs i x) i ≡ Some x
+set_here [] i b x e = cc
+set_here (y ∷ ys) zero b x e = refl
+set_here (y ∷ ys) (suc i) b x e = set_here ys i b x e
+
+-- the box that failed: what it was at the start, and what is left of it
+record Failure (starts ends : List Account) (units : List SinkUnit) : Type 0 where
+  place : ℕ
+  first : Account
+  after : Account
+  was : slice_get starts place ≡ Some first
+  is : slice_get ends place ≡ Some after
+  rose : Rose first.faults after.faults
+  octets : List ℕ
+  taken : List (List ℕ)
+  rest : List (List ℕ)
+  split : valid_for place units ≡ taken ++ octets ∷ rest
+  no_room : IsTrue first.is_sound → ¬ ((first.units + length taken + 1 < 2 ^ 64) × (first.octets + sum (map length taken) + length octets < 2 ^ 64))
+
+sum-append : (us vs : List (List ℕ)) → sum (map length (us ++ vs)) ≡ sum (map length us) + sum (map length vs)
+sum-append us vs = ap sum (map-append length us vs) ∙ sum_by-append (λ x. x) (map length us) (map length vs)
+
+valid_here : (unit : SinkUnit) (bis time : ℕ) (octets : List ℕ) (rest : List SinkUnit) → unit.unit ≡ valid bis time octets
+    → valid_for unit.box (unit ∷ rest) ≡ octets ∷ valid_for unit.box rest
+valid_here unit bis time octets rest is =
+    ap (λ b. onto_valid b unit.unit (valid_for unit.box rest)) (eq-eqb unit.box unit.box refl)
+    ∙ ap (λ u. onto_valid true u (valid_for unit.box rest)) is
+
+failure : (text : List ℕ) (starts ends : List Account) (left' kept kept' : Option (List ℕ)) → OutletFaulted starts ends (Some text) left' kept kept'
+    → Failure starts ends (units_of airs_of starts (lines_of true text))
+failure text starts ends left' kept kept' o =
+    let f = o.fails in
+    let place : ℕ = f.unit.box in
+    let old : List Account = accounts_after o.accounts f.done in
+    let us : List SinkUnit = units_of airs_of starts (reverse o.earlier) in
+    let mid = map_some (λ account. with_units account (valid_for place f.done)) (slice_get o.accounts place) f.box.before (sym (took_all o.accounts f.done place) ∙ f.box.here) in
+    let start = map_some (λ account. with_units account (valid_for place us)) (slice_get starts place) mid.0 (sym (o.before place) ∙ mid.1) in
+    let same : with_units (with_units start.0 (valid_for place us)) (valid_for place f.done) ≡ f.box.before =
+    ap (λ account. with_units account (valid_for place f.done)) start.2 ∙ mid.2 in
+    let r = rest_of text left' o.comes.text o.comes.over o.comes.read in
+    let at = o.comes.lines true r.0 r.2 in
+    let more = units_line starts o.earlier o.line at.0 o.accepted.0 o.accepted.1 in
+    let all : units_of airs_of starts (lines_of true text) ≡ us ++ (f.done ++ (f.unit ∷ (f.rest ++ more.0))) =
+    ap (λ t. units_of airs_of starts (lines_of true t)) r.1
+    ∙ ap (units_of airs_of starts) at.1
+    ∙ more.1
+    ∙ ap (λ front. front ++ (handed_on airs_of o.earlier o.line ++ more.0)) (sym (units_all starts o.earlier o.accepted.0))
+    ∙ ap (λ units. us ++ (units ++ more.0)) f.split
+    ∙ ap (λ units. us ++ units) (append_assoc f.done (f.unit ∷ f.rest) more.0) in
+    let taken : List (List ℕ) = valid_for place us ++ valid_for place f.done in
+    record {
+      place = place;
+      first = start.0;
+      after = f.box.after;
+      was = start.1;
+      is = ap (λ accounts. slice_get accounts place) f.box.others ∙ set_here old place f.box.before f.box.after f.box.here;
+      rose = let P : Account → Type 0 = λ a. Rose a.faults f.box.after.faults in subst P (sym same) f.box.took.0;
+      octets = f.octets;
+      taken = taken;
+      rest = valid_for place (f.rest ++ more.0);
+      split = ap (valid_for place) all
+          ∙ valid_append place us (f.done ++ (f.unit ∷ (f.rest ++ more.0)))
+          ∙ ap (λ units. valid_for place us ++ units) (valid_append place f.done (f.unit ∷ (f.rest ++ more.0)) ∙ ap (λ units. valid_for place f.done ++ units) (valid_here f.unit f.bis f.time f.octets (f.rest ++ more.0) f.is_valid))
+          ∙ sym (append_assoc (valid_for place us) (valid_for place f.done) (f.octets ∷ valid_for place (f.rest ++ more.0)));
+      no_room = λ sound fits.
+          let P : Account → Type 0 = λ a. IsTrue a.is_sound → ¬ Fits f.octets a in
+          let not_fit : P (with_units (with_units start.0 (valid_for place us)) (valid_for place f.done)) = subst P (sym same) f.box.took.2 in
+          not_fit sound (
+            omega (arith, fits.0, length-append (valid_for place us) (valid_for place f.done)),
+            omega (arith, fits.1, sum-append (valid_for place us) (valid_for place f.done)),
+          );
+    }
+
+no_failure : (starts ends : List Account) (units : List SinkUnit) → Failure starts ends units → NoneFailed starts ends → ⊥
+no_failure starts ends units f none = none f.place f.first f.after f.was f.is f.rose
+
+no_room : (starts ends : List Account) (units : List SinkUnit) → Failure starts ends units → RoomFor starts units → ⊥
+no_room starts ends units f room =
+    let here = room f.place f.first f.was in
+    let P : List (List ℕ) → Type 0 = λ us. Holds (with_units f.first us) in
+    let holds : Holds (with_units f.first (f.taken ++ f.octets ∷ f.rest)) = subst P f.split here.1 in
+    f.no_room here.0 (
+      omega (arith, holds.0, length-append f.taken (f.octets ∷ f.rest)),
+      omega (arith, holds.1, sum-append f.taken (f.octets ∷ f.rest), sum_by-cons (λ x. x) (length f.octets) (map length f.rest)),
+    )
+
+-- ---- completeness
+
+module _ (text : List ℕ) (starts ends : List Account) (left' kept kept' : Option (List ℕ)) (read read' write write' : ℕ) where
+  through_at : (status : Status) → Ended status starts ends (Some text) left' kept kept'
+      → (status ≡ statuses.ReadFault → OutsideRose read read') → (status ≡ statuses.WriteFault → OutsideRose write write')
+      → transcript_end airs_of starts (lines_of true text) ≡ through
+      → ¬ OutsideRose read read' → ¬ OutsideRose write write' → NoneFailed starts ends → IsDoneOrMemory status
+  through_at statuses.Done e r w t no_read no_write none = tt
+  through_at (statuses.Refused line reason) e r w t no_read no_write none =
+      let rest = rest_of text left' e.0.text e.0.over e.0.read in
+      let h : refused line reason ≡ through = sym (ap (λ x. transcript_end airs_of starts (lines_of true x)) rest.1 ∙ e.0.ends_so true rest.0 rest.2) ∙ t in
+      absurd cc
+  through_at statuses.Usage e r w t no_read no_write none = absurd e
+  through_at statuses.ReadFault e r w t no_read no_write none = absurd (no_read (r refl))
+  through_at statuses.WriteFault e r w t no_read no_write none = absurd (no_write (w refl))
+  through_at statuses.OutletFault e r w t no_read no_write none =
+      absurd (no_failure starts ends (units_of airs_of starts (lines_of true text)) (failure text starts ends left' kept kept' e) none)
+  through_at statuses.Memory e r w t no_read no_write none = tt
+
+  room_at : (status : Status) → Ended status starts ends (Some text) left' kept kept' → RoomForText starts text → status ≢ statuses.OutletFault
+  room_at status e room is =
+      no_room starts ends (units_of airs_of starts (lines_of true text))
+      (failure text starts ends left' kept kept' (ended_at status statuses.OutletFault starts ends (Some text) left' kept kept' e is)) room
+
+  no_fault_at : (status : Status) → Ended status starts ends (Some text) left' kept kept'
+      → (status ≡ statuses.ReadFault → OutsideRose read read') → (status ≡ statuses.WriteFault → OutsideRose write write')
+      → RoomForText starts text → ¬ OutsideRose read read' → ¬ OutsideRose write write' → IsNoFault status
+  no_fault_at statuses.Done e r w room no_read no_write = tt
+  no_fault_at (statuses.Refused line reason) e r w room no_read no_write = tt
+  no_fault_at statuses.Usage e r w room no_read no_write = absurd e
+  no_fault_at statuses.ReadFault e r w room no_read no_write = absurd (no_read (r refl))
+  no_fault_at statuses.WriteFault e r w room no_read no_write = absurd (no_write (w refl))
+  no_fault_at statuses.OutletFault e r w room no_read no_write = absurd (room_at statuses.OutletFault e room refl)
+  no_fault_at statuses.Memory e r w room no_read no_write = tt
+
+pub ended_complete : (text : List ℕ) (starts ends : List Account) (left left' kept kept' : Option (List ℕ)) (read read' write write' : ℕ) (status : Status)
+    → Ended status starts ends left left' kept kept' → left ≡ Some text
+    → (status ≡ statuses.ReadFault → OutsideRose read read') → (status ≡ statuses.WriteFault → OutsideRose write write')
+    → Complete text starts ends read read' write write' status
+ended_complete text starts ends left left' kept kept' read read' write write' status e is r w =
+    let at = left_at status text starts ends left left' kept kept' is e in
+    record {
+      through_all = through_at text starts ends left' kept kept' read read' write write' status at r w;
+      room = room_at text starts ends left' kept kept' read read' write write' status at;
+      no_fault = no_fault_at text starts ends left' kept kept' read read' write write' status at r w;
+    }

@@ -1,0 +1,383 @@
+-- How a call of `replay` goes on or ends once a line was read.
+use Rattle.std.proofs.Common.{◌≡◌, ◌≢◌, ℕ, ◌+◌, ◌<◌, ◌≤◌, Bool, true, false, List, [], ◌∷◌, ◌++◌, length, reverse, refl, sym, ap, subst, ◌∙◌, append_assoc, arith, Option, None, Some, Result, Ok, Err, length-append, inl, inr, ◌⊎◌}
+use Rattle.std.proofs.lemmas.List.{append-nil, reverse-append}
+use Rattle.std.specs.Io.KnownBytes.{Appends}
+use Rattle.bcast_io.specs.TextLines.{TextLine, lines_of}
+use Rattle.bcast_io.specs.Writing.{AppendsFront, AppendsShort}
+use Rattle.bcast_io.proofs.Transfers.{Appends-then, AppendsFront-of_more, AppendsFront-then}
+use Rattle.unit_outlets.specs.Account.{Account}
+use Rattle.unit_outlets.specs.Handed.{valid}
+use Rattle.source_machine.specs.Airs.{airs_of}
+use Rattle.transcript_text.specs.declared.refusal.Refusal.{Refusal}
+use Rattle.transcript_text.specs.declared.refusal.Refusal.TheVariants.{NoEnd}
+use Rattle.transcript_text.specs.Lines.{refusal_line}
+use Rattle.line_runs.specs.Runs.{refused, out, accepted_of, accepted_unless, brought, Accepted}
+use Rattle.scenario_history.specs.Boxes.{SinkUnit, accounts_after, handed_up, handed_by, Took}
+use Rattle.scenario_history.specs.Output.{unit_lines, output_of}
+use Rattle.scenario_history.specs.Lines.{Said, a_step, nothing, unsaid, rules_of, steps_of, said_after, handed_on, handed_said, output_said}
+use Rattle.scenario_history.specs.Transcript.{out_of, last_line_after, end_after, has_end, transcript_of, transcript_end, units_of}
+use Rattle.scenario_history.proofs.BoxLaws.{took_all}
+use Rattle.scenario_text.specs.declared.step.Step.{Step}
+use Rattle.scenario_text.specs.declared.step.Step.TheVariants as kinds
+use Rattle.replay_command.specs.declared.status.Status.{Status}
+use Rattle.replay_command.specs.declared.status.Status.TheVariants as statuses
+use Rattle.replay_command.specs.declared.machine.Machine.{Machine}
+use Rattle.replay_command.specs.declared.stop.Stop.{Stop}
+use Rattle.replay_command.specs.declared.stop.Stop.TheVariants.{Refused, OutletFault, Memory}
+use Rattle.replay_command.specs.Handing.{BoxFails, CutShort}
+use Rattle.replay_command.specs.Meets.{BoxesStand}
+use Rattle.replay_command.specs.LineMeets.{LinesStand, LineMeets, refusal_at, output_at}
+use Rattle.replay_command.specs.Replayed.{MayFollow, TextRead, Comes, RefusedAt, brought_by, BoxesCut, BoxFailed, Broken, OutletFaulted, ReadsAhead, CutAt, WriteCut}
+use Rattle.replay_command.specs.Ended.{Ended}
+use Rattle.replay_command.specs.Between.{RunTo, Refuses, Puts, StepRuns}
+use Rattle.replay_command.proofs.Handings.{accounts_append, lines_append}
+use Rattle.replay_command.proofs.Endings.{out_then, out_all, out_line, out_refused, ends_refused, writes_refused, units_then, units_all, units_refused, units_rest, handed_line, took_history, front_of_short, front_none}
+use Rattle.replay_command.proofs.RefusalLaws.{never_no_end}
+
+-- whatever comes after it, the line begins with these octets
+abbrev Brings : List Account → List TextLine → TextLine → List ℕ → Type 0
+Brings starts history line octets =
+    (later : List TextLine) → (rest : List ℕ) × (out (rules_of airs_of starts) history (line ∷ later) ≡ octets ++ rest)
+
+-- whatever comes after the line, the boxes took a front of the units
+abbrev CutFor : List Account → List TextLine → TextLine → List Account → Type 0
+CutFor starts history line accounts =
+    (later : List TextLine) → BoxesCut starts accounts (reverse history ++ line ∷ later) ⊎ BoxFailed starts accounts (reverse history ++ line ∷ later)
+
+-- ---- what a line brings
+
+brings_nothing : (starts : List Account) (history : List TextLine) (line : TextLine) → Brings starts history line []
+brings_nothing starts history line later = (out (rules_of airs_of starts) history (line ∷ later), refl)
+
+brings_refused : (starts : List Account) (history : List TextLine) (line : TextLine) (reason : Refusal) (number : ℕ) → number ≡ length history + 1
+    → Accepted (rules_of airs_of starts) history → refusal_at starts history line ≡ Some reason → Brings starts history line (refusal_line number reason)
+brings_refused starts history line reason number is_next accepted because later = (
+  [],
+  out_refused starts history accepted line reason because later ∙ ap (λ n. refusal_line n reason) (sym is_next) ∙ sym (append-nil (refusal_line number reason)),
+)
+
+brings_output : (starts : List Account) (history : List TextLine) (line : TextLine) → Accepted (rules_of airs_of starts) history → refusal_at starts history line ≡ None
+    → Brings starts history line (output_at starts history line)
+brings_output starts history line accepted none later =
+    (out (rules_of airs_of starts) (line ∷ history) later, out_line starts history accepted line none later)
+
+-- the lines of the units come first
+step_begins : (starts : List Account) (earlier : List Step) (step : Step)
+    → (rest : List ℕ) × (output_of airs_of starts earlier step ≡ unit_lines (handed_by airs_of earlier step) ++ rest)
+step_begins starts earlier kinds.Event = ([], sym (append-nil (unit_lines (handed_by airs_of earlier kinds.Event))))
+step_begins starts earlier kinds.Stop = ([], sym (append-nil (unit_lines (handed_by airs_of earlier kinds.Stop))))
+step_begins starts earlier kinds.End = (_, refl)
+step_begins starts earlier step = (output_of airs_of starts earlier step, refl)
+
+said_begins : (starts : List Account) (earlier : List Step) (said : Said)
+    → (rest : List ℕ) × (output_said airs_of starts earlier said ≡ unit_lines (handed_said airs_of earlier said) ++ rest)
+said_begins starts earlier (a_step step) = step_begins starts earlier step
+said_begins starts earlier nothing = ([], refl)
+said_begins starts earlier (unsaid reason) = ([], refl)
+
+-- the lines of the first units of a line
+brings_units : (starts : List Account) (history : List TextLine) (line : TextLine) (done rest : List SinkUnit)
+    → Accepted (rules_of airs_of starts) history → refusal_at starts history line ≡ None → handed_on airs_of history line ≡ done ++ rest
+    → Brings starts history line (unit_lines done)
+brings_units starts history line done rest accepted none split later =
+    let said = said_begins starts (steps_of history) (said_after history line) in (
+      unit_lines rest ++ (said.0 ++ out (rules_of airs_of starts) (line ∷ history) later),
+      out_line starts history accepted line none later
+          ∙ ap (λ front. front ++ out (rules_of airs_of starts) (line ∷ history) later)
+          (said.1 ∙ ap (λ units. unit_lines units ++ said.0) split ∙ ap (λ front. front ++ said.0) (lines_append done rest) ∙ append_assoc (unit_lines done) (unit_lines rest) said.0)
+          ∙ append_assoc (unit_lines done) (unit_lines rest ++ said.0) (out (rules_of airs_of starts) (line ∷ history) later)
+          ∙ ap (λ more. unit_lines done ++ more) (append_assoc (unit_lines rest) said.0 (out (rules_of airs_of starts) (line ∷ history) later)),
+    )
+
+-- ---- what the boxes took
+
+-- the units of an accepted line come behind those of the history
+pub units_line : (starts : List Account) (history : List TextLine) (line : TextLine) (later : List TextLine)
+    → Accepted (rules_of airs_of starts) history → refusal_at starts history line ≡ None
+    → (rest : List SinkUnit) × (units_of airs_of starts (reverse history ++ line ∷ later) ≡ handed_up airs_of (steps_of history) ++ (handed_on airs_of history line ++ rest))
+units_line starts history line later accepted none =
+    let more = units_rest starts (line ∷ history) later in (
+      more.0,
+      units_then starts history accepted (line ∷ later)
+          ∙ ap (λ why. handed_up airs_of (steps_of (accepted_unless history why (accepted_of (rules_of airs_of starts) (line ∷ history) later)))) none
+          ∙ more.1
+          ∙ ap (λ front. front ++ more.0) (handed_line history line)
+          ∙ append_assoc (handed_up airs_of (steps_of history)) (handed_on airs_of history line) more.0,
+    )
+
+cut_before : (starts accounts : List Account) (history : List TextLine) (line : TextLine) → Accepted (rules_of airs_of starts) history
+    → BoxesStand starts (steps_of history) accounts → CutFor starts history line accounts
+cut_before starts accounts history line accepted b later =
+    let more = units_rest starts history (line ∷ later) in
+    inl (record {
+      done = handed_up airs_of (steps_of history);
+      rest = more.0;
+      split = units_then starts history accepted (line ∷ later) ∙ more.1;
+      boxes = took_history starts accounts history b;
+    })
+
+cut_after : (starts accounts : List Account) (history : List TextLine) (line : TextLine) → Accepted (rules_of airs_of starts) history
+    → refusal_at starts history line ≡ None → BoxesStand starts (steps_of (line ∷ history)) accounts → CutFor starts history line accounts
+cut_after starts accounts history line accepted none b later =
+    let more = units_line starts history line later accepted none in
+    inl (record {
+      done = handed_up airs_of (steps_of (line ∷ history));
+      rest = more.0;
+      split = more.1 ∙ sym (append_assoc (handed_up airs_of (steps_of history)) (handed_on airs_of history line) more.0)
+          ∙ ap (λ front. front ++ more.0) (sym (handed_line history line));
+      boxes = took_history starts accounts (line ∷ history) b;
+    })
+
+cut_within : (starts before after : List Account) (history : List TextLine) (line : TextLine) → Accepted (rules_of airs_of starts) history
+    → refusal_at starts history line ≡ None → BoxesStand starts (steps_of history) before → CutShort (handed_on airs_of history line) before after
+    → CutFor starts history line after
+cut_within starts before after history line accepted none b c later =
+    let more = units_line starts history line later accepted none in
+    let all = handed_up airs_of (steps_of history) in
+    let P : List Account → Type 0 = λ a. Took starts a (all ++ c.done) in
+    inl (record {
+      done = all ++ c.done;
+      rest = c.rest ++ more.0;
+      split = more.1 ∙ ap (λ units. all ++ (units ++ more.0)) c.split ∙ ap (λ rest. all ++ rest) (append_assoc c.done c.rest more.0)
+          ∙ sym (append_assoc all c.done (c.rest ++ more.0));
+      boxes = subst P (accounts_append all c.done starts ∙ ap (λ a. accounts_after a c.done) (sym b.accounts_are) ∙ sym c.boxes) (took_all starts (all ++ c.done));
+    })
+
+cut_failed : (starts before after : List Account) (history : List TextLine) (line : TextLine) (text told : List ℕ) → Accepted (rules_of airs_of starts) history
+    → refusal_at starts history line ≡ None → BoxesStand starts (steps_of history) before → BoxFails (handed_on airs_of history line) text told before after
+    → CutFor starts history line after
+cut_failed starts before after history line text told accepted none b f later =
+    let more = units_line starts history line later accepted none in
+    inr (record {
+      before = handed_up airs_of (steps_of history);
+      behind = more.0;
+      units = handed_on airs_of history line;
+      split = more.1 ∙ sym (append_assoc (handed_up airs_of (steps_of history)) (handed_on airs_of history line) more.0);
+      accounts = before;
+      boxes = took_history starts before history b;
+      text = text;
+      told = told;
+      fails = f;
+    })
+
+-- ---- a write that was cut short
+
+brought_front : (over : Bool) (starts : List Account) (kept kept' : Option (List ℕ)) (text : List ℕ) (octets rest : List ℕ)
+    → out_of airs_of starts (lines_of over text) ≡ octets ++ rest → AppendsFront kept kept' octets → AppendsFront kept kept' (brought_by over starts text)
+brought_front true starts kept kept' text octets rest is f =
+    let last = last_line_after (end_after airs_of starts (lines_of true text)) (has_end (lines_of true text)) (length (lines_of true text) + 1) in
+    let P : List ℕ → Type 0 = λ xs. AppendsFront kept kept' xs in
+    subst P (sym (ap (λ front. front ++ last) is ∙ append_assoc octets rest last)) (AppendsFront-of_more kept kept' octets (rest ++ last) f)
+brought_front false starts kept kept' text octets rest is f =
+    let P : List ℕ → Type 0 = λ xs. AppendsFront kept kept' xs in
+    subst P (sym is) (AppendsFront-of_more kept kept' octets rest f)
+
+-- the line among those of the text as far as it was read
+lines_now : (left left' : Option (List ℕ)) (history : List TextLine) (line : TextLine) (c : Comes left left' history line)
+    → (later : List TextLine) × (lines_of c.over c.text ≡ reverse history ++ line ∷ later)
+lines_now left left' history line c =
+    let at = c.lines c.over [] (λ over. (over, refl)) in
+    (at.0, ap (lines_of c.over) (sym (append-nil c.text)) ∙ at.1)
+
+pub ends_broken : (starts : List Account) (history : List TextLine) (line : TextLine) (left left' kept mid kept' : Option (List ℕ)) (accounts : List Account) (octets : List ℕ)
+    → Comes left left' history line → Accepted (rules_of airs_of starts) history → Appends kept mid (brought (rules_of airs_of starts) history)
+    → Brings starts history line octets → CutFor starts history line accounts → AppendsFront mid kept' octets
+    → Broken starts accounts left left' kept kept'
+ends_broken starts history line left left' kept mid kept' accounts octets c accepted written brings cut f =
+    let now = lines_now left left' history line c in
+    let more = brings now.0 in
+    let so_far = brought (rules_of airs_of starts) history in
+    let P : List TextLine → Type 0 = λ ls. BoxesCut starts accounts ls ⊎ BoxFailed starts accounts ls in
+    record {
+      text = c.text;
+      over = c.over;
+      read = c.read;
+      written = brought_front c.over starts kept kept' c.text (so_far ++ octets) more.0
+          (ap (out_of airs_of starts) now.1 ∙ out_then starts history accepted (line ∷ now.0) ∙ ap (λ rest. so_far ++ rest) more.1 ∙ sym (append_assoc so_far octets more.0))
+          (AppendsFront-then kept mid kept' so_far octets written f);
+      boxes = subst P (sym now.1) (cut now.0);
+    }
+
+ends_cut : (starts : List Account) (history : List TextLine) (line : TextLine) (left left' kept mid kept' : Option (List ℕ)) (octets : List ℕ) (number : ℕ)
+    → number ≡ length history + 1 → Comes left left' history line → Accepted (rules_of airs_of starts) history → Appends kept mid (brought (rules_of airs_of starts) history)
+    → Brings starts history line octets → AppendsShort mid kept' octets
+    → CutAt starts left left' kept kept' number
+ends_cut starts history line left left' kept mid kept' octets number is_next c accepted written brings s =
+    let now = lines_now left left' history line c in
+    let more = brings [] in
+    let so_far = brought (rules_of airs_of starts) history in
+    let with_line : out_of airs_of starts (reverse (line ∷ history)) ≡ so_far ++ (octets ++ more.0) =
+    ap (out_of airs_of starts) (reverse-append (line ∷ []) history) ∙ out_then starts history accepted (line ∷ []) ∙ ap (λ rest. so_far ++ rest) more.1 in
+    record {
+      text = c.text;
+      over = c.over;
+      read = c.read;
+      earlier = history;
+      last = line;
+      later = now.0;
+      lines = now.1;
+      number = is_next;
+      accepted = accepted;
+      front = so_far ++ s.front;
+      written = Appends-then kept mid kept' so_far s.front written s.appended;
+      not_before = omega (arith, ap length (out_all starts history accepted), length-append so_far s.front);
+      longer = omega (arith, ap length with_line, length-append so_far (octets ++ more.0), length-append octets more.0, length-append so_far s.front, ap length s.whole, length-append s.front s.rest, s.some);
+    }
+
+ends_write : (starts : List Account) (history : List TextLine) (line : TextLine) (left left' kept mid kept' : Option (List ℕ)) (accounts : List Account) (octets : List ℕ) (number : ℕ)
+    → number ≡ length history + 1 → Comes left left' history line → ReadsAhead left left' number
+    → Accepted (rules_of airs_of starts) history → Appends kept mid (brought (rules_of airs_of starts) history)
+    → Brings starts history line octets → CutFor starts history line accounts → AppendsShort mid kept' octets
+    → Ended statuses.WriteFault starts accounts left left' kept kept'
+ends_write starts history line left left' kept mid kept' accounts octets number is_next c ahead accepted written brings cut s = (
+  ends_broken starts history line left left' kept mid kept' accounts octets c accepted written brings cut (front_of_short mid kept' octets s),
+  inl (number, ends_cut starts history line left left' kept mid kept' octets number is_next c accepted written brings s, ahead),
+)
+
+-- ---- a refusal
+
+pub ends_refusal : (starts : List Account) (history : List TextLine) (line : TextLine) (left left' kept mid kept' : Option (List ℕ)) (accounts : List Account) (number : ℕ) (reason : Refusal)
+    → number ≡ length history + 1 → Comes left left' history line → ReadsAhead left left' number
+    → Accepted (rules_of airs_of starts) history → Appends kept mid (brought (rules_of airs_of starts) history) → BoxesStand starts (steps_of history) accounts
+    → refusal_at starts history line ≡ Some reason
+    → (status : Status) → Refuses number reason mid kept' status → Ended status starts accounts left left' kept kept'
+ends_refusal starts history line left left' kept mid kept' accounts number reason is_next c ahead accepted written b because statuses.Done f = absurd f
+ends_refusal starts history line left left' kept mid kept' accounts number reason is_next c ahead accepted written b because statuses.Usage f = absurd f
+ends_refusal starts history line left left' kept mid kept' accounts number reason is_next c ahead accepted written b because statuses.ReadFault f = absurd f
+ends_refusal starts history line left left' kept mid kept' accounts number reason is_next c ahead accepted written b because statuses.OutletFault f = absurd f
+ends_refusal starts history line left left' kept mid kept' accounts number reason is_next c ahead accepted written b because statuses.Memory f =
+    ends_broken starts history line left left' kept mid kept' accounts (refusal_line number reason) c accepted written
+    (brings_refused starts history line reason number is_next accepted because) (cut_before starts accounts history line accepted b) f
+ends_refusal starts history line left left' kept mid kept' accounts number reason is_next c ahead accepted written b because statuses.WriteFault f =
+    ends_write starts history line left left' kept mid kept' accounts (refusal_line number reason) number is_next c ahead accepted written
+    (brings_refused starts history line reason number is_next accepted because) (cut_before starts accounts history line accepted b) f
+ends_refusal starts history line left left' kept mid kept' accounts number reason is_next c ahead accepted written b because (statuses.Refused at why) f =
+    let so_far = brought (rules_of airs_of starts) history in
+    let P : Status → Type 0 = λ s. Ended s starts accounts left left' kept kept' in
+    let at_line : P (statuses.Refused number reason) = (
+      record {
+        text = c.text;
+        over = c.over;
+        read = c.read;
+        no_end = λ e. absurd (never_no_end starts history line (because ∙ ap Some e));
+        ends_so = λ at_end more follows.
+            ap (transcript_end airs_of starts) (c.lines at_end more follows).1
+            ∙ ends_refused starts history accepted line reason because (c.lines at_end more follows).0
+            ∙ ap (λ n. refused n reason) (sym is_next);
+        octets = so_far ++ refusal_line number reason;
+        transcript = λ at_end more follows.
+            ap (transcript_of airs_of starts) (c.lines at_end more follows).1
+            ∙ writes_refused starts history accepted line reason because (c.lines at_end more follows).0
+            ∙ ap (λ n. so_far ++ refusal_line n reason) (sym is_next);
+        written = Appends-then kept mid kept' so_far (refusal_line number reason) written f.2;
+        units = handed_up airs_of (steps_of history);
+        handed = λ at_end more follows.
+            ap (units_of airs_of starts) (c.lines at_end more follows).1
+            ∙ units_refused starts history accepted line reason because (c.lines at_end more follows).0;
+        boxes = took_history starts accounts history b;
+      },
+      (λ other. ahead),
+    ) in
+    subst P (ap (λ n. statuses.Refused n reason) (sym f.0) ∙ ap (statuses.Refused at) (sym f.1)) at_line
+
+-- ---- a step
+
+-- what was put after a line that is accepted
+pub step_put : (starts : List Account) (history : List TextLine) (line : TextLine) (left left' kept mid kept' : Option (List ℕ)) (machine : Machine) (accounts : List Account) (number : ℕ) (octets : List ℕ)
+    → number ≡ length history + 1 → Comes left left' history line → ReadsAhead left left' number
+    → Accepted (rules_of airs_of starts) history → Appends kept mid (brought (rules_of airs_of starts) history)
+    → refusal_at starts history line ≡ None → LinesStand starts (line ∷ history) machine accounts → octets ≡ output_at starts history line
+    → (result : Option Status) → Puts octets mid kept' result → StepRuns starts (line ∷ history) left left' kept kept' machine accounts result
+step_put starts history line left left' kept mid kept' machine accounts number octets is_next c ahead accepted written none stands told None p =
+    let P : List ℕ → Type 0 = λ xs. Appends mid kept' xs in
+    record {
+      accepted = (accepted, none);
+      written = Appends-then kept mid kept' (brought (rules_of airs_of starts) history) (output_at starts history line) written (subst P told p);
+      stands = stands;
+    }
+step_put starts history line left left' kept mid kept' machine accounts number octets is_next c ahead accepted written none stands told (Some statuses.WriteFault) p =
+    let P : List ℕ → Type 0 = λ xs. AppendsShort mid kept' xs in
+    ends_write starts history line left left' kept mid kept' accounts (output_at starts history line) number is_next c ahead accepted written
+    (brings_output starts history line accepted none) (cut_after starts accounts history line accepted none stands.boxes) (subst P told p)
+step_put starts history line left left' kept mid kept' machine accounts number octets is_next c ahead accepted written none stands told (Some statuses.Memory) p =
+    let P : List ℕ → Type 0 = λ xs. AppendsShort mid kept' xs in
+    ends_broken starts history line left left' kept mid kept' accounts (output_at starts history line) c accepted written
+    (brings_output starts history line accepted none) (cut_after starts accounts history line accepted none stands.boxes) (front_of_short mid kept' (output_at starts history line) (subst P told p))
+step_put starts history line left left' kept mid kept' machine accounts number octets is_next c ahead accepted written none stands told (Some statuses.Done) p = absurd p
+step_put starts history line left left' kept mid kept' machine accounts number octets is_next c ahead accepted written none stands told (Some statuses.Usage) p = absurd p
+step_put starts history line left left' kept mid kept' machine accounts number octets is_next c ahead accepted written none stands told (Some statuses.ReadFault) p = absurd p
+step_put starts history line left left' kept mid kept' machine accounts number octets is_next c ahead accepted written none stands told (Some statuses.OutletFault) p = absurd p
+step_put starts history line left left' kept mid kept' machine accounts number octets is_next c ahead accepted written none stands told (Some (statuses.Refused at why)) p = absurd p
+
+-- the box of a unit of the line failed, and what came before the unit was put
+module _ (starts : List Account) (history : List TextLine) (line : TextLine) (left left' kept mid kept' : Option (List ℕ)) (before after : List Account) (number : ℕ) (told : List ℕ)
+    (is_next : number ≡ length history + 1) (c : Comes left left' history line) (ahead : ReadsAhead left left' number)
+    (accepted : Accepted (rules_of airs_of starts) history) (written : Appends kept mid (brought (rules_of airs_of starts) history))
+    (b : BoxesStand starts (steps_of history) before) (none : refusal_at starts history line ≡ None)
+    (f : BoxFails (handed_on airs_of history line) [] told before after) where
+  brings_told : Brings starts history line told
+  brings_told =
+      let P : List ℕ → Type 0 = λ xs. Brings starts history line xs in
+      subst P (sym f.lines) (brings_units starts history line f.done (f.unit ∷ f.rest) accepted none f.split)
+
+  pub outlet_put : (result : Option Status) → Puts told mid kept' result
+      → (status : Status) → result ≡ Some status ⊎ ((result ≡ None) × (status ≡ statuses.OutletFault)) → Ended status starts after left left' kept kept'
+  outlet_put result p status how = elim how [
+    | inl is ↦ stopped status (let P : Option Status → Type 0 = λ r. Puts told mid kept' r in subst P is p)
+    | inr is ↦
+        let P : Option Status → Type 0 = λ r. Puts told mid kept' r in
+        let Q : Status → Type 0 = λ s. Ended s starts after left left' kept kept' in
+        subst Q (sym is.1) (faulted (subst P is.0 p))
+  ]
+    where
+      faulted : Appends mid kept' told → OutletFaulted starts after left left' kept kept'
+      faulted p = record {
+        earlier = history;
+        line = line;
+        comes = c;
+        ahead = let P : ℕ → Type 0 = λ n. ReadsAhead left left' n in subst P is_next ahead;
+        accepted = (accepted, none);
+        accounts = before;
+        before = let P : List SinkUnit → Type 0 = λ u. Took starts before u in subst P (sym (units_all starts history accepted)) (took_history starts before history b);
+        told = brought (rules_of airs_of starts) history ++ told;
+        fails = record {
+          done = f.done;
+          unit = f.unit;
+          rest = f.rest;
+          split = f.split;
+          bis = f.bis;
+          time = f.time;
+          octets = f.octets;
+          is_valid = f.is_valid;
+          lines = ap (λ front. brought (rules_of airs_of starts) history ++ front) f.lines
+              ∙ ap (λ front. front ++ unit_lines f.done) (sym (out_all starts history accepted));
+          box = f.box;
+        };
+        written = Appends-then kept mid kept' (brought (rules_of airs_of starts) history) told written p;
+      }
+
+      stopped : (status : Status) → Puts told mid kept' (Some status) → Ended status starts after left left' kept kept'
+      stopped statuses.WriteFault p =
+          ends_write starts history line left left' kept mid kept' after told number is_next c ahead accepted written
+          brings_told (cut_failed starts before after history line [] told accepted none b f) p
+      stopped statuses.Memory p =
+          ends_broken starts history line left left' kept mid kept' after told c accepted written
+          brings_told (cut_failed starts before after history line [] told accepted none b f) (front_of_short mid kept' told p)
+      stopped statuses.Done p = absurd p
+      stopped statuses.Usage p = absurd p
+      stopped statuses.ReadFault p = absurd p
+      stopped statuses.OutletFault p = absurd p
+      stopped (statuses.Refused at why) p = absurd p
+
+-- memory ran out in the step
+pub step_memory : (starts : List Account) (history : List TextLine) (line : TextLine) (left left' kept mid : Option (List ℕ)) (before after : List Account)
+    → Comes left left' history line → Accepted (rules_of airs_of starts) history → Appends kept mid (brought (rules_of airs_of starts) history)
+    → BoxesStand starts (steps_of history) before
+    → (after ≡ before) ⊎ ((refusal_at starts history line ≡ None) × CutShort (handed_on airs_of history line) before after)
+    → Broken starts after left left' kept mid
+step_memory starts history line left left' kept mid before after c accepted written b how =
+    ends_broken starts history line left left' kept mid mid after [] c accepted written (brings_nothing starts history line) (cut how) (front_none mid [])
+  where
+    cut : (after ≡ before) ⊎ ((refusal_at starts history line ≡ None) × CutShort (handed_on airs_of history line) before after) → CutFor starts history line after
+    cut (inl same) = let P : List Account → Type 0 = λ a. CutFor starts history line a in subst P (sym same) (cut_before starts before history line accepted b)
+    cut (inr short) = cut_within starts before after history line accepted short.0 b short.1

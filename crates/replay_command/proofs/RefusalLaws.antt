@@ -1,0 +1,119 @@
+-- No line is refused as NoEnd, which is the refusal of a text.
+use Rattle.std.proofs.Common.{◌≡◌, ◌≢◌, ℕ, Bool, true, false, List, length, refl, subst, Option, None, Some, Result, Ok, Err}
+use Rattle.std.specs.Prelude.{◌==◌, nat_le, not, is_some}
+use Rattle.std.specs.Option.{option_or, option_map}
+use Rattle.bcast_io.specs.TextLines.{TextLine, plain, too_long, past}
+use Rattle.unit_outlets.specs.Account.{Account}
+use Rattle.big_info.specs.declared.fault.GroupFault.{GroupFault}
+use Rattle.radio_schedule.specs.declared.air.AirFault.{AirFault}
+use Rattle.radio_schedule.specs.declared.air.AirFault.TheVariants as places
+use Rattle.source_machine.specs.declared.fault.GiveFault.{GiveFault}
+use Rattle.source_machine.specs.declared.fault.GiveFault.TheVariants as gives
+use Rattle.source_machine.specs.declared.fault.EventFault.{EventFault}
+use Rattle.source_machine.specs.Airs.{airs_of}
+use Rattle.source_machine.specs.Faults.{event_fault, air_fault}
+use Rattle.transcript_text.specs.declared.refusal.Refusal.{Refusal}
+use Rattle.transcript_text.specs.declared.refusal.Refusal.TheVariants.{AfterEnd, Order, BadGroup, NoSuchSink, SinkTwice, NoOutlet, NoSuchBis, NotBuilt, NotOnAir, NoEnd}
+use Rattle.scenario_text.specs.declared.step.Step.{Step}
+use Rattle.scenario_text.specs.declared.step.Step.TheVariants as kinds
+use Rattle.scenario_text.specs.declared.fault.LineFault.{LineFault}
+use Rattle.scenario_text.specs.declared.fault.LineFault.TheVariants as misread
+use Rattle.scenario_text.specs.Steps.{read_of}
+use Rattle.scenario_history.specs.Steps.{version_of, is_over, sinks_made}
+use Rattle.scenario_history.specs.Source.{setup_of, source_calls, performed}
+use Rattle.scenario_history.specs.Boxes.{box_of}
+use Rattle.scenario_history.specs.Refusals.{refuse_if, no_sink, no_place, has_beyond, is_out_of_order, give_refusal, air_refusal, counter_ends, own_refusal, phase_refusal, refusal_of}
+use Rattle.scenario_history.specs.Lines.{said_by, said_in, steps_of, refusal_said}
+use Rattle.replay_command.specs.LineMeets.{refusal_at}
+
+abbrev OtherThan : Option Refusal → Type 0
+OtherThan None = Unit {0}
+OtherThan (Some reason) = reason ≢ NoEnd
+
+other_if : (b : Bool) (reason : Refusal) → reason ≢ NoEnd → OtherThan (refuse_if b reason)
+other_if true reason other = other
+other_if false reason other = tt
+
+other_or : (p q : Option Refusal) → OtherThan p → OtherThan q → OtherThan (option_or p q)
+other_or None q h k = k
+other_or (Some reason) q h k = h
+
+other_map : {X : Type 0} (f : X → Refusal) → ((x : X) → f x ≢ NoEnd) → (o : Option X) → OtherThan (option_map f o)
+other_map f other None = tt
+other_map f other (Some x) = other x
+
+other_group : (fault : GroupFault) → BadGroup fault ≢ NoEnd
+other_group fault e = cc
+
+other_give : (fault : GiveFault) → give_refusal fault ≢ NoEnd
+other_give gives.NoSuchBis e = cc
+other_give gives.UnitTooLong e = cc
+other_give gives.TimeOrder e = cc
+other_give gives.Backlog e = cc
+other_give gives.Memory e = cc
+
+other_place : (fault : AirFault) → air_refusal fault ≢ NoEnd
+other_place places.NoSuchBis e = cc
+other_place places.NoSuchSubevent e = cc
+other_place places.NotOnAir e = cc
+
+other_counter : (o : Option EventFault) → OtherThan (counter_ends o)
+other_counter None = tt
+other_counter (Some fault) = λ e. cc
+
+other_sink : (b : Bool) → OtherThan (refuse_if b NoSuchSink)
+other_sink b = other_if b NoSuchSink (λ e. cc)
+
+other_no_sink : (sink : ℕ) (steps : List Step) → OtherThan (no_sink sink steps)
+other_no_sink sink steps = other_sink (not (is_some (box_of sink steps)))
+
+other_no_place : (steps : List Step) (back bis subevent : ℕ) → OtherThan (no_place steps back bis subevent)
+other_no_place steps back bis subevent = other_map air_refusal other_place (air_fault (setup_of steps) (source_calls steps) back bis subevent)
+
+other_own : (boxes : ℕ) (steps : List Step) (step : Step) → OtherThan (own_refusal airs_of boxes steps step)
+other_own boxes steps (kinds.Group framing origin delay iso sdu max_sdu max_pdu num_bis bn nse irc pto sub spacing phy) = other_if _ NotBuilt (λ e. cc)
+other_own boxes steps (kinds.Start first) = other_map BadGroup other_group _
+other_own boxes steps (kinds.Sink sink streams slots mtu) =
+    other_or (refuse_if (is_some (box_of sink steps)) SinkTwice) (refuse_if (nat_le boxes (sinks_made steps)) NoOutlet)
+    (other_if (is_some (box_of sink steps)) SinkTwice (λ e. cc)) (other_if (nat_le boxes (sinks_made steps)) NoOutlet (λ e. cc))
+other_own boxes steps (kinds.Drop sink) = other_no_sink sink steps
+other_own boxes steps (kinds.Tuned sink which) =
+    other_or (no_sink sink steps) (refuse_if (has_beyond (setup_of steps).info which) NoSuchBis)
+    (other_no_sink sink steps) (other_if (has_beyond (setup_of steps).info which) NoSuchBis (λ e. cc))
+other_own boxes steps (kinds.Unit bis time octets) = other_map give_refusal other_give _
+other_own boxes steps kinds.Event = other_counter (event_fault (setup_of steps) (source_calls steps))
+other_own boxes steps (kinds.Hear sink back bis subevent) =
+    other_or (no_sink sink steps) (no_place steps back bis subevent) (other_no_sink sink steps) (other_no_place steps back bis subevent)
+other_own boxes steps (kinds.Air sink lose) =
+    other_or (no_sink sink steps) (refuse_if (performed steps == 0) NotOnAir) (other_no_sink sink steps) (other_if (performed steps == 0) NotOnAir (λ e. cc))
+other_own boxes steps (kinds.Inject sink back bis subevent octets) =
+    other_or (no_sink sink steps) (no_place steps back bis subevent) (other_no_sink sink steps) (other_no_place steps back bis subevent)
+other_own boxes steps (kinds.Sniff back bis subevent) = other_no_place steps back bis subevent
+other_own boxes steps (kinds.Scenario version) = tt
+other_own boxes steps kinds.Stop = tt
+other_own boxes steps kinds.End = tt
+
+other_step : (boxes : ℕ) (steps : List Step) (step : Step) → OtherThan (refusal_of airs_of boxes steps step)
+other_step boxes steps step =
+    other_or (refuse_if (is_over steps) AfterEnd) (phase_refusal airs_of boxes steps step)
+    (other_if (is_over steps) AfterEnd (λ e. cc))
+    (other_or (refuse_if (is_out_of_order steps step) Order) (own_refusal airs_of boxes steps step)
+    (other_if (is_out_of_order steps step) Order (λ e. cc))
+    (other_own boxes steps step))
+
+other_read : (boxes : ℕ) (steps : List Step) (read : Result (Option Step) LineFault) → OtherThan (refusal_said airs_of boxes steps (said_by read))
+other_read boxes steps (Ok None) = tt
+other_read boxes steps (Ok (Some step)) = other_step boxes steps step
+other_read boxes steps (Err (misread.BadLine word)) = λ e. cc
+other_read boxes steps (Err misread.NotBuilt) = λ e. cc
+other_read boxes steps (Err misread.Memory) = tt
+
+other_line : (boxes version : ℕ) (steps : List Step) (line : TextLine) → OtherThan (refusal_said airs_of boxes steps (said_in version line))
+other_line boxes version steps (plain octets) = other_read boxes steps (read_of version octets)
+other_line boxes version steps too_long = λ e. cc
+other_line boxes version steps past = λ e. cc
+
+pub never_no_end : (starts : List Account) (history : List TextLine) (line : TextLine) → refusal_at starts history line ≡ Some NoEnd → ⊥
+never_no_end starts history line e =
+    let other = other_line (length starts) (version_of (steps_of history)) (steps_of history) line in
+    subst OtherThan e other refl

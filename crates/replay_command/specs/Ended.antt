@@ -1,0 +1,77 @@
+-- What a call of `replay` did, by its status, and which statuses can come. The statuses are this project's own.
+use Rattle.std.specs.Prelude.{ℕ, ◌≡◌, ◌≢◌, ◌<◌, ◌^◌, IsTrue, true, List, slice_get, Option, Some}
+use Rattle.bcast_io.specs.Faults.{Rose as OutsideRose}
+use Rattle.bcast_io.specs.TextLines.{lines_of}
+use Rattle.unit_outlets.specs.Account.{Account}
+use Rattle.unit_outlets.specs.Faults.{Rose}
+use Rattle.source_machine.specs.Airs.{airs_of}
+use Rattle.transcript_text.specs.declared.refusal.Refusal.TheVariants.{NoEnd}
+use Rattle.scenario_history.specs.Boxes.{SinkUnit, valid_for, with_units}
+use Rattle.line_runs.specs.Runs.{through}
+use Rattle.scenario_history.specs.Transcript.{transcript_end, units_of}
+use Rattle.replay_command.specs.declared.status.Status.{Status}
+use Rattle.replay_command.specs.declared.status.Status.TheVariants as statuses
+use Rattle.replay_command.specs.Replayed.{Done, RefusedAt, ReadFaulted, Broken, OutletFaulted, ReadsAhead, WriteCut}
+
+-- what a call did that ended so
+abbrev pub Ended : Status → List Account → List Account → Option (List ℕ) → Option (List ℕ) → Option (List ℕ) → Option (List ℕ) → Type 0
+Ended statuses.Done starts ends left left' kept kept' = Done starts ends left left' kept kept'
+Ended (statuses.Refused line reason) starts ends left left' kept kept' =
+    RefusedAt starts ends left left' kept kept' line reason × (reason ≢ NoEnd → ReadsAhead left left' line)
+Ended statuses.Usage starts ends left left' kept kept' = ⊥
+Ended statuses.ReadFault starts ends left left' kept kept' = ReadFaulted starts ends left left' kept kept'
+Ended statuses.WriteFault starts ends left left' kept kept' = Broken starts ends left left' kept kept' × WriteCut starts left left' kept kept'
+Ended statuses.OutletFault starts ends left left' kept kept' = OutletFaulted starts ends left left' kept kept'
+Ended statuses.Memory starts ends left left' kept kept' = Broken starts ends left left' kept kept'
+
+-- the call ended by itself: no fault of the outside came
+abbrev pub IsDoneOrMemory : Status → Type 0
+IsDoneOrMemory statuses.Done = Unit {0}
+IsDoneOrMemory statuses.Memory = Unit {0}
+IsDoneOrMemory _ = ⊥
+
+abbrev pub IsNoFault : Status → Type 0
+IsNoFault statuses.Done = Unit {0}
+IsNoFault (statuses.Refused line reason) = Unit {0}
+IsNoFault statuses.Memory = Unit {0}
+IsNoFault _ = ⊥
+
+-- the transcript was written to its end, or to its refusal
+abbrev pub IsWhole : Status → Type 0
+IsWhole statuses.Done = Unit {0}
+IsWhole (statuses.Refused line reason) = Unit {0}
+IsWhole _ = ⊥
+
+-- At most so many octets were read past the end of the line of a refusal other than NoEnd, and past that in whose octets
+-- a write was cut. What an outlet fault says of the line of its unit has the same.
+abbrev pub AheadOf : Status → List Account → Option (List ℕ) → Option (List ℕ) → Option (List ℕ) → Option (List ℕ) → Type 0
+AheadOf (statuses.Refused line reason) starts left left' kept kept' = reason ≢ NoEnd → ReadsAhead left left' line
+AheadOf statuses.WriteFault starts left left' kept kept' = WriteCut starts left left' kept kept'
+AheadOf _ starts left left' kept kept' = Unit {0}
+
+-- no box counted a fault, and none stands at the last number of its count
+abbrev pub NoneFailed : List Account → List Account → Type 0
+NoneFailed starts ends =
+    (box : ℕ) (before after : Account) → slice_get starts box ≡ Some before → slice_get ends box ≡ Some after → ¬ Rose before.faults after.faults
+
+-- the sums of an account hold in 64 bits
+abbrev pub Holds : Account → Type 0
+Holds account = (account.units < 2 ^ 64) × (account.octets < 2 ^ 64)
+
+-- each box is sound, and its sums hold what it has at the start and the valid units of its sink among these
+abbrev pub RoomFor : List Account → List SinkUnit → Type 0
+RoomFor starts units =
+    (box : ℕ) (account : Account) → slice_get starts box ≡ Some account
+    → IsTrue account.is_sound × Holds (with_units account (valid_for box units))
+
+-- each box has room for the valid units of a text
+abbrev pub RoomForText : List Account → List ℕ → Type 0
+RoomForText starts text = RoomFor starts (units_of airs_of starts (lines_of true text))
+
+-- Which statuses come for this text, by what became of the counts of the source (`read`), of the sink (`write`) and of the
+-- boxes, and by the room of the boxes.
+pub record Complete (text : List ℕ) (starts ends : List Account) (read read' write write' : ℕ) (status : Status) : Type 0 where
+  pub through_all : transcript_end airs_of starts (lines_of true text) ≡ through
+      → ¬ OutsideRose read read' → ¬ OutsideRose write write' → NoneFailed starts ends → IsDoneOrMemory status
+  pub room : RoomForText starts text → status ≢ statuses.OutletFault
+  pub no_fault : RoomForText starts text → ¬ OutsideRose read read' → ¬ OutsideRose write write' → IsNoFault status

@@ -1,0 +1,240 @@
+//! The run of a scenario, line by line.
+ghost use Rattle.std.specs.Prelude.{◌≡◌, ◌≢◌, ◌↔◌, ◌≤◌, ◌<◌, ◌+◌, ◌^◌, [], ◌∷◌, ℕ, List, Option, None, Some, Ok, Err, length, map, true, IfNone, IfOk, OnOk, OnErr, IsSome};
+ghost use Rattle.std.specs.Io.KnownBytes.{Appends};
+ghost use Rattle.bcast_io.specs.Faults.{Rose};
+ghost use Rattle.bcast_io.specs.TextLines.{TextLine, plain, text_limit, lines_of};
+ghost use Rattle.bcast_io.specs.Reading.{lines_left};
+ghost use Rattle.bcast_io.specs.Answering.{GoesOn};
+ghost use Rattle.unit_outlets.specs.Account.{Account};
+ghost use Rattle.source_machine.specs.Airs.{airs_of};
+ghost use Rattle.line_runs.specs.Runs.{through};
+ghost use Rattle.transcript_text.specs.declared.refusal.Refusal.{Refusal as Reason};
+ghost use Rattle.transcript_text.specs.declared.refusal.Refusal.TheVariants.{NoEnd};
+ghost use Rattle.scenario_history.specs.Boxes.{Took};
+ghost use Rattle.scenario_history.specs.Transcript.{transcript_end, units_of};
+ghost use Rattle.replay_command.specs.LineMeets.{LinesStand, refusal_at};
+ghost use Rattle.replay_command.specs.Replayed.{Done, RefusedAt, ReadFaulted, Broken, OutletFaulted, Comes, ReadsAhead, WriteCut};
+ghost use Rattle.replay_command.specs.Ended.{Ended, Complete, IsWhole, AheadOf};
+ghost use Rattle.replay_command.specs.Between.{ReadTo, TextIs, NextIs, RunTo, Refuses, Puts, StepRuns, LineRuns};
+
+use crate::machine::Machine;
+use crate::status::Status;
+use crate::stop::Stop;
+use crate::words::{Mode, Words, mode_of};
+use bcast_base::Octets;
+use bcast_io::{ByteSink, ByteSource, Failed, LineRead, LineReader, SinkFault, write_whole};
+use std::alloc::Global;
+use transcript_text::{Refusal, put_refusal};
+use unit_outlets::Outlet;
+
+/// Runs the scenario that the source gives, a step a line, and writes its transcript to the sink. Each `sink` line
+/// takes the next box of the list. The lines of a step are written before the next line is read.
+///
+/// `Done` comes where the text was read to its end and no line is refused. `Refused` has the line, from 1, and the reason;
+/// the line of the refusal was written, and nothing behind it was run. `Usage` comes for any word. `ReadFault`,
+/// `WriteFault` and `OutletFault` come only where the count of the source, of the sink or of a box rose. After `Memory` a
+/// front of the transcript was written.
+pub fn replay<S: ByteSource, K: ByteSink>(
+    alloc: Global,
+    words: &Words,
+    source: &mut S,
+    sink: &mut K,
+    outlets: &mut Vec<Box<dyn Outlet>>,
+) -> Status
+    // Any word is Usage: nothing is read or written then, and no box is called.
+    ensures usage { (result ≡ Status.Usage) ↔ (words.now ≢ []) }
+    ensures unread { result ≡ Status.Usage → source.new ≡ source.old }
+    ensures unwritten { result ≡ Status.Usage → sink.new ≡ sink.old }
+    ensures uncalled { result ≡ Status.Usage → outlets.new ≡ outlets.old }
+
+    // Each answer tells what was read, written and handed to the boxes.
+    ensures done { result ≡ Status.Done
+        → Done (map account outlets.old.items) (map account outlets.new.items) (S.left source.old) (S.left source.new) (K.contents sink.old) (K.contents sink.new) }
+    ensures refused { (line : ℕ) (reason : Reason) → result ≡ Status.Refused line reason
+        → RefusedAt (map account outlets.old.items) (map account outlets.new.items) (S.left source.old) (S.left source.new) (K.contents sink.old) (K.contents sink.new) line reason }
+    ensures read_fault { result ≡ Status.ReadFault → Rose (S.faults source.old) (S.faults source.new)
+        × ReadFaulted (map account outlets.old.items) (map account outlets.new.items) (S.left source.old) (S.left source.new) (K.contents sink.old) (K.contents sink.new) }
+    ensures write_fault { result ≡ Status.WriteFault → Rose (K.faults sink.old) (K.faults sink.new)
+        × Broken (map account outlets.old.items) (map account outlets.new.items) (S.left source.old) (S.left source.new) (K.contents sink.old) (K.contents sink.new) }
+    ensures outlet_fault { result ≡ Status.OutletFault
+        → OutletFaulted (map account outlets.old.items) (map account outlets.new.items) (S.left source.old) (S.left source.new) (K.contents sink.old) (K.contents sink.new) }
+    ensures memory { result ≡ Status.Memory
+        → Broken (map account outlets.old.items) (map account outlets.new.items) (S.left source.old) (S.left source.new) (K.contents sink.old) (K.contents sink.new) }
+
+    // Each answer but that of a fault leaves its count.
+    ensures no_read_fault { result ≢ Status.ReadFault → S.faults source.new ≡ S.faults source.old }
+    ensures no_write_fault { result ≢ Status.WriteFault → K.faults sink.new ≡ K.faults sink.old }
+
+    // The boxes took the units of the whole text, where the source tells it.
+    ensures boxes { (text : List ℕ) → S.left source.old ≡ Some text
+        → IsWhole result
+        → Took (map account outlets.old.items) (map account outlets.new.items) (units_of airs_of (map account outlets.old.items) (lines_of true text)) }
+
+    // What the outside does decides which answers can come.
+    ensures completeness { (text : List ℕ) → S.left source.old ≡ Some text → words.now ≡ []
+        → Complete text (map account outlets.old.items) (map account outlets.new.items)
+        (S.faults source.old) (S.faults source.new) (K.faults sink.old) (K.faults sink.new) result }
+
+    // At most 65,536 octets past the line of the answer were read.
+    ensures reading_ahead { AheadOf result (map account outlets.old.items) (S.left source.old) (S.left source.new) (K.contents sink.old) (K.contents sink.new) }
+{
+    match mode_of(words) {
+        Mode::Usage => Status::Usage,
+        Mode::Replay => run(alloc, source, sink, outlets),
+    }
+}
+
+/// Runs the lines of the source to their end, to a refusal or to a fault.
+fn run<S: ByteSource, K: ByteSink>(
+    alloc: Global,
+    source: &mut S,
+    sink: &mut K,
+    outlets: &mut Vec<Box<dyn Outlet>>,
+) -> Status
+    ensures ended { Ended result (map account outlets.old.items) (map account outlets.new.items) (S.left source.old) (S.left source.new) (K.contents sink.old) (K.contents sink.new) }
+    ensures read_fault { result ≡ Status.ReadFault → Rose (S.faults source.old) (S.faults source.new) }
+    ensures no_read_fault { result ≢ Status.ReadFault → S.faults source.new ≡ S.faults source.old }
+    ensures write_fault { result ≡ Status.WriteFault → Rose (K.faults sink.old) (K.faults sink.new) }
+    ensures no_write_fault { result ≢ Status.WriteFault → K.faults sink.new ≡ K.faults sink.old }
+{
+    let Ok(mut reader) = LineReader::new(alloc) else {
+        return Status::Memory;
+    };
+    let Ok(mut machine) = Machine::new(alloc) else {
+        return Status::Memory;
+    };
+    let mut text = Octets::new(alloc);
+    let mut number: u64 = 1;
+    'lines: loop {
+        match run_line(
+            number,
+            &mut reader,
+            &mut machine,
+            &mut text,
+            source,
+            sink,
+            outlets,
+        ) {
+            None => number += 1,
+            Some(status) => return status,
+        }
+    }
+}
+
+/// Reads the next line, of this number, runs it and writes what it brings: a status where it is the last.
+fn run_line<S: ByteSource, K: ByteSink>(
+    number: u64,
+    reader: &mut LineReader,
+    machine: &mut Machine,
+    text: &mut Octets,
+    source: &mut S,
+    sink: &mut K,
+    outlets: &mut Vec<Box<dyn Outlet>>,
+) -> Option<Status>
+    ensures runs { (starts : List Account) (lines : List TextLine) (left kept : Option (List ℕ)) → number ≡ length lines + 1
+        → ReadTo left (S.left source.old) lines reader.old → RunTo starts lines kept (K.contents sink.old) machine.old (map account outlets.old.items)
+        → LineRuns starts lines left (S.left source.new) kept (K.contents sink.new) reader.new machine.new (map account outlets.new.items) result }
+    ensures nearer { IfNone result (lines_left reader.new < lines_left reader.old) }
+    ensures read_fault { result ≡ Some Status.ReadFault → Rose (S.faults source.old) (S.faults source.new) }
+    ensures no_read_fault { result ≢ Some Status.ReadFault → S.faults source.new ≡ S.faults source.old }
+    ensures write_fault { result ≡ Some Status.WriteFault → Rose (K.faults sink.old) (K.faults sink.new) }
+    ensures no_write_fault { result ≢ Some Status.WriteFault → K.faults sink.new ≡ K.faults sink.old }
+{
+    match read_next(reader, source) {
+        Err(Failed) => Some(Status::ReadFault),
+        Ok(LineRead::End) => Some(end_text(number, machine, text, sink)),
+        Ok(LineRead::TextTooLong) => Some(refuse(number, Refusal::TextTooLong, text, sink)),
+        Ok(LineRead::LineTooLong) => Some(refuse(number, Refusal::LineTooLong, text, sink)),
+        Ok(LineRead::Line) => run_step(number, reader.line(), machine, text, sink, outlets),
+    }
+}
+
+/// Reads the next line.
+fn read_next<S: ByteSource>(reader: &mut LineReader, source: &mut S) -> Result<LineRead, Failed>
+    ensures next { (left : Option (List ℕ)) (lines : List TextLine) → ReadTo left (S.left source.old) lines reader.old
+        → NextIs left (S.left source.new) lines reader.new result }
+    ensures line { result ≡ Ok LineRead.Line → IsSome reader.new.line }
+    ensures nearer { IfOk result (λ read. GoesOn read reader.old reader.new) }
+    ensures cause { OnErr result (Rose (S.faults source.old) (S.faults source.new)) }
+    ensures none_failed { OnOk result (S.faults source.new ≡ S.faults source.old) }
+{
+    reader.next_line(source)
+}
+
+/// The end of the text, which may come only behind `end`.
+fn end_text<K: ByteSink>(number: u64, machine: &Machine, text: &mut Octets, sink: &mut K) -> Status
+    ensures ends { (starts : List Account) (lines : List TextLine) (left left' kept : Option (List ℕ)) (accounts : List Account) → number ≡ length lines + 1
+        → TextIs left left' lines true → RunTo starts lines kept (K.contents sink.old) machine.now accounts
+        → Ended result starts accounts left left' kept (K.contents sink.new) }
+    ensures never_read_fault { result ≢ Status.ReadFault }
+    ensures write_fault { result ≡ Status.WriteFault → Rose (K.faults sink.old) (K.faults sink.new) }
+    ensures no_write_fault { result ≢ Status.WriteFault → K.faults sink.new ≡ K.faults sink.old }
+{
+    if machine.is_over() {
+        return Status::Done;
+    }
+    refuse(number, Refusal::NoEnd, text, sink)
+}
+
+/// Writes the line of a refusal.
+fn refuse<K: ByteSink>(number: u64, reason: Refusal, text: &mut Octets, sink: &mut K) -> Status
+    ensures refuses { Refuses number reason (K.contents sink.old) (K.contents sink.new) result }
+    ensures never_read_fault { result ≢ Status.ReadFault }
+    ensures write_fault { result ≡ Status.WriteFault → Rose (K.faults sink.old) (K.faults sink.new) }
+    ensures no_write_fault { result ≢ Status.WriteFault → K.faults sink.new ≡ K.faults sink.old }
+{
+    text.clear();
+    match put_refusal(text, number, reason) {
+        Err(_) => Status::Memory,
+        Ok(()) => match put(text, sink) {
+            Some(fault) => fault,
+            None => Status::Refused {
+                line: number,
+                reason,
+            },
+        },
+    }
+}
+
+/// Runs a line, and writes what it brings.
+fn run_step<K: ByteSink>(
+    number: u64,
+    line: &[u8],
+    machine: &mut Machine,
+    text: &mut Octets,
+    sink: &mut K,
+    outlets: &mut Vec<Box<dyn Outlet>>,
+) -> Option<Status>
+    ensures runs { (starts : List Account) (lines : List TextLine) (left left' kept : Option (List ℕ)) → number ≡ length lines + 1
+        → Comes left left' lines (plain line.now) → ReadsAhead left left' number
+        → RunTo starts lines kept (K.contents sink.old) machine.old (map account outlets.old.items)
+        → StepRuns starts (plain line.now ∷ lines) left left' kept (K.contents sink.new) machine.new (map account outlets.new.items) result }
+    ensures never_read_fault { result ≢ Some Status.ReadFault }
+    ensures write_fault { result ≡ Some Status.WriteFault → Rose (K.faults sink.old) (K.faults sink.new) }
+    ensures no_write_fault { result ≢ Some Status.WriteFault → K.faults sink.new ≡ K.faults sink.old }
+{
+    text.clear();
+    match machine.line(line, outlets, text) {
+        Ok(()) => put(text, sink),
+        Err(Stop::Refused(reason)) => Some(refuse(number, reason, text, sink)),
+        Err(Stop::OutletFault) => match put(text, sink) {
+            Some(fault) => Some(fault),
+            None => Some(Status::OutletFault),
+        },
+        Err(Stop::Memory) => Some(Status::Memory),
+    }
+}
+
+/// Writes a text: a status where it was not written whole.
+fn put<K: ByteSink>(text: &Octets, sink: &mut K) -> Option<Status>
+    ensures puts { Puts text.now (K.contents sink.old) (K.contents sink.new) result }
+    ensures never_read_fault { result ≢ Some Status.ReadFault }
+    ensures write_fault { result ≡ Some Status.WriteFault → Rose (K.faults sink.old) (K.faults sink.new) }
+    ensures no_write_fault { result ≢ Some Status.WriteFault → K.faults sink.new ≡ K.faults sink.old }
+{
+    match write_whole(sink, text.as_slice()) {
+        Ok(()) => None,
+        Err(SinkFault::Failed) => Some(Status::WriteFault),
+        Err(SinkFault::Memory) => Some(Status::Memory),
+    }
+}

@@ -1,0 +1,47 @@
+use transcript_text::Refusal;
+
+/// How a call of `replay` ended.
+#[derive(Clone, Copy, Debug, PartialEq, Eq)]
+pub enum Status {
+    /// The text was read to its end, and its transcript was written.
+    Done,
+    /// The transcript ends with this refusal of this line, from 1, and was written.
+    Refused { line: u64, reason: Refusal },
+    /// The words ask for nothing that there is.
+    Usage,
+    /// The source failed.
+    ReadFault,
+    /// The sink failed.
+    WriteFault,
+    /// The box of a sink failed.
+    OutletFault,
+    /// Memory ran out.
+    Memory,
+}
+
+impl Status {
+    /// The exit status of the program.
+    pub(crate) fn exit_code(self) -> u8 {
+        match self {
+            Status::Done => 0,
+            Status::Refused { .. } => 1,
+            Status::Usage => 2,
+            Status::ReadFault => 3,
+            Status::WriteFault => 4,
+            Status::OutletFault => 5,
+            Status::Memory => 6,
+        }
+    }
+
+    /// What the program says on standard error.
+    pub(crate) fn message(self) -> Option<&'static str> {
+        match self {
+            Status::Done | Status::Refused { .. } => None,
+            Status::Usage => Some("usage: replay [--migrate | --toml | --seed N --events M]"),
+            Status::ReadFault => Some("read fault"),
+            Status::WriteFault => Some("write fault"),
+            Status::OutletFault => Some("outlet fault"),
+            Status::Memory => Some("no memory"),
+        }
+    }
+}
