@@ -3,4 +3,4 @@
 
 mod laws;
 
-pub use laws::stub;
+pub use laws::{order_law, units_law};
