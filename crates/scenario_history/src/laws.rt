@@ -13,6 +13,10 @@ ghost use Rattle.scenario_history.specs.Sinks.{sink_calls};
 ghost use Rattle.scenario_history.specs.Lines.{rules_of, steps_of};
 ghost use Rattle.scenario_history.specs.Laws.{Closed, InSourceOrder, IsOfSlot, IsStayStruck, closed_since, injected_since, is_made, is_tuned, shown_since, slots_closed, valid_in};
 
+use isoal_unframed::units_are_struck;
+use scenario_text::a_line_says_one_step;
+use source_machine::{air_is_by_division, what_was_sent_stays};
+
 /// The units law of a stay (Core 5.2, volume 6 part G, section 2.1): where no PDU was injected into a sink since it was put
 /// on its group, what the closes of the stay hand on a stream that it takes is one entry for each slot of each closed
 /// event, in order: the source's unit of the slot, valid, where the slot has one and all numbers that carry it are heard,
@@ -21,7 +25,12 @@ pub fn units_law()
     ensures { (starts : List Account) (lines : List TextLine) (n bis : ℕ) (tuning : Tuning) → Accepted (rules_of airs_of starts) lines
         → place (sink_calls airs_of n (steps_of lines)) ≡ Some tuning → Contains (streams_of tuning.which) bis
         → injected_since (is_tuned n) n (steps_of lines) ≡ false → IsStayStruck (steps_of lines) n tuning bis }
-{}
+{
+    a_line_says_one_step();
+    air_is_by_division();
+    what_was_sent_stays();
+    units_are_struck();
+}
 
 /// The order of units over all stays of a sink since it was made (Core 5.2, volume 6 part G, sections 2.1 and 3.2): the
 /// events that it closed rise, so none is closed twice; what it handed up on a stream is one entry for each slot of each
@@ -36,4 +45,9 @@ pub fn order_law()
     ensures in_source_order { (starts : List Account) (lines : List TextLine) (n bis : ℕ) → Accepted (rules_of airs_of starts) lines
         → n ≤ 7 → 1 ≤ bis → bis ≤ 31 → injected_since (is_made n) n (steps_of lines) ≡ false
         → InSourceOrder (setup_of (steps_of lines)) (source_calls (steps_of lines)) bis (valid_in (shown_since n bis (steps_of lines))) }
-{}
+{
+    a_line_says_one_step();
+    air_is_by_division();
+    what_was_sent_stays();
+    units_are_struck();
+}
