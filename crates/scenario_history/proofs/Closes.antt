@@ -162,7 +162,7 @@ no_start : (start : Option ℕ) → is_some start ≡ false → unwrap_or start 
 no_start None idle = refl
 no_start (Some first) idle = absurd (false≢true (sym idle))
 
-moves_by : (boxes n : ℕ) (step : Step) (earlier : List Step) (calls : List Call) → Phase earlier → Permitted boxes earlier step → front calls (next_in earlier) ≤ next_in earlier
+pub moves_by : (boxes n : ℕ) (step : Step) (earlier : List Step) (calls : List Call) → Phase earlier → Permitted boxes earlier step → front calls (next_in earlier) ≤ next_in earlier
     → calls ≡ sink_calls airs_of n earlier
     → Moves calls (next_in earlier) (closed_by n earlier step) (with_sink_call airs_of n step earlier calls) (next_in (step ∷ earlier))
 moves_by boxes n (steps.Sink sink streams slots mtu) earlier calls phase permits within is = gone_moves (sink == n) calls (next_in earlier) within

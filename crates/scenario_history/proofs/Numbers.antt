@@ -234,7 +234,7 @@ zip_at R f g start (suc count) all i least below = elim (cases_eq start i) [
   | inr other ↦ zip_at R f g (start + 1) count all.1 i (omega (arith, least, other)) (omega (arith, below))
 ]
 
-octets_inside : Handed → List ℕ
+abbrev octets_inside : Handed → List ℕ
 octets_inside (valid b t o) = o
 octets_inside (lost b t) = []
 
@@ -246,9 +246,11 @@ opened_octets b t o stream time octets is = ap octets_inside is
 
 struck_slots : (setup : Setup) (whole : List SourceCall) (tuning : Tuning) (bis event slot : ℕ) (calls : List stays.Call) (unit : Handed) → TunedTo setup tuning → tuning.first ≤ event
     → IsStruck (stay_on tuning bis) (slots_of setup whole bis) calls event slot unit → IsSlots setup whole bis event slot unit
-struck_slots setup whole tuning bis event slot calls (valid b t o) on least struck stream time octets is =
-    (sym (ap bis_of is) ∙ struck.0, sym (ap time_in is) ∙ struck.1 ∙ slot_time_is setup tuning bis event slot on least,
-    struck.2.has ∙ ap (λ u. Some u) (opened_octets b t o stream time octets is))
+struck_slots setup whole tuning bis event slot calls (valid b t o) on least struck stream time octets is = (
+  sym (ap bis_of is) ∙ struck.0,
+  sym (ap time_in is) ∙ struck.1 ∙ slot_time_is setup tuning bis event slot on least,
+  struck.2.has ∙ ap (λ u. Some u) (opened_octets b t o stream time octets is),
+)
 struck_slots setup whole tuning bis event slot calls (lost b t) on least struck stream time octets is = absurd (valid_not_lost b t stream time octets is)
 
 last_batch : (setup : Setup) (whole : List SourceCall) (tuning : Tuning) (bis event : ℕ) (sc : List stays.Call) → TunedTo setup tuning
@@ -270,8 +272,8 @@ last_batch setup whole tuning bis event sc on is past before now =
     begun_within setup.info (before_event (source_stream setup.info bis whole) (event - setup.first)) in
     batch setup whole bis event (unit_at (stay_on tuning bis) sc event) 0 (per_event_of tuning.info) (first_in setup.info (source_stream setup.info bis whole) (event - setup.first))
     (omega (arith, count)) (omega arith) (omega (arith, begun_least))
-    (λ slot least below. struck_slots setup whole tuning bis event slot (stays.close ∷ sc) (unit_at (stay_on tuning bis) sc event) on past
-    (subst (λ e. IsStruck (stay_on tuning bis) (slots_of setup whole bis) (stays.close ∷ sc) e slot (unit_at (stay_on tuning bis) sc e)) is
+    (λ slot least below. struck_slots setup whole tuning bis event slot (stays.close ∷ sc) (unit_at (stay_on tuning bis) sc event slot) on past
+    (subst (λ e. IsStruck (stay_on tuning bis) (slots_of setup whole bis) (stays.close ∷ sc) e slot (unit_at (stay_on tuning bis) sc e slot)) is
     (zip_at (λ (at : Place) entry. IsStruck (stay_on tuning bis) (slots_of setup whole bis) (stays.close ∷ sc) at.event at.slot entry)
     (λ slot. record { event = opened (stay_on tuning bis) sc; slot = slot }) (unit_at (stay_on tuning bis) sc (opened (stay_on tuning bis) sc)) 0 (per_event_of tuning.info) rest slot least below)))
 

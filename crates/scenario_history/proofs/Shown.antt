@@ -135,7 +135,7 @@ one_of g n start (suc count) least below others = elim (cases_eq start n) [
       ∙ one_of g n (start + 1) count (omega (arith, least, apart)) (omega (arith, below)) others
 ]
 
-sink_closing : (boxes n : ℕ) (made : List Step) (event : ℕ) → Legal boxes made → n ≤ 7 → of_sink n (closing_at airs_of made (Some event)) ≡ handed_at (sink_calls airs_of n made) event
+pub sink_closing : (boxes n : ℕ) (made : List Step) (event : ℕ) → Legal boxes made → n ≤ 7 → of_sink n (closing_at airs_of made (Some event)) ≡ handed_at (sink_calls airs_of n made) event
 unfolding sink_numbers
 sink_closing boxes n made event legal within =
     of_sinks n (λ m. closing_by event m (sink_calls airs_of m made) (box_of m made)) (range_with_len 0 8)

@@ -165,9 +165,10 @@ place_before n _ earlier calls tuning is = inl is
 
 put_to : (boxes n : ℕ) (step : Step) (earlier : List Step) (tuning : Tuning) → Permitted boxes earlier step → PutBy n step earlier tuning
     → (is_started (step ∷ earlier) ≡ true) × TunedTo (setup_of (step ∷ earlier)) tuning
-put_to boxes n (steps.Tuned sink which) earlier tuning permits put =
-    (sends earlier permits.in_order,
-    subst (TunedTo (setup_of earlier)) put.1 (record { info = refl; first = omega arith; anchor = refl; delay = refl }))
+put_to boxes n (steps.Tuned sink which) earlier tuning permits put = (
+  sends earlier permits.in_order,
+  subst (TunedTo (setup_of earlier)) put.1 (record { info = refl; first = omega arith; anchor = refl; delay = refl }),
+)
 put_to boxes n _ earlier tuning permits put = absurd put
 
 -- a sink on a group is on the source's, which was started
@@ -329,8 +330,10 @@ all_own counted stays setup whole tuning boxes n bis (step ∷ earlier) legal wi
     let before : Within setup whole earlier = within_before boxes setup whole earlier step phase permits within in
     own_after setup whole tuning boxes n bis step earlier (sink_calls airs_of n earlier) (injected_since (is_tuned n) n earlier) phase permits
     (λ started. sends_own counted stays setup whole tuning earlier phase started before same) least is clean
-    (λ there none. ((tuned_to boxes n earlier tuning legal.0 there).0,
-    all_own counted stays setup whole tuning boxes n bis earlier legal.0 before same least there none))
+    (λ there none. (
+      (tuned_to boxes n earlier tuning legal.0 there).0,
+      all_own counted stays setup whole tuning boxes n bis earlier legal.0 before same least there none,
+    ))
 
 -- ---- own PDUs are read as what was laid
 
