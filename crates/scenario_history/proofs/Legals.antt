@@ -43,7 +43,7 @@ in_range ranged version past = tt
 
 legal_said : (boxes : ℕ) (steps : List Step) (said : Said) → Legal boxes steps → InRange said → refusal_said airs_of boxes steps said ≡ None
     → Legal boxes (with_said said steps)
-legal_said boxes steps (a_step step) before ranged none = (before, none, ranged)
+legal_said boxes steps (a_step this) before ranged none = (before, none, ranged)
 legal_said boxes steps nothing before ranged none = before
 legal_said boxes steps (unsaid reason) before ranged none = before
 

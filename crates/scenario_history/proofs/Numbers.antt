@@ -22,7 +22,7 @@ use Rattle.isoal_unframed.specs.Histories.{handed, unit_at, units_of}
 use Rattle.isoal_unframed.specs.Struck.{IsStruck, Place, Struck, closed_slots}
 use Rattle.isoal_unframed.specs.Windows.{time_of}
 use Rattle.source_machine.specs.Airs.{airs_of, slots_of}
-use Rattle.source_machine.specs.Calls.{Setup, Call as SourceCall, give, event as perform, events, given, laid_with, stream_calls as source_stream}
+use Rattle.source_machine.specs.Calls.{Setup, Call as SourceCall, give, event as perform, events, given, laid_with, next_of, stream_calls as source_stream}
 use Rattle.delegator_machine.specs.Calls.{Tuning, Call, tune, hear, tick, place}
 use Rattle.delegator_machine.specs.Handing.{bis_of, handed_at, handed_by as ticked_by, of_stream}
 use Rattle.delegator_machine.specs.Streams.{closes, is_in, stay_on, stream_calls}
@@ -161,15 +161,15 @@ IsSlots setup whole bis event slot unit = (stream : ℕ) → (time : ℕ) → (o
     → (stream ≡ bis) × (time ≡ slot_time setup event slot) × (slots_of setup whole bis event slot ≡ Some octets)
 
 batch_one : (setup : Setup) (whole : List SourceCall) (bis event slot low : ℕ) (unit : Handed) (rest : List Handed)
-    → slot < per_event_of setup.info → low ≤ first_in setup.info (source_stream setup.info bis whole) (event - setup.first) + slot
+    → setup.first ≤ event → event < next_of setup whole → slot < per_event_of setup.info → low ≤ first_in setup.info (source_stream setup.info bis whole) (event - setup.first) + slot
     → low ≤ past_in setup.info (source_stream setup.info bis whole) (event - setup.first)
     → IsSlots setup whole bis event slot unit
     → ((least : ℕ) → least ≤ first_in setup.info (source_stream setup.info bis whole) (event - setup.first) + (slot + 1)
     → least ≤ past_in setup.info (source_stream setup.info bis whole) (event - setup.first)
     → Batch setup whole bis least (past_in setup.info (source_stream setup.info bis whole) (event - setup.first)) (valid_in rest))
     → Batch setup whole bis low (past_in setup.info (source_stream setup.info bis whole) (event - setup.first)) (valid_in (unit ∷ rest))
-batch_one setup whole bis event slot low (lost stream time) rest inside least most is more = more low (omega (arith, least)) most
-batch_one setup whole bis event slot low (valid stream time octets) rest inside least most is more =
+batch_one setup whole bis event slot low (lost stream time) rest from_first performed_then inside least most is more = more low (omega (arith, least)) most
+batch_one setup whole bis event slot low (valid stream time octets) rest from_first performed_then inside least most is more =
     let here = is stream time octets refl in
     let count : first_in setup.info (source_stream setup.info bis whole) (event - setup.first) + slot < length (accepted (before_event (source_stream setup.info bis whole) (event - setup.first))) =
     slice_get_within (accepted (before_event (source_stream setup.info bis whole) (event - setup.first))) (first_in setup.info (source_stream setup.info bis whole) (event - setup.first) + slot) octets here.2 in
@@ -182,6 +182,8 @@ batch_one setup whole bis event slot low (valid stream time octets) rest inside 
       event = event;
       slot = slot;
       octets = octets;
+      least = from_first;
+      performed = performed_then;
       slot_below = inside;
       number_is = refl;
       accepted = found;
@@ -193,15 +195,15 @@ batch_one setup whole bis event slot low (valid stream time octets) rest inside 
       given = (one, next.given);
     }
 
-batch : (setup : Setup) (whole : List SourceCall) (bis event : ℕ) (g : ℕ → Handed) (start count low : ℕ) → start + count ≤ per_event_of setup.info
+batch : (setup : Setup) (whole : List SourceCall) (bis event : ℕ) (g : ℕ → Handed) (start count low : ℕ) → setup.first ≤ event → event < next_of setup whole → start + count ≤ per_event_of setup.info
     → low ≤ first_in setup.info (source_stream setup.info bis whole) (event - setup.first) + start
     → low ≤ past_in setup.info (source_stream setup.info bis whole) (event - setup.first)
     → ((slot : ℕ) → start ≤ slot → slot < start + count → IsSlots setup whole bis event slot (g slot))
     → Batch setup whole bis low (past_in setup.info (source_stream setup.info bis whole) (event - setup.first)) (valid_in (map g (range_with_len start count)))
-batch setup whole bis event g start zero low inside least most is = record { numbers = []; climb = most; given = tt }
-batch setup whole bis event g start (suc count) low inside least most is =
-    batch_one setup whole bis event start low (g start) (map g (range_with_len (start + 1) count)) (omega (arith, inside)) least most (is start (omega arith) (omega arith))
-    (λ from from_least from_most. batch setup whole bis event g (start + 1) count from (omega (arith, inside)) from_least from_most
+batch setup whole bis event g start zero low from_first performed_then inside least most is = record { numbers = []; climb = most; given = tt }
+batch setup whole bis event g start (suc count) low from_first performed_then inside least most is =
+    batch_one setup whole bis event start low (g start) (map g (range_with_len (start + 1) count)) from_first performed_then (omega (arith, inside)) least most (is start (omega arith) (omega arith))
+    (λ from from_least from_most. batch setup whole bis event g (start + 1) count from from_first performed_then (omega (arith, inside)) from_least from_most
     (λ slot past below. is slot (omega (arith, past)) (omega (arith, below))))
 
 -- one event more
@@ -254,12 +256,12 @@ struck_slots setup whole tuning bis event slot calls (valid b t o) on least stru
 struck_slots setup whole tuning bis event slot calls (lost b t) on least struck stream time octets is = absurd (valid_not_lost b t stream time octets is)
 
 last_batch : (setup : Setup) (whole : List SourceCall) (tuning : Tuning) (bis event : ℕ) (sc : List stays.Call) → TunedTo setup tuning
-    → opened (stay_on tuning bis) sc ≡ event → tuning.first ≤ event
+    → opened (stay_on tuning bis) sc ≡ event → tuning.first ≤ event → setup.first ≤ event → event < next_of setup whole
     → Struck (stay_on tuning bis) (slots_of setup whole bis) sc (handed (stay_on tuning bis) sc)
     → Struck (stay_on tuning bis) (slots_of setup whole bis) (stays.close ∷ sc) (handed (stay_on tuning bis) (stays.close ∷ sc))
     → Batch setup whole bis (first_in setup.info (source_stream setup.info bis whole) (event - setup.first)) (past_in setup.info (source_stream setup.info bis whole) (event - setup.first))
     (valid_in (units_of (stay_on tuning bis) sc event))
-last_batch setup whole tuning bis event sc on is past before now =
+last_batch setup whole tuning bis event sc on is past from_first performed_then before now =
     let rest : AllZip (λ (at : Place) entry. IsStruck (stay_on tuning bis) (slots_of setup whole bis) (stays.close ∷ sc) at.event at.slot entry)
     (map (λ slot. record { event = opened (stay_on tuning bis) sc; slot = slot }) (range_with_len 0 (per_event_of tuning.info)))
     (map (unit_at (stay_on tuning bis) sc (opened (stay_on tuning bis) sc)) (range_with_len 0 (per_event_of tuning.info))) =
@@ -270,7 +272,7 @@ last_batch setup whole tuning bis event sc on is past before now =
     let count : per_event_of tuning.info ≡ per_event_of setup.info = ap per_event_of on.info in
     let begun_least : begun setup.info (before_event (source_stream setup.info bis whole) (event - setup.first)) ≤ length (accepted (before_event (source_stream setup.info bis whole) (event - setup.first))) =
     begun_within setup.info (before_event (source_stream setup.info bis whole) (event - setup.first)) in
-    batch setup whole bis event (unit_at (stay_on tuning bis) sc event) 0 (per_event_of tuning.info) (first_in setup.info (source_stream setup.info bis whole) (event - setup.first))
+    batch setup whole bis event (unit_at (stay_on tuning bis) sc event) 0 (per_event_of tuning.info) (first_in setup.info (source_stream setup.info bis whole) (event - setup.first)) from_first performed_then
     (omega (arith, count)) (omega arith) (omega (arith, begun_least))
     (λ slot least below. struck_slots setup whole tuning bis event slot (stays.close ∷ sc) (unit_at (stay_on tuning bis) sc event slot) on past
     (subst (λ e. IsStruck (stay_on tuning bis) (slots_of setup whole bis) (stays.close ∷ sc) e slot (unit_at (stay_on tuning bis) sc e slot)) is
@@ -281,10 +283,10 @@ last_batch setup whole tuning bis event sc on is past before now =
 close_batch : Counted → SentStays → UnitsStruck → (boxes n bis : ℕ) (setup : Setup) (whole : List SourceCall) (tuning : Tuning) (made : List Step) → Legal boxes made
     → Within setup whole made → is_started made ≡ true → TunedTo setup tuning → 1 ≤ bis → place (sink_calls airs_of n made) ≡ Some tuning → injected_since (is_tuned n) n made ≡ false
     → ((event : ℕ) → (slot : ℕ) → (unit : List ℕ) → slots_of setup whole bis event slot ≡ Some unit → length unit ≤ setup.info.max_sdu)
-    → (event : ℕ) → opened (stay_on tuning bis) (stream_calls (stay_on tuning bis) (sink_calls airs_of n made)) ≡ event → tuning.first ≤ event
+    → (event : ℕ) → opened (stay_on tuning bis) (stream_calls (stay_on tuning bis) (sink_calls airs_of n made)) ≡ event → tuning.first ≤ event → event < next_of setup whole
     → Batch setup whole bis (first_in setup.info (source_stream setup.info bis whole) (event - setup.first)) (past_in setup.info (source_stream setup.info bis whole) (event - setup.first))
     (valid_in (units_of (stay_on tuning bis) (stream_calls (stay_on tuning bis) (sink_calls airs_of n made)) event))
-close_batch counted stays_sent struck boxes n bis setup whole tuning made legal within started on least is clean fits event opened_at past =
+close_batch counted stays_sent struck boxes n bis setup whole tuning made legal within started on least is clean fits event opened_at past performed_then =
     let phase : Phase made = phase_of boxes made legal in
     let info : tuning.info ≡ (setup_of made).info = on.info ∙ ap (λ (s : Setup). s.info) (sym (within.setup_is started)) in
     let bounds : Bounds tuning.info = subst Bounds (sym info) (bounds_in made phase started) in
@@ -299,7 +301,7 @@ close_batch counted stays_sent struck boxes n bis setup whole tuning made legal 
     let now : Struck (stay_on tuning bis) (slots_of setup whole bis) (stays.close ∷ stream_calls (stay_on tuning bis) (sink_calls airs_of n made)) (handed (stay_on tuning bis) (stays.close ∷ stream_calls (stay_on tuning bis) (sink_calls airs_of n made))) =
     struck (stay_on tuning bis) (slots_of setup whole bis) (stays.close ∷ stream_calls (stay_on tuning bis) (sink_calls airs_of n made)) bounds plain short
     (from_source (stay_on tuning bis) (slots_of setup whole bis) (stays.close ∷ stream_calls (stay_on tuning bis) (sink_calls airs_of n made)) (tt, own)) in
-    last_batch setup whole tuning bis event (stream_calls (stay_on tuning bis) (sink_calls airs_of n made)) on opened_at past before now
+    last_batch setup whole tuning bis event (stream_calls (stay_on tuning bis) (sink_calls airs_of n made)) on opened_at past (omega (arith, past, on.first)) performed_then before now
 
 -- ---- no PDU was injected into the sink
 
@@ -404,7 +406,7 @@ closed_orders counted stays_sent struck boxes n bis setup whole made ready event
     let more : events (source_calls made) ≤ events whole = subst (λ calls. events (source_calls made) ≤ events calls) (sym ready.within.calls.1) (events_more ready.within.calls.0 (source_calls made)) in
     let laid : events whole ≤ laid_events (source_stream setup.info bis whole) = laid_least setup.info bis whole in
     let last = close_batch counted stays_sent struck boxes n bis setup whole tuning made ready.legal_is ready.within started on ready.least is (clean_stay n made tuning is ready.clean) ready.fits
-    (tuning.first + closes tuning (sink_calls airs_of n made)) (opened_is tuning (sink_calls airs_of n made) bis) (omega arith) in
+    (tuning.first + closes tuning (sink_calls airs_of n made)) (opened_is tuning (sink_calls airs_of n made) bis) (omega arith) (omega (arith, over, before, same, more)) in
     subst (λ (us : List Handed). Ordered setup whole bis later (units ++ valid_in us)) (sym shown)
     (ordered_more setup whole bis (tuning.first + closes tuning (sink_calls airs_of n made)) later units
     (valid_in (units_of (stay_on tuning bis) (stream_calls (stay_on tuning bis) (sink_calls airs_of n made)) (tuning.first + closes tuning (sink_calls airs_of n made))))

@@ -1,7 +1,7 @@
 -- What the laws of the units speak of: the PDUs that were injected, the events that a sink closed, the units that it handed
 -- up, and the units that the source accepted (Core 5.2, volume 6 part G, sections 2.1 and 3.2). Lists of steps have the
 -- newest first; lists of events, of slots and of units have the oldest first.
-use Rattle.std.specs.Prelude.{ℕ, ◌+◌, ◌-◌, ◌<◌, ◌≡◌, ◌==◌, ◌||◌, nat_le, Bool, true, false, List, [], ◌∷◌, ◌++◌, map, Option, None, Some, slice_get, if◌then◌else◌}
+use Rattle.std.specs.Prelude.{ℕ, ◌+◌, ◌-◌, ◌<◌, ◌≤◌, ◌≡◌, ◌==◌, ◌||◌, nat_le, Bool, true, false, List, [], ◌∷◌, ◌++◌, map, Option, None, Some, slice_get, if◌then◌else◌}
 use Rattle.std.specs.List.{AllZip, filter, flat_map, range_with_len}
 use Rattle.std.specs.List.Sorted.{IsStrictlyIncreasing}
 use Rattle.big_info.specs.Schedule.{per_event_of}
@@ -14,7 +14,7 @@ use Rattle.isoal_unframed.specs.Calls.{begun}
 use Rattle.isoal_unframed.specs.Histories.{handed}
 use Rattle.isoal_unframed.specs.Struck.{Place, Struck}
 use Rattle.source_machine.specs.Airs.{airs_of, slots_of}
-use Rattle.source_machine.specs.Calls.{Setup, Call as SourceCall, given, stream_calls as source_stream}
+use Rattle.source_machine.specs.Calls.{Setup, Call as SourceCall, given, next_of, stream_calls as source_stream}
 use Rattle.delegator_machine.specs.Calls.{Tuning, Call, place}
 use Rattle.delegator_machine.specs.Handing.{bis_of, of_stream}
 use Rattle.delegator_machine.specs.Streams.{closes, is_in, stay_on, stream_calls}
@@ -136,11 +136,14 @@ abbrev pub number_of_slot : Setup → List SourceCall → ℕ → ℕ → ℕ �
 number_of_slot setup calls bis event slot =
     begun setup.info (before_event (source_stream setup.info bis calls) (event - setup.first)) + slot
 
--- the unit of this number among those that the source accepted on the stream, valid, with its octets, at the time of its slot
+-- the unit of this number among those that the source accepted on the stream, valid, with its octets, at the time of its
+-- slot in an event that was performed
 pub record IsGiven (setup : Setup) (calls : List SourceCall) (bis number : ℕ) (unit : Handed) : Type 0 where
   pub event : ℕ
   pub slot : ℕ
   pub octets : List ℕ
+  pub least : setup.first ≤ event
+  pub performed : event < next_of setup calls
   pub slot_below : slot < per_event_of setup.info
   pub number_is : number ≡ number_of_slot setup calls bis event slot
   pub accepted : slice_get (given bis calls) number ≡ Some octets
