@@ -13,7 +13,6 @@ mod sink;
 mod sink_steps;
 mod source_steps;
 mod step;
-mod stop;
 mod sums;
 mod status;
 mod stop;

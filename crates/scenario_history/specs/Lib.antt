@@ -6,3 +6,4 @@ pub mod Refusals
 pub mod Output
 pub mod Lines
 pub mod Transcript
+pub mod Laws

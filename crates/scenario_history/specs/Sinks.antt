@@ -38,7 +38,7 @@ abbrev pub heard_on_air : Airs → List Step → ℕ → ℕ → List Call → L
 heard_on_air airs earlier lose zero calls = calls
 heard_on_air airs earlier lose (suc i) calls =
     unless_lost (is_lost (setup_of earlier).info (event_back earlier 0) lose (spot_at (setup_of earlier).info i))
-        (hear_at airs earlier (event_back earlier 0) (spot_at (setup_of earlier).info i)) (heard_on_air airs earlier lose i calls)
+    (hear_at airs earlier (event_back earlier 0) (spot_at (setup_of earlier).info i)) (heard_on_air airs earlier lose i calls)
 
 -- on these streams from the next event on
 abbrev pub tuning_of : List Step → ℕ → Tuning
