@@ -8,7 +8,7 @@ mod Places
 mod Rows
 mod Runs
 mod SlotSteps
-mod Stands
+pub mod Stands
 mod Struck
 mod Turns
 mod UnitLaws
