@@ -1,0 +1,6 @@
+mod Advances
+mod Histories
+mod LaidEvents
+mod Lists
+mod Payloads
+mod Standing

@@ -1,0 +1,119 @@
+-- The PDU that a stream keeps of an event that was performed.
+use Rattle.std.proofs.Common.{ℕ, ◌≡◌, ◌<◌, ◌≤◌, ◌+◌, ◌-◌, ◌*◌, ◌/◌, ◌%◌, min, Option, Some, None, List, [], ◌++◌, length, arith, ◌∙◌, ap, sym, refl, inl, inr}
+use Rattle.std.proofs.lemmas.List.FromFn.{get_or-map-range_with_len, length-map-range_with_len}
+use Rattle.std.proofs.lemmas.Nat.{div-mul-add, mod-mul-add, mod_below}
+use Rattle.std.proofs.lemmas.Option.{none-some, slice_get-get_or}
+use Rattle.std.proofs.lemmas.Bool.{cases_lt, le-ltb, lt-ltb}
+use Rattle.std.proofs.Math.Nat.{div-lt_iff_lt-mul, mul-le-mul_left}
+use Rattle.std.specs.List.{slice_get}
+use Rattle.std.specs.Option.{option_and_then}
+use Rattle.big_info.specs.declared.info.BigInfo.{BigInfo}
+use Rattle.big_info.specs.Schedule.{group_count, horizon_of}
+use Rattle.isoal_unframed.specs.Air.{Air, Laid, event_at, laid_u, pdu_at, unframed_air}
+use Rattle.isoal_unframed.specs.Calls.{events as laid_events}
+use Rattle.radio_schedule.specs.PayloadNumber.{ahead_of, payload_number}
+use Rattle.source_machine.specs.Airs.{airs_of, content_at, pdu_of}
+use Rattle.iso_pdu.specs.Spelling.{pdu as spelled}
+use Rattle.source_machine.specs.Calls.{Setup, Call, events, next_of, stream_calls}
+use Rattle.source_machine.specs.Sources.{kept_of, last_laid, pdus_at, pdus_in, stream_of}
+use Rattle.source_machine.specs.Streams.{sent_of}
+use Rattle.source_machine.proofs.Histories.{ahead_laid, air_at, air_length, calls_keep}
+
+pub event_of_number : (info : BigInfo) (event subevent : ℕ) → 1 ≤ info.bn
+    → payload_number info event subevent / info.bn ≡ event + ahead_of info (subevent / info.bn)
+event_of_number info event subevent some =
+    div-mul-add (event + ahead_of info (subevent / info.bn)) info.bn (subevent % info.bn) (mod_below subevent info.bn some)
+
+pub place_of_number : (info : BigInfo) (event subevent : ℕ) → 1 ≤ info.bn
+    → payload_number info event subevent % info.bn ≡ subevent % info.bn
+place_of_number info event subevent some =
+    mod-mul-add (event + ahead_of info (subevent / info.bn)) info.bn (subevent % info.bn) (mod_below subevent info.bn some)
+
+-- a PDU of the list of an event is the PDU of the event
+of_event : (event : Option Laid) (place : ℕ) (pdu : List ℕ) → slice_get (pdus_in event) place ≡ Some pdu
+    → option_and_then (λ laid. slice_get laid.pdus place) event ≡ Some pdu
+of_event None place pdu is = absurd (none-some pdu is)
+of_event (Some laid) place pdu is = is
+
+last_laid_at : (count : ℕ) (air : Air) (i event : ℕ) → i < min count (length air) → (length air - count) + i ≡ event
+    → slice_get (last_laid count air) i ≡ Some (pdus_at air event)
+last_laid_at count air i event within at =
+    let long : length (last_laid count air) ≡ min count (length air) = length-map-range_with_len (pdus_at air) (length air - count) (min count (length air)) in
+    slice_get-get_or (last_laid count air) i [] (omega arith)
+    ∙ ap (λ pdus. Some pdus) (get_or-map-range_with_len (pdus_at air) (length air - count) (min count (length air)) i event [] within at)
+
+pub sent_is : (setup : Setup) (calls : List Call) (back bis subevent : ℕ) (pdu : List ℕ) → 1 ≤ setup.info.bn
+    → 1 ≤ bis → bis ≤ setup.info.num_bis → back ≤ 31 → back < events calls
+    → ahead_of setup.info (subevent / setup.info.bn) ≤ horizon_of setup.info
+    → sent_of (stream_of setup calls bis) back subevent ≡ Some pdu
+    → pdu_of setup (airs_of setup calls) (next_of setup calls - 1 - back) bis subevent ≡ Some pdu
+sent_is setup calls back bis subevent pdu some least within near performed ahead is =
+    let info = setup.info in
+    let bn = info.bn in
+    let air = unframed_air info (stream_calls info bis calls) in
+    let kept = kept_of info in
+    let e : ℕ = next_of setup calls - 1 - back - setup.first in
+    let a : ℕ = ahead_of info (subevent / bn) in
+    let place : payload_number info 0 subevent % bn ≡ payload_number info e subevent % bn =
+    place_of_number info 0 subevent some ∙ sym (place_of_number info e subevent some) in
+    let length_is : length air ≡ events calls + horizon_of info =
+    air_length info (stream_calls info bis calls) ∙ ahead_laid info bis calls (omega arith) in
+    let long : length (last_laid kept air) ≡ min kept (length air) = length-map-range_with_len (pdus_at air) (length air - kept) (min kept (length air)) in
+    let here : payload_number info 0 subevent / bn ≡ 0 + a = event_of_number info 0 subevent some in
+    let there : payload_number info e subevent / bn ≡ e + a = event_of_number info e subevent some in
+    let i : ℕ = length (last_laid kept air) + payload_number info 0 subevent / bn - (horizon_of info + 1 + back) in
+    let event : slice_get (last_laid kept air) i ≡ Some (pdus_at air (payload_number info e subevent / bn)) =
+    last_laid_at kept air i (payload_number info e subevent / bn) (omega arith) (omega arith) in
+    let sent : slice_get (pdus_at air (payload_number info e subevent / bn)) (payload_number info e subevent % bn) ≡ Some pdu =
+    ap (λ k. slice_get (pdus_at air (payload_number info e subevent / bn)) k) (sym place)
+    ∙ sym (ap (option_and_then (λ pdus. slice_get pdus (payload_number info 0 subevent % bn))) event) ∙ is in
+    ap (option_and_then (λ stream. pdu_at bn stream (payload_number info e subevent))) (air_at setup calls bis least within)
+    ∙ of_event (event_at air (payload_number info e subevent / bn)) (payload_number info e subevent % bn) pdu sent
+
+pub ahead_within : (info : BigInfo) (subevent : ℕ) → 1 ≤ info.bn → group_count info * info.bn ≡ info.nse → subevent < info.nse
+    → ahead_of info (subevent / info.bn) ≤ horizon_of info
+ahead_within info subevent some whole within =
+    let g : ℕ = subevent / info.bn in
+    let below : g < group_count info = (div-lt_iff_lt-mul some).1 (omega arith) in
+    elim (cases_lt g info.irc) [
+      | inl first ↦ rw (lt-ltb g info.irc first) (omega arith)
+      | inr later ↦
+          let steps : info.pto * (g - info.irc + 1) ≤ info.pto * (group_count info - info.irc) = mul-le-mul_left info.pto (omega arith) in
+          rw (le-ltb g info.irc later) (omega arith)
+    ]
+
+-- the events of the payloads that an event carries are laid with it
+pub carried_is_laid : (setup : Setup) (calls : List Call) (event bis subevent : ℕ) → 1 ≤ setup.info.bn
+    → group_count setup.info * setup.info.bn ≡ setup.info.nse → setup.first ≤ event → event < next_of setup calls → subevent < setup.info.nse
+    → payload_number setup.info (event - setup.first) subevent / setup.info.bn < laid_events (stream_calls setup.info bis calls)
+carried_is_laid setup calls event bis subevent some whole least past within =
+    let info = setup.info in
+    let near : ahead_of info (subevent / info.bn) ≤ horizon_of info = ahead_within info subevent some whole within in
+    let at : payload_number info (event - setup.first) subevent / info.bn ≡ event - setup.first + ahead_of info (subevent / info.bn) =
+    event_of_number info (event - setup.first) subevent some in
+    let all : laid_events (stream_calls info bis calls) ≡ events calls + horizon_of info = ahead_laid info bis calls (omega arith) in
+    omega arith
+
+pub sent_stays : (setup : Setup) (later calls : List Call) (event bis subevent : ℕ) → 1 ≤ setup.info.bn
+    → group_count setup.info * setup.info.bn ≡ setup.info.nse → setup.first ≤ event → event < next_of setup calls
+    → 1 ≤ bis → bis ≤ setup.info.num_bis → subevent < setup.info.nse
+    → pdu_of setup (airs_of setup (later ++ calls)) event bis subevent ≡ pdu_of setup (airs_of setup calls) event bis subevent
+sent_stays setup later calls event bis subevent some whole least past bis_least bis_within within =
+    let info = setup.info in
+    let number : ℕ = payload_number info (event - setup.first) subevent in
+    let kept = calls_keep info bis (number / info.bn) later calls (carried_is_laid setup calls event bis subevent some whole least past within) in
+    ap (option_and_then (λ air. pdu_at info.bn air number)) (air_at setup (later ++ calls) bis bis_least bis_within)
+    ∙ ap (option_and_then (λ laid. slice_get laid.pdus (number % info.bn))) kept.1
+    ∙ sym (ap (option_and_then (λ air. pdu_at info.bn air number)) (air_at setup calls bis bis_least bis_within))
+
+-- the PDU at a payload number, where the payload counter has passed the events before the first one
+pub number_counted : (setup : Setup) (calls : List Call) (event bis subevent : ℕ) → 1 ≤ setup.info.bn → setup.first ≤ event
+    → laid_u setup.info (stream_calls setup.info bis calls) (payload_number setup.info (event - setup.first) subevent)
+    ≡ spelled (content_at setup calls bis (payload_number setup.info event subevent))
+number_counted setup calls event bis subevent some least =
+    let info = setup.info in
+    let counted : payload_number info event subevent / info.bn - setup.first ≡ payload_number info (event - setup.first) subevent / info.bn =
+    omega (arith, event_of_number info event subevent some, event_of_number info (event - setup.first) subevent some) in
+    let place : payload_number info event subevent % info.bn ≡ payload_number info (event - setup.first) subevent % info.bn =
+    place_of_number info event subevent some ∙ sym (place_of_number info (event - setup.first) subevent some) in
+    rw (counted, place) refl

@@ -1,0 +1,56 @@
+-- Which calls of a source are refused, and why: the first cause that holds (Core 5.2, volume 6 part B, section 4.4.6:
+-- payload counters have 39 bits; part G, section 2: only framed units have times of their own).
+use Rattle.std.specs.Prelude.{ℕ, ◌+◌, ◌*◌, ◌^◌, ◌==◌, ◌&&◌, nat_lt, nat_le, is_some, if◌then◌else◌, List, length, Option, Some, None}
+use Rattle.big_info.specs.Schedule.{horizon_of}
+use Rattle.radio_schedule.specs.declared.air.AirFault.{AirFault}
+use Rattle.radio_schedule.specs.declared.air.AirFault.TheVariants.{NoSuchBis as NoStream, NoSuchSubevent, NotOnAir}
+use Rattle.isoal_base.specs.declared.laid.PutFault.{PutFault}
+use Rattle.isoal_base.specs.declared.laid.PutFault.TheVariants as put_faults
+use Rattle.isoal_unframed.specs.Air.{Air}
+use Rattle.source_machine.specs.Calls.{Setup, Call, events, next_of}
+use Rattle.source_machine.specs.Airs.{waiting_of}
+use Rattle.source_machine.specs.declared.fault.GiveFault.{GiveFault}
+use Rattle.source_machine.specs.declared.fault.GiveFault.TheVariants as give_faults
+use Rattle.source_machine.specs.declared.fault.EventFault.{EventFault}
+use Rattle.source_machine.specs.declared.fault.EventFault.TheVariants as event_faults
+
+-- why a unit is refused: the group has no such stream, the unit has more than Max_SDU octets, it has a time in an
+-- unframed group, 16 units of the stream wait
+abbrev pub give_fault : Setup → List Call → List Air → ℕ → Option ℕ → List ℕ → Option GiveFault
+give_fault setup calls airs bis time octets =
+    if nat_lt setup.info.num_bis bis then Some give_faults.NoSuchBis
+    else (if nat_lt setup.info.max_sdu (length octets) then Some give_faults.UnitTooLong
+    else (if (setup.info.framing == 0) && is_some time then Some give_faults.TimeOrder
+    else (if nat_le 16 (waiting_of calls airs bis) then Some give_faults.Backlog else None)))
+
+-- why the next event is refused: payload numbers of it or of the H events behind it would pass 2^39
+abbrev pub event_fault : Setup → List Call → Option EventFault
+event_fault setup calls =
+    if nat_lt (2 ^ 39) ((next_of setup calls + horizon_of setup.info + 1) * setup.info.bn) then Some event_faults.CounterEnds else None
+
+-- why nothing is heard at a place: the group has no such stream, no such subevent, or fewer than back + 1 events were
+-- performed
+abbrev pub air_fault : Setup → List Call → ℕ → ℕ → ℕ → Option AirFault
+air_fault setup calls back bis subevent =
+    if nat_lt setup.info.num_bis bis then Some NoStream
+    else (if nat_le setup.info.nse subevent then Some NoSuchSubevent
+    else (if nat_le (events calls) back then Some NotOnAir else None))
+
+-- what an answer says was refused; want of memory is no refusal
+abbrev pub refused_unit : GiveFault → Option GiveFault
+refused_unit give_faults.NoSuchBis = Some give_faults.NoSuchBis
+refused_unit give_faults.UnitTooLong = Some give_faults.UnitTooLong
+refused_unit give_faults.TimeOrder = Some give_faults.TimeOrder
+refused_unit give_faults.Backlog = Some give_faults.Backlog
+refused_unit give_faults.Memory = None
+
+abbrev pub refused_event : EventFault → Option EventFault
+refused_event event_faults.CounterEnds = Some event_faults.CounterEnds
+refused_event event_faults.Memory = None
+
+-- what a sender's refusal is called here
+abbrev pub of_sender : PutFault → GiveFault
+of_sender put_faults.TooLong = give_faults.UnitTooLong
+of_sender put_faults.TimeOrder = give_faults.TimeOrder
+of_sender put_faults.Backlog = give_faults.Backlog
+of_sender put_faults.Memory = give_faults.Memory

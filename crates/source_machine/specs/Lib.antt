@@ -1,0 +1,5 @@
+pub mod Airs
+pub mod Calls
+pub mod Faults
+pub mod Sources
+pub mod Streams

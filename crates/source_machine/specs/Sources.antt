@@ -1,0 +1,59 @@
+-- A source between its start and its stop, and the calls that it stands for.
+use Rattle.std.specs.Prelude.{ℕ, ◌+◌, ◌-◌, ◌≡◌, List, [], length, drop, map, min, Option, Some, None}
+use Rattle.std.specs.List.{range_with_len}
+use Rattle.big_info.specs.declared.info.BigInfo.{BigInfo}
+use Rattle.big_info.specs.Schedule.{horizon_of}
+use Rattle.isoal_unframed.specs.Air.{Air, Laid, event_at, unframed_air}
+use Rattle.isoal_unframed.specs.Calls.{Call as StreamCall, accepted, begun}
+use Rattle.source_machine.specs.Calls.{Setup, Call, next_of, stream_calls}
+use Rattle.source_machine.specs.declared.fault.EventFault.{EventFault}
+use Rattle.source_machine.specs.declared.fault.EventFault.TheVariants.{CounterEnds, Memory}
+
+-- a stream of a group: the units that wait for a slot, and the PDUs of the events that were laid last, the oldest first
+pub record Stream : Type 0 where
+  pub info : BigInfo
+  pub waiting : List (List ℕ)
+  pub laid : List (List (List ℕ))
+
+-- the setup, the next event, and the streams by rising index
+pub record Source : Type 0 where
+  pub setup : Setup
+  pub next : ℕ
+  pub streams : List Stream
+
+-- the PDUs of an event of an air
+abbrev pub pdus_in : Option Laid → List (List ℕ)
+pdus_in None = []
+pdus_in (Some laid) = laid.pdus
+
+abbrev pub pdus_at : Air → ℕ → List (List ℕ)
+pdus_at air event = pdus_in (event_at air event)
+
+-- the PDUs of the last `count` events of an air, or of all where there are fewer
+abbrev pub last_laid : ℕ → Air → List (List (List ℕ))
+last_laid count air = map (pdus_at air) (range_with_len (length air - count) (min count (length air)))
+
+-- how many events that are laid a stream keeps: the last 32 that were performed, and the H events behind them
+abbrev pub kept_of : BigInfo → ℕ
+kept_of info = horizon_of info + 32
+
+-- a stream after these calls
+abbrev pub stream_after : BigInfo → List StreamCall → Stream
+stream_after info calls = record {
+  info = info;
+  waiting = drop (begun info calls) (accepted calls);
+  laid = last_laid (kept_of info) (unframed_air info calls);
+}
+
+abbrev pub stream_of : Setup → List Call → ℕ → Stream
+stream_of setup calls bis = stream_after setup.info (stream_calls setup.info bis calls)
+
+-- the source is as these calls leave it
+pub record StandsFor (calls : List Call) (source : Source) : Type 0 where
+  pub next : source.next ≡ next_of source.setup calls
+  pub streams : source.streams ≡ map (stream_of source.setup calls) (range_with_len 1 source.setup.info.num_bis)
+
+-- what a refused event leaves: all as it was; nothing is said after want of memory
+abbrev pub AfterFault : EventFault → Source → Source → Type 0
+AfterFault CounterEnds old new = new ≡ old
+AfterFault Memory old new = Unit {0}

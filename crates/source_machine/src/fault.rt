@@ -1,0 +1,51 @@
+ghost use Rattle.std.specs.Prelude.{◌≡◌};
+ghost use Rattle.source_machine.specs.declared.fault.EventFault.TheVariants.{Memory as NoMemory};
+ghost use Rattle.source_machine.specs.Faults.{of_sender};
+
+use bcast_base::Memory;
+use isoal_base::PutFault;
+
+/// Why a source refused a unit.
+#[derive(Clone, Copy, Debug, PartialEq, Eq)]
+pub enum GiveFault {
+    /// The group has no stream of this index.
+    NoSuchBis,
+    /// The unit has more than Max_SDU octets.
+    UnitTooLong,
+    /// A time is given in an unframed group.
+    TimeOrder,
+    /// 16 units of the stream wait.
+    Backlog,
+    /// Memory ran out.
+    Memory,
+}
+
+/// Why an event was not performed.
+#[derive(Clone, Copy, Debug, PartialEq, Eq)]
+pub enum EventFault {
+    /// The payload numbers of the event and of those laid with it would pass 2^39.
+    CounterEnds,
+    /// Memory ran out.
+    Memory,
+}
+
+impl From<PutFault> for GiveFault {
+    ghost from_gives = { λ put fault. fault ≡ of_sender put };
+
+    fn from(put: PutFault) -> GiveFault {
+        match put {
+            PutFault::TooLong => GiveFault::UnitTooLong,
+            PutFault::TimeOrder => GiveFault::TimeOrder,
+            PutFault::Backlog => GiveFault::Backlog,
+            PutFault::Memory => GiveFault::Memory,
+        }
+    }
+}
+
+impl From<Memory> for EventFault {
+    ghost from_gives = { λ _ fault. fault ≡ NoMemory };
+
+    fn from(_memory: Memory) -> EventFault {
+        EventFault::Memory
+    }
+}

@@ -1,0 +1,41 @@
+//! What holds of every source's calls and of what its streams send.
+ghost use Rattle.std.specs.Prelude.{◌≡◌, ◌≤◌, ◌<◌, ◌-◌, ◌++◌, ℕ, List, Some};
+ghost use Rattle.big_info.specs.declared.group.Group.{Group};
+ghost use Rattle.iso_pdu.specs.Spelling.{pdu};
+ghost use Rattle.isoal_unframed.specs.Air.{Air, laid_u};
+ghost use Rattle.radio_schedule.specs.PayloadNumber.{payload_number};
+ghost use Rattle.source_machine.specs.Airs.{AreAirs, airs_of, content_at, pdu_of};
+ghost use Rattle.source_machine.specs.Calls.{Call, Setup, next_of, stream_calls};
+
+use isoal_unframed::each_number_is_laid;
+
+/// The calls of a source fix the airs of its streams.
+pub fn one_air()
+    ensures same { (setup : Setup) (calls : List Call) (airs others : List Air) → AreAirs setup calls airs → AreAirs setup calls others → airs ≡ others }
+    ensures some { (setup : Setup) (calls : List Call) → AreAirs setup calls (airs_of setup calls) }
+{}
+
+/// Each subevent of an event that was performed carries the PDU that division gives at its payload number: `laid` where
+/// numbers count from the first event on, and `counted` where they are those of the payload counter.
+pub fn air_is_by_division()
+    ensures laid { (group : Group) (setup : Setup) (calls : List Call) (event bis subevent : ℕ)
+        → setup.info ≡ group.info → setup.first ≤ event → event < next_of setup calls
+        → 1 ≤ bis → bis ≤ group.info.num_bis → subevent < group.info.nse
+        → pdu_of setup (airs_of setup calls) event bis subevent
+        ≡ Some (laid_u setup.info (stream_calls setup.info bis calls) (payload_number setup.info (event - setup.first) subevent)) }
+    ensures counted { (group : Group) (setup : Setup) (calls : List Call) (event bis subevent : ℕ)
+        → setup.info ≡ group.info → setup.first ≤ event → event < next_of setup calls
+        → 1 ≤ bis → bis ≤ group.info.num_bis → subevent < group.info.nse
+        → pdu_of setup (airs_of setup calls) event bis subevent
+        ≡ Some (pdu (content_at setup calls bis (payload_number setup.info event subevent))) }
+{
+    each_number_is_laid();
+}
+
+/// What an event that was performed sent stays, whatever calls follow.
+pub fn what_was_sent_stays()
+    ensures { (group : Group) (setup : Setup) (later calls : List Call) (event bis subevent : ℕ)
+        → setup.info ≡ group.info → setup.first ≤ event → event < next_of setup calls
+        → 1 ≤ bis → bis ≤ group.info.num_bis → subevent < group.info.nse
+        → pdu_of setup (airs_of setup (later ++ calls)) event bis subevent ≡ pdu_of setup (airs_of setup calls) event bis subevent }
+{}

@@ -1,0 +1,13 @@
+//! The source of a broadcast isochronous group: what it takes, and what each of its events sends.
+#![tactic(auto)]
+
+mod broadcast;
+mod fault;
+mod laws;
+mod stream;
+#[cfg(test)]
+mod tests;
+
+pub use broadcast::Broadcast;
+pub use fault::{EventFault, GiveFault};
+pub use laws::{air_is_by_division, one_air, what_was_sent_stays};
