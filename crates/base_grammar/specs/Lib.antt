@@ -1,0 +1,2 @@
+pub mod Ad
+pub mod AdReading
