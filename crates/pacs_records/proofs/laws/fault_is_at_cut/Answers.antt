@@ -1,0 +1,5 @@
+use Rattle.pacs_records.proofs.Stops.{value_stops}
+use Rattle.pacs_records.proofs.laws.fault_is_at_cut.Goals as goal
+
+pub returns : goal.returns
+returns c fault octets fits e = value_stops fault octets fits e

@@ -1,0 +1,4 @@
+pub mod Faults
+pub mod Layout
+pub mod Pushes
+pub mod Reading
