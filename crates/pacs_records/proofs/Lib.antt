@@ -1,3 +1,7 @@
 pub mod Fields
 pub mod Loop
 pub mod Stops
+pub mod Bits
+pub mod Meanings
+pub mod FirstReasons
+pub mod LastReasons

@@ -1,15 +1,21 @@
 //! Published audio capabilities, and which stream a sink takes.
 #![tactic(auto)]
 
+mod capability;
 mod fault;
 mod laws;
+mod not_taken;
 mod reading;
 mod record;
 mod records;
+mod requirements;
+mod takes;
 mod writing;
 
+pub use capability::Capability;
 pub use fault::{PacFault, PushFault};
 pub use laws::{fault_is_at_cut, read_is_value};
+pub use not_taken::NotTaken;
 pub use reading::decode_pacs;
 pub use record::PacRecord;
 pub use records::Records;
