@@ -115,6 +115,42 @@ told_last before told capability effective (entry ∷ entries) e = by_reason (re
 pub not_taken-some : (capability : Capability) (effective : Effective) (reason : NotTaken) → not_taken capability effective ≡ Some reason → IsToldReason reason capability effective
 not_taken-some capability effective reason e = told_last Codec reason capability effective capability.entries e
 
+pub taken_not_told : (capability : Capability) (effective : Effective) (reason : NotTaken) → not_taken capability effective ≡ Some reason → Takes capability effective → ⊥
+taken_not_told capability effective reason e t = some_none (sym ((not_taken-none capability effective).1 t) ∙ e)
+  where
+    some_none : None ≡ Some reason → ⊥
+    some_none h = cc
+
+nothing : (front : List PacRecord) (last : PacRecord) → [] ≡ front ++ last ∷ [] → ⊥
+nothing [] last e = cc
+nothing (entry ∷ front) last e = cc
+
+last_same : (front others : List PacRecord) (last end : PacRecord) → front ++ last ∷ [] ≡ others ++ end ∷ [] → last ≡ end
+last_same [] [] last end e = cc
+last_same [] (entry ∷ others) last end e =
+    let none : [] ≡ others ++ end ∷ [] = cc in
+    absurd (nothing others end none)
+last_same (entry ∷ front) [] last end e =
+    let none : [] ≡ front ++ last ∷ [] = cc in
+    absurd (nothing front last none)
+last_same (entry ∷ front) (first ∷ others) last end e = last_same front others last end cc
+
+-- at most one reason is told
+one_told : (a b : NotTaken) (capability : Capability) (effective : Effective) → IsToldReason a capability effective → IsToldReason b capability effective → a ≡ b
+one_told a b capability effective (inl (none, x)) (inl (also, y)) = x ∙ sym y
+one_told a b capability effective (inl (none, x)) (inr (front, last, parts, is)) = absurd (nothing front last (sym none ∙ parts))
+one_told a b capability effective (inr (front, last, parts, is)) (inl (none, y)) = absurd (nothing front last (sym none ∙ parts))
+one_told a b capability effective (inr (front, last, parts, is)) (inr (others, end, ends, also)) =
+    let same : last ≡ end = last_same front others last end (sym parts ∙ ends) in
+    same_Some a b (sym (reason_is_some last capability effective a is) ∙ reason_is_some last capability effective b (subst (λ (entry : PacRecord). IsReason b entry capability effective) (sym same) also))
+
+pub some-not_taken : (capability : Capability) (effective : Effective) (reason : NotTaken) → (Takes capability effective → ⊥) → IsToldReason reason capability effective → not_taken capability effective ≡ Some reason
+some-not_taken capability effective reason never told = by_found (not_taken capability effective) refl
+  where
+    by_found : (found : Option NotTaken) → not_taken capability effective ≡ found → found ≡ Some reason
+    by_found None e = absurd (never ((not_taken-none capability effective).0 e))
+    by_found (Some other) e = ap (λ (r : NotTaken). Some r) (one_told other reason capability effective (not_taken-some capability effective other e) told)
+
 -- ---- what the call promises
 
 pub is_taken : (result : Result (Unit {0}) NotTaken) (capability : Capability) (effective : Effective) → result_err result ≡ not_taken capability effective → OnOk result (Takes capability effective)

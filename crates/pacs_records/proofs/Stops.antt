@@ -66,14 +66,14 @@ bad_is run bad fits e = read_bad bad run fits (err_in (ltvs_of run) e)
 -- ---- a run that stops
 
 -- the octets at the cut are too few, or are no list
-record NoList (whole : List ℕ) (count : ℕ) (rest : List ℕ) (fault : PacFault) : Type 0 where
-  bad : LtvBad
-  run : List ℕ
-  behind : List ℕ
-  long : length run ≡ count
-  parts : rest ≡ run ++ behind
-  what : IsBad bad run
-  same : Ltv (place_in whole rest) bad ≡ fault
+pub record NoList (whole : List ℕ) (count : ℕ) (rest : List ℕ) (fault : PacFault) : Type 0 where
+  pub bad : LtvBad
+  pub run : List ℕ
+  pub behind : List ℕ
+  pub long : length run ≡ count
+  pub parts : rest ≡ run ++ behind
+  pub what : IsBad bad run
+  pub same : Ltv (place_in whole rest) bad ≡ fault
 
 record RunCut (listed : Bool) (whole from : List ℕ) (fault : PacFault) : Type 0 where
   count : ℕ
@@ -105,9 +105,9 @@ run_stops listed whole from fault fits e =
 -- ---- a record that stops
 
 -- the fields in front of the cut meet their rows, and this is wrong with what follows
-record Stop (whole : List ℕ) (fields : Fields) (rest : List ℕ) (fault : PacFault) : Type 0 where
-  meet : MeetRows fields
-  why : ((Short (place_in whole rest) ≡ fault) × (length rest < next_length fields)) ⊎ (IsNextList fields × NoList whole (next_length fields) rest fault)
+pub record Stop (whole : List ℕ) (fields : Fields) (rest : List ℕ) (fault : PacFault) : Type 0 where
+  pub meet : MeetRows fields
+  pub why : ((Short (place_in whole rest) ≡ fault) × (length rest < next_length fields)) ⊎ (IsNextList fields × NoList whole (next_length fields) rest fault)
 
 record RecordStop (whole from : List ℕ) (fault : PacFault) : Type 0 where
   fields : Fields

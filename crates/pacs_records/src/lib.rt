@@ -14,7 +14,7 @@ mod writing;
 
 pub use capability::Capability;
 pub use fault::{PacFault, PushFault};
-pub use laws::{fault_is_at_cut, read_is_value};
+pub use laws::{fault_is_at_cut, match_is_some_record, read_is_value};
 pub use not_taken::NotTaken;
 pub use reading::decode_pacs;
 pub use record::PacRecord;
