@@ -14,6 +14,9 @@ pub record Endpoint : Type 0 where
   pub delay : ℕ
   pub subgroups : List Subgroup
 
+abbrev pub endpoint : ℕ → List Subgroup → Endpoint
+endpoint delay subgroups = record { delay = delay; subgroups = subgroups }
+
 -- the Codec_ID of LC3: coding format 6, no company, no codec of its own
 abbrev pub lc3 : List ℕ
 lc3 = 6 ∷ 0 ∷ 0 ∷ 0 ∷ 0 ∷ []

@@ -6,7 +6,7 @@ use Rattle.base_grammar.specs.declared.fault.BaseFault.{BaseFault}
 use Rattle.base_grammar.specs.declared.fault.BaseFault.TheVariants.{Short, Trailing, TooLong, Memory}
 use Rattle.base_grammar.specs.declared.subgroup.BaseEntry.{BaseEntry}
 use Rattle.base_grammar.specs.declared.subgroup.Subgroup.{Subgroup}
-use Rattle.base_grammar.specs.Layout.{Endpoint, is_lc3, bis_of}
+use Rattle.base_grammar.specs.Layout.{Endpoint, endpoint, is_lc3, bis_of}
 use Rattle.base_grammar.specs.Rows.{subgroups_fault, streams_fault, index_fault, run_fault}
 
 infixl 10 ◌>>=◌
@@ -101,7 +101,7 @@ fields_of whole = do
   delay ← needed whole whole (number_in 3 whole)
   count ← count_at whole delay.1
   subgroups ← subgroups_at whole [] count.0 count.1
-  ended whole subgroups.1 (record { delay = delay.0; subgroups = subgroups.0 })
+  ended whole subgroups.1 (endpoint delay.0 subgroups.0)
 
 -- what octets are read as
 unfoldable pub base_of : List ℕ → Result Endpoint BaseFault

@@ -1,12 +1,19 @@
-ghost use Rattle.std.specs.Prelude.{◌≡◌, ◌≤◌, [], ◌++◌, length, map, IfOk};
-ghost use Rattle.base_grammar.specs.Layout.{indices, bis_of};
-ghost use Rattle.base_grammar.specs.Reading.{Gives, entry_at, entries_at, subgroup_at, subgroups_at};
+ghost use Rattle.std.specs.Prelude.{◌≡◌, ◌≤◌, [], ◌++◌, length, map, IfOk, IfErr, Ok};
+ghost use Rattle.base_grammar.specs.Faults.{IsFault};
+ghost use Rattle.base_grammar.specs.Layout.{Endpoint, endpoint, indices, bis_of, BaseIs};
+ghost use Rattle.base_grammar.specs.Reading.{Gives, entry_at, entries_at, needed, subgroup_at, subgroups_at, fields_of, base_of};
+ghost use Rattle.octet_fields.specs.Reading.{number_in};
 
+use crate::base::Base;
 use crate::fault::BaseFault;
-use crate::fields::{codec_field, index_field, run_field, streams_field};
+use crate::fields::{codec_field, count_field, index_field, run_field, streams_field};
 use crate::subgroup::{BaseEntry, Entries, Subgroup, is_lc3_codec};
 use bcast_base::Octets;
+use octet_fields::{number_at, place_of};
 use std::alloc::Global;
+
+// The most octets of a BASE.
+const MAX_OCTETS: usize = 252;
 
 // An entry, behind these subgroups and these entries of its own.
 #[tactic(auto, unfolding(crate::specs::Reading::entry_at))]
@@ -111,4 +118,63 @@ fn subgroups_of<'a>(
         rest = after;
     }
     Ok((subgroups, rest))
+}
+
+// The presentation delay.
+fn delay_field(whole: &[u8]) -> Result<(u32, &[u8]), BaseFault>
+    ensures gives { Gives (λ x. (x.0, x.1.now)) result (needed whole.now whole.now (number_in 3 whole.now)) }
+    ensures shorter { IfOk result (λ x. length x.1.now ≤ length whole.now) }
+{
+    match number_at(whole, 3) {
+        Some((delay, rest)) => Ok((delay as u32, rest)),
+        None => Err(BaseFault::Short { place: 0 }),
+    }
+}
+
+// All fields, from the delay on.
+#[tactic(auto, unfolding(crate::specs::Reading::fields_of))]
+fn read_fields(alloc: Global, whole: &[u8]) -> Result<(u32, Vec<Subgroup>), BaseFault>
+    ensures { Gives (λ x. endpoint x.0 x.1.items) result (fields_of whole.now) }
+{
+    let (delay, rest) = delay_field(whole)?;
+    let (count, rest) = count_field(whole, rest)?;
+    let (subgroups, rest) = match subgroups_of(alloc, whole, rest, count) {
+        Ok(field) => field,
+        Err(fault) => return Err(fault),
+    };
+    if !rest.is_empty() {
+        let place = place_of(whole, rest);
+        return Err(BaseFault::Trailing { place });
+    }
+    Ok((delay, subgroups))
+}
+
+// The fields of octets that are not too many.
+#[tactic(auto, unfolding(crate::specs::Reading::base_of))]
+fn read_base(alloc: Global, whole: &[u8]) -> Result<(u32, Vec<Subgroup>), BaseFault>
+    ensures { Gives (λ x. endpoint x.0 x.1.items) result (base_of whole.now) }
+{
+    if whole.len() > MAX_OCTETS {
+        return Err(BaseFault::TooLong);
+    }
+    read_fields(alloc, whole)
+}
+
+// The BASE of the fields.
+fn read_whole(alloc: Global, from: &[u8]) -> Result<Base, BaseFault>
+    ensures { Gives (λ base. base) result (base_of from.now) }
+{
+    let (delay, subgroups) = read_base(alloc, from)?;
+    Ok(Base::new(delay, subgroups))
+}
+
+/// The BASE that the octets are, all of them. A BASE has at most 252 octets, which is tested first. Then the first fault
+/// from the left counts: a field that is not whole, or one that breaks its row.
+pub fn decode_base(alloc: Global, from: &[u8]) -> Result<Base, BaseFault>
+    ensures exact { Gives (λ base. base) result (base_of from.now) }
+    ensures base { IfOk result (λ base. BaseIs base from.now) }
+    ensures only { (v : Endpoint) → BaseIs v from.now → Gives (λ base. base) result (Ok v) }
+    ensures fault { IfErr result (λ fault. IsFault fault from.now) }
+{
+    read_whole(alloc, from)
 }
