@@ -1,2 +1,10 @@
 pub mod Ads
+pub mod Again
+pub mod Cuts
+pub mod Firsts
+pub mod Indices
+pub mod Loops
 pub mod Services
+pub mod Steps
+pub mod Taken
+pub mod Walk

@@ -1,13 +1,22 @@
-//! Advertising data: AD lists, Service Data and the Broadcast_ID.
+//! The BASE of a broadcast: its octets, its draft, and what holds for each of its streams; and the AD lists around it.
 #![tactic(auto)]
 
 mod ad;
 mod ad_laws;
+mod base;
 mod effective;
+mod fault;
+mod fields;
+mod reading;
+mod subgroup;
 
 pub use ad::{AdShort, broadcast_id, service_data, structure, write_ad};
 pub use ad_laws::{ad_list_is_read, ad_short_is_cut};
+pub use base::Base;
 pub use effective::Effective;
+pub use fault::{BaseFault, DraftFault};
+pub use reading::decode_base;
+pub use subgroup::{BaseEntry, Entries, Subgroup, is_lc3_codec};
 
 #[cfg(test)]
 mod tests;

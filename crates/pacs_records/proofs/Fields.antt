@@ -15,7 +15,8 @@ use Rattle.ltv_codec.specs.Reading.{bad_of, AreLtvs}
 use Rattle.pacs_records.specs.declared.fault.PacFault.{PacFault}
 use Rattle.pacs_records.specs.declared.fault.PacFault.TheVariants.{TooLong, Short, Ltv, Trailing, Memory}
 use Rattle.pacs_records.specs.declared.record.PacRecord.{PacRecord}
-use Rattle.pacs_records.specs.Layout.{lc3, is_lc3, greatest_value, spelled, value, Fits, AreRecords, PacIs}
+use Rattle.base_grammar.specs.Layout.{lc3, is_lc3}
+use Rattle.pacs_records.specs.Layout.{greatest_value, spelled, value, Fits, AreRecords, PacIs}
 use Rattle.pacs_records.specs.Reading.{◌>>=◌, field_at, codec_in, Gives, checked, run_in, record_in, records_in, value_in}
 
 -- ---- steps of reading

@@ -12,7 +12,7 @@ use Rattle.pacs_records.specs.declared.capability.Capability.{Capability}
 use Rattle.pacs_records.specs.declared.not_taken.NotTaken.{NotTaken}
 use Rattle.pacs_records.specs.declared.not_taken.NotTaken.TheVariants.{Codec, Frequency, Duration, FrameOctets, Channels, FramesPerSdu, Location, Context}
 use Rattle.pacs_records.specs.declared.record.PacRecord.{PacRecord}
-use Rattle.pacs_records.specs.Layout.{lc3, is_lc3}
+use Rattle.base_grammar.specs.Layout.{lc3, is_lc3}
 use Rattle.pacs_records.specs.Match.{Has, ShareBit, caps_in, channel_count, HasFrequency, HasDuration, HasFrameOctets, HasChannels, HasFrames, IsPlaced, HasContext, Meets}
 use Rattle.pacs_records.specs.Reasons.{present, has, frequency_met, duration_met, frame_octets_met, channels_met, frames_met, location_met, context_met, lc3_met}
 use Rattle.pacs_records.proofs.Bits.{share_means}

@@ -10,7 +10,8 @@ use Rattle.ltv_codec.specs.Reading.{AreLtvs}
 use Rattle.pacs_records.specs.declared.fault.PacFault.{PacFault}
 use Rattle.pacs_records.specs.declared.fault.PacFault.TheVariants.{TooLong, Short, Ltv, Trailing, Memory}
 use Rattle.pacs_records.specs.declared.record.PacRecord.{PacRecord}
-use Rattle.pacs_records.specs.Layout.{lc3, greatest_value, spelled, value, Fits}
+use Rattle.base_grammar.specs.Layout.{lc3}
+use Rattle.pacs_records.specs.Layout.{greatest_value, spelled, value, Fits}
 
 -- The whole fields of a record that isn't read to its end. Each names the field that comes next.
 pub data Fields : Type 0 where

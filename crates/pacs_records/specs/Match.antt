@@ -13,7 +13,7 @@ use Rattle.pacs_records.specs.declared.capability.Capability.{Capability}
 use Rattle.pacs_records.specs.declared.not_taken.NotTaken.{NotTaken}
 use Rattle.pacs_records.specs.declared.not_taken.NotTaken.TheVariants.{Codec, Frequency, Duration, FrameOctets, Channels, FramesPerSdu, Location, Context}
 use Rattle.pacs_records.specs.declared.record.PacRecord.{PacRecord}
-use Rattle.pacs_records.specs.Layout.{lc3}
+use Rattle.base_grammar.specs.Layout.{lc3}
 
 -- bit k of the set is set
 abbrev pub Has : ℕ → ℕ → Type 0

@@ -7,7 +7,8 @@ use Rattle.ltv_codec.specs.Reading.{bad_of}
 use Rattle.pacs_records.specs.declared.fault.PacFault.{PacFault}
 use Rattle.pacs_records.specs.declared.fault.PacFault.TheVariants.{TooLong, Short, Ltv, Trailing, Memory}
 use Rattle.pacs_records.specs.declared.record.PacRecord.{PacRecord}
-use Rattle.pacs_records.specs.Layout.{is_lc3, greatest_value}
+use Rattle.base_grammar.specs.Layout.{is_lc3}
+use Rattle.pacs_records.specs.Layout.{greatest_value}
 
 infixl 10 ◌>>=◌
 abbrev pub ◌>>=◌ : {A B : Type 0} → Result A PacFault → (A → Result B PacFault) → Result B PacFault

@@ -10,7 +10,7 @@ use Rattle.pacs_records.specs.declared.capability.Capability.{Capability}
 use Rattle.pacs_records.specs.declared.not_taken.NotTaken.{NotTaken}
 use Rattle.pacs_records.specs.declared.not_taken.NotTaken.TheVariants.{Codec, Frequency, Duration, FrameOctets, Channels, FramesPerSdu, Location, Context}
 use Rattle.pacs_records.specs.declared.record.PacRecord.{PacRecord}
-use Rattle.pacs_records.specs.Layout.{is_lc3}
+use Rattle.base_grammar.specs.Layout.{is_lc3}
 use Rattle.pacs_records.specs.Match.{caps_in, channel_count}
 
 -- a value that meets a test is present

@@ -1,5 +1,6 @@
 ghost use Rattle.std.specs.Prelude.{◌≡◌, ◌≤◌, List, length, IfOk, IfErr, Ok};
-ghost use Rattle.pacs_records.specs.Layout.{PacIs, is_lc3};
+ghost use Rattle.base_grammar.specs.Layout.{is_lc3};
+ghost use Rattle.pacs_records.specs.Layout.{PacIs};
 ghost use Rattle.pacs_records.specs.Faults.{IsFault};
 ghost use Rattle.pacs_records.specs.Reading.{Gives, codec_in, run_in, record_in, records_in, value_in};
 ghost use Rattle.pacs_records.specs.declared.record.PacRecord.{PacRecord};
@@ -7,13 +8,11 @@ ghost use Rattle.pacs_records.specs.declared.record.PacRecord.{PacRecord};
 use crate::fault::PacFault;
 use crate::record::PacRecord;
 use crate::records::Records;
+use base_grammar::is_lc3_codec;
 use bcast_base::{Items, Octets};
 use ltv_codec::check_ltvs;
 use octet_fields::{octet_at, octets_at, place_of};
 use std::alloc::Global;
-
-/// The Codec_ID of LC3.
-const LC3: [u8; 5] = [6, 0, 0, 0, 0];
 
 /// The most octets of a value: those of an attribute.
 const GREATEST_VALUE: usize = 512;
@@ -93,7 +92,7 @@ fn record_at<'a>(
     ensures within { IfOk result (λ x. length x.1.now ≤ length whole.now) }
 {
     let (codec, rest) = codec_at(whole, from)?;
-    let (caps, rest) = run_at(whole, rest, codec == LC3)?;
+    let (caps, rest) = run_at(whole, rest, is_lc3_codec(&codec))?;
     let (metadata, rest) = run_at(whole, rest, true)?;
     let record = PacRecord {
         codec,

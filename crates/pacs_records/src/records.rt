@@ -1,7 +1,8 @@
 ghost use Rattle.std.specs.Prelude.{◌≡◌, ◌<◌, ◌≤◌, ◌+◌, ◌++◌, ◌∷◌, [], length, slice_get, Some, OnOk, OnErr, IfErr};
 ghost use Rattle.std.specs.List.{AllByRecursion};
 ghost use Rattle.ltv_codec.specs.Reading.{AreLtvs};
-ghost use Rattle.pacs_records.specs.Layout.{Fits, AreRecords, value, lc3, greatest_value};
+ghost use Rattle.base_grammar.specs.Layout.{lc3};
+ghost use Rattle.pacs_records.specs.Layout.{Fits, AreRecords, value, greatest_value};
 ghost use Rattle.pacs_records.specs.Pushes.{RefusesPush};
 
 use crate::fault::PushFault;

@@ -12,11 +12,8 @@ use crate::record::PacRecord;
 use crate::requirements::{
     has_channels, has_context, has_duration, has_frame_octets, has_frames, has_frequency, is_placed,
 };
-use base_grammar::Effective;
+use base_grammar::{Effective, is_lc3_codec};
 use ltv_codec::Caps;
-
-/// The Codec_ID of LC3.
-const LC3: [u8; 5] = [6, 0, 0, 0, 0];
 
 // Whether a sink takes a stream of which the BASE says this.
 pub(crate) fn takes_effective(
@@ -53,7 +50,7 @@ fn unmet(entry: &PacRecord, capability: &Capability, effective: &Effective) -> O
     if !are_same(&entry.codec, &effective.codec) {
         return Some(NotTaken::Codec);
     }
-    if !are_same(&effective.codec, &LC3) {
+    if !is_lc3_codec(&effective.codec) {
         return None;
     }
     let caps = caps_of(entry.caps.as_slice());
