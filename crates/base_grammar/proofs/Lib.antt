@@ -3,6 +3,7 @@ pub mod Cuts
 pub mod Firsts
 pub mod Indices
 pub mod Loops
+pub mod Sizes
 pub mod Steps
 pub mod Taken
 pub mod Walk

@@ -1,3 +1,5 @@
+pub mod Draft
+pub mod Effective
 pub mod Faults
 pub mod Layout
 pub mod Reading
