@@ -1,8 +1,10 @@
 pub mod Again
 pub mod Cuts
+pub mod Drafts
 pub mod Firsts
 pub mod Indices
 pub mod Loops
+pub mod Places
 pub mod Sizes
 pub mod Steps
 pub mod Taken

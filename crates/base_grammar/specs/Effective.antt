@@ -1,6 +1,6 @@
 -- What holds for one stream of a BASE (Basic Audio Profile 1.0, section 3.7.2.2): the Codec_ID and the metadata of its
 -- subgroup, and of the codec configuration each value as its own entry (level 3) has it, and else as the subgroup (level 2).
-use Rattle.std.specs.Prelude.{ℕ, ◌+◌, ◌≡◌, ◌==◌, Bool, true, false, List, [], ◌∷◌, Option, Some, None, Contains, slice_get}
+use Rattle.std.specs.Prelude.{ℕ, ◌+◌, ◌≡◌, ◌==◌, Bool, true, false, List, [], ◌∷◌, Option, Some, None, slice_get}
 use Rattle.std.specs.List.{find}
 use Rattle.ltv_codec.specs.declared.config.Config.{Config}
 use Rattle.ltv_codec.specs.Values.{configured, number_in, sampling_frequency, frame_duration, audio_channel_allocation, octets_per_codec_frame, codec_frame_blocks_per_sdu, streaming_audio_contexts}
@@ -29,12 +29,13 @@ values_of place s e = record {
   subgroup = place;
 }
 
--- these values hold for the index: it has an entry in the subgroup, which stands at the place that they tell
+-- these values hold for the index: it has an entry, at some place, in the subgroup, whose place is the one that they tell
 pub record IsEffective (v : Endpoint) (bis : ℕ) (effective : Effective) : Type 0 where
   pub subgroup : Subgroup
   pub entry : BaseEntry
+  pub place : ℕ
   pub stands : slice_get v.subgroups effective.subgroup ≡ Some subgroup
-  pub has : Contains subgroup.entries entry
+  pub has : slice_get subgroup.entries place ≡ Some entry
   pub index : entry.bis ≡ bis
   pub values : effective ≡ values_of effective.subgroup subgroup entry
 

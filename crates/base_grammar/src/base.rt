@@ -1,5 +1,5 @@
-ghost use Rattle.std.specs.Prelude.{◌≡◌, ◌<◌, length, slice_get, Some};
-ghost use Rattle.base_grammar.specs.Layout.{endpoint, IsBase};
+ghost use Rattle.std.specs.Prelude.{◌≡◌, ◌<◌, length, slice_get, is_some, Some, IfSome};
+ghost use Rattle.base_grammar.specs.Layout.{endpoint, indices, stands_in, IsBase};
 
 use crate::effective::{Effective, effective_in};
 use crate::subgroup::Subgroup;
@@ -25,7 +25,8 @@ impl Model for Base {
 }
 
 impl Base {
-    ghost use Rattle.base_grammar.specs.Effective.{effective_of};
+    ghost use Rattle.base_grammar.specs.Effective.{effective_of, IsEffective};
+    ghost use Rattle.base_grammar.specs.declared.effective.Effective.{Effective};
 
     // The BASE of these fields.
     pub(crate) fn new(delay: u32, subgroups: Vec<Subgroup>) -> Base
@@ -62,6 +63,9 @@ impl Base {
     /// What holds for the stream of this index; `None` exactly where it has no entry. It takes no memory.
     pub fn effective(&self, bis: Bis) -> Option<Effective>
         ensures exact { result ≡ effective_of self.now bis }
+        ensures some { IfSome result (IsEffective self.now bis) }
+        ensures present { is_some result ≡ stands_in (indices self.now.subgroups) bis }
+        ensures only { (values : Effective) → IsEffective self.now bis values → result ≡ Some values }
     {
         effective_in(&self.subgroups, bis)
     }

@@ -1,5 +1,5 @@
 //! The steps of a draft, over its subgroups.
-ghost use Rattle.std.specs.Prelude.{◌≡◌, ◌+◌, ◌++◌, ◌∷◌, [], length, OnOk, OnErr};
+ghost use Rattle.std.specs.Prelude.{◌≡◌, ◌≤◌, ◌+◌, ◌++◌, ◌∷◌, [], length, OnOk, OnErr};
 ghost use Rattle.std.specs.List.{flat_map};
 ghost use Rattle.base_grammar.specs.Draft.{opened, with_last, is_empty_last, last_of, subgroup_fault, metadata_fault, entry_fault, draft_fault, Refuses};
 ghost use Rattle.base_grammar.specs.Layout.{subgroup};
@@ -33,6 +33,7 @@ pub(crate) fn open_subgroup(
     ensures ok { OnOk result (subgroups.new.items ≡ subgroups.old.items ++ opened codec config.now ∷ []) }
     ensures err { OnErr result (subgroups.new.items ≡ subgroups.old.items) }
     ensures refuses { Refuses (subgroup_fault subgroups.old.items) result }
+    ensures five { length codec ≡ 5 }
 {
     if is_last_empty(subgroups) {
         return Err(DraftFault::NoBis);
@@ -76,11 +77,12 @@ pub(crate) fn put_entry(
     ensures ok { OnOk result (subgroups.new.items ≡ with_last (λ s. record s { entries = s.entries ++ record { bis = bis; config = config.now } ∷ [] }) subgroups.old.items) }
     ensures err { OnErr result (subgroups.new.items ≡ subgroups.old.items) }
     ensures refuses { Refuses (entry_fault subgroups.old.items bis) result }
+    ensures range { OnOk result ((1 ≤ bis) × (bis ≤ 31)) }
 {
     if subgroups.is_empty() {
         return Err(DraftFault::NoSubgroup);
     }
-    if stands_before(subgroups, &[], bis) {
+    if stands_before(subgroups, &[], bis.get()) {
         return Err(DraftFault::IndexTwice);
     }
     let config = Octets::copy(alloc, config)?;
