@@ -71,11 +71,11 @@ subgroup_again whole before s rest fits some are_new =
       entries_again whole (is_lc3 s.codec) before s.entries rest fits.entries are_new,
     ) refl
 
-AreNew-first : (before xs ys : List ℕ) → AreNew before (xs ++ ys) → AreNew before xs
+pub AreNew-first : (before xs ys : List ℕ) → AreNew before (xs ++ ys) → AreNew before xs
 AreNew-first before [] ys h = tt
 AreNew-first before (x ∷ xs) ys h = (h.0, AreNew-first (before ++ x ∷ []) xs ys h.1)
 
-AreNew-second : (before xs ys : List ℕ) → AreNew before (xs ++ ys) → AreNew (before ++ xs) ys
+pub AreNew-second : (before xs ys : List ℕ) → AreNew before (xs ++ ys) → AreNew (before ++ xs) ys
 AreNew-second before [] ys h = subst (λ (bs : List ℕ). AreNew bs ys) (sym (append-nil before)) h
 AreNew-second before (x ∷ xs) ys h = subst (λ (bs : List ℕ). AreNew bs ys) (append_assoc before (x ∷ []) xs) (AreNew-second (before ++ x ∷ []) xs ys h.1)
 

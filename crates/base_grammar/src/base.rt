@@ -1,7 +1,9 @@
-ghost use Rattle.std.specs.Prelude.{◌≡◌, ◌<◌, length, slice_get, Some};
-ghost use Rattle.base_grammar.specs.Layout.{endpoint, IsBase};
+ghost use Rattle.std.specs.Prelude.{◌≡◌, ◌<◌, length, slice_get, is_some, Some, IfSome};
+ghost use Rattle.base_grammar.specs.Layout.{endpoint, indices, stands_in, IsBase};
 
+use crate::effective::{Effective, effective_in};
 use crate::subgroup::Subgroup;
+use bcast_base::Bis;
 use std::marker::Model;
 
 /// A BASE (Basic Audio Profile 1.0, section 3.7.2.2): a presentation delay and subgroups, which have a spelling of at most
@@ -23,6 +25,9 @@ impl Model for Base {
 }
 
 impl Base {
+    ghost use Rattle.base_grammar.specs.Effective.{effective_of, IsEffective};
+    ghost use Rattle.base_grammar.specs.declared.effective.Effective.{Effective};
+
     // The BASE of these fields.
     pub(crate) fn new(delay: u32, subgroups: Vec<Subgroup>) -> Base
         requires { IsBase (endpoint delay subgroups.items) }
@@ -53,5 +58,23 @@ impl Base {
         ensures { slice_get self.now.subgroups i ≡ Some result.now }
     {
         &self.subgroups[i]
+    }
+
+    /// What holds for the stream of this index; `None` exactly where it has no entry. It takes no memory.
+    pub fn effective(&self, bis: Bis) -> Option<Effective>
+        ensures exact { result ≡ effective_of self.now bis }
+        ensures some { IfSome result (IsEffective self.now bis) }
+        ensures present { is_some result ≡ stands_in (indices self.now.subgroups) bis }
+        ensures only { (values : Effective) → IsEffective self.now bis values → result ≡ Some values }
+    {
+        effective_in(&self.subgroups, bis)
+    }
+
+    // The subgroups in order.
+    pub(crate) fn as_slice(&self) -> &[Subgroup]
+        ensures same { result.now ≡ self.now.subgroups }
+        ensures base { IsBase self.now }
+    {
+        self.subgroups.as_slice()
     }
 }

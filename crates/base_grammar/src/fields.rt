@@ -108,7 +108,7 @@ pub(crate) fn index_field<'a>(
     let Some(bis) = Bis::new(number) else {
         return Err(BaseFault::BadIndex { place });
     };
-    if stands_before(subgroups, entries, bis) {
+    if stands_before(subgroups, entries, number) {
         return Err(BaseFault::IndexTwice { place });
     }
     Ok((bis, after))

@@ -4,19 +4,27 @@
 mod ad;
 mod ad_laws;
 mod base;
+mod draft;
+mod draft_steps;
 mod effective;
 mod fault;
 mod fields;
+mod laws;
 mod reading;
+mod room;
 mod subgroup;
+mod writing;
 
 pub use ad::{AdShort, broadcast_id, service_data, structure, write_ad};
 pub use ad_laws::{ad_list_is_read, ad_short_is_cut};
 pub use base::Base;
+pub use draft::BaseDraft;
 pub use effective::Effective;
 pub use fault::{BaseFault, DraftFault};
+pub use laws::{fault_is_at_cut, read_is_base};
 pub use reading::decode_base;
 pub use subgroup::{BaseEntry, Entries, Subgroup, is_lc3_codec};
+pub use writing::encode_base;
 
 #[cfg(test)]
 mod tests;

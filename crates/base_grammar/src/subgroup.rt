@@ -33,14 +33,14 @@ pub fn is_lc3_codec(codec: &[u8; 5]) -> bool
 }
 
 // Whether one of the entries has this index.
-fn has_entry(entries: &[BaseEntry], bis: Bis) -> bool
+fn has_entry(entries: &[BaseEntry], bis: u8) -> bool
     ensures { result ≡ list_any (λ e. e.bis == bis) entries.now }
 {
-    entries.iter().any(|entry| entry.bis == bis)
+    entries.iter().any(|entry| entry.bis.get() == bis)
 }
 
 // Whether one of the subgroups has an entry with this index.
-fn has_index(subgroups: &[Subgroup], bis: Bis) -> bool
+fn has_index(subgroups: &[Subgroup], bis: u8) -> bool
     ensures { result ≡ list_any (λ s. list_any (λ e. e.bis == bis) s.entries) subgroups.now }
 {
     subgroups
@@ -49,7 +49,7 @@ fn has_index(subgroups: &[Subgroup], bis: Bis) -> bool
 }
 
 // Whether the index stands in one of the subgroups, or of the entries behind them.
-pub(crate) fn stands_before(subgroups: &[Subgroup], entries: &[BaseEntry], bis: Bis) -> bool
+pub(crate) fn stands_before(subgroups: &[Subgroup], entries: &[BaseEntry], bis: u8) -> bool
     ensures { result ≡ stands_in (indices subgroups.now ++ map bis_of entries.now) bis }
 {
     has_index(subgroups, bis) || has_entry(entries, bis)

@@ -5,3 +5,5 @@
 mod ad;
 #[cfg(test)]
 mod pacs;
+#[cfg(test)]
+mod takes;

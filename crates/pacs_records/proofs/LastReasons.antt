@@ -1,6 +1,6 @@
 -- The records one after the other, up to the first that fits.
 use Rattle.std.proofs.Common.{◌≡◌, ◌↔◌, ℕ, zero, suc, ◌+◌, ◌<◌, ◌≤◌, ◌⊎◌, Bool, true, false, List, [], ◌∷◌, ◌++◌, length, get_or, drop, drop-cons, add-one, Option, Some, None, Result, Ok, Err, refl, sym, ap, subst, ◌∙◌, arith, inl, inr}
-use Rattle.std.specs.Prelude.{option_and_then, Any, OnOk, OnErr, IfErr, is_none}
+use Rattle.std.specs.Prelude.{option_and_then, Any, OnOk, IfErr, is_none}
 use Rattle.std.specs.Result.{result_err}
 use Rattle.std.specs.List.{list_any, AllByRecursion}
 use Rattle.std.proofs.lemmas.Option.{same_Some}
@@ -157,13 +157,7 @@ pub is_taken : (result : Result (Unit {0}) NotTaken) (capability : Capability) (
 is_taken (Ok _) capability effective e = (not_taken-none capability effective).0 (sym e)
 is_taken (Err reason) capability effective e = tt
 
-pub is_refused : (result : Result (Unit {0}) NotTaken) (capability : Capability) (effective : Effective) → result_err result ≡ not_taken capability effective → OnErr result (¬ Takes capability effective)
+pub is_refused : (result : Result (Unit {0}) NotTaken) (capability : Capability) (effective : Effective) → result_err result ≡ not_taken capability effective
+    → IfErr result (λ reason. (¬ Takes capability effective) × IsToldReason reason capability effective)
 is_refused (Ok _) capability effective e = tt
-is_refused (Err reason) capability effective e = λ t. some_none reason (e ∙ (not_taken-none capability effective).1 t)
-  where
-    some_none : (r : NotTaken) → Some r ≡ None → ⊥
-    some_none r h = cc
-
-pub is_reason : (result : Result (Unit {0}) NotTaken) (capability : Capability) (effective : Effective) → result_err result ≡ not_taken capability effective → IfErr result (λ reason. IsToldReason reason capability effective)
-is_reason (Ok _) capability effective e = tt
-is_reason (Err reason) capability effective e = not_taken-some capability effective reason (sym e)
+is_refused (Err reason) capability effective e = (taken_not_told capability effective reason (sym e), not_taken-some capability effective reason (sym e))

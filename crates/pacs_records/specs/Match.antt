@@ -5,6 +5,7 @@ use Rattle.std.specs.Prelude.{ℕ, ◌+◌, ◌-◌, ◌*◌, ◌<◌, ◌≤◌
 use Rattle.std.specs.Option.{option_map}
 use Rattle.std.specs.Int.{bit_at}
 use Rattle.std.specs.Int.RustNames.{count_ones}
+use Rattle.base_grammar.specs.Effective.{effective_of}
 use Rattle.base_grammar.specs.declared.effective.Effective.{Effective}
 use Rattle.ltv_codec.specs.declared.caps.Caps.{Caps}
 use Rattle.ltv_codec.specs.declared.config.Config.{Config}
@@ -13,7 +14,7 @@ use Rattle.pacs_records.specs.declared.capability.Capability.{Capability}
 use Rattle.pacs_records.specs.declared.not_taken.NotTaken.{NotTaken}
 use Rattle.pacs_records.specs.declared.not_taken.NotTaken.TheVariants.{Codec, Frequency, Duration, FrameOctets, Channels, FramesPerSdu, Location, Context}
 use Rattle.pacs_records.specs.declared.record.PacRecord.{PacRecord}
-use Rattle.base_grammar.specs.Layout.{lc3}
+use Rattle.base_grammar.specs.Layout.{lc3, Endpoint}
 
 -- bit k of the set is set
 abbrev pub Has : ℕ → ℕ → Type 0
@@ -109,3 +110,13 @@ abbrev pub IsToldReason : NotTaken → Capability → Effective → Type 0
 IsToldReason reason capability effective =
     ((capability.entries ≡ []) × (reason ≡ Codec))
     ⊎ ((front : List PacRecord) × (last : PacRecord) × (capability.entries ≡ front ++ last ∷ []) × IsReason reason last capability effective)
+
+-- ---- a stream of a BASE
+
+-- some record fits what the BASE says of the stream of this index
+abbrev pub TakesStream : Capability → Endpoint → ℕ → Type 0
+TakesStream capability base bis = IsSomeAnd (effective_of base bis) (Takes capability)
+
+-- none does, and this is the reason
+abbrev pub RefusesStream : NotTaken → Capability → Endpoint → ℕ → Type 0
+RefusesStream reason capability base bis = IsSomeAnd (effective_of base bis) (λ effective. (¬ Takes capability effective) × IsToldReason reason capability effective)

@@ -3,6 +3,7 @@ use Rattle.std.specs.Prelude.{ℕ, ◌-◌, ◌*◌, ◌==◌, ◌&&◌, ◌||�
 use Rattle.std.specs.List.{find}
 use Rattle.std.specs.Int.{bit_at}
 use Rattle.std.specs.Str.{bytes_eq}
+use Rattle.base_grammar.specs.Effective.{effective_of}
 use Rattle.base_grammar.specs.declared.effective.Effective.{Effective}
 use Rattle.ltv_codec.specs.declared.caps.Caps.{Caps}
 use Rattle.ltv_codec.specs.declared.config.Config.{Config}
@@ -10,7 +11,7 @@ use Rattle.pacs_records.specs.declared.capability.Capability.{Capability}
 use Rattle.pacs_records.specs.declared.not_taken.NotTaken.{NotTaken}
 use Rattle.pacs_records.specs.declared.not_taken.NotTaken.TheVariants.{Codec, Frequency, Duration, FrameOctets, Channels, FramesPerSdu, Location, Context}
 use Rattle.pacs_records.specs.declared.record.PacRecord.{PacRecord}
-use Rattle.base_grammar.specs.Layout.{is_lc3}
+use Rattle.base_grammar.specs.Layout.{is_lc3, Endpoint}
 use Rattle.pacs_records.specs.Match.{caps_in, channel_count}
 
 -- a value that meets a test is present
@@ -75,3 +76,7 @@ last_reason told (entry ∷ entries) capability effective = option_and_then (λ 
 -- why the stream is not taken
 abbrev pub not_taken : Capability → Effective → Option NotTaken
 not_taken capability effective = last_reason Codec capability.entries capability effective
+
+-- why the stream of this index is not taken
+abbrev pub stream_not_taken : Capability → Endpoint → ℕ → Option NotTaken
+stream_not_taken capability base bis = option_and_then (not_taken capability) (effective_of base bis)

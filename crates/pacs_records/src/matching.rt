@@ -1,10 +1,11 @@
-ghost use Rattle.std.specs.Prelude.{◌≡◌, OnOk, OnErr, IfErr};
+ghost use Rattle.std.specs.Prelude.{◌≡◌, OnOk, IfErr, IsTrue};
 ghost use Rattle.std.specs.Result.{result_err};
 ghost use Rattle.pacs_records.specs.Layout.{Fits};
 ghost use Rattle.std.specs.Str.{bytes_eq};
 ghost use Rattle.ltv_codec.specs.Reading.{AreLtvs};
-ghost use Rattle.pacs_records.specs.Match.{caps_in, Takes, IsToldReason};
-ghost use Rattle.pacs_records.specs.Reasons.{reason_of, not_taken, lc3_reason};
+ghost use Rattle.pacs_records.specs.Match.{caps_in, Takes, TakesStream, RefusesStream, IsToldReason};
+ghost use Rattle.pacs_records.specs.Reasons.{reason_of, not_taken, stream_not_taken, lc3_reason};
+ghost use Rattle.base_grammar.specs.Layout.{indices, stands_in};
 
 use crate::capability::Capability;
 use crate::not_taken::NotTaken;
@@ -12,18 +13,29 @@ use crate::record::PacRecord;
 use crate::requirements::{
     has_channels, has_context, has_duration, has_frame_octets, has_frames, has_frequency, is_placed,
 };
-use base_grammar::{Effective, is_lc3_codec};
+use base_grammar::{Base, Effective, is_lc3_codec};
+use bcast_base::Bis;
 use ltv_codec::Caps;
 
+/// Whether a sink takes a stream of a BASE, which has its index: some record meets all requirements. Else it is the first
+/// requirement that the last record doesn't meet, or Codec where there is no record. It takes no memory.
+pub fn takes(cap: &Capability, base: &Base, bis: Bis) -> Result<(), NotTaken>
+    requires { IsTrue (stands_in (indices base.now.subgroups) bis) }
+    ensures exact { result_err result ≡ stream_not_taken cap.now base.now bis }
+    ensures taken { OnOk result (TakesStream cap.now base.now bis) }
+    ensures refused { IfErr result (λ reason. RefusesStream reason cap.now base.now bis) }
+{
+    match base.effective(bis) {
+        Some(effective) => takes_effective(cap, &effective),
+        None => unreachable!(),
+    }
+}
+
 // Whether a sink takes a stream of which the BASE says this.
-pub(crate) fn takes_effective(
-    capability: &Capability,
-    effective: &Effective,
-) -> Result<(), NotTaken>
+fn takes_effective(capability: &Capability, effective: &Effective) -> Result<(), NotTaken>
     ensures exact { result_err result ≡ not_taken capability.now effective.now }
     ensures taken { OnOk result (Takes capability.now effective.now) }
-    ensures refused { OnErr result (¬ Takes capability.now effective.now) }
-    ensures reason { IfErr result (λ reason. IsToldReason reason capability.now effective.now) }
+    ensures refused { IfErr result (λ reason. (¬ Takes capability.now effective.now) × IsToldReason reason capability.now effective.now) }
 {
     first_that_fits(capability, effective)
 }
