@@ -1,20 +1,20 @@
 -- What is spelled as a BASE is read.
-use Rattle.std.proofs.Common.{◌≡◌, ℕ, zero, suc, ◌+◌, ◌<◌, ◌≤◌, ◌^◌, ◌*◌, Bool, true, false, cond, ltb, List, [], ◌∷◌, ◌++◌, length, map, Some, None, Result, Ok, Err, refl, sym, ap, subst, ◌∙◌, append_assoc, arith}
+use Rattle.std.proofs.Common.{◌≡◌, ℕ, suc, ◌≤◌, Bool, true, false, cond, ltb, List, [], ◌∷◌, ◌++◌, length, map, Some, Result, Ok, Err, refl, sym, ap, subst, ◌∙◌, append_assoc, arith}
 use Rattle.std.specs.Prelude.{IfOk}
 use Rattle.std.specs.List.{flat_map, AllByRecursion}
 use Rattle.std.proofs.lemmas.Bool.{ltb-false, le-ltb}
 use Rattle.std.proofs.lemmas.List.{append-nil}
 use Rattle.std.proofs.lemmas.List.Concat.{flat_map-cons}
-use Rattle.octet_fields.specs.Reading.{octet_in, octets_in, number_in, place_in}
-use Rattle.octet_fields.specs.Spelling.{IsOctets, octet, number, counted}
+use Rattle.octet_fields.specs.Reading.{octets_in, number_in, place_in}
+use Rattle.octet_fields.specs.Spelling.{IsOctets, counted}
 use Rattle.octet_fields.proofs.Fields.{octets_again, number_again}
 use Rattle.base_grammar.specs.declared.fault.BaseFault.{BaseFault}
 use Rattle.base_grammar.specs.declared.fault.BaseFault.TheVariants.{TooLong}
 use Rattle.base_grammar.specs.declared.subgroup.BaseEntry.{BaseEntry}
 use Rattle.base_grammar.specs.declared.subgroup.Subgroup.{Subgroup}
 use Rattle.base_grammar.specs.Layout.{Endpoint, is_lc3, entry, subgroup, spelling, bis_of, indices, stands_in, AreNew, IsConfig, EntryFits, SubgroupFits, HasEntry, IsBase, BaseIs}
-use Rattle.base_grammar.specs.Reading.{◌>>=◌, needed, unless, run_at, index_at, entry_at, entries_at, streams_at, subgroup_at, subgroups_at, count_at, ended, fields_of, base_of, Gives}
-use Rattle.base_grammar.proofs.Steps.{none_run, none_index, none_streams, none_subgroups, ok_is}
+use Rattle.base_grammar.specs.Reading.{run_at, index_at, entry_at, entries_at, streams_at, subgroup_at, subgroups_at, count_at, fields_of, base_of, Gives}
+use Rattle.base_grammar.proofs.Steps.{none_run, none_index, none_streams, none_subgroups}
 use Rattle.base_grammar.proofs.Taken.{fields_take}
 
 run_again : (whole : List ℕ) (is_list : Bool) (value rest : List ℕ) → IsConfig is_list value → run_at whole is_list (counted value ++ rest) ≡ Ok (value, rest)

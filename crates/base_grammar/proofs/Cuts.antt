@@ -1,16 +1,16 @@
 -- Reading a BASE takes whole fields that meet their rows, and stops at the cut.
-use Rattle.std.proofs.Common.{◌≡◌, ℕ, zero, suc, ◌+◌, ◌-◌, ◌<◌, ◌≤◌, Bool, true, false, List, [], ◌∷◌, ◌++◌, length, map, Some, None, Result, Ok, Err, refl, sym, ap, subst, ◌∙◌, append_assoc, arith}
-use Rattle.octet_fields.specs.Reading.{octet_in, octets_in, number_in, place_in}
+use Rattle.std.proofs.Common.{◌≡◌, ℕ, zero, suc, ◌-◌, ◌≤◌, Bool, true, false, List, [], ◌∷◌, ◌++◌, map, Result, Ok, Err, refl, sym, subst, append_assoc, arith}
+use Rattle.octet_fields.specs.Reading.{octets_in, number_in, place_in}
 use Rattle.base_grammar.specs.declared.fault.BaseFault.{BaseFault}
 use Rattle.base_grammar.specs.declared.fault.BaseFault.TheVariants.{Trailing}
 use Rattle.base_grammar.specs.declared.subgroup.BaseEntry.{BaseEntry}
 use Rattle.base_grammar.specs.declared.subgroup.Subgroup.{Subgroup}
-use Rattle.base_grammar.specs.Layout.{Endpoint, endpoint, is_lc3, bis_of, indices}
-use Rattle.base_grammar.specs.Rows.{subgroups_fault, streams_fault, index_fault, run_fault}
-use Rattle.base_grammar.specs.Reading.{◌>>=◌, needed, unless, run_at, index_at, entry_at, entries_at, streams_at, subgroup_at, subgroups_at, count_at, ended, fields_of}
-use Rattle.base_grammar.specs.Faults.{Row, presentation_delay, num_subgroups, num_bis, codec_id, config_length, config, metadata_length, metadata, bis_index, bis_config_length, bis_config, nothing, Due, first_due, behind_entry, behind_subgroup, next_due, AtCut}
+use Rattle.base_grammar.specs.Layout.{endpoint, is_lc3, bis_of}
+use Rattle.base_grammar.specs.Rows.{subgroups_fault, streams_fault, index_fault}
+use Rattle.base_grammar.specs.Reading.{◌>>=◌, needed, run_at, index_at, entry_at, entries_at, streams_at, subgroup_at, subgroups_at, count_at, ended, fields_of}
+use Rattle.base_grammar.specs.Faults.{Row, num_subgroups, num_bis, codec_id, config_length, config, metadata_length, metadata, bis_index, bis_config_length, bis_config, nothing, Due, first_due, behind_entry, behind_subgroup, AtCut}
 use Rattle.base_grammar.proofs.Taken.{streams_take, count_takes}
-use Rattle.base_grammar.proofs.Walk.{At, at_first, at_stop, Comes, comes_then, comes_same, ruled_octet_comes, octets_come, RunRows, run_comes, number_comes}
+use Rattle.base_grammar.proofs.Walk.{At, at_first, at_stop, Comes, comes_then, ruled_octet_comes, octets_come, run_comes, number_comes}
 
 abbrev due_at : Row → Bool → ℕ → ℕ → List ℕ → Due
 due_at row is_list streams subgroups before = record { row = row; is_lc3 = is_list; streams = streams; subgroups = subgroups; before = before }

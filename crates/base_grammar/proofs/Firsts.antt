@@ -1,5 +1,5 @@
 -- There is one cut, so octets that are refused have one fault, and reading finds it.
-use Rattle.std.proofs.Common.{◌≡◌, ℕ, zero, suc, ◌+◌, ◌<◌, ◌≤◌, Bool, true, false, cond, ltb, eqb, List, [], ◌∷◌, ◌++◌, length, take, drop, Option, Some, None, Result, Ok, Err, refl, sym, ap, subst, ◌∙◌, append_assoc, arith, add-zero, zero-add}
+use Rattle.std.proofs.Common.{◌≡◌, ℕ, ◌+◌, ◌<◌, ◌≤◌, Bool, true, false, cond, ltb, List, [], ◌∷◌, ◌++◌, length, take, Option, Some, None, Result, Ok, Err, refl, sym, ap, subst, ◌∙◌, append_assoc, arith, add-zero, zero-add}
 use Rattle.std.specs.Prelude.{IfErr}
 use Rattle.std.specs.List.{concat}
 use Rattle.std.specs.Option.{option_map}
@@ -11,7 +11,7 @@ use Rattle.ltv_codec.specs.declared.fault.LtvBad.{LtvBad}
 use Rattle.base_grammar.specs.declared.fault.BaseFault.{BaseFault}
 use Rattle.base_grammar.specs.declared.fault.BaseFault.TheVariants as faults
 use Rattle.base_grammar.specs.Layout.{Endpoint, stands_in}
-use Rattle.base_grammar.specs.Rows.{subgroups_fault, streams_fault, index_fault, run_fault}
+use Rattle.base_grammar.specs.Rows.{run_fault}
 use Rattle.base_grammar.specs.Reading.{Gives, fields_of, base_of}
 use Rattle.base_grammar.specs.Faults.{Row, presentation_delay, num_subgroups, num_bis, codec_id, config_length, config, metadata_length, metadata, bis_index, bis_config_length, bis_config, nothing, Due, first_due, width, number_of, row_fault, next_due, IsDue, due_behind, Meets, AllMeet, field_fault, ending_fault, cut_fault, AtCut, IsBad, IsFault}
 use Rattle.base_grammar.proofs.Walk.{At, due_cut}

@@ -1,6 +1,6 @@
 -- A BASE that is put together: subgroups one after the other, and the entries of each behind it, before the next
 -- subgroup (Basic Audio Profile 1.0, section 3.7.2.2). The last subgroup alone may have no entry yet.
-use Rattle.std.specs.Prelude.{ℕ, ◌<◌, ◌≤◌, ◌^◌, ◌≡◌, ◌==◌, Bool, false, List, [], ◌∷◌, ◌++◌, length, Option, Some, None, Result, Ok, Err, nat_lt, if◌then◌else◌}
+use Rattle.std.specs.Prelude.{ℕ, ◌<◌, ◌^◌, ◌≡◌, ◌==◌, Bool, false, List, [], ◌∷◌, ◌++◌, length, Option, Some, None, Result, Ok, Err, nat_lt, if◌then◌else◌}
 use Rattle.std.specs.List.{AllByRecursion}
 use Rattle.base_grammar.specs.declared.fault.DraftFault.{DraftFault}
 use Rattle.base_grammar.specs.declared.fault.DraftFault.TheVariants.{NoSubgroup, NoBis, IndexTwice, TooLong, Memory}

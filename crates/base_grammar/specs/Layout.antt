@@ -1,7 +1,7 @@
 -- The BASE (Basic Audio Profile 1.0, section 3.7.2.2): the octets are the concatenation of Presentation_Delay,
 -- Num_Subgroups and the subgroups. A subgroup is Num_BIS, Codec_ID, its configuration and its metadata, each of the two
 -- behind its length, and then its entries: BIS_index and the entry's configuration behind its length.
-use Rattle.std.specs.Prelude.{ℕ, ◌+◌, ◌<◌, ◌≤◌, ◌^◌, ◌≡◌, ◌==◌, Bool, true, false, IsTrue, List, [], ◌∷◌, ◌++◌, length, map}
+use Rattle.std.specs.Prelude.{ℕ, ◌<◌, ◌≤◌, ◌^◌, ◌≡◌, ◌==◌, Bool, false, IsTrue, List, [], ◌∷◌, ◌++◌, length, map}
 use Rattle.std.specs.List.{flat_map, list_any, AllByRecursion}
 use Rattle.std.specs.Str.{bytes_eq}
 use Rattle.octet_fields.specs.Spelling.{number, counted}

@@ -31,7 +31,8 @@ impl Base {
     // The BASE of these fields.
     pub(crate) fn new(delay: u32, subgroups: Vec<Subgroup>) -> Base
         requires { IsBase (endpoint delay subgroups.items) }
-        ensures { result ≡ endpoint delay subgroups.items }
+        ensures same { result ≡ endpoint delay subgroups.items }
+        ensures base { IsBase result }
     {
         Base { delay, subgroups }
     }

@@ -2,7 +2,7 @@ ghost use Rattle.std.specs.Prelude.{◌≡◌, ◌<◌, ◌^◌, [], OnOk, OnErr
 ghost use Rattle.std.specs.Option.{ForSome};
 ghost use Rattle.ltv_codec.specs.Reading.{AreLtvs};
 ghost use Rattle.base_grammar.specs.Draft.{last_of, opened, with_subgroup, with_metadata, with_entry, subgroup_fault, metadata_fault, entry_fault, finish_fault, Refuses};
-ghost use Rattle.base_grammar.specs.Layout.{endpoint, is_lc3, IsConfig};
+ghost use Rattle.base_grammar.specs.Layout.{endpoint, is_lc3, IsBase, IsConfig};
 
 use crate::base::Base;
 use crate::draft_steps::{finish_refusal, open_subgroup, put_entry, put_metadata};
@@ -81,6 +81,7 @@ impl BaseDraft {
     /// where there would be more than 252 octets. A refusal hands the draft back. It takes no memory.
     pub fn finish(self) -> Result<Base, Kept<BaseDraft, DraftFault>>
         ensures ok { IfOk result (λ base. base ≡ self) }
+        ensures base { IfOk result IsBase }
         ensures refuses { MatchResult result (λ _. finish_fault self ≡ None) (λ kept. (finish_fault self ≡ Some kept.fault) × (kept.state ≡ self)) }
     {
         if let Some(fault) = finish_refusal(&self.subgroups) {

@@ -27,4 +27,6 @@ pub use subgroup::{BaseEntry, Entries, Subgroup, is_lc3_codec};
 pub use writing::encode_base;
 
 #[cfg(test)]
+mod ad_tests;
+#[cfg(test)]
 mod tests;

@@ -1,43 +1,55 @@
-use crate::{AdShort, broadcast_id, service_data, structure, write_ad};
-use bcast_base::Octets;
+use crate::{BaseDraft, DraftFault, encode_base, is_lc3_codec};
+use bcast_base::Bis;
+use ltv_codec::check_ltvs;
 use std::test::Fail;
 
-// The Broadcast_ID 0x123456 as Service Data of UUID 0x1852.
-const ANNOUNCEMENT: [u8; 7] = [0x06, 0x16, 0x52, 0x18, 0x56, 0x34, 0x12];
+const LC3: [u8; 5] = [6, 0, 0, 0, 0];
+
+// 48 kHz, 10 ms and 100 octets; media; front left.
+const CONFIG: [u8; 10] = [2, 1, 8, 2, 2, 1, 3, 4, 100, 0];
+
+const METADATA: [u8; 4] = [3, 2, 4, 0];
+
+const ALLOCATION: [u8; 6] = [5, 3, 1, 0, 0, 0];
+
+// The BASE that these make, with a delay of 40000 µs.
+const BASE: [u8; 34] = [
+    0x40, 0x9c, 0, 1, 1, 6, 0, 0, 0, 0, 10, 2, 1, 8, 2, 2, 1, 3, 4, 100, 0, 4, 3, 2, 4, 0, 1, 6, 5,
+    3, 1, 0, 0, 0,
+];
 
 #[test]
-fn an_announcement_has_a_broadcast_id(rt: HostRuntime) {
-    assert_eq!(rt; broadcast_id(&ANNOUNCEMENT), Some([0x56, 0x34, 0x12]));
-    assert_eq!(rt; broadcast_id(&[]), None);
-    assert_eq!(rt; broadcast_id(&[0x06, 0x16, 0x52, 0x18]), None);
-}
-
-#[test]
-fn a_length_of_0_ends_a_list(rt: HostRuntime) {
-    let Ok(Some(flags)) = structure(&[0x02, 0x01, 0x06, 0x00, 0xff], 0x01) else {
-        return assert!(rt; false);
-    };
-    assert_eq!(rt; flags, [0x06].as_slice());
-    assert!(rt;
-        matches!(
-            structure(&[0x02, 0x01, 0x06, 0x02], 0x01),
-            Err(AdShort { place: 3 })
-        )
-    );
-}
-
-#[test]
-fn service_data_stands_behind_its_uuid(rt: HostRuntime) {
-    let Ok(Some(content)) = service_data(&[0x04, 0x16, 0x51, 0x18, 0x40], 0x1851) else {
-        return assert!(rt; false);
-    };
-    assert_eq!(rt; content, [0x40].as_slice());
-}
-
-#[test]
-fn a_structure_is_written_with_ample_memory(rt: HostRuntime) -> Result<(), Fail> {
-    let mut ext = Octets::new(rt.alloc());
-    write_ad(&mut ext, 0x16, &[0x52, 0x18, 0x56, 0x34, 0x12])?;
-    assert_eq!(rt; ext.as_slice(), ANNOUNCEMENT.as_slice());
+fn a_draft_is_finished_and_encoded(rt: HostRuntime) -> Result<(), Fail> {
+    assert!(rt; check_ltvs(&CONFIG).is_ok());
+    assert!(rt; check_ltvs(&METADATA).is_ok());
+    assert!(rt; check_ltvs(&ALLOCATION).is_ok());
+    let bis = Bis::new(1).ok_or("no index")?;
+    let mut draft = BaseDraft::new(rt.alloc(), 40000);
+    draft.subgroup(LC3, &CONFIG)?;
+    draft.metadata(&METADATA)?;
+    draft.bis(bis, &ALLOCATION)?;
+    match draft.finish() {
+        Ok(base) => {
+            let octets = encode_base(rt.alloc(), &base)?;
+            assert_eq!(rt; octets.as_slice(), BASE.as_slice());
+        }
+        Err(_kept) => assert!(rt; false),
+    }
     Ok(())
+}
+
+#[test]
+fn an_unfinished_draft_is_handed_back(rt: HostRuntime) -> Result<(), Fail> {
+    let draft = BaseDraft::new(rt.alloc(), 0);
+    match draft.finish() {
+        Ok(_base) => assert!(rt; false),
+        Err(kept) => assert_eq!(rt; kept.fault, DraftFault::NoSubgroup),
+    }
+    Ok(())
+}
+
+#[test]
+fn the_codec_is_told(rt: HostRuntime) {
+    assert!(rt; is_lc3_codec(&LC3));
+    assert!(rt; !is_lc3_codec(&[0xff, 0, 0, 0, 0]));
 }

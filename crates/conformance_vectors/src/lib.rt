@@ -1,8 +1,12 @@
-//! Octets of public test programs and of this project's rows, with what they mean, as tests of the codecs.
+//! Octets and their meanings from outside, as tests of the codecs.
 #![tactic(auto)]
 
 #[cfg(test)]
 mod ad;
+#[cfg(test)]
+mod base;
+#[cfg(test)]
+mod bluez;
 #[cfg(test)]
 mod pacs;
 #[cfg(test)]

@@ -1,7 +1,3 @@
-use Rattle.std.proofs.Common.{ap, ◌∙◌, subst, List, ℕ, sym}
-use Rattle.base_grammar.specs.Layout.{indices}
-use Rattle.base_grammar.specs.Reading.{Fails, subgroup_at}
-use Rattle.base_grammar.specs.declared.subgroup.Subgroup.{Subgroup}
 use Rattle.base_grammar.proofs.Loops.{grouping_next, grouping_failed, grouping_done}
 use Rattle.base_grammar.proofs.reading.subgroups_of.Goals as goal
 

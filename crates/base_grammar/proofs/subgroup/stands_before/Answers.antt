@@ -1,5 +1,5 @@
-use Rattle.std.proofs.Common.{◌||◌, ◌∙◌, ap, sym, Bool, ◌≡◌}
-use Rattle.base_grammar.proofs.Indices.{in_subgroups, in_entries, stands-both}
+use Rattle.std.proofs.Common.{◌||◌, ◌∙◌, ap, sym, Bool}
+use Rattle.base_grammar.proofs.Indices.{in_entries, stands-both}
 use Rattle.base_grammar.proofs.subgroup.stands_before.Goals as goal
 
 pub returns-then-has_index : goal.returns-then-has_index

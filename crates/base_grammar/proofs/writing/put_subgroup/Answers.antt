@@ -1,6 +1,4 @@
-use Rattle.std.proofs.Common.{arith, ◌≤◌, length}
-use Rattle.std.specs.List.{flat_map}
-use Rattle.base_grammar.specs.Layout.{entry}
+use Rattle.std.proofs.Common.{arith}
 use Rattle.base_grammar.proofs.Sizes.{length-subgroup, entries_few}
 use Rattle.base_grammar.proofs.writing.put_subgroup.Goals as goal
 

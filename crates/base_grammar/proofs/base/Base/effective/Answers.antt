@@ -1,7 +1,6 @@
-use Rattle.std.proofs.Common.{◌∙◌, ap, subst, sym, ◌≡◌, Some}
+use Rattle.std.proofs.Common.{◌∙◌, ap, subst}
 use Rattle.std.specs.Prelude.{is_some}
-use Rattle.std.specs.List.{AllByRecursion}
-use Rattle.base_grammar.specs.Layout.{IsBase, endpoint}
+use Rattle.base_grammar.specs.Layout.{IsBase}
 use Rattle.base_grammar.proofs.Places.{effective_found, effective_present, effective_only}
 use Rattle.base_grammar.proofs.base.Base.effective.Goals as goal
 
