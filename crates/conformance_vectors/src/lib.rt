@@ -1,0 +1,13 @@
+//! Octets and their meanings from outside, as tests of the codecs.
+#![tactic(auto)]
+
+#[cfg(test)]
+mod ad;
+#[cfg(test)]
+mod base;
+#[cfg(test)]
+mod bluez;
+#[cfg(test)]
+mod pacs;
+#[cfg(test)]
+mod takes;
