@@ -1,4 +1,4 @@
-use crate::{Operation, Wish, Wishes, decode_operation, encode_operation};
+use crate::{Wish, Wishes, decode_operation, encode_operation};
 use bcast_base::Octets;
 use std::test::Fail;
 
@@ -14,14 +14,6 @@ fn an_operation_is_decoded_and_encoded(rt: HostRuntime) -> Result<(), Fail> {
     let op = decode_operation(rt.alloc(), &ADD)?;
     let octets = encode_operation(rt.alloc(), &op)?;
     assert_eq!(rt; octets.as_slice(), ADD.as_slice());
-    let Operation::Add(add) = op else {
-        assert!(rt; false);
-        return Ok(());
-    };
-    assert_eq!(rt; add.sid, 3);
-    assert_eq!(rt; add.pa_interval, 0xffff);
-    assert_eq!(rt; add.wishes.count(), 1);
-    assert_eq!(rt; add.wishes.item(0).bis_sync, 0xffff_ffff);
     Ok(())
 }
 

@@ -1,16 +1,14 @@
 -- A subgroup that is read is the one that is spelled, and so are many.
-use Rattle.std.proofs.Common.{◌≡◌, ℕ, zero, suc, ◌+◌, ◌-◌, ◌*◌, ◌^◌, ◌<◌, ◌≤◌, Bool, true, false, cond, ltb, List, [], ◌∷◌, ◌++◌, length, take, drop, Option, Some, None, refl, sym, ap, subst, ◌∙◌, append_assoc, arith}
-use Rattle.std.proofs.lemmas.Bool.{ltb-false}
+use Rattle.std.proofs.Common.{◌≡◌, ℕ, zero, suc, ◌+◌, ◌-◌, ◌<◌, ◌≤◌, Bool, true, false, cond, ltb, List, [], ◌∷◌, ◌++◌, length, take, drop, Option, Some, None, refl, sym, ap, subst, ◌∙◌, append_assoc, arith}
 use Rattle.std.proofs.lemmas.List.{append-nil, length-append, length-drop}
-use Rattle.std.proofs.lemmas.List.Concat.{flat_map-cons}
 use Rattle.std.specs.List.{flat_map, AllByRecursion}
 use Rattle.bcast_base.specs.Numbers.{sum_from}
-use Rattle.octet_fields.specs.Layout.{Field, laid, reserved_from}
+use Rattle.octet_fields.specs.Layout.{laid, reserved_from}
 use Rattle.octet_fields.specs.Reading.{number_in, counted_in, place_in, Takes}
 use Rattle.octet_fields.specs.Spelling.{IsOctets, number, counted}
 use Rattle.octet_fields.specs.Steps.{◌>>=◌}
 use Rattle.octet_fields.specs.Subgroups.{Subgroup, Fits, subgroup, subgroup_fields, subgroup_in, subgroups_in, reserved_in, is_reserved}
-use Rattle.octet_fields.proofs.Fields.{guard_some, IsOctets-front, Takes-then, number_takes, number_again, number-length, counted_takes, counted_again}
+use Rattle.octet_fields.proofs.Fields.{guard_some, Takes-then, number_takes, number_again, number-length, counted_takes, counted_again}
 
 -- the value of a step that read something
 pub bind_some : {A B : Type 0} (r : Option A) (f : A → Option B) (y : B) → (r >>= f) ≡ Some y → (x : A) × (r ≡ Some x) × (f x ≡ Some y)

@@ -1,6 +1,6 @@
 -- A layout is a list of fields, one behind the other, of which some have a value that is reserved for future use
 -- (Core 5.2, volume 1 part E, section 2.2; Broadcast Audio Scan Service 1.0, sections 3.1.1 and 3.2).
-use Rattle.std.specs.Prelude.{ℕ, ◌≡◌, ◌+◌, ◌<◌, List, [], ◌∷◌, ◌++◌, length, Option, Some, None, Bool, true, false, if◌then◌else◌}
+use Rattle.std.specs.Prelude.{ℕ, ◌≡◌, ◌+◌, List, [], ◌∷◌, ◌++◌, length, Option, Some, None, Bool, true, false, if◌then◌else◌}
 use Rattle.std.specs.List.{flat_map, AllByRecursion}
 
 pub record Field : Type 0 where

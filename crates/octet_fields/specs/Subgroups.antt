@@ -2,8 +2,7 @@
 -- and metadata behind its length. Bit n stands for the BIS_index n + 1. Bit 31 is reserved for future use, but where all
 -- bits are set.
 use Rattle.std.specs.Prelude.{ℕ, zero, suc, ◌<◌, ◌^◌, List, [], ◌∷◌, ◌++◌, length, Option, Some, None, Bool, nat_lt, ◌==◌, ◌&&◌, not, if◌then◌else◌}
-use Rattle.std.specs.List.{flat_map, AllByRecursion}
-use Rattle.octet_fields.specs.Layout.{Field, free, unless, reserved_from}
+use Rattle.octet_fields.specs.Layout.{Field, free, unless}
 use Rattle.octet_fields.specs.Reading.{number_in, counted_in, place_in}
 use Rattle.octet_fields.specs.Spelling.{octet, number, counted}
 use Rattle.octet_fields.specs.Steps.{◌>>=◌}
