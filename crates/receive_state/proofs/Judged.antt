@@ -17,6 +17,7 @@ use Rattle.receive_state.specs.declared.state.Encryption.{Encryption}
 use Rattle.receive_state.specs.declared.state.Encryption.TheVariants as keys
 use Rattle.receive_state.specs.declared.state.GroupState.{GroupState}
 use Rattle.receive_state.specs.declared.state.ReceiveState.{ReceiveState}
+use Rattle.receive_state.specs.Faults.{IsFollowed}
 use Rattle.receive_state.specs.Layout.{StateFields, fields, FieldsFit, code_width, number_of, code_of, group_of, fields_of, spelling, IsSpelled, StateIs}
 use Rattle.receive_state.specs.Reading.{head_in, end_in, subgroups_of, state_of_group, groups_of, encryption_of, state_from, reserved_head, first_fault, answered, behind, judged, judged_of, lifted, state_of, Fails, Answers}
 use Rattle.receive_state.proofs.Heads.{before, IsHead, head_takes, head_again, before-length}
@@ -88,11 +89,6 @@ answered_ok read state (Some fault) e = absurd cc
 known_encryption : (s : StateFields) → NoneReserved (fields s) → s.encryption ≤ 3
 known_encryption s h = ltb-false 3 s.encryption h.1.1.1.1.1.1.0
 
--- the fields that were read
-pub record IsWhole (whole : List ℕ) (s : StateFields) (rest : List ℕ) : Type 0 where
-  pub widths : FieldsFit s
-  pub parts : whole ≡ laid (fields s) ++ rest
-
 few : (n : ℕ) → n < 256 → n ≤ 255
 few n h = omega arith
 
@@ -100,7 +96,7 @@ nested : (s : StateFields) (count : ℕ) (tail rest : List ℕ) → before s cou
 nested s count tail rest = simp append_assoc
 
 pub whole_of : (whole : List ℕ) (s : StateFields) (count : ℕ) (tail : List ℕ) (groups : List Subgroup) (rest : List ℕ) → IsOctets whole → head_in whole ≡ Ok (s, count, tail) → subgroups_in count tail ≡ Some (groups, rest)
-    → IsWhole whole (record s { groups = groups }) rest
+    → IsFollowed (record s { groups = groups }) whole rest
 whole_of whole s count tail groups rest h e g =
     let t = head_takes whole (s, count, tail) h e in
     let u = subgroups_take count tail (groups, rest) t.octets g in
@@ -121,7 +117,7 @@ judged_as whole s count tail groups rest e g =
     ∙ (ap (λ (r : Option (List Subgroup × List ℕ)). behind whole (record s { groups = subgroups_of r }) (end_in whole count tail)) g
     ∙ ap (behind whole (record s { groups = groups })) end)
 
-pub whole_judged : (whole : List ℕ) (s : StateFields) (rest : List ℕ) → IsWhole whole s rest → judged_of whole ≡ answered (state_from s) (first_fault (reserved_from 0 (fields s)) (place_in whole rest) rest)
+pub whole_judged : (whole : List ℕ) (s : StateFields) (rest : List ℕ) → IsFollowed s whole rest → judged_of whole ≡ answered (state_from s) (first_fault (reserved_from 0 (fields s)) (place_in whole rest) rest)
 whole_judged whole s rest w =
     let tail = laid (flat_map subgroup_fields s.groups) ++ rest in
     let parts : whole ≡ before s (length s.groups) tail = w.parts ∙ sym (nested s (length s.groups) (laid (flat_map subgroup_fields s.groups)) rest) in
@@ -173,7 +169,7 @@ read_is value (octet ∷ rest) h e =
 
 pub is_judged : (state : ReceiveState) (octets : List ℕ) → IsSpelled state octets → judged_of octets ≡ Ok state
 is_judged state octets s =
-    let w : IsWhole octets (fields_of state) [] = record { widths = s.widths; parts = s.spelled ∙ sym (append-nil (spelling state)) } in
+    let w : IsFollowed (fields_of state) octets [] = record { widths = s.widths; parts = s.spelled ∙ sym (append-nil (spelling state)) } in
     let none : reserved_from 0 (fields (fields_of state)) ≡ None = none_reserved 0 (fields (fields_of state)) s.values in
     whole_judged octets (fields_of state) [] w
     ∙ (ap (λ (p : Option ℕ). answered (state_from (fields_of state)) (first_fault p (place_in octets []) [])) none ∙ ap (λ (x : ReceiveState). answered x None) (state_back state))

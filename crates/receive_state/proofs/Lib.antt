@@ -1,3 +1,4 @@
+pub mod Causes
 pub mod Fits
 pub mod Heads
 pub mod Judged

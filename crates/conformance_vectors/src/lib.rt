@@ -1,0 +1,9 @@
+//! Octets and their meanings from outside, as tests of the codecs.
+#![tactic(auto)]
+
+#[cfg(test)]
+mod big_info;
+#[cfg(test)]
+mod operations;
+#[cfg(test)]
+mod states;
