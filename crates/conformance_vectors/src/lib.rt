@@ -2,7 +2,7 @@
 #![tactic(auto)]
 
 #[cfg(test)]
-mod big_info;
+mod group_info;
 #[cfg(test)]
 mod operations;
 #[cfg(test)]
