@@ -1,7 +1,7 @@
 -- What is wrong with octets that have all fields, as it is found and as it is told.
-use Rattle.std.proofs.Common.{◌≡◌, ℕ, suc, ◌+◌, ◌-◌, ◌<◌, List, [], ◌∷◌, ◌++◌, length, Option, Some, None, Result, Ok, Err, refl, sym, ap, subst, ◌∙◌, arith}
+use Rattle.std.proofs.Common.{◌≡◌, ℕ, ◌<◌, List, [], ◌∷◌, length, Option, Some, None, Result, Ok, Err, refl, sym, ap, ◌∙◌, arith}
 use Rattle.std.proofs.lemmas.List.{length-append}
-use Rattle.octet_fields.specs.Layout.{laid, reserved_from, NoneReserved, FirstReserved}
+use Rattle.octet_fields.specs.Layout.{laid, reserved_from}
 use Rattle.octet_fields.specs.Reading.{place_in}
 use Rattle.octet_fields.specs.Spelling.{IsOctets}
 use Rattle.octet_fields.specs.Subgroups.{Subgroup, subgroups_in}
@@ -39,7 +39,7 @@ head_cases : (whole : List ℕ) (fault : StateFault) (read : Result (StateFields
 head_cases whole fault (Err place) h later e j = absurd (later place (let same : fault ≡ Short place = cc in same))
 head_cases whole fault (Ok x) h later e j = end_cases whole x.0 x.1 x.2 fault (end_in whole x.1 x.2) h later e refl j
 
-lifted_err : (read : Result ReceiveState StateFault) (fault : StateFault) → lifted read ≡ Err fault → read ≡ Err fault
+pub lifted_err : (read : Result ReceiveState StateFault) (fault : StateFault) → lifted read ≡ Err fault → read ≡ Err fault
 lifted_err (Ok state) fault e = absurd cc
 lifted_err (Err found) fault e = let same : found ≡ fault = cc in ap (λ (f : StateFault). Err f) same
 

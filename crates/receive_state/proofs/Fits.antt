@@ -1,5 +1,5 @@
 -- Which states have a spelling.
-use Rattle.std.proofs.Common.{◌≡◌, ◌≤◌, ℕ, suc, Bool, true, false, cond, ltb, leb, List, [], ◌∷◌, length, map, Some, refl, sym, ap, subst, ◌∙◌, arith}
+use Rattle.std.proofs.Common.{◌≡◌, ◌≤◌, ℕ, suc, Bool, true, false, cond, ltb, leb, List, [], ◌∷◌, length, map, Some, refl, ap, subst, arith}
 use Rattle.std.specs.Prelude.{◌&&◌, ◌||◌, not}
 use Rattle.std.specs.List.{flat_map, list_all, AllByRecursion}
 use Rattle.std.proofs.lemmas.Bool.{leb-true, le-leb}
@@ -9,7 +9,7 @@ use Rattle.receive_state.specs.declared.state.Encryption.{Encryption}
 use Rattle.receive_state.specs.declared.state.Encryption.TheVariants as keys
 use Rattle.receive_state.specs.declared.state.GroupState.{GroupState}
 use Rattle.receive_state.specs.declared.state.ReceiveState.{ReceiveState}
-use Rattle.receive_state.specs.Layout.{FieldsFit, fields_of, group_of, number_of, spelling, group_is_spelled, is_spelled, HasSpelling, IsSpelled, StateIs}
+use Rattle.receive_state.specs.Layout.{FieldsFit, fields_of, group_of, number_of, spelling, group_is_spelled, is_spelled, HasSpelling, StateIs}
 
 length-groups : (groups : List GroupState) → length (map group_of groups) ≡ length groups
 length-groups [] = refl

@@ -1,5 +1,5 @@
 -- The fields before the subgroups: what is read of them is spelled so, and what is spelled so is read.
-use Rattle.std.proofs.Common.{◌≡◌, ℕ, ◌+◌, ◌<◌, List, [], ◌∷◌, ◌++◌, length, Some, Result, Ok, Err, refl, sym, ap, subst, ◌∙◌, arith}
+use Rattle.std.proofs.Common.{◌≡◌, ℕ, ◌+◌, ◌<◌, List, [], ◌++◌, length, Some, Ok, refl, ap, subst, ◌∙◌, arith}
 use Rattle.std.proofs.lemmas.List.{length-append}
 use Rattle.octet_fields.specs.Reading.{octet_in, octets_in, place_in}
 use Rattle.octet_fields.specs.Spelling.{IsOctets, octet}
@@ -9,7 +9,7 @@ use Rattle.receive_state.specs.Reading.{source_in, head_in}
 use Rattle.receive_state.specs.Steps.{◌>>=◌, field_in}
 use Rattle.receive_state.proofs.Loops.{bind_ok, needed_ok, ok_is}
 
-octets_again_at : (k : ℕ) (value rest : List ℕ) → length value ≡ k → octets_in k (value ++ rest) ≡ Some (value, rest)
+pub octets_again_at : (k : ℕ) (value rest : List ℕ) → length value ≡ k → octets_in k (value ++ rest) ≡ Some (value, rest)
 octets_again_at k value rest e = subst (λ (n : ℕ). octets_in n (value ++ rest) ≡ Some (value, rest)) e (octets_again value rest)
 
 first_fits : (from : List ℕ) (n : ℕ) (rest : List ℕ) → IsOctets from → from ≡ octet n ++ rest → n < 256

@@ -1,26 +1,25 @@
 -- States that are read are spelled so, and their first fault is the one that is told.
-use Rattle.std.proofs.Common.{◌≡◌, ℕ, zero, suc, ◌+◌, ◌-◌, ◌<◌, ◌≤◌, Bool, true, false, cond, ltb, eqb, List, [], ◌∷◌, ◌++◌, length, map, Option, Some, None, is_some, Result, Ok, Err, refl, sym, ap, subst, ◌∙◌, append_assoc, arith}
-use Rattle.std.specs.Prelude.{IsOk, IfOk}
+use Rattle.std.proofs.Common.{◌≡◌, ℕ, zero, suc, ◌<◌, ◌≤◌, List, [], ◌∷◌, ◌++◌, length, map, Option, Some, None, Result, Ok, Err, refl, sym, ap, subst, ◌∙◌, append_assoc, arith}
+use Rattle.std.specs.Prelude.{IfOk}
 use Rattle.std.proofs.lemmas.Bool.{ltb-false}
 use Rattle.std.proofs.lemmas.Grind.{flat_map-append}
 use Rattle.std.proofs.lemmas.List.{append-nil, nil_from_length}
-use Rattle.std.specs.List.{flat_map, AllByRecursion}
-use Rattle.octet_fields.specs.Layout.{Field, laid, reserved_from, NoneReserved, FirstReserved}
+use Rattle.std.specs.List.{flat_map}
+use Rattle.octet_fields.specs.Layout.{Field, laid, reserved_from, NoneReserved}
 use Rattle.octet_fields.specs.Reading.{place_in}
 use Rattle.octet_fields.specs.Spelling.{IsOctets}
-use Rattle.octet_fields.specs.Subgroups.{Subgroup, Fits, subgroup, subgroup_fields, subgroups_in, reserved_in}
-use Rattle.octet_fields.proofs.Groups.{subgroup_laid, subgroups_take, subgroups_again, reserved_found}
-use Rattle.octet_fields.proofs.Layouts.{reserved_first, first_reserved, reserved_none, none_reserved}
+use Rattle.octet_fields.specs.Subgroups.{Subgroup, subgroup, subgroup_fields, subgroups_in}
+use Rattle.octet_fields.proofs.Groups.{subgroup_laid, subgroups_take, subgroups_again}
+use Rattle.octet_fields.proofs.Layouts.{reserved_none, none_reserved}
 use Rattle.receive_state.specs.declared.fault.StateFault.{StateFault}
-use Rattle.receive_state.specs.declared.fault.StateFault.TheVariants.{Short, Rfu, Trailing, Memory}
 use Rattle.receive_state.specs.declared.state.Encryption.{Encryption}
 use Rattle.receive_state.specs.declared.state.Encryption.TheVariants as keys
 use Rattle.receive_state.specs.declared.state.GroupState.{GroupState}
 use Rattle.receive_state.specs.declared.state.ReceiveState.{ReceiveState}
 use Rattle.receive_state.specs.Faults.{IsFollowed}
 use Rattle.receive_state.specs.Layout.{StateFields, fields, FieldsFit, code_width, number_of, code_of, group_of, fields_of, spelling, IsSpelled, StateIs}
-use Rattle.receive_state.specs.Reading.{head_in, end_in, subgroups_of, state_of_group, groups_of, encryption_of, state_from, reserved_head, first_fault, answered, behind, judged, judged_of, lifted, state_of, Fails, Answers}
-use Rattle.receive_state.proofs.Heads.{before, IsHead, head_takes, head_again, before-length}
+use Rattle.receive_state.specs.Reading.{head_in, end_in, subgroups_of, state_of_group, encryption_of, state_from, first_fault, answered, behind, judged, judged_of, lifted, state_of, Answers}
+use Rattle.receive_state.proofs.Heads.{before, head_takes, head_again}
 use Rattle.receive_state.proofs.Loops.{groups_read, groups_told}
 
 -- ---- the octets of the subgroups

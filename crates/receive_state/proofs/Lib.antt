@@ -1,4 +1,8 @@
 pub mod Causes
+pub mod CutGroups
+pub mod CutHeads
+pub mod CutStates
+pub mod Cuts
 pub mod Fits
 pub mod Heads
 pub mod Judged

@@ -1,5 +1,5 @@
 -- The parts of subgroups that are read.
-use Rattle.std.proofs.Common.{◌≡◌, ℕ, suc, List, [], ◌∷◌, Option, Some, None, refl, sym, ap, ◌∙◌}
+use Rattle.std.proofs.Common.{◌≡◌, ℕ, suc, List, ◌∷◌, Option, Some, None, refl, ap, ◌∙◌}
 use Rattle.octet_fields.specs.Reading.{number_in, counted_in}
 use Rattle.octet_fields.specs.Steps.{◌>>=◌}
 use Rattle.octet_fields.specs.Subgroups.{Subgroup, subgroup_in, subgroups_in}

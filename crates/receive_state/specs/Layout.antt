@@ -1,6 +1,6 @@
 -- The Broadcast Receive State (Broadcast Audio Scan Service 1.0, section 3.2): its fields one behind the other. The empty
 -- value is no source.
-use Rattle.std.specs.Prelude.{ℕ, ◌≡◌, ◌≤◌, List, [], ◌∷◌, ◌++◌, length, map, Option, Some, None, Bool, false, nat_lt, nat_le, ◌==◌, ◌&&◌, ◌||◌, not, if◌then◌else◌}
+use Rattle.std.specs.Prelude.{ℕ, ◌≡◌, ◌≤◌, List, [], ◌∷◌, length, map, Option, Some, None, Bool, false, nat_lt, nat_le, ◌==◌, ◌&&◌, ◌||◌, not, if◌then◌else◌}
 use Rattle.std.specs.List.{flat_map, list_all, AllByRecursion}
 use Rattle.octet_fields.specs.Layout.{Field, free, unless, laid, NoneReserved}
 use Rattle.octet_fields.specs.Spelling.{octet}

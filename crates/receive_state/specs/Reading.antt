@@ -1,5 +1,5 @@
 -- Reading a receive state (Broadcast Audio Scan Service 1.0, section 3.2) field by field.
-use Rattle.std.specs.Prelude.{ℕ, zero, suc, ◌≡◌, List, [], ◌∷◌, length, map, Option, Some, None, Result, Ok, Err, IsOk, nat_lt, if◌then◌else◌}
+use Rattle.std.specs.Prelude.{ℕ, zero, suc, ◌≡◌, List, [], ◌∷◌, map, Option, Some, None, Result, Ok, Err, IsOk, nat_lt, if◌then◌else◌}
 use Rattle.octet_fields.specs.Layout.{reserved_from}
 use Rattle.octet_fields.specs.Reading.{octet_in, octets_in, place_in}
 use Rattle.octet_fields.specs.Subgroups.{Subgroup, subgroups_in}

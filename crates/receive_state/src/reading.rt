@@ -1,4 +1,5 @@
-ghost use Rattle.std.specs.Prelude.{◌≡◌, ◌≤◌, [], length, is_some, true, Option, Some, IfOk, Ok};
+ghost use Rattle.std.specs.Prelude.{◌≡◌, ◌≤◌, [], length, is_some, true, Option, Some, IfOk, IfErr, Ok};
+ghost use Rattle.receive_state.specs.Faults.{IsFault};
 ghost use Rattle.receive_state.specs.Layout.{StateIs, code_width};
 ghost use Rattle.receive_state.specs.Reading.{Answers, state_of, judged_of, head_in, reserved_head, encryption_of, groups_of};
 ghost use Rattle.octet_fields.specs.Subgroups.{subgroups_in};
@@ -46,6 +47,7 @@ pub fn decode_state(alloc: Global, from: &[u8]) -> Result<Option<ReceiveState>, 
     ensures exact { Answers result (state_of from.now) }
     ensures layout { IfOk result (λ state. StateIs state from.now) }
     ensures only { (state : Option ReceiveState) → StateIs state from.now → Answers result (Ok state) }
+    ensures fault { IfErr result (λ fault. IsFault fault from.now) }
 {
     read_value(alloc, from)
 }
