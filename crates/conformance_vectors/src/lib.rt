@@ -8,6 +8,12 @@ mod base;
 #[cfg(test)]
 mod bluez;
 #[cfg(test)]
+mod group_info;
+#[cfg(test)]
+mod operations;
+#[cfg(test)]
 mod pacs;
+#[cfg(test)]
+mod states;
 #[cfg(test)]
 mod takes;
