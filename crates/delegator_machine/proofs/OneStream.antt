@@ -1,18 +1,18 @@
 -- What is handed of one stream.
 use Rattle.std.proofs.Common.{ℕ, zero, suc, ◌≡◌, ◌≢◌, ◌+◌, ◌<◌, ◌≤◌, Bool, true, false, cond, eqb, leb, List, [], ◌∷◌, ◌++◌, map, Option, Some, None, refl, sym, ap, ◌∙◌, subst, inl, inr, arith}
-use Rattle.std.specs.List.{Contains, filter, flat_map, range_with_len}
+use Rattle.std.specs.List.{Contains, flat_map, range_with_len}
 use Rattle.std.proofs.lemmas.Bool.{cases_Bool, cases_eq, cond-true, cond-false, eq-eqb, ne_eqb}
 use Rattle.std.proofs.lemmas.List.{append-nil}
 use Rattle.std.proofs.lemmas.List.Elements.{filter-append}
-use Rattle.unit_outlets.specs.Handed.{Handed, valid, lost}
+use Rattle.unit_outlets.specs.Handed.{Handed}
 use Rattle.big_info.specs.Schedule.{per_event_of}
 use Rattle.isoal_base.specs.Stays as stays
 use Rattle.isoal_base.specs.Stays.{Stay, opened}
 use Rattle.isoal_unframed.specs.Histories.{unit_at, handed}
 use Rattle.isoal_unframed.specs.Windows.{handed_of}
 use Rattle.delegator_machine.specs.Calls.{Tuning, Call, tune, hear, tick, place}
-use Rattle.delegator_machine.specs.Handing.{units_by, units_on, handed_by, handed_at, handed_since, bis_of, of_stream}
-use Rattle.delegator_machine.specs.Streams.{is_in, number_of, stay_on, stream_calls, streams_of, with_hear, with_tick}
+use Rattle.delegator_machine.specs.Handing.{units_on, handed_by, handed_at, handed_since, bis_of, of_stream}
+use Rattle.delegator_machine.specs.Streams.{is_in, number_of, stay_on, stream_calls, streams_of, with_hear}
 use Rattle.delegator_machine.proofs.Sets.{flat_map_filter, is_member, member_is}
 
 of_append : (bis : ℕ) (xs ys : List Handed) → of_stream bis (xs ++ ys) ≡ of_stream bis xs ++ of_stream bis ys

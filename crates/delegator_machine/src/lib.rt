@@ -6,6 +6,8 @@ mod laws;
 mod on_group;
 mod refuser;
 mod streams;
+#[cfg(test)]
+mod tests;
 
 pub use delegator::Delegator;
 pub use laws::{each_stream_hands_its_units, one_event_is_open, streams_rise};

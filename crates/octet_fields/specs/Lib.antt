@@ -1,2 +1,5 @@
+pub mod Layout
 pub mod Reading
 pub mod Spelling
+pub mod Steps
+pub mod Subgroups

@@ -1,7 +1,10 @@
 //! What is read of each kind of field is spelled so, and what is spelled so is read, whatever follows.
-ghost use Rattle.std.specs.Prelude.{◌≡◌, ◌<◌, ◌*◌, ◌^◌, ◌++◌, List, ℕ, length, Some};
+ghost use Rattle.std.specs.Prelude.{◌≡◌, ◌↔◌, ◌<◌, ◌*◌, ◌^◌, ◌++◌, List, ℕ, length, Some, None};
+ghost use Rattle.std.specs.List.{flat_map, AllByRecursion};
+ghost use Rattle.octet_fields.specs.Layout.{Field, FirstReserved, NoneReserved, reserved_from};
 ghost use Rattle.octet_fields.specs.Reading.{octet_in, octets_in, number_in, counted_in, place_in, Takes};
 ghost use Rattle.octet_fields.specs.Spelling.{IsOctets, octet, number, counted};
+ghost use Rattle.octet_fields.specs.Subgroups.{Subgroup, Fits, subgroup, subgroups_in};
 
 /// What is read is spelled so, each octet of it.
 #[tactic(auto, using(crate::proofs::Fields::octet_takes))]
@@ -24,4 +27,16 @@ pub fn spelled_is_read()
 /// The place of the octets that are left is that of the cut behind those in front of them.
 pub fn place_is_cut()
     ensures { (front rest : List ℕ) → place_in (front ++ rest) rest ≡ length front }
+{}
+
+/// The place that is counted field by field is that of the first field with a reserved value.
+pub fn reserved_is_first()
+    ensures first { (place : ℕ) (fields : List Field) → (reserved_from 0 fields ≡ Some place) ↔ FirstReserved place fields }
+    ensures none { (fields : List Field) → (reserved_from 0 fields ≡ None) ↔ NoneReserved fields }
+{}
+
+/// Subgroups that are read are spelled so, and those that are spelled so are read, whatever follows.
+pub fn subgroups_are_spelled()
+    ensures taken { (count : ℕ) (from : List ℕ) (x : List Subgroup × List ℕ) → IsOctets from → subgroups_in count from ≡ Some x → Takes from (flat_map subgroup x.0) x.1 × AllByRecursion Fits x.0 × (length x.0 ≡ count) }
+    ensures again { (groups : List Subgroup) (rest : List ℕ) → AllByRecursion Fits groups → subgroups_in (length groups) (flat_map subgroup groups ++ rest) ≡ Some (groups, rest) }
 {}

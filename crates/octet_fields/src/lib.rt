@@ -3,10 +3,14 @@
 
 mod laws;
 mod reading;
+mod subgroups;
 mod writing;
 
-pub use laws::{place_is_cut, read_is_spelled, spelled_is_read};
-pub use reading::{counted_at, number_at, octet_at, octets_at, place_of};
+pub use laws::{
+    place_is_cut, read_is_spelled, reserved_is_first, spelled_is_read, subgroups_are_spelled,
+};
+pub use reading::{array_at, counted_at, number_at, octet_at, octets_at, place_of};
+pub use subgroups::{LentSubgroup, are_reserved, put_subgroup, reserved_subgroup, subgroup_at};
 pub use writing::{put_counted, put_number};
 
 #[cfg(test)]

@@ -23,6 +23,16 @@ pub fn octets_at(from: &[u8], k: usize) -> Option<(&[u8], &[u8])>
     Some(from.split_at(k))
 }
 
+/// The first `N` octets as an array and those after them, or nothing where there are fewer.
+pub fn array_at<const N: usize>(from: &[u8]) -> Option<([u8; N], &[u8])>
+    ensures { Gives (λ x. (x.0, x.1.now)) result (octets_in N from.now) }
+{
+    let (octets, rest) = octets_at(from, N)?;
+    let mut array = [0; N];
+    array.copy_from_slice(octets);
+    Some((array, rest))
+}
+
 /// The number that the first `k` octets spell, the least octet first, and the octets after them, or nothing where there
 /// are fewer. `k` is at most 8.
 pub fn number_at(from: &[u8], k: usize) -> Option<(u64, &[u8])>

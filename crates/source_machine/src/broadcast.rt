@@ -83,6 +83,7 @@ impl Broadcast {
     /// nothing.
     pub fn give(&mut self, bis: Bis, time: Option<u64>, octets: &[u8]) -> Result<(), GiveFault>
         ensures setup { self.new.setup ≡ self.old.setup }
+        ensures next { self.new.next ≡ self.old.next }
         ensures ok { OnOk result ((calls : List Call) → StandsFor calls self.old
             → (give_fault self.old.setup calls (airs_of self.old.setup calls) bis time octets.now ≡ None)
             × StandsFor (gives bis time octets.now ∷ calls) self.new) }
@@ -98,7 +99,7 @@ impl Broadcast {
     /// Performs the next event: lays it and the H events behind it, as far as they aren't laid, and sends its PDUs.
     ///
     /// CounterEnds comes exactly where the payload numbers of these events would pass 2^39, and changes nothing. After
-    /// want of memory the source has failed.
+    /// want of memory the source has failed: the next event is as before, and of the streams nothing is said.
     pub fn event(&mut self) -> Result<(), EventFault>
         ensures setup { self.new.setup ≡ self.old.setup }
         ensures ok { OnOk result ((calls : List Call) → StandsFor calls self.old
@@ -107,6 +108,7 @@ impl Broadcast {
         ensures cause { IfErr result (λ fault. (calls : List Call) → StandsFor calls self.old
             → event_fault self.old.setup calls ≡ refused_event fault) }
         ensures next { OnOk result (self.new.next ≡ self.old.next + 1) }
+        ensures same { OnErr result (self.new.next ≡ self.old.next) }
     {
         if !self.has_numbers() {
             return Err(EventFault::CounterEnds);

@@ -14,9 +14,6 @@ pub record PutUpTo (old new line rest : List ℕ) : Type 0 where
   pub whole : line ≡ front ++ rest
   pub put : new ≡ old ++ front
 
-pub put_none : (text line : List ℕ) → PutUpTo text text line line
-put_none text line = record { front = []; whole = refl; put = sym (append-nil text) }
-
 pub put_more : (old now new line left piece rest : List ℕ) → PutUpTo old now line left → left ≡ piece ++ rest → new ≡ now ++ piece → PutUpTo old new line rest
 put_more old now new line left piece rest so_far split more = record {
   front = so_far.front ++ piece;
@@ -36,13 +33,6 @@ front_of old now new line left piece rest so_far split part = record {
       ∙ sym (append_assoc so_far.front part.front (part.rest ++ rest)));
   put = part.put ∙ (ap (λ (l : List ℕ). l ++ part.front) so_far.put ∙ append_assoc old so_far.front part.front);
 }
-
--- or nothing of it
-pub same_front : (old now new line left : List ℕ) → PutUpTo old now line left → new ≡ now → AFront old new line
-same_front old now new line left so_far same = record { front = so_far.front; rest = left; whole = so_far.whole; put = same ∙ so_far.put }
-
-pub no_front : (old new line : List ℕ) → new ≡ old → AFront old new line
-no_front old new line same = record { front = []; rest = line; whole = refl; put = same ∙ sym (append-nil old) }
 
 encode_append : (t xs ys : List ℕ) → encode_with t (xs ++ ys) ≡ encode_with t xs ++ encode_with t ys
 unfolding encode_with

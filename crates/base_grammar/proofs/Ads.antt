@@ -1,0 +1,110 @@
+-- What is read as an AD list is one, and what is one is read so.
+use Rattle.std.proofs.Common.{◌≡◌, ℕ, ◌≤◌, List, [], ◌∷◌, ◌++◌, length, take, Result, Ok, Err, refl, sym, ap, ◌∙◌, arith}
+use Rattle.std.specs.Result.{result_err, result_unwrap_or}
+use Rattle.std.proofs.lemmas.List.{take_at, append-nil, length-append}
+use Rattle.octet_fields.specs.Spelling.{IsOctets}
+use Rattle.ltv_codec.specs.declared.fault.LtvBad.{LtvBad}
+use Rattle.ltv_codec.specs.declared.fault.LtvBad.TheVariants.{ZeroLength, Short}
+use Rattle.ltv_codec.specs.declared.ltvs.Ltv.{Ltv}
+use Rattle.ltv_codec.specs.Faults.{IsBad, StandsZero}
+use Rattle.ltv_codec.specs.Layout.{IsLtvList}
+use Rattle.ltv_codec.specs.Reading.{ltvs_of, ltvs_in, AreLtvs}
+use Rattle.ltv_codec.proofs.Lists.{list_read, read_list, read_bad, bad_read}
+use Rattle.base_grammar.specs.Ad.{IsEnd, IsAdList, IsAdShort}
+use Rattle.base_grammar.specs.AdReading.{ads_read, ads_of, ads_in}
+
+ok_same : (xs ys : List Ltv) → (let r : List Ltv → Result (List Ltv) ℕ = λ zs. Ok zs in r xs ≡ r ys) → xs ≡ ys
+ok_same xs ys e = cc
+
+ok_is_ok : (xs : List Ltv) (place : ℕ) → (let r : Result (List Ltv) ℕ = Ok xs in r ≡ Err place) → ⊥
+ok_is_ok xs place e = cc
+
+err_is_err : (ads : List Ltv) (place : ℕ) → (let r : Result (List Ltv) ℕ = Err place in r ≡ Ok ads) → ⊥
+err_is_err ads place e = cc
+
+err_same : (a b : ℕ) → (let r : ℕ → Result (List Ltv) ℕ = λ p. Err p in r a ≡ r b) → a ≡ b
+err_same a b e = cc
+
+-- the octets up to a length of 0 are an LTV list
+pub record Listed (place : ℕ) (octets : List ℕ) : Type 0 where
+  pub ltvs : List Ltv
+  pub left : List ℕ
+  pub list : IsLtvList ltvs (take place octets)
+  pub ends : IsEnd left
+  pub parts : octets ≡ take place octets ++ left
+
+stands_end : (left : List ℕ) → StandsZero left → IsEnd left
+stands_end [] h = absurd h
+stands_end (count ∷ ignored) h = h
+
+pub listed_at : (place : ℕ) (octets : List ℕ) → IsBad (ZeroLength place) octets → Listed place octets
+listed_at place octets (ltvs, front, rest, l, there, stands, parts) =
+    let front_is : take place octets ≡ front = ap (take place) parts ∙ take_at front rest place there in
+    record { ltvs = ltvs; left = rest; list = rw front_is l; ends = stands_end rest stands; parts = rw front_is parts }
+
+pub listed_within : (place : ℕ) (octets : List ℕ) → IsBad (ZeroLength place) octets → place ≤ length octets
+listed_within place octets (ltvs, front, rest, l, there, stands, parts) = omega (arith, ap length parts, length-append front rest)
+
+pub listed_read : (place : ℕ) (octets : List ℕ) → IsBad (ZeroLength place) octets → AreLtvs (take place octets)
+listed_read place octets h =
+    let l = listed_at place octets h in
+    ap result_err (list_read l.ltvs (take place octets) l.list)
+
+pub listed_list : (place : ℕ) (octets : List ℕ) → IsBad (ZeroLength place) octets → IsAdList (ltvs_in (take place octets)) octets
+listed_list place octets h =
+    let l = listed_at place octets h in
+    let same : ltvs_in (take place octets) ≡ l.ltvs = ap (λ (r : Result (List Ltv) LtvBad). result_unwrap_or r []) (list_read l.ltvs (take place octets) l.list) in
+    rw same (record { listed = take place octets; left = l.left; list = l.list; ends = l.ends; parts = l.parts })
+
+whole_list : (ads : List Ltv) (octets : List ℕ) → IsLtvList ads octets → IsAdList ads octets
+whole_list ads octets l = record { listed = octets; left = []; list = l; ends = tt; parts = sym (append-nil octets) }
+
+list_by : (ads : List Ltv) (octets : List ℕ) (read : Result (List Ltv) LtvBad) → IsOctets octets → ltvs_of octets ≡ read → ads_read octets read ≡ Ok ads → IsAdList ads octets
+list_by ads octets (Ok ltvs) fits e h = rw (← ok_same ltvs ads h) (whole_list ltvs octets (read_list ltvs octets fits e))
+list_by ads octets (Err (ZeroLength place)) fits e h =
+    rw (← ok_same (ltvs_in (take place octets)) ads h) (listed_list place octets (read_bad (ZeroLength place) octets fits e))
+list_by ads octets (Err (Short place)) fits e h = absurd (err_is_err ads place h)
+
+pub read_ads : (ads : List Ltv) (octets : List ℕ) → IsOctets octets → ads_of octets ≡ Ok ads → IsAdList ads octets
+read_ads ads octets fits h = list_by ads octets (ltvs_of octets) fits refl h
+
+short_by : (place : ℕ) (octets : List ℕ) (read : Result (List Ltv) LtvBad) → IsOctets octets → ltvs_of octets ≡ read → ads_read octets read ≡ Err place → IsAdShort place octets
+short_by place octets (Ok ltvs) fits e h = absurd (ok_is_ok ltvs place h)
+short_by place octets (Err (ZeroLength at)) fits e h = absurd (ok_is_ok (ltvs_in (take at octets)) place h)
+short_by place octets (Err (Short at)) fits e h = rw (← err_same at place h) (read_bad (Short at) octets fits e)
+
+pub read_short : (place : ℕ) (octets : List ℕ) → IsOctets octets → ads_of octets ≡ Err place → IsAdShort place octets
+read_short place octets fits h = short_by place octets (ltvs_of octets) fits refl h
+
+pub short_read : (place : ℕ) (octets : List ℕ) → IsAdShort place octets → ads_of octets ≡ Err place
+short_read place octets h = ap (ads_read octets) (bad_read (Short place) octets h)
+
+ads_read_at : (ads : List Ltv) (octets front : List ℕ) (ignored : List ℕ) → IsLtvList ads front → octets ≡ front ++ 0 ∷ ignored → ads_of octets ≡ Ok ads
+ads_read_at ads octets front ignored l parts =
+    let bad : IsBad (ZeroLength (length front)) octets = (ads, front, 0 ∷ ignored, l, refl, refl, parts) in
+    let front_is : take (length front) octets ≡ front = ap (take (length front)) parts ∙ take_at front (0 ∷ ignored) (length front) refl in
+    ap (ads_read octets) (bad_read (ZeroLength (length front)) octets bad)
+    ∙ ap (λ (os : List ℕ). Ok (ltvs_in os)) front_is
+    ∙ ap (λ (r : Result (List Ltv) LtvBad). Ok (result_unwrap_or r [])) (list_read ads front l)
+
+ads_by : (ads : List Ltv) (octets front left : List ℕ) → IsLtvList ads front → IsEnd left → octets ≡ front ++ left → ads_of octets ≡ Ok ads
+ads_by ads octets front [] l ends parts =
+    let same : octets ≡ front = parts ∙ append-nil front in
+    ap (ads_read octets) (ap ltvs_of same ∙ list_read ads front l)
+ads_by ads octets front (count ∷ ignored) l ends parts = ads_read_at ads octets front ignored l (parts ∙ ap (λ (n : ℕ). front ++ n ∷ ignored) ends)
+
+pub ads_read_so : (ads : List Ltv) (octets : List ℕ) → IsAdList ads octets → ads_of octets ≡ Ok ads
+ads_read_so ads octets l = ads_by ads octets l.listed l.left l.list l.ends l.parts
+
+-- octets that are read as a list are the one that is read
+pub ads_are : (octets : List ℕ) (ads : List Ltv) → IsOctets octets → ads_of octets ≡ Ok ads → IsAdList (ads_in octets) octets
+ads_are octets ads fits e =
+    let same : ads_in octets ≡ ads = ap (λ (r : Result (List Ltv) ℕ). result_unwrap_or r []) e in
+    rw same (read_ads ads octets fits e)
+
+-- octets whose first bad length octet is 0 are a list
+pub ends_early : (place : ℕ) (octets : List ℕ) → IsBad (ZeroLength place) octets → IsAdList (ads_in octets) octets
+ends_early place octets h =
+    let read : ads_of octets ≡ Ok (ltvs_in (take place octets)) = ap (ads_read octets) (bad_read (ZeroLength place) octets h) in
+    let same : ads_in octets ≡ ltvs_in (take place octets) = ap (λ (r : Result (List Ltv) ℕ). result_unwrap_or r []) read in
+    rw same (listed_list place octets h)

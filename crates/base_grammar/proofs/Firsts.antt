@@ -1,0 +1,217 @@
+-- There is one cut, so octets that are refused have one fault, and reading finds it.
+use Rattle.std.proofs.Common.{◌≡◌, ℕ, ◌+◌, ◌<◌, ◌≤◌, Bool, true, false, cond, ltb, List, [], ◌∷◌, ◌++◌, length, take, Option, Some, None, Result, Ok, Err, refl, sym, ap, subst, ◌∙◌, append_assoc, arith, add-zero, zero-add}
+use Rattle.std.specs.Prelude.{IfErr}
+use Rattle.std.specs.List.{concat}
+use Rattle.std.specs.Option.{option_map}
+use Rattle.std.proofs.lemmas.Bool.{lt-ltb, ltb-true, ltb-false, le-ltb}
+use Rattle.std.proofs.lemmas.List.{length-append, take_at, append_cancel_left}
+use Rattle.std.proofs.lemmas.Option.{same_Some}
+use Rattle.ltv_codec.specs.Reading.{bad_of}
+use Rattle.ltv_codec.specs.declared.fault.LtvBad.{LtvBad}
+use Rattle.base_grammar.specs.declared.fault.BaseFault.{BaseFault}
+use Rattle.base_grammar.specs.declared.fault.BaseFault.TheVariants as faults
+use Rattle.base_grammar.specs.Layout.{Endpoint, stands_in}
+use Rattle.base_grammar.specs.Rows.{run_fault}
+use Rattle.base_grammar.specs.Reading.{Gives, fields_of, base_of}
+use Rattle.base_grammar.specs.Faults.{Row, presentation_delay, num_subgroups, num_bis, codec_id, config_length, config, metadata_length, metadata, bis_index, bis_config_length, bis_config, nothing, Due, first_due, width, number_of, row_fault, next_due, IsDue, due_behind, Meets, AllMeet, field_fault, ending_fault, cut_fault, AtCut, IsBad, IsFault}
+use Rattle.base_grammar.proofs.Walk.{At, due_cut}
+use Rattle.base_grammar.proofs.Cuts.{Ends, fields_end}
+
+-- what stands behind some fields is this fault, or none and nothing is due
+record Halts (place : ℕ) (due : Due) (rest : List ℕ) (fault : Option BaseFault) : Type 0 where
+  stands : cut_fault due.row place due rest ≡ fault
+  none : fault ≡ None → due.row ≡ nothing
+
+not_due : (row : Row) → IsDue row → row ≡ nothing → ⊥
+not_due row h e = subst IsDue e h
+
+-- a field that meets its row goes on
+goes_on : (place : ℕ) (due : Due) (field after rest : List ℕ) (fault : Option BaseFault) → Meets place due field → rest ≡ field ++ after → Halts place due rest fault → ⊥
+goes_on place due field after rest fault m e h =
+    let enough : ltb (length rest) (width due.row) ≡ false = le-ltb _ _ (omega (arith, ap length e, length-append field after, m.whole)) in
+    let front : take (width due.row) rest ≡ field = ap (take (width due.row)) e ∙ take_at field after (width due.row) m.whole in
+    let here : field_fault due.row place due rest ≡ None = rw (enough, front) m.sound in
+    not_due due.row m.is_due (h.none (sym h.stands ∙ due_cut due.row place due rest m.is_due ∙ here))
+
+-- two runs of whole fields in the same octets, behind which it halts
+same_halt : (place : ℕ) (due : Due) (xs ys : List (List ℕ)) (r s : List ℕ) (f g : Option BaseFault) → AllMeet place due xs → AllMeet place due ys → concat xs ++ r ≡ concat ys ++ s
+    → Halts (place + length (concat xs)) (due_behind due xs) r f → Halts (place + length (concat ys)) (due_behind due ys) s g → f ≡ g
+unfolding AllMeet due_behind
+same_halt place due [] [] r s f g mx my e hx hy = sym hx.stands ∙ ap (cut_fault due.row (place + 0) due) e ∙ hy.stands
+same_halt place due [] (y ∷ ys) r s f g mx my e hx hy =
+    absurd (goes_on place due y (concat ys ++ s) r f my.0 (e ∙ append_assoc y (concat ys) s) (subst (λ (p : ℕ). Halts p due r f) (add-zero place) hx))
+same_halt place due (x ∷ xs) [] r s f g mx my e hx hy =
+    absurd (goes_on place due x (concat xs ++ r) s g mx.0 (sym e ∙ append_assoc x (concat xs) r) (subst (λ (p : ℕ). Halts p due s g) (add-zero place) hy))
+same_halt place due (x ∷ xs) (y ∷ ys) r s f g mx my e hx hy =
+    let all : x ++ (concat xs ++ r) ≡ y ++ (concat ys ++ s) = sym (append_assoc x (concat xs) r) ∙ e ∙ append_assoc y (concat ys) s in
+    let long : length y ≡ length x = my.0.whole ∙ sym mx.0.whole in
+    let same : x ≡ y = sym (take_at x (concat xs ++ r) (length x) refl) ∙ ap (take (length x)) all ∙ take_at y (concat ys ++ s) (length x) long in
+    let others : concat xs ++ r ≡ concat ys ++ s = append_cancel_left x (concat xs ++ r) (concat ys ++ s) (all ∙ ap (λ (z : List ℕ). z ++ (concat ys ++ s)) (sym same)) in
+    let my_xs : AllMeet (place + length x) (next_due due.row due x) ys = subst (λ (z : List ℕ). AllMeet (place + length z) (next_due due.row due z) ys) (sym same) my.1 in
+    let there_x : place + length (concat (x ∷ xs)) ≡ place + length x + length (concat xs) = omega (arith, length-append x (concat xs)) in
+    let there_y : place + length (concat (y ∷ ys)) ≡ place + length x + length (concat ys) = omega (arith, length-append y (concat ys), long) in
+    let hx' : Halts (place + length x + length (concat xs)) (due_behind (next_due due.row due x) xs) r f = subst (λ (p : ℕ). Halts p (due_behind (next_due due.row due x) xs) r f) there_x hx in
+    let hy' : Halts (place + length x + length (concat ys)) (due_behind (next_due due.row due x) ys) s g =
+    subst (λ (p : ℕ). Halts p (due_behind (next_due due.row due x) ys) s g) there_y (subst (λ (z : List ℕ). Halts (place + length (concat (y ∷ ys))) (due_behind (next_due due.row due z) ys) s g) (sym same) hy) in
+    same_halt (place + length x) (next_due due.row due x) xs ys r s f g mx.1 my_xs others hx' hy'
+
+cut_halts : (whole : List ℕ) (fault : BaseFault) (c : AtCut fault whole) → Halts (0 + length (concat c.fields)) (due_behind first_due c.fields) c.rest (Some fault)
+cut_halts whole fault c = record {
+  stands = subst (λ (p : ℕ). cut_fault (due_behind first_due c.fields).row p (due_behind first_due c.fields) c.rest ≡ Some fault) (sym (zero-add (length (concat c.fields)))) c.stands;
+  none = λ e. absurd cc;
+}
+
+nothing_fault : (row : Row) (place : ℕ) (due : Due) → row ≡ nothing → cut_fault row place due [] ≡ None
+nothing_fault row place due e = rw e refl
+
+end_halts : (whole : List ℕ) (due : Due) (a : At whole due []) → due.row ≡ nothing → Halts (0 + length (concat a.fields)) (due_behind first_due a.fields) [] None
+end_halts whole due a e =
+    let last : (due_behind first_due a.fields).row ≡ nothing = ap (λ (d : Due). d.row) a.is ∙ e in
+    record { stands = nothing_fault (due_behind first_due a.fields).row (0 + length (concat a.fields)) (due_behind first_due a.fields) last; none = λ _. last }
+
+-- the fault at a cut is the one that reading gives
+cut_read : {A : Type 0} (whole : List ℕ) (fault : BaseFault) (read : Result A BaseFault) → AtCut fault whole → Ends whole read → read ≡ Err fault
+cut_read whole fault (Ok v) c e =
+    let same : Some fault ≡ None =
+    same_halt 0 first_due c.fields e.2.fields c.rest [] (Some fault) None c.meet e.2.meet (sym c.parts ∙ e.2.parts) (cut_halts whole fault c) (end_halts whole e.0 e.2 e.1) in
+    absurd cc
+cut_read whole fault (Err other) c e =
+    let same : Some fault ≡ Some other =
+    same_halt 0 first_due c.fields e.fields c.rest e.rest (Some fault) (Some other) c.meet e.meet (sym c.parts ∙ e.parts) (cut_halts whole fault c) (cut_halts whole other e) in
+    ap (λ (f : BaseFault). Err f) (sym (same_Some fault other same))
+
+-- ---- which faults stand at a cut
+
+abbrev StandsThere : BaseFault → Type 0
+StandsThere faults.TooLong = ⊥
+StandsThere faults.Memory = ⊥
+StandsThere fault = Unit {0}
+
+given : (fault other : BaseFault) → StandsThere fault → Some fault ≡ Some other → StandsThere other
+given fault other h e = subst StandsThere (same_Some fault other e) h
+
+tested : (b : Bool) (fault : BaseFault) (others : Option BaseFault) (other : BaseFault) → StandsThere fault → (others ≡ Some other → StandsThere other) → cond b (Some fault) others ≡ Some other → StandsThere other
+tested true fault others other h g e = given fault other h e
+tested false fault others other h g e = g e
+
+no_more : (other : BaseFault) → (let o : Option BaseFault = None in o ≡ Some other) → StandsThere other
+no_more other e = absurd cc
+
+list_stands : (place : ℕ) (bad : Option LtvBad) (other : BaseFault) → option_map (λ b. faults.Ltv place b) bad ≡ Some other → StandsThere other
+list_stands place None other e = absurd cc
+list_stands place (Some bad) other e = given (faults.Ltv place bad) other tt e
+
+run_stands : (place : ℕ) (is_list : Bool) (octets : List ℕ) (other : BaseFault) → run_fault place is_list octets ≡ Some other → StandsThere other
+run_stands place true octets other e = list_stands place (bad_of octets) other e
+run_stands place false octets other e = absurd cc
+
+row_stands : (row : Row) (place : ℕ) (due : Due) (field : List ℕ) (other : BaseFault) → row_fault row place due field ≡ Some other → StandsThere other
+row_stands presentation_delay place due field other e = absurd cc
+row_stands num_subgroups place due field other e = tested _ faults.NoSubgroup None other tt (no_more other) e
+row_stands num_bis place due field other e = tested _ (faults.NoBis place) None other tt (no_more other) e
+row_stands codec_id place due field other e = absurd cc
+row_stands config_length place due field other e = absurd cc
+row_stands (config count) place due field other e = run_stands place due.is_lc3 field other e
+row_stands metadata_length place due field other e = absurd cc
+row_stands (metadata count) place due field other e = run_stands place true field other e
+row_stands bis_index place due field other e =
+    tested _ (faults.BadIndex place) (cond (ltb 31 (number_of field)) (Some (faults.BadIndex place)) (cond (stands_in due.before (number_of field)) (Some (faults.IndexTwice place)) None)) other tt
+    (tested _ (faults.BadIndex place) (cond (stands_in due.before (number_of field)) (Some (faults.IndexTwice place)) None) other tt (tested _ (faults.IndexTwice place) None other tt (no_more other))) e
+row_stands bis_config_length place due field other e = absurd cc
+row_stands (bis_config count) place due field other e = run_stands place due.is_lc3 field other e
+row_stands nothing place due field other e = absurd cc
+
+field_stands : (row : Row) (place : ℕ) (due : Due) (rest : List ℕ) (other : BaseFault) → field_fault row place due rest ≡ Some other → StandsThere other
+field_stands row place due rest other e = tested _ (faults.Short place) (row_fault row place due (take (width row) rest)) other tt (row_stands row place due (take (width row) rest) other) e
+
+end_stands : (place : ℕ) (rest : List ℕ) (other : BaseFault) → ending_fault place rest ≡ Some other → StandsThere other
+end_stands place [] other e = absurd cc
+end_stands place (octet ∷ rest) other e = given (faults.Trailing place) other tt e
+
+cut_stands : (row : Row) (place : ℕ) (due : Due) (rest : List ℕ) (other : BaseFault) → cut_fault row place due rest ≡ Some other → StandsThere other
+cut_stands nothing place due rest other e = end_stands place rest other e
+cut_stands presentation_delay place due rest other e = field_stands presentation_delay place due rest other e
+cut_stands num_subgroups place due rest other e = field_stands num_subgroups place due rest other e
+cut_stands num_bis place due rest other e = field_stands num_bis place due rest other e
+cut_stands codec_id place due rest other e = field_stands codec_id place due rest other e
+cut_stands config_length place due rest other e = field_stands config_length place due rest other e
+cut_stands (config count) place due rest other e = field_stands (config count) place due rest other e
+cut_stands metadata_length place due rest other e = field_stands metadata_length place due rest other e
+cut_stands (metadata count) place due rest other e = field_stands (metadata count) place due rest other e
+cut_stands bis_index place due rest other e = field_stands bis_index place due rest other e
+cut_stands bis_config_length place due rest other e = field_stands bis_config_length place due rest other e
+cut_stands (bis_config count) place due rest other e = field_stands (bis_config count) place due rest other e
+
+is_bad : (fault : BaseFault) (octets : List ℕ) → StandsThere fault → length octets ≤ 252 → AtCut fault octets → IsBad fault octets
+is_bad (faults.Short place) octets h short c = (short, c)
+is_bad faults.NoSubgroup octets h short c = (short, c)
+is_bad (faults.NoBis place) octets h short c = (short, c)
+is_bad (faults.BadIndex place) octets h short c = (short, c)
+is_bad (faults.IndexTwice place) octets h short c = (short, c)
+is_bad (faults.Ltv place bad) octets h short c = (short, c)
+is_bad (faults.Trailing place) octets h short c = (short, c)
+is_bad faults.TooLong octets h short c = absurd h
+is_bad faults.Memory octets h short c = absurd h
+
+-- ---- both ways
+
+err_is : (a b : BaseFault) → (let r : BaseFault → Result Endpoint BaseFault = λ x. Err x in r a ≡ r b) → a ≡ b
+err_is a b e = cc
+
+bad_end : (octets : List ℕ) (fault : BaseFault) (read : Result Endpoint BaseFault) → length octets ≤ 252 → Ends octets read → read ≡ Err fault → IsBad fault octets
+bad_end octets fault (Ok v) short ends e = absurd cc
+bad_end octets fault (Err other) short ends e =
+    let same : other ≡ fault = err_is other fault e in
+    subst (λ (f : BaseFault). IsBad f octets) same (is_bad other octets (cut_stands (due_behind first_due ends.fields).row (length (concat ends.fields)) (due_behind first_due ends.fields) ends.rest other ends.stands) short ends)
+
+bad_cases : (b : Bool) (octets : List ℕ) (fault : BaseFault) (read : Result Endpoint BaseFault) → ltb 252 (length octets) ≡ b → Ends octets read → cond b (Err faults.TooLong) read ≡ Err fault → IsBad fault octets
+bad_cases true octets fault read e ends r = subst (λ (f : BaseFault). IsBad f octets) (err_is faults.TooLong fault r) (ltb-true _ _ e)
+bad_cases false octets fault read e ends r = bad_end octets fault read (ltb-false _ _ e) ends r
+
+pub read_bad : (fault : BaseFault) (octets : List ℕ) → base_of octets ≡ Err fault → IsBad fault octets
+unfolding base_of
+read_bad fault octets e = bad_cases (ltb 252 (length octets)) octets fault (fields_of octets) refl (fields_end octets) e
+
+cut_of : (fault : BaseFault) (octets : List ℕ) → length octets ≤ 252 → AtCut fault octets → base_of octets ≡ Err fault
+unfolding base_of
+cut_of fault octets short c = rw (le-ltb 252 (length octets) short) (cut_read octets fault (fields_of octets) c (fields_end octets))
+
+too_long_read : (octets : List ℕ) → 252 < length octets → base_of octets ≡ Err faults.TooLong
+unfolding base_of
+too_long_read octets h = rw (lt-ltb 252 (length octets) h) refl
+
+pub bad_read : (fault : BaseFault) (octets : List ℕ) → IsBad fault octets → base_of octets ≡ Err fault
+bad_read faults.TooLong octets h = too_long_read octets h
+bad_read faults.Memory octets h = absurd h
+bad_read (faults.Short place) octets h = cut_of (faults.Short place) octets h.0 h.1
+bad_read faults.NoSubgroup octets h = cut_of faults.NoSubgroup octets h.0 h.1
+bad_read (faults.NoBis place) octets h = cut_of (faults.NoBis place) octets h.0 h.1
+bad_read (faults.BadIndex place) octets h = cut_of (faults.BadIndex place) octets h.0 h.1
+bad_read (faults.IndexTwice place) octets h = cut_of (faults.IndexTwice place) octets h.0 h.1
+bad_read (faults.Ltv place bad) octets h = cut_of (faults.Ltv place bad) octets h.0 h.1
+bad_read (faults.Trailing place) octets h = cut_of (faults.Trailing place) octets h.0 h.1
+
+-- ---- what the decoder promises
+
+is_fault : (fault : BaseFault) (octets : List ℕ) → IsBad fault octets → IsFault fault octets
+is_fault faults.Memory octets h = tt
+is_fault faults.TooLong octets h = h
+is_fault (faults.Short place) octets h = h
+is_fault faults.NoSubgroup octets h = h
+is_fault (faults.NoBis place) octets h = h
+is_fault (faults.BadIndex place) octets h = h
+is_fault (faults.IndexTwice place) octets h = h
+is_fault (faults.Ltv place bad) octets h = h
+is_fault (faults.Trailing place) octets h = h
+
+pub found_fault : (octets : List ℕ) (result : Result Endpoint BaseFault) → Gives (λ base. base) result (base_of octets) → IfErr result (λ fault. IsFault fault octets)
+found_fault octets (Ok v) h = tt
+found_fault octets (Err faults.Memory) h = tt
+found_fault octets (Err faults.TooLong) h = read_bad faults.TooLong octets h
+found_fault octets (Err (faults.Short place)) h = read_bad (faults.Short place) octets h
+found_fault octets (Err faults.NoSubgroup) h = read_bad faults.NoSubgroup octets h
+found_fault octets (Err (faults.NoBis place)) h = read_bad (faults.NoBis place) octets h
+found_fault octets (Err (faults.BadIndex place)) h = read_bad (faults.BadIndex place) octets h
+found_fault octets (Err (faults.IndexTwice place)) h = read_bad (faults.IndexTwice place) octets h
+found_fault octets (Err (faults.Ltv place bad)) h = read_bad (faults.Ltv place bad) octets h
+found_fault octets (Err (faults.Trailing place)) h = read_bad (faults.Trailing place) octets h

@@ -1,0 +1,34 @@
+-- Which indices stand before, as the code asks for them and as reading does.
+use Rattle.std.proofs.Common.{◌≡◌, ◌==◌, ℕ, Bool, ◌||◌, List, [], ◌∷◌, ◌++◌, map, refl, sym, ap, ◌∙◌}
+use Rattle.std.specs.List.{list_any}
+use Rattle.std.proofs.lemmas.List.Folds.{list_any-append}
+use Rattle.std.proofs.lemmas.List.Concat.{flat_map-cons}
+use Rattle.base_grammar.specs.declared.subgroup.BaseEntry.{BaseEntry}
+use Rattle.base_grammar.specs.declared.subgroup.Subgroup.{Subgroup}
+use Rattle.base_grammar.specs.Layout.{bis_of, indices, stands_in}
+
+-- one of the entries has the index
+abbrev pub in_entries : ℕ → List BaseEntry → Bool
+in_entries bis entries = list_any (λ e. e.bis == bis) entries
+
+abbrev pub in_subgroups : ℕ → List Subgroup → Bool
+in_subgroups bis subgroups = list_any (λ s. in_entries bis s.entries) subgroups
+
+pub in_entries-is : (bis : ℕ) (entries : List BaseEntry) → in_entries bis entries ≡ stands_in (map bis_of entries) bis
+in_entries-is bis [] = refl
+in_entries-is bis (e ∷ entries) = ap (λ (b : Bool). (e.bis == bis) || b) (in_entries-is bis entries)
+
+pub in_subgroups-is : (bis : ℕ) (subgroups : List Subgroup) → in_subgroups bis subgroups ≡ stands_in (indices subgroups) bis
+in_subgroups-is bis [] = refl
+in_subgroups-is bis (s ∷ subgroups) =
+    ap (λ (b : Bool). b || in_subgroups bis subgroups) (in_entries-is bis s.entries)
+    ∙ ap (λ (b : Bool). stands_in (map bis_of s.entries) bis || b) (in_subgroups-is bis subgroups)
+    ∙ sym (list_any-append (λ b. b == bis) (map bis_of s.entries) (indices subgroups))
+    ∙ ap (λ (bs : List ℕ). stands_in bs bis) (sym (flat_map-cons (λ (x : Subgroup). map bis_of x.entries) s subgroups))
+
+pub stands-both : (bis : ℕ) (subgroups : List Subgroup) (entries : List BaseEntry)
+    → (in_subgroups bis subgroups || in_entries bis entries) ≡ stands_in (indices subgroups ++ map bis_of entries) bis
+stands-both bis subgroups entries =
+    ap (λ (b : Bool). b || in_entries bis entries) (in_subgroups-is bis subgroups)
+    ∙ ap (λ (b : Bool). stands_in (indices subgroups) bis || b) (in_entries-is bis entries)
+    ∙ sym (list_any-append (λ b. b == bis) (indices subgroups) (map bis_of entries))

@@ -1,0 +1,13 @@
+pub mod Ads
+pub mod Again
+pub mod Cuts
+pub mod Drafts
+pub mod Firsts
+pub mod Indices
+pub mod Loops
+pub mod Places
+pub mod Services
+pub mod Sizes
+pub mod Steps
+pub mod Taken
+pub mod Walk

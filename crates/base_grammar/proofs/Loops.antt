@@ -1,0 +1,135 @@
+-- Reading entries and subgroups one after the other, as a loop does.
+use Rattle.std.proofs.Common.{◌≡◌, ℕ, suc, ◌-◌, ◌+◌, ◌≤◌, ◌<◌, Bool, List, [], ◌∷◌, ◌++◌, length, map, Result, Ok, Err, refl, sym, ap, ◌∙◌, append_assoc, arith}
+use Rattle.std.proofs.lemmas.List.{append-nil, map_push}
+use Rattle.std.proofs.lemmas.Grind.{flat_map-append}
+use Rattle.std.proofs.lemmas.List.Concat.{flat_map-cons}
+use Rattle.base_grammar.specs.declared.fault.BaseFault.{BaseFault}
+use Rattle.base_grammar.specs.declared.fault.BaseFault.TheVariants as faults
+use Rattle.base_grammar.specs.declared.subgroup.BaseEntry.{BaseEntry}
+use Rattle.base_grammar.specs.declared.subgroup.Subgroup.{Subgroup}
+use Rattle.base_grammar.specs.Layout.{bis_of, indices}
+use Rattle.base_grammar.specs.Reading.{◌>>=◌, Fails, entry_at, entries_at, subgroup_at, subgroups_at}
+
+-- what was read before, and what is still read
+abbrev pub with_front : {A : Type 0} → List A → Result (List A × List ℕ) BaseFault → Result (List A × List ℕ) BaseFault
+with_front front read = read >>= λ x. Ok (front ++ x.0, x.1)
+
+pub failed : {A B : Type 0} (fault : BaseFault) (one : Result A BaseFault) (total : Result B BaseFault) → ((f : BaseFault) → one ≡ Err f → total ≡ Err f) → Fails fault one → Fails fault total
+failed (faults.Short place) one total h e = h (faults.Short place) e
+failed faults.NoSubgroup one total h e = h faults.NoSubgroup e
+failed (faults.NoBis place) one total h e = h (faults.NoBis place) e
+failed (faults.BadIndex place) one total h e = h (faults.BadIndex place) e
+failed (faults.IndexTwice place) one total h e = h (faults.IndexTwice place) e
+failed (faults.Ltv place bad) one total h e = h (faults.Ltv place bad) e
+failed (faults.Trailing place) one total h e = h (faults.Trailing place) e
+failed faults.TooLong one total h e = h faults.TooLong e
+failed faults.Memory one total h e = tt
+
+regroup : {A : Type 0} (front : List A) (x : A) (read : Result (List A × List ℕ) BaseFault) → with_front front (read >>= λ y. Ok (x ∷ y.0, y.1)) ≡ with_front (front ++ x ∷ []) read
+regroup front x (Ok y) = ap (λ (xs : List _). Ok (xs, y.1)) (sym (append_assoc front (x ∷ []) y.0))
+regroup front x (Err f) = refl
+
+done : {A : Type 0} (front : List A) (rest : List ℕ) (read : Result (List A × List ℕ) BaseFault) → read ≡ Ok ([], rest) → with_front front read ≡ Ok (front, rest)
+done front rest read e = ap (with_front front) e ∙ ap (λ (xs : List _). Ok (xs, rest)) (append-nil front)
+
+nothing_before : {A : Type 0} (read : Result (List A × List ℕ) BaseFault) → with_front [] read ≡ read
+nothing_before (Ok x) = refl
+nothing_before (Err f) = refl
+
+-- ---- entries
+
+-- the entries so far, and what is read of the others
+pub record Entering (whole : List ℕ) (is_list : Bool) (before : List ℕ) (count : ℕ) (from : List ℕ) (entries : List BaseEntry) (i : ℕ) (rest : List ℕ) : Type 0 where
+  pub shorter : length rest ≤ length from
+  pub same : with_front entries (entries_at whole is_list (before ++ map bis_of entries) (count - i) rest) ≡ entries_at whole is_list before count from
+
+pub entering_first : (whole : List ℕ) (is_list : Bool) (before : List ℕ) (count : ℕ) (from : List ℕ) → Entering whole is_list before count from [] 0 from
+entering_first whole is_list before count from =
+    let here : before ++ map bis_of [] ≡ before = append-nil before in
+    let all : count - 0 ≡ count = omega arith in
+    record {
+      shorter = omega arith;
+      same = ap (λ (bs : List ℕ). with_front [] (entries_at whole is_list bs (count - 0) from)) here
+          ∙ ap (λ (n : ℕ). with_front [] (entries_at whole is_list before n from)) all ∙ nothing_before (entries_at whole is_list before count from);
+    }
+
+pub entering_next : (whole : List ℕ) (is_list : Bool) (before : List ℕ) (count : ℕ) (from : List ℕ) (entries : List BaseEntry) (i : ℕ) (rest : List ℕ) (e : BaseEntry) (after : List ℕ)
+    → i < count → entry_at whole is_list (before ++ map bis_of entries) rest ≡ Ok (e, after) → length after ≤ length rest → Entering whole is_list before count from entries i rest
+    → Entering whole is_list before count from (entries ++ e ∷ []) (i + 1) after
+unfolding entries_at
+entering_next whole is_list before count from entries i rest e after lt read h s =
+    let k : count - i ≡ suc (count - (i + 1)) = omega arith in
+    let there : (before ++ map bis_of entries) ++ e.bis ∷ [] ≡ before ++ map bis_of (entries ++ e ∷ []) =
+    append_assoc before (map bis_of entries) (e.bis ∷ []) ∙ ap (λ (bs : List ℕ). before ++ bs) (sym (map_push bis_of entries e)) in
+    let one : with_front entries (entries_at whole is_list (before ++ map bis_of entries) (count - i) rest)
+    ≡ with_front (entries ++ e ∷ []) (entries_at whole is_list ((before ++ map bis_of entries) ++ e.bis ∷ []) (count - (i + 1)) after) =
+    rw (k, read) (regroup entries e (entries_at whole is_list ((before ++ map bis_of entries) ++ e.bis ∷ []) (count - (i + 1)) after)) in
+    record {
+      shorter = omega (arith, h, s.shorter);
+      same = ap (λ (bs : List ℕ). with_front (entries ++ e ∷ []) (entries_at whole is_list bs (count - (i + 1)) after)) (sym there) ∙ sym one ∙ s.same;
+    }
+
+pub entering_failed : (fault : BaseFault) (whole : List ℕ) (is_list : Bool) (before : List ℕ) (count : ℕ) (from : List ℕ) (entries : List BaseEntry) (i : ℕ) (rest : List ℕ)
+    → i < count → Fails fault (entry_at whole is_list (before ++ map bis_of entries) rest) → Entering whole is_list before count from entries i rest
+    → Fails fault (entries_at whole is_list before count from)
+unfolding entries_at
+entering_failed fault whole is_list before count from entries i rest lt read s =
+    let k : count - i ≡ suc (count - (i + 1)) = omega arith in
+    failed fault (entry_at whole is_list (before ++ map bis_of entries) rest) (entries_at whole is_list before count from)
+    (λ f e. let one : with_front entries (entries_at whole is_list (before ++ map bis_of entries) (count - i) rest) ≡ Err f = rw (k, e) refl in sym s.same ∙ one) read
+
+pub entering_done : (whole : List ℕ) (is_list : Bool) (before : List ℕ) (count : ℕ) (from : List ℕ) (entries : List BaseEntry) (i : ℕ) (rest : List ℕ)
+    → count ≤ i → Entering whole is_list before count from entries i rest → entries_at whole is_list before count from ≡ Ok (entries, rest)
+unfolding entries_at
+entering_done whole is_list before count from entries i rest le s =
+    let k : count - i ≡ 0 = omega arith in
+    sym s.same ∙ done entries rest (entries_at whole is_list (before ++ map bis_of entries) (count - i) rest) (rw k refl)
+
+-- ---- subgroups
+
+-- the subgroups so far, and what is read of the others
+pub record Grouping (whole : List ℕ) (count : ℕ) (from : List ℕ) (subgroups : List Subgroup) (i : ℕ) (rest : List ℕ) : Type 0 where
+  pub shorter : length rest ≤ length from
+  pub same : with_front subgroups (subgroups_at whole (indices subgroups) (count - i) rest) ≡ subgroups_at whole [] count from
+
+pub grouping_first : (whole : List ℕ) (count : ℕ) (from : List ℕ) → Grouping whole count from [] 0 from
+grouping_first whole count from =
+    let all : count - 0 ≡ count = omega arith in
+    record {
+      shorter = omega arith;
+      same = ap (λ (n : ℕ). with_front [] (subgroups_at whole [] n from)) all ∙ nothing_before (subgroups_at whole [] count from);
+    }
+
+pub indices-push : (subgroups : List Subgroup) (s : Subgroup) → indices (subgroups ++ s ∷ []) ≡ indices subgroups ++ map bis_of s.entries
+indices-push subgroups s =
+    flat_map-append (λ (x : Subgroup). map bis_of x.entries) subgroups (s ∷ [])
+    ∙ ap (λ (bs : List ℕ). indices subgroups ++ bs) (flat_map-cons (λ (x : Subgroup). map bis_of x.entries) s [] ∙ append-nil (map bis_of s.entries))
+
+pub grouping_next : (whole : List ℕ) (count : ℕ) (from : List ℕ) (subgroups : List Subgroup) (i : ℕ) (rest : List ℕ) (s : Subgroup) (after : List ℕ)
+    → i < count → subgroup_at whole (indices subgroups) rest ≡ Ok (s, after) → length after ≤ length rest → Grouping whole count from subgroups i rest
+    → Grouping whole count from (subgroups ++ s ∷ []) (i + 1) after
+unfolding subgroups_at
+grouping_next whole count from subgroups i rest s after lt read h g =
+    let k : count - i ≡ suc (count - (i + 1)) = omega arith in
+    let one : with_front subgroups (subgroups_at whole (indices subgroups) (count - i) rest)
+    ≡ with_front (subgroups ++ s ∷ []) (subgroups_at whole (indices subgroups ++ map bis_of s.entries) (count - (i + 1)) after) =
+    rw (k, read) (regroup subgroups s (subgroups_at whole (indices subgroups ++ map bis_of s.entries) (count - (i + 1)) after)) in
+    record {
+      shorter = omega (arith, h, g.shorter);
+      same = ap (λ (bs : List ℕ). with_front (subgroups ++ s ∷ []) (subgroups_at whole bs (count - (i + 1)) after)) (indices-push subgroups s) ∙ sym one ∙ g.same;
+    }
+
+pub grouping_failed : (fault : BaseFault) (whole : List ℕ) (count : ℕ) (from : List ℕ) (subgroups : List Subgroup) (i : ℕ) (rest : List ℕ)
+    → i < count → Fails fault (subgroup_at whole (indices subgroups) rest) → Grouping whole count from subgroups i rest → Fails fault (subgroups_at whole [] count from)
+unfolding subgroups_at
+grouping_failed fault whole count from subgroups i rest lt read g =
+    let k : count - i ≡ suc (count - (i + 1)) = omega arith in
+    failed fault (subgroup_at whole (indices subgroups) rest) (subgroups_at whole [] count from)
+    (λ f e. let one : with_front subgroups (subgroups_at whole (indices subgroups) (count - i) rest) ≡ Err f = rw (k, e) refl in sym g.same ∙ one) read
+
+pub grouping_done : (whole : List ℕ) (count : ℕ) (from : List ℕ) (subgroups : List Subgroup) (i : ℕ) (rest : List ℕ)
+    → count ≤ i → Grouping whole count from subgroups i rest → subgroups_at whole [] count from ≡ Ok (subgroups, rest)
+unfolding subgroups_at
+grouping_done whole count from subgroups i rest le g =
+    let k : count - i ≡ 0 = omega arith in
+    sym g.same ∙ done subgroups rest (subgroups_at whole (indices subgroups) (count - i) rest) (rw k refl)

@@ -1,0 +1,18 @@
+//! Which octets are a BASE, and what is wrong with all others.
+ghost use Rattle.std.specs.Prelude.{◌≡◌, ◌↔◌, ℕ, List, Ok, Err};
+ghost use Rattle.octet_fields.specs.Spelling.{IsOctets};
+ghost use Rattle.base_grammar.specs.Faults.{IsBad};
+ghost use Rattle.base_grammar.specs.Layout.{Endpoint, BaseIs};
+ghost use Rattle.base_grammar.specs.Reading.{base_of};
+ghost use Rattle.base_grammar.specs.declared.fault.BaseFault.{BaseFault};
+
+/// Octets are read as a BASE exactly where they are its spelling, so at most one BASE has it: what is encoded is decoded,
+/// and what was decoded is encoded to the same octets.
+pub fn read_is_base()
+    ensures { (v : Endpoint) (octets : List ℕ) → IsOctets octets → (base_of octets ≡ Ok v) ↔ BaseIs v octets }
+{}
+
+/// What is wrong with octets is what stands at the cut.
+pub fn fault_is_at_cut()
+    ensures { (fault : BaseFault) (octets : List ℕ) → (base_of octets ≡ Err fault) ↔ IsBad fault octets }
+{}

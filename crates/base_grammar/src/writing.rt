@@ -1,0 +1,56 @@
+ghost use Rattle.std.specs.Prelude.{◌≡◌, ◌<◌, ◌≤◌, ◌++◌, length, IfOk, OnOk};
+ghost use Rattle.std.specs.List.{flat_map};
+ghost use Rattle.base_grammar.specs.Layout.{entry, subgroup, BaseIs};
+
+use crate::base::Base;
+use crate::subgroup::{BaseEntry, Subgroup};
+use bcast_base::{Memory, Octets};
+use octet_fields::{put_counted, put_number};
+use std::alloc::Global;
+
+/// The octets of a BASE, at most 252.
+pub fn encode_base(alloc: Global, base: &Base) -> Result<Octets, Memory>
+    ensures { IfOk result (λ octets. BaseIs base.now octets) }
+{
+    let mut out = Octets::new(alloc);
+    put_number(&mut out, u64::from(base.delay()), 3)?;
+    let subgroups = base.as_slice();
+    out.push(subgroups.len() as u8)?;
+    for subgroup in subgroups {
+        put_subgroup(&mut out, subgroup)?;
+    }
+    Ok(out)
+}
+
+// Puts the octets of a subgroup at the end.
+fn put_subgroup(out: &mut Octets, from: &Subgroup) -> Result<(), Memory>
+    requires { length (subgroup from.now) ≤ 252 }
+    ensures { OnOk result (out.new ≡ out.old ++ subgroup from.now) }
+{
+    let entries = from.entries.as_slice();
+    out.push(entries.len() as u8)?;
+    out.append(&from.codec)?;
+    put_counted(out, from.config.as_slice())?;
+    put_counted(out, from.metadata.as_slice())?;
+    put_entries(out, entries)
+}
+
+// Puts the octets of entries at the end.
+fn put_entries(out: &mut Octets, entries: &[BaseEntry]) -> Result<(), Memory>
+    requires { length (flat_map entry entries.now) ≤ 252 }
+    ensures { OnOk result (out.new ≡ out.old ++ flat_map entry entries.now) }
+{
+    for entry in entries {
+        put_entry(out, entry)?;
+    }
+    Ok(())
+}
+
+// Puts the octets of an entry at the end.
+fn put_entry(out: &mut Octets, from: &BaseEntry) -> Result<(), Memory>
+    requires { length from.now.config < 256 }
+    ensures { OnOk result (out.new ≡ out.old ++ entry from.now) }
+{
+    out.push(from.bis.get())?;
+    put_counted(out, from.config.as_slice())
+}

@@ -1,0 +1,177 @@
+-- Operations that are read are laid so, and their first fault is the one that is told.
+use Rattle.std.proofs.Common.{◌≡◌, ℕ, zero, suc, ◌<◌, ◌≤◌, Bool, true, false, cond, ltb, List, [], ◌∷◌, ◌++◌, length, Option, Some, None, Result, Ok, Err, refl, sym, ap, subst, ◌∙◌, arith}
+use Rattle.std.proofs.lemmas.Bool.{le-ltb}
+use Rattle.std.specs.List.{flat_map}
+use Rattle.octet_fields.specs.Layout.{laid, reserved_from}
+use Rattle.octet_fields.specs.Reading.{octet_in, octets_in}
+use Rattle.octet_fields.specs.Spelling.{IsOctets, octet}
+use Rattle.octet_fields.specs.Steps.{◌>>=◌, whole}
+use Rattle.octet_fields.proofs.Fields.{IsOctets-rest, octet_takes, octets_take}
+use Rattle.octet_fields.proofs.Groups.{bind_some, some_is}
+use Rattle.octet_fields.proofs.Layouts.{reserved_none, none_reserved}
+use Rattle.bass_operations.specs.declared.fault.OpFault.{OpFault}
+use Rattle.bass_operations.specs.declared.fault.OpFault.TheVariants.{Opcode}
+use Rattle.bass_operations.specs.declared.operation.AddSource.{AddSource}
+use Rattle.bass_operations.specs.declared.operation.Operation.{Operation}
+use Rattle.bass_operations.specs.declared.operation.Operation.TheVariants.{ScanStopped, ScanStarted, Add, Modify, Code, Remove}
+use Rattle.bass_operations.specs.declared.wishes.Wish.{Wish}
+use Rattle.bass_operations.specs.Layout.{fields, spelling, wishes_of, IsLaid, OpIs, FitsWidths}
+use Rattle.bass_operations.specs.Reading.{wishes_in, add_head_in, modify_head_in, add_in, modify_in, code_in, remove_in, alone, op_in, op_of, judged, answered, fault_of, first_fault}
+use Rattle.bass_operations.specs.Twice.{twice_of}
+use Rattle.bass_operations.proofs.Heads.{add_before, add_head_takes, add_head_again, modify_before, modify_head_takes, modify_head_again, octets_again_at}
+use Rattle.bass_operations.proofs.Spelled.{wish_fields, wishes_take, wishes_again}
+use Rattle.bass_operations.proofs.Twice.{none_twice, twice_none}
+
+few : (n : ℕ) → n < 256 → n ≤ 255
+few n h = omega arith
+
+-- ---- what is read is laid so
+
+with_wishes : AddSource → List Wish → AddSource
+with_wishes add wishes = record add { wishes = wishes }
+
+pub add_laid : (rest : List ℕ) (op : Operation) → IsOctets rest → add_in rest ≡ Some op → IsLaid op (2 ∷ rest)
+unfolding add_in
+add_laid rest op h e =
+    let a = bind_some (add_head_in rest) (λ head. wishes_in head.1 head.2 >>= λ wishes. Some (Add (record head.0 { wishes = wishes }))) op e in
+    let b = bind_some (wishes_in a.0.1 a.0.2) (λ wishes. Some (Add (record a.0.0 { wishes = wishes }))) op a.2 in
+    let t = add_head_takes rest a.0 h a.1 in
+    let s = wishes_take a.0.1 a.0.2 b.0 t.octets b.1 in
+    let parts : rest ≡ add_before a.0.0 (length b.0) (laid (flat_map wish_fields b.0)) =
+    t.parts ∙ (ap (add_before a.0.0 a.0.1) s.spelled ∙ ap (λ (n : ℕ). add_before a.0.0 n (laid (flat_map wish_fields b.0))) (sym s.counted)) in
+    let read : Operation = Add (record a.0.0 { wishes = b.0 }) in
+    subst (λ (o : Operation). IsLaid o (2 ∷ rest)) (some_is read op b.2)
+    (record {
+      widths = record { address = t.address; broadcast_id = t.broadcast_id; pa_interval = t.pa_interval; wishes = (subst (λ (n : ℕ). n ≤ 255) (sym s.counted) (few a.0.1 t.few), s.fit) };
+      spelled = ap (λ (x : List ℕ). 2 ∷ x) parts;
+    })
+
+pub modify_laid : (rest : List ℕ) (op : Operation) → IsOctets rest → modify_in rest ≡ Some op → IsLaid op (3 ∷ rest)
+unfolding modify_in
+modify_laid rest op h e =
+    let a = bind_some (modify_head_in rest) (λ head. wishes_in head.1 head.2 >>= λ wishes. Some (Modify (record head.0 { wishes = wishes }))) op e in
+    let b = bind_some (wishes_in a.0.1 a.0.2) (λ wishes. Some (Modify (record a.0.0 { wishes = wishes }))) op a.2 in
+    let t = modify_head_takes rest a.0 h a.1 in
+    let s = wishes_take a.0.1 a.0.2 b.0 t.octets b.1 in
+    let parts : rest ≡ modify_before a.0.0 (length b.0) (laid (flat_map wish_fields b.0)) =
+    t.parts ∙ (ap (modify_before a.0.0 a.0.1) s.spelled ∙ ap (λ (n : ℕ). modify_before a.0.0 n (laid (flat_map wish_fields b.0))) (sym s.counted)) in
+    let read : Operation = Modify (record a.0.0 { wishes = b.0 }) in
+    subst (λ (o : Operation). IsLaid o (3 ∷ rest)) (some_is read op b.2)
+    (record {
+      widths = record { pa_interval = t.pa_interval; wishes = (subst (λ (n : ℕ). n ≤ 255) (sym s.counted) (few a.0.1 t.few), s.fit) };
+      spelled = ap (λ (x : List ℕ). 3 ∷ x) parts;
+    })
+
+whole_some : {A B : Type 0} (read : Option (A × List B)) (x : A) → whole read ≡ Some x → read ≡ Some (x, [])
+whole_some None x e = absurd cc
+whole_some (Some (y, [])) x e = let same : y ≡ x = cc in ap (λ z. Some (z, [])) same
+whole_some (Some (y, octet ∷ rest)) x e = absurd cc
+
+pub code_laid : (rest : List ℕ) (op : Operation) → code_in rest ≡ Some op → IsLaid op (4 ∷ rest)
+unfolding code_in
+code_laid rest op e =
+    let a = bind_some (octet_in rest) (λ source. whole (octets_in 16 source.1) >>= λ code. Some (Code source.0 code)) op e in
+    let b = bind_some (whole (octets_in 16 a.0.1)) (λ code. Some (Code a.0.0 code)) op a.2 in
+    let t0 = octet_takes rest a.0.0 a.0.1 a.1 in
+    let t1 = octets_take 16 a.0.1 b.0 [] (whole_some (octets_in 16 a.0.1) b.0 b.1) in
+    let read : Operation = Code a.0.0 b.0 in
+    subst (λ (o : Operation). IsLaid o (4 ∷ rest)) (some_is read op b.2)
+    (record { widths = t1.1; spelled = ap (λ (x : List ℕ). 4 ∷ x) (t0.parts ∙ ap (λ (x : List ℕ). a.0.0 ∷ x) t1.0.parts) })
+
+pub remove_laid : (rest : List ℕ) (op : Operation) → remove_in rest ≡ Some op → IsLaid op (5 ∷ rest)
+unfolding remove_in
+remove_laid rest op e =
+    let a = bind_some (whole (octet_in rest)) (λ source. Some (Remove source)) op e in
+    let t = octet_takes rest a.0 [] (whole_some (octet_in rest) a.0 a.1) in
+    let read : Operation = Remove a.0 in
+    subst (λ (o : Operation). IsLaid o (5 ∷ rest)) (some_is read op a.2) (record { widths = tt; spelled = ap (λ (x : List ℕ). 5 ∷ x) t.parts })
+
+alone_laid : (code : ℕ) (rest : List ℕ) (read op : Operation) → FitsWidths read → spelling read ≡ code ∷ [] → alone read rest ≡ Some op → IsLaid op (code ∷ rest)
+alone_laid code [] read op w s e = subst (λ (o : Operation). IsLaid o (code ∷ [])) (some_is read op e) (record { widths = w; spelled = sym s })
+alone_laid code (octet ∷ rest) read op w s e = absurd cc
+
+pub op_laid : (code : ℕ) (rest : List ℕ) (op : Operation) → IsOctets rest → op_in code rest ≡ Some op → IsLaid op (code ∷ rest)
+unfolding op_in
+op_laid zero rest op h e = alone_laid 0 rest ScanStopped op tt refl e
+op_laid (suc zero) rest op h e = alone_laid 1 rest ScanStarted op tt refl e
+op_laid (suc (suc zero)) rest op h e = add_laid rest op h e
+op_laid (suc (suc (suc zero))) rest op h e = modify_laid rest op h e
+op_laid (suc (suc (suc (suc zero)))) rest op h e = code_laid rest op e
+op_laid (suc (suc (suc (suc (suc zero))))) rest op h e = remove_laid rest op e
+op_laid (suc (suc (suc (suc (suc (suc code)))))) rest op h e = absurd cc
+
+-- ---- what is laid is read
+
+pub record IsRead (op : Operation) (octets : List ℕ) : Type 0 where
+  pub opcode : ℕ
+  pub rest : List ℕ
+  pub parts : octets ≡ opcode ∷ rest
+  pub known : opcode ≤ 5
+  pub read : op_in opcode rest ≡ Some op
+
+pub laid_read : (op : Operation) (octets : List ℕ) → IsLaid op octets → IsRead op octets
+unfolding op_in add_in modify_in code_in remove_in
+laid_read ScanStopped octets l = record { opcode = 0; rest = []; parts = l.spelled; known = omega arith; read = refl }
+laid_read ScanStarted octets l = record { opcode = 1; rest = []; parts = l.spelled; known = omega arith; read = refl }
+laid_read (Add add) octets l =
+    let tail = laid (flat_map wish_fields add.wishes) in
+    let head = add_head_again add (length add.wishes) tail l.widths.address l.widths.broadcast_id l.widths.pa_interval in
+    let wishes = wishes_again add.wishes l.widths.wishes.1 in
+    record { opcode = 2; rest = add_before add (length add.wishes) tail; parts = l.spelled; known = omega arith; read = rw (head, wishes) refl }
+laid_read (Modify modify) octets l =
+    let tail = laid (flat_map wish_fields modify.wishes) in
+    let head = modify_head_again modify (length modify.wishes) tail l.widths.pa_interval in
+    let wishes = wishes_again modify.wishes l.widths.wishes.1 in
+    record { opcode = 3; rest = modify_before modify (length modify.wishes) tail; parts = l.spelled; known = omega arith; read = rw (head, wishes) refl }
+laid_read (Code source_id code) octets l =
+    record { opcode = 4; rest = source_id ∷ (code ++ []); parts = l.spelled; known = omega arith; read = rw (octets_again_at 16 code [] l.widths) refl }
+laid_read (Remove source_id) octets l = record { opcode = 5; rest = source_id ∷ []; parts = l.spelled; known = omega arith; read = refl }
+
+-- ---- the first fault
+
+answered_ok : (read op : Operation) (fault : Option OpFault) → answered read fault ≡ Ok op → (read ≡ op) × (fault ≡ None)
+answered_ok read op None e = (cc, refl)
+answered_ok read op (Some fault) e = absurd cc
+
+pub answered_err : (read : Operation) (fault : Option OpFault) (f : OpFault) → answered read fault ≡ Err f → fault ≡ Some f
+answered_err read None f e = absurd cc
+answered_err read (Some fault) f e = let same : fault ≡ f = cc in ap (λ (x : OpFault). Some x) same
+
+no_fault : (place twice : Option ℕ) → first_fault place twice ≡ None → (place ≡ None) × (twice ≡ None)
+no_fault (Some place) twice e = absurd cc
+no_fault None (Some bis) e = absurd cc
+no_fault None None e = (refl, refl)
+
+judged_ok : (read : Option Operation) (op : Operation) → judged read ≡ Ok op → (read ≡ Some op) × (fault_of op ≡ None)
+judged_ok None op e = absurd cc
+judged_ok (Some read) op e =
+    let a = answered_ok read op (fault_of read) e in
+    (ap (λ (o : Operation). Some o) a.0, subst (λ (o : Operation). fault_of o ≡ None) a.0 a.1)
+
+pub judged_by : (op : Operation) (fault : Option OpFault) → fault_of op ≡ fault → judged (Some op) ≡ answered op fault
+judged_by op fault e = ap (answered op) e
+
+guard_known : (b : Bool) (read : Result Operation OpFault) (op : Operation) → cond b (Err Opcode) read ≡ Ok op → (b ≡ false) × (read ≡ Ok op)
+guard_known true read op e = absurd cc
+guard_known false read op e = (refl, e)
+
+pub read_is : (op : Operation) (octets : List ℕ) → IsOctets octets → op_of octets ≡ Ok op → OpIs op octets
+read_is op [] h e = absurd cc
+read_is op (code ∷ rest) h e =
+    let g = guard_known (ltb 5 code) (judged (op_in code rest)) op e in
+    let j = judged_ok (op_in code rest) op g.1 in
+    let n = no_fault (reserved_from 0 (fields op)) (twice_of (wishes_of op)) j.1 in
+    record { layout = op_laid code rest op (IsOctets-rest code rest h) j.0; values = reserved_none (fields op) n.0; streams = none_twice (wishes_of op) n.1 }
+
+-- what is read of octets that are laid
+pub laid_is_judged : (op : Operation) (octets : List ℕ) (fault : Option OpFault) → IsLaid op octets → fault_of op ≡ fault → op_of octets ≡ answered op fault
+laid_is_judged op octets fault l f =
+    let r = laid_read op octets l in
+    let known : ltb 5 r.opcode ≡ false = le-ltb 5 r.opcode r.known in
+    ap op_of r.parts ∙ (ap (λ (b : Bool). cond b (Err Opcode) (judged (op_in r.opcode r.rest))) known ∙ (ap judged r.read ∙ judged_by op fault f))
+
+pub is_read : (op : Operation) (octets : List ℕ) → OpIs op octets → op_of octets ≡ Ok op
+is_read op octets o =
+    let place : reserved_from 0 (fields op) ≡ None = none_reserved 0 (fields op) o.values in
+    let twice : twice_of (wishes_of op) ≡ None = twice_none (wishes_of op) o.streams in
+    laid_is_judged op octets None o.layout (ap (λ (p : Option ℕ). first_fault p (twice_of (wishes_of op))) place ∙ ap (first_fault None) twice)

@@ -1,0 +1,8 @@
+pub mod Causes
+pub mod Heads
+pub mod Judged
+pub mod Loops
+pub mod Opcodes
+pub mod Read
+pub mod Spelled
+pub mod Twice

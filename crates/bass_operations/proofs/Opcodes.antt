@@ -1,0 +1,71 @@
+-- Operations whose fields have no reserved value and no wish.
+use Rattle.std.proofs.Common.{◌≡◌, ℕ, ◌-◌, ◌≤◌, true, eqb, List, [], ◌∷◌, length, get_or, take, drop, Option, Some, None, Result, Ok, refl, sym, ap, subst, ◌∙◌, arith}
+use Rattle.std.specs.Option.{ok_or}
+use Rattle.std.proofs.lemmas.Bool.{eqb-true}
+use Rattle.std.proofs.lemmas.List.{take_all, nil_from_length}
+use Rattle.octet_fields.specs.Reading.{octet_in, octets_in}
+use Rattle.octet_fields.specs.Steps.{◌>>=◌, whole}
+use Rattle.octet_fields.proofs.Groups.{bind_some, some_is}
+use Rattle.bass_operations.specs.declared.fault.OpFault.{OpFault}
+use Rattle.bass_operations.specs.declared.fault.OpFault.TheVariants.{Length}
+use Rattle.bass_operations.specs.declared.operation.Operation.{Operation}
+use Rattle.bass_operations.specs.declared.operation.Operation.TheVariants.{ScanStopped, ScanStarted, Code, Remove}
+use Rattle.bass_operations.specs.Reading.{op_in, op_of, judged, answered, fault_of, code_in, remove_in, Gives}
+use Rattle.bass_operations.specs.Twice.{twice_from}
+
+abbrev pub behind : List ℕ → List ℕ
+behind from = take (length from - 1) (drop 1 from)
+
+behind_is : (code : ℕ) (rest : List ℕ) → behind (code ∷ rest) ≡ rest
+behind_is code rest = take_all (length (code ∷ rest) - 1) rest (omega arith)
+
+none_behind : (code : ℕ) (rest : List ℕ) → true ≡ eqb (length (behind (code ∷ rest))) 0 → rest ≡ []
+none_behind code rest e = nil_from_length rest (ap length (sym (behind_is code rest)) ∙ eqb-true (length (behind (code ∷ rest))) 0 (sym e))
+
+is_alone : (code : ℕ) (rest : List ℕ) (opcode : ℕ) (op : Operation) → code ≡ opcode → rest ≡ [] → op_of (opcode ∷ []) ≡ Ok op → op_of (code ∷ rest) ≡ Ok op
+is_alone code rest opcode op a b e = ap (λ (n : ℕ). op_of (n ∷ rest)) a ∙ (ap (λ (x : List ℕ). op_of (opcode ∷ x)) b ∙ e)
+
+pub stopped : (from : List ℕ) → 1 ≤ length from → get_or from 0 0 ≡ 0 → true ≡ eqb (length (behind from)) 0 → op_of from ≡ Ok ScanStopped
+unfolding op_in twice_from
+stopped [] h a e = absurd (omega (arith, h))
+stopped (code ∷ rest) h a e = is_alone code rest 0 ScanStopped a (none_behind code rest e) refl
+
+pub started : (from : List ℕ) → 1 ≤ length from → get_or from 0 0 ≡ 1 → true ≡ eqb (length (behind from)) 0 → op_of from ≡ Ok ScanStarted
+unfolding op_in twice_from
+started [] h a e = absurd (omega (arith, h))
+started (code ∷ rest) h a e = is_alone code rest 1 ScanStarted a (none_behind code rest e) refl
+
+code_faultless : (rest : List ℕ) (op : Operation) → code_in rest ≡ Some op → fault_of op ≡ None
+unfolding code_in twice_from
+code_faultless rest op e =
+    let a = bind_some (octet_in rest) (λ source. whole (octets_in 16 source.1) >>= λ code. Some (Code source.0 code)) op e in
+    let b = bind_some (whole (octets_in 16 a.0.1)) (λ code. Some (Code a.0.0 code)) op a.2 in
+    let read : Operation = Code a.0.0 b.0 in
+    subst (λ (o : Operation). fault_of o ≡ None) (some_is read op b.2) refl
+
+remove_faultless : (rest : List ℕ) (op : Operation) → remove_in rest ≡ Some op → fault_of op ≡ None
+unfolding remove_in twice_from
+remove_faultless rest op e =
+    let a = bind_some (whole (octet_in rest)) (λ source. Some (Remove source)) op e in
+    let read : Operation = Remove a.0 in
+    subst (λ (o : Operation). fault_of o ≡ None) (some_is read op a.2) refl
+
+faultless : (read : Option Operation) (given : Result Operation OpFault) → ((op : Operation) → read ≡ Some op → fault_of op ≡ None) → given ≡ ok_or read Length → Gives given (judged read)
+faultless None given none e = subst (λ (g : Result Operation OpFault). Gives g (judged None)) (sym e) refl
+faultless (Some op) given none e = subst (λ (g : Result Operation OpFault). Gives g (judged (Some op))) (sym e) (ap (answered op) (none op refl))
+
+pub code_given : (from : List ℕ) (read : Option Operation) (given : Result Operation OpFault) → 1 ≤ length from → get_or from 0 0 ≡ 4 → read ≡ code_in (behind from) → given ≡ ok_or read Length → Gives given (op_of from)
+unfolding op_in
+code_given [] read given h a e g = absurd (omega (arith, h))
+code_given (code ∷ rest) read given h a e g =
+    let same : code_in rest ≡ read = ap code_in (sym (behind_is code rest)) ∙ sym e in
+    let judged_so : op_of (code ∷ rest) ≡ judged read = ap (λ (n : ℕ). op_of (n ∷ rest)) a ∙ ap judged same in
+    subst (Gives given) (sym judged_so) (faultless read given (λ op some. code_faultless rest op (same ∙ some)) g)
+
+pub remove_given : (from : List ℕ) (read : Option Operation) (given : Result Operation OpFault) → 1 ≤ length from → get_or from 0 0 ≡ 5 → read ≡ remove_in (behind from) → given ≡ ok_or read Length → Gives given (op_of from)
+unfolding op_in
+remove_given [] read given h a e g = absurd (omega (arith, h))
+remove_given (code ∷ rest) read given h a e g =
+    let same : remove_in rest ≡ read = ap remove_in (sym (behind_is code rest)) ∙ sym e in
+    let judged_so : op_of (code ∷ rest) ≡ judged read = ap (λ (n : ℕ). op_of (n ∷ rest)) a ∙ ap judged same in
+    subst (Gives given) (sym judged_so) (faultless read given (λ op some. remove_faultless rest op (same ∙ some)) g)

@@ -1,0 +1,103 @@
+//! The subgroups of an operation, looked through where they lie before any memory is taken.
+ghost use Rattle.std.specs.Prelude.{◌≡◌, ◌≤◌, ◌<◌, length, is_some, true, IfOk, Some};
+ghost use Rattle.std.specs.Result.{result_err};
+ghost use Rattle.octet_fields.specs.Subgroups.{reserved_in};
+ghost use Rattle.bass_operations.specs.Reading.{wishes_in, first_fault};
+ghost use Rattle.bass_operations.specs.Scanning.{named_in, twice_in};
+ghost use Rattle.bass_operations.specs.Twice.{has_bit};
+
+use crate::fault::OpFault;
+use crate::wishes::{Wish, Wishes};
+use bcast_base::{Memory, Octets};
+use octet_fields::{reserved_subgroup, subgroup_at};
+use std::alloc::Global;
+
+// Whether the octets are so many subgroups and nothing else.
+pub(crate) fn are_wishes(count: u8, octets: &[u8]) -> bool
+    ensures { result ≡ is_some (wishes_in count octets.now) }
+{
+    let mut rest = octets;
+    'subgroups: for _ in 0..count {
+        let Some((_group, after)) = subgroup_at(rest) else {
+            return false;
+        };
+        rest = after;
+    }
+    rest.is_empty()
+}
+
+// The first fault of so many subgroups, the last octets of `whole`.
+pub(crate) fn check_wishes(whole: &[u8], count: u8, octets: &[u8]) -> Result<(), OpFault>
+    requires { length octets.now ≤ length whole.now }
+    ensures { result_err result ≡ first_fault (reserved_in whole.now count octets.now) (twice_in 31 1 count octets.now) }
+{
+    if let Some(place) = reserved_subgroup(whole, count, octets) {
+        return Err(OpFault::Rfu { place });
+    }
+    if let Some(bis) = named_twice(count, octets) {
+        return Err(OpFault::BisTwice { bis });
+    }
+    Ok(())
+}
+
+// The wishes of so many subgroups.
+pub(crate) fn read_wishes(alloc: Global, count: u8, octets: &[u8]) -> Result<Wishes, Memory>
+    requires { is_some (wishes_in count octets.now) ≡ true }
+    ensures { IfOk result (λ wishes. wishes_in count octets.now ≡ Some wishes) }
+{
+    let mut wishes = Wishes::new(alloc);
+    let mut rest = octets;
+    'subgroups: for _ in 0..count {
+        let Some((group, after)) = subgroup_at(rest) else {
+            unreachable!()
+        };
+        let metadata = Octets::copy(alloc, group.metadata)?;
+        wishes.push(Wish {
+            bis_sync: group.bits,
+            metadata,
+        })?;
+        rest = after;
+    }
+    Ok(wishes)
+}
+
+// The lowest stream index that stands in two of so many subgroups.
+fn named_twice(count: u8, octets: &[u8]) -> Option<u8>
+    ensures { result ≡ twice_in 31 1 count octets.now }
+{
+    'streams: for bis in 1..32u8 {
+        if times_named(bis, count, octets) > 1 {
+            return Some(bis);
+        }
+    }
+    None
+}
+
+// In how many of so many subgroups the stream stands.
+fn times_named(bis: u8, count: u8, octets: &[u8]) -> u8
+    requires least { 1 ≤ bis }
+    requires greatest { bis ≤ 31 }
+    ensures { result ≡ named_in bis count octets.now }
+{
+    let mut rest = octets;
+    let mut times = 0u8;
+    'subgroups: for _ in 0..count {
+        let Some((group, after)) = subgroup_at(rest) else {
+            return times;
+        };
+        if names(group.bits, bis) {
+            times += 1;
+        }
+        rest = after;
+    }
+    times
+}
+
+// Whether the bit of the stream is set, where not all bits are.
+fn names(bits: u32, bis: u8) -> bool
+    requires least { 1 ≤ bis }
+    requires greatest { bis ≤ 31 }
+    ensures { result ≡ has_bit bis bits }
+{
+    (bits >> (bis - 1)) & 1 == 1 && bits != u32::MAX
+}

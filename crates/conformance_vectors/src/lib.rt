@@ -1,0 +1,19 @@
+//! Octets and their meanings from outside, as tests of the codecs.
+#![tactic(auto)]
+
+#[cfg(test)]
+mod ad;
+#[cfg(test)]
+mod base;
+#[cfg(test)]
+mod bluez;
+#[cfg(test)]
+mod group_info;
+#[cfg(test)]
+mod operations;
+#[cfg(test)]
+mod pacs;
+#[cfg(test)]
+mod states;
+#[cfg(test)]
+mod takes;

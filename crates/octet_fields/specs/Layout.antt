@@ -1,0 +1,34 @@
+-- A layout is a list of fields, one behind the other, of which some have a value that is reserved for future use
+-- (Core 5.2, volume 1 part E, section 2.2; Broadcast Audio Scan Service 1.0, sections 3.1.1 and 3.2).
+use Rattle.std.specs.Prelude.{ℕ, ◌≡◌, ◌+◌, List, [], ◌∷◌, ◌++◌, length, Option, Some, None, Bool, true, false, if◌then◌else◌}
+use Rattle.std.specs.List.{flat_map, AllByRecursion}
+
+pub record Field : Type 0 where
+  pub octets : List ℕ
+  pub reserved : Bool
+
+-- a field of any value
+abbrev pub free : List ℕ → Field
+free octets = record { octets = octets; reserved = false }
+
+-- a field whose value is reserved where the test says so
+abbrev pub unless : Bool → List ℕ → Field
+unless reserved octets = record { octets = octets; reserved = reserved }
+
+-- the octets of the fields, one behind the other
+abbrev pub laid : List Field → List ℕ
+laid fields = flat_map (λ field. field.octets) fields
+
+-- no field has a reserved value
+abbrev pub NoneReserved : List Field → Type 0
+NoneReserved fields = AllByRecursion (λ field. field.reserved ≡ false) fields
+
+-- the first field with a reserved value is the one at this place
+abbrev pub FirstReserved : ℕ → List Field → Type 0
+FirstReserved place fields =
+    (front : List Field) × (field : Field) × (back : List Field) × (fields ≡ front ++ field ∷ back) × NoneReserved front × (field.reserved ≡ true) × (place ≡ length (laid front))
+
+-- the same as a number, where the fields begin at this place
+abbrev pub reserved_from : ℕ → List Field → Option ℕ
+reserved_from place [] = None
+reserved_from place (field ∷ fields) = if field.reserved then Some place else reserved_from (place + length field.octets) fields

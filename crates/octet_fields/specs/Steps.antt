@@ -1,0 +1,13 @@
+-- Reading one field behind the other: nothing is read where one of them is not whole.
+use Rattle.std.specs.Prelude.{List, [], ◌∷◌, Option, Some, None}
+
+infixl 10 ◌>>=◌
+abbrev pub ◌>>=◌ : {A B : Type 0} → Option A → (A → Option B) → Option B
+(Some x) >>= f = f x
+None >>= f = None
+
+-- what was read, where no octet is left
+abbrev pub whole : {A B : Type 0} → Option (A × List B) → Option A
+whole None = None
+whole (Some (x, [])) = Some x
+whole (Some (x, octet ∷ rest)) = None

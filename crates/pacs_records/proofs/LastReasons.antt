@@ -1,0 +1,163 @@
+-- The records one after the other, up to the first that fits.
+use Rattle.std.proofs.Common.{◌≡◌, ◌↔◌, ℕ, zero, suc, ◌+◌, ◌<◌, ◌≤◌, ◌⊎◌, Bool, true, false, List, [], ◌∷◌, ◌++◌, length, get_or, drop, drop-cons, add-one, Option, Some, None, Result, Ok, Err, refl, sym, ap, subst, ◌∙◌, arith, inl, inr}
+use Rattle.std.specs.Prelude.{option_and_then, Any, OnOk, IfErr, is_none}
+use Rattle.std.specs.Result.{result_err}
+use Rattle.std.specs.List.{list_any, AllByRecursion}
+use Rattle.std.proofs.lemmas.Option.{same_Some}
+use Rattle.std.proofs.lemmas.List.Folds.{Any-from_list_any, list_any-from_Any}
+use Rattle.base_grammar.specs.declared.effective.Effective.{Effective}
+use Rattle.pacs_records.specs.declared.capability.Capability.{Capability}
+use Rattle.pacs_records.specs.declared.not_taken.NotTaken.{NotTaken}
+use Rattle.pacs_records.specs.declared.not_taken.NotTaken.TheVariants.{Codec}
+use Rattle.pacs_records.specs.declared.record.PacRecord.{PacRecord}
+use Rattle.pacs_records.specs.Layout.{Fits, AreRecords}
+use Rattle.pacs_records.specs.Match.{FitsStream, Takes, IsReason, IsToldReason}
+use Rattle.pacs_records.specs.Reasons.{reason_of, last_reason, not_taken}
+use Rattle.pacs_records.proofs.FirstReasons.{none_is_fit, fit_is_none, some_is_reason, reason_is_some}
+
+-- ---- the loop
+
+opened : (told : NotTaken) (entries : List PacRecord) (i : ℕ) (entry : PacRecord) (capability : Capability) (effective : Effective) → i < length entries → entry ≡ get_or entries i entry
+    → last_reason told (drop i entries) capability effective ≡ option_and_then (λ reason. last_reason reason (drop (i + 1) entries) capability effective) (reason_of entry capability effective)
+opened told entries i entry capability effective lt is =
+    let front : drop i entries ≡ entry ∷ drop (i + 1) entries =
+    drop-cons entries i entry lt ∙ ap (λ (e : PacRecord). e ∷ drop (suc i) entries) (sym is) ∙ ap (λ (n : ℕ). entry ∷ drop n entries) (sym (add-one i)) in
+    ap (λ (es : List PacRecord). last_reason told es capability effective) front
+
+pub goes_on : (told : NotTaken) (entries : List PacRecord) (i : ℕ) (entry : PacRecord) (reason : NotTaken) (capability : Capability) (effective : Effective) (total : Option NotTaken) → i < length entries → entry ≡ get_or entries i entry
+    → Some reason ≡ reason_of entry capability effective → last_reason told (drop i entries) capability effective ≡ total → last_reason reason (drop (i + 1) entries) capability effective ≡ total
+goes_on told entries i entry reason capability effective total lt is e so_far =
+    ap (option_and_then (λ r. last_reason r (drop (i + 1) entries) capability effective)) e ∙ sym (opened told entries i entry capability effective lt is) ∙ so_far
+
+pub fits_here : (told : NotTaken) (entries : List PacRecord) (i : ℕ) (entry : PacRecord) (capability : Capability) (effective : Effective) (total : Option NotTaken) → i < length entries → entry ≡ get_or entries i entry
+    → None ≡ reason_of entry capability effective → last_reason told (drop i entries) capability effective ≡ total → None ≡ total
+fits_here told entries i entry capability effective total lt is e so_far =
+    ap (option_and_then (λ r. last_reason r (drop (i + 1) entries) capability effective)) e ∙ sym (opened told entries i entry capability effective lt is) ∙ so_far
+
+drop_all : (i : ℕ) (entries : List PacRecord) → length entries ≤ i → drop i entries ≡ []
+drop_all zero [] le = refl
+drop_all (suc i) [] le = refl
+drop_all zero (entry ∷ entries) le = absurd (omega arith)
+drop_all (suc i) (entry ∷ entries) le = drop_all i entries (omega arith)
+
+pub is_done : (told : NotTaken) (entries : List PacRecord) (i : ℕ) (capability : Capability) (effective : Effective) (total : Option NotTaken) → length entries ≤ i → last_reason told (drop i entries) capability effective ≡ total → Some told ≡ total
+is_done told entries i capability effective total le so_far =
+    sym (ap (λ (es : List PacRecord). last_reason told es capability effective) (drop_all i entries le)) ∙ so_far
+
+pub fits_at : (entries : List PacRecord) (i : ℕ) (entry : PacRecord) → AllByRecursion Fits entries → i < length entries → entry ≡ get_or entries i entry → Fits entry
+fits_at [] i entry h lt e = absurd (omega arith)
+fits_at (first ∷ entries) zero entry h lt e = rw e (h.0)
+fits_at (first ∷ entries) (suc i) entry h lt e = fits_at entries i entry h.1 (omega arith) e
+
+-- ---- what it means
+
+-- whether a record fits, as a test
+abbrev fits_test : Capability → Effective → PacRecord → Bool
+fits_test capability effective entry = is_none (reason_of entry capability effective)
+
+none_is : (found : Option NotTaken) → is_none found ≡ true → found ≡ None
+none_is None e = refl
+none_is (Some reason) e = absurd cc
+
+any_fits : (capability : Capability) (effective : Effective) (entries : List PacRecord) → list_any (fits_test capability effective) entries ≡ true → Any (λ entry. FitsStream entry capability effective) entries
+any_fits capability effective entries h =
+    let (k, entry, lt, at, fits) = Any-from_list_any (fits_test capability effective) entries h in
+    (k, entry, lt, at, none_is_fit entry capability effective (none_is (reason_of entry capability effective) fits))
+
+fits_any : (capability : Capability) (effective : Effective) (entries : List PacRecord) → Any (λ entry. FitsStream entry capability effective) entries → list_any (fits_test capability effective) entries ≡ true
+fits_any capability effective entries (k, entry, lt, at, fits) =
+    list_any-from_Any (fits_test capability effective) entries (k, entry, lt, at, ap is_none (fit_is_none entry capability effective fits))
+
+-- none is told exactly where the test finds a record
+told_none : (told : NotTaken) (capability : Capability) (effective : Effective) (entries : List PacRecord) → last_reason told entries capability effective ≡ None → list_any (fits_test capability effective) entries ≡ true
+told_none told capability effective [] e = absurd cc
+told_none told capability effective (entry ∷ entries) e = by_reason (reason_of entry capability effective) refl e (λ reason rest. told_none reason capability effective entries rest)
+  where
+    by_reason : (found : Option NotTaken) → reason_of entry capability effective ≡ found → option_and_then (λ r. last_reason r entries capability effective) found ≡ None
+        → ((reason : NotTaken) → last_reason reason entries capability effective ≡ None → list_any (fits_test capability effective) entries ≡ true) → list_any (fits_test capability effective) (entry ∷ entries) ≡ true
+    by_reason None e rest others = rw e refl
+    by_reason (Some reason) e rest others = rw e (others reason rest)
+
+none_told : (told : NotTaken) (capability : Capability) (effective : Effective) (entries : List PacRecord) → list_any (fits_test capability effective) entries ≡ true → last_reason told entries capability effective ≡ None
+none_told told capability effective [] e = absurd cc
+none_told told capability effective (entry ∷ entries) e = by_reason (reason_of entry capability effective) refl (λ reason rest. none_told reason capability effective entries rest)
+  where
+    by_reason : (found : Option NotTaken) → reason_of entry capability effective ≡ found
+        → ((reason : NotTaken) → list_any (fits_test capability effective) entries ≡ true → last_reason reason entries capability effective ≡ None) → option_and_then (λ r. last_reason r entries capability effective) found ≡ None
+    by_reason None f others = refl
+    by_reason (Some reason) f others = others reason (rw f at e)
+
+pub not_taken-none : (capability : Capability) (effective : Effective) → (not_taken capability effective ≡ None) ↔ Takes capability effective
+not_taken-none capability effective = (
+  λ e. any_fits capability effective capability.entries (told_none Codec capability effective capability.entries e),
+  λ t. none_told Codec capability effective capability.entries (fits_any capability effective capability.entries t),
+)
+
+-- the reason told before where there is no record, or that of the last
+abbrev Told : NotTaken → NotTaken → List PacRecord → Capability → Effective → Type 0
+Told before told entries capability effective =
+    ((entries ≡ []) × (told ≡ before)) ⊎ ((front : List PacRecord) × (last : PacRecord) × (entries ≡ front ++ last ∷ []) × IsReason told last capability effective)
+
+told_last : (before told : NotTaken) (capability : Capability) (effective : Effective) (entries : List PacRecord) → last_reason before entries capability effective ≡ Some told → Told before told entries capability effective
+told_last before told capability effective [] e = inl (refl, sym (same_Some before told e))
+told_last before told capability effective (entry ∷ entries) e = by_reason (reason_of entry capability effective) refl e (λ reason rest. told_last reason told capability effective entries rest)
+  where
+    by_rest : (reason : NotTaken) → reason_of entry capability effective ≡ Some reason → Told reason told entries capability effective → Told before told (entry ∷ entries) capability effective
+    by_rest reason f (inl (none, same)) =
+        inr ([], entry, ap (λ (es : List PacRecord). entry ∷ es) none, some_is_reason entry capability effective told (f ∙ ap (λ (r : NotTaken). Some r) (sym same)))
+    by_rest reason f (inr (front, last, parts, is)) = inr (entry ∷ front, last, ap (λ (es : List PacRecord). entry ∷ es) parts, is)
+
+    by_reason : (found : Option NotTaken) → reason_of entry capability effective ≡ found → option_and_then (λ r. last_reason r entries capability effective) found ≡ Some told
+        → ((reason : NotTaken) → last_reason reason entries capability effective ≡ Some told → Told reason told entries capability effective) → Told before told (entry ∷ entries) capability effective
+    by_reason None f rest others = absurd cc
+    by_reason (Some reason) f rest others = by_rest reason f (others reason rest)
+
+pub not_taken-some : (capability : Capability) (effective : Effective) (reason : NotTaken) → not_taken capability effective ≡ Some reason → IsToldReason reason capability effective
+not_taken-some capability effective reason e = told_last Codec reason capability effective capability.entries e
+
+pub taken_not_told : (capability : Capability) (effective : Effective) (reason : NotTaken) → not_taken capability effective ≡ Some reason → Takes capability effective → ⊥
+taken_not_told capability effective reason e t = some_none (sym ((not_taken-none capability effective).1 t) ∙ e)
+  where
+    some_none : None ≡ Some reason → ⊥
+    some_none h = cc
+
+nothing : (front : List PacRecord) (last : PacRecord) → [] ≡ front ++ last ∷ [] → ⊥
+nothing [] last e = cc
+nothing (entry ∷ front) last e = cc
+
+last_same : (front others : List PacRecord) (last end : PacRecord) → front ++ last ∷ [] ≡ others ++ end ∷ [] → last ≡ end
+last_same [] [] last end e = cc
+last_same [] (entry ∷ others) last end e =
+    let none : [] ≡ others ++ end ∷ [] = cc in
+    absurd (nothing others end none)
+last_same (entry ∷ front) [] last end e =
+    let none : [] ≡ front ++ last ∷ [] = cc in
+    absurd (nothing front last none)
+last_same (entry ∷ front) (first ∷ others) last end e = last_same front others last end cc
+
+-- at most one reason is told
+one_told : (a b : NotTaken) (capability : Capability) (effective : Effective) → IsToldReason a capability effective → IsToldReason b capability effective → a ≡ b
+one_told a b capability effective (inl (none, x)) (inl (also, y)) = x ∙ sym y
+one_told a b capability effective (inl (none, x)) (inr (front, last, parts, is)) = absurd (nothing front last (sym none ∙ parts))
+one_told a b capability effective (inr (front, last, parts, is)) (inl (none, y)) = absurd (nothing front last (sym none ∙ parts))
+one_told a b capability effective (inr (front, last, parts, is)) (inr (others, end, ends, also)) =
+    let same : last ≡ end = last_same front others last end (sym parts ∙ ends) in
+    same_Some a b (sym (reason_is_some last capability effective a is) ∙ reason_is_some last capability effective b (subst (λ (entry : PacRecord). IsReason b entry capability effective) (sym same) also))
+
+pub some-not_taken : (capability : Capability) (effective : Effective) (reason : NotTaken) → (Takes capability effective → ⊥) → IsToldReason reason capability effective → not_taken capability effective ≡ Some reason
+some-not_taken capability effective reason never told = by_found (not_taken capability effective) refl
+  where
+    by_found : (found : Option NotTaken) → not_taken capability effective ≡ found → found ≡ Some reason
+    by_found None e = absurd (never ((not_taken-none capability effective).0 e))
+    by_found (Some other) e = ap (λ (r : NotTaken). Some r) (one_told other reason capability effective (not_taken-some capability effective other e) told)
+
+-- ---- what the call promises
+
+pub is_taken : (result : Result (Unit {0}) NotTaken) (capability : Capability) (effective : Effective) → result_err result ≡ not_taken capability effective → OnOk result (Takes capability effective)
+is_taken (Ok _) capability effective e = (not_taken-none capability effective).0 (sym e)
+is_taken (Err reason) capability effective e = tt
+
+pub is_refused : (result : Result (Unit {0}) NotTaken) (capability : Capability) (effective : Effective) → result_err result ≡ not_taken capability effective
+    → IfErr result (λ reason. (¬ Takes capability effective) × IsToldReason reason capability effective)
+is_refused (Ok _) capability effective e = tt
+is_refused (Err reason) capability effective e = (taken_not_told capability effective reason (sym e), not_taken-some capability effective reason (sym e))

@@ -1,0 +1,8 @@
+pub mod Fields
+pub mod Loop
+pub mod Stops
+pub mod Cuts
+pub mod Bits
+pub mod Meanings
+pub mod FirstReasons
+pub mod LastReasons

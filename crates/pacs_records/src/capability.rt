@@ -1,0 +1,12 @@
+use crate::records::Records;
+
+/// What a sink can take (Published Audio Capabilities Service 1.0): its records, the audio locations that it has
+/// (section 3.2), and the contexts that are available (section 3.5).
+#[derive(Drop)]
+pub struct Capability {
+    pub entries: Records,
+    /// Sink Audio Locations; 0 where it has none.
+    pub locations: u32,
+    /// Available Sink Contexts.
+    pub contexts: u16,
+}

@@ -1,0 +1,138 @@
+ghost use Rattle.std.specs.Prelude.{◌≡◌, ◌≤◌, List, length, IfOk, IfErr, Ok};
+ghost use Rattle.base_grammar.specs.Layout.{is_lc3};
+ghost use Rattle.pacs_records.specs.Layout.{PacIs};
+ghost use Rattle.pacs_records.specs.Faults.{IsFault};
+ghost use Rattle.pacs_records.specs.Reading.{Gives, codec_in, run_in, record_in, records_in, value_in};
+ghost use Rattle.pacs_records.specs.declared.record.PacRecord.{PacRecord};
+
+use crate::fault::PacFault;
+use crate::record::PacRecord;
+use crate::records::Records;
+use base_grammar::is_lc3_codec;
+use bcast_base::{Items, Octets};
+use ltv_codec::check_ltvs;
+use octet_fields::{octet_at, octets_at, place_of};
+use std::alloc::Global;
+
+/// The most octets of a value: those of an attribute.
+const GREATEST_VALUE: usize = 512;
+
+/// The records of a Sink PAC value (Published Audio Capabilities Service 1.0, section 3.1).
+///
+/// TooLong comes first, where there are more than 512 octets. Else it is the first fault from the left: Short where a
+/// field is not whole, Ltv where the capabilities of LC3 or the metadata are no LTV list, Trailing where octets follow
+/// the last record. Want of memory may come in the place of each answer.
+pub fn decode_pacs(alloc: Global, from: &[u8]) -> Result<Records, PacFault>
+    ensures exact { Gives (λ records. records) result (value_in from.now) }
+    ensures value { IfOk result (λ records. PacIs records from.now) }
+    ensures only { (records : List PacRecord) → PacIs records from.now → Gives (λ x. x) result (Ok records) }
+    ensures cut { IfErr result (λ fault. IsFault fault from.now) }
+{
+    decode_records(alloc, from)
+}
+
+// The list of the records.
+fn decode_records(alloc: Global, from: &[u8]) -> Result<Records, PacFault>
+    ensures { Gives (λ records. records) result (value_in from.now) }
+{
+    let list = decode_value(alloc, from)?;
+    Ok(Records::of(list, from.len()))
+}
+
+// The records of the value.
+#[tactic(auto, unfolding(crate::specs::Reading::value_in))]
+fn decode_value(alloc: Global, from: &[u8]) -> Result<Items<PacRecord>, PacFault>
+    ensures { Gives (λ records. records) result (value_in from.now) }
+{
+    if GREATEST_VALUE < from.len() {
+        return Err(PacFault::TooLong);
+    }
+    let Some((count, rest)) = octet_at(from) else {
+        return Err(PacFault::Short { place: 0 });
+    };
+    let (records, rest) = records_at(alloc, from, rest, count)?;
+    if !rest.is_empty() {
+        return Err(PacFault::Trailing {
+            place: place_of(from, rest),
+        });
+    }
+    Ok(records)
+}
+
+// So many records, and the octets after them.
+fn records_at<'a>(
+    alloc: Global,
+    whole: &[u8],
+    from: &'a [u8],
+    count: u8,
+) -> Result<(Items<PacRecord>, &'a [u8]), PacFault>
+    requires { length from.now ≤ length whole.now }
+    ensures exact { Gives (λ x. (x.0, x.1.now)) result (records_in whole.now count from.now) }
+    ensures within { IfOk result (λ x. length x.1.now ≤ length whole.now) }
+{
+    let mut records = Items::new(alloc);
+    let mut rest = from;
+    for _ in 0..count {
+        let (record, after) = record_at(alloc, whole, rest)?;
+        records.push(record)?;
+        rest = after;
+    }
+    Ok((records, rest))
+}
+
+// A record and the octets after it.
+#[tactic(auto, unfolding(crate::specs::Reading::record_in))]
+fn record_at<'a>(
+    alloc: Global,
+    whole: &[u8],
+    from: &'a [u8],
+) -> Result<(PacRecord, &'a [u8]), PacFault>
+    requires { length from.now ≤ length whole.now }
+    ensures exact { Gives (λ x. (x.0, x.1.now)) result (record_in whole.now from.now) }
+    ensures within { IfOk result (λ x. length x.1.now ≤ length whole.now) }
+{
+    let (codec, rest) = codec_at(whole, from)?;
+    let (caps, rest) = run_at(whole, rest, is_lc3_codec(&codec))?;
+    let (metadata, rest) = run_at(whole, rest, true)?;
+    let record = PacRecord {
+        codec,
+        caps: Octets::copy(alloc, caps)?,
+        metadata: Octets::copy(alloc, metadata)?,
+    };
+    Ok((record, rest))
+}
+
+// The Codec_ID and the octets after it.
+fn codec_at<'a>(whole: &[u8], from: &'a [u8]) -> Result<([u8; 5], &'a [u8]), PacFault>
+    requires { length from.now ≤ length whole.now }
+    ensures exact { Gives (λ x. (x.0, x.1.now)) result (codec_in whole.now from.now) }
+    ensures within { IfOk result (λ x. length x.1.now ≤ length whole.now) }
+{
+    let [a, b, c, d, e, rest @ ..] = from else {
+        return Err(PacFault::Short {
+            place: place_of(whole, from),
+        });
+    };
+    Ok(([*a, *b, *c, *d, *e], rest))
+}
+
+// A run of octets behind their count, and the octets after it. Where `listed`, the run is an LTV list.
+#[tactic(auto, unfolding(crate::specs::Reading::run_in))]
+fn run_at<'a>(whole: &[u8], from: &'a [u8], listed: bool) -> Result<(&'a [u8], &'a [u8]), PacFault>
+    requires { length from.now ≤ length whole.now }
+    ensures exact { Gives (λ x. (x.0.now, x.1.now)) result (run_in listed whole.now from.now) }
+    ensures within { IfOk result (λ x. length x.1.now ≤ length whole.now) }
+{
+    let place = place_of(whole, from);
+    let Some((count, behind)) = octet_at(from) else {
+        return Err(PacFault::Short { place });
+    };
+    let place = place_of(whole, behind);
+    let Some((run, after)) = octets_at(behind, usize::from(count)) else {
+        return Err(PacFault::Short { place });
+    };
+    if listed && let Err(fault) = check_ltvs(run) {
+        return Err(PacFault::Ltv { place, fault });
+    }
+    Ok((run, after))
+}

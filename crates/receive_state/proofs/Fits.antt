@@ -1,0 +1,96 @@
+-- Which states have a spelling.
+use Rattle.std.proofs.Common.{◌≡◌, ◌≤◌, ℕ, suc, Bool, true, false, cond, ltb, leb, List, [], ◌∷◌, length, map, Some, refl, ap, subst, arith}
+use Rattle.std.specs.Prelude.{◌&&◌, ◌||◌, not}
+use Rattle.std.specs.List.{flat_map, list_all, AllByRecursion}
+use Rattle.std.proofs.lemmas.Bool.{leb-true, le-leb}
+use Rattle.octet_fields.specs.Layout.{NoneReserved}
+use Rattle.octet_fields.specs.Subgroups.{Fits, subgroup_fields, is_reserved}
+use Rattle.receive_state.specs.declared.state.Encryption.{Encryption}
+use Rattle.receive_state.specs.declared.state.Encryption.TheVariants as keys
+use Rattle.receive_state.specs.declared.state.GroupState.{GroupState}
+use Rattle.receive_state.specs.declared.state.ReceiveState.{ReceiveState}
+use Rattle.receive_state.specs.Layout.{FieldsFit, fields_of, group_of, number_of, spelling, group_is_spelled, is_spelled, HasSpelling, StateIs}
+
+length-groups : (groups : List GroupState) → length (map group_of groups) ≡ length groups
+length-groups [] = refl
+length-groups (group ∷ groups) = ap (λ n. suc n) (length-groups groups)
+
+metadata_fits : (groups : List GroupState) → AllByRecursion Fits (map group_of groups) → AllByRecursion (λ group. length group.metadata ≤ 255) groups
+metadata_fits [] h = tt
+metadata_fits (group ∷ groups) h = (omega (arith, h.0.metadata), metadata_fits groups h.1)
+
+pub has_octets : (state : ReceiveState) → FieldsFit (fields_of state) → HasSpelling state → (octets : List ℕ) × StateIs (Some state) octets
+has_octets state w h = (spelling state, record { widths = w; values = h.values; spelled = refl })
+
+pub octets_fit : (state : ReceiveState) → ((octets : List ℕ) × StateIs (Some state) octets) → HasSpelling state
+octets_fit state s =
+    record { few = subst (λ (n : ℕ). n ≤ 255) (length-groups state.groups) s.1.widths.few; metadata = metadata_fits state.groups s.1.widths.groups; values = s.1.values }
+
+-- ---- the same as a test
+
+both : (a b : Bool) → (not a && b) ≡ true → (a ≡ false) × (b ≡ true)
+both true b e = absurd cc
+both false b e = (refl, e)
+
+both_so : (a b : Bool) → a ≡ false → b ≡ true → (not a && b) ≡ true
+both_so true b e f = absurd cc
+both_so false b e f = f
+
+and_parts : (a b : Bool) → (a && b) ≡ true → (a ≡ true) × (b ≡ true)
+and_parts true b e = (refl, e)
+and_parts false b e = absurd cc
+
+and_so : (a b : Bool) → a ≡ true → b ≡ true → (a && b) ≡ true
+and_so true b e f = f
+and_so false b e f = absurd cc
+
+parts : (a b c d : Bool) → cond (a || b || c) false d ≡ true → (a ≡ false) × (b ≡ false) × (c ≡ false) × (d ≡ true)
+parts true b c d e = absurd cc
+parts false true c d e = absurd cc
+parts false false true d e = absurd cc
+parts false false false d e = (refl, refl, refl, e)
+
+parts_so : (a b c d : Bool) → a ≡ false → b ≡ false → c ≡ false → d ≡ true → cond (a || b || c) false d ≡ true
+parts_so true b c d e f g h = absurd cc
+parts_so false true c d e f g h = absurd cc
+parts_so false false true d e f g h = absurd cc
+parts_so false false false d e f g h = h
+
+groups_values : (groups : List GroupState) → list_all group_is_spelled groups ≡ true
+    → AllByRecursion (λ group. length group.metadata ≤ 255) groups × NoneReserved (flat_map subgroup_fields (map group_of groups))
+groups_values [] e = (tt, tt)
+groups_values (group ∷ groups) e =
+    let a = and_parts (group_is_spelled group) (list_all group_is_spelled groups) e in
+    let b = both (is_reserved group.bis_sync_state) (leb (length group.metadata) 255) a.0 in
+    let r = groups_values groups a.1 in
+    ((leb-true (length group.metadata) 255 b.1, r.0), (b.0, (refl, (refl, r.1))))
+
+groups_pass : (groups : List GroupState) → AllByRecursion (λ group. length group.metadata ≤ 255) groups → NoneReserved (flat_map subgroup_fields (map group_of groups)) → list_all group_is_spelled groups ≡ true
+groups_pass [] m v = refl
+groups_pass (group ∷ groups) m v =
+    and_so (group_is_spelled group) (list_all group_is_spelled groups)
+    (both_so (is_reserved group.bis_sync_state) (leb (length group.metadata) 255) v.0 (le-leb (length group.metadata) 255 m.0))
+    (groups_pass groups m.1 v.1.1.1)
+
+number_known : (encryption : Encryption) → ltb 3 (number_of encryption) ≡ false
+number_known keys.None = refl
+number_known keys.CodeRequired = refl
+number_known keys.Decrypting = refl
+number_known (keys.BadCode code) = refl
+
+pub test_tells : (state : ReceiveState) → is_spelled state ≡ true → HasSpelling state
+test_tells state e =
+    let p = parts (ltb 1 state.address_type) (ltb 15 state.sid) (ltb 4 state.pa_sync_state) (leb (length state.groups) 255 && list_all group_is_spelled state.groups) e in
+    let a = and_parts (leb (length state.groups) 255) (list_all group_is_spelled state.groups) p.3 in
+    let g = groups_values state.groups a.1 in
+    record {
+      few = leb-true (length state.groups) 255 a.0;
+      metadata = g.0;
+      values = (refl, (p.0, (refl, (p.1, (refl, (p.2, (number_known state.encryption, (refl, (refl, g.1)))))))));
+    }
+
+pub test_passes : (state : ReceiveState) → HasSpelling state → is_spelled state ≡ true
+test_passes state h =
+    let v = h.values in
+    parts_so (ltb 1 state.address_type) (ltb 15 state.sid) (ltb 4 state.pa_sync_state) (leb (length state.groups) 255 && list_all group_is_spelled state.groups) v.1.0 v.1.1.1.0 v.1.1.1.1.1.0
+    (and_so (leb (length state.groups) 255) (list_all group_is_spelled state.groups) (le-leb (length state.groups) 255 h.few) (groups_pass state.groups h.metadata v.1.1.1.1.1.1.1.1.1))

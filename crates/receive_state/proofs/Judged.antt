@@ -1,0 +1,183 @@
+-- States that are read are spelled so, and their first fault is the one that is told.
+use Rattle.std.proofs.Common.{◌≡◌, ℕ, zero, suc, ◌<◌, ◌≤◌, List, [], ◌∷◌, ◌++◌, length, map, Option, Some, None, Result, Ok, Err, refl, sym, ap, subst, ◌∙◌, append_assoc, arith}
+use Rattle.std.specs.Prelude.{IfOk}
+use Rattle.std.proofs.lemmas.Bool.{ltb-false}
+use Rattle.std.proofs.lemmas.Grind.{flat_map-append}
+use Rattle.std.proofs.lemmas.List.{append-nil, nil_from_length}
+use Rattle.std.specs.List.{flat_map}
+use Rattle.octet_fields.specs.Layout.{Field, laid, reserved_from, NoneReserved}
+use Rattle.octet_fields.specs.Reading.{place_in}
+use Rattle.octet_fields.specs.Spelling.{IsOctets}
+use Rattle.octet_fields.specs.Subgroups.{Subgroup, subgroup, subgroup_fields, subgroups_in}
+use Rattle.octet_fields.proofs.Groups.{subgroup_laid, subgroups_take, subgroups_again}
+use Rattle.octet_fields.proofs.Layouts.{reserved_none, none_reserved}
+use Rattle.receive_state.specs.declared.fault.StateFault.{StateFault}
+use Rattle.receive_state.specs.declared.state.Encryption.{Encryption}
+use Rattle.receive_state.specs.declared.state.Encryption.TheVariants as keys
+use Rattle.receive_state.specs.declared.state.GroupState.{GroupState}
+use Rattle.receive_state.specs.declared.state.ReceiveState.{ReceiveState}
+use Rattle.receive_state.specs.Faults.{IsFollowed}
+use Rattle.receive_state.specs.Layout.{StateFields, fields, FieldsFit, code_width, number_of, code_of, group_of, fields_of, spelling, IsSpelled, StateIs}
+use Rattle.receive_state.specs.Reading.{head_in, end_in, subgroups_of, state_of_group, encryption_of, state_from, first_fault, answered, behind, judged, judged_of, lifted, state_of, Answers}
+use Rattle.receive_state.proofs.Heads.{before, head_takes, head_again}
+use Rattle.receive_state.proofs.Loops.{groups_read, groups_told}
+
+-- ---- the octets of the subgroups
+
+pub groups_laid : (groups : List Subgroup) → laid (flat_map subgroup_fields groups) ≡ flat_map subgroup groups
+groups_laid [] = refl
+groups_laid (group ∷ groups) =
+    flat_map-append (λ (field : Field). field.octets) (subgroup_fields group) (flat_map subgroup_fields groups)
+    ∙ (ap (λ (x : List ℕ). x ++ laid (flat_map subgroup_fields groups)) (subgroup_laid group) ∙ ap (λ (x : List ℕ). subgroup group ++ x) (groups_laid groups))
+
+groups_back : (groups : List Subgroup) → map group_of (map state_of_group groups) ≡ groups
+groups_back [] = refl
+groups_back (group ∷ groups) = ap (λ (x : List Subgroup). group ∷ x) (groups_back groups)
+
+states_back : (states : List GroupState) → map state_of_group (map group_of states) ≡ states
+states_back [] = refl
+states_back (state ∷ states) = ap (λ (x : List GroupState). state ∷ x) (states_back states)
+
+-- ---- BIG_Encryption and Bad_Code
+
+number_back : (number : ℕ) (code : List ℕ) → number ≤ 3 → number_of (encryption_of number code) ≡ number
+number_back zero code h = refl
+number_back (suc zero) code h = refl
+number_back (suc (suc zero)) code h = refl
+number_back (suc (suc (suc zero))) code h = refl
+number_back (suc (suc (suc (suc number)))) code h = absurd (omega (arith, h))
+
+code_back : (number : ℕ) (code : List ℕ) → length code ≡ code_width number → code_of (encryption_of number code) ≡ code
+code_back zero code h = sym (nil_from_length code h)
+code_back (suc zero) code h = sym (nil_from_length code h)
+code_back (suc (suc zero)) code h = sym (nil_from_length code h)
+code_back (suc (suc (suc number))) code h = refl
+
+encryption_back : (encryption : Encryption) → encryption_of (number_of encryption) (code_of encryption) ≡ encryption
+encryption_back keys.None = refl
+encryption_back keys.CodeRequired = refl
+encryption_back keys.Decrypting = refl
+encryption_back (keys.BadCode code) = refl
+
+pub fields_back : (s : StateFields) → s.encryption ≤ 3 → length s.bad_code ≡ code_width s.encryption → fields_of (state_from s) ≡ s
+fields_back s known width =
+    ap (λ (e : ℕ). record s { encryption = e; bad_code = code_of (encryption_of s.encryption s.bad_code); groups = map group_of (map state_of_group s.groups) }) (number_back s.encryption s.bad_code known)
+    ∙ (ap (λ (code : List ℕ). record s { bad_code = code; groups = map group_of (map state_of_group s.groups) }) (code_back s.encryption s.bad_code width)
+    ∙ ap (λ (groups : List Subgroup). record s { groups = groups }) (groups_back s.groups))
+
+pub state_back : (state : ReceiveState) → state_from (fields_of state) ≡ state
+state_back state =
+    ap (λ (e : Encryption). record state { encryption = e; groups = map state_of_group (map group_of state.groups) }) (encryption_back state.encryption)
+    ∙ ap (λ (groups : List GroupState). record state { groups = groups }) (states_back state.groups)
+
+-- ---- steps of reading
+
+abbrev pub or_place : Option ℕ → Option ℕ → Option ℕ
+or_place (Some place) other = Some place
+or_place None other = other
+
+fault_none : (place : Option ℕ) (end : ℕ) (rest : List ℕ) → first_fault place end rest ≡ None → (place ≡ None) × (rest ≡ [])
+fault_none (Some place) end rest e = absurd cc
+fault_none None end [] e = (refl, refl)
+fault_none None end (octet ∷ rest) e = absurd cc
+
+answered_ok : (read state : ReceiveState) (fault : Option StateFault) → answered read fault ≡ Ok state → (read ≡ state) × (fault ≡ None)
+answered_ok read state None e = (cc, refl)
+answered_ok read state (Some fault) e = absurd cc
+
+known_encryption : (s : StateFields) → NoneReserved (fields s) → s.encryption ≤ 3
+known_encryption s h = ltb-false 3 s.encryption h.1.1.1.1.1.1.0
+
+few : (n : ℕ) → n < 256 → n ≤ 255
+few n h = omega arith
+
+nested : (s : StateFields) (count : ℕ) (tail rest : List ℕ) → before s count (tail ++ rest) ≡ before s count tail ++ rest
+nested s count tail rest = simp append_assoc
+
+pub whole_of : (whole : List ℕ) (s : StateFields) (count : ℕ) (tail : List ℕ) (groups : List Subgroup) (rest : List ℕ) → IsOctets whole → head_in whole ≡ Ok (s, count, tail) → subgroups_in count tail ≡ Some (groups, rest)
+    → IsFollowed (record s { groups = groups }) whole rest
+whole_of whole s count tail groups rest h e g =
+    let t = head_takes whole (s, count, tail) h e in
+    let u = subgroups_take count tail (groups, rest) t.octets g in
+    let behind : tail ≡ laid (flat_map subgroup_fields groups) ++ rest = u.0.parts ∙ ap (λ (x : List ℕ). x ++ rest) (sym (groups_laid groups)) in
+    let parts : whole ≡ before s (length groups) (laid (flat_map subgroup_fields groups) ++ rest) =
+    t.parts ∙ (ap (before s count) behind ∙ ap (λ (n : ℕ). before s n (laid (flat_map subgroup_fields groups) ++ rest)) (sym u.2)) in
+    record {
+      widths = record { address = t.address; broadcast_id = t.broadcast_id; bad_code = t.bad_code; few = subst (λ (n : ℕ). n ≤ 255) (sym u.2) (few count t.few); groups = u.1 };
+      parts = parts ∙ nested s (length groups) (laid (flat_map subgroup_fields groups)) rest;
+    }
+
+-- what octets that begin with all fields are judged as
+pub judged_as : (whole : List ℕ) (s : StateFields) (count : ℕ) (tail : List ℕ) (groups : List Subgroup) (rest : List ℕ) → head_in whole ≡ Ok (s, count, tail) → subgroups_in count tail ≡ Some (groups, rest)
+    → judged_of whole ≡ answered (state_from (record s { groups = groups })) (first_fault (reserved_from 0 (fields (record s { groups = groups }))) (place_in whole rest) rest)
+judged_as whole s count tail groups rest e g =
+    let end : end_in whole count tail ≡ Ok rest = groups_told whole count tail groups rest g in
+    ap (judged whole) e
+    ∙ (ap (λ (r : Option (List Subgroup × List ℕ)). behind whole (record s { groups = subgroups_of r }) (end_in whole count tail)) g
+    ∙ ap (behind whole (record s { groups = groups })) end)
+
+pub whole_judged : (whole : List ℕ) (s : StateFields) (rest : List ℕ) → IsFollowed s whole rest → judged_of whole ≡ answered (state_from s) (first_fault (reserved_from 0 (fields s)) (place_in whole rest) rest)
+whole_judged whole s rest w =
+    let tail = laid (flat_map subgroup_fields s.groups) ++ rest in
+    let parts : whole ≡ before s (length s.groups) tail = w.parts ∙ sym (nested s (length s.groups) (laid (flat_map subgroup_fields s.groups)) rest) in
+    let head : head_in whole ≡ Ok (record s { groups = [] }, length s.groups, tail) = ap head_in parts ∙ head_again s (length s.groups) tail w.widths.address w.widths.broadcast_id w.widths.bad_code in
+    let groups : subgroups_in (length s.groups) tail ≡ Some (s.groups, rest) =
+    ap (λ (x : List ℕ). subgroups_in (length s.groups) (x ++ rest)) (groups_laid s.groups) ∙ subgroups_again s.groups rest w.widths.groups in
+    judged_as whole (record s { groups = [] }) (length s.groups) tail s.groups rest head groups
+
+-- ---- laws
+
+end_cases : (whole : List ℕ) (s : StateFields) (count : ℕ) (tail : List ℕ) (state : ReceiveState) (read : Result (List ℕ) ℕ) → IsOctets whole → head_in whole ≡ Ok (s, count, tail) → end_in whole count tail ≡ read
+    → behind whole (record s { groups = subgroups_of (subgroups_in count tail) }) read ≡ Ok state → IsSpelled state whole
+end_cases whole s count tail state (Err place) h e r j = absurd cc
+end_cases whole s count tail state (Ok rest) h e r j =
+    let g = groups_read whole count tail rest r in
+    let all : StateFields = record s { groups = g.0 } in
+    let w = whole_of whole s count tail g.0 rest h e g.1 in
+    let j' : behind whole all (Ok rest) ≡ Ok state = sym (ap (λ (o : Option (List Subgroup × List ℕ)). behind whole (record s { groups = subgroups_of o }) (Ok rest)) g.1) ∙ j in
+    let a = answered_ok (state_from all) state (first_fault (reserved_from 0 (fields all)) (place_in whole rest) rest) j' in
+    let n = fault_none (reserved_from 0 (fields all)) (place_in whole rest) rest a.1 in
+    let values = reserved_none (fields all) n.0 in
+    let back : fields_of (state_from all) ≡ all = fields_back all (known_encryption all values) w.widths.bad_code in
+    let parts : whole ≡ laid (fields all) = w.parts ∙ (ap (λ (x : List ℕ). laid (fields all) ++ x) n.1 ∙ append-nil (laid (fields all))) in
+    subst (λ (x : ReceiveState). IsSpelled x whole) a.0
+    (record {
+      widths = subst FieldsFit (sym back) w.widths;
+      values = subst (λ (x : StateFields). NoneReserved (fields x)) (sym back) values;
+      spelled = parts ∙ ap (λ (x : StateFields). laid (fields x)) (sym back);
+    })
+
+head_cases : (whole : List ℕ) (state : ReceiveState) (read : Result (StateFields × ℕ × List ℕ) ℕ) → IsOctets whole → head_in whole ≡ read → judged whole read ≡ Ok state → IsSpelled state whole
+head_cases whole state (Err place) h e j = absurd cc
+head_cases whole state (Ok x) h e j = end_cases whole x.0 x.1 x.2 state (end_in whole x.1 x.2) h e refl j
+
+pub judged_is : (whole : List ℕ) (state : ReceiveState) → IsOctets whole → judged_of whole ≡ Ok state → IsSpelled state whole
+judged_is whole state h j = head_cases whole state (head_in whole) h refl j
+
+lifted_ok : (read : Result ReceiveState StateFault) (value : Option ReceiveState) → lifted read ≡ Ok value → (state : ReceiveState) × (read ≡ Ok state) × (Some state ≡ value)
+lifted_ok (Ok state) value e = (state, refl, cc)
+lifted_ok (Err fault) value e = absurd cc
+
+pub read_is : (value : Option ReceiveState) (octets : List ℕ) → IsOctets octets → state_of octets ≡ Ok value → StateIs value octets
+read_is value [] h e =
+    let same : None ≡ value = cc in
+    subst (λ (v : Option ReceiveState). StateIs v []) same refl
+read_is value (octet ∷ rest) h e =
+    let l = lifted_ok (judged_of (octet ∷ rest)) value e in
+    subst (λ (v : Option ReceiveState). StateIs v (octet ∷ rest)) l.2 (judged_is (octet ∷ rest) l.0 h l.1)
+
+pub is_judged : (state : ReceiveState) (octets : List ℕ) → IsSpelled state octets → judged_of octets ≡ Ok state
+is_judged state octets s =
+    let w : IsFollowed (fields_of state) octets [] = record { widths = s.widths; parts = s.spelled ∙ sym (append-nil (spelling state)) } in
+    let none : reserved_from 0 (fields (fields_of state)) ≡ None = none_reserved 0 (fields (fields_of state)) s.values in
+    whole_judged octets (fields_of state) [] w
+    ∙ (ap (λ (p : Option ℕ). answered (state_from (fields_of state)) (first_fault p (place_in octets []) [])) none ∙ ap (λ (x : ReceiveState). answered x None) (state_back state))
+
+pub is_read : (value : Option ReceiveState) (octets : List ℕ) → StateIs value octets → state_of octets ≡ Ok value
+is_read None octets e = ap state_of e
+is_read (Some state) [] s = absurd (let e = s.spelled in cc)
+is_read (Some state) (octet ∷ rest) s = ap lifted (is_judged state (octet ∷ rest) s)
+
+pub gave_state : (result : Result (Option ReceiveState) StateFault) (octets : List ℕ) → IsOctets octets → Answers result (state_of octets) → IfOk result (λ value. StateIs value octets)
+gave_state (Ok value) octets h g = read_is value octets h g
+gave_state (Err fault) octets h g = tt

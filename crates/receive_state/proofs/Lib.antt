@@ -1,0 +1,11 @@
+pub mod Causes
+pub mod CutGroups
+pub mod CutHeads
+pub mod CutStates
+pub mod Cuts
+pub mod Fits
+pub mod Heads
+pub mod Judged
+pub mod Loops
+pub mod Parts
+pub mod Read

@@ -1,0 +1,163 @@
+-- Subgroups looked through one after the other, as a loop does.
+use Rattle.std.proofs.Common.{◌≡◌, ℕ, zero, suc, ◌+◌, ◌-◌, ◌<◌, ◌≤◌, Bool, true, false, cond, ltb, List, [], ◌∷◌, ◌++◌, length, take, drop, map, Option, Some, None, is_some, Result, Ok, Err, refl, sym, ap, ◌∙◌, append_assoc, arith}
+use Rattle.std.proofs.lemmas.List.{append-nil}
+use Rattle.std.proofs.lemmas.Option.{some_pair_parts}
+use Rattle.bcast_base.specs.Numbers.{sum_from}
+use Rattle.octet_fields.specs.Reading.{octet_in, octets_in, number_in, counted_in, place_in}
+use Rattle.octet_fields.proofs.Groups.{some_is}
+use Rattle.octet_fields.specs.Subgroups.{Subgroup, subgroup_in, subgroups_in}
+use Rattle.receive_state.specs.declared.state.GroupState.{GroupState}
+use Rattle.receive_state.proofs.Parts.{joined, subgroup_parts, subgroup_made, subgroups_suc, subgroups_none, subgroups_parts}
+use Rattle.receive_state.specs.Reading.{group_end_in, end_in, groups_of, states_of, state_of_group}
+use Rattle.receive_state.specs.Steps.{◌>>=◌, needed, field_in}
+
+one_left : (count i : ℕ) → i < count → count - i ≡ suc (count - (i + 1))
+one_left count i lt = omega arith
+
+-- ---- the end of the subgroups
+
+end_suc : (whole : List ℕ) (n : ℕ) (from : List ℕ) (read : Result (List ℕ) ℕ) → group_end_in whole from ≡ read → end_in whole (suc n) from ≡ (read >>= λ rest. end_in whole n rest)
+unfolding end_in
+end_suc whole n from read e = ap (λ (r : Result (List ℕ) ℕ). r >>= λ rest. end_in whole n rest) e
+
+pub end_next : (whole : List ℕ) (count i : ℕ) (from after : List ℕ) (total : Result (List ℕ) ℕ) → i < count → group_end_in whole from ≡ Ok after → end_in whole (count - i) from ≡ total → end_in whole (count - (i + 1)) after ≡ total
+end_next whole count i from after total lt e so_far =
+    sym (ap (λ (n : ℕ). end_in whole n from) (one_left count i lt) ∙ end_suc whole (count - (i + 1)) from (Ok after) e) ∙ so_far
+
+pub end_short : (whole : List ℕ) (count i : ℕ) (from : List ℕ) (place : ℕ) (total : Result (List ℕ) ℕ) → i < count → group_end_in whole from ≡ Err place → end_in whole (count - i) from ≡ total → total ≡ Err place
+end_short whole count i from place total lt e so_far =
+    sym so_far ∙ (ap (λ (n : ℕ). end_in whole n from) (one_left count i lt) ∙ end_suc whole (count - (i + 1)) from (Err place) e)
+
+end_zero : (whole : List ℕ) (n : ℕ) (rest : List ℕ) → n ≡ 0 → end_in whole n rest ≡ Ok rest
+unfolding end_in
+end_zero whole n rest e = rw e refl
+
+pub end_done : (whole : List ℕ) (count i : ℕ) (rest : List ℕ) (total : Result (List ℕ) ℕ) → count ≤ i → end_in whole (count - i) rest ≡ total → total ≡ Ok rest
+end_done whole count i rest total le so_far =
+    let none_left : count - i ≡ 0 = omega arith in
+    sym so_far ∙ end_zero whole (count - i) rest none_left
+
+-- ---- what is told of the subgroups
+
+-- the states so far, and those that are read behind them
+abbrev pub with_front : List GroupState → Option (List GroupState) → Option (List GroupState)
+with_front front None = None
+with_front front (Some states) = Some (front ++ states)
+
+regroup : (front : List GroupState) (group : Subgroup) (read : Option (List Subgroup × List ℕ)) → with_front front (states_of (joined group read)) ≡ with_front (front ++ state_of_group group ∷ []) (states_of read)
+regroup front group None = refl
+regroup front group (Some others) = ap (λ (gs : List GroupState). Some gs) (sym (append_assoc front (state_of_group group ∷ []) (map state_of_group others.0)))
+
+pub read_next : (front : List GroupState) (count i : ℕ) (from : List ℕ) (group : Subgroup) (after : List ℕ) (total : Option (List GroupState)) → i < count → subgroup_in from ≡ Some (group, after)
+    → with_front front (groups_of (count - i) from) ≡ total → with_front (front ++ state_of_group group ∷ []) (groups_of (count - (i + 1)) after) ≡ total
+read_next front count i from group after total lt e so_far =
+    sym (ap (λ (n : ℕ). with_front front (groups_of n from)) (one_left count i lt)
+    ∙ (ap (λ (r : Option (List Subgroup × List ℕ)). with_front front (states_of r)) (subgroups_suc (count - (i + 1)) from group after e) ∙ regroup front group (subgroups_in (count - (i + 1)) after))) ∙ so_far
+
+is_some-states : (read : Option (List Subgroup × List ℕ)) → is_some (states_of read) ≡ is_some read
+is_some-states None = refl
+is_some-states (Some read) = refl
+
+pub read_never : (front : List GroupState) (count i : ℕ) (from octets : List ℕ) → i < count → subgroup_in from ≡ None
+    → with_front front (groups_of (count - i) from) ≡ groups_of count octets → is_some (subgroups_in count octets) ≡ true → ⊥
+read_never front count i from octets lt e so_far some =
+    let one : with_front front (groups_of (count - i) from) ≡ None =
+    ap (λ (n : ℕ). with_front front (groups_of n from)) (one_left count i lt) ∙ ap (λ (r : Option (List Subgroup × List ℕ)). with_front front (states_of r)) (subgroups_none (count - (i + 1)) from e) in
+    let no : is_some (groups_of count octets) ≡ false = ap (λ (r : Option (List GroupState)). is_some r) (sym so_far ∙ one) in
+    let yes : is_some (groups_of count octets) ≡ true = is_some-states (subgroups_in count octets) ∙ some in
+    let clash : true ≡ false = sym yes ∙ no in
+    cc
+
+nothing_left : (front : List GroupState) (n : ℕ) (rest : List ℕ) → n ≡ 0 → with_front front (groups_of n rest) ≡ Some front
+unfolding subgroups_in
+nothing_left front n rest e = rw e (ap (λ (gs : List GroupState). Some gs) (append-nil front))
+
+pub read_end : (front : List GroupState) (count i : ℕ) (rest : List ℕ) (total : Option (List GroupState)) → count ≤ i → with_front front (groups_of (count - i) rest) ≡ total → total ≡ Some front
+read_end front count i rest total le so_far =
+    let none_left : count - i ≡ 0 = omega arith in
+    sym so_far ∙ nothing_left front (count - i) rest none_left
+
+-- ---- subgroups are whole exactly where their end is found
+
+pub bind_ok : {A B : Type 0} (r : Result A ℕ) (f : A → Result B ℕ) (y : B) → (r >>= f) ≡ Ok y → (x : A) × (r ≡ Ok x) × (f x ≡ Ok y)
+bind_ok (Ok x) f y e = (x, refl, e)
+bind_ok (Err place) f y e = absurd cc
+
+pub needed_ok : {A : Type 0} (place : ℕ) (read : Option A) (x : A) → needed place read ≡ Ok x → read ≡ Some x
+needed_ok place None x e = absurd cc
+needed_ok place (Some y) x e = let same : y ≡ x = cc in ap (λ z. Some z) same
+
+abbrev pub done : {A : Type 0} → A → Result A ℕ
+done x = Ok x
+
+pub ok_is : {A : Type 0} (x y : A) → done x ≡ done y → x ≡ y
+ok_is x y e = cc
+
+abbrev some_number : ℕ → List ℕ → Option (ℕ × List ℕ)
+some_number n rest = Some (n, rest)
+
+abbrev some_octets : List ℕ → List ℕ → Option (List ℕ × List ℕ)
+some_octets value rest = Some (value, rest)
+
+spelled : (b : Bool) (value rest v r : List ℕ) → cond {A = Option (List ℕ × List ℕ)} b None (Some (value, rest)) ≡ Some (v, r) → cond {A = Option (ℕ × List ℕ)} b None (Some (sum_from 0 value, rest)) ≡ Some (sum_from 0 v, r)
+spelled true value rest v r e = absurd cc
+spelled false value rest v r e =
+    let same = some_pair_parts value v rest r e in
+    ap (λ (x : List ℕ). some_number (sum_from 0 x) rest) same.0 ∙ ap (λ (x : List ℕ). some_number (sum_from 0 v) x) same.1
+
+number_read : (k : ℕ) (from value rest : List ℕ) → octets_in k from ≡ Some (value, rest) → number_in k from ≡ Some (sum_from 0 value, rest)
+number_read k from value rest e = spelled (ltb (length from) k) (take k from) (drop k from) value rest e
+
+counted_read : (from : List ℕ) (count : ℕ) (after value rest : List ℕ) → octet_in from ≡ Some (count, after) → octets_in count after ≡ Some (value, rest) → counted_in from ≡ Some (value, rest)
+counted_read [] count after value rest e f = absurd cc
+counted_read (first ∷ others) count after value rest e f =
+    let same = some_pair_parts first count others after e in
+    ap (λ (n : ℕ). octets_in n others) same.0 ∙ (ap (octets_in count) same.1 ∙ f)
+
+group_read : (whole from rest : List ℕ) → group_end_in whole from ≡ Ok rest → (group : Subgroup) × (subgroup_in from ≡ Some (group, rest))
+group_read whole from rest e =
+    let a = bind_ok (field_in whole (octets_in 4) from) (λ bits. field_in whole octet_in bits.1 >>= λ count. field_in whole (octets_in count.0) count.1 >>= λ metadata. Ok metadata.1) rest e in
+    let b = bind_ok (field_in whole octet_in a.0.1) (λ count. field_in whole (octets_in count.0) count.1 >>= λ metadata. Ok metadata.1) rest a.2 in
+    let d = bind_ok (field_in whole (octets_in b.0.0) b.0.1) (λ metadata. Ok metadata.1) rest b.2 in
+    let bits = number_read 4 from a.0.0 a.0.1 (needed_ok (place_in whole from) (octets_in 4 from) a.0 a.1) in
+    let metadata = counted_read a.0.1 b.0.0 b.0.1 d.0.0 d.0.1 (needed_ok (place_in whole a.0.1) (octet_in a.0.1) b.0 b.1) (needed_ok (place_in whole b.0.1) (octets_in b.0.0 b.0.1) d.0 d.1) in
+    let end : d.0.1 ≡ rest = ok_is d.0.1 rest d.2 in
+    let group : Subgroup = record { bits = sum_from 0 a.0.0; metadata = d.0.0 } in
+    (group, subgroup_made from (sum_from 0 a.0.0) a.0.1 d.0.0 d.0.1 bits metadata ∙ ap (λ (r : List ℕ). Some (group, r)) end)
+
+pub groups_read : (whole : List ℕ) (count : ℕ) (from rest : List ℕ) → end_in whole count from ≡ Ok rest → (groups : List Subgroup) × (subgroups_in count from ≡ Some (groups, rest))
+unfolding end_in subgroups_in
+groups_read whole zero from rest e = ([], ap (λ (r : List ℕ). Some ([], r)) (ok_is from rest e))
+groups_read whole (suc count) from rest e =
+    let a = bind_ok (group_end_in whole from) (λ after. end_in whole count after) rest e in
+    let g = group_read whole from a.0 a.1 in
+    let gs = groups_read whole count a.0 rest a.2 in
+    (g.0 ∷ gs.0, subgroups_suc count from g.0 a.0 g.1 ∙ ap (joined g.0) gs.1)
+
+told : (b : Bool) (value rest : List ℕ) (n : ℕ) (r : List ℕ) → cond {A = Option (ℕ × List ℕ)} b None (Some (sum_from 0 value, rest)) ≡ Some (n, r) → cond {A = Option (List ℕ × List ℕ)} b None (Some (value, rest)) ≡ Some (value, r)
+told true value rest n r e = absurd cc
+told false value rest n r e = ap (λ (x : List ℕ). some_octets value x) (some_pair_parts (sum_from 0 value) n rest r e).1
+
+octets_told : (k : ℕ) (from : List ℕ) (n : ℕ) (rest : List ℕ) → number_in k from ≡ Some (n, rest) → octets_in k from ≡ Some (take k from, rest)
+octets_told k from n rest e = told (ltb (length from) k) (take k from) (drop k from) n rest e
+
+counted_told : (whole from value rest : List ℕ) → counted_in from ≡ Some (value, rest) → (field_in whole octet_in from >>= λ count. field_in whole (octets_in count.0) count.1 >>= λ metadata. Ok metadata.1) ≡ Ok rest
+counted_told whole [] value rest e = absurd cc
+counted_told whole (count ∷ after) value rest e =
+    ap (λ (r : Option (List ℕ × List ℕ)). needed (place_in whole after) r >>= λ metadata. Ok metadata.1) e
+
+group_told : (whole from : List ℕ) (group : Subgroup) (rest : List ℕ) → subgroup_in from ≡ Some (group, rest) → group_end_in whole from ≡ Ok rest
+group_told whole from group rest e =
+    let p = subgroup_parts from group rest e in
+    let bits : octets_in 4 from ≡ Some (take 4 from, p.0) = octets_told 4 from group.bits p.0 p.1 in
+    ap (λ (r : Option (List ℕ × List ℕ)). needed (place_in whole from) r >>= λ bits. field_in whole octet_in bits.1 >>= λ count. field_in whole (octets_in count.0) count.1 >>= λ metadata. Ok metadata.1) bits
+    ∙ counted_told whole p.0 group.metadata rest p.2
+
+pub groups_told : (whole : List ℕ) (count : ℕ) (from : List ℕ) (groups : List Subgroup) (rest : List ℕ) → subgroups_in count from ≡ Some (groups, rest) → end_in whole count from ≡ Ok rest
+unfolding end_in subgroups_in
+groups_told whole zero from groups rest e =
+    let start : List Subgroup × List ℕ = ([], from) in
+    ap (λ (p : List Subgroup × List ℕ). done p.1) (some_is start (groups, rest) e)
+groups_told whole (suc count) from groups rest e =
+    let p = subgroups_parts count from groups rest e in
+    end_suc whole count from (Ok p.1) (group_told whole from p.0 p.1 p.3) ∙ groups_told whole count p.1 p.2 rest p.4

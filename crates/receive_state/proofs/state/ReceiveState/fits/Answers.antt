@@ -1,0 +1,6 @@
+use Rattle.std.proofs.Common.{◌∙◌, sym}
+use Rattle.receive_state.proofs.Fits.{test_tells, test_passes}
+use Rattle.receive_state.proofs.state.ReceiveState.fits.Goals as goal
+
+pub returns : goal.returns
+returns c = (λ yes. test_tells c.args.self.now (sym c.is_spelled.ensures ∙ yes), λ h. c.is_spelled.ensures ∙ test_passes c.args.self.now h)

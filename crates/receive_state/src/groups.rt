@@ -1,0 +1,58 @@
+//! The subgroups of a receive state, looked through where they lie before any memory is taken.
+ghost use Rattle.std.specs.Prelude.{◌≡◌, ◌≤◌, length, is_some, true, IfOk, Some};
+ghost use Rattle.octet_fields.specs.Subgroups.{subgroups_in};
+ghost use Rattle.receive_state.specs.Reading.{end_in, group_end_in, groups_of};
+ghost use Rattle.receive_state.specs.Steps.{Gives};
+
+use crate::fields::{ShortAt, octet_of, octets_of};
+use crate::state::{GroupState, GroupStates};
+use bcast_base::{Memory, Octets};
+use octet_fields::subgroup_at;
+use std::alloc::Global;
+
+// The octets behind so many subgroups at the front of `octets`, the last octets of `whole`, or the place of the field that
+// passes the end.
+pub(crate) fn groups_end<'a>(whole: &[u8], count: u8, octets: &'a [u8]) -> Result<&'a [u8], ShortAt>
+    requires { length octets.now ≤ length whole.now }
+    ensures field { Gives (λ rest. rest.now) (λ e. e.place) result (end_in whole.now count octets.now) }
+    ensures within { IfOk result (λ rest. length rest.now ≤ length whole.now) }
+{
+    let mut rest = octets;
+    'groups: for _ in 0..count {
+        rest = group_end(whole, rest)?;
+    }
+    Ok(rest)
+}
+
+// The octets behind one subgroup.
+fn group_end<'a>(whole: &[u8], octets: &'a [u8]) -> Result<&'a [u8], ShortAt>
+    requires { length octets.now ≤ length whole.now }
+    ensures field { Gives (λ rest. rest.now) (λ e. e.place) result (group_end_in whole.now octets.now) }
+    ensures within { IfOk result (λ rest. length rest.now ≤ length whole.now) }
+{
+    let (_bits, rest) = octets_of(whole, octets, 4)?;
+    let (count, rest) = octet_of(whole, rest)?;
+    let (_metadata, rest) = octets_of(whole, rest, usize::from(count))?;
+    Ok(rest)
+}
+
+// What is told of so many subgroups.
+pub(crate) fn read_groups(alloc: Global, count: u8, octets: &[u8]) -> Result<GroupStates, Memory>
+    requires { is_some (subgroups_in count octets.now) ≡ true }
+    ensures { IfOk result (λ groups. groups_of count octets.now ≡ Some groups) }
+{
+    let mut groups = GroupStates::new(alloc);
+    let mut rest = octets;
+    'groups: for _ in 0..count {
+        let Some((group, after)) = subgroup_at(rest) else {
+            unreachable!()
+        };
+        let metadata = Octets::copy(alloc, group.metadata)?;
+        groups.push(GroupState {
+            bis_sync_state: group.bits,
+            metadata,
+        })?;
+        rest = after;
+    }
+    Ok(groups)
+}

@@ -1,0 +1,24 @@
+//! Which octets are a receive state, what is wrong with all others, and which state has octets.
+ghost use Rattle.std.specs.Prelude.{◌≡◌, ◌≢◌, ◌↔◌, ℕ, List, Option, Some, Ok, Err};
+ghost use Rattle.octet_fields.specs.Spelling.{IsOctets};
+ghost use Rattle.receive_state.specs.Faults.{IsFault};
+ghost use Rattle.receive_state.specs.Layout.{FieldsFit, HasSpelling, StateIs, fields_of};
+ghost use Rattle.receive_state.specs.Reading.{state_of};
+ghost use Rattle.receive_state.specs.declared.fault.StateFault.{StateFault};
+ghost use Rattle.receive_state.specs.declared.fault.StateFault.TheVariants.{Memory};
+ghost use Rattle.receive_state.specs.declared.state.ReceiveState.{ReceiveState};
+
+/// Octets are read as a value exactly where they are it, so at most one value has them.
+pub fn read_is_state()
+    ensures { (state : Option ReceiveState) (octets : List ℕ) → IsOctets octets → (state_of octets ≡ Ok state) ↔ StateIs state octets }
+{}
+
+/// Octets are refused by a fault exactly where it is what is wrong with them, so at most one fault is.
+pub fn fault_is_cause()
+    ensures { (fault : StateFault) (octets : List ℕ) → fault ≢ Memory → IsOctets octets → (state_of octets ≡ Err fault) ↔ IsFault fault octets }
+{}
+
+/// A state fits exactly where some octets are it.
+pub fn fits_is_spelled()
+    ensures { (state : ReceiveState) → FieldsFit (fields_of state) → HasSpelling state ↔ ((octets : List ℕ) × StateIs (Some state) octets) }
+{}

@@ -1,0 +1,187 @@
+ghost use Rattle.std.specs.Prelude.{◌≡◌, ◌≤◌, [], length, is_some, true, Option, Some, IfOk, IfErr, Ok};
+ghost use Rattle.receive_state.specs.Faults.{IsFault};
+ghost use Rattle.receive_state.specs.Layout.{StateIs, code_width};
+ghost use Rattle.receive_state.specs.Reading.{Answers, state_of, judged_of, head_in, reserved_head, encryption_of, groups_of};
+ghost use Rattle.octet_fields.specs.Subgroups.{subgroups_in};
+ghost use Rattle.receive_state.specs.Steps.{Gives};
+ghost use Rattle.receive_state.specs.declared.state.ReceiveState.{ReceiveState};
+
+use crate::fault::StateFault;
+use crate::fields::{ShortAt, octet_of, octets_of};
+use crate::groups::{groups_end, read_groups};
+use crate::state::{Encryption, ReceiveState};
+use bcast_base::Memory;
+use octet_fields::{place_of, reserved_subgroup};
+use std::alloc::Global;
+
+// Places of fields that may have a reserved value: the address type behind the Source_ID, the SID behind an address of 6
+// octets, PA_Sync_State behind a Broadcast_ID of 3, and BIG_Encryption.
+const ADDRESS_TYPE_PLACE: usize = 1;
+
+const SID_PLACE: usize = 8;
+
+const PA_SYNC_STATE_PLACE: usize = 12;
+
+const BIG_ENCRYPTION_PLACE: usize = 13;
+
+// A receive state whose subgroups are not read yet. The Bad_Code is empty where none is told.
+#[derive(Clone, Copy)]
+struct LentState<'a> {
+    source_id: u8,
+    address_type: u8,
+    address: &'a [u8],
+    sid: u8,
+    broadcast_id: &'a [u8],
+    pa_sync_state: u8,
+    encryption: u8,
+    bad_code: &'a [u8],
+    count: u8,
+    groups: &'a [u8],
+}
+
+/// Reads a receive state, all of the octets (Broadcast Audio Scan Service 1.0, section 3.2). The empty value is `None`.
+///
+/// Else it is the first fault in this order: Short with the place of the field that passes the end, Rfu with the place of
+/// the first field that has a reserved value, Trailing with the place of the first octet behind all fields, and Memory.
+pub fn decode_state(alloc: Global, from: &[u8]) -> Result<Option<ReceiveState>, StateFault>
+    ensures exact { Answers result (state_of from.now) }
+    ensures layout { IfOk result (λ state. StateIs state from.now) }
+    ensures only { (state : Option ReceiveState) → StateIs state from.now → Answers result (Ok state) }
+    ensures fault { IfErr result (λ fault. IsFault fault from.now) }
+{
+    read_value(alloc, from)
+}
+
+// The empty value, or a state.
+fn read_value(alloc: Global, from: &[u8]) -> Result<Option<ReceiveState>, StateFault>
+    ensures { Answers result (state_of from.now) }
+{
+    if from.is_empty() {
+        return Ok(None);
+    }
+    let state = read_state(alloc, from)?;
+    Ok(Some(state))
+}
+
+// A state.
+fn read_state(alloc: Global, from: &[u8]) -> Result<ReceiveState, StateFault>
+    ensures { Answers result (judged_of from.now) }
+{
+    let lent = head_at(from)?;
+    let rest = groups_end(from, lent.count, lent.groups)?;
+    if let Some(place) = reserved_in_head(&lent) {
+        return Err(StateFault::Rfu { place });
+    }
+    if let Some(place) = reserved_subgroup(from, lent.count, lent.groups) {
+        return Err(StateFault::Rfu { place });
+    }
+    if !rest.is_empty() {
+        return Err(StateFault::Trailing {
+            place: place_of(from, rest),
+        });
+    }
+    let state = own_state(alloc, &lent)?;
+    Ok(state)
+}
+
+// The fields before the subgroups, or the place of the one that passes the end.
+#[tactic(auto, unfolding(crate::specs::Reading::source_in, crate::specs::Reading::head_in))]
+fn head_at(from: &[u8]) -> Result<LentState<'_>, ShortAt>
+    ensures head { Gives (λ l. (record { source_id = l.source_id; address_type = l.address_type; address = l.address.now; sid = l.sid; broadcast_id = l.broadcast_id.now; pa_sync_state = l.pa_sync_state; encryption = l.encryption; bad_code = l.bad_code.now; groups = [] }, l.count, l.groups.now)) (λ e. e.place) result (head_in from.now) }
+    ensures address { IfOk result (λ l. length l.address.now ≡ 6) }
+    ensures broadcast_id { IfOk result (λ l. length l.broadcast_id.now ≡ 3) }
+    ensures bad_code { IfOk result (λ l. length l.bad_code.now ≡ code_width l.encryption) }
+    ensures within { IfOk result (λ l. length l.groups.now ≤ length from.now) }
+{
+    let (source_id, rest) = octet_of(from, from)?;
+    let (address_type, rest) = octet_of(from, rest)?;
+    let (address, rest) = octets_of(from, rest, 6)?;
+    let (sid, rest) = octet_of(from, rest)?;
+    let (broadcast_id, rest) = octets_of(from, rest, 3)?;
+    let (pa_sync_state, rest) = octet_of(from, rest)?;
+    let (encryption, rest) = octet_of(from, rest)?;
+    let (bad_code, rest) = octets_of(from, rest, bad_code_width(encryption))?;
+    let (count, groups) = octet_of(from, rest)?;
+    Ok(LentState {
+        source_id,
+        address_type,
+        address,
+        sid,
+        broadcast_id,
+        pa_sync_state,
+        encryption,
+        bad_code,
+        count,
+        groups,
+    })
+}
+
+// How many octets the Bad_Code has.
+fn bad_code_width(encryption: u8) -> usize
+    ensures { result ≡ code_width encryption }
+{
+    if encryption == 3 { 16 } else { 0 }
+}
+
+// The place of the first field before the subgroups that has a reserved value.
+fn reserved_in_head(lent: &LentState<'_>) -> Option<usize>
+    ensures { result ≡ reserved_head lent.now.address_type lent.now.sid lent.now.pa_sync_state lent.now.encryption }
+{
+    if lent.address_type > 1 {
+        Some(ADDRESS_TYPE_PLACE)
+    } else if lent.sid > 15 {
+        Some(SID_PLACE)
+    } else if lent.pa_sync_state > 4 {
+        Some(PA_SYNC_STATE_PLACE)
+    } else if lent.encryption > 3 {
+        Some(BIG_ENCRYPTION_PLACE)
+    } else {
+        None
+    }
+}
+
+// The state in memory of its own.
+fn own_state(alloc: Global, lent: &LentState<'_>) -> Result<ReceiveState, Memory>
+    requires address { length lent.now.address.now ≡ 6 }
+    requires broadcast_id { length lent.now.broadcast_id.now ≡ 3 }
+    requires bad_code { length lent.now.bad_code.now ≡ code_width lent.now.encryption }
+    requires encryption { lent.now.encryption ≤ 3 }
+    requires groups { is_some (subgroups_in lent.now.count lent.now.groups.now) ≡ true }
+    ensures groups { IfOk result (λ state. groups_of lent.now.count lent.now.groups.now ≡ Some state.groups) }
+    ensures head { IfOk result (λ state. state ≡ record { source_id = lent.now.source_id; address_type = lent.now.address_type; address = lent.now.address.now; sid = lent.now.sid; broadcast_id = lent.now.broadcast_id.now; pa_sync_state = lent.now.pa_sync_state; encryption = encryption_of lent.now.encryption lent.now.bad_code.now; groups = state.groups }) }
+{
+    let mut address = [0; 6];
+    address.copy_from_slice(lent.address);
+    let mut broadcast_id = [0; 3];
+    broadcast_id.copy_from_slice(lent.broadcast_id);
+    let encryption = own_encryption(lent.encryption, lent.bad_code);
+    let groups = read_groups(alloc, lent.count, lent.groups)?;
+    Ok(ReceiveState {
+        source_id: lent.source_id,
+        address_type: lent.address_type,
+        address,
+        sid: lent.sid,
+        broadcast_id,
+        pa_sync_state: lent.pa_sync_state,
+        encryption,
+        groups,
+    })
+}
+
+// What is told of the key.
+fn own_encryption(number: u8, bad_code: &[u8]) -> Encryption
+    requires width { length bad_code.now ≡ code_width number }
+    requires known { number ≤ 3 }
+    ensures { result ≡ encryption_of number bad_code.now }
+{
+    match number {
+        0 => Encryption::None,
+        1 => Encryption::CodeRequired,
+        2 => Encryption::Decrypting,
+        _ => {
+            let mut code = [0; 16];
+            code.copy_from_slice(bad_code);
+            Encryption::BadCode(code)
+        }
+    }
+}

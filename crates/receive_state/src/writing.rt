@@ -1,0 +1,72 @@
+ghost use Rattle.std.specs.Prelude.{◌≡◌, ◌≤◌, ◌++◌, ◌∷◌, [], length, map, Option, IfOk, IfSome, OnOk};
+ghost use Rattle.std.specs.List.{flat_map, AllByRecursion};
+ghost use Rattle.std.specs.Option.{option_copied};
+ghost use Rattle.octet_fields.specs.Layout.{laid};
+ghost use Rattle.octet_fields.specs.Subgroups.{Fits, subgroup_fields};
+ghost use Rattle.receive_state.specs.Layout.{HasSpelling, IsSpelled, StateIs, spelling, fields_of, FieldsFit, group_of, number_of, code_of, code_width};
+
+use crate::state::{Encryption, GroupState, ReceiveState};
+use bcast_base::{Memory, Octets};
+use octet_fields::put_subgroup;
+use std::alloc::Global;
+
+/// The octets of a receive state that fits, or none where there is no source (Broadcast Audio Scan Service 1.0, section
+/// 3.2).
+pub fn encode_state(alloc: Global, state: Option<&ReceiveState>) -> Result<Octets, Memory>
+    requires { IfSome state (λ s. HasSpelling s.now) }
+    ensures { IfOk result (λ octets. StateIs (option_copied state.entry) octets) }
+{
+    let Some(state) = state else {
+        return Ok(Octets::new(alloc));
+    };
+    write_state(alloc, state)
+}
+
+// The octets of a state.
+fn write_state(alloc: Global, state: &ReceiveState) -> Result<Octets, Memory>
+    requires { HasSpelling state.now }
+    ensures { IfOk result (λ octets. IsSpelled state.now octets) }
+{
+    let address = state.address;
+    let broadcast_id = state.broadcast_id;
+    let mut out = Octets::new(alloc);
+    out.push(state.source_id)?;
+    out.push(state.address_type)?;
+    out.append(&address)?;
+    out.push(state.sid)?;
+    out.append(&broadcast_id)?;
+    out.push(state.pa_sync_state)?;
+    put_encryption(&mut out, &state.encryption)?;
+    out.push(state.groups.count() as u8)?;
+    put_groups(&mut out, state.groups.as_slice())?;
+    Ok(out)
+}
+
+// Puts BIG_Encryption at the end, and the Bad_Code where there is one.
+fn put_encryption(out: &mut Octets, encryption: &Encryption) -> Result<(), Memory>
+    ensures fields { OnOk result (out.new ≡ out.old ++ number_of encryption.now ∷ code_of encryption.now) }
+    ensures width { OnOk result (length (code_of encryption.now) ≡ code_width (number_of encryption.now)) }
+{
+    match encryption {
+        Encryption::None => out.push(0),
+        Encryption::CodeRequired => out.push(1),
+        Encryption::Decrypting => out.push(2),
+        Encryption::BadCode(code) => {
+            out.push(3)?;
+            out.append(code)
+        }
+    }
+}
+
+// Puts the subgroups at the end.
+fn put_groups(out: &mut Octets, groups: &[GroupState]) -> Result<(), Memory>
+    requires { AllByRecursion (λ group. length group.metadata ≤ 255) groups.now }
+    ensures fields { OnOk result (out.new ≡ out.old ++ laid (flat_map subgroup_fields (map group_of groups.now))) }
+    ensures widths { OnOk result (AllByRecursion Fits (map group_of groups.now)) }
+{
+    for group in groups {
+        let bits = group.bis_sync_state;
+        put_subgroup(out, bits, group.metadata.as_slice())?;
+    }
+    Ok(())
+}
