@@ -78,8 +78,8 @@ other_own boxes steps (kinds.Sink sink streams slots mtu) =
     (other_if (is_some (box_of sink steps)) SinkTwice (λ e. cc)) (other_if (nat_le boxes (sinks_made steps)) NoOutlet (λ e. cc))
 other_own boxes steps (kinds.Drop sink) = other_no_sink sink steps
 other_own boxes steps (kinds.Tuned sink which) =
-    other_or (no_sink sink steps) (refuse_if (has_beyond (setup_of steps).info which) NoSuchBis)
-    (other_no_sink sink steps) (other_if (has_beyond (setup_of steps).info which) NoSuchBis (λ e. cc))
+    other_or (no_sink sink steps) (refuse_if (has_beyond (setup_of steps).info.num_bis which) NoSuchBis)
+    (other_no_sink sink steps) (other_if (has_beyond (setup_of steps).info.num_bis which) NoSuchBis (λ e. cc))
 other_own boxes steps (kinds.Unit bis time octets) = other_map give_refusal other_give _
 other_own boxes steps kinds.Event = other_counter (event_fault (setup_of steps) (source_calls steps))
 other_own boxes steps (kinds.Hear sink back bis subevent) =

@@ -1,16 +1,24 @@
 //! The run of a scenario, line by line.
-ghost use Rattle.std.specs.Prelude.{◌≡◌, ◌≢◌, ◌↔◌, ◌≤◌, ◌<◌, ◌+◌, ◌^◌, [], ◌∷◌, ℕ, List, Option, None, Some, Ok, Err, length, map, true, IfNone, IfOk, OnOk, OnErr, IsSome};
+ghost use Rattle.std.specs.Prelude.{◌≡◌, ◌≢◌, ◌↔◌, ◌≤◌, ◌<◌, ◌+◌, ◌^◌, [], ◌∷◌, ℕ, List, Option, None, Some, Ok, Err, length, map, true, false, IfNone, IfOk, OnOk, OnErr, IsSome};
 ghost use Rattle.std.specs.Io.KnownBytes.{Appends};
+ghost use Rattle.std.specs.List.{AllZip, Contains};
+ghost use Rattle.std.specs.List.Sorted.{IsStrictlyIncreasing};
 ghost use Rattle.bcast_io.specs.Faults.{Rose};
 ghost use Rattle.bcast_io.specs.TextLines.{TextLine, plain, text_limit, lines_of};
 ghost use Rattle.bcast_io.specs.Reading.{lines_left};
 ghost use Rattle.bcast_io.specs.Answering.{GoesOn};
 ghost use Rattle.unit_outlets.specs.Account.{Account};
 ghost use Rattle.source_machine.specs.Airs.{airs_of};
-ghost use Rattle.line_runs.specs.Runs.{through};
+ghost use Rattle.delegator_machine.specs.Calls.{Tuning, place};
+ghost use Rattle.delegator_machine.specs.Streams.{streams_of};
+ghost use Rattle.line_runs.specs.Runs.{through, Accepted};
 ghost use Rattle.transcript_text.specs.declared.refusal.Refusal.{Refusal as Reason};
 ghost use Rattle.transcript_text.specs.declared.refusal.Refusal.TheVariants.{NoEnd};
 ghost use Rattle.scenario_history.specs.Boxes.{Took};
+ghost use Rattle.scenario_history.specs.Laws.{Closed, InSourceOrder, IsOfSlot, IsStayStruck, closed_since, injected_since, is_made, is_tuned, shown_since, slots_closed, valid_in};
+ghost use Rattle.scenario_history.specs.Lines.{rules_of, steps_of};
+ghost use Rattle.scenario_history.specs.Sinks.{sink_calls};
+ghost use Rattle.scenario_history.specs.Source.{setup_of, source_calls};
 ghost use Rattle.scenario_history.specs.Transcript.{transcript_end, units_of};
 ghost use Rattle.replay_command.specs.LineMeets.{LinesStand, refusal_at};
 ghost use Rattle.replay_command.specs.Replayed.{Done, RefusedAt, ReadFaulted, Broken, OutletFaulted, Comes, ReadsAhead, WriteCut};
@@ -23,6 +31,7 @@ use crate::stop::Stop;
 use crate::words::{Mode, Words, mode_of};
 use bcast_base::Octets;
 use bcast_io::{ByteSink, ByteSource, Failed, LineRead, LineReader, SinkFault, write_whole};
+use scenario_history::{order_law, units_law};
 use std::alloc::Global;
 use transcript_text::{Refusal, put_refusal};
 use unit_outlets::Outlet;
@@ -77,7 +86,26 @@ pub fn replay<S: ByteSource, K: ByteSink>(
 
     // At most 65,536 octets past the line of the answer were read.
     ensures reading_ahead { AheadOf result (map account outlets.old.items) (S.left source.old) (S.left source.new) (K.contents sink.old) (K.contents sink.new) }
+
+    // The units law: in a stay into which no PDU was injected, the closes hand on each stream that it takes what the
+    // source's slots say, whatever lines were read.
+    ensures units_law { (lines : List TextLine) (n bis : ℕ) (tuning : Tuning) → Accepted (rules_of airs_of (map account outlets.old.items)) lines
+        → place (sink_calls airs_of n (steps_of lines)) ≡ Some tuning → Contains (streams_of tuning.which) bis
+        → injected_since (is_tuned n) n (steps_of lines) ≡ false → IsStayStruck (steps_of lines) n tuning bis }
+
+    // No sink closes an event twice; each of its units has the time of a slot; and its valid units are, in order, units
+    // that the source accepted on the stream, each at most once.
+    ensures events_rise { (lines : List TextLine) (n : ℕ) → Accepted (rules_of airs_of (map account outlets.old.items)) lines
+        → IsStrictlyIncreasing (map (λ (closed : Closed). closed.event) (closed_since n (steps_of lines))) }
+    ensures on_time { (lines : List TextLine) (n bis : ℕ) → Accepted (rules_of airs_of (map account outlets.old.items)) lines
+        → n ≤ 7 → 1 ≤ bis → bis ≤ 31
+        → AllZip (IsOfSlot (setup_of (steps_of lines)) bis) (slots_closed (setup_of (steps_of lines)) bis (closed_since n (steps_of lines))) (shown_since n bis (steps_of lines)) }
+    ensures in_source_order { (lines : List TextLine) (n bis : ℕ) → Accepted (rules_of airs_of (map account outlets.old.items)) lines
+        → n ≤ 7 → 1 ≤ bis → bis ≤ 31 → injected_since (is_made n) n (steps_of lines) ≡ false
+        → InSourceOrder (setup_of (steps_of lines)) (source_calls (steps_of lines)) bis (valid_in (shown_since n bis (steps_of lines))) }
 {
+    units_law();
+    order_law();
     match mode_of(words) {
         Mode::Usage => Status::Usage,
         Mode::Replay => run(alloc, source, sink, outlets),

@@ -1,14 +1,14 @@
 -- The events that a sink closes rise.
-use Rattle.std.proofs.Common.{ℕ, zero, suc, ◌≡◌, ◌≢◌, ◌<◌, ◌≤◌, ◌+◌, ◌-◌, ◌*◌, ◌==◌, ◌||◌, cond, ltb, leb, eqb, not, Bool, true, false, List, [], ◌∷◌, ◌++◌, length, map, get_or, Option, None, Some, refl, sym, ◌∙◌, ap, subst, arith, inl, inr}
+use Rattle.std.proofs.Common.{ℕ, zero, suc, ◌≡◌, ◌≢◌, ◌<◌, ◌≤◌, ◌+◌, ◌*◌, ◌==◌, ◌||◌, cond, leb, Bool, true, false, List, [], ◌∷◌, ◌++◌, length, map, Option, None, Some, refl, sym, ◌∙◌, ap, subst, arith}
 use Rattle.std.specs.Prelude.{unwrap_or, is_some}
 use Rattle.std.specs.List.Sorted.{IsStrictlyIncreasing}
-use Rattle.std.proofs.lemmas.Bool.{eqb-false, leb-true, leb-false, or_parts, cases_Bool, false≢true}
+use Rattle.std.proofs.lemmas.Bool.{eqb-false, leb-true, or_parts, false≢true}
 use Rattle.std.proofs.lemmas.Option.{none-some, same_Some}
 use Rattle.bcast_io.specs.TextLines.{TextLine}
 use Rattle.unit_outlets.specs.Account.{Account}
 use Rattle.line_runs.specs.Runs.{Accepted}
 use Rattle.source_machine.specs.Airs.{airs_of}
-use Rattle.source_machine.specs.Calls.{Setup, Call as SourceCall, events, next_of}
+use Rattle.source_machine.specs.Calls.{events, next_of}
 use Rattle.delegator_machine.specs.Calls.{Tuning, Call, tune, hear, tick, place}
 use Rattle.delegator_machine.specs.Streams.{closes}
 use Rattle.scenario_text.specs.declared.step.Step.{Step}

@@ -7,3 +7,4 @@ pub mod UnitsLaw
 pub mod Closes
 pub mod Shown
 pub mod Numbers
+pub mod InOrder

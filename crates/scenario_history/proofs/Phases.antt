@@ -1,9 +1,9 @@
 -- The phases of a scenario: its group stands before its start, its source takes calls only behind it, and what fixes the
 -- source stays.
-use Rattle.std.proofs.Common.{ℕ, ◌≡◌, ◌<◌, ◌≤◌, ◌+◌, ◌^◌, ◌&&◌, ◌||◌, ◌==◌, not, cond, Bool, true, false, List, [], ◌∷◌, ◌++◌, Option, None, Some, refl, sym, ◌∙◌, ap, subst, arith, inl, inr, append_assoc}
+use Rattle.std.proofs.Common.{ℕ, ◌≡◌, ◌≤◌, ◌||◌, ◌==◌, not, cond, Bool, true, false, List, [], ◌∷◌, ◌++◌, Option, None, Some, refl, sym, ◌∙◌, arith, append_assoc}
 use Rattle.std.specs.Prelude.{unwrap_or, is_some}
 use Rattle.std.specs.List.{find, AllByRecursion}
-use Rattle.std.specs.Option.{option_or, option_map}
+use Rattle.std.specs.Option.{option_map}
 use Rattle.std.proofs.lemmas.Bool.{and_parts, or_parts, eqb-true, false≢true}
 use Rattle.std.proofs.lemmas.Option.{none-some}
 use Rattle.big_info.specs.declared.info.BigInfo.{BigInfo}
@@ -16,16 +16,14 @@ use Rattle.big_info.specs.Rows.{NoFault, first_fault, has_fault}
 use Rattle.big_info.specs.Widths.{FitsWidths}
 use Rattle.big_info.proofs.BoundsOf.{bounds_of}
 use Rattle.big_info.proofs.Order.{no_fault_within}
-use Rattle.source_machine.specs.Airs.{airs_of}
 use Rattle.source_machine.specs.Calls.{Setup, Call as SourceCall, give, event as perform, events}
 use Rattle.scenario_text.specs.declared.step.Step.{Step}
 use Rattle.scenario_text.specs.declared.step.Step.TheVariants as steps
 use Rattle.scenario_text.specs.Ranges.{IsInRange, GroupRanges}
 use Rattle.transcript_text.specs.declared.refusal.Refusal.TheVariants.{BadGroup}
-use Rattle.transcript_text.specs.declared.refusal.Refusal.{Refusal}
-use Rattle.scenario_history.specs.Steps.{GroupLine, group_of, info_with, is_stopped, start_of, version_of}
-use Rattle.scenario_history.specs.Source.{no_group, setup_of, source_calls, with_source_call}
-use Rattle.scenario_history.specs.Refusals.{horizon_in, is_first, is_sending, is_started, own_refusal}
+use Rattle.scenario_history.specs.Steps.{group_of, info_with, is_stopped, version_of}
+use Rattle.scenario_history.specs.Source.{no_group, setup_of, source_calls}
+use Rattle.scenario_history.specs.Refusals.{horizon_in, is_first, is_sending, is_started}
 use Rattle.scenario_history.proofs.Legals.{Legal, Permitted, permitted, fails_not}
 
 -- ---- tests

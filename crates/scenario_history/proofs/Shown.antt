@@ -1,9 +1,9 @@
 -- What a sink hands up on a stream is one entry for each slot of each event that it closed.
-use Rattle.std.proofs.Common.{ℕ, zero, suc, ◌≡◌, ◌≢◌, ◌<◌, ◌≤◌, ◌+◌, ◌-◌, ◌*◌, ◌==◌, ◌||◌, cond, leb, eqb, not, Bool, true, false, List, [], ◌∷◌, ◌++◌, length, map, Option, None, Some, refl, sym, ◌∙◌, ap, subst, arith, inl, inr}
+use Rattle.std.proofs.Common.{ℕ, zero, suc, ◌≡◌, ◌≢◌, ◌<◌, ◌≤◌, ◌+◌, ◌-◌, ◌*◌, ◌==◌, cond, leb, eqb, not, Bool, true, false, List, [], ◌∷◌, ◌++◌, length, map, Option, None, Some, refl, sym, ◌∙◌, ap, subst, arith, inl, inr}
 use Rattle.std.specs.Prelude.{is_some}
 use Rattle.std.specs.List.{AllZip, Contains, filter, flat_map, range_with_len}
 use Rattle.std.proofs.Math.Nat.{add-mul}
-use Rattle.std.proofs.lemmas.Bool.{cases_Bool, cases_eq, cond-true, cond-false, eq-eqb, ne_eqb, eqb-true, false≢true}
+use Rattle.std.proofs.lemmas.Bool.{cases_Bool, cases_eq, cond-true, eq-eqb, ne_eqb, eqb-true, false≢true}
 use Rattle.std.proofs.lemmas.Grind.{flat_map-append}
 use Rattle.std.proofs.lemmas.List.{append-nil, append_cancel_left, map-append}
 use Rattle.std.proofs.lemmas.List.Elements.{filter-append}
@@ -13,14 +13,13 @@ use Rattle.big_info.specs.Schedule.{per_event_of}
 use Rattle.big_info.specs.Time.{iso_us_of}
 use Rattle.bcast_io.specs.TextLines.{TextLine}
 use Rattle.unit_outlets.specs.Account.{Account}
-use Rattle.unit_outlets.specs.Handed.{Handed, valid, lost}
+use Rattle.unit_outlets.specs.Handed.{Handed}
 use Rattle.line_runs.specs.Runs.{Accepted}
 use Rattle.sync_reference.specs.Reference.{anchor_of, unframed_reference_of, render_of}
 use Rattle.isoal_base.specs.Stays as stays
 use Rattle.isoal_base.specs.Stays.{Stay, opened}
 use Rattle.isoal_unframed.specs.Histories.{handed, heard_in, numbers_of, unit_at, units_of}
 use Rattle.isoal_unframed.specs.Units.{unit_of}
-use Rattle.isoal_unframed.specs.Struck.{Place}
 use Rattle.isoal_unframed.specs.Windows.{handed_of, time_of}
 use Rattle.source_machine.specs.Airs.{airs_of}
 use Rattle.source_machine.specs.Calls.{Setup, Call as SourceCall}
@@ -34,14 +33,14 @@ use Rattle.scenario_text.specs.declared.step.Step.{Step}
 use Rattle.scenario_text.specs.declared.step.Step.TheVariants as steps
 use Rattle.transcript_text.specs.declared.refusal.Refusal.TheVariants.{NoSuchSink, NoSuchBis}
 use Rattle.scenario_history.specs.Steps.{sinks_made}
-use Rattle.scenario_history.specs.Source.{Airs, setup_of, source_calls, event_back, pdu_in, open_event}
-use Rattle.scenario_history.specs.Sinks.{heard_on_air, tuning_of, ticked, with_sink_call, sink_calls}
-use Rattle.scenario_history.specs.Boxes.{SinkUnit, box_after, box_of, closing, closing_at, closing_by, handed_by, sink_numbers}
-use Rattle.scenario_history.specs.Refusals.{has_beyond, is_started, no_sink, refuse_if}
+use Rattle.scenario_history.specs.Source.{setup_of, source_calls, event_back, pdu_in, open_event}
+use Rattle.scenario_history.specs.Sinks.{heard_on_air, tuning_of, with_sink_call, sink_calls}
+use Rattle.scenario_history.specs.Boxes.{SinkUnit, box_after, box_of, closing_at, closing_by, handed_by, sink_numbers}
+use Rattle.scenario_history.specs.Refusals.{has_beyond, no_sink, refuse_if}
 use Rattle.scenario_history.specs.Lines.{rules_of, steps_of}
 use Rattle.scenario_history.specs.Laws.{Closed, IsOfSlot, closed_at, closed_by, closed_in, closed_since, handed_since, is_made, of_sink, shown_since, slot_time, slots_closed, slots_in, time_in}
 use Rattle.scenario_history.proofs.Legals.{Legal, LinesInRange, Permitted, fails_not, legal, neither, permitted}
-use Rattle.scenario_history.proofs.Phases.{Phase, Within, not_false, phase_of, true_not_false, within_before, within_itself}
+use Rattle.scenario_history.proofs.Phases.{Within, not_false, phase_of, true_not_false, within_before, within_itself}
 use Rattle.scenario_history.proofs.SourceHears.{TunedTo, air_place, same_place, tick_place, tuned_to}
 
 -- ---- a sink that is on a group has a box
@@ -73,7 +72,7 @@ housed_after boxes n (steps.Sink sink streams slots mtu) earlier calls permits b
 housed_after boxes n (steps.Drop sink) earlier calls permits before none = gone_housed (sink == n) (box_of n earlier) calls before none
 housed_after boxes n (steps.Tuned sink which) earlier calls permits before none =
     put_housed n sink (tuning_of earlier which) earlier calls
-    (has_box sink earlier (neither (no_sink sink earlier) (refuse_if (has_beyond (setup_of earlier).info which) NoSuchBis) permits.own).0) before none (sink == n) refl
+    (has_box sink earlier (neither (no_sink sink earlier) (refuse_if (has_beyond (setup_of earlier).info.num_bis which) NoSuchBis) permits.own).0) before none (sink == n) refl
 housed_after boxes n (steps.Hear sink back bis subevent) earlier calls permits before none =
     same_place (sink == n) (hear (event_back earlier back) bis subevent (pdu_in airs_of earlier (event_back earlier back) bis subevent) ∷ calls) calls refl ∙ before none
 housed_after boxes n (steps.Air sink lose) earlier calls permits before none =

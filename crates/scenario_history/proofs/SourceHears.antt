@@ -1,10 +1,9 @@
 -- Each PDU that a sink hears on a stream of its group is the source's own at its payload number, where none is injected.
-use Rattle.std.proofs.Common.{ℕ, zero, suc, ◌≡◌, ◌≢◌, ◌⊎◌, ◌<◌, ◌≤◌, ◌+◌, ◌-◌, ◌*◌, ◌/◌, ◌%◌, ◌^◌, ◌&&◌, ◌||◌, ◌==◌, not, cond, eqb, ltb, leb, Bool, true, false, List, [], ◌∷◌, ◌++◌, Option, None, Some, Result, Ok, Err, refl, sym, ◌∙◌, ap, subst, arith, inl, inr}
-use Rattle.std.specs.Prelude.{unwrap_or, is_some}
+use Rattle.std.proofs.Common.{ℕ, zero, suc, ◌≡◌, ◌≢◌, ◌⊎◌, ◌<◌, ◌≤◌, ◌+◌, ◌*◌, ◌/◌, ◌%◌, ◌^◌, ◌&&◌, ◌||◌, ◌==◌, cond, eqb, ltb, leb, Bool, true, false, List, [], ◌∷◌, ◌++◌, Option, None, Some, Result, Ok, Err, refl, sym, ◌∙◌, ap, subst, arith, inl, inr}
+use Rattle.std.specs.Prelude.{unwrap_or}
 use Rattle.std.specs.List.{AllByRecursion}
-use Rattle.std.specs.Option.{option_or, option_map}
 use Rattle.std.proofs.Math.Nat.{div-lt_iff_lt-mul}
-use Rattle.std.proofs.lemmas.Bool.{or_parts, eqb-true, eqb-false, ltb-false, leb-false, cases_Bool, false≢true}
+use Rattle.std.proofs.lemmas.Bool.{eqb-true, eqb-false, ltb-false, leb-false, false≢true}
 use Rattle.std.proofs.lemmas.Nat.{mod_below}
 use Rattle.std.proofs.lemmas.Option.{none-some, same_Some}
 use Rattle.big_info.specs.declared.info.BigInfo.{BigInfo}
@@ -18,7 +17,7 @@ use Rattle.iso_pdu.specs.Reading.{read_of}
 use Rattle.iso_pdu.specs.Spelling.{pdu}
 use Rattle.iso_pdu.proofs.PdusRead.{pdu-is, read_of-layout, read_of-spelled}
 use Rattle.isoal_base.specs.Hearing.{read_as, taken_of}
-use Rattle.isoal_base.specs.Slot.{fragments_of, laid, laid_unit}
+use Rattle.isoal_base.specs.Slot.{fragments_of, laid}
 use Rattle.isoal_base.specs.Stays as stays
 use Rattle.isoal_base.specs.Stays.{Stay, opened}
 use Rattle.isoal_unframed.specs.Struck.{Slots, air_at, FromSource}
@@ -27,21 +26,19 @@ use Rattle.radio_schedule.specs.PayloadNumber.{payload_number}
 use Rattle.radio_schedule.specs.declared.air.AirFault.{AirFault}
 use Rattle.sync_reference.specs.Reference.{anchor_of}
 use Rattle.source_machine.specs.Airs.{airs_of, content_at, pdu_of, slots_of}
-use Rattle.source_machine.specs.Calls.{Setup, Call as SourceCall, events, next_of, next_anchor_of}
+use Rattle.source_machine.specs.Calls.{Setup, Call as SourceCall, events, next_of}
 use Rattle.source_machine.specs.Faults.{air_fault}
-use Rattle.delegator_machine.specs.Calls.{Tuning, Call, tune, hear, tick, place}
-use Rattle.delegator_machine.specs.Streams.{number_of, stay_on, stream_calls, with_hear, with_tick}
+use Rattle.delegator_machine.specs.Calls.{Tuning, Call, tune, hear, place}
+use Rattle.delegator_machine.specs.Streams.{stay_on, stream_calls, with_hear}
 use Rattle.scenario_text.specs.declared.step.Step.{Step}
 use Rattle.scenario_text.specs.declared.step.Step.TheVariants as steps
-use Rattle.transcript_text.specs.declared.refusal.Refusal.{Refusal}
 use Rattle.transcript_text.specs.declared.refusal.Refusal.TheVariants.{NotOnAir}
 use Rattle.scenario_history.specs.Source.{setup_of, source_calls, performed, event_back, pdu_in, open_event}
 use Rattle.scenario_history.specs.Sinks.{Spot, spot_at, is_lost, hear_at, unless_lost, heard_on_air, tuning_of, ticked, with_sink_call, sink_calls}
-use Rattle.scenario_history.specs.Boxes.{box_of}
-use Rattle.scenario_history.specs.Refusals.{air_refusal, is_first, is_sending, is_started, no_place, no_sink, refuse_if}
+use Rattle.scenario_history.specs.Refusals.{air_refusal, is_started, no_place, no_sink, refuse_if}
 use Rattle.scenario_history.specs.Laws.{injected_since, is_injected, is_tuned}
 use Rattle.scenario_history.proofs.Legals.{Legal, Permitted, permitted, fails_not, neither}
-use Rattle.scenario_history.proofs.Phases.{Extends, Phase, Within, bounds_in, events_more, group_in, maps_none, not_false, phase_of, sends, setup_stays, started_stays, true_not_false, within_before}
+use Rattle.scenario_history.proofs.Phases.{Extends, Phase, Within, bounds_in, events_more, group_in, maps_none, phase_of, sends, setup_stays, started_stays, within_before}
 
 -- ---- the laws of the source
 

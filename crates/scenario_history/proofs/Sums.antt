@@ -1,6 +1,6 @@
 -- The sums of the boxes grow by the number and the octets of the valid units that went to each.
-use Rattle.std.proofs.Common.{ℕ, zero, suc, ◌≡◌, ◌≢◌, ◌<◌, ◌≤◌, ◌+◌, ◌==◌, ◌∙◌, Bool, true, false, List, [], ◌∷◌, length, map, sum, Option, None, Some, arith, refl, sym, ap, inl, inr, eq-eqb, if◌then◌else◌, get_or-set_other, length-set, slice_set}
-use Rattle.std.proofs.lemmas.Bool.{ne_eqb, cases_eq, cases_Bool}
+use Rattle.std.proofs.Common.{ℕ, ◌≡◌, ◌<◌, ◌+◌, ◌==◌, ◌∙◌, Bool, true, false, List, [], ◌∷◌, length, map, sum, Option, None, Some, arith, refl, sym, ap, inl, inr, eq-eqb, if◌then◌else◌, get_or-set_other, length-set}
+use Rattle.std.proofs.lemmas.Bool.{ne_eqb, cases_eq}
 use Rattle.std.proofs.lemmas.Grind.{get_or-set_at}
 use Rattle.std.proofs.lemmas.List.Sums.{sum-map, sum_by-cons}
 use Rattle.std.proofs.lemmas.Option.{none-some}

@@ -1,5 +1,5 @@
 -- The units law of a stay.
-use Rattle.std.proofs.Common.{ℕ, zero, suc, ◌≡◌, ◌<◌, ◌≤◌, ◌+◌, ◌-◌, ◌==◌, cond, ltb, eqb, Bool, true, false, List, [], ◌∷◌, ◌++◌, length, Option, None, Some, refl, sym, ◌∙◌, ap, subst, arith}
+use Rattle.std.proofs.Common.{ℕ, zero, suc, ◌≡◌, ◌≤◌, ◌+◌, ◌-◌, ◌==◌, cond, ltb, eqb, Bool, true, false, List, [], ◌∷◌, ◌++◌, length, Option, None, Some, refl, sym, ◌∙◌, ap, subst}
 use Rattle.std.specs.Prelude.{slice_get, is_some}
 use Rattle.std.specs.List.{AllByRecursion, Contains}
 use Rattle.std.proofs.lemmas.Bool.{false_from_ne_true, ltb-false, or_parts}
@@ -16,7 +16,7 @@ use Rattle.isoal_unframed.specs.Calls.{Call as StreamCall, accept, lay, lays, ac
 use Rattle.isoal_unframed.specs.Histories.{handed}
 use Rattle.isoal_unframed.specs.Struck.{Slots, FromSource, Struck}
 use Rattle.source_machine.specs.Airs.{airs_of, slots_of}
-use Rattle.source_machine.specs.Calls.{Setup, Call as SourceCall, laid_with, stream_calls as source_stream}
+use Rattle.source_machine.specs.Calls.{Call as SourceCall, laid_with, stream_calls as source_stream}
 use Rattle.source_machine.specs.declared.fault.GiveFault.{GiveFault}
 use Rattle.source_machine.specs.Faults.{give_fault}
 use Rattle.delegator_machine.specs.Calls.{Tuning, place}

@@ -1,6 +1,6 @@
 -- What each step prints. The lines are the scenario language's own; the units and times in them are after Core 5.2,
 -- volume 6 part G, sections 2.1 and 3.2.
-use Rattle.std.specs.Prelude.{ℕ, ◌+◌, List, [], ◌∷◌, ◌++◌, map, length, Option, None, Some}
+use Rattle.std.specs.Prelude.{ℕ, ◌+◌, List, [], ◌++◌, map, length, Option, None, Some}
 use Rattle.std.specs.List.{flat_map, sum}
 use Rattle.unit_outlets.specs.Account.{Account}
 use Rattle.delegator_machine.specs.Hearings.{hearing_of}
@@ -9,7 +9,7 @@ use Rattle.scenario_text.specs.declared.step.Step.{Step}
 use Rattle.scenario_text.specs.declared.step.Step.TheVariants.{Event, Inject, Sniff, Drop, Stop, End}
 use Rattle.scenario_history.specs.Source.{Airs, event_back, pdu_in}
 use Rattle.scenario_history.specs.Sinks.{sink_calls}
-use Rattle.scenario_history.specs.Boxes.{SinkUnit, sink_numbers, account_at, box_of, closing, valid_for, handed_up, handed_by}
+use Rattle.scenario_history.specs.Boxes.{SinkUnit, sink_numbers, account_at, box_of, closing, valid_for, handed_up}
 
 abbrev pub unit_line : SinkUnit → List ℕ
 unit_line unit = handed_line unit.sink unit.unit

@@ -1,10 +1,8 @@
 -- Why a step is refused after those before it: the first reason that holds, in the order of test. The refusals are the
 -- scenario language's own; those of a group, a unit and a place on the air are after Core 5.2, volume 6 parts B and G.
-use Rattle.std.specs.Prelude.{ℕ, ◌+◌, ◌==◌, ◌&&◌, ◌||◌, nat_lt, nat_le, not, is_some, unwrap_or, Bool, true, false, List, [], ◌∷◌, length, Option, None, Some, if◌then◌else◌}
+use Rattle.std.specs.Prelude.{ℕ, ◌==◌, ◌&&◌, ◌||◌, nat_lt, nat_le, not, is_some, unwrap_or, Bool, true, false, List, [], Option, None, Some, if◌then◌else◌}
 use Rattle.std.specs.List.{list_any}
 use Rattle.std.specs.Option.{option_or, option_map}
-use Rattle.big_info.specs.declared.info.BigInfo.{BigInfo}
-use Rattle.big_info.specs.declared.fault.GroupFault.{GroupFault}
 use Rattle.big_info.specs.Rows.{first_fault}
 use Rattle.radio_schedule.specs.declared.air.AirFault.{AirFault}
 use Rattle.radio_schedule.specs.declared.air.AirFault.TheVariants.{NoSuchBis as NoStreamThere, NoSuchSubevent as NoSubeventThere, NotOnAir as NotKept}

@@ -1,7 +1,7 @@
 -- The transcript of a text: what its lines bring, up to the first refusal, and the line of NoEnd where they have neither a
 -- refusal nor `end`. It is the scenario language's own.
-use Rattle.std.specs.Prelude.{ℕ, ◌+◌, Bool, true, false, List, [], ◌++◌, length, reverse, if◌then◌else◌}
-use Rattle.bcast_io.specs.TextLines.{TextLine, lines_of}
+use Rattle.std.specs.Prelude.{ℕ, ◌+◌, Bool, List, [], ◌++◌, length, reverse, if◌then◌else◌}
+use Rattle.bcast_io.specs.TextLines.{TextLine}
 use Rattle.unit_outlets.specs.Account.{Account}
 use Rattle.transcript_text.specs.declared.refusal.Refusal.{Refusal}
 use Rattle.transcript_text.specs.declared.refusal.Refusal.TheVariants.{NoEnd}

@@ -1,5 +1,5 @@
 use Rattle.scenario_history.proofs.Closes.{closes_rise}
-use Rattle.scenario_history.proofs.Numbers.{units_in_order}
+use Rattle.scenario_history.proofs.InOrder.{units_in_order}
 use Rattle.scenario_history.proofs.Shown.{slots_are_shown}
 use Rattle.scenario_history.proofs.laws.order_law.Goals as goal
 

@@ -1,4 +1,4 @@
-use Rattle.std.proofs.Common.{ℕ, Option, unwrap_or, ◌∙◌, ap}
+use Rattle.std.proofs.Common.{ℕ, Option, Ok, unwrap_or, ◌∙◌, ap}
 use Rattle.scenario_history.specs.Lines.{steps_of}
 use Rattle.replay_command.specs.Versions.{number_of}
 use Rattle.replay_command.proofs.Starts.{version_is}
