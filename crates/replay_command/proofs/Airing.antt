@@ -1,5 +1,5 @@
 -- The PDUs of the air that a sink hears.
-use Rattle.std.proofs.Common.{◌≡◌, ℕ, zero, suc, ◌+◌, ◌-◌, ◌*◌, ◌/◌, ◌%◌, ◌<◌, ◌≤◌, ◌==◌, ◌||◌, Bool, true, false, not, is_some, nat_le, if◌then◌else◌, List, [], ◌∷◌, Option, None, Some, option_map, unwrap_or, refl, sym, ◌∙◌, ap, subst, add-one, eq-eqb, ne_eqb, arith}
+use Rattle.std.proofs.Common.{◌≡◌, ℕ, zero, suc, ◌+◌, ◌-◌, ◌*◌, ◌/◌, ◌%◌, ◌<◌, ◌≤◌, ◌==◌, ◌||◌, Bool, true, false, not, nat_le, if◌then◌else◌, List, [], Option, None, Some, option_map, unwrap_or, refl, sym, ◌∙◌, ap, subst, add-one, eq-eqb, ne_eqb, arith}
 use Rattle.std.proofs.lemmas.Bool.{le-ltb}
 use Rattle.std.proofs.lemmas.Nat.{div_below, mod_below}
 use Rattle.std.specs.Option.{option_or}
@@ -14,7 +14,7 @@ use Rattle.transcript_text.specs.declared.refusal.Refusal.{Refusal}
 use Rattle.transcript_text.specs.declared.refusal.Refusal.TheVariants.{NotOnAir, Order}
 use Rattle.scenario_text.specs.declared.step.Step.{Step}
 use Rattle.scenario_text.specs.declared.step.Step.TheVariants.{Hear, Air, Inject}
-use Rattle.scenario_history.specs.Source.{source_calls, setup_of, event_back, pdu_in}
+use Rattle.scenario_history.specs.Source.{source_calls, event_back, pdu_in}
 use Rattle.scenario_history.specs.Sinks.{heard_on_air}
 use Rattle.scenario_history.specs.Refusals.{is_first, is_started, refuse_if, no_place, air_refusal}
 use Rattle.replay_command.specs.declared.sink.Sink.{Sink}

@@ -1,7 +1,7 @@
 -- A set of streams against those of a group, index by index.
-use Rattle.std.proofs.Common.{◌≡◌, ℕ, ◌+◌, ◌-◌, ◌≤◌, List, [], ◌∷◌, ◌++◌, Bool, true, false, ◌||◌, ◌&&◌, cond, nat_lt, refl, sym, ◌∙◌, ap, subst, arith}
+use Rattle.std.proofs.Common.{◌≡◌, ℕ, ◌+◌, ◌-◌, ◌≤◌, List, [], ◌∷◌, ◌++◌, Bool, true, false, ◌||◌, ◌&&◌, cond, nat_lt, refl, sym, ◌∙◌, ap, arith}
 use Rattle.std.specs.List.{filter, list_any, range_with_len}
-use Rattle.delegator_machine.specs.Streams.{is_in, streams_of}
+use Rattle.delegator_machine.specs.Streams.{is_in}
 use Rattle.scenario_history.specs.Refusals.{has_beyond}
 use Rattle.replay_command.specs.Beyond.{beyond_at}
 use Rattle.replay_command.proofs.Closings.{range_append}
@@ -21,7 +21,7 @@ any_append : (num_bis which : ℕ) (xs ys : List ℕ)
 any_append num_bis which [] ys = refl
 any_append num_bis which (x ∷ xs) ys =
     elim (is_in which x) as (λ b. list_any (λ bis. nat_lt num_bis bis) (cond b (x ∷ filter (is_in which) (xs ++ ys)) (filter (is_in which) (xs ++ ys)))
-        ≡ (list_any (λ bis. nat_lt num_bis bis) (cond b (x ∷ filter (is_in which) xs) (filter (is_in which) xs)) || list_any (λ bis. nat_lt num_bis bis) (filter (is_in which) ys))) [
+    ≡ (list_any (λ bis. nat_lt num_bis bis) (cond b (x ∷ filter (is_in which) xs) (filter (is_in which) xs)) || list_any (λ bis. nat_lt num_bis bis) (filter (is_in which) ys))) [
       | true ↦ ap (λ b. nat_lt num_bis x || b) (any_append num_bis which xs ys) ∙ sym (or_assoc (nat_lt num_bis x) _ _)
       | false ↦ any_append num_bis which xs ys
     ]

@@ -1,5 +1,5 @@
 -- The steps that close an event.
-use Rattle.std.proofs.Common.{◌≡◌, ◌==◌, ℕ, ◌+◌, ◌-◌, ◌<◌, ◌≤◌, List, [], ◌∷◌, ◌++◌, length, true, false, not, ◌||◌, ◌⊎◌, inl, inr, Option, None, Some, Result, Ok, Err, OnOk, refl, sym, ◌∙◌, ap, subst, append_assoc, is_some, option_map, slice_get, cond, Bool, arith}
+use Rattle.std.proofs.Common.{◌≡◌, ◌==◌, ℕ, ◌-◌, ◌<◌, ◌≤◌, List, [], ◌∷◌, ◌++◌, length, true, false, not, inr, Option, None, Some, Result, Ok, Err, refl, sym, ◌∙◌, ap, subst, append_assoc, is_some, option_map, slice_get, cond, arith}
 use Rattle.std.specs.List.{flat_map}
 use Rattle.std.proofs.lemmas.Result.{on_ok_weaker}
 use Rattle.unit_outlets.specs.Account.{Account}
@@ -46,10 +46,12 @@ pub ends_after : (boxes : ℕ → Option ℕ) (calls : ℕ → List Call) (close
     (text mid told : List ℕ) (before after : List Account)
     → ClosesAt boxes calls closed sinks gathered text mid before after (Ok tt) → told ≡ mid ++ sums_where after boxes sink_numbers
     → EndsAt boxes calls closed sinks gathered text told before after (Ok tt)
-ends_after boxes calls closed sinks gathered text mid told before after c sums =
-    (sums ∙ ap (λ front. front ++ sums_where after boxes sink_numbers) c.hands.0
-        ∙ append_assoc text (unit_lines (closings_at closed boxes calls)) (sums_where after boxes sink_numbers),
-     c.hands.1, c.is_ticked)
+ends_after boxes calls closed sinks gathered text mid told before after c sums = (
+  sums ∙ ap (λ front. front ++ sums_where after boxes sink_numbers) c.hands.0
+      ∙ append_assoc text (unit_lines (closings_at closed boxes calls)) (sums_where after boxes sink_numbers),
+  c.hands.1,
+  c.is_ticked,
+)
 
 -- ---- the steps of the machine
 
@@ -174,8 +176,8 @@ pub end_prints : (starts : List Account) (steps : List Step) (units : List SinkU
     → told ≡ text ++ output_of airs_of starts steps EndStep
 end_prints starts steps units before after text told boxes is a t =
     let all : after ≡ accounts_after starts (handed_up airs_of steps ++ closing airs_of steps) =
-        a ∙ ap (accounts_after before) is ∙ ap (λ accounts. accounts_after accounts (closing airs_of steps)) boxes.accounts_are
-        ∙ sym (accounts_append (handed_up airs_of steps) (closing airs_of steps) starts) in
+    a ∙ ap (accounts_after before) is ∙ ap (λ accounts. accounts_after accounts (closing airs_of steps)) boxes.accounts_are
+    ∙ sym (accounts_append (handed_up airs_of steps) (closing airs_of steps) starts) in
     t ∙ ap (λ us. text ++ (unit_lines us ++ sums_where after (boxes_in steps) sink_numbers)) is
     ∙ ap (λ accounts. text ++ (unit_lines (closing airs_of steps) ++ sums_where accounts (boxes_in steps) sink_numbers)) all
     ∙ ap (λ sums. text ++ (unit_lines (closing airs_of steps) ++ sums)) (sums_same starts steps (handed_up airs_of steps ++ closing airs_of steps) sink_numbers boxes.room)
@@ -186,20 +188,21 @@ pub end_meets : (starts : List Account) (steps : List Step) (closed : Option ℕ
     → EndsAt (boxes_in steps) (calls_in steps) closed sinks new.gathered text told before after r
     → Meets starts steps EndStep new text told before after r
 end_meets starts steps closed old new sinks text told before after (Ok x) stands later is_open boxes items v p st ov ou c =
-    let is = closing_is steps closed is_open in
-    (rw later refl,
-     record {
-       first = ap is_some v ∙ stands.first ∙ ap not later;
-       version = ap (option_map number_of) v ∙ stands.version;
-       phase = subst (PhaseIs (EndStep ∷ steps)) (sym p) stands.phase;
-       stopped = st ∙ stands.stopped;
-       over = ov;
-       boxes = ou ∙ stands.boxes;
-       sinks = let E : List (Option Sink) → Type 0 = λ s. EntriesAre (boxes_in (EndStep ∷ steps)) (calls_in (EndStep ∷ steps)) s in subst E (sym items) (all_ticked EndStep steps closed sinks (end_ticks steps) is_open c.2.entries);
-       gathered = c.2.empty;
-     },
-     end_prints starts steps (closings_at closed (boxes_in steps) (calls_in steps)) before after text told boxes is c.1 c.0,
-     c.1 ∙ ap (accounts_after before) is)
+    let is = closing_is steps closed is_open in (
+      rw later refl,
+      record {
+        first = ap is_some v ∙ stands.first ∙ ap not later;
+        version = ap (option_map number_of) v ∙ stands.version;
+        phase = subst (PhaseIs (EndStep ∷ steps)) (sym p) stands.phase;
+        stopped = st ∙ stands.stopped;
+        over = ov;
+        boxes = ou ∙ stands.boxes;
+        sinks = let E : List (Option Sink) → Type 0 = λ s. EntriesAre (boxes_in (EndStep ∷ steps)) (calls_in (EndStep ∷ steps)) s in subst E (sym items) (all_ticked EndStep steps closed sinks (end_ticks steps) is_open c.2.entries);
+        gathered = c.2.empty;
+      },
+      end_prints starts steps (closings_at closed (boxes_in steps) (calls_in steps)) before after text told boxes is c.1 c.0,
+      c.1 ∙ ap (accounts_after before) is,
+    )
 end_meets starts steps closed old new sinks text told before after (Err (Refused reason)) stands later is_open boxes items v p st ov ou c = absurd c
 end_meets starts steps closed old new sinks text told before after (Err OutletFault) stands later is_open boxes items v p st ov ou c =
     (rw later refl, (let P : List SinkUnit → Type 0 = λ units. BoxFails units text told before after in subst P (closing_is steps closed is_open) c))

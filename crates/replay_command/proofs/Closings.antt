@@ -1,5 +1,5 @@
 -- Closing an event for one sink after the other.
-use Rattle.std.proofs.Common.{◌≡◌, ◌≢◌, ℕ, zero, suc, ◌+◌, ◌-◌, ◌<◌, ◌≤◌, List, [], ◌∷◌, ◌++◌, length, map, set, refl, sym, ◌∙◌, ap, subst, append_assoc, slice_get, slice_set, get_or, arith, add-one, Option, Result, Ok, Err, Some, ◌⊎◌, inl, inr}
+use Rattle.std.proofs.Common.{◌≡◌, ◌≢◌, ℕ, zero, suc, ◌+◌, ◌<◌, ◌≤◌, List, [], ◌∷◌, ◌++◌, length, refl, sym, ◌∙◌, ap, subst, slice_get, slice_set, get_or, arith, Option, Ok, Err, Some, ◌⊎◌, inl, inr}
 use Rattle.std.specs.List.{flat_map, range_with_len}
 use Rattle.std.proofs.lemmas.Grind.{flat_map-append}
 use Rattle.std.proofs.lemmas.List.{append-nil}
@@ -13,7 +13,7 @@ use Rattle.replay_command.specs.declared.sink.Sink.{Sink}
 use Rattle.replay_command.specs.declared.stop.Stop.{Stop}
 use Rattle.replay_command.specs.Machines.{EntryIs, EntriesAre}
 use Rattle.replay_command.specs.Handing.{Hands}
-use Rattle.replay_command.specs.Closing.{SinkTicked, SinksTicked, SinkCloses, Closes, Between, closings, ticks}
+use Rattle.replay_command.specs.Closing.{SinkCloses, Closes, Between, closings}
 use Rattle.replay_command.proofs.Handings.{hands_then, hands_stop}
 
 pub range_append : (a m n : ℕ) → range_with_len a (m + n) ≡ range_with_len a m ++ range_with_len (a + m) n

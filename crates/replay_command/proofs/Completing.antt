@@ -1,25 +1,23 @@
 -- Which statuses come, and what the boxes took of a text that its source tells.
-use Rattle.std.proofs.Common.{◌≡◌, ◌≢◌, ℕ, ◌+◌, ◌^◌, ◌<◌, ◌≤◌, zero, suc, Bool, true, false, eq-eqb, List, [], ◌∷◌, ◌++◌, length, reverse, map, refl, sym, ap, subst, ◌∙◌, append_assoc, arith, Option, None, Some, Result, Ok, Err, slice_get, slice_set, length-append, IsTrue}
+use Rattle.std.proofs.Common.{◌≡◌, ◌≢◌, ℕ, ◌+◌, ◌^◌, ◌<◌, zero, suc, Bool, true, eq-eqb, List, [], ◌∷◌, ◌++◌, length, reverse, map, refl, sym, ap, subst, ◌∙◌, append_assoc, arith, Option, None, Some, slice_get, slice_set, length-append, IsTrue}
 use Rattle.std.specs.Prelude.{option_map, sum}
 use Rattle.std.proofs.lemmas.List.{append-nil, map-append}
 use Rattle.std.proofs.lemmas.List.Sums.{sum_by-cons, sum_by-append}
 use Rattle.std.specs.Io.KnownBytes.{Consumes, IsAtEnd}
 use Rattle.bcast_io.specs.Faults.{Rose as OutsideRose}
-use Rattle.bcast_io.specs.TextLines.{TextLine, lines_of}
+use Rattle.bcast_io.specs.TextLines.{lines_of}
 use Rattle.unit_outlets.specs.Account.{Account, Fits}
 use Rattle.unit_outlets.specs.Faults.{Rose}
-use Rattle.unit_outlets.specs.Handed.{Handed, valid}
-use Rattle.unit_outlets.specs.Took.{TookAt}
+use Rattle.unit_outlets.specs.Handed.{valid}
 use Rattle.source_machine.specs.Airs.{airs_of}
-use Rattle.transcript_text.specs.declared.refusal.Refusal.{Refusal}
-use Rattle.line_runs.specs.Runs.{End, through, refused}
+use Rattle.line_runs.specs.Runs.{through, refused}
 use Rattle.scenario_history.specs.Boxes.{SinkUnit, accounts_after, onto_valid, valid_for, with_units, Took}
 use Rattle.scenario_history.specs.Lines.{handed_on}
 use Rattle.scenario_history.specs.Transcript.{transcript_end, units_of}
 use Rattle.scenario_history.proofs.BoxLaws.{took_all, valid_append}
 use Rattle.replay_command.specs.declared.status.Status.{Status}
 use Rattle.replay_command.specs.declared.status.Status.TheVariants as statuses
-use Rattle.replay_command.specs.Replayed.{MayFollow, TextRead, Done, RefusedAt, OutletFaulted}
+use Rattle.replay_command.specs.Replayed.{MayFollow, TextRead, OutletFaulted}
 use Rattle.replay_command.specs.Ended.{Ended, IsDoneOrMemory, IsNoFault, IsWhole, AheadOf, NoneFailed, Holds, RoomFor, RoomForText, Complete}
 use Rattle.replay_command.proofs.Endings.{units_all}
 use Rattle.replay_command.proofs.LineEndings.{units_line}

@@ -1,35 +1,32 @@
 -- How a call of `replay` ends at a line, by what was run and written before it.
-use Rattle.std.proofs.Common.{◌≡◌, ◌≢◌, ℕ, ◌+◌, ◌<◌, ◌≤◌, Bool, true, false, cond, List, [], ◌∷◌, ◌++◌, length, reverse, refl, sym, ap, subst, ◌∙◌, append_assoc, arith, Option, None, Some, Result, Ok, Err, length-append, inl, inr, ◌⊎◌}
-use Rattle.std.proofs.lemmas.List.{append-nil, length-reverse, reverse-append, reverse-reverse}
+use Rattle.std.proofs.Common.{◌≡◌, ℕ, ◌+◌, Bool, true, false, List, [], ◌∷◌, ◌++◌, length, reverse, refl, sym, ap, subst, ◌∙◌, append_assoc, arith, Option, None, Some, length-append, inl, inr}
+use Rattle.std.proofs.lemmas.List.{append-nil, length-reverse, reverse-reverse}
 use Rattle.std.proofs.lemmas.Bool.{false≢true}
 use Rattle.std.specs.Io.KnownBytes.{Appends, Keeps}
-use Rattle.bcast_io.specs.TextLines.{TextLine, lines_of, lines_from}
+use Rattle.bcast_io.specs.TextLines.{TextLine, lines_of}
 use Rattle.bcast_io.specs.Writing.{AppendsFront, AppendsShort}
-use Rattle.bcast_io.proofs.Transfers.{Appends-nothing, Appends-then, AppendsFront-of_more, AppendsFront-then, AppendsFront-nothing, Consumes-nothing}
-use Rattle.bcast_io.proofs.LineLaws.{lines-nothing}
+use Rattle.bcast_io.proofs.Transfers.{Appends-then, AppendsFront-then, AppendsFront-nothing, Consumes-nothing}
 use Rattle.unit_outlets.specs.Account.{Account}
 use Rattle.source_machine.specs.Airs.{airs_of}
 use Rattle.transcript_text.specs.declared.refusal.Refusal.{Refusal}
 use Rattle.transcript_text.specs.declared.refusal.Refusal.TheVariants.{NoEnd}
 use Rattle.transcript_text.specs.Lines.{refusal_line}
-use Rattle.line_runs.specs.Runs.{End, through, refused, out, out_unless, end_of, end_unless, accepted_of, accepted_unless, brought, Accepted, number_after}
-use Rattle.line_runs.proofs.RunLaws.{reverse_onto, out_accepted, end_accepted, accepted_accepted}
+use Rattle.line_runs.specs.Runs.{through, refused, out, out_unless, end_of, end_unless, accepted_of, accepted_unless, brought, Accepted}
+use Rattle.line_runs.proofs.RunLaws.{out_accepted, end_accepted, accepted_accepted}
 use Rattle.scenario_text.specs.declared.step.Step.{Step}
 use Rattle.scenario_history.specs.Steps.{is_over}
-use Rattle.scenario_history.specs.Boxes.{SinkUnit, accounts_after, handed_up, Took}
-use Rattle.scenario_history.specs.Lines.{Said, a_step, nothing, unsaid, rules_of, steps_of, said_after, handed_on, handed_said, with_said, refusal_said}
+use Rattle.scenario_history.specs.Boxes.{SinkUnit, handed_up, Took}
+use Rattle.scenario_history.specs.Lines.{Said, a_step, nothing, unsaid, rules_of, steps_of, said_after, handed_on, handed_said, with_said}
 use Rattle.scenario_history.specs.Transcript.{out_of, end_after, last_line_after, last_end_after, has_end, transcript_of, transcript_end, units_of}
 use Rattle.scenario_history.proofs.BoxLaws.{took_all}
 use Rattle.replay_command.specs.declared.status.Status.{Status}
 use Rattle.replay_command.specs.declared.status.Status.TheVariants as statuses
 use Rattle.replay_command.specs.declared.machine.Machine.{Machine}
-use Rattle.replay_command.specs.Handing.{BoxFails, CutShort}
 use Rattle.replay_command.specs.Meets.{BoxesStand}
-use Rattle.replay_command.specs.LineMeets.{LinesStand, refusal_at, output_at}
-use Rattle.replay_command.specs.Replayed.{MayFollow, TextRead, Comes, Done, RefusedAt, ReadFaulted, brought_by, BoxesCut, BoxFailed, Broken, OutletFaulted, ReadsAhead, CutAt, NoEndCut, WriteCut}
+use Rattle.replay_command.specs.LineMeets.{refusal_at, output_at}
+use Rattle.replay_command.specs.Replayed.{MayFollow, Done, ReadFaulted, brought_by, Broken}
 use Rattle.replay_command.specs.Ended.{Ended}
 use Rattle.replay_command.specs.Between.{TextIs, RunTo, Refuses}
-use Rattle.replay_command.proofs.Handings.{accounts_append}
 
 -- ---- the transcript over an accepted history
 

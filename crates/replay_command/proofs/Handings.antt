@@ -1,10 +1,9 @@
 -- Units that go to their boxes one after the other.
-use Rattle.std.proofs.Common.{◌≡◌, ℕ, ◌+◌, ◌<◌, ◌≤◌, List, [], ◌∷◌, ◌++◌, length, map, take, drop, set, refl, sym, ◌∙◌, ap, subst, append_assoc, slice_get, slice_set, get_or, arith, Result, Ok, Err, Some, zero, suc}
-use Rattle.std.specs.List.{flat_map}
+use Rattle.std.proofs.Common.{◌≡◌, ℕ, ◌+◌, ◌<◌, ◌≤◌, List, [], ◌∷◌, ◌++◌, length, map, take, drop, refl, sym, ◌∙◌, ap, subst, append_assoc, slice_get, slice_set, get_or, arith, Result, Ok, Err, Some, zero, suc}
 use Rattle.std.proofs.lemmas.List.{append-nil, map-append, take-append-drop, take_more}
 use Rattle.std.proofs.lemmas.Option.{get_or_from_slice_get}
 use Rattle.unit_outlets.specs.Account.{Account, with_unit}
-use Rattle.unit_outlets.specs.Handed.{Handed, valid, lost}
+use Rattle.unit_outlets.specs.Handed.{valid, lost}
 use Rattle.unit_outlets.specs.Took.{TookAt}
 use Rattle.unit_outlets.specs.declared.fault.OutletFault.{OutletFault as Refusal}
 use Rattle.unit_outlets.specs.declared.fault.OutletFault.TheVariants.{Failed, Memory as NoMemory}
@@ -14,7 +13,7 @@ use Rattle.replay_command.specs.declared.stop.Stop.{Stop}
 use Rattle.replay_command.specs.declared.stop.Stop.TheVariants.{Refused, OutletFault, Memory}
 use Rattle.replay_command.specs.Gathering.{handed_of, units_for}
 use Rattle.replay_command.specs.declared.gathered.HandedUnit.{HandedUnit}
-use Rattle.replay_command.specs.Handing.{BoxTakes, BoxFails, CutShort, Hands}
+use Rattle.replay_command.specs.Handing.{BoxTakes, Hands}
 
 pub set_past : {A : Type 0} (xs : List A) (i : ℕ) (x : A) → length xs ≤ i → slice_set xs i x ≡ xs
 set_past [] i x h = refl

@@ -1,15 +1,13 @@
 -- How a call of `replay` goes on or ends once a line was read.
-use Rattle.std.proofs.Common.{◌≡◌, ◌≢◌, ℕ, ◌+◌, ◌<◌, ◌≤◌, Bool, true, false, List, [], ◌∷◌, ◌++◌, length, reverse, refl, sym, ap, subst, ◌∙◌, append_assoc, arith, Option, None, Some, Result, Ok, Err, length-append, inl, inr, ◌⊎◌}
+use Rattle.std.proofs.Common.{◌≡◌, ℕ, ◌+◌, Bool, true, false, List, [], ◌∷◌, ◌++◌, length, reverse, refl, sym, ap, subst, ◌∙◌, append_assoc, arith, Option, None, Some, length-append, inl, inr, ◌⊎◌}
 use Rattle.std.proofs.lemmas.List.{append-nil, reverse-append}
 use Rattle.std.specs.Io.KnownBytes.{Appends}
 use Rattle.bcast_io.specs.TextLines.{TextLine, lines_of}
 use Rattle.bcast_io.specs.Writing.{AppendsFront, AppendsShort}
 use Rattle.bcast_io.proofs.Transfers.{Appends-then, AppendsFront-of_more, AppendsFront-then}
 use Rattle.unit_outlets.specs.Account.{Account}
-use Rattle.unit_outlets.specs.Handed.{valid}
 use Rattle.source_machine.specs.Airs.{airs_of}
 use Rattle.transcript_text.specs.declared.refusal.Refusal.{Refusal}
-use Rattle.transcript_text.specs.declared.refusal.Refusal.TheVariants.{NoEnd}
 use Rattle.transcript_text.specs.Lines.{refusal_line}
 use Rattle.line_runs.specs.Runs.{refused, out, accepted_of, accepted_unless, brought, Accepted}
 use Rattle.scenario_history.specs.Boxes.{SinkUnit, accounts_after, handed_up, handed_by, Took}
@@ -22,14 +20,12 @@ use Rattle.scenario_text.specs.declared.step.Step.TheVariants as kinds
 use Rattle.replay_command.specs.declared.status.Status.{Status}
 use Rattle.replay_command.specs.declared.status.Status.TheVariants as statuses
 use Rattle.replay_command.specs.declared.machine.Machine.{Machine}
-use Rattle.replay_command.specs.declared.stop.Stop.{Stop}
-use Rattle.replay_command.specs.declared.stop.Stop.TheVariants.{Refused, OutletFault, Memory}
 use Rattle.replay_command.specs.Handing.{BoxFails, CutShort}
 use Rattle.replay_command.specs.Meets.{BoxesStand}
-use Rattle.replay_command.specs.LineMeets.{LinesStand, LineMeets, refusal_at, output_at}
-use Rattle.replay_command.specs.Replayed.{MayFollow, TextRead, Comes, RefusedAt, brought_by, BoxesCut, BoxFailed, Broken, OutletFaulted, ReadsAhead, CutAt, WriteCut}
+use Rattle.replay_command.specs.LineMeets.{LinesStand, refusal_at, output_at}
+use Rattle.replay_command.specs.Replayed.{Comes, brought_by, BoxesCut, BoxFailed, Broken, OutletFaulted, ReadsAhead, CutAt}
 use Rattle.replay_command.specs.Ended.{Ended}
-use Rattle.replay_command.specs.Between.{RunTo, Refuses, Puts, StepRuns}
+use Rattle.replay_command.specs.Between.{Refuses, Puts, StepRuns}
 use Rattle.replay_command.proofs.Handings.{accounts_append, lines_append}
 use Rattle.replay_command.proofs.Endings.{out_then, out_all, out_line, out_refused, ends_refused, writes_refused, units_then, units_all, units_refused, units_rest, handed_line, took_history, front_of_short, front_none}
 use Rattle.replay_command.proofs.RefusalLaws.{never_no_end}

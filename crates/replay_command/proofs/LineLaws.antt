@@ -1,5 +1,5 @@
 -- A line by its step.
-use Rattle.std.proofs.Common.{◌≡◌, ℕ, zero, suc, ◌+◌, ◌<◌, ◌≤◌, nat_le, List, [], ◌∷◌, ◌++◌, length, replicate, true, false, Bool, ◌⊎◌, inl, inr, Option, None, Some, Result, Ok, Err, refl, sym, ◌∙◌, ap, subst, is_some, slice_get, arith}
+use Rattle.std.proofs.Common.{◌≡◌, ℕ, zero, suc, ◌+◌, ◌<◌, ◌≤◌, nat_le, List, [], ◌∷◌, ◌++◌, length, replicate, true, false, Bool, inl, inr, Option, None, Some, Result, Ok, Err, refl, sym, ◌∙◌, ap, subst, is_some, slice_get, arith}
 use Rattle.std.specs.Option.{option_or}
 use Rattle.std.proofs.lemmas.Bool.{leb-false}
 use Rattle.bcast_io.specs.TextLines.{TextLine, plain}
@@ -21,7 +21,7 @@ use Rattle.replay_command.specs.declared.stop.Stop.TheVariants.{Refused, OutletF
 use Rattle.replay_command.specs.Machines.{Stands}
 use Rattle.replay_command.specs.Meets.{BoxesStand, StepMeets}
 use Rattle.replay_command.specs.Handing.{BoxFails, CutShort}
-use Rattle.replay_command.specs.LineMeets.{LinesStand, LineMeets, refusal_at}
+use Rattle.replay_command.specs.LineMeets.{LineMeets}
 use Rattle.replay_command.proofs.Handings.{accounts_append}
 
 last_none : {A : Type 0} (a b : Option A) → option_or a b ≡ None → b ≡ None
@@ -69,23 +69,27 @@ boxes_go_on starts before after earlier made boxes e a = record {
 said_meets : (starts : List Account) (lines : List TextLine) (line : TextLine) (made : Step) (new : Machine) (text told : List ℕ) (before after : List Account)
     (r : Result (Unit {0}) Stop) → BoxesStand starts (steps_of lines) before → said_after lines line ≡ a_step made
     → StepMeets starts (steps_of lines) made new text told before after r → LineMeets starts lines line new text told before after r
-said_meets starts lines line made new text told before after (Ok x) boxes is m =
-    (ap (refusal_said airs_of (length starts) (steps_of lines)) is ∙ m.0,
-     record {
-       stands = (let P : List Step → Type 0 = λ s. Stands s new in subst P (sym (ap (λ s. with_said s (steps_of lines)) is)) m.1);
-       boxes = (let P : List Step → Type 0 = λ s. BoxesStand starts s after in subst P (sym (ap (λ s. with_said s (steps_of lines)) is))
-           (boxes_go_on starts before after (steps_of lines) made boxes m.0 m.3));
-     },
-     m.2 ∙ ap (λ s. text ++ output_said airs_of starts (steps_of lines) s) (sym is))
+said_meets starts lines line made new text told before after (Ok x) boxes is m = (
+  ap (refusal_said airs_of (length starts) (steps_of lines)) is ∙ m.0,
+  record {
+    stands = (let P : List Step → Type 0 = λ s. Stands s new in subst P (sym (ap (λ s. with_said s (steps_of lines)) is)) m.1);
+    boxes = (let P : List Step → Type 0 = λ s. BoxesStand starts s after in subst P (sym (ap (λ s. with_said s (steps_of lines)) is))
+        (boxes_go_on starts before after (steps_of lines) made boxes m.0 m.3));
+  },
+  m.2 ∙ ap (λ s. text ++ output_said airs_of starts (steps_of lines) s) (sym is),
+)
 said_meets starts lines line made new text told before after (Err (Refused reason)) boxes is m =
     (ap (refusal_said airs_of (length starts) (steps_of lines)) is ∙ m.0, m.1, m.2)
-said_meets starts lines line made new text told before after (Err OutletFault) boxes is m =
-    (ap (refusal_said airs_of (length starts) (steps_of lines)) is ∙ m.0,
-     (let P : Said → Type 0 = λ s. BoxFails (handed_said airs_of (steps_of lines) s) text told before after in subst P (sym is) m.1))
+said_meets starts lines line made new text told before after (Err OutletFault) boxes is m = (
+  ap (refusal_said airs_of (length starts) (steps_of lines)) is ∙ m.0,
+  (let P : Said → Type 0 = λ s. BoxFails (handed_said airs_of (steps_of lines) s) text told before after in subst P (sym is) m.1),
+)
 said_meets starts lines line made new text told before after (Err Memory) boxes is (inl same) = inl same
 said_meets starts lines line made new text told before after (Err Memory) boxes is (inr m) =
-    inr (ap (refusal_said airs_of (length starts) (steps_of lines)) is ∙ m.0,
-     (let P : Said → Type 0 = λ s. CutShort (handed_said airs_of (steps_of lines) s) before after in subst P (sym is) m.1))
+    inr (
+      ap (refusal_said airs_of (length starts) (steps_of lines)) is ∙ m.0,
+      (let P : Said → Type 0 = λ s. CutShort (handed_said airs_of (steps_of lines) s) before after in subst P (sym is) m.1),
+    )
 
 pub line_meets : (starts : List Account) (lines : List TextLine) (line : List ℕ) (version : ℕ) (made : Step) (new : Machine) (text told : List ℕ) (before after : List Account)
     (r : Result (Unit {0}) Stop) → BoxesStand starts (steps_of lines) before → version ≡ version_of (steps_of lines) → read_of version line ≡ Ok (Some made)

@@ -1,15 +1,13 @@
 -- What the loop of `replay` does at a line, put together.
-use Rattle.std.proofs.Common.{◌≡◌, ◌≢◌, ℕ, ◌+◌, ◌<◌, ◌≤◌, Bool, true, false, List, [], ◌∷◌, ◌++◌, length, refl, sym, ap, subst, ◌∙◌, arith, Option, None, Some, Result, Ok, Err, inl, inr}
+use Rattle.std.proofs.Common.{◌≡◌, ℕ, ◌+◌, ◌≤◌, false, List, [], ◌∷◌, length, refl, sym, subst, arith, Option, None, Some, Result, Ok, Err, inl, inr}
 use Rattle.bcast_io.specs.TextLines.{TextLine, plain, too_long, past, text_limit}
 use Rattle.bcast_io.specs.Reading.{Reading, lines_left}
 use Rattle.bcast_io.specs.declared.line_reader.LineRead.{LineRead}
-use Rattle.bcast_io.specs.declared.line_reader.LineRead.TheVariants.{Line, LineTooLong, TextTooLong, End}
+use Rattle.bcast_io.specs.declared.line_reader.LineRead.TheVariants.{Line, LineTooLong, TextTooLong}
 use Rattle.bcast_io.specs.declared.source.Failed.{Failed}
 use Rattle.unit_outlets.specs.Account.{Account}
 use Rattle.transcript_text.specs.declared.refusal.Refusal.{Refusal}
 use Rattle.transcript_text.specs.declared.refusal.Refusal.TheVariants as refusals
-use Rattle.scenario_history.specs.Steps.{is_over}
-use Rattle.scenario_history.specs.Lines.{steps_of}
 use Rattle.replay_command.specs.declared.status.Status.{Status}
 use Rattle.replay_command.specs.declared.status.Status.TheVariants as statuses
 use Rattle.replay_command.specs.declared.machine.Machine.{Machine}
@@ -18,7 +16,7 @@ use Rattle.replay_command.specs.declared.stop.Stop.TheVariants.{Refused, OutletF
 use Rattle.replay_command.specs.LineMeets.{LinesStand, LineMeets}
 use Rattle.replay_command.specs.Replayed.{Comes, ReadsAhead, Broken}
 use Rattle.replay_command.specs.Ended.{Ended}
-use Rattle.replay_command.specs.Between.{ReadTo, TextIs, NextIs, RunTo, Refuses, Puts, StepRuns, LineRuns}
+use Rattle.replay_command.specs.Between.{ReadTo, NextIs, RunTo, Refuses, Puts, StepRuns, LineRuns}
 use Rattle.bcast_io.proofs.Transfers.{Appends-nothing}
 use Rattle.replay_command.proofs.ReadingOn.{read_none, comes_of, ahead_of}
 use Rattle.replay_command.proofs.LineEndings.{ends_refusal, step_put, outlet_put, step_memory}

@@ -1,9 +1,9 @@
 -- The text that a call took from its source, line by line.
-use Rattle.std.proofs.Common.{◌≡◌, ℕ, ◌+◌, ◌<◌, ◌≤◌, Bool, true, false, List, [], ◌∷◌, ◌++◌, length, reverse, refl, sym, ap, subst, ◌∙◌, append_assoc, arith, Option, None, Some, Result, Ok, Err, length-append}
+use Rattle.std.proofs.Common.{◌≡◌, ℕ, ◌+◌, ◌≤◌, Bool, true, false, List, [], ◌∷◌, ◌++◌, length, reverse, refl, sym, ap, subst, ◌∙◌, append_assoc, arith, Option, None, Result, Ok, Err, length-append}
 use Rattle.std.specs.Prelude.{IfOk, OnErr, IsSome}
-use Rattle.std.proofs.lemmas.List.{append-nil, length-reverse, reverse-append}
+use Rattle.std.proofs.lemmas.List.{append-nil, length-reverse}
 use Rattle.std.proofs.lemmas.Bool.{false≢true}
-use Rattle.std.specs.Io.KnownBytes.{Appends, Consumes, IsAtEnd}
+use Rattle.std.specs.Io.KnownBytes.{Consumes, IsAtEnd}
 use Rattle.bcast_io.specs.TextLines.{TextLine, plain, too_long, past, lines_of, lines_from}
 use Rattle.bcast_io.specs.Reading.{Reading, IsSound, IsPast, IsDone, Took, BreaksOff, lines_after}
 use Rattle.bcast_io.specs.Reading as reading
@@ -14,7 +14,7 @@ use Rattle.bcast_io.specs.declared.source.Failed.{Failed}
 use Rattle.bcast_io.proofs.Transfers.{Consumes-nothing, Consumes-then}
 use Rattle.bcast_io.proofs.LineLaws.{lines-nothing, lines-unended, lines-end, lines-past_all}
 use Rattle.line_runs.proofs.RunLaws.{reverse_onto}
-use Rattle.replay_command.specs.Replayed.{TextRead, Comes, ReadsAhead}
+use Rattle.replay_command.specs.Replayed.{Comes, ReadsAhead}
 use Rattle.replay_command.specs.Between.{ReadTo, TextIs, NextIs}
 
 -- nothing was read yet

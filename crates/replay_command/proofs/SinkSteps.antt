@@ -1,21 +1,18 @@
 -- The steps that make a sink and end it.
-use Rattle.std.proofs.Common.{◌≡◌, ◌==◌, ℕ, ◌+◌, ◌<◌, ◌≤◌, nat_le, List, [], ◌∷◌, ◌++◌, length, sum, map, true, false, not, Option, None, Some, Result, Ok, Err, refl, sym, ◌∙◌, ap, subst, is_some, option_map, slice_set, get_or, Bool, eq-eqb, arith}
+use Rattle.std.proofs.Common.{◌≡◌, ℕ, ◌+◌, ◌<◌, nat_le, List, [], ◌∷◌, ◌++◌, length, true, false, not, Option, None, Some, refl, sym, ◌∙◌, ap, subst, is_some, option_map, slice_set, get_or, eq-eqb, arith}
 use Rattle.std.proofs.lemmas.Bool.{lt-leb}
-use Rattle.std.specs.Option.{option_or}
 use Rattle.unit_outlets.specs.Account.{Account}
 use Rattle.source_machine.specs.Airs.{airs_of}
 use Rattle.delegator_machine.specs.Calls.{Call}
 use Rattle.delegator_machine.specs.Sinks.{StandsFor as SinkStands}
 use Rattle.transcript_text.specs.Lines.{sum_line}
-use Rattle.transcript_text.specs.declared.refusal.Refusal.{Refusal}
-use Rattle.transcript_text.specs.declared.refusal.Refusal.TheVariants.{NoSuchSink, NoOutlet}
 use Rattle.scenario_text.specs.declared.step.Step.{Step}
 use Rattle.scenario_text.specs.declared.step.Step.TheVariants.{Sink as SinkStep, Drop as DropStep}
 use Rattle.scenario_history.specs.Steps.{sinks_made}
 use Rattle.scenario_history.specs.Sinks.{sink_calls}
 use Rattle.scenario_history.specs.Boxes.{SinkUnit, most_sinks, box_of, accounts_after, account_at, handed_up, valid_for}
 use Rattle.scenario_history.specs.Output.{sum_of, sum_if, output_of}
-use Rattle.scenario_history.specs.Refusals.{is_first, phase_refusal, refuse_if}
+use Rattle.scenario_history.specs.Refusals.{is_first, phase_refusal}
 use Rattle.scenario_history.proofs.Sums.{units_add_up, octets_add_up, box_was_made}
 use Rattle.replay_command.specs.declared.sink.Sink.{Sink}
 use Rattle.replay_command.specs.declared.gathered.Gathered.{Gathered}
@@ -63,24 +60,25 @@ pub sink_meets : (boxes n at streams slots : ℕ) (mtu : Option ℕ) (steps : Li
 sink_meets boxes n at streams slots mtu steps old new entry sink stands later same within eight is none room outlet fresh set more keeps =
     let step : Step = SinkStep n streams slots mtu in
     let free : box_of n steps ≡ None = none_lives (box_of n steps) (sink_calls airs_of n steps) entry
-        (entry_read (boxes_in steps) (calls_in steps) n at old.sinks.items entry same eight within is stands.sinks) none in
+    (entry_read (boxes_in steps) (calls_in steps) n at old.sinks.items entry same eight within is stands.sinks) none in
     let left : sinks_made steps < boxes = omega arith in
     let some_left : nat_le boxes (sinks_made steps) ≡ false = lt-leb boxes (sinks_made steps) left in
     let made : (sink.outlet ≡ sinks_made steps) = outlet ∙ stands.boxes in
     let here : EntryIs (box_of n (step ∷ steps)) (sink_calls airs_of n (step ∷ steps)) (Some (Some sink)) =
-        rw (eq-eqb n n refl) (sink, refl, made, fresh) in
-    let E : List (Option Sink) → Type 0 = λ sinks. EntriesAre (boxes_in (step ∷ steps)) (calls_in (step ∷ steps)) sinks in
-    (rw (later, free, some_left) refl,
-     record {
-       first = ap is_some keeps.version ∙ stands.first ∙ ap not later;
-       version = ap (option_map number_of) keeps.version ∙ stands.version;
-       phase = subst (PhaseIs (step ∷ steps)) (sym keeps.phase) stands.phase;
-       stopped = keeps.stopped ∙ stands.stopped;
-       over = keeps.over ∙ stands.over;
-       boxes = more ∙ ap (λ k. k + 1) stands.boxes;
-       sinks = subst E (sym set) (one_sink n at step steps old.sinks.items (Some sink) same within eight (sink_touches n streams slots mtu steps) stands.sinks here);
-       gathered = ap (λ (g : Gathered). g.units.items) keeps.gathered ∙ stands.gathered;
-     })
+    rw (eq-eqb n n refl) (sink, refl, made, fresh) in
+    let E : List (Option Sink) → Type 0 = λ sinks. EntriesAre (boxes_in (step ∷ steps)) (calls_in (step ∷ steps)) sinks in (
+      rw (later, free, some_left) refl,
+      record {
+        first = ap is_some keeps.version ∙ stands.first ∙ ap not later;
+        version = ap (option_map number_of) keeps.version ∙ stands.version;
+        phase = subst (PhaseIs (step ∷ steps)) (sym keeps.phase) stands.phase;
+        stopped = keeps.stopped ∙ stands.stopped;
+        over = keeps.over ∙ stands.over;
+        boxes = more ∙ ap (λ k. k + 1) stands.boxes;
+        sinks = subst E (sym set) (one_sink n at step steps old.sinks.items (Some sink) same within eight (sink_touches n streams slots mtu steps) stands.sinks here);
+        gathered = ap (λ (g : Gathered). g.units.items) keeps.gathered ∙ stands.gathered;
+      },
+    )
 
 drop_touches : (n : ℕ) (steps : List Step) → TouchesOne n (DropStep n) steps
 drop_touches n steps = record {
@@ -104,23 +102,24 @@ pub drop_meets : (starts accounts : List Account) (n at : ℕ) (steps : List Ste
 drop_meets starts accounts n at steps old new sink text told stands later same within eight is boxes put set more keeps =
     let step : Step = DropStep n in
     let lives : box_of n steps ≡ Some sink.outlet = one_lives (box_of n steps) (sink_calls airs_of n steps) sink
-        (entry_read (boxes_in steps) (calls_in steps) n at old.sinks.items (Some sink) same eight within is stands.sinks) in
+    (entry_read (boxes_in steps) (calls_in steps) n at old.sinks.items (Some sink) same eight within is stands.sinks) in
     let made : sink.outlet < sinks_made steps = box_was_made n steps sink.outlet lives in
     let inside : sink.outlet < length starts = omega (arith, boxes.room) in
     let here : EntryIs (box_of n (step ∷ steps)) (sink_calls airs_of n (step ∷ steps)) (Some None) =
-        rw (eq-eqb n n refl) refl in
-    let E : List (Option Sink) → Type 0 = λ sinks. EntriesAre (boxes_in (step ∷ steps)) (calls_in (step ∷ steps)) sinks in
-    (rw (later, lives) refl,
-     record {
-       first = ap is_some keeps.version ∙ stands.first ∙ ap not later;
-       version = ap (option_map number_of) keeps.version ∙ stands.version;
-       phase = subst (PhaseIs (step ∷ steps)) (sym keeps.phase) stands.phase;
-       stopped = keeps.stopped ∙ stands.stopped;
-       over = keeps.over ∙ stands.over;
-       boxes = more ∙ stands.boxes;
-       sinks = subst E (sym set) (one_sink n at step steps old.sinks.items None same within eight (drop_touches n steps) stands.sinks here);
-       gathered = ap (λ (g : Gathered). g.units.items) keeps.gathered ∙ stands.gathered;
-     },
-     put ∙ ap (λ line. text ++ line)
-       (ap (λ a. sum_at a n sink.outlet) boxes.accounts_are ∙ sums_are starts (handed_up airs_of steps) n sink.outlet inside
-       ∙ ap (sum_if starts (handed_up airs_of steps) n) (sym lives)))
+    rw (eq-eqb n n refl) refl in
+    let E : List (Option Sink) → Type 0 = λ sinks. EntriesAre (boxes_in (step ∷ steps)) (calls_in (step ∷ steps)) sinks in (
+      rw (later, lives) refl,
+      record {
+        first = ap is_some keeps.version ∙ stands.first ∙ ap not later;
+        version = ap (option_map number_of) keeps.version ∙ stands.version;
+        phase = subst (PhaseIs (step ∷ steps)) (sym keeps.phase) stands.phase;
+        stopped = keeps.stopped ∙ stands.stopped;
+        over = keeps.over ∙ stands.over;
+        boxes = more ∙ stands.boxes;
+        sinks = subst E (sym set) (one_sink n at step steps old.sinks.items None same within eight (drop_touches n steps) stands.sinks here);
+        gathered = ap (λ (g : Gathered). g.units.items) keeps.gathered ∙ stands.gathered;
+      },
+      put ∙ ap (λ line. text ++ line)
+          (ap (λ a. sum_at a n sink.outlet) boxes.accounts_are ∙ sums_are starts (handed_up airs_of steps) n sink.outlet inside
+          ∙ ap (sum_if starts (handed_up airs_of steps) n) (sym lives)),
+    )

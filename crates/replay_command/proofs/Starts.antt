@@ -1,15 +1,12 @@
 -- The start of a source.
-use Rattle.std.proofs.Common.{◌≡◌, ℕ, List, [], ◌∷◌, Bool, true, false, not, Option, None, Some, refl, sym, ◌∙◌, ap, subst, is_some, option_map, unwrap_or}
-use Rattle.std.specs.Option.{option_or}
-use Rattle.big_info.specs.declared.info.BigInfo.{BigInfo}
+use Rattle.std.proofs.Common.{◌≡◌, ℕ, List, ◌∷◌, false, Option, None, Some, refl, ◌∙◌, option_map, unwrap_or}
 use Rattle.big_info.specs.Rows.{first_fault}
 use Rattle.source_machine.specs.Airs.{airs_of}
 use Rattle.source_machine.specs.Calls.{Setup}
-use Rattle.source_machine.specs.Sources.{Source, StandsFor}
 use Rattle.scenario_text.specs.declared.step.Step.{Step}
 use Rattle.scenario_text.specs.declared.step.Step.TheVariants.{Start}
-use Rattle.scenario_history.specs.Steps.{GroupLine, group_of, start_of, version_of, version_given, last_given}
-use Rattle.scenario_history.specs.Source.{setup_of, setup_from, source_calls, no_group}
+use Rattle.scenario_history.specs.Steps.{GroupLine, group_of, start_of, version_of}
+use Rattle.scenario_history.specs.Source.{setup_of, setup_from}
 use Rattle.scenario_history.specs.Refusals.{phase_refusal, is_first, horizon_in}
 use Rattle.replay_command.specs.declared.version.Version.{Version}
 use Rattle.replay_command.specs.declared.version.Version.TheVariants.{One}

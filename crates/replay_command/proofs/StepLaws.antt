@@ -1,16 +1,14 @@
 -- Each step by its own clause.
-use Rattle.std.proofs.Common.{◌≡◌, ℕ, ◌+◌, List, [], ◌∷◌, ◌++◌, length, map, true, false, not, ◌⊎◌, inl, inr, Option, None, Some, Result, Ok, Err, refl, sym, ◌∙◌, ap, subst, is_some, option_map, append-nil}
-use Rattle.std.specs.Option.{option_or}
+use Rattle.std.proofs.Common.{◌≡◌, ℕ, List, [], ◌++◌, length, map, true, false, inl, inr, None, Some, Result, Ok, Err, refl, sym, ◌∙◌, ap, subst, append-nil}
 use Rattle.std.proofs.lemmas.List.{length-map}
 use Rattle.unit_outlets.specs.Account.{Account}
 use Rattle.source_machine.specs.Airs.{airs_of}
-use Rattle.transcript_text.specs.declared.refusal.Refusal.{Refusal}
-use Rattle.transcript_text.specs.declared.refusal.Refusal.TheVariants.{AfterEnd, Order}
+use Rattle.transcript_text.specs.declared.refusal.Refusal.TheVariants.{Order}
 use Rattle.scenario_text.specs.declared.step.Step.{Step}
 use Rattle.scenario_history.specs.Steps.{is_over}
 use Rattle.scenario_history.specs.Boxes.{accounts_after, handed_by, handed_up}
 use Rattle.scenario_history.specs.Output.{output_of}
-use Rattle.scenario_history.specs.Refusals.{is_first, is_out_of_order, phase_refusal, refusal_of, refuse_if}
+use Rattle.scenario_history.specs.Refusals.{is_first, is_out_of_order, phase_refusal, refusal_of}
 use Rattle.scenario_history.proofs.Sums.{boxes_stay}
 use Rattle.replay_command.specs.declared.machine.Machine.{Machine}
 use Rattle.replay_command.specs.declared.stop.Stop.{Stop}

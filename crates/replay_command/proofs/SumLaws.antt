@@ -1,5 +1,5 @@
 -- The sums of the boxes in the transcript.
-use Rattle.std.proofs.Common.{◌≡◌, ℕ, zero, suc, ◌+◌, ◌<◌, List, [], ◌∷◌, ◌++◌, length, map, get_or, refl, sym, ◌∙◌, ap, arith, append_assoc, Option, Result, OnOk}
+use Rattle.std.proofs.Common.{◌≡◌, ℕ, zero, suc, ◌+◌, ◌<◌, List, [], ◌∷◌, ◌++◌, length, map, get_or, sym, ◌∙◌, ap, arith, append_assoc, Option, Result, OnOk}
 use Rattle.std.specs.List.{flat_map, range_with_len}
 use Rattle.std.proofs.lemmas.Grind.{flat_map-append}
 use Rattle.std.proofs.lemmas.List.{append-nil}
@@ -20,7 +20,7 @@ pub sum_put : {E : Type 0} (r : Result (Unit {0}) E) (text told : List ℕ) (sin
     → OnOk r (told ≡ text ++ sum_line sink units octets) → OnOk r (told ≡ text ++ sum_at accounts sink place)
 sum_put r text told sink place units octets accounts account at u o h =
     on_ok_weaker r (λ e. e ∙ ap (λ n. text ++ sum_line sink n octets) (u ∙ ap (λ (a : Account). a.units) (sym at))
-        ∙ ap (λ n. text ++ sum_line sink (account_at accounts place).units n) (o ∙ ap (λ (a : Account). a.octets) (sym at))) h
+    ∙ ap (λ n. text ++ sum_line sink (account_at accounts place).units n) (o ∙ ap (λ (a : Account). a.octets) (sym at))) h
 
 -- ---- the sums of one sink after the other
 

@@ -1,11 +1,11 @@
 -- Putting a sink on the group.
-use Rattle.std.proofs.Common.{◌≡◌, ◌==◌, ℕ, ◌<◌, List, [], ◌∷◌, length, true, false, not, Option, None, Some, Result, Ok, Err, refl, sym, ◌∙◌, ap, subst, is_some, option_map, slice_set, Bool, eq-eqb}
+use Rattle.std.proofs.Common.{◌≡◌, ℕ, ◌<◌, List, ◌∷◌, length, true, false, not, Option, None, Some, Result, Ok, Err, refl, sym, ◌∙◌, ap, subst, is_some, option_map, slice_set, eq-eqb}
 use Rattle.std.specs.Option.{option_or}
 use Rattle.big_info.specs.declared.info.BigInfo.{BigInfo}
 use Rattle.source_machine.specs.Airs.{airs_of}
 use Rattle.source_machine.specs.Calls.{Setup, next_of, next_anchor_of}
 use Rattle.source_machine.specs.Sources.{Source}
-use Rattle.delegator_machine.specs.Calls.{Call, Tuning, tune}
+use Rattle.delegator_machine.specs.Calls.{Call, Tuning}
 use Rattle.transcript_text.specs.declared.refusal.Refusal.{Refusal}
 use Rattle.transcript_text.specs.declared.refusal.Refusal.TheVariants.{NoSuchSink, NoSuchBis}
 use Rattle.scenario_text.specs.declared.step.Step.{Step}
@@ -39,8 +39,8 @@ pub tuning_is : (steps : List Step) (source : Source) (which first anchor delay 
     → let given : Tuning = record { info = info; which = which; first = first; anchor = anchor; delay = delay } in given ≡ tuning_of steps which
 tuning_is steps source which first anchor delay info started i f a d =
     same_tuning which info (setup_of steps).info first (next_of (setup_of steps) (source_calls steps)) anchor (next_anchor_of (setup_of steps) (source_calls steps)) delay (setup_of steps).delay
-        (i ∙ ap (λ (s : Setup). s.info) started.setup) (f ∙ ap (λ s. next_of s (source_calls steps)) started.setup)
-        (a ∙ ap (λ s. next_anchor_of s (source_calls steps)) started.setup) (d ∙ ap (λ (s : Setup). s.delay) started.setup)
+    (i ∙ ap (λ (s : Setup). s.info) started.setup) (f ∙ ap (λ s. next_of s (source_calls steps)) started.setup)
+    (a ∙ ap (λ s. next_anchor_of s (source_calls steps)) started.setup) (d ∙ ap (λ (s : Setup). s.delay) started.setup)
 
 pub entry_tunes : (steps : List Step) (which : ℕ) (box : Option ℕ) (calls : List Call) (sink other : Sink) (r : Result (Unit {0}) Stop)
     → EntryIs box calls (Some (Some sink)) → other.outlet ≡ sink.outlet → TunesSink steps which calls other.delegator r → Tunes steps which box calls (Some other) r
@@ -89,19 +89,20 @@ pub tuned_meets : (boxes n which at : ℕ) (steps : List Step) (old new : Machin
     → Quiet boxes steps (Tuned n which) new r
 tuned_meets boxes n which at steps old new entry (Ok x) stands later started going same within eight t set v p st ov ou ga =
     let here : EntryIs (box_of n (Tuned n which ∷ steps)) (sink_calls airs_of n (Tuned n which ∷ steps)) (Some entry) =
-        rw (eq-eqb n n refl) t.2 in
-    let E : List (Option Sink) → Type 0 = λ sinks. EntriesAre (boxes_in (Tuned n which ∷ steps)) (calls_in (Tuned n which ∷ steps)) sinks in
-    (tuned_passes boxes n which steps None later started going (rw (t.0, t.1) refl),
-     record {
-       first = ap is_some v ∙ stands.first ∙ ap not later;
-       version = ap (option_map number_of) v ∙ stands.version;
-       phase = subst (PhaseIs (Tuned n which ∷ steps)) (sym p) stands.phase;
-       stopped = st ∙ stands.stopped;
-       over = ov ∙ stands.over;
-       boxes = ou ∙ stands.boxes;
-       sinks = subst E (sym set) (one_sink n at (Tuned n which) steps old.sinks.items entry same within eight (touches n which steps) stands.sinks here);
-       gathered = ap (λ (g : Gathered). g.units.items) ga ∙ stands.gathered;
-     })
+    rw (eq-eqb n n refl) t.2 in
+    let E : List (Option Sink) → Type 0 = λ sinks. EntriesAre (boxes_in (Tuned n which ∷ steps)) (calls_in (Tuned n which ∷ steps)) sinks in (
+      tuned_passes boxes n which steps None later started going (rw (t.0, t.1) refl),
+      record {
+        first = ap is_some v ∙ stands.first ∙ ap not later;
+        version = ap (option_map number_of) v ∙ stands.version;
+        phase = subst (PhaseIs (Tuned n which ∷ steps)) (sym p) stands.phase;
+        stopped = st ∙ stands.stopped;
+        over = ov ∙ stands.over;
+        boxes = ou ∙ stands.boxes;
+        sinks = subst E (sym set) (one_sink n at (Tuned n which) steps old.sinks.items entry same within eight (touches n which steps) stands.sinks here);
+        gathered = ap (λ (g : Gathered). g.units.items) ga ∙ stands.gathered;
+      },
+    )
 tuned_meets boxes n which at steps old new entry (Err (Refused reason)) stands later started going same within eight t set v p st ov ou ga =
     tuned_passes boxes n which steps (Some reason) later started going (refused_by (box_of n steps) steps which (sink_calls airs_of n steps) entry reason t)
 tuned_meets boxes n which at steps old new entry (Err OutletFault) stands later started going same within eight t set v p st ov ou ga =

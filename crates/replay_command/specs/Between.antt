@@ -1,6 +1,6 @@
 -- What stands between two lines of a run: the lines so far are its history, the newest first. Runs and lines are this
 -- project's own.
-use Rattle.std.specs.Prelude.{ℕ, ◌≡◌, ◌+◌, ◌≤◌, Bool, true, false, List, [], ◌∷◌, ◌++◌, length, reverse, Option, None, Some, Result, Ok, Err}
+use Rattle.std.specs.Prelude.{ℕ, ◌≡◌, ◌+◌, Bool, true, false, List, [], ◌∷◌, ◌++◌, length, reverse, Option, None, Some, Result, Ok, Err}
 use Rattle.std.specs.Io.KnownBytes.{Appends, Consumes, IsAtEnd}
 use Rattle.bcast_io.specs.TextLines.{TextLine, plain, too_long, past, lines_of}
 use Rattle.bcast_io.specs.Reading.{Reading, IsSound, MayFollow, lines_after}

@@ -8,10 +8,10 @@ use Rattle.scenario_history.specs.Steps.{info_with}
 abbrev pub group_step : BigInfo → ℕ → ℕ → Step
 group_step info origin delay =
     Group info.framing origin delay info.iso_interval info.sdu_interval info.max_sdu info.max_pdu info.num_bis info.bn info.nse info.irc
-        info.pto info.sub_interval info.bis_spacing info.phy
+    info.pto info.sub_interval info.bis_spacing info.phy
 
 -- nothing but what a `group` line says is set
 abbrev pub IsPlain : BigInfo → Type 0
 IsPlain info =
     info ≡ info_with info.framing info.iso_interval info.sdu_interval info.max_sdu info.max_pdu info.num_bis info.bn info.nse info.irc
-        info.pto info.sub_interval info.bis_spacing info.phy
+    info.pto info.sub_interval info.bis_spacing info.phy

@@ -1,5 +1,5 @@
 -- Units that go to their boxes, each before its line (the units are the SDUs of Core 5.2, volume 6 part G, section 1).
-use Rattle.std.specs.Prelude.{ℕ, ◌≡◌, List, [], ◌∷◌, ◌++◌, slice_set, Result, Ok, Err}
+use Rattle.std.specs.Prelude.{ℕ, ◌≡◌, List, ◌∷◌, ◌++◌, slice_set, Result, Ok, Err}
 use Rattle.unit_outlets.specs.Account.{Account, with_unit}
 use Rattle.unit_outlets.specs.Handed.{valid}
 use Rattle.unit_outlets.specs.Took.{TookAt}

@@ -1,5 +1,5 @@
 -- The state of a scenario as far as it was run, and the steps that it stands for, the newest first.
-use Rattle.std.specs.Prelude.{ℕ, ◌≡◌, ◌<◌, Bool, true, false, not, is_some, List, [], Option, None, Some, slice_get, option_map}
+use Rattle.std.specs.Prelude.{ℕ, ◌≡◌, ◌<◌, true, not, is_some, List, [], Option, None, Some, slice_get, option_map}
 use Rattle.source_machine.specs.Airs.{airs_of}
 use Rattle.source_machine.specs.Sources.{StandsFor as SourceStands}
 use Rattle.delegator_machine.specs.Calls.{Call}

@@ -1,7 +1,7 @@
 -- What a call of `replay` read, wrote and handed to the boxes, by how it ended. `starts` and `ends` are the accounts of
 -- the boxes before and after it, `left` and `left'` what the source had left, `kept` and `kept'` what the sink had taken.
 -- The language and its statuses are this project's own.
-use Rattle.std.specs.Prelude.{ℕ, ◌≡◌, ◌≤◌, ◌<◌, ◌⊎◌, ◌+◌, Bool, true, false, List, [], ◌∷◌, ◌++◌, length, reverse, Option, None, Some, Result, Ok, Err}
+use Rattle.std.specs.Prelude.{ℕ, ◌≡◌, ◌≤◌, ◌<◌, ◌⊎◌, ◌+◌, Bool, true, false, List, [], ◌∷◌, ◌++◌, length, reverse, Option}
 use Rattle.std.specs.Io.KnownBytes.{Appends, Consumes, IsAtEnd}
 use Rattle.bcast_io.specs.TextLines.{TextLine, lines_of}
 use Rattle.bcast_io.specs.Writing.{AppendsFront}
@@ -11,11 +11,9 @@ use Rattle.transcript_text.specs.declared.refusal.Refusal.{Refusal}
 use Rattle.transcript_text.specs.declared.refusal.Refusal.TheVariants.{NoEnd}
 use Rattle.line_runs.specs.Runs.{through, refused, Accepted}
 use Rattle.scenario_history.specs.Boxes.{SinkUnit, Took}
-use Rattle.scenario_history.specs.Output.{unit_lines}
-use Rattle.scenario_history.specs.Lines.{rules_of, steps_of, handed_on}
+use Rattle.scenario_history.specs.Lines.{rules_of, handed_on}
 use Rattle.scenario_history.specs.Transcript.{out_of, end_after, transcript_of, transcript_end, units_of}
 use Rattle.replay_command.specs.Handing.{BoxFails}
-use Rattle.replay_command.specs.LineMeets.{refusal_at}
 
 -- what may follow the octets read: where the input was at its end, nothing
 abbrev pub MayFollow : Bool → Bool → List ℕ → Type 0

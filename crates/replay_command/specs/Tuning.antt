@@ -1,6 +1,5 @@
 -- Putting a sink on the group of the source (Core 5.2, volume 6 part B, section 4.4.6).
 use Rattle.std.specs.Prelude.{ℕ, ◌≡◌, ◌∷◌, true, false, List, Option, None, Some, is_some, Result, Ok, Err}
-use Rattle.std.specs.Option.{option_or}
 use Rattle.source_machine.specs.Sources.{Source, StandsFor}
 use Rattle.delegator_machine.specs.Calls.{Call, tune}
 use Rattle.delegator_machine.specs.Sinks.{OnGroup, StandsFor as SinkStands}
@@ -8,7 +7,7 @@ use Rattle.transcript_text.specs.declared.refusal.Refusal.TheVariants.{NoSuchSin
 use Rattle.scenario_text.specs.declared.step.Step.{Step}
 use Rattle.scenario_history.specs.Source.{setup_of, source_calls}
 use Rattle.scenario_history.specs.Sinks.{tuning_of}
-use Rattle.scenario_history.specs.Refusals.{has_beyond, refuse_if}
+use Rattle.scenario_history.specs.Refusals.{has_beyond}
 use Rattle.replay_command.specs.declared.sink.Sink.{Sink}
 use Rattle.replay_command.specs.declared.stop.Stop.{Stop}
 use Rattle.replay_command.specs.declared.stop.Stop.TheVariants.{Refused, OutletFault, Memory}

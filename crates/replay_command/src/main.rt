@@ -12,10 +12,10 @@ mod replay;
 mod sink;
 mod sink_steps;
 mod source_steps;
-mod step;
-mod sums;
 mod status;
+mod step;
 mod stop;
+mod sums;
 #[cfg(test)]
 mod tests;
 mod version;

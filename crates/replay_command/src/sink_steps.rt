@@ -92,11 +92,7 @@ fn tune_entry(entry: &mut Option<Sink>, source: &Broadcast, which: BisSet) -> Re
 }
 
 /// Puts a sink on these streams of the group, from the next event on.
-fn tune_sink(
-    delegator: &mut Delegator,
-    source: &Broadcast,
-    which: BisSet,
-) -> Result<(), Stop>
+fn tune_sink(delegator: &mut Delegator, source: &Broadcast, which: BisSet) -> Result<(), Stop>
     ensures { (steps : List Step) (calls : List Call) → IsStarted steps source.now → TunesSink steps which calls delegator.new result }
 {
     if is_beyond(source.group().info.num_bis, which) {

@@ -1,5 +1,5 @@
-use Rattle.std.proofs.Common.{◌≡◌, ℕ, ◌<◌, ◌-◌, List, sym, ◌∙◌, ap, subst, arith}
-use Rattle.scenario_history.specs.Source.{source_calls, performed, event_back}
+use Rattle.std.proofs.Common.{◌≡◌, ◌<◌, ◌-◌, ◌∙◌, arith}
+use Rattle.scenario_history.specs.Source.{source_calls, performed}
 use Rattle.replay_command.specs.Airing.{IsLast}
 use Rattle.replay_command.proofs.Airing.{event_is, calls_at, entry_meets, last_some, on_air}
 use Rattle.replay_command.proofs.air_steps.hear_last.Goals as goal

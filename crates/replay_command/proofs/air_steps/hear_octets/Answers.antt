@@ -1,5 +1,5 @@
-use Rattle.std.proofs.Common.{◌≡◌, ℕ, ◌∷◌, List, sym, ◌∙◌, ap, subst}
-use Rattle.delegator_machine.specs.Calls.{Call, hear}
+use Rattle.std.proofs.Common.{◌≡◌, ◌∷◌, ◌∙◌, subst}
+use Rattle.delegator_machine.specs.Calls.{hear}
 use Rattle.delegator_machine.specs.Sinks.{StandsFor as SinkStands}
 use Rattle.scenario_history.specs.Source.{source_calls, event_back}
 use Rattle.replay_command.proofs.Airing.{place_is, event_is, calls_at, entry_meets}

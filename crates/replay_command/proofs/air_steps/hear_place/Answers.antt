@@ -1,8 +1,8 @@
-use Rattle.std.proofs.Common.{◌≡◌, ℕ, ◌∷◌, List, sym, ◌∙◌, ap, subst}
+use Rattle.std.proofs.Common.{◌≡◌, ◌∷◌, sym, ◌∙◌, ap, subst}
 use Rattle.delegator_machine.specs.Calls.{Call, hear}
 use Rattle.delegator_machine.specs.Sinks.{StandsFor as SinkStands}
 use Rattle.source_machine.specs.Airs.{airs_of}
-use Rattle.scenario_history.specs.Source.{source_calls, event_back, pdu_in}
+use Rattle.scenario_history.specs.Source.{source_calls, event_back}
 use Rattle.scenario_history.specs.Sinks.{hear_at}
 use Rattle.replay_command.proofs.Airing.{place_is, event_is, pdu_is, calls_at, entry_meets}
 use Rattle.replay_command.proofs.air_steps.hear_place.Goals as goal

@@ -1,4 +1,4 @@
-use Rattle.std.proofs.Common.{◌≡◌, ℕ, ◌+◌, ◌/◌, ◌%◌, ◌<◌, ◌≤◌, ◌^◌, Option, Some, sym, ◌∙◌, ap, subst, arith}
+use Rattle.std.proofs.Common.{◌≡◌, ◌+◌, ◌/◌, ◌%◌, ◌<◌, ◌^◌, ◌∙◌, ap, arith}
 use Rattle.big_info.specs.declared.info.BigInfo.{BigInfo}
 use Rattle.scenario_history.specs.Source.{source_calls}
 use Rattle.replay_command.proofs.Airing.{spot_within, no_fault}

@@ -6,4 +6,4 @@ pub returns-in-Ok-put_sums : goal.returns-in-Ok-put_sums
 returns-in-Ok-put_sums g c boxes calls are empty =
     let closes = c.in-Ok.ensures boxes calls are empty in
     ends_after boxes calls c.args.closed c.close_event.new.sinks c.close_event.new.gathered c.args.text.now c.close_event.new.text c.put_sums.new.text _ _ closes
-        (c.in-Ok-put_sums.ensures boxes (calls_ticked c.args.closed calls) closes.is_ticked.entries)
+    (c.in-Ok-put_sums.ensures boxes (calls_ticked c.args.closed calls) closes.is_ticked.entries)

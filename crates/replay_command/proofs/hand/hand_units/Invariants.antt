@@ -1,5 +1,5 @@
 use Rattle.std.proofs.Common.{◌≡◌, ◌++◌, map, take}
-use Rattle.scenario_history.specs.Boxes.{SinkUnit, accounts_after}
+use Rattle.scenario_history.specs.Boxes.{accounts_after}
 use Rattle.scenario_history.specs.Output.{unit_lines}
 use Rattle.replay_command.specs.Gathering.{handed_of, units_for}
 use Rattle.replay_command.proofs.hand.hand_units.Given as goal

@@ -1,4 +1,4 @@
-use Rattle.std.proofs.Common.{◌≡◌, ℕ, ◌<◌, ◌∷◌, List, Option, Some, length, refl, sym, ◌∙◌, ap, subst, not, arith}
+use Rattle.std.proofs.Common.{◌≡◌, ◌<◌, Option, Some, length, sym, ◌∙◌, ap, subst, not, arith}
 use Rattle.source_machine.specs.Airs.{airs_of}
 use Rattle.scenario_text.specs.declared.step.Step.TheVariants.{Air as AirStep}
 use Rattle.scenario_history.specs.Sinks.{sink_calls}

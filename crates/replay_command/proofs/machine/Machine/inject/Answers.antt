@@ -1,4 +1,4 @@
-use Rattle.std.proofs.Common.{◌≡◌, ℕ, ◌<◌, ◌∷◌, ◌++◌, List, Option, Some, length, refl, sym, ◌∙◌, ap, subst, not, arith}
+use Rattle.std.proofs.Common.{◌≡◌, ◌<◌, ◌++◌, Option, Some, length, refl, sym, ◌∙◌, ap, subst, not, arith}
 use Rattle.source_machine.specs.Airs.{airs_of}
 use Rattle.transcript_text.specs.Lines.{heard_line}
 use Rattle.scenario_text.specs.declared.step.Step.TheVariants.{Inject as InjectStep}
