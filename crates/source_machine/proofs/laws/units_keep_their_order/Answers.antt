@@ -1,4 +1,4 @@
-use Rattle.std.proofs.Common.{◌<◌, ◌-◌, arith, sym, ap, ◌∙◌}
+use Rattle.std.proofs.Common.{◌-◌, arith, sym, ap, ◌∙◌}
 use Rattle.std.specs.List.{slice_get}
 use Rattle.source_machine.specs.Airs.{place_of}
 use Rattle.source_machine.specs.Calls.{stream_calls}
