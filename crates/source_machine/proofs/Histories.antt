@@ -32,7 +32,7 @@ pub given_other : (info : BigInfo) (bis stream : ℕ) (time : Option ℕ) (octet
 given_other info bis stream time octets calls other = rw (ne_eqb stream bis other) refl
 
 -- the units accepted on a stream
-accepted_are : (info : BigInfo) (bis : ℕ) (calls : List Call) → accepted (stream_calls info bis calls) ≡ given bis calls
+pub accepted_are : (info : BigInfo) (bis : ℕ) (calls : List Call) → accepted (stream_calls info bis calls) ≡ given bis calls
 accepted_are info bis [] = refl
 accepted_are info bis (give stream time octets ∷ calls) =
     elim (cases_eq stream bis) [

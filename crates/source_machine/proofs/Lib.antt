@@ -2,5 +2,6 @@ mod Advances
 mod Histories
 mod LaidEvents
 mod Lists
+mod Orders
 mod Payloads
 mod Standing

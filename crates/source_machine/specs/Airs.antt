@@ -1,12 +1,13 @@
 -- What the streams of a source send (Core 5.2, volume 6 part B, section 4.4.6, and part G, section 2): the air of each,
 -- and the PDU of it that a subevent carries.
-use Rattle.std.specs.Prelude.{ℕ, ◌-◌, ◌/◌, ◌%◌, ◌≡◌, List, [], ◌∷◌, length, map, Option, Some, None, slice_get, option_and_then}
+use Rattle.std.specs.Prelude.{ℕ, ◌+◌, ◌-◌, ◌/◌, ◌%◌, ◌≡◌, List, [], ◌∷◌, length, map, Option, Some, None, slice_get, option_and_then}
 use Rattle.std.specs.List.{AllZip, range_with_len}
 use Rattle.big_info.specs.Schedule.{per_unit_of}
 use Rattle.iso_pdu.specs.Layout.{Content}
 use Rattle.isoal_base.specs.Slot.{laid}
 use Rattle.radio_schedule.specs.PayloadNumber.{payload_number}
-use Rattle.isoal_unframed.specs.Air.{Air, pdu_at, unframed_air, unit_at}
+use Rattle.isoal_unframed.specs.Air.{Air, before_event, pdu_at, unframed_air, unit_at}
+use Rattle.isoal_unframed.specs.Calls.{begun}
 use Rattle.source_machine.specs.Calls.{Setup, Call, given, stream_calls}
 
 -- the air of a stream after these calls
@@ -31,6 +32,11 @@ pdu_of setup airs event bis subevent =
 -- the unit of each event and slot of a stream, where the slot has one; events count as the payload counter does
 abbrev pub slots_of : Setup → List Call → ℕ → ℕ → ℕ → Option (List ℕ)
 slots_of setup calls bis event slot = unit_at setup.info (stream_calls setup.info bis calls) (event - setup.first) slot
+
+-- which of the units accepted on its stream takes a slot of an event, from 0
+abbrev pub place_of : Setup → List Call → ℕ → ℕ → ℕ → ℕ
+place_of setup calls bis event slot =
+    begun setup.info (before_event (stream_calls setup.info bis calls) (event - setup.first)) + slot
 
 -- what a stream sends at a payload number
 abbrev pub content_at : Setup → List Call → ℕ → ℕ → Content

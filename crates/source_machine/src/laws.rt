@@ -1,11 +1,12 @@
 //! What holds of every source's calls and of what its streams send.
-ghost use Rattle.std.specs.Prelude.{◌≡◌, ◌≤◌, ◌<◌, ◌-◌, ◌++◌, ℕ, List, Some};
+ghost use Rattle.std.specs.Prelude.{◌≡◌, ◌≤◌, ◌<◌, ◌-◌, ◌++◌, ℕ, List, Some, slice_get};
+ghost use Rattle.big_info.specs.Schedule.{per_event_of};
 ghost use Rattle.big_info.specs.declared.group.Group.{Group};
 ghost use Rattle.iso_pdu.specs.Spelling.{pdu};
 ghost use Rattle.isoal_unframed.specs.Air.{Air, laid_u};
 ghost use Rattle.radio_schedule.specs.PayloadNumber.{payload_number};
-ghost use Rattle.source_machine.specs.Airs.{AreAirs, airs_of, content_at, pdu_of};
-ghost use Rattle.source_machine.specs.Calls.{Call, Setup, next_of, stream_calls};
+ghost use Rattle.source_machine.specs.Airs.{AreAirs, airs_of, content_at, pdu_of, place_of, slots_of};
+ghost use Rattle.source_machine.specs.Calls.{Call, Setup, given, next_of, stream_calls};
 
 use isoal_unframed::each_number_is_laid;
 
@@ -38,4 +39,18 @@ pub fn what_was_sent_stays()
         → setup.info ≡ group.info → setup.first ≤ event → event < next_of setup calls
         → 1 ≤ bis → bis ≤ group.info.num_bis → subevent < group.info.nse
         → pdu_of setup (airs_of setup (later ++ calls)) event bis subevent ≡ pdu_of setup (airs_of setup calls) event bis subevent }
+{}
+
+/// The unit of a slot is one that was given to the stream, and the units take the slots in the order of acceptance, each
+/// at most one: a later slot has a later unit.
+pub fn units_keep_their_order()
+    ensures given { (setup : Setup) (calls : List Call) (bis event slot : ℕ) (unit : List ℕ)
+        → slots_of setup calls bis event slot ≡ Some unit
+        → slice_get (given bis calls) (place_of setup calls bis event slot) ≡ Some unit }
+    ensures order { (setup : Setup) (calls : List Call) (bis event slot later behind : ℕ) (unit other : List ℕ)
+        → setup.first ≤ event → event < later → slot < per_event_of setup.info
+        → slots_of setup calls bis event slot ≡ Some unit → slots_of setup calls bis later behind ≡ Some other
+        → place_of setup calls bis event slot < place_of setup calls bis later behind }
+    ensures within { (setup : Setup) (calls : List Call) (bis event slot behind : ℕ) → slot < behind
+        → place_of setup calls bis event slot < place_of setup calls bis event behind }
 {}

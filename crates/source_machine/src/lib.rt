@@ -10,4 +10,4 @@ mod tests;
 
 pub use broadcast::Broadcast;
 pub use fault::{EventFault, GiveFault};
-pub use laws::{air_is_by_division, one_air, what_was_sent_stays};
+pub use laws::{air_is_by_division, one_air, units_keep_their_order, what_was_sent_stays};
