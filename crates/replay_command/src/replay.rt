@@ -93,16 +93,13 @@ pub fn replay<S: ByteSource, K: ByteSink>(
         → place (sink_calls airs_of n (steps_of lines)) ≡ Some tuning → Contains (streams_of tuning.which) bis
         → injected_since (is_tuned n) n (steps_of lines) ≡ false → IsStayStruck (steps_of lines) n tuning bis }
 
-    // No sink closes an event twice; each of its units has the time of a slot; and its valid units are, in order, units
-    // that the source accepted on the stream, each at most once.
-    ensures events_rise { (lines : List TextLine) (n : ℕ) → Accepted (rules_of airs_of (map account outlets.old.items)) lines
-        → IsStrictlyIncreasing (map (λ (closed : Closed). closed.event) (closed_since n (steps_of lines))) }
-    ensures on_time { (lines : List TextLine) (n bis : ℕ) → Accepted (rules_of airs_of (map account outlets.old.items)) lines
+    // No sink closes an event twice; each of its units has the time of a slot; and where no PDU was injected into it, its
+    // valid units are, in order, units that the source accepted on the stream, each at most once.
+    ensures order_law { (lines : List TextLine) (n bis : ℕ) → Accepted (rules_of airs_of (map account outlets.old.items)) lines
         → n ≤ 7 → 1 ≤ bis → bis ≤ 31
-        → AllZip (IsOfSlot (setup_of (steps_of lines)) bis) (slots_closed (setup_of (steps_of lines)) bis (closed_since n (steps_of lines))) (shown_since n bis (steps_of lines)) }
-    ensures in_source_order { (lines : List TextLine) (n bis : ℕ) → Accepted (rules_of airs_of (map account outlets.old.items)) lines
-        → n ≤ 7 → 1 ≤ bis → bis ≤ 31 → injected_since (is_made n) n (steps_of lines) ≡ false
-        → InSourceOrder (setup_of (steps_of lines)) (source_calls (steps_of lines)) bis (valid_in (shown_since n bis (steps_of lines))) }
+        → IsStrictlyIncreasing (map (λ (closed : Closed). closed.event) (closed_since n (steps_of lines)))
+        × AllZip (IsOfSlot (setup_of (steps_of lines)) bis) (slots_closed (setup_of (steps_of lines)) bis (closed_since n (steps_of lines))) (shown_since n bis (steps_of lines))
+        × (injected_since (is_made n) n (steps_of lines) ≡ false → InSourceOrder (setup_of (steps_of lines)) (source_calls (steps_of lines)) bis (valid_in (shown_since n bis (steps_of lines)))) }
 {
     units_law();
     order_law();
