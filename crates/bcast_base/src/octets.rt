@@ -37,6 +37,13 @@ impl Octets {
         })
     }
 
+    /// The octets of a vector.
+    pub fn of(octets: Vec<u8>) -> Octets
+        ensures { result ≡ octets.items }
+    {
+        Octets { octets }
+    }
+
     /// Puts an octet at the end.
     pub fn push(&mut self, octet: u8) -> Result<(), Memory>
         ensures ok { OnOk result (self.new ≡ self.old ++ octet ∷ []) }

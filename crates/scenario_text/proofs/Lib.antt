@@ -1,5 +1,6 @@
 pub mod Splitting
 pub mod Decimals
+pub mod DigitPairs
 pub mod NextWords
 pub mod MoreWords
 pub mod OneWord

@@ -1,13 +1,14 @@
 -- What one word spells, and the ranges that follow.
-use Rattle.std.proofs.Common.{leb, ◌≡◌, ◌≤◌, ◌<◌, ℕ, ◌/◌, ◌%◌, ◌^◌, Bool, true, false, cond, List, [], ◌∷◌, length, None, Some, Result, Ok, Err, refl, ap, sym, ◌∙◌, arith, decimal, ◌&&◌, inl, inr}
-use Rattle.std.specs.Prelude.{IsOk, IsErr, MatchResult}
+use Rattle.std.proofs.Common.{leb, ◌≡◌, ◌≤◌, ◌<◌, ℕ, ◌/◌, ◌^◌, Bool, true, false, cond, List, [], ◌∷◌, ◌++◌, take, length, None, Some, Result, Ok, Err, refl, ap, sym, ◌∙◌, arith, decimal, ◌&&◌}
+use Rattle.std.specs.Prelude.{IsErr}
 use Rattle.std.specs.Str.{bytes_eq}
 use Rattle.std.specs.Str.Parse.{digits_value}
+use Rattle.std.proofs.Math.Seq.{take-append_seam}
 use Rattle.std.proofs.lemmas.Slice.Eq.{bytes_eq-Decides}
 use Rattle.std.proofs.lemmas.Fmt.{digits_value-decimal, decimal_injective}
-use Rattle.std.proofs.lemmas.Bool.{leb-true, le-leb, lt-leb, cases_eq}
-use Rattle.hex.specs.Hex.{decode_of, decode_sized}
-use Rattle.hex.proofs.HexLemmas.{decode_of-ok, decode_of-odd, decode_sized-odd, decode_sized-twice}
+use Rattle.std.proofs.lemmas.Bool.{leb-true, le-leb, lt-leb}
+use Rattle.hex.specs.Hex.{decode_of}
+use Rattle.hex.proofs.HexLemmas.{decode_of-ok}
 use Rattle.hex.specs.declared.error.FromHexError.{FromHexError}
 use Rattle.scenario_text.specs.Reading.{decimal_in, framing_in, octets_in, within}
 use Rattle.scenario_text.proofs.Decimals.{own}
@@ -79,22 +80,6 @@ too_great least greatest n word small bound e high = decimal_misfits least great
 
 -- ---- octets
 
-half : (word : List ℕ) (n : ℕ) → n ≡ length word / 2 → decode_sized word n ≡ decode_of word
-half word n e = elim (cases_eq (length word % 2) 1) [
-  | inl odd ↦ decode_sized-odd word n odd ∙ sym (decode_of-odd word odd)
-  | inr even ↦ decode_sized-twice word n (omega arith)
-]
-
-written : (read : Result (List ℕ) FromHexError) (r : Result (Unit {0}) FromHexError) (out : List ℕ) → MatchResult read (λ bytes. (r ≡ Ok tt) × (out ≡ bytes)) (λ e. r ≡ Err e)
-    → (IsOk r → read ≡ Ok out) × ((IsOk r → ⊥) → IsErr read)
-written (Ok bytes) r out h = (λ ok. ap (λ (b : List ℕ). Ok b) (sym h.1), λ no. absurd (no (rw h.0 refl)))
-written (Err e) r out h = (λ ok. absurd (cc (rw h at ok)), λ no. refl)
-
-pub written_half : (word : List ℕ) (n : ℕ) (r : Result (Unit {0}) FromHexError) (out : List ℕ) → n ≡ length word / 2
-    → MatchResult (decode_sized word n) (λ bytes. (r ≡ Ok tt) × (out ≡ bytes)) (λ e. r ≡ Err e)
-    → (IsOk r → decode_of word ≡ Ok out) × ((IsOk r → ⊥) → IsErr (decode_of word))
-written_half word n r out e h = written (decode_of word) r out (rw (half word n e) at h)
-
 pub dash : (most : ℕ) (word : List ℕ) → word ≡ 45 ∷ [] → octets_in most word ≡ Some []
 unfolding octets_in
 dash most word e = rw e refl
@@ -128,6 +113,9 @@ pairs most word bytes some e ok fits =
     let len = (decode_of-ok word bytes ok).2 in
     let short : length bytes ≤ most = omega arith in
     other_word most word some e ∙ rw (ok, le-leb (length bytes) most short) refl
+
+pub whole_front : (n : ℕ) (octets rest : List ℕ) → n ≡ length octets → take n (octets ++ rest) ≡ octets
+whole_front n octets rest e = rw e (take-append_seam octets rest)
 
 within_range : (most : ℕ) (read : Result (List ℕ) FromHexError) (bytes : List ℕ) → within most read ≡ Some bytes → length bytes ≤ most
 within_range most (Ok octets) bytes e = let found = some_is _ _ bytes e in rw (← found.1) (leb-true (length octets) most found.0)

@@ -186,7 +186,6 @@ impl<'a> Cursor<'a> {
     /// Octets as pairs of hexadecimal digits, or `-` for none; at most `most`.
     #[tactic(auto, using(crate::proofs::NextWords::fits, crate::proofs::NextWords::misfits))]
     pub fn octets(&mut self, alloc: Global, most: usize) -> Result<Octets, LineFault>
-        requires { most ≤ 4095 }
         ensures range { IfOk result (λ octets. length octets ≤ most) }
         ensures gives { GivesNext (λ n. n) result self.new (next (octets_in most) self.old) }
     {

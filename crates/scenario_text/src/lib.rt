@@ -3,6 +3,7 @@
 
 mod cursor;
 mod decimal;
+mod digits;
 mod fault;
 mod later;
 mod laws;

@@ -1,14 +1,10 @@
-ghost use Rattle.std.specs.Prelude.{◌≡◌, ◌≤◌, ◌/◌, length, IfOk, IsErr, IsTrue};
-ghost use Rattle.hex.specs.Hex.{decode_of};
+ghost use Rattle.std.specs.Prelude.{◌≡◌, ◌≤◌, IfOk};
 ghost use Rattle.scenario_text.specs.Reading.{decimal_in, framing_in, time_in, octets_in};
 
 use crate::decimal::decimal;
+use crate::digits::decodes;
 use bcast_base::{Memory, Octets};
-use hex::decode_to_slice;
 use std::alloc::Global;
-
-/// The most octets that a word of the lines built so far spells.
-const MOST_OCTETS: usize = 4_095;
 
 /// The number from `least` to `greatest` that a word spells.
 #[tactic(auto, using(crate::proofs::OneWord::decimal_fits, crate::proofs::OneWord::decimal_misfits))]
@@ -53,18 +49,8 @@ pub fn time_of(word: &[u8], greatest: u64) -> Option<Option<u64>>
     }
 }
 
-/// Whether a word is pairs of hexadecimal digits, and what they spell.
-fn decodes(word: &[u8], octets: &mut [u8]) -> bool
-    requires { length octets.old ≡ length word.now / 2 }
-    ensures yes { IsTrue result → decode_of word.now ≡ Ok octets.new }
-    ensures no { ¬ IsTrue result → IsErr (decode_of word.now) }
-{
-    decode_to_slice(word, octets).is_ok()
-}
-
 /// At most `most` octets as pairs of hexadecimal digits, or `-` for none.
 pub fn octets_of(alloc: Global, word: &[u8], most: usize) -> Result<Option<Octets>, Memory>
-    requires { most ≤ 4095 }
     ensures { IfOk result (λ octets. octets ≡ octets_in most word.now) }
 {
     if word == b"-".as_slice() {
@@ -77,10 +63,9 @@ pub fn octets_of(alloc: Global, word: &[u8], most: usize) -> Result<Option<Octet
     if count > most {
         return Ok(None);
     }
-    let mut room = [0u8; MOST_OCTETS];
-    let octets = &mut room[..count];
-    if !decodes(word, octets) {
+    let mut octets = vec![in alloc; 0u8; count]?;
+    if !decodes(word, octets.as_mut_slice()) {
         return Ok(None);
     }
-    Ok(Some(Octets::copy(alloc, octets)?))
+    Ok(Some(Octets::of(octets)))
 }

@@ -1,13 +1,35 @@
-ghost use Rattle.std.specs.Prelude.{◌≡◌, ◌++◌, OnOk, OnErr, ◌<◌, ◌≤◌, length};
-ghost use Rattle.hex.specs.Hex.{encode_lower};
+ghost use Rattle.std.specs.Prelude.{◌≡◌, ◌++◌, OnOk, OnErr, ◌<◌, ◌≤◌, ◌*◌, length, slice_index};
+ghost use Rattle.hex.specs.Hex.{encode_lower, lower_digits};
 ghost use Rattle.transcript_text.specs.Fronts.{AFront};
 ghost use Rattle.transcript_text.specs.Lines.{digits};
 
 use bcast_base::{Memory, Octets};
-use hex::encode_to_slice;
 
 /// The most octets that are put at once as digits.
 const CHUNK: usize = 256;
+
+/// The lower-case digit of a number below 16.
+fn digit(number: u8) -> u8
+    requires { number < 16 }
+    ensures { result ≡ slice_index lower_digits number }
+{
+    if number < 10 {
+        b'0' + number
+    } else {
+        b'a' + (number - 10)
+    }
+}
+
+/// Writes the two digits of each octet.
+fn write_digits(octets: &[u8], digits: &mut [u8])
+    requires { length digits.old ≡ 2 * length octets.now }
+    ensures { digits.new ≡ encode_lower octets.now }
+{
+    'octets: for i in 0..octets.len() {
+        digits[2 * i] = digit(octets[i] / 16);
+        digits[2 * i + 1] = digit(octets[i] % 16);
+    }
+}
 
 /// At most 256 octets in lower-case digits.
 fn put_chunk(text: &mut Octets, octets: &[u8]) -> Result<(), Memory>
@@ -17,7 +39,7 @@ fn put_chunk(text: &mut Octets, octets: &[u8]) -> Result<(), Memory>
 {
     let mut room = [0u8; 2 * CHUNK];
     let digits = &mut room[..2 * octets.len()];
-    let _ = encode_to_slice(octets, digits);
+    write_digits(octets, digits);
     text.append(digits)
 }
 

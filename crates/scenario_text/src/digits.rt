@@ -1,0 +1,60 @@
+//! Pairs of hexadecimal digits. Each loop runs to its end, so that the compiler can take many digits at once.
+ghost use Rattle.std.specs.Prelude.{◌≡◌, ◌<◌, ◌+◌, ◌*◌, ◌/◌, ◌%◌, true, Ok, Some, IsErr, IsTrue, length};
+ghost use Rattle.std.specs.List.{list_all};
+ghost use Rattle.std.specs.Option.{unwrap_or};
+ghost use Rattle.hex.specs.Hex.{decode_of, hex_digit_value, is_hex_digit};
+
+/// Whether an octet is a hexadecimal digit of either case.
+fn is_digit(octet: u8) -> bool
+    ensures { result ≡ is_hex_digit octet }
+{
+    matches!(octet, b'A'..=b'F' | b'a'..=b'f' | b'0'..=b'9')
+}
+
+/// Whether all octets are digits.
+fn are_digits(word: &[u8]) -> bool
+    ensures { result ≡ list_all is_hex_digit word.now }
+{
+    let mut are = true;
+    'digits: for octet in word {
+        are &= is_digit(*octet);
+    }
+    are
+}
+
+/// The value of a digit: the letters stand from 65 and from 97 on, and the figures from 48 on.
+fn value(digit: u16) -> u16
+    requires { is_hex_digit digit ≡ true }
+    ensures exact { hex_digit_value digit ≡ Some result }
+    ensures within { result < 16 }
+{
+    digit % 16 + digit / 64 * 9
+}
+
+/// The octet that a pair of digits spells, the first of them in the low octet.
+fn joined(pair: u16) -> u8
+    requires first { is_hex_digit (pair % 256) ≡ true }
+    requires second { is_hex_digit (pair / 256) ≡ true }
+    ensures { result ≡ unwrap_or (hex_digit_value (pair % 256)) 0 * 16 + unwrap_or (hex_digit_value (pair / 256)) 0 }
+{
+    (value(pair % 256) * 16 + value(pair / 256)) as u8
+}
+
+/// Whether a word is pairs of hexadecimal digits, and what they spell.
+pub(crate) fn decodes(word: &[u8], octets: &mut [u8]) -> bool
+    requires { length octets.old ≡ length word.now / 2 }
+    ensures yes { IsTrue result → decode_of word.now ≡ Ok octets.new }
+    ensures no { ¬ IsTrue result → IsErr (decode_of word.now) }
+{
+    if word.len() % 2 != 0 {
+        return false;
+    }
+    if !are_digits(word) {
+        return false;
+    }
+    let (pairs, _) = word.as_chunks::<2>();
+    'pairs: for i in 0..octets.len() {
+        octets[i] = joined(u16::from_le_bytes(pairs[i]));
+    }
+    true
+}
