@@ -25,8 +25,3 @@ pub use laws::{fault_is_at_cut, read_is_base};
 pub use reading::decode_base;
 pub use subgroup::{BaseEntry, Entries, Subgroup, is_lc3_codec};
 pub use writing::encode_base;
-
-#[cfg(test)]
-mod ad_tests;
-#[cfg(test)]
-mod tests;

@@ -15,6 +15,3 @@ pub use operation::{AddSource, ModifySource, Operation};
 pub use reading::decode_operation;
 pub use wishes::{Wish, Wishes};
 pub use writing::encode_operation;
-
-#[cfg(test)]
-mod tests;

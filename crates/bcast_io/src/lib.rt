@@ -22,6 +22,3 @@ pub use read_ahead::AHEAD_LIMIT;
 pub use sink::{ByteSink, SinkFault};
 pub use source::{ByteSource, Failed};
 pub use whole::write_whole;
-
-#[cfg(test)]
-mod tests;

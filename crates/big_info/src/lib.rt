@@ -2,8 +2,6 @@
 #![tactic(auto)]
 
 mod big_fault;
-#[cfg(test)]
-mod codec_tests;
 mod decode;
 mod encode;
 mod fault;
@@ -13,8 +11,6 @@ mod laws;
 mod limits;
 mod rows;
 mod schedule;
-#[cfg(test)]
-mod tests;
 mod time;
 mod word;
 

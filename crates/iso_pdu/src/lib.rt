@@ -14,6 +14,3 @@ pub use framed_pdu::FramedPdu;
 pub use laws::{fault_is_at_cut, read_is_layout, written_is_read};
 pub use pdu::{Pdu, read_pdu, write_end, write_fragment};
 pub use segment::{Segment, Segments};
-
-#[cfg(test)]
-mod tests;

@@ -5,14 +5,10 @@ mod air_laws;
 mod cell;
 mod in_call;
 mod laws;
-#[cfg(test)]
-mod out_tests;
 mod ring;
 mod run;
 mod slots;
 mod stream;
-#[cfg(test)]
-mod tests;
 mod unframed_in;
 mod unframed_out;
 mod window;

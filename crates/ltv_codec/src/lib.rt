@@ -19,6 +19,3 @@ pub use laws::{bad_is_at_cut, read_is_list};
 pub use ltvs::{Ltv, Ltvs};
 pub use reading::{check_ltvs, decode_ltvs, first_value};
 pub use writing::encode_ltvs;
-
-#[cfg(test)]
-mod tests;

@@ -12,6 +12,3 @@ pub use laws::{
 pub use reading::{array_at, counted_at, number_at, octet_at, octets_at, place_of};
 pub use subgroups::{LentSubgroup, are_reserved, put_subgroup, reserved_subgroup, subgroup_at};
 pub use writing::{put_counted, put_number};
-
-#[cfg(test)]
-mod tests;

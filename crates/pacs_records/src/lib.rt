@@ -21,6 +21,3 @@ pub use reading::decode_pacs;
 pub use record::PacRecord;
 pub use records::Records;
 pub use writing::encode_pacs;
-
-#[cfg(test)]
-mod tests;

@@ -3,8 +3,6 @@
 
 mod air;
 mod payload;
-#[cfg(test)]
-mod tests;
 
 pub use air::{Air, AirFault};
 pub use payload::payload_of;

@@ -14,6 +14,3 @@ pub use laws::{fault_is_cause, fits_is_spelled, read_is_state};
 pub use reading::decode_state;
 pub use state::{Encryption, GroupState, GroupStates, ReceiveState};
 pub use writing::encode_state;
-
-#[cfg(test)]
-mod tests;

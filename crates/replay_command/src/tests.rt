@@ -48,6 +48,17 @@ fn tallies(alloc: Global, count: usize) -> Result<Vec<Box<dyn Outlet>>, Fail> {
     Ok(outlets)
 }
 
+/// Runs a scenario, for tests that ask only what it does.
+fn run_with<S: ByteSource, K: ByteSink>(
+    alloc: Global,
+    words: &Words,
+    source: &mut S,
+    sink: &mut K,
+    outlets: &mut Vec<Box<dyn Outlet>>,
+) -> Status {
+    replay(alloc, words, source, sink, outlets)
+}
+
 /// Runs a text with two boxes.
 fn run<S: ByteSource, K: ByteSink>(
     alloc: Global,
@@ -55,7 +66,7 @@ fn run<S: ByteSource, K: ByteSink>(
     sink: &mut K,
 ) -> Result<Status, Fail> {
     let mut outlets = tallies(alloc, 2)?;
-    Ok(replay(alloc, &Words::new(alloc), source, sink, &mut outlets))
+    Ok(run_with(alloc, &Words::new(alloc), source, sink, &mut outlets))
 }
 
 /// Runs each row with a source of so many octets a call.
@@ -73,7 +84,7 @@ fn run_rows(rt: &(impl Abort + AllocGlobal), piece: usize) -> Result<(), Fail>
         let mut sink = FaithfulSink::new(rt.alloc());
         let mut outlets = tallies(rt.alloc(), boxes)?;
         let words = Words::new(rt.alloc());
-        let status = replay(rt.alloc(), &words, &mut source, &mut sink, &mut outlets);
+        let status = run_with(rt.alloc(), &words, &mut source, &mut sink, &mut outlets);
         assert_eq!(rt; sink.taken(), transcript.as_bytes(), "{name}");
         assert_eq!(rt; status.exit_code(), exit_code, "{name}");
     }
@@ -134,7 +145,7 @@ fn any_word_is_usage_and_writes_nothing(rt: HostRuntime) -> Result<(), Fail> {
     let mut outlets = tallies(rt.alloc(), 0)?;
     let mut words = Words::new(rt.alloc());
     words.push(String::from_str(rt.alloc(), "x")?)?;
-    let status = replay(rt.alloc(), &words, &mut source, &mut sink, &mut outlets);
+    let status = run_with(rt.alloc(), &words, &mut source, &mut sink, &mut outlets);
     assert_eq!(rt; status, Status::Usage);
     assert_eq!(rt; sink.taken(), [].as_slice());
     Ok(())
@@ -154,7 +165,7 @@ fn run_with_faults(
     let mut outlets: Vec<Box<dyn Outlet>> = Vec::new(rt.alloc());
     outlets.push(Box::new(rt.alloc(), FailingTally::new(takes))?)?;
     let words = Words::new(rt.alloc());
-    let status = replay(rt.alloc(), &words, &mut source, &mut sink, &mut outlets);
+    let status = run_with(rt.alloc(), &words, &mut source, &mut sink, &mut outlets);
     assert!(rt; LEAST_PATH_TRANSCRIPT.as_bytes().starts_with(sink.taken()));
     if status == Status::Done {
         assert_eq!(rt; sink.taken(), LEAST_PATH_TRANSCRIPT.as_bytes());

@@ -9,8 +9,6 @@ mod later;
 mod laws;
 mod line;
 mod step;
-#[cfg(test)]
-mod tests;
 mod word;
 
 pub use fault::LineFault;

@@ -5,8 +5,6 @@ mod broadcast;
 mod fault;
 mod laws;
 mod stream;
-#[cfg(test)]
-mod tests;
 
 pub use broadcast::Broadcast;
 pub use fault::{EventFault, GiveFault};

@@ -5,8 +5,6 @@ mod hearing;
 mod line;
 mod octets;
 mod refusal;
-#[cfg(test)]
-mod tests;
 mod word;
 
 pub use hearing::put_heard;

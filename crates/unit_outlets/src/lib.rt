@@ -8,8 +8,6 @@ mod outlet;
 mod sums;
 mod taker;
 mod tally;
-#[cfg(test)]
-mod tests;
 
 pub use failing_tally::FailingTally;
 pub use fault::{OutletFault, TakerFault};

@@ -1,4 +1,4 @@
-use crate::{Caps, Config, LtvBad, Ltvs, check_ltvs, contexts_of, decode_ltvs, encode_ltvs};
+use ltv_codec::{Caps, Config, LtvBad, Ltvs, check_ltvs, contexts_of, decode_ltvs, encode_ltvs};
 use std::test::Fail;
 
 // A codec configuration of 16_2_1 (BlueZ, test programs of the audio profiles): 16 kHz, 10 ms, front left, 40 octets.

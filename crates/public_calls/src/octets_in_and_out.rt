@@ -1,8 +1,8 @@
-use crate::{
+use bcast_base::{Calls, Octets};
+use bcast_io::{
     ByteSource, EndlessSource, Failed, FaithfulSink, FaithfulSource, LineRead, LineReader,
     MemorySink, MemorySource, ReadSource, SinkFault, WriteSink, write_whole,
 };
-use bcast_base::{Calls, Octets};
 use std::test::Fail;
 
 fn calls(rt: &HostRuntime, number: u64) -> Result<Calls, Fail> {

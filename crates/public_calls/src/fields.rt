@@ -1,5 +1,5 @@
-use crate::{counted_at, number_at, octet_at, octets_at, place_of, put_counted, put_number};
 use bcast_base::Octets;
+use octet_fields::{counted_at, number_at, octet_at, octets_at, place_of, put_counted, put_number};
 use std::test::Fail;
 
 // The first fields of a BASE: a presentation delay of 40000 µs, one subgroup, two BISes, LC3, and a configuration

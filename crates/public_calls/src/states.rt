@@ -1,5 +1,5 @@
-use crate::{GroupState, GroupStates, decode_state, encode_state};
 use bcast_base::Octets;
+use receive_state::{GroupState, GroupStates, decode_state, encode_state};
 use std::test::Fail;
 
 // A source of the public address 11:22:33:44:55:66, SID 3 and Broadcast_ID 0x123456 to which the server isn't synchronised,

@@ -1,6 +1,6 @@
-use crate::UnframedOut;
 use big_info::{BigInfo, check_group};
 use isoal_base::EventLaid;
+use isoal_unframed::UnframedOut;
 use std::test::Fail;
 
 /// Units of at most 8 octets every 10 ms in two PDUs of at most 4 on LE 2M, each sent once.

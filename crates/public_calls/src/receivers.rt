@@ -2,11 +2,11 @@ ghost use Rattle.std.specs.Prelude.{◌≡◌, ◌++◌, ◌∷◌, [], map, OnO
 ghost use Rattle.unit_outlets.specs.Handed.{Caused};
 ghost use Rattle.isoal_unframed.specs.Windows.{handed_of};
 
-use crate::UnframedIn;
 use bcast_base::{Bis, Memory, Octets};
 use big_info::{BigInfo, check_group};
 use iso_pdu::PduFault;
 use isoal_base::Heard;
+use isoal_unframed::UnframedIn;
 use std::alloc::Global;
 use std::test::Fail;
 use unit_outlets::{TakerFault, UnitTaker};

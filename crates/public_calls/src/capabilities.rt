@@ -1,6 +1,6 @@
-use crate::{PacRecord, Records, decode_pacs, encode_pacs};
 use bcast_base::Octets;
 use ltv_codec::check_ltvs;
+use pacs_records::{PacRecord, Records, decode_pacs, encode_pacs};
 use std::test::Fail;
 
 const LC3: [u8; 5] = [6, 0, 0, 0, 0];

@@ -1,6 +1,6 @@
-use crate::{FailingTally, LastUnits, Outlet, OutletFault, Tally, take_at};
 use bcast_base::Calls;
 use std::test::*;
+use unit_outlets::{FailingTally, LastUnits, Outlet, OutletFault, Tally, take_at};
 
 #[test]
 fn the_last_two_of_three_units_are_kept(rt: HostRuntime) -> Result<(), Fail> {

@@ -1,4 +1,4 @@
-use crate::{BigInfo, Group, GroupFault, check_group};
+use big_info::{BigInfo, Group, GroupFault, check_group};
 use std::test::Fail;
 
 /// One unit of 4 octets every 10 ms on LE 2M, sent once.

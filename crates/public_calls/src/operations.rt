@@ -1,4 +1,4 @@
-use crate::{Wish, Wishes, decode_operation, encode_operation};
+use bass_operations::{Wish, Wishes, decode_operation, encode_operation};
 use bcast_base::Octets;
 use std::test::Fail;
 

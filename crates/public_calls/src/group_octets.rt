@@ -1,4 +1,4 @@
-use crate::{BigFault, BigInfo, Cipher, decode_big_info, encode_big_info};
+use big_info::{BigFault, BigInfo, Cipher, decode_big_info, encode_big_info};
 use std::test::Fail;
 
 /// The BIGInfo of a group of one stream that is announced with an offset of 3,000 µs.

@@ -1,4 +1,4 @@
-use crate::{BaseDraft, DraftFault, encode_base, is_lc3_codec};
+use base_grammar::{BaseDraft, DraftFault, encode_base, is_lc3_codec};
 use bcast_base::Bis;
 use ltv_codec::check_ltvs;
 use std::test::Fail;

@@ -1,6 +1,6 @@
-use crate::{anchor, framed_reference, render, unframed_reference};
 use big_info::{BigInfo, check_group};
 use std::test::Fail;
+use sync_reference::{anchor, framed_reference, render, unframed_reference};
 
 /// Two units of 4 octets every 10 ms on LE 2M, sent once.
 const UNFRAMED: BigInfo = BigInfo {

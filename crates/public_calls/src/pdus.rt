@@ -1,4 +1,4 @@
-use crate::{
+use iso_pdu::{
     Control, ControlFault, FramedPdu, Pdu, PduFault, Segment, read_control, read_pdu, write_end,
     write_fragment, write_terminate,
 };

@@ -1,4 +1,4 @@
-use crate::{AdShort, broadcast_id, service_data, structure, write_ad};
+use base_grammar::{AdShort, broadcast_id, service_data, structure, write_ad};
 use bcast_base::Octets;
 use std::test::Fail;
 

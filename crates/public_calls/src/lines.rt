@@ -1,4 +1,4 @@
-use crate::{LineFault, Step, read_line, read_line_in};
+use scenario_text::{LineFault, Step, read_line, read_line_in};
 use std::alloc::Global;
 
 fn fault_of(alloc: Global, line: &[u8]) -> Option<LineFault> {

@@ -1,8 +1,8 @@
 ghost use Rattle.std.specs.Prelude.{◌≡◌};
 
-use crate::{Broadcast, EventFault, GiveFault};
 use bcast_base::Bis;
 use big_info::{BigInfo, check_group};
+use source_machine::{Broadcast, EventFault, GiveFault};
 use std::test::Fail;
 
 /// One stream of a unit every 10 ms in PDUs of at most 4 octets on LE 2M.

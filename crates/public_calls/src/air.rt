@@ -1,8 +1,8 @@
 ghost use Rattle.std.specs.Prelude.{◌≡◌, IfOk, length};
 
-use crate::{Air, AirFault, payload_of};
 use bcast_base::{Bis, EventPdus, Memory, Octets};
 use big_info::{BigInfo, check_group};
+use radio_schedule::{Air, AirFault, payload_of};
 use std::alloc::Global;
 use std::test::Fail;
 

@@ -1,9 +1,9 @@
-use crate::{Refusal, put_heard, put_lost, put_pdu, put_refusal, put_sum, put_valid};
 use bcast_base::Octets;
 use big_info::GroupFault;
 use iso_pdu::PduFault;
 use isoal_base::{Heard, Hearing};
 use std::test::Fail;
+use transcript_text::{Refusal, put_heard, put_lost, put_pdu, put_refusal, put_sum, put_valid};
 
 #[test]
 fn units_are_put_with_ample_memory(rt: HostRuntime) -> Result<(), Fail> {
