@@ -6,7 +6,7 @@ use Rattle.big_info.specs.Schedule.{per_unit_of}
 use Rattle.iso_pdu.specs.Layout.{Content}
 use Rattle.isoal_unframed.specs.Slot.{laid}
 use Rattle.radio_schedule.specs.PayloadNumber.{payload_number}
-use Rattle.isoal_base.specs.Air.{Air, pdu_at}
+use Rattle.isoal_base.specs.Air.{Air, begun_in, pdu_at}
 use Rattle.isoal_unframed.specs.Air.{before_event, unframed_air, unit_at}
 use Rattle.isoal_unframed.specs.Calls.{begun}
 use Rattle.source_machine.specs.Calls.{Setup, Call, given, stream_calls}
