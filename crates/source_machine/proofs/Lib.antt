@@ -4,4 +4,5 @@ mod LaidEvents
 mod Lists
 mod Orders
 mod Payloads
+mod Sending
 mod Standing

@@ -1,8 +1,8 @@
 use Rattle.std.proofs.Common.{arith, sym}
-use Rattle.source_machine.specs.Streams.{Grows, Lays}
+use Rattle.source_machine.specs.State.Streams.{Grows, Lays}
 use Rattle.source_machine.proofs.LaidEvents.{grows_none}
 use Rattle.source_machine.proofs.Lists.{each_done, on_err, rest_same, zip_all, zip_broken}
-use Rattle.source_machine.proofs.stream.lay_all.Goals as goal
+use Rattle.source_machine.proofs.stream.lay_each.Goals as goal
 
 pub streams-preserved : goal.streams-preserved
 streams-preserved c = record {

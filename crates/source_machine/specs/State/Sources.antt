@@ -1,5 +1,6 @@
--- A source between its start and its stop, and the calls that it stands for.
-use Rattle.std.specs.Prelude.{ℕ, ◌+◌, ◌-◌, ◌≡◌, List, [], length, drop, map, min, Option, Some, None}
+-- A source between its start and its stop, and the calls that it stands for (Core 5.2, volume 6 part B, section 4.4.6,
+-- and part G, section 2).
+use Rattle.std.specs.Prelude.{ℕ, ◌+◌, ◌-◌, ◌≡◌, Bool, true, false, List, [], length, drop, map, min, Option, Some, None}
 use Rattle.std.specs.List.{range_with_len}
 use Rattle.big_info.specs.declared.info.BigInfo.{BigInfo}
 use Rattle.big_info.specs.Schedule.{horizon_of}
@@ -7,6 +8,9 @@ use Rattle.isoal_base.specs.Air.{Air, Laid, event_at}
 use Rattle.isoal_unframed.specs.Air.{unframed_air}
 use Rattle.isoal_unframed.specs.Calls.{Call as StreamCall, accepted, begun}
 use Rattle.source_machine.specs.Calls.{Setup, Call, next_of, stream_calls}
+use Rattle.source_machine.specs.declared.setup.Identity.{Identity}
+use Rattle.source_machine.specs.declared.setup.Plan.{Plan}
+use Rattle.source_machine.specs.declared.setup.Setup.{Setup as Configured}
 use Rattle.source_machine.specs.declared.fault.EventFault.{EventFault}
 use Rattle.source_machine.specs.declared.fault.EventFault.TheVariants.{CounterEnds, Memory}
 
@@ -16,11 +20,25 @@ pub record Stream : Type 0 where
   pub waiting : List (List ℕ)
   pub laid : List (List (List ℕ))
 
--- the setup, the next event, and the streams by rising index
+-- who the source is, its setup, the next event, the streams by rising index, and whether an event wanted memory
 pub record Source : Type 0 where
+  pub identity : Identity
   pub setup : Setup
   pub next : ℕ
   pub streams : List Stream
+  pub failed : Bool
+
+-- what the source is configured with
+abbrev pub configured_in : Source → Configured
+configured_in source = record {
+  identity = source.identity;
+  info = source.setup.info;
+  origin = source.setup.origin;
+  delay = source.setup.delay;
+}
+
+abbrev pub setup_in : Plan → Configured
+setup_in plan = record { identity = plan.identity; info = plan.group.info; origin = plan.origin; delay = plan.delay }
 
 -- the PDUs of an event of an air
 abbrev pub pdus_in : Option Laid → List (List ℕ)
@@ -34,9 +52,9 @@ pdus_at air event = pdus_in (event_at air event)
 abbrev pub last_laid : ℕ → Air → List (List (List ℕ))
 last_laid count air = map (pdus_at air) (range_with_len (length air - count) (min count (length air)))
 
--- how many events that are laid a stream keeps: the last 32 that were performed, and the H events behind them
+-- how many events that are laid a stream keeps: the last one that was performed, and the H events behind it
 abbrev pub kept_of : BigInfo → ℕ
-kept_of info = horizon_of info + 32
+kept_of info = horizon_of info + 1
 
 -- a stream after these calls
 abbrev pub stream_after : BigInfo → List StreamCall → Stream
@@ -53,8 +71,16 @@ stream_of setup calls bis = stream_after setup.info (stream_calls setup.info bis
 pub record StandsFor (calls : List Call) (source : Source) : Type 0 where
   pub next : source.next ≡ next_of source.setup calls
   pub streams : source.streams ≡ map (stream_of source.setup calls) (range_with_len 1 source.setup.info.num_bis)
+  pub works : source.failed ≡ false
 
--- what a refused event leaves: all as it was; nothing is said after want of memory
+-- the source has failed; nothing else changed but its streams
+pub record Fails (old new : Source) : Type 0 where
+  pub identity : new.identity ≡ old.identity
+  pub setup : new.setup ≡ old.setup
+  pub next : new.next ≡ old.next
+  pub failed : new.failed ≡ true
+
+-- what a refused event leaves: all as it was, or a source that has failed
 abbrev pub AfterFault : EventFault → Source → Source → Type 0
 AfterFault CounterEnds old new = new ≡ old
-AfterFault Memory old new = Unit {0}
+AfterFault Memory old new = Fails old new

@@ -1,7 +1,7 @@
 use Rattle.std.proofs.Common.{◌≡◌, ◌<◌, ◌≤◌, ℕ, get_or}
-use Rattle.source_machine.specs.Sources.{Stream}
-use Rattle.source_machine.specs.Streams.{Lays}
-use Rattle.source_machine.proofs.stream.lay_all.Given as goal
+use Rattle.source_machine.specs.State.Sources.{Stream}
+use Rattle.source_machine.specs.State.Streams.{Lays}
+use Rattle.source_machine.proofs.stream.lay_each.Given as goal
 
 abbrev pub invariant-streams : goal.invariant-streams
 invariant-streams l = record {
