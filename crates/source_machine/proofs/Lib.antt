@@ -1,4 +1,5 @@
 mod Advances
+pub mod AirLaws
 mod Histories
 mod LaidEvents
 mod Lists

@@ -44,6 +44,9 @@ gathered_at f items n i is below =
     ∙ slice_get-get_or (map f (range_with_len 0 n)) i None (omega arith)
     ∙ ap Some (get_or-map-range_with_len f 0 n i i None (omega arith) (omega arith)))
 
+pub gathered_count : {A : Type 0} (f : ℕ → Option A) (items : List A) (n : ℕ) → map Some items ≡ map f (range_with_len 0 n) → length items ≡ n
+gathered_count f items n is = sym (length-map items Some) ∙ ap length is ∙ length-map-range_with_len f 0 n
+
 -- what is gathered from streams that performed an event is what the event sends
 pub event_sends : (setup : Setup) (calls : List Call) (streams : List Stream) (pdus : List (List ℕ)) → 1 ≤ setup.info.bn
     → group_count setup.info * setup.info.bn ≡ setup.info.nse → 0 < events calls
@@ -52,8 +55,7 @@ pub event_sends : (setup : Setup) (calls : List Call) (streams : List Stream) (p
     → Sends setup (airs_of setup calls) (next_of setup calls - 1) pdus
 event_sends setup calls streams pdus some whole performed are gathered =
     let info = setup.info in
-    let count : length pdus ≡ info.num_bis * info.nse =
-    sym (length-map pdus Some) ∙ ap length gathered ∙ length-map-range_with_len (sent_at info streams) 0 (info.num_bis * info.nse) in
+    let count : length pdus ≡ info.num_bis * info.nse = gathered_count (sent_at info streams) pdus (info.num_bis * info.nse) gathered in
     record {
       count = count;
       each = λ bis subevent least within below.

@@ -18,7 +18,7 @@ use Rattle.source_machine.specs.State.Streams.{Accepts, IsFit, IsSource, Lays, P
 use Rattle.source_machine.specs.declared.setup.Identity.{Identity}
 use Rattle.source_machine.specs.declared.fault.GiveFault.TheVariants.{Backlog}
 use Rattle.source_machine.proofs.Advances.{streams_next}
-use Rattle.source_machine.proofs.Sending.{event_sends}
+use Rattle.source_machine.proofs.Sending.{event_sends, gathered_count}
 use Rattle.source_machine.proofs.Histories.{airs_only, given_other, given_same, waiting_is}
 
 pub stands_new : (setup : Setup) (streams : List Stream) → streams ≡ replicate setup.info.num_bis (stream_after setup.info [])
@@ -127,6 +127,7 @@ pub performs : (source : Source) (count : ℕ) (new : List Stream) (pdus : List 
 performs source count new pdus is some whole first later laying gathered = record {
   next = refl;
   failed = refl;
+  count = gathered_count (sent_at source.setup.info new) pdus (source.setup.info.num_bis * source.setup.info.nse) gathered;
   stands = λ calls stands. stands_event source calls count new stands first later laying;
   sent = λ calls airs stands are.
       let after = stands_event source calls count new stands first later laying in

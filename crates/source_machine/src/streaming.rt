@@ -1,4 +1,5 @@
-ghost use Rattle.std.specs.Prelude.{◌≡◌, ◌≤◌, ◌<◌, ◌+◌, ◌-◌, ◌*◌, ◌^◌, ◌∷◌, ◌↔◌, [], List, Some, None, true, false, IfOk, IfErr, IsTrue, OnOk, OnErr};
+ghost use Rattle.std.specs.Prelude.{◌≡◌, ◌≤◌, ◌<◌, ◌+◌, ◌-◌, ◌*◌, ◌^◌, ◌∷◌, ◌↔◌, [], List, length, Some, None, true, false, IfOk, IfErr, IsTrue, OnOk, OnErr};
+ghost use Rattle.big_info.specs.Bounds.{Bounds};
 ghost use Rattle.big_info.specs.Schedule.{horizon_of};
 ghost use Rattle.big_info.specs.Time.{iso_us_of};
 ghost use Rattle.sync_reference.specs.Reference.{anchor_of};
@@ -80,6 +81,7 @@ impl SourceStreaming {
             → give_fault self.old.setup calls airs bis time octets.now ≡ refused_unit fault) }
         ensures failed { self.old.failed ≡ true → IfErr result (λ fault. fault ≡ GiveMemory) }
         ensures works { OnOk result (self.old.failed ≡ false) }
+        ensures checked { Bounds self.old.setup.info × (self.old.setup.info.framing ≡ 0) }
     {
         if self.has_failed {
             return Err(GiveFault::Memory);
@@ -102,12 +104,14 @@ impl SourceStreaming {
         ensures event { IfOk result (λ sent. (sent.event ≡ self.old.next) × (self.new.next ≡ self.old.next + 1)) }
         ensures pdus { IfOk result (λ sent. (calls : List Call) (airs : List Air) → StandsFor calls self.old → AreAirs self.old.setup (performs ∷ calls) airs
             → Sends self.old.setup airs sent.event sent.pdus) }
+        ensures count { IfOk result (λ sent. length sent.pdus ≡ self.old.setup.info.num_bis * self.old.setup.info.nse) }
         ensures stale { IfOk result (λ sent. sent.stale ≡ []) }
         ensures err { IfErr result (λ fault. AfterFault fault self.old self.new) }
         ensures cause { IfErr result (λ fault. (calls : List Call) → StandsFor calls self.old
             → event_fault self.old.setup calls ≡ refused_event fault) }
         ensures failed { self.old.failed ≡ true → IfErr result (λ fault. fault ≡ EventMemory) }
         ensures works { OnOk result (self.old.failed ≡ false) }
+        ensures checked { Bounds self.old.setup.info × (self.old.setup.info.framing ≡ 0) }
     {
         if self.has_failed {
             return Err(EventFault::Memory);

@@ -1,5 +1,5 @@
 -- What is true of every source and of each of its streams, and what laying events does to a stream.
-use Rattle.std.specs.Prelude.{ℕ, ◌+◌, ◌-◌, ◌/◌, ◌%◌, ◌^◌, ◌≡◌, ◌≤◌, ◌<◌, min, List, ◌∷◌, length, All, Option, None, slice_get, option_and_then}
+use Rattle.std.specs.Prelude.{ℕ, ◌+◌, ◌-◌, ◌*◌, ◌/◌, ◌%◌, ◌^◌, ◌≡◌, ◌≤◌, ◌<◌, min, List, ◌∷◌, length, All, Option, None, slice_get, option_and_then}
 use Rattle.big_info.specs.declared.info.BigInfo.{BigInfo}
 use Rattle.big_info.specs.Schedule.{horizon_of}
 use Rattle.isoal_base.specs.Air.{Air}
@@ -77,5 +77,6 @@ pub record Accepts (octets : List ℕ) (old new : Stream) : Type 0 where
 pub record Performs (old new : Source) (pdus : List (List ℕ)) : Type 0 where
   pub next : new.next ≡ old.next + 1
   pub failed : new.failed ≡ old.failed
+  pub count : length pdus ≡ old.setup.info.num_bis * old.setup.info.nse
   pub stands : (calls : List SourceCall) → StandsFor calls old → StandsFor (event ∷ calls) new
   pub sent : (calls : List SourceCall) (airs : List Air) → StandsFor calls old → AreAirs old.setup (event ∷ calls) airs → Sends old.setup airs old.next pdus
