@@ -17,7 +17,7 @@ use Rattle.scenario_sinks.specs.declared.gathered.Gathered.{Gathered}
 use Rattle.scenario_sinks.specs.declared.gathered.HandedUnit.{HandedUnit}
 use Rattle.scenario_sinks.specs.declared.sink.Owner.{Owner}
 use Rattle.scenario_sinks.specs.declared.sink.Sink.{Sink}
-use Rattle.scenario_sinks.specs.declared.stop.Stop.{Stop}
+use Rattle.transcript_text.specs.declared.stop.Stop.{Stop}
 use Rattle.scenario_sinks.specs.Pasts.{Past, with_close}
 use Rattle.scenario_sinks.specs.Handing.{Hands}
 use Rattle.scenario_sinks.specs.declared.sinks.Sinks.{Sinks}

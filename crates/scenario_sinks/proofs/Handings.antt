@@ -9,8 +9,8 @@ use Rattle.unit_outlets.specs.declared.fault.OutletFault.{OutletFault as Refusal
 use Rattle.unit_outlets.specs.declared.fault.OutletFault.TheVariants.{Failed, Memory as NoMemory}
 use Rattle.scenario_history.specs.Boxes.{SinkUnit, account_at, accounts_after, no_account, with_handed}
 use Rattle.scenario_history.specs.Output.{unit_line, unit_lines}
-use Rattle.scenario_sinks.specs.declared.stop.Stop.{Stop}
-use Rattle.scenario_sinks.specs.declared.stop.Stop.TheVariants.{Refused, OutletFault, Memory}
+use Rattle.transcript_text.specs.declared.stop.Stop.{Stop}
+use Rattle.transcript_text.specs.declared.stop.Stop.TheVariants.{Refused, OutletFault, Memory}
 use Rattle.scenario_sinks.specs.State.Gathering.{handed_of, units_for}
 use Rattle.scenario_sinks.specs.declared.gathered.HandedUnit.{HandedUnit}
 use Rattle.scenario_sinks.specs.declared.sink.Owner.{Owner}

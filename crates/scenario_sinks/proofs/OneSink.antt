@@ -11,8 +11,8 @@ use Rattle.scenario_history.specs.Sinks.{is_of}
 use Rattle.scenario_sinks.specs.declared.gathered.Gathered.{Gathered}
 use Rattle.scenario_sinks.specs.declared.sink.Sink.{Sink}
 use Rattle.scenario_sinks.specs.declared.sinks.Sinks.{Sinks}
-use Rattle.scenario_sinks.specs.declared.stop.Stop.{Stop}
-use Rattle.scenario_sinks.specs.declared.stop.Stop.TheVariants.{Refused, OutletFault, Memory}
+use Rattle.transcript_text.specs.declared.stop.Stop.{Stop}
+use Rattle.transcript_text.specs.declared.stop.Stop.TheVariants.{Refused, OutletFault, Memory}
 use Rattle.scenario_sinks.specs.Hearing.{Hears}
 use Rattle.scenario_sinks.specs.Pasts.{Past, with_sink, without, with_tuning, with_hearing}
 use Rattle.scenario_sinks.specs.Refusals.{Answers, not_made, not_living, not_tuned}
@@ -115,6 +115,9 @@ pub heard : (n at source event bis subevent : ℕ) (octets : List ℕ) (past : P
     → Hears past n source event bis subevent octets new r
 heard n at source event bis subevent octets past old new entry None stands same within eight h set more gathered = h
 heard n at source event bis subevent octets past old new entry (Some hearing) stands same within eight h set more gathered =
-    let here : EntryAt (with_hearing n source event bis subevent octets past) n (Some entry) = rw (eq-eqb n n refl) h.2 in
-    (h.0, h.1, one_changed n at past (with_hearing n source event bis subevent octets past) old new entry same within eight
-    (hear_stays n source event bis subevent octets past) stands here set (more ∙ stands.made) gathered)
+    let here : EntryAt (with_hearing n source event bis subevent octets past) n (Some entry) = rw (eq-eqb n n refl) h.2 in (
+      h.0,
+      h.1,
+      one_changed n at past (with_hearing n source event bis subevent octets past) old new entry same within eight
+          (hear_stays n source event bis subevent octets past) stands here set (more ∙ stands.made) gathered,
+    )

@@ -4,7 +4,7 @@ use Rattle.std.specs.List.{flat_map}
 use Rattle.unit_outlets.specs.Account.{Account}
 use Rattle.scenario_history.specs.Boxes.{SinkUnit, sink_numbers, closing_by}
 use Rattle.scenario_sinks.specs.declared.sinks.Sinks.{Sinks}
-use Rattle.scenario_sinks.specs.declared.stop.Stop.{Stop}
+use Rattle.transcript_text.specs.declared.stop.Stop.{Stop}
 use Rattle.scenario_sinks.specs.Pasts.{Past, with_close}
 use Rattle.scenario_sinks.specs.Handing.{Hands}
 use Rattle.scenario_sinks.specs.State.Standing.{SinksStand}

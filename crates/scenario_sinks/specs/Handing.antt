@@ -6,8 +6,8 @@ use Rattle.unit_outlets.specs.Took.{TookAt}
 use Rattle.unit_outlets.specs.declared.fault.OutletFault.TheVariants.{Failed}
 use Rattle.scenario_history.specs.Boxes.{SinkUnit, account_at, accounts_after}
 use Rattle.scenario_history.specs.Output.{unit_lines}
-use Rattle.scenario_sinks.specs.declared.stop.Stop.{Stop}
-use Rattle.scenario_sinks.specs.declared.stop.Stop.TheVariants.{Refused, OutletFault, Memory}
+use Rattle.transcript_text.specs.declared.stop.Stop.{Stop}
+use Rattle.transcript_text.specs.declared.stop.Stop.TheVariants.{Refused, OutletFault, Memory}
 
 -- The units before one went to their boxes and have their lines, and the box of that one failed and counted it.
 pub record BoxFails (units : List SinkUnit) (text told : List ℕ) (old new : List Account) : Type 0 where

@@ -4,8 +4,8 @@ use Rattle.std.specs.List.{flat_map}
 use Rattle.unit_outlets.specs.Account.{Account}
 use Rattle.transcript_text.specs.Lines.{sum_line}
 use Rattle.scenario_history.specs.Boxes.{account_at}
-use Rattle.scenario_sinks.specs.declared.stop.Stop.{Stop}
-use Rattle.scenario_sinks.specs.declared.stop.Stop.TheVariants.{Refused, OutletFault, Memory}
+use Rattle.transcript_text.specs.declared.stop.Stop.{Stop}
+use Rattle.transcript_text.specs.declared.stop.Stop.TheVariants.{Refused, OutletFault, Memory}
 
 -- the sums of a box as they stand
 abbrev pub sum_at : List Account → ℕ → ℕ → List ℕ

@@ -8,8 +8,8 @@ ghost use Rattle.scenario_sinks.specs.State.Between.{SinkCloses, AllClose};
 use crate::gathered::Gathered;
 use crate::hand::hand_units;
 use crate::sink::{Owner, Sink, is_of};
-use crate::stop::Stop;
 use bcast_base::Octets;
+use transcript_text::Stop;
 use unit_outlets::Outlet;
 
 /// Closes an event of a source for the sink of a number, where one lives that is of this source: its units go to its

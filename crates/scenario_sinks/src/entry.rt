@@ -10,10 +10,9 @@ ghost use Rattle.scenario_sinks.specs.State.Standing.{EntryIs};
 use crate::beyond::is_beyond;
 use crate::joining::Joining;
 use crate::sink::{Sink, is_of};
-use crate::stop::Stop;
 use bcast_base::Bis;
 use isoal_base::Hearing;
-use transcript_text::Refusal;
+use transcript_text::{Refusal, Stop};
 
 /// Puts the sink of an entry on the group of a source.
 pub(crate) fn tune_entry(

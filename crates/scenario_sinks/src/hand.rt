@@ -7,9 +7,8 @@ ghost use Rattle.scenario_sinks.specs.Handing.{BoxTakes, Hands};
 
 use crate::gathered::{Gathered, HandedUnit};
 use crate::sink::Owner;
-use crate::stop::Stop;
 use bcast_base::{Bis, Memory, Octets};
-use transcript_text::{put_lost, put_valid};
+use transcript_text::{Stop, put_lost, put_valid};
 use unit_outlets::{Outlet, OutletFault, TakerFault, take_at};
 
 /// Puts a unit into the box at a place, where there is one.
@@ -67,16 +66,7 @@ fn hand_unit(
     ensures { Hands (units_for owner (handed_of unit.now ∷ [])) text.old text.new (map account outlets.old.items) (map account outlets.new.items) result }
 {
     match &unit.octets {
-        Some(octets) => {
-            hand_valid(
-                owner,
-                unit.bis,
-                unit.time,
-                octets.as_slice(),
-                outlets,
-                text,
-            )
-        }
+        Some(octets) => { hand_valid(owner, unit.bis, unit.time, octets.as_slice(), outlets, text) }
         None => hand_lost(owner, unit.bis, unit.time, text),
     }
 }

@@ -9,9 +9,7 @@ mod hand;
 mod joining;
 mod sink;
 mod sinks;
-mod stop;
 mod sums;
 
 pub use joining::Joining;
 pub use sinks::Sinks;
-pub use stop::Stop;

@@ -6,13 +6,12 @@ use crate::entry::{hear_entry, tune_entry};
 use crate::gathered::Gathered;
 use crate::joining::Joining;
 use crate::sink::Sink;
-use crate::stop::Stop;
 use crate::sums::{put_sum_at, put_sums};
 use bcast_base::{Bis, Memory, Octets};
 use delegator_machine::Delegator;
 use isoal_base::Hearing;
 use std::alloc::Global;
-use transcript_text::Refusal;
+use transcript_text::{Refusal, Stop};
 use unit_outlets::Outlet;
 
 /// The most sinks that live at once.

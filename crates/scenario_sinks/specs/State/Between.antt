@@ -8,7 +8,7 @@ use Rattle.scenario_history.specs.Sinks.{is_of, ticked_if}
 use Rattle.scenario_history.specs.Output.{unit_lines}
 use Rattle.scenario_sinks.specs.declared.gathered.Gathered.{Gathered}
 use Rattle.scenario_sinks.specs.declared.sink.Sink.{Sink}
-use Rattle.scenario_sinks.specs.declared.stop.Stop.{Stop}
+use Rattle.transcript_text.specs.declared.stop.Stop.{Stop}
 use Rattle.scenario_sinks.specs.Pasts.{Past, with_close}
 use Rattle.scenario_sinks.specs.Handing.{Hands}
 use Rattle.scenario_sinks.specs.Closing.{closings, closings_at}

@@ -4,8 +4,8 @@ use Rattle.delegator_machine.specs.Calls.{Tuning, Call, tune, hear}
 use Rattle.isoal_base.specs.declared.hearing.Hearing.{Hearing}
 use Rattle.scenario_history.specs.Sinks.{is_of}
 use Rattle.scenario_sinks.specs.declared.sink.Sink.{Sink}
-use Rattle.scenario_sinks.specs.declared.stop.Stop.{Stop}
-use Rattle.scenario_sinks.specs.declared.stop.Stop.TheVariants.{Refused, OutletFault, Memory}
+use Rattle.transcript_text.specs.declared.stop.Stop.{Stop}
+use Rattle.transcript_text.specs.declared.stop.Stop.TheVariants.{Refused, OutletFault, Memory}
 use Rattle.scenario_sinks.specs.Hearing.{hearing_by}
 use Rattle.scenario_sinks.specs.Refusals.{not_tuned}
 use Rattle.scenario_sinks.specs.State.Standing.{EntryIs}

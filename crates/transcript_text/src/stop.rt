@@ -1,8 +1,8 @@
-use bcast_base::Memory;
-use transcript_text::Refusal;
-
 ghost use Rattle.std.specs.Prelude.{◌≡◌};
-ghost use Rattle.scenario_sinks.specs.declared.stop.Stop.TheVariants.{Memory as NoMemory};
+ghost use Rattle.transcript_text.specs.declared.stop.Stop.TheVariants.{Memory as NoMemory};
+
+use crate::refusal::Refusal;
+use bcast_base::Memory;
 
 /// Why a step is the last one.
 #[derive(Clone, Copy, Debug, PartialEq, Eq)]
