@@ -10,3 +10,4 @@ pub mod FromSources
 pub mod Closings
 pub mod Ticks
 pub mod UnitsLaw
+pub mod Closes
