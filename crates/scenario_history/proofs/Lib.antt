@@ -11,3 +11,4 @@ pub mod Closings
 pub mod Ticks
 pub mod UnitsLaw
 pub mod Closes
+pub mod Shown
