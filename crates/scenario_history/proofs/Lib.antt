@@ -12,3 +12,5 @@ pub mod Ticks
 pub mod UnitsLaw
 pub mod Closes
 pub mod Shown
+pub mod Numbers
+pub mod InOrder
