@@ -3,7 +3,7 @@
 -- B). The steps here are those of one source, the newest first.
 use Rattle.std.specs.Prelude.{ℕ, ◌-◌, ◌==◌, ◌||◌, not, Bool, true, false, List, [], ◌∷◌, Option, None, Some, unwrap_or, replicate, if◌then◌else◌}
 use Rattle.big_info.specs.declared.info.BigInfo.{BigInfo}
-use Rattle.isoal_unframed.specs.Air.{Air}
+use Rattle.isoal_base.specs.Air.{Air}
 use Rattle.source_machine.specs.Calls.{Setup, Call, give, event as perform, events, next_of}
 use Rattle.source_machine.specs.Airs.{pdu_of}
 use Rattle.scenario_text.specs.declared.step.Step.{Step}
