@@ -1,13 +1,12 @@
 -- The laws of lower crates that the laws of units stand on.
 use Rattle.std.proofs.Common.{ℕ, ◌≡◌, ◌<◌, ◌≤◌, ◌+◌, ◌++◌, List, [], length, Some}
 use Rattle.std.specs.List.{Contains}
-use Rattle.std.specs.Prelude.{◌↔◌}
 use Rattle.big_info.specs.declared.group.Group.{Group}
 use Rattle.big_info.specs.Bounds.{Bounds}
 use Rattle.iso_pdu.specs.Spelling.{pdu}
 use Rattle.isoal_base.specs.Stays as stays
 use Rattle.isoal_base.specs.Stays.{Stay, opened}
-use Rattle.isoal_unframed.specs.Air.{Air}
+use Rattle.isoal_base.specs.Air.{Air}
 use Rattle.isoal_unframed.specs.Histories.{handed}
 use Rattle.isoal_unframed.specs.Struck.{Slots, FromSource, Struck}
 use Rattle.radio_schedule.specs.PayloadNumber.{payload_number}
@@ -21,18 +20,19 @@ use Rattle.scenario_history.proofs.Legals.{LinesInRange}
 pub record Below : Type 0 where
   -- what a line says is in range
   pub in_range : LinesInRange
-  -- the calls of a source fix the airs of its streams
-  pub one_air : (setup : Setup) → (calls : List SourceCall) → (airs : List Air) → setup.info.framing ≡ 0 → AreAirs setup calls airs → airs ≡ airs_of setup calls
+  -- some airs meet the relation
+  pub some_airs : (setup : Setup) → (calls : List SourceCall) → setup.info.framing ≡ 0 → AreAirs setup calls (airs_of setup calls)
   -- each subevent carries the PDU of its payload number, by division
-  pub counted : (group : Group) → (setup : Setup) → (calls : List SourceCall) → (event : ℕ) → (bis : ℕ) → (subevent : ℕ)
-      → setup.info ≡ group.info → setup.info.framing ≡ 0 → setup.first ≤ event → event < next_of setup calls
+  pub counted : (group : Group) → (setup : Setup) → (calls : List SourceCall) → (airs : List Air) → (event : ℕ) → (bis : ℕ) → (subevent : ℕ)
+      → setup.info ≡ group.info → setup.info.framing ≡ 0 → AreAirs setup calls airs → setup.first ≤ event → event < next_of setup calls
       → 1 ≤ bis → bis ≤ group.info.num_bis → subevent < group.info.nse
-      → pdu_of setup (airs_of setup calls) event bis subevent ≡ Some (pdu (content_at setup calls bis (payload_number setup.info event subevent)))
+      → pdu_of setup airs event bis subevent ≡ Some (pdu (content_at setup calls bis (payload_number setup.info event subevent)))
   -- what an event that was performed sent stays
-  pub sent_stays : (group : Group) → (setup : Setup) → (later : List SourceCall) → (calls : List SourceCall) → (event : ℕ) → (bis : ℕ) → (subevent : ℕ)
-      → setup.info ≡ group.info → setup.info.framing ≡ 0 → setup.first ≤ event → event < next_of setup calls
+  pub sent_stays : (group : Group) → (setup : Setup) → (later : List SourceCall) → (calls : List SourceCall) → (airs : List Air) → (others : List Air)
+      → (event : ℕ) → (bis : ℕ) → (subevent : ℕ) → setup.info ≡ group.info → setup.info.framing ≡ 0
+      → AreAirs setup calls airs → AreAirs setup (later ++ calls) others → setup.first ≤ event → event < next_of setup calls
       → 1 ≤ bis → bis ≤ group.info.num_bis → subevent < group.info.nse
-      → pdu_of setup (airs_of setup (later ++ calls)) event bis subevent ≡ pdu_of setup (airs_of setup calls) event bis subevent
+      → pdu_of setup others event bis subevent ≡ pdu_of setup airs event bis subevent
   -- the units law of a stay in which each PDU heard is the source's own
   pub struck : (stay : Stay) → (slots : Slots) → (calls : List stays.Call) → Bounds stay.info → stay.info.framing ≡ 0
       → ((event : ℕ) → (slot : ℕ) → (unit : List ℕ) → slots event slot ≡ Some unit → length unit ≤ stay.info.max_sdu) → FromSource stay slots calls

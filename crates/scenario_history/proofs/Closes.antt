@@ -1,7 +1,7 @@
 -- The events of a source that a sink closes rise, over all its stays with the source.
-use Rattle.std.proofs.Common.{ℕ, zero, suc, ◌≡◌, ◌≢◌, ◌<◌, ◌≤◌, ◌+◌, ◌==◌, ◌||◌, cond, leb, not, Bool, true, false, List, [], ◌∷◌, ◌++◌, length, map, Option, None, Some, refl, sym, ◌∙◌, ap, subst, arith, inl, inr}
+use Rattle.std.proofs.Common.{ℕ, zero, suc, ◌≡◌, ◌≢◌, ◌<◌, ◌≤◌, ◌+◌, ◌==◌, ◌||◌, cond, leb, not, Bool, true, false, List, [], ◌∷◌, ◌++◌, map, Option, None, Some, refl, sym, ◌∙◌, ap, subst, arith}
 use Rattle.std.specs.List.Sorted.{IsStrictlyIncreasing}
-use Rattle.std.proofs.lemmas.Bool.{cases_Bool, cases_eq, cond-true, eq-eqb, ne_eqb, eqb-true, eqb-false, leb-true, or_parts, false≢true}
+use Rattle.std.proofs.lemmas.Bool.{eqb-true, eqb-false, leb-true, or_parts}
 use Rattle.std.proofs.lemmas.Option.{none-some, same_Some}
 use Rattle.delegator_machine.specs.Calls.{Tuning, Call, tune, hear, tick, place}
 use Rattle.delegator_machine.specs.Streams.{closes}
@@ -9,8 +9,8 @@ use Rattle.scenario_text.specs.declared.step.Step.{Step}
 use Rattle.scenario_text.specs.declared.step.Step.TheVariants as steps
 use Rattle.scenario_history.specs.Steps.{chosen_of, chosen_steps, is_over, steps_of_source}
 use Rattle.scenario_history.specs.Source.{Airs, event_back, is_sending, open_event, pdu_in, performed, setup_of}
-use Rattle.scenario_history.specs.Sinks.{heard_on_air, is_lost, is_of, reaches, sink_calls, source_after, source_of, spot_at, spots_of, ticked, ticked_if, tuning_of, unless_lost, with_sink_call}
-use Rattle.scenario_history.specs.Laws.{Closed, closed_at, closed_by, closed_if, closed_in, closed_since, closed_with, is_made}
+use Rattle.scenario_history.specs.Sinks.{heard_on_air, is_lost, is_of, reaches, sink_calls, source_after, source_of, spot_at, spots_of, ticked, tuning_of, unless_lost, with_sink_call}
+use Rattle.scenario_history.specs.Laws.{Closed, closed_at, closed_by, closed_if, closed_in, closed_since, is_made}
 use Rattle.scenario_history.proofs.Legals.{Legal}
 use Rattle.scenario_history.proofs.Wholes.{next_in, next_rises}
 use Rattle.scenario_history.proofs.Stays.{air_place}

@@ -1,5 +1,5 @@
 -- What is the source's own is read as what was laid.
-use Rattle.std.proofs.Common.{ℕ, ◌≡◌, ◌+◌, ◌==◌, cond, eqb, ltb, Bool, true, false, List, [], ◌∷◌, ◌++◌, Option, None, Some, Result, Ok, Err, refl, sym, ◌∙◌, ap, subst}
+use Rattle.std.proofs.Common.{ℕ, ◌≡◌, ◌+◌, cond, eqb, ltb, Bool, true, false, List, [], ◌∷◌, ◌++◌, Option, None, Some, Result, Ok, Err, refl, sym, ◌∙◌, ap, subst}
 use Rattle.std.specs.List.{AllByRecursion}
 use Rattle.std.proofs.lemmas.Option.{none-some, same_Some}
 use Rattle.iso_pdu.specs.declared.fault.PduFault.{PduFault}
@@ -8,9 +8,9 @@ use Rattle.iso_pdu.specs.Reading.{read_of}
 use Rattle.iso_pdu.specs.Spelling.{pdu}
 use Rattle.iso_pdu.proofs.PdusRead.{pdu-is, read_of-layout, read_of-spelled}
 use Rattle.isoal_base.specs.Hearing.{read_as, taken_of}
-use Rattle.isoal_base.specs.Slot.{fragments_of, laid}
 use Rattle.isoal_base.specs.Stays as stays
 use Rattle.isoal_base.specs.Stays.{Stay}
+use Rattle.isoal_unframed.specs.Slot.{fragments_of, laid}
 use Rattle.isoal_unframed.specs.Struck.{Slots, air_at, FromSource}
 use Rattle.isoal_unframed.specs.Units.{unframed}
 use Rattle.scenario_history.proofs.Hears.{Own}

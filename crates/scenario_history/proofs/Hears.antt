@@ -1,5 +1,5 @@
 -- Each PDU that a sink hears on a stream of its group is the source's own at its payload number, where none is injected.
-use Rattle.std.proofs.Common.{ℕ, zero, suc, ◌≡◌, ◌≢◌, ◌<◌, ◌≤◌, ◌+◌, ◌*◌, ◌/◌, ◌%◌, ◌^◌, ◌&&◌, ◌||◌, ◌==◌, cond, eqb, ltb, leb, Bool, true, false, List, [], ◌∷◌, ◌++◌, Option, None, Some, refl, sym, ◌∙◌, ap, subst, arith, inl, inr}
+use Rattle.std.proofs.Common.{ℕ, zero, suc, ◌≡◌, ◌≢◌, ◌<◌, ◌≤◌, ◌+◌, ◌*◌, ◌/◌, ◌%◌, ◌^◌, ◌&&◌, ◌||◌, ◌==◌, cond, ltb, leb, Bool, true, false, List, [], ◌∷◌, ◌++◌, Option, None, Some, refl, sym, ◌∙◌, ap, subst, arith, inl, inr}
 use Rattle.std.specs.Prelude.{unwrap_or}
 use Rattle.std.specs.List.{AllByRecursion}
 use Rattle.std.proofs.Math.Nat.{div-lt_iff_lt-mul}
@@ -11,16 +11,17 @@ use Rattle.big_info.specs.declared.group.Group.{Group}
 use Rattle.big_info.specs.Bounds.{Bounds}
 use Rattle.big_info.specs.Schedule.{per_unit_of}
 use Rattle.iso_pdu.specs.Spelling.{pdu}
-use Rattle.isoal_base.specs.Slot.{laid}
+use Rattle.isoal_base.specs.Air.{Air}
 use Rattle.isoal_base.specs.Stays as stays
 use Rattle.isoal_base.specs.Stays.{Stay, opened}
+use Rattle.isoal_unframed.specs.Slot.{laid}
 use Rattle.isoal_unframed.specs.Struck.{Slots, air_at}
 use Rattle.radio_schedule.specs.PayloadNumber.{payload_number}
 use Rattle.radio_schedule.specs.declared.air.AirFault.{AirFault}
-use Rattle.source_machine.specs.Airs.{airs_of, content_at, pdu_of, slots_of}
+use Rattle.source_machine.specs.Airs.{AreAirs, airs_of, content_at, pdu_of, slots_of}
 use Rattle.source_machine.specs.Calls.{Setup, Call as SourceCall, events, next_of}
 use Rattle.source_machine.specs.Faults.{air_fault}
-use Rattle.delegator_machine.specs.Calls.{Tuning, Call, tune, hear, place}
+use Rattle.delegator_machine.specs.Calls.{Tuning, Call, tune, hear}
 use Rattle.delegator_machine.specs.Streams.{stay_on, stream_calls, with_hear}
 use Rattle.scenario_text.specs.declared.step.Step.{Step}
 use Rattle.scenario_text.specs.declared.step.Step.TheVariants as steps
@@ -28,8 +29,8 @@ use Rattle.transcript_text.specs.declared.refusal.Refusal.TheVariants.{NotOnAir}
 use Rattle.scenario_history.specs.Steps.{chosen_of, chosen_steps, steps_of_source}
 use Rattle.scenario_history.specs.Source.{Airs, setup_of, source_calls, performed, event_back, is_started, pdu_in, open_event}
 use Rattle.scenario_history.specs.Airs.{MeetAirs}
-use Rattle.scenario_history.specs.Sinks.{Spot, spot_at, is_lost, is_of, hear_at, unless_lost, heard_on_air, reaches, sink_calls, source_of, spots_of, ticked, ticked_if, tuning_of, with_sink_call}
-use Rattle.scenario_history.specs.Refusals.{air_refusal, no_place, refuse_if}
+use Rattle.scenario_history.specs.Sinks.{spot_at, is_lost, is_of, hear_at, unless_lost, heard_on_air, reaches, sink_calls, source_of, spots_of, ticked, ticked_if, tuning_of, with_sink_call}
+use Rattle.scenario_history.specs.Refusals.{air_refusal, no_place}
 use Rattle.scenario_history.specs.Laws.{injected_since, is_injected, is_tuned}
 use Rattle.scenario_history.proofs.Below.{Below}
 use Rattle.scenario_history.proofs.Legals.{Legal, Permitted, fails_not, maps_none, permitted}
@@ -39,15 +40,16 @@ use Rattle.scenario_history.proofs.Stays.{IsOn, OnSource, PutBy, on_before, on_s
 
 -- ---- what the source sends
 
-own_pdu : Below → (group : Group) (setup : Setup) (whole calls : List SourceCall) → Extends whole calls → (event bis subevent : ℕ)
+own_pdu : Below → (group : Group) (setup : Setup) (whole calls : List SourceCall) (airs : List Air) → Extends whole calls → AreAirs setup calls airs → (event bis subevent : ℕ)
     → setup.info ≡ group.info → setup.info.framing ≡ 0 → setup.first ≤ event → event < next_of setup calls → 1 ≤ bis → bis ≤ group.info.num_bis → subevent < group.info.nse
-    → unwrap_or (pdu_of setup (airs_of setup calls) event bis subevent) [] ≡ pdu (content_at setup whole bis (payload_number setup.info event subevent))
-own_pdu below group setup whole calls more event bis subevent same plain least past bis_least bis_within within =
+    → unwrap_or (pdu_of setup airs event bis subevent) [] ≡ pdu (content_at setup whole bis (payload_number setup.info event subevent))
+own_pdu below group setup whole calls airs more are event bis subevent same plain least past bis_least bis_within within =
     let longer : event < next_of setup (more.0 ++ calls) = omega (arith, events_more more.0 calls, past) in
+    let all_are : AreAirs setup (more.0 ++ calls) (airs_of setup (more.0 ++ calls)) = below.some_airs setup (more.0 ++ calls) plain in
     let sent : pdu_of setup (airs_of setup (more.0 ++ calls)) event bis subevent ≡ Some (pdu (content_at setup (more.0 ++ calls) bis (payload_number setup.info event subevent))) =
-    below.counted group setup (more.0 ++ calls) event bis subevent same plain least longer bis_least bis_within within in
-    let here : pdu_of setup (airs_of setup calls) event bis subevent ≡ Some (pdu (content_at setup (more.0 ++ calls) bis (payload_number setup.info event subevent))) =
-    sym (below.sent_stays group setup more.0 calls event bis subevent same plain least past bis_least bis_within within) ∙ sent in
+    below.counted group setup (more.0 ++ calls) (airs_of setup (more.0 ++ calls)) event bis subevent same plain all_are least longer bis_least bis_within within in
+    let here : pdu_of setup airs event bis subevent ≡ Some (pdu (content_at setup (more.0 ++ calls) bis (payload_number setup.info event subevent))) =
+    sym (below.sent_stays group setup more.0 calls airs (airs_of setup (more.0 ++ calls)) event bis subevent same plain are all_are least past bis_least bis_within within) ∙ sent in
     ap (λ o. unwrap_or o []) here ∙ ap (λ all. pdu (content_at setup all bis (payload_number setup.info event subevent))) (sym more.1)
 
 air_same : (setup : Setup) (whole : List SourceCall) (tuning : Tuning) (bis : ℕ) (event subevent : ℕ) → tuning.info ≡ setup.info
@@ -62,20 +64,17 @@ SendsOwn airs setup whole tuning own = (event : ℕ) → (bis : ℕ) → (subeve
     → 1 ≤ bis → bis ≤ (setup_of own).info.num_bis → subevent < (setup_of own).info.nse
     → pdu_in airs own event bis subevent ≡ pdu (air_at (stay_on tuning bis) (slots_of setup whole bis) (payload_number tuning.info event subevent))
 
--- the airs of a source that was started are those by division
-pub its_airs : Below → (airs : Airs) → MeetAirs airs → (own : List Step) → Lawful airs own → is_started own ≡ true
-    → airs (setup_of own) (source_calls own) ≡ airs_of (setup_of own) (source_calls own)
-its_airs below airs meets own legal started =
-    let is : Settled own = settled airs own legal in
-    below.one_air (setup_of own) (source_calls own) (airs (setup_of own) (source_calls own)) is.plain
-    (meets.meet (group_in own is started) (setup_of own) (source_calls own) refl (are_accepted airs own legal))
+-- the airs of a source that was started meet their relation
+pub its_airs : (airs : Airs) → MeetAirs airs → (own : List Step) → Lawful airs own → is_started own ≡ true → AreAirs (setup_of own) (source_calls own) (airs (setup_of own) (source_calls own))
+its_airs airs meets own legal started =
+    meets.meet (group_in own (settled airs own legal) started) (setup_of own) (source_calls own) refl (are_accepted airs own legal)
 
 sends_own : Below → (airs : Airs) → MeetAirs airs → (setup : Setup) (whole : List SourceCall) (tuning : Tuning) (own : List Step) → Lawful airs own → is_started own ≡ true
     → Within setup whole own → tuning.info ≡ setup.info → SendsOwn airs setup whole tuning own
 sends_own below airs meets setup whole tuning own legal started within same event bis subevent least past bis_least bis_within inside =
     let is : Settled own = settled airs own legal in
-    ap (λ all. unwrap_or (pdu_of (setup_of own) all event bis subevent) []) (its_airs below airs meets own legal started)
-    ∙ own_pdu below (group_in own is started) (setup_of own) whole (source_calls own) within.calls event bis subevent refl is.plain least past bis_least bis_within inside
+    own_pdu below (group_in own is started) (setup_of own) whole (source_calls own) (airs (setup_of own) (source_calls own)) within.calls (its_airs airs meets own legal started)
+    event bis subevent refl is.plain least past bis_least bis_within inside
     ∙ ap (λ (s : Setup). pdu (content_at s whole bis (payload_number s.info event subevent))) (within.setup_is started)
     ∙ ap pdu (air_same setup whole tuning bis event subevent same)
 

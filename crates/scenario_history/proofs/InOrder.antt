@@ -17,7 +17,7 @@ use Rattle.delegator_machine.proofs.Sets.{is_member, member_is}
 use Rattle.scenario_text.specs.declared.step.Step.{Step}
 use Rattle.scenario_text.specs.declared.step.Step.TheVariants as steps
 use Rattle.scenario_history.specs.Steps.{chosen_of, chosen_steps, steps_of_source}
-use Rattle.scenario_history.specs.Source.{Airs, is_started, setup_of, source_calls, open_event}
+use Rattle.scenario_history.specs.Source.{Airs, setup_of, source_calls, open_event}
 use Rattle.scenario_history.specs.Airs.{MeetAirs}
 use Rattle.scenario_history.specs.Sinks.{is_of, sink_calls, source_after, source_of, ticked, tuning_of, with_sink_call}
 use Rattle.scenario_history.specs.Boxes.{SinkUnit, handed_by}
@@ -31,8 +31,8 @@ use Rattle.scenario_history.proofs.Stays.{IsOn, IsThere, OnSource, PutBy, TunedT
 use Rattle.scenario_history.proofs.UnitsLaw.{slot_short}
 use Rattle.scenario_history.proofs.Closings.{handed_open, shown_by, shown_if, step_shown}
 use Rattle.scenario_history.proofs.Ticks.{end_ticks, event_ticks, is_its}
-use Rattle.scenario_history.proofs.Closes.{Climb, Moves, climbs, closes_rise, closing, event_of, front, front_of, its_front, mine_in, moved, open_before}
-use Rattle.scenario_history.proofs.Shown.{on_whole, shown_on, slots_are_shown, tick_hands, tick_others}
+use Rattle.scenario_history.proofs.Closes.{Climb, climbs, closes_rise, closing, event_of, front, front_of, its_front, mine_in, moved, open_before}
+use Rattle.scenario_history.proofs.Shown.{shown_on, slots_are_shown, tick_hands, tick_others}
 use Rattle.scenario_history.proofs.Numbers.{laid_least, Ordered, ordered_none, ordered_later, ordered_more, close_batch}
 
 -- ---- no PDU was injected into the sink

@@ -14,3 +14,4 @@ pub mod Closes
 pub mod Shown
 pub mod Numbers
 pub mod InOrder
+pub mod MetAirs

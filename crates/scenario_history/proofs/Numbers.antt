@@ -24,7 +24,7 @@ use Rattle.delegator_machine.specs.Handing.{bis_of}
 use Rattle.delegator_machine.specs.Streams.{stay_on, stream_calls}
 use Rattle.scenario_text.specs.declared.step.Step.{Step}
 use Rattle.scenario_history.specs.Steps.{steps_of_source}
-use Rattle.scenario_history.specs.Source.{Airs, setup_of}
+use Rattle.scenario_history.specs.Source.{Airs}
 use Rattle.scenario_history.specs.Airs.{MeetAirs}
 use Rattle.scenario_history.specs.Sinks.{sink_calls}
 use Rattle.scenario_history.specs.Laws.{IsGiven, injected_since, is_tuned, is_valid, time_in, valid_in, whole_stay}

@@ -1,8 +1,8 @@
 -- What a sink hands up on a stream of a source is one entry for each slot of each event of it that the sink closed.
-use Rattle.std.proofs.Common.{ℕ, zero, suc, ◌≡◌, ◌<◌, ◌≤◌, ◌+◌, ◌-◌, ◌*◌, ◌==◌, cond, leb, eqb, Bool, true, false, List, [], ◌∷◌, ◌++◌, length, map, Option, None, Some, refl, sym, ◌∙◌, ap, subst, arith, inl, inr}
-use Rattle.std.specs.List.{AllZip, Contains, filter, range_with_len}
+use Rattle.std.proofs.Common.{ℕ, zero, suc, ◌≡◌, ◌<◌, ◌≤◌, ◌+◌, ◌-◌, ◌*◌, ◌==◌, cond, leb, eqb, Bool, true, false, List, [], ◌∷◌, ◌++◌, map, Option, None, Some, refl, sym, ◌∙◌, ap, subst, arith, inl, inr}
+use Rattle.std.specs.List.{AllZip, Contains, range_with_len}
 use Rattle.std.proofs.Math.Nat.{add-mul}
-use Rattle.std.proofs.lemmas.Bool.{cases_Bool, cond-true, false≢true}
+use Rattle.std.proofs.lemmas.Bool.{cases_Bool, cond-true}
 use Rattle.std.proofs.lemmas.Grind.{flat_map-append}
 use Rattle.std.proofs.lemmas.List.{append-nil, append_cancel_left}
 use Rattle.std.proofs.lemmas.List.Elements.{filter-append}
@@ -32,7 +32,7 @@ use Rattle.scenario_history.proofs.Below.{Below}
 use Rattle.scenario_history.proofs.Legals.{Legal}
 use Rattle.scenario_history.proofs.Sources.{true_not_false}
 use Rattle.scenario_history.proofs.Wholes.{Within, within_before, within_itself}
-use Rattle.scenario_history.proofs.Stays.{IsOn, OnSource, TunedTo, on_source}
+use Rattle.scenario_history.proofs.Stays.{OnSource, TunedTo, on_source}
 use Rattle.scenario_history.proofs.Closings.{handed_open, of_sink_on, shown_by, shown_if, step_shown}
 use Rattle.scenario_history.proofs.Ticks.{is_its}
 

@@ -1,16 +1,14 @@
 -- The units law of a stay.
-use Rattle.std.proofs.Common.{ℕ, zero, suc, ◌≡◌, ◌≤◌, ◌+◌, ◌-◌, ◌==◌, cond, ltb, eqb, Bool, true, false, List, [], ◌∷◌, ◌++◌, length, Option, None, Some, refl, sym, ◌∙◌, ap, subst, arith, inl, inr}
+use Rattle.std.proofs.Common.{ℕ, zero, suc, ◌≡◌, ◌≤◌, ◌+◌, ◌-◌, ◌==◌, cond, ltb, eqb, Bool, true, false, List, [], ◌∷◌, ◌++◌, length, Option, None, Some, refl, sym, ◌∙◌, ap, subst, inl, inr}
 use Rattle.std.specs.Prelude.{slice_get}
-use Rattle.std.specs.List.{AllByRecursion, Contains}
-use Rattle.std.proofs.lemmas.Bool.{cases_eq, eq-eqb, ne_eqb, eqb-true, false≢true, ltb-false}
+use Rattle.std.specs.List.{AllByRecursion}
+use Rattle.std.proofs.lemmas.Bool.{eq-eqb, eqb-true, ltb-false}
 use Rattle.std.proofs.lemmas.List.{append-nil}
 use Rattle.std.proofs.lemmas.Option.{none-some, same_Some}
 use Rattle.big_info.specs.declared.info.BigInfo.{BigInfo}
 use Rattle.big_info.specs.Bounds.{Bounds}
-use Rattle.bcast_io.specs.TextLines.{TextLine}
 use Rattle.unit_outlets.specs.Account.{Account}
 use Rattle.unit_outlets.specs.Handed.{Handed}
-use Rattle.line_runs.specs.Runs.{Accepted}
 use Rattle.isoal_unframed.specs.Air.{before_event}
 use Rattle.isoal_unframed.specs.Calls.{Call as StreamCall, accept, lay, lays, accepted, begun, events as laid_events}
 use Rattle.isoal_unframed.specs.Histories.{handed}
@@ -19,23 +17,23 @@ use Rattle.source_machine.specs.Airs.{slots_of}
 use Rattle.source_machine.specs.Calls.{Call as SourceCall, laid_with, stream_calls as source_stream}
 use Rattle.source_machine.specs.declared.fault.GiveFault.{GiveFault}
 use Rattle.source_machine.specs.Faults.{give_fault}
-use Rattle.delegator_machine.specs.Calls.{Tuning, Call, tune, hear, tick, place}
+use Rattle.delegator_machine.specs.Calls.{Tuning, Call, tune, hear, place}
 use Rattle.delegator_machine.specs.Handing.{handed_since as ticked_since, of_stream}
-use Rattle.delegator_machine.specs.Streams.{stay_on, streams_of}
+use Rattle.delegator_machine.specs.Streams.{stay_on}
 use Rattle.delegator_machine.proofs.Sets.{member_is}
 use Rattle.scenario_text.specs.declared.step.Step.{Step}
 use Rattle.scenario_text.specs.declared.step.Step.TheVariants as steps
 use Rattle.scenario_text.specs.Ranges.{IsInRange}
 use Rattle.scenario_history.specs.Steps.{chosen_of, chosen_steps, steps_of_source}
-use Rattle.scenario_history.specs.Source.{Airs, event_back, open_event, pdu_in, setup_of, source_calls}
+use Rattle.scenario_history.specs.Source.{Airs, event_back, open_event, setup_of, source_calls}
 use Rattle.scenario_history.specs.Airs.{MeetAirs}
-use Rattle.scenario_history.specs.Sinks.{heard_on_air, hear_at, is_lost, is_of, reaches, sink_calls, source_of, spot_at, spots_of, ticked, ticked_if, tuning_of, unless_lost, with_sink_call}
+use Rattle.scenario_history.specs.Sinks.{heard_on_air, is_lost, is_of, reaches, sink_calls, source_of, spot_at, spots_of, ticked, ticked_if, tuning_of, unless_lost}
 use Rattle.scenario_history.specs.Boxes.{SinkUnit, handed_by}
 use Rattle.scenario_history.specs.Refusals.{give_refusal}
-use Rattle.scenario_history.specs.Lines.{rules_of, steps_of}
-use Rattle.scenario_history.specs.Laws.{IsStayStruck, UnitsLaw, calls_on, handed_since, injected_since, is_tuned, of_sink}
+use Rattle.scenario_history.specs.Lines.{steps_of}
+use Rattle.scenario_history.specs.Laws.{UnitsLaw, calls_on, handed_since, injected_since, is_tuned, of_sink}
 use Rattle.scenario_history.proofs.Below.{Below}
-use Rattle.scenario_history.proofs.Legals.{Legal, legal, maps_none, permitted}
+use Rattle.scenario_history.proofs.Legals.{Legal, legal, maps_none}
 use Rattle.scenario_history.proofs.Sources.{Allowed, Lawful, Settled, bounds_in, lawful, no_group_yet, settled}
 use Rattle.scenario_history.proofs.Wholes.{within_itself}
 use Rattle.scenario_history.proofs.Stays.{IsOn, IsThere, OnSource, PutBy, on_before, on_source}

@@ -1,13 +1,12 @@
 -- The steps of a source so far, as a part of all its steps: what fixes it is the same, and its calls are the first of all.
-use Rattle.std.proofs.Common.{ℕ, ◌≡◌, ◌≤◌, ◌+◌, cond, Bool, true, false, List, [], ◌∷◌, ◌++◌, refl, sym, ◌∙◌, ap, subst, arith, append_assoc}
-use Rattle.std.specs.Prelude.{unwrap_or}
+use Rattle.std.proofs.Common.{ℕ, ◌≡◌, ◌≤◌, cond, Bool, true, false, List, [], ◌∷◌, ◌++◌, refl, sym, ◌∙◌, ap, arith, append_assoc}
 use Rattle.source_machine.specs.Calls.{Setup, Call as SourceCall, give, event as perform, events, next_of}
 use Rattle.scenario_text.specs.declared.step.Step.{Step}
 use Rattle.scenario_text.specs.declared.step.Step.TheVariants as steps
 use Rattle.scenario_history.specs.Steps.{is_of_source, steps_of_source}
 use Rattle.scenario_history.specs.Source.{Airs, is_started, setup_of, source_calls}
 use Rattle.scenario_history.proofs.Legals.{Legal, permitted}
-use Rattle.scenario_history.proofs.Sources.{Allowed, Lawful, Settled, its_step, lawful, not_started, settled, setup_stays, started_stays}
+use Rattle.scenario_history.proofs.Sources.{Allowed, Lawful, its_step, lawful, not_started, settled, setup_stays, started_stays}
 
 -- these calls and others behind them
 abbrev pub Extends : List SourceCall → List SourceCall → Type 0
