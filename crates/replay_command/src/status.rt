@@ -1,4 +1,4 @@
-ghost use Rattle.std.specs.Prelude.{◌≡◌};
+ghost use Rattle.std.specs.Prelude.{◌≡◌, option_copied};
 ghost use Rattle.replay_command.specs.Statuses.{exit_number, text_of};
 
 use transcript_text::Refusal;
@@ -40,7 +40,7 @@ impl Status {
 
     /// What the program says on standard error.
     pub(crate) fn message(self) -> Option<&'static str>
-        ensures { result ≡ text_of self }
+        ensures { option_copied result ≡ text_of self }
     {
         match self {
             Status::Done | Status::Refused { .. } => None,

@@ -12,6 +12,7 @@ use transcript_text::Refusal;
 const MOST_READS: u64 = 67_108_866;
 
 /// A source without an end that counts its reads.
+#[derive(Drop)]
 struct Counting {
     source: EndlessSource,
     reads: u64,
