@@ -1,5 +1,7 @@
 //! The limits of a line and of a text, and how often a source without an end is read.
 
+ghost use Rattle.std.specs.Prelude.{◌≤◌};
+
 use crate::status::Status;
 use crate::tests::run;
 use bcast_base::Octets;
