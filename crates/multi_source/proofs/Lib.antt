@@ -1,3 +1,2 @@
 mod Airing
 mod Answered
-mod Starting

@@ -1,3 +1,2 @@
 -- How the state of sources stands for their calls.
 pub mod Broadcasts
-pub mod Fields

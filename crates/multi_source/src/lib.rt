@@ -2,7 +2,5 @@
 #![tactic(auto)]
 
 mod broadcast;
-mod field;
 
 pub use broadcast::Broadcast;
-pub use field::{Field, FieldFault};
