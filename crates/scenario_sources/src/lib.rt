@@ -10,7 +10,6 @@ mod sending;
 mod sources;
 mod standpoint;
 
-pub use identity::Identity;
 pub use place::Place;
 pub use sources::Sources;
 pub use standpoint::Standpoint;
