@@ -1,4 +1,4 @@
-use bass_operations::{Wish, Wishes, decode_operation, encode_operation};
+use bass_operations::{Operation, Wish, Wishes, decode_operation, encode_operation};
 use bcast_base::Octets;
 use std::test::Fail;
 
@@ -14,6 +14,28 @@ fn an_operation_is_decoded_and_encoded(rt: HostRuntime) -> Result<(), Fail> {
     let op = decode_operation(rt.alloc(), &ADD)?;
     let octets = encode_operation(rt.alloc(), &op)?;
     assert_eq!(rt; octets.as_slice(), ADD.as_slice());
+    Ok(())
+}
+
+// A Modify Source of source 7 with two subgroups, of which the second has metadata.
+const MODIFY: [u8; 20] = [
+    3, 7, 2, 0xff, 0xff, 2, 1, 0, 0, 0, 0, 2, 0, 0, 0, 4, 3, 2, 4, 0,
+];
+
+#[test]
+fn a_modify_is_decoded_and_encoded(rt: HostRuntime) -> Result<(), Fail> {
+    let op = decode_operation(rt.alloc(), &MODIFY)?;
+    if let Operation::Modify(modify) = &op {
+        assert_eq!(rt; modify.wishes.count(), 2);
+        assert_eq!(rt;
+            modify.wishes.item(1).metadata.as_slice(),
+            [3, 2, 4, 0].as_slice()
+        );
+    } else {
+        assert!(rt; false);
+    }
+    let octets = encode_operation(rt.alloc(), &op)?;
+    assert_eq!(rt; octets.as_slice(), MODIFY.as_slice());
     Ok(())
 }
 
