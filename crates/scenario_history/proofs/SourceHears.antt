@@ -17,7 +17,7 @@ use Rattle.iso_pdu.specs.Reading.{read_of}
 use Rattle.iso_pdu.specs.Spelling.{pdu}
 use Rattle.iso_pdu.proofs.PdusRead.{pdu-is, read_of-layout, read_of-spelled}
 use Rattle.isoal_base.specs.Hearing.{read_as, taken_of}
-use Rattle.isoal_base.specs.Slot.{fragments_of, laid}
+use Rattle.isoal_unframed.specs.Slot.{fragments_of, laid}
 use Rattle.isoal_base.specs.Stays as stays
 use Rattle.isoal_base.specs.Stays.{Stay, opened}
 use Rattle.isoal_unframed.specs.Struck.{Slots, air_at, FromSource}

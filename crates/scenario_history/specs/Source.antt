@@ -1,7 +1,7 @@
 -- The source of a scenario as the calls that it took, and the PDUs on its air (Core 5.2, volume 6 part B,
 -- section 4.4.6, and part G, section 2). Lists of steps have the newest first.
 use Rattle.std.specs.Prelude.{ℕ, ◌-◌, ◌==◌, ◌||◌, List, [], ◌∷◌, Option, None, Some, unwrap_or, if◌then◌else◌}
-use Rattle.isoal_unframed.specs.Air.{Air}
+use Rattle.isoal_base.specs.Air.{Air}
 use Rattle.source_machine.specs.Calls.{Setup, Call, give, event as perform, events, next_of}
 use Rattle.source_machine.specs.Airs.{pdu_of}
 use Rattle.scenario_text.specs.declared.step.Step.{Step}

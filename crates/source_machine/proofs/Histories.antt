@@ -7,9 +7,10 @@ use Rattle.std.proofs.lemmas.Option.{slice_get-get_or}
 use Rattle.std.specs.List.{range_with_len, slice_get}
 use Rattle.big_info.specs.declared.info.BigInfo.{BigInfo}
 use Rattle.big_info.specs.Schedule.{horizon_of}
-use Rattle.isoal_unframed.specs.Air.{Air, event_at, unframed_air}
+use Rattle.isoal_base.specs.Air.{Air, begun_in, event_at}
+use Rattle.isoal_unframed.specs.Air.{unframed_air}
 use Rattle.isoal_unframed.specs.Calls.{Call as StreamCall, accept, lay, lays, accepted, begun, events as laid_events}
-use Rattle.source_machine.specs.Airs.{AreAirs, airs_of, begun_in, begun_of, waiting_of}
+use Rattle.source_machine.specs.Airs.{AreAirs, airs_of, begun_of, waiting_of}
 use Rattle.source_machine.specs.Calls.{Setup, Call, give, event, events, given, stream_calls, laid_with}
 use Rattle.source_machine.specs.Sources.{stream_of}
 use Rattle.std.proofs.lemmas.Slice.Zip.{AllZip-map}

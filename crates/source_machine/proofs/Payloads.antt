@@ -9,7 +9,8 @@ use Rattle.std.specs.List.{slice_get}
 use Rattle.std.specs.Option.{option_and_then}
 use Rattle.big_info.specs.declared.info.BigInfo.{BigInfo}
 use Rattle.big_info.specs.Schedule.{group_count, horizon_of}
-use Rattle.isoal_unframed.specs.Air.{Air, Laid, event_at, laid_u, pdu_at, unframed_air}
+use Rattle.isoal_base.specs.Air.{Air, Laid, event_at, pdu_at}
+use Rattle.isoal_unframed.specs.Air.{laid_u, unframed_air}
 use Rattle.isoal_unframed.specs.Calls.{events as laid_events}
 use Rattle.radio_schedule.specs.PayloadNumber.{ahead_of, payload_number}
 use Rattle.source_machine.specs.Airs.{airs_of, content_at, pdu_of}

@@ -6,7 +6,7 @@ use Rattle.std.specs.Prelude.{nat_le, if◌then◌else◌}
 use Rattle.std.specs.List.{AllZip}
 use Rattle.big_info.specs.Schedule.{horizon_of}
 use Rattle.isoal_base.proofs.Ranges.{map_changed, map_constant}
-use Rattle.isoal_unframed.specs.Air.{Air}
+use Rattle.isoal_base.specs.Air.{Air}
 use Rattle.isoal_base.specs.declared.laid.PutFault.{PutFault}
 use Rattle.isoal_base.specs.declared.laid.PutFault.TheVariants.{Backlog as Full, Memory, TimeOrder, TooLong}
 use Rattle.isoal_unframed.specs.Sender.{PutFaultIs}

@@ -4,9 +4,10 @@ use Rattle.std.specs.Prelude.{ℕ, ◌+◌, ◌-◌, ◌/◌, ◌%◌, ◌≡◌
 use Rattle.std.specs.List.{AllZip, range_with_len}
 use Rattle.big_info.specs.Schedule.{per_unit_of}
 use Rattle.iso_pdu.specs.Layout.{Content}
-use Rattle.isoal_base.specs.Slot.{laid}
+use Rattle.isoal_unframed.specs.Slot.{laid}
 use Rattle.radio_schedule.specs.PayloadNumber.{payload_number}
-use Rattle.isoal_unframed.specs.Air.{Air, before_event, pdu_at, unframed_air, unit_at}
+use Rattle.isoal_base.specs.Air.{Air, begun_in, pdu_at}
+use Rattle.isoal_unframed.specs.Air.{before_event, unframed_air, unit_at}
 use Rattle.isoal_unframed.specs.Calls.{begun}
 use Rattle.source_machine.specs.Calls.{Setup, Call, given, stream_calls}
 
@@ -43,11 +44,6 @@ abbrev pub content_at : Setup → List Call → ℕ → ℕ → Content
 content_at setup calls bis number =
     laid setup.info.max_pdu (slots_of setup calls bis (number / setup.info.bn) (number % setup.info.bn / per_unit_of setup.info))
     (number % setup.info.bn % per_unit_of setup.info)
-
--- how many units of an air have their slot or were left out
-abbrev pub begun_in : Air → ℕ
-begun_in [] = 0
-begun_in (entry ∷ earlier) = entry.begun
 
 abbrev pub begun_of : Option Air → ℕ
 begun_of None = 0

@@ -6,7 +6,7 @@ use Rattle.radio_schedule.specs.declared.air.AirFault.{AirFault}
 use Rattle.radio_schedule.specs.declared.air.AirFault.TheVariants.{NoSuchBis as NoStream, NoSuchSubevent, NotOnAir}
 use Rattle.isoal_base.specs.declared.laid.PutFault.{PutFault}
 use Rattle.isoal_base.specs.declared.laid.PutFault.TheVariants as put_faults
-use Rattle.isoal_unframed.specs.Air.{Air}
+use Rattle.isoal_base.specs.Air.{Air}
 use Rattle.source_machine.specs.Calls.{Setup, Call, events, next_of}
 use Rattle.source_machine.specs.Airs.{waiting_of}
 use Rattle.source_machine.specs.declared.fault.GiveFault.{GiveFault}

@@ -3,7 +3,8 @@ use Rattle.std.specs.Prelude.{ℕ, ◌+◌, ◌-◌, ◌≡◌, List, [], length
 use Rattle.std.specs.List.{range_with_len}
 use Rattle.big_info.specs.declared.info.BigInfo.{BigInfo}
 use Rattle.big_info.specs.Schedule.{horizon_of}
-use Rattle.isoal_unframed.specs.Air.{Air, Laid, event_at, unframed_air}
+use Rattle.isoal_base.specs.Air.{Air, Laid, event_at}
+use Rattle.isoal_unframed.specs.Air.{unframed_air}
 use Rattle.isoal_unframed.specs.Calls.{Call as StreamCall, accepted, begun}
 use Rattle.source_machine.specs.Calls.{Setup, Call, next_of, stream_calls}
 use Rattle.source_machine.specs.declared.fault.EventFault.{EventFault}

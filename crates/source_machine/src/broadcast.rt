@@ -1,6 +1,6 @@
 ghost use Rattle.std.specs.Prelude.{◌≡◌, ◌≤◌, ◌<◌, ◌+◌, ◌-◌, ◌*◌, ◌^◌, ◌∷◌, ◌↔◌, List, [], Some, None, IfOk, IfErr, IfSome, IsTrue, OnOk, OnErr, replicate};
 ghost use Rattle.big_info.specs.Schedule.{horizon_of};
-ghost use Rattle.isoal_unframed.specs.Air.{Air};
+ghost use Rattle.isoal_base.specs.Air.{Air};
 ghost use Rattle.source_machine.specs.Airs.{airs_of, pdu_of};
 ghost use Rattle.source_machine.specs.Calls.{Call, give as gives, event as performs, last_of, next_anchor_of, next_of};
 ghost use Rattle.source_machine.specs.Faults.{air_fault, event_fault, give_fault, refused_event, refused_unit};

@@ -3,7 +3,8 @@ ghost use Rattle.std.specs.Prelude.{◌≡◌, ◌≤◌, ◌<◌, ◌-◌, ◌+
 ghost use Rattle.big_info.specs.Schedule.{per_event_of};
 ghost use Rattle.big_info.specs.declared.group.Group.{Group};
 ghost use Rattle.iso_pdu.specs.Spelling.{pdu};
-ghost use Rattle.isoal_unframed.specs.Air.{Air, laid_u};
+ghost use Rattle.isoal_base.specs.Air.{Air};
+ghost use Rattle.isoal_unframed.specs.Air.{laid_u};
 ghost use Rattle.radio_schedule.specs.PayloadNumber.{payload_number};
 ghost use Rattle.source_machine.specs.Airs.{AreAirs, airs_of, content_at, pdu_of, place_of, slots_of};
 ghost use Rattle.source_machine.specs.Calls.{Call, Setup, given, next_of, stream_calls};

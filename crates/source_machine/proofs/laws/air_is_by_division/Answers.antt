@@ -2,7 +2,8 @@ use Rattle.std.proofs.Common.{◌≡◌, ◌<◌, ◌≤◌, ◌-◌, ◌*◌, �
 use Rattle.std.specs.Option.{option_and_then}
 use Rattle.big_info.specs.declared.info.BigInfo.{BigInfo}
 use Rattle.big_info.specs.Schedule.{group_count}
-use Rattle.isoal_unframed.specs.Air.{laid_u, pdu_at, unframed_air}
+use Rattle.isoal_base.specs.Air.{pdu_at}
+use Rattle.isoal_unframed.specs.Air.{laid_u, unframed_air}
 use Rattle.isoal_unframed.specs.Calls.{events as laid_events}
 use Rattle.radio_schedule.specs.PayloadNumber.{payload_number}
 use Rattle.source_machine.specs.Calls.{stream_calls}
