@@ -9,15 +9,15 @@ use Rattle.std.proofs.Math.Nat.{zero-div}
 use Rattle.std.proofs.lemmas.List.{append-nil, map_push}
 use Rattle.std.proofs.lemmas.List.Folds.{list_any-append}
 use Rattle.bcast_base.specs.Bis.{Has}
-use Rattle.octet_fields.specs.Reading.{octet_in, octets_in, number_in, place_in}
+use Rattle.octet_fields.specs.Reading.{octet_in, octets_in, place_in}
 use Rattle.base_grammar.specs.declared.fault.BaseFault.{BaseFault}
 use Rattle.base_grammar.specs.declared.fault.BaseFault.TheVariants as faults
 use Rattle.base_grammar.specs.declared.subgroup.BaseEntry.{BaseEntry}
 use Rattle.base_grammar.specs.declared.subgroup.Subgroup.{Subgroup}
 use Rattle.base_grammar.specs.Checking.{Seen, Passed, Passes, same_bis, entry_bis, entries_bis, subgroup_bis}
-use Rattle.base_grammar.specs.Layout.{Endpoint, endpoint, is_lc3, bis_of, indices, stands_in}
+use Rattle.base_grammar.specs.Layout.{Endpoint, is_lc3, bis_of, indices, stands_in}
 use Rattle.base_grammar.specs.Rows.{index_fault}
-use Rattle.base_grammar.specs.Reading.{needed, unless, run_at, index_at, entry_at, entries_at, streams_at, subgroup_at, subgroups_at, rest_of, count_at, ended, fields_of, base_of, Refuses, Fails, ◌>>=◌}
+use Rattle.base_grammar.specs.Reading.{needed, unless, run_at, index_at, entry_at, entries_at, streams_at, subgroup_at, subgroups_at, rest_of, base_of, Refuses}
 use Rattle.base_grammar.proofs.Firsts.{read_bad}
 use Rattle.base_grammar.proofs.Loops.{Entering, entering_first, entering_next, entering_err, entering_done, Grouping, grouping_first, grouping_next, grouping_err, grouping_done, indices-push}
 use Rattle.base_grammar.proofs.Steps.{none_index}
@@ -253,66 +253,6 @@ pub subgroups_passed : (whole : List ℕ) (count : ℕ) (from : List ℕ) (i : �
     → rest_of (subgroups_at whole [] count from) ≡ Ok rest
 subgroups_passed whole count from i rest set le p = ap rest_of (grouping_done whole count from p.subgroups i rest le p.so_far)
 
--- ---- the whole
-
-long_read : (octets : List ℕ) → length octets ≤ 252 → base_of octets ≡ fields_of octets
-unfolding base_of
-long_read octets h = rw (le-ltb 252 (length octets) h) refl
-
-fields_undelayed : (octets : List ℕ) (f : BaseFault) → needed octets octets (number_in 3 octets) ≡ Err f → fields_of octets ≡ Err f
-unfolding fields_of
-fields_undelayed octets f e = rw e refl
-
-fields_uncounted : (octets : List ℕ) (delay : ℕ) (r1 : List ℕ) (f : BaseFault) → needed octets octets (number_in 3 octets) ≡ Ok (delay, r1) → count_at octets r1 ≡ Err f
-    → fields_of octets ≡ Err f
-unfolding fields_of
-fields_uncounted octets delay r1 f a e = rw (a, e) refl
-
-fields_behind : (octets : List ℕ) (delay : ℕ) (r1 : List ℕ) (count : ℕ) (r2 : List ℕ) → needed octets octets (number_in 3 octets) ≡ Ok (delay, r1) → count_at octets r1 ≡ Ok (count, r2)
-    → fields_of octets ≡ (subgroups_at octets [] count r2 >>= λ subgroups. ended octets subgroups.1 (endpoint delay subgroups.0))
-unfolding fields_of
-fields_behind octets delay r1 count r2 a b = rw (a, b) refl
-
-behind_failed : (octets : List ℕ) (delay : ℕ) (read : Result (List Subgroup × List ℕ) BaseFault) (f : BaseFault) → rest_of read ≡ Err f
-    → (read >>= λ subgroups. ended octets subgroups.1 (endpoint delay subgroups.0)) ≡ Err f
-behind_failed octets delay (Ok x) f e = absurd cc
-behind_failed octets delay (Err other) f e = ap (λ (x : BaseFault). Err x) (err_same other f e)
-  where
-    err_same : (a b : BaseFault) → (let r : BaseFault → Result (List ℕ) BaseFault = λ z. Err z in r a ≡ r b) → a ≡ b
-    err_same a b h = cc
-
-ended_err : (octets rest : List ℕ) (v w : Endpoint) → result_err (ended octets rest v) ≡ result_err (ended octets rest w)
-ended_err octets [] v w = refl
-ended_err octets (octet ∷ rest) v w = refl
-
-behind_ended : (octets : List ℕ) (delay : ℕ) (read : Result (List Subgroup × List ℕ) BaseFault) (rest : List ℕ) → rest_of read ≡ Ok rest
-    → result_err (read >>= λ subgroups. ended octets subgroups.1 (endpoint delay subgroups.0)) ≡ result_err (ended octets rest (endpoint delay []))
-behind_ended octets delay (Ok x) rest e =
-    ap (λ (r : List ℕ). result_err (ended octets r (endpoint delay x.0))) (ok_same x.1 rest e) ∙ ended_err octets rest (endpoint delay x.0) (endpoint delay [])
-  where
-    ok_same : (a b : List ℕ) → (let r : List ℕ → Result (List ℕ) BaseFault = λ z. Ok z in r a ≡ r b) → a ≡ b
-    ok_same a b h = cc
-behind_ended octets delay (Err f) rest e = absurd cc
-
-pub base_undelayed : (octets : List ℕ) (f : BaseFault) → length octets ≤ 252 → needed octets octets (number_in 3 octets) ≡ Err f → Some f ≡ result_err (base_of octets)
-base_undelayed octets f h e = sym (ap result_err (long_read octets h ∙ fields_undelayed octets f e))
-
-pub base_uncounted : (octets : List ℕ) (delay : ℕ) (r1 : List ℕ) (f : BaseFault) → length octets ≤ 252 → needed octets octets (number_in 3 octets) ≡ Ok (delay, r1)
-    → count_at octets r1 ≡ Err f → Some f ≡ result_err (base_of octets)
-base_uncounted octets delay r1 f h a e = sym (ap result_err (long_read octets h ∙ fields_uncounted octets delay r1 f a e))
-
-pub base_unread : (octets : List ℕ) (delay : ℕ) (r1 : List ℕ) (count : ℕ) (r2 : List ℕ) (f : BaseFault) → length octets ≤ 252
-    → needed octets octets (number_in 3 octets) ≡ Ok (delay, r1) → count_at octets r1 ≡ Ok (count, r2) → rest_of (subgroups_at octets [] count r2) ≡ Err f
-    → Some f ≡ result_err (base_of octets)
-base_unread octets delay r1 count r2 f h a b e =
-    sym (ap result_err (long_read octets h ∙ fields_behind octets delay r1 count r2 a b ∙ behind_failed octets delay (subgroups_at octets [] count r2) f e))
-
-pub base_ended : (octets : List ℕ) (delay : ℕ) (r1 : List ℕ) (count : ℕ) (r2 rest : List ℕ) → length octets ≤ 252
-    → needed octets octets (number_in 3 octets) ≡ Ok (delay, r1) → count_at octets r1 ≡ Ok (count, r2) → rest_of (subgroups_at octets [] count r2) ≡ Ok rest
-    → result_err (ended octets rest (endpoint delay [])) ≡ result_err (base_of octets)
-base_ended octets delay r1 count r2 rest h a b e =
-    sym (ap result_err (long_read octets h ∙ fields_behind octets delay r1 count r2 a b) ∙ behind_ended octets delay (subgroups_at octets [] count r2) rest e)
-
 -- ---- the answers
 
 err_by : (read : Result Endpoint BaseFault) (f : BaseFault) → Some f ≡ result_err read → read ≡ Err f
@@ -342,15 +282,3 @@ refused octets faults.Memory e = absurd (read_bad faults.Memory octets e)
 
 pub fault_refused : (octets : List ℕ) (f : BaseFault) → Some f ≡ result_err (base_of octets) → Refuses f (base_of octets)
 fault_refused octets f e = refused octets f (err_by (base_of octets) f e)
-
--- a fault that is told while memory lasts
-pub told : (octets : List ℕ) (f : BaseFault) → f ≢ faults.Memory → Fails f (base_of octets) → Refuses f (base_of octets)
-told octets (faults.Short place) lasts h = h
-told octets faults.NoSubgroup lasts h = h
-told octets (faults.NoBis place) lasts h = h
-told octets (faults.BadIndex place) lasts h = h
-told octets (faults.IndexTwice place) lasts h = h
-told octets (faults.Ltv place bad) lasts h = h
-told octets (faults.Trailing place) lasts h = h
-told octets faults.TooLong lasts h = h
-told octets faults.Memory lasts h = absurd (lasts refl)

@@ -1,13 +1,16 @@
 -- The whole value: what is left behind the records, and the records in memory of their own.
 use Rattle.std.proofs.Common.{◌≡◌, ℕ, ◌≤◌, Bool, true, false, cond, eqb, ltb, List, [], ◌∷◌, length, Option, Some, None, Result, Ok, Err, refl, sym, ap, subst, ◌∙◌}
-use Rattle.std.specs.Prelude.{IsOk}
+use Rattle.std.specs.Prelude.{IsOk, IfOk}
 use Rattle.std.specs.Result.{result_err}
 use Rattle.octet_fields.specs.Reading.{octet_in, place_in}
+use Rattle.octet_fields.specs.Spelling.{IsOctets}
 use Rattle.pacs_records.specs.declared.fault.PacFault.{PacFault}
-use Rattle.pacs_records.specs.declared.fault.PacFault.TheVariants.{TooLong, Trailing}
+use Rattle.pacs_records.specs.declared.fault.PacFault.TheVariants.{TooLong, Short, Ltv, Trailing, Memory}
 use Rattle.pacs_records.specs.declared.record.PacRecord.{PacRecord}
 use Rattle.pacs_records.specs.Layout.{greatest_value}
-use Rattle.pacs_records.specs.Reading.{◌>>=◌, Fails, Gives, field_at, records_in, list_of, rest_of, value_in}
+use Rattle.pacs_records.specs.Reading.{◌>>=◌, Fails, field_at, records_in, list_of, rest_of, value_in}
+use Rattle.pacs_records.proofs.Fields.{value_again}
+use Rattle.pacs_records.proofs.Stops.{value_stops}
 
 -- the records, where no octet is left behind them
 abbrev pub ending : List ℕ → List PacRecord × List ℕ → Result (List PacRecord) PacFault
@@ -100,5 +103,26 @@ err_by (Err other) fault e = ap (λ (f : PacFault). Err f) (some_same other faul
     some_same : (a b : PacFault) → (let r : PacFault → Option PacFault = λ z. Some z in r a ≡ r b) → a ≡ b
     some_same a b h = cc
 
-pub checked_err : (octets : List ℕ) (fault : PacFault) → Some fault ≡ result_err (value_in octets) → value_in octets ≡ Err fault
-checked_err octets fault e = err_by (value_in octets) fault e
+-- reading gives no want of memory
+no_wants : (octets : List ℕ) → IsOctets octets → value_in octets ≡ Err Memory → ⊥
+no_wants octets fits e =
+    let value = value_stops Memory octets fits e in
+    ok_no value.0 (sym (value_again octets value.0 value.1) ∙ e)
+  where
+    ok_no : (records : List PacRecord) → (let r : Result (List PacRecord) PacFault = Ok records in r ≡ Err Memory) → ⊥
+    ok_no records h = cc
+
+refuses : (octets : List ℕ) (fault : PacFault) → IsOctets octets → value_in octets ≡ Err fault → Fails fault (value_in octets)
+refuses octets TooLong fits e = e
+refuses octets (Short place) fits e = e
+refuses octets (Ltv place bad) fits e = e
+refuses octets (Trailing place) fits e = e
+refuses octets Memory fits e = absurd (no_wants octets fits e)
+
+pub refused : (octets : List ℕ) (fault : PacFault) → IsOctets octets → Some fault ≡ result_err (value_in octets) → Fails fault (value_in octets)
+refused octets fault fits e = refuses octets fault fits (err_by (value_in octets) fault e)
+
+pub owned : {M : Type 0} (octets : List ℕ) (count : ℕ) (from : List ℕ) (result : Result (List PacRecord) M) → octet_in octets ≡ Some (count, from) → IsOk (value_in octets)
+    → IfOk result (λ records. list_of (records_in octets count from) ≡ Ok records) → IfOk result (λ records. value_in octets ≡ Ok records)
+owned octets count from (Ok records) first ok h = value_is octets count from records first ok h
+owned octets count from (Err wants) first ok h = tt

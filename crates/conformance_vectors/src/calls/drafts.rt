@@ -20,9 +20,9 @@ const BASE: [u8; 34] = [
 
 #[test]
 fn a_draft_is_finished_and_encoded(rt: HostRuntime) -> Result<(), Fail> {
-    assert!(rt; check_ltvs(&CONFIG).is_ok());
-    assert!(rt; check_ltvs(&METADATA).is_ok());
-    assert!(rt; check_ltvs(&ALLOCATION).is_ok());
+    check_ltvs(&CONFIG)?;
+    check_ltvs(&METADATA)?;
+    check_ltvs(&ALLOCATION)?;
     let bis = Bis::new(1).ok_or("no index")?;
     let mut draft = BaseDraft::new(rt.alloc(), 40000);
     draft.subgroup(LC3, &CONFIG)?;
@@ -48,9 +48,9 @@ const TWO_SUBGROUPS: [u8; 49] = [
 
 #[test]
 fn a_draft_may_have_two_subgroups(rt: HostRuntime) -> Result<(), Fail> {
-    assert!(rt; check_ltvs(&CONFIG).is_ok());
-    assert!(rt; check_ltvs(&METADATA).is_ok());
-    assert!(rt; check_ltvs(&ALLOCATION).is_ok());
+    check_ltvs(&CONFIG)?;
+    check_ltvs(&METADATA)?;
+    check_ltvs(&ALLOCATION)?;
     let first = Bis::new(1).ok_or("no index")?;
     let second = Bis::new(2).ok_or("no index")?;
     let third = Bis::new(3).ok_or("no index")?;

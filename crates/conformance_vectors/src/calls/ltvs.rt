@@ -37,9 +37,8 @@ fn a_structure_is_pushed(rt: HostRuntime) -> Result<(), Fail> {
     let octets = encode_ltvs(rt.alloc(), &list)?;
     assert_eq!(rt; octets.as_slice(), [3, 2, 2, 0].as_slice());
     let metadata = octets.as_slice();
-    if check_ltvs(metadata).is_ok() {
-        assert_eq!(rt; contexts_of(metadata), Some(2));
-    }
+    check_ltvs(metadata)?;
+    assert_eq!(rt; contexts_of(metadata), Some(2));
     Ok(())
 }
 
