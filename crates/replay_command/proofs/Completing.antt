@@ -63,7 +63,7 @@ ended_whole text starts ends left left' kept kept' status e is whole =
     whole_at text starts ends left' kept kept' status (left_at status text starts ends left left' kept kept' is e) whole
 
 pub ended_ahead : (status : Status) (starts ends : List Account) (left left' kept kept' : Option (List ℕ)) → Ended status starts ends left left' kept kept'
-    → AheadOf status starts left left' kept kept'
+    → AheadOf status starts ends left left' kept kept'
 ended_ahead statuses.Done starts ends left left' kept kept' e = tt
 ended_ahead (statuses.Refused line reason) starts ends left left' kept kept' e = e.1
 ended_ahead statuses.Usage starts ends left left' kept kept' e = tt

@@ -244,6 +244,7 @@ module _ (starts : List Account) (history : List TextLine) (left left' kept mid 
       front = brought (rules_of airs_of starts) history ++ f.front;
       written = Appends-then kept mid kept' (brought (rules_of airs_of starts) history) f.front r.written f.appended;
       not_before = omega (arith, ap length (ap (out_of airs_of starts) t.whole ∙ out_all starts history r.accepted), length-append (brought (rules_of airs_of starts) history) f.front);
+      boxes = took_same starts accounts _ _ (sym no_end_units) (took_history starts accounts history r.stands.boxes);
     }),
   )
   ends_no_end (statuses.Refused line why) f =

@@ -28,6 +28,7 @@ pub record ReadTo (left left' : Option (List ℕ)) (lines : List TextLine) (read
   pub consumed : Consumes left left' (passed ++ reader.ahead)
   pub begins : (at_end : Bool) (more : List ℕ) → MayFollow reader at_end more
       → lines_of at_end (passed ++ more) ≡ reverse lines ++ lines_after at_end reader more
+  pub count : reader.taken ≡ length passed
   pub anew : reader.part ≡ []
   pub at_end : reader.over ≡ true → IsAtEnd left'
   pub sound : IsSound reader
