@@ -66,7 +66,7 @@ comes_of left left' lines line reader r = record {
 -- a step of the reader after these lines, which passed the octets of further ones
 pub begins_more : (left mid left' : Option (List ℕ)) (lines : List TextLine) (old new : Reading) (further : List TextLine)
     (r : ReadTo left mid lines old) → old.over ≡ false → (t : Took old new mid left' further)
-    → (at_end : Bool) (more : List ℕ) → reading.MayFollow new at_end more
+    → (at_end : Bool) (more : List ℕ) → reading.MayFollow new.over at_end more
     → lines_of at_end ((r.passed ++ t.reads.octets) ++ more) ≡ reverse lines ++ (further ++ lines_after at_end new more)
 begins_more left mid left' lines old new further r going t at_end more follows =
     ap (lines_of at_end) (append_assoc r.passed t.reads.octets more)

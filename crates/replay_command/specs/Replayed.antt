@@ -4,6 +4,7 @@
 use Rattle.std.specs.Prelude.{ℕ, ◌≡◌, ◌≤◌, ◌<◌, ◌⊎◌, ◌+◌, Bool, true, false, List, [], ◌∷◌, ◌++◌, length, reverse, Option}
 use Rattle.std.specs.Io.KnownBytes.{Appends, Consumes, IsAtEnd}
 use Rattle.bcast_io.specs.TextLines.{TextLine, lines_of, text_limit}
+use Rattle.bcast_io.specs.Reading.{MayFollow}
 use Rattle.bcast_io.specs.Writing.{AppendsFront}
 use Rattle.unit_outlets.specs.Account.{Account}
 use Rattle.source_machine.specs.Airs.{airs_of}
@@ -14,10 +15,6 @@ use Rattle.scenario_history.specs.Boxes.{SinkUnit, Took}
 use Rattle.scenario_history.specs.Lines.{rules_of, handed_on}
 use Rattle.scenario_history.specs.Transcript.{out_of, end_after, transcript_of, transcript_end, units_of}
 use Rattle.replay_steps.specs.Handing.{BoxFails, CutShort}
-
--- what may follow the octets read: where the input was at its end, nothing
-abbrev pub MayFollow : Bool → Bool → List ℕ → Type 0
-MayFollow over at_end more = over ≡ true → (at_end ≡ true) × (more ≡ [])
 
 -- the octets that a call took from its source; `over` says that it met the end of the input
 pub record TextRead (left left' : Option (List ℕ)) (text : List ℕ) (over : Bool) : Type 0 where
