@@ -8,4 +8,6 @@ mod Packings
 mod Rings
 mod Runs
 mod Senders
+mod Stays
+mod Struck
 mod Walks

@@ -256,3 +256,13 @@ part_within anchor room sent_now unit count complete partly is =
     within_of_it anchor room sent_now unit count complete
     (subst (Comes (record { anchor = anchor; room = room; due = Some unit; sent = sent_now })) (sym is)
     (comes_for (record { anchor = anchor; room = room; due = Some unit; sent = sent_now }) unit refl partly))
+
+-- what comes where this unit is due, and where none is
+pub comes_known : (max_pdu : ℕ) (units : List Timed) (anchor : ℕ) (acts : List Act) (act : Act) (unit : Timed) → slice_get units (done acts) ≡ Some unit
+    → Partly (sent acts) unit → act_for anchor (room max_pdu acts) (sent acts) unit ≡ act → Comes (place_of max_pdu units anchor acts) act
+comes_known max_pdu units anchor acts act unit due partly is =
+    subst (Comes (place_of max_pdu units anchor acts)) is (comes_for (place_of max_pdu units anchor acts) unit due partly)
+
+pub comes_nothing : (max_pdu : ℕ) (units : List Timed) (anchor : ℕ) (acts : List Act) → slice_get units (done acts) ≡ None
+    → Comes (place_of max_pdu units anchor acts) ends
+comes_nothing max_pdu units anchor acts none = comes_none (place_of max_pdu units anchor acts) none

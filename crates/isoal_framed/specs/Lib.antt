@@ -3,5 +3,7 @@ pub mod Calls
 pub mod Histories
 pub mod Places
 pub mod State
+pub mod Struck
 pub mod Tokens
 pub mod Units
+pub mod Worked

@@ -5,6 +5,7 @@ ghost use Rattle.isoal_base.specs.Air.{Air};
 ghost use Rattle.isoal_framed.specs.Air.{IsFramedAir};
 ghost use Rattle.isoal_framed.specs.Calls.{Call};
 ghost use Rattle.isoal_framed.specs.State.Senders.{Sender, StandsFor};
+ghost use Rattle.isoal_framed.specs.Worked.{LeftOut, OverTwoEvents, OverTwoPdus};
 
 /// The conditions on the places of its PDUs fix what is laid: a list of calls lays at most one air.
 pub fn one_framed_air()
@@ -14,4 +15,11 @@ pub fn one_framed_air()
 /// What a sender laid in its calls meets these conditions.
 pub fn a_sender_lays_a_framed_air()
     ensures { (info : BigInfo) (calls : List Call) (air : Air) (sender : Sender) → StandsFor info calls air sender → IsFramedAir info calls air }
+{}
+
+/// Three events worked by hand.
+pub fn worked_events()
+    ensures over_two_pdus { OverTwoPdus }
+    ensures over_two_events { OverTwoEvents }
+    ensures left_out { LeftOut }
 {}

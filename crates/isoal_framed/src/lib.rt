@@ -17,9 +17,9 @@ mod run;
 mod store;
 mod stream;
 
-pub use air_laws::{a_sender_lays_a_framed_air, one_framed_air};
+pub use air_laws::{a_sender_lays_a_framed_air, one_framed_air, worked_events};
 pub use framed_in::FramedIn;
 pub use framed_out::FramedOut;
 pub use in_call::InCall;
-pub use laws::fate_is_decided;
+pub use laws::{fate_is_decided, framed_units_are_struck};
 pub use run::run_calls;
