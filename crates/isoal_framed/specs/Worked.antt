@@ -35,9 +35,9 @@ OverTwoPdus = IsWorked (long_unit ∷ []) 20000 []
 -- the rest of a unit that began in the event before, and a start behind it
 abbrev pub OverTwoEvents : Type 0
 OverTwoEvents = IsWorked (crossing_unit ∷ late_unit ∷ []) 30000 (ends ∷ carries 5 false ∷ []) (ends ∷ carries 1 false ∷ carries 2 true ∷ []) (record {
-      pdus = (0x02 ∷ 0x0a ∷ 0x03 ∷ 0x02 ∷ 0xd5 ∷ 0xd6 ∷ 0x00 ∷ 0x04 ∷ 0x88 ∷ 0x13 ∷ 0x00 ∷ 0xe0 ∷ []) ∷ [];
-      stale = [];
-    })
+  pdus = (0x02 ∷ 0x0a ∷ 0x03 ∷ 0x02 ∷ 0xd5 ∷ 0xd6 ∷ 0x00 ∷ 0x04 ∷ 0x88 ∷ 0x13 ∷ 0x00 ∷ 0xe0 ∷ []) ∷ [];
+  stale = [];
+})
 
 -- a unit whose time is 20 s before the anchor
 abbrev pub LeftOut : Type 0
