@@ -1,5 +1,6 @@
 -- What the tokens of a stay decide are the entries of the units that were sent.
-use Rattle.std.proofs.Common.{ℕ, zero, suc, ◌≡◌, ◌+◌, ◌-◌, ◌*◌, ◌/◌, ◌<◌, ◌≤◌, ◌⊎◌, inl, inr, true, false, Bool, ◌&&◌, leb, ltb, eqb, cond, is_some, List, [], ◌∷◌, ◌++◌, map, length, Option, Some, None, refl, sym, ap, ◌∙◌, subst, arith, append_assoc, length-append}
+use Rattle.std.proofs.Common.{ℕ, zero, suc, ◌≡◌, ◌+◌, ◌-◌, ◌*◌, ◌/◌, ◌<◌, ◌≤◌, ◌⊎◌, inl, inr, true, false, Bool, ◌&&◌, leb, ltb, eqb, cond, is_some, List, [], ◌∷◌, ◌++◌, map}
+use Rattle.std.proofs.Common.{length, Option, Some, None, refl, sym, ap, ◌∙◌, subst, arith, append_assoc, length-append}
 use Rattle.std.specs.List.{flat_map, range_with_len}
 use Rattle.std.proofs.lemmas.Bool.{cases_Bool, cases_order, and_from, and_left, cond-true, cond-false, le-leb, lt-ltb, le-ltb, eq-eqb, ne_eqb}
 use Rattle.std.proofs.lemmas.List.{append-nil}
@@ -416,7 +417,8 @@ begun_unit stay heard closed from n whole shown here all unit units order fit at
     ∙ goes_shown stay heard closed (from + 1) n unit.whole (Some (record { time = time_of stay (from / stay.info.bn) unit.offset; octets = octets })) units next segments shown
     (subst (λ first. InOrder first closed units) (omega (arith, behind_is)) order.3)
     (λ part. ((order.2 part).0, subst (λ end. closed ≤ end) behind_is (order.2 part).1))
-    (λ r same. subst (λ run. length (run.octets ++ octets_in (next ∷ segments)) ≤ stay.info.max_sdu) (run_inj r (record { time = time_of stay (from / stay.info.bn) unit.offset; octets = octets }) same) room)
+    (λ r same. subst (λ run. length (run.octets ++ octets_in (next ∷ segments)) ≤ stay.info.max_sdu)
+    (run_inj r (record { time = time_of stay (from / stay.info.bn) unit.offset; octets = octets }) same) room)
     fit.1
     ∙ ap (λ xs. xs ++ flat_map (entry_of stay heard closed) units) (sym entry)
 

@@ -27,7 +27,8 @@ returns-clause-over_two_events c = record {
       (tt, comes_known 10 (crossing_unit ∷ late_unit ∷ []) 30000 (ends ∷ carries 5 false ∷ []) (carries 2 true) crossing_unit refl (record { within = lit≤ tt; less = λ some. lit< tt }) refl),
       comes_known 10 (crossing_unit ∷ late_unit ∷ []) 30000 (carries 2 true ∷ ends ∷ carries 5 false ∷ []) (carries 1 false) late_unit refl (record { within = lit≤ tt; less = λ some. lit< tt }) refl,
     ),
-    comes_known 10 (crossing_unit ∷ late_unit ∷ []) 30000 (carries 1 false ∷ carries 2 true ∷ ends ∷ carries 5 false ∷ []) ends late_unit refl (record { within = lit≤ tt; less = λ some. lit< tt }) refl,
+    comes_known 10 (crossing_unit ∷ late_unit ∷ []) 30000 (carries 1 false ∷ carries 2 true ∷ ends ∷ carries 5 false ∷ []) ends late_unit refl
+        (record { within = lit≤ tt; less = λ some. lit< tt }) refl,
   );
   spelled = refl;
 }
