@@ -1,16 +1,15 @@
 -- What the tokens of a stay decide are the entries of the units that were sent.
-use Rattle.std.proofs.Common.{ℕ, zero, suc, ◌≡◌, ◌+◌, ◌-◌, ◌*◌, ◌/◌, ◌<◌, ◌≤◌, ◌⊎◌, inl, inr, true, false, Bool, ◌&&◌, leb, ltb, eqb, cond, is_some, List, [], ◌∷◌, ◌++◌, map}
+use Rattle.std.proofs.Common.{ℕ, zero, suc, ◌≡◌, ◌+◌, ◌-◌, ◌/◌, ◌<◌, ◌≤◌, inl, inr, true, false, Bool, ◌&&◌, leb, ltb, eqb, cond, List, [], ◌∷◌, ◌++◌, map}
 use Rattle.std.proofs.Common.{length, Option, Some, None, refl, sym, ap, ◌∙◌, subst, arith, append_assoc, length-append}
 use Rattle.std.specs.List.{flat_map, range_with_len}
 use Rattle.std.proofs.lemmas.Bool.{cases_Bool, cases_order, and_from, and_left, cond-true, cond-false, le-leb, lt-ltb, le-ltb, eq-eqb, ne_eqb}
 use Rattle.std.proofs.lemmas.List.{append-nil}
 use Rattle.std.proofs.lemmas.Option.{none-some}
-use Rattle.iso_pdu.specs.Layout.{Part}
 use Rattle.unit_outlets.specs.Handed.{Handed, valid, lost}
 use Rattle.isoal_base.specs.Stays.{Stay}
 use Rattle.isoal_framed.specs.Tokens.{Token, starts, goes_on, missing, token_of, time_of}
 use Rattle.isoal_framed.specs.Units.{Run}
-use Rattle.isoal_framed.specs.State.Joining.{hands, hands_at, run_at, hands_joined, run_joined}
+use Rattle.isoal_framed.specs.State.Joining.{hands, hands_joined, run_joined}
 use Rattle.isoal_framed.specs.Struck.{Fit, Sent, octets_in, behind, is_last, part_with, carried, parts_at, InOrder, first_missing, entry_by, entry_of}
 use Rattle.isoal_framed.proofs.Closed.{flat_same}
 
