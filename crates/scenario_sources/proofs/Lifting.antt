@@ -1,5 +1,6 @@
 -- The sources after a step that means one of them.
-use Rattle.std.proofs.Common.{◌≡◌, ◌≢◌, ℕ, zero, suc, ◌<◌, ◌==◌, Bool, true, false, List, [], ◌∷◌, length, refl, sym, ◌∙◌, ap, subst, eq-eqb, ne_eqb, slice_get, slice_set, get_or, if◌then◌else◌, ◌&&◌, option_map, unwrap_or, arith, Option, None, Some, ◌⊎◌, inl, inr, Result, Ok, Err}
+use Rattle.std.proofs.Common.{◌≡◌, ◌≢◌, ℕ, zero, suc, ◌<◌, ◌==◌, Bool, true, false, List, [], ◌∷◌, length, refl, sym, ◌∙◌, ap, subst, eq-eqb, ne_eqb, slice_get, slice_set, get_or}
+use Rattle.std.proofs.Common.{if◌then◌else◌, ◌&&◌, option_map, unwrap_or, arith, Option, None, Some, ◌⊎◌, inl, inr, Result, Ok, Err}
 use Rattle.std.proofs.lemmas.Option.{slice_get-get_or}
 use Rattle.std.specs.Option.{option_or}
 use Rattle.transcript_text.specs.declared.refusal.Refusal.{Refusal}
@@ -12,7 +13,7 @@ use Rattle.scenario_history.specs.Steps.{chosen_given, chosen_of, chosen_steps, 
 use Rattle.scenario_history.specs.Source as history
 use Rattle.scenario_history.specs.Source.{ident_of, identity_of, is_started, no_identity}
 use Rattle.scenario_history.specs.Refusals.{is_ident_twice, is_same_identity, refuse_if, twin_refusal}
-use Rattle.scenario_sources.specs.declared.identity.Identity.{Identity}
+use Rattle.source_machine.specs.declared.setup.Identity.{Identity}
 use Rattle.scenario_sources.specs.declared.phase.Phase.{Phase}
 use Rattle.scenario_sources.specs.declared.sources.Sources.{Sources}
 use Rattle.scenario_sources.specs.Answers.{Answers, Closes}

@@ -1,0 +1,13 @@
+pub mod Closed
+mod Fates
+mod Greedy
+mod Handing
+mod Joins
+mod Only
+mod Packings
+mod Rings
+mod Runs
+mod Senders
+mod Stays
+mod Struck
+mod Walks
