@@ -6,9 +6,9 @@ use Rattle.std.specs.Io.KnownBytes.{Consumes}
 use Rattle.bcast_io.specs.TextLines.{newline, text_limit, TextLine, plain, too_long, past, line_of, lines_from, NoNewline}
 use Rattle.bcast_io.specs.declared.line_reader.LineRead.{LineRead}
 use Rattle.bcast_io.specs.declared.line_reader.LineRead.TheVariants.{Line, LineTooLong, TextTooLong, End}
-use Rattle.bcast_io.specs.Answering.{Names, Finds, Ends, GoesOn, Answers}
+use Rattle.bcast_io.specs.State.Answering.{Names, Finds, Ends, GoesOn, Answers}
 use Rattle.std.proofs.lemmas.List.{drop_more, drop-drop, nil_from_length}
-use Rattle.bcast_io.specs.Reading.{Reading, lines_after, Reads, Took, IsPast, BreaksOff, lines_left}
+use Rattle.bcast_io.specs.State.Reading.{Reading, lines_after, Reads, Took, IsPast, BreaksOff, lines_left}
 use Rattle.bcast_io.proofs.Transfers.{Consumes-nothing, Consumes-then}
 use Rattle.bcast_io.proofs.LineLaws.{lines-end, lines-nothing, lines-unended, lines-none, lines-past_all, lines-run, lines-newline, lines-kept, line_of-kept}
 

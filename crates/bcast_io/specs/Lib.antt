@@ -4,5 +4,4 @@ pub mod Scripts
 pub mod Stores
 pub mod Writing
 pub mod TextLines
-pub mod Reading
-pub mod Answering
+pub mod State

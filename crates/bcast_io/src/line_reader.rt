@@ -2,8 +2,8 @@ ghost use Rattle.std.specs.Prelude.{◌≡◌, ◌<◌, ◌≤◌, ◌+◌, ◌-
 ghost use Rattle.std.specs.Io.KnownBytes.{IsAtEnd};
 ghost use Rattle.bcast_io.specs.Faults.{Rose};
 ghost use Rattle.bcast_io.specs.TextLines.{NoNewline, line_of, line_limit, newline, text_limit};
-ghost use Rattle.bcast_io.specs.Reading.{IsSound, IsReady, IsPast, Reads, Took, BreaksOff};
-ghost use Rattle.bcast_io.specs.Answering.{Names, Finds, Ends, GoesOn, Anew, Answers};
+ghost use Rattle.bcast_io.specs.State.Reading.{IsSound, IsReady, IsPast, Reads, Took, BreaksOff};
+ghost use Rattle.bcast_io.specs.State.Answering.{Names, Finds, Ends, GoesOn, Anew, Answers};
 
 use crate::line_buffer::LineBuffer;
 use crate::read_ahead::ReadAhead;
@@ -50,7 +50,7 @@ pub struct LineReader {
 impl Model for LineReader {
     ghost use Rattle.std.specs.Prelude.{◌≡◌, ◌≤◌, true, [], length};
     ghost use Rattle.bcast_io.specs.TextLines.{text_limit, line_limit};
-    ghost use Rattle.bcast_io.specs.Reading.{Reading, held};
+    ghost use Rattle.bcast_io.specs.State.Reading.{Reading, held};
 
     ghost Value = { Reading };
 

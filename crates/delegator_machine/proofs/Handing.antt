@@ -7,7 +7,7 @@ use Rattle.std.proofs.Math.Seq.{take-append-add}
 use Rattle.std.specs.List.{flat_map}
 use Rattle.unit_outlets.specs.Handed.{Handed, Counts, Caused}
 use Rattle.unit_outlets.specs.declared.fault.TakerFault.{TakerFault}
-use Rattle.isoal_unframed.specs.Windows.{HandsOver}
+use Rattle.isoal_unframed.specs.State.Windows.{HandsOver}
 
 -- all of the first were handed
 pub hands_more : (first second old between new : List Handed) (r : Result (Unit {0}) TakerFault)

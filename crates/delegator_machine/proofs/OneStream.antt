@@ -9,7 +9,7 @@ use Rattle.big_info.specs.Schedule.{per_event_of}
 use Rattle.isoal_base.specs.Stays as stays
 use Rattle.isoal_base.specs.Stays.{Stay, opened}
 use Rattle.isoal_unframed.specs.Histories.{unit_at, handed}
-use Rattle.isoal_unframed.specs.Windows.{handed_of}
+use Rattle.isoal_unframed.specs.State.Windows.{handed_of}
 use Rattle.delegator_machine.specs.Calls.{Tuning, Call, tune, hear, tick, place}
 use Rattle.delegator_machine.specs.Handing.{units_on, handed_by, handed_at, handed_since, bis_of, of_stream}
 use Rattle.delegator_machine.specs.Streams.{is_in, number_of, stay_on, stream_calls, streams_of, with_hear}

@@ -14,14 +14,14 @@ use Rattle.isoal_base.specs.Stays.{Stay, opened, window_of}
 use Rattle.isoal_base.proofs.Ranges.{map_same, map_changed}
 use Rattle.isoal_base.proofs.Steps.{stands_new, stands_hear, stands_close}
 use Rattle.isoal_unframed.specs.Units.{unframed}
-use Rattle.isoal_unframed.specs.Windows.{after_hear, after_close}
+use Rattle.isoal_unframed.specs.State.Windows.{after_hear, after_close}
 use Rattle.isoal_unframed.proofs.Stands.{owed_is}
 use Rattle.delegator_machine.proofs.Sets.{flat_map_filter}
 use Rattle.delegator_machine.specs.Calls.{Tuning, Call, tune, hear, tick, place}
 use Rattle.delegator_machine.specs.Handing.{units_by, units_on, handed_by, handed_at}
 use Rattle.delegator_machine.specs.Hearings.{entries_of, hearing_on, hearing_at, hearing_of}
-use Rattle.delegator_machine.specs.Sinks.{OnGroup, StandsFor, window_after, stream_after, on_after}
-use Rattle.delegator_machine.specs.Steps.{fresh, fresh_at, fresh_on, answer_at, answer_on, hear_at, hear_on, stream_at, owed_by, owed_on, tick_at, tick_on}
+use Rattle.delegator_machine.specs.State.Sinks.{OnGroup, StandsFor, window_after, stream_after, on_after}
+use Rattle.delegator_machine.specs.State.Steps.{fresh, fresh_at, fresh_on, answer_at, answer_on, hear_at, hear_on, stream_at, owed_by, owed_on, tick_at, tick_on}
 use Rattle.delegator_machine.specs.Streams.{is_in, number_of, stay_on, stream_calls, with_hear, with_tick}
 
 window_new : (stay : Stay) → fresh stay ≡ window_after stay []

@@ -1,6 +1,5 @@
 pub mod Calls
 pub mod Handing
 pub mod Hearings
-pub mod Sinks
-pub mod Steps
 pub mod Streams
+pub mod State

@@ -1,10 +1,10 @@
 ghost use Rattle.std.specs.Prelude.{◌≡◌, ◌≤◌, ◌<◌, ◌^◌, List, [], ◌∷◌, OnOk, OnErr};
 ghost use Rattle.unit_outlets.specs.Handed.{Caused};
-ghost use Rattle.isoal_unframed.specs.Windows.{HandsOver};
+ghost use Rattle.isoal_unframed.specs.State.Windows.{HandsOver};
 ghost use Rattle.delegator_machine.specs.Calls.{Call, tune, hear, tick};
 ghost use Rattle.delegator_machine.specs.Handing.{handed_at};
 ghost use Rattle.delegator_machine.specs.Hearings.{hearing_of};
-ghost use Rattle.delegator_machine.specs.Sinks.{StandsFor};
+ghost use Rattle.delegator_machine.specs.State.Sinks.{StandsFor};
 
 use crate::on_group::SinkOnGroup;
 use bcast_base::{Bis, BisSet, Memory};
@@ -23,7 +23,7 @@ pub struct Delegator {
 
 impl Model for Delegator {
     ghost use Rattle.std.specs.Prelude.{Option};
-    ghost use Rattle.delegator_machine.specs.Sinks.{OnGroup};
+    ghost use Rattle.delegator_machine.specs.State.Sinks.{OnGroup};
 
     ghost Value = { Option OnGroup };
 

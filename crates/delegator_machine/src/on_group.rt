@@ -2,8 +2,8 @@ ghost use Rattle.std.specs.Prelude.{◌≡◌, ◌≤◌, ◌<◌, ◌^◌, map,
 ghost use Rattle.std.specs.List.{flat_map};
 ghost use Rattle.big_info.specs.Bounds.{Bounds};
 ghost use Rattle.unit_outlets.specs.Handed.{Caused};
-ghost use Rattle.isoal_unframed.specs.Windows.{HandsOver};
-ghost use Rattle.delegator_machine.specs.Steps.{answer_on, fresh_on, hear_on, owed_by, owed_on, tick_at, tick_on};
+ghost use Rattle.isoal_unframed.specs.State.Windows.{HandsOver};
+ghost use Rattle.delegator_machine.specs.State.Steps.{answer_on, fresh_on, hear_on, owed_by, owed_on, tick_at, tick_on};
 
 use crate::streams::{close_by, hear_in, skip_by, stream_of};
 use bcast_base::{Bis, BisSet, Memory};
@@ -23,7 +23,7 @@ pub(crate) struct SinkOnGroup {
 
 impl Model for SinkOnGroup {
     ghost use Rattle.std.specs.Prelude.{vec_len};
-    ghost use Rattle.delegator_machine.specs.Sinks.{OnGroup, Keeps};
+    ghost use Rattle.delegator_machine.specs.State.Sinks.{OnGroup, Keeps};
 
     ghost Value = { OnGroup };
 

@@ -1,8 +1,8 @@
 //! The place of a stream at a sink: its receiver, where the sink takes it.
 ghost use Rattle.std.specs.Prelude.{◌≡◌, ◌≤◌, ◌<◌, ◌^◌, IfOk};
 ghost use Rattle.unit_outlets.specs.Handed.{Caused};
-ghost use Rattle.isoal_unframed.specs.Windows.{HandsOver};
-ghost use Rattle.delegator_machine.specs.Steps.{answer_at, fresh_at, hear_at, owed_by, tick_at};
+ghost use Rattle.isoal_unframed.specs.State.Windows.{HandsOver};
+ghost use Rattle.delegator_machine.specs.State.Steps.{answer_at, fresh_at, hear_at, owed_by, tick_at};
 ghost use Rattle.delegator_machine.specs.Streams.{number_of};
 
 use crate::refuser::Refuser;

@@ -1,6 +1,6 @@
 ghost use Rattle.std.specs.Prelude.{◌≡◌, ◌++◌, ◌-◌, ◌^◌, ◌∷◌, [], map, OnOk, OnErr};
 ghost use Rattle.unit_outlets.specs.Handed.{Caused};
-ghost use Rattle.isoal_unframed.specs.Windows.{handed_of};
+ghost use Rattle.isoal_unframed.specs.State.Windows.{handed_of};
 
 use crate::Delegator;
 use crate::refuser::Refuser;

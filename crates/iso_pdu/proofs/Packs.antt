@@ -6,7 +6,7 @@ use borrow.Rule.Slice.PartMut.{put_mid}
 use Rattle.iso_pdu.specs.Layout.{Part, start, more, bit}
 use Rattle.iso_pdu.specs.Reading.{parts_in}
 use Rattle.iso_pdu.specs.Spelling.{offset_octets, segment, segments}
-use Rattle.iso_pdu.specs.Packing.{Packed, room_in, packed_in, IsPacked}
+use Rattle.iso_pdu.specs.State.Packing.{Packed, room_in, packed_in, IsPacked}
 use Rattle.iso_pdu.proofs.PartsRead.{parts_from-layout}
 use Rattle.iso_pdu.proofs.PdusRead.{segments-are}
 

@@ -1,7 +1,6 @@
 pub mod Control
 pub mod Faults
 pub mod Layout
-pub mod Packing
 pub mod Reading
 pub mod Spelling
-pub mod Views
+pub mod State

@@ -1,6 +1,6 @@
 ghost use Rattle.std.specs.Prelude.{◌≡◌, ◌<◌, ◌≤◌, ◌+◌, ◌*◌, ◌^◌, [], ◌∷◌, ◌++◌, length, take, drop, Ok};
 ghost use Rattle.iso_pdu.specs.Layout.{start, more, framed, bit};
-ghost use Rattle.iso_pdu.specs.Packing.{room_in};
+ghost use Rattle.iso_pdu.specs.State.Packing.{room_in};
 ghost use Rattle.iso_pdu.specs.Reading.{read_of};
 ghost use Rattle.iso_pdu.specs.Spelling.{segments, pdu, offset_octets};
 
@@ -16,7 +16,7 @@ pub struct FramedPdu {
 }
 
 impl Model for FramedPdu {
-    ghost use Rattle.iso_pdu.specs.Packing.{Packed, packed_in, IsPacked};
+    ghost use Rattle.iso_pdu.specs.State.Packing.{Packed, packed_in, IsPacked};
 
     ghost Value = { Packed };
 

@@ -3,7 +3,7 @@ ghost use Rattle.iso_pdu.specs.Faults.{FaultIs};
 ghost use Rattle.iso_pdu.specs.Layout.{fragment, end, PduIs, HasAtMost};
 ghost use Rattle.iso_pdu.specs.Reading.{read_of};
 ghost use Rattle.iso_pdu.specs.Spelling.{pdu};
-ghost use Rattle.iso_pdu.specs.Views.{content_of};
+ghost use Rattle.iso_pdu.specs.State.Views.{content_of};
 
 use crate::fault::PduFault;
 use crate::segment::Segments;

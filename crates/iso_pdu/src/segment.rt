@@ -2,7 +2,7 @@ ghost use Rattle.std.specs.Prelude.{◌≡◌, ◌<◌, ◌≤◌, ◌-◌, leng
 ghost use Rattle.std.specs.Result.{result_err};
 ghost use Rattle.bcast_base.specs.Numbers.{sum_from};
 ghost use Rattle.iso_pdu.specs.Reading.{part_at, fault_at, parts_from, parts_of, IsPassed};
-ghost use Rattle.iso_pdu.specs.Views.{part_of};
+ghost use Rattle.iso_pdu.specs.State.Views.{part_of};
 
 use crate::fault::PduFault;
 use bcast_base::read_le;
@@ -56,7 +56,7 @@ impl<'a> Iterator for Segments<'a> {
     type Item = Segment<'a>;
 
     ghost use Rattle.std.specs.Iterator.{YieldsFirstBy, item_count};
-    ghost use Rattle.iso_pdu.specs.Views.{part_of};
+    ghost use Rattle.iso_pdu.specs.State.Views.{part_of};
 
     ghost next_gives = { YieldsFirstBy part_of (λ s. s) };
 

@@ -4,7 +4,7 @@ use Rattle.std.specs.List.{slice_get}
 use Rattle.std.proofs.lemmas.Bool.{false≢true}
 use Rattle.std.proofs.lemmas.Option.{none-some, slice_get_past}
 use Rattle.iso_pdu.specs.Layout.{framed}
-use Rattle.iso_pdu.specs.Packing.{room_in}
+use Rattle.iso_pdu.specs.State.Packing.{room_in}
 use Rattle.iso_pdu.specs.Spelling.{pdu}
 use Rattle.isoal_base.proofs.Heards.{cases_option}
 use Rattle.isoal_framed.specs.Air.{pdus_ended, open_parts, pdus_of, stale_of, part_of, time_in}

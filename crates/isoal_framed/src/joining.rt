@@ -1,7 +1,7 @@
 //! The start that isn't decided yet, and the tokens that decide it.
 ghost use Rattle.std.specs.Prelude.{◌≡◌, ◌≤◌, ◌<◌, ◌+◌, ◌^◌, ◌++◌, length, take, vec_len, Some, None, IfOk};
 ghost use Rattle.std.specs.Option.{ForSome};
-ghost use Rattle.iso_pdu.specs.Views.{part_of};
+ghost use Rattle.iso_pdu.specs.State.Views.{part_of};
 ghost use Rattle.isoal_framed.specs.Histories.{held_of};
 ghost use Rattle.isoal_framed.specs.Tokens.{token_of, starts, goes_on, missing};
 ghost use Rattle.isoal_framed.specs.State.Joining.{hands_at, hands_joined, run_at, run_joined};

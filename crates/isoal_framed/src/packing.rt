@@ -1,6 +1,6 @@
 //! How the PDUs of an event are filled.
 ghost use Rattle.std.specs.Prelude.{◌≡◌, ◌≤◌, ◌<◌, ◌+◌, ◌-◌, ◌^◌, ◌++◌, ◌∷◌, [], List, ℕ, true, false, length, drop, slice_get, option_copied, IsSome, IfOk};
-ghost use Rattle.iso_pdu.specs.Packing.{room_in};
+ghost use Rattle.iso_pdu.specs.State.Packing.{room_in};
 ghost use Rattle.isoal_framed.specs.Air.{pdus_ended};
 ghost use Rattle.isoal_framed.specs.Calls.{Timed};
 ghost use Rattle.isoal_framed.specs.Places.{Act, ends, done, overhead};

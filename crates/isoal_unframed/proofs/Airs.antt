@@ -7,7 +7,7 @@ use Rattle.isoal_unframed.proofs.Events.{next_event_is}
 use Rattle.isoal_base.specs.Air.{Laid}
 use Rattle.isoal_unframed.specs.Air.{unframed_air}
 use Rattle.isoal_unframed.specs.Calls.{Call, accept, lay, accepted, begun, lays}
-use Rattle.isoal_unframed.specs.Sender.{Sender, StandsFor, after_event, event_pdus, with_unit}
+use Rattle.isoal_unframed.specs.State.Sender.{Sender, StandsFor, after_event, event_pdus, with_unit}
 
 -- no more units have their slot than were accepted
 pub begun_within : (info : BigInfo) (calls : List Call) → begun info calls ≤ length (accepted calls)

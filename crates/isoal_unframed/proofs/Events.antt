@@ -13,7 +13,7 @@ use Rattle.isoal_unframed.proofs.Rows.{map_same, rows}
 use Rattle.isoal_base.specs.Air.{Laid, event_at, pdu_at}
 use Rattle.isoal_unframed.specs.Air.{laid_u, next_event, unframed_air, unit_at}
 use Rattle.isoal_unframed.specs.Calls.{Call, accept, lay, accepted, begun, events}
-use Rattle.isoal_unframed.specs.Sender.{Sender, StandsFor, event_pdus}
+use Rattle.isoal_unframed.specs.State.Sender.{Sender, StandsFor, event_pdus}
 use Rattle.isoal_unframed.specs.Slot.{laid}
 
 slice_get_drop : {X : Type 0} (xs : List X) (n i : ℕ) → slice_get (drop n xs) i ≡ slice_get xs (n + i)

@@ -12,7 +12,7 @@ use Rattle.std.proofs.lemmas.Bool.{cond-true, cond-false, le-leb, lt-leb, ltb-tr
 use Rattle.iso_pdu.specs.Layout.{Content, end, fragment}
 use Rattle.isoal_unframed.specs.declared.cell.Cell.{Cell}
 use Rattle.isoal_unframed.specs.declared.cell.Cell.TheVariants.{Empty, Fragment, End}
-use Rattle.isoal_unframed.specs.Cells.{count_of, Within, entry_in, kept_in, held_cells}
+use Rattle.isoal_unframed.specs.State.Cells.{count_of, Within, entry_in, kept_in, held_cells}
 use Rattle.isoal_unframed.specs.Units.{unit_after, held_in}
 use Rattle.isoal_unframed.proofs.Places.{slot_fits}
 

@@ -9,7 +9,7 @@ use Rattle.isoal_base.proofs.Ranges.{map_same, map_part}
 use Rattle.isoal_base.proofs.Steps.{stands_new, stands_hear, stands_close}
 use Rattle.isoal_unframed.specs.Histories.{heard_in, unit_at, units_of}
 use Rattle.isoal_unframed.specs.Units.{unframed, unit_of}
-use Rattle.isoal_unframed.specs.Windows.{Window, Stands, after_hear, after_close, handed_of, time_of, owed, owed_at}
+use Rattle.isoal_unframed.specs.State.Windows.{Window, Stands, after_hear, after_close, handed_of, time_of, owed, owed_at}
 use Rattle.isoal_unframed.proofs.Places.{slot_fits}
 
 pub new_stands : (stay : Stay) → Stands [] (record { stay = stay; event = stay.first; kept = replicate (window_of stay.info) None })

@@ -17,7 +17,7 @@ use Rattle.isoal_base.proofs.Ranges.{map_same}
 use Rattle.isoal_unframed.specs.Histories.{heard_in, numbers_of, unit_at, units_of, handed}
 use Rattle.isoal_unframed.specs.Struck.{Slots, air_at, FromSource, Carried, IsStruck, closed_slots, Struck}
 use Rattle.isoal_unframed.specs.Units.{unframed, unit_of}
-use Rattle.isoal_unframed.specs.Windows.{handed_of, time_of}
+use Rattle.isoal_unframed.specs.State.Windows.{handed_of, time_of}
 use Rattle.isoal_unframed.proofs.Laid.{Agrees, Carries, carried_unit, unit_carried, padding_none, fragments_fit}
 use Rattle.isoal_unframed.proofs.Places.{slot_fits}
 

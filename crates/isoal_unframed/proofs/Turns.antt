@@ -7,7 +7,7 @@ use Rattle.std.proofs.lemmas.List.{length-take-le, length-drop, length-append, a
 use Rattle.std.proofs.lemmas.List.{drop-set-add, drop-set-lt, take-set-le, set-append_left, set-append_right, get_or_append_left, get_or-append_right, get_or-drop, get_or-take}
 use Rattle.std.proofs.lemmas.List.{length-replicate}
 use Rattle.iso_pdu.specs.Layout.{Content}
-use Rattle.isoal_unframed.specs.Cells.{turned}
+use Rattle.isoal_unframed.specs.State.Cells.{turned}
 
 -- the place of an index
 abbrev pub spot : ℕ → ℕ → ℕ → ℕ

@@ -13,10 +13,10 @@ use Rattle.isoal_base.specs.declared.heard.Heard.TheVariants.{Late, Beyond, Repe
 use Rattle.isoal_base.specs.Stays.{Stay, window_of}
 use Rattle.isoal_base.specs.Hearing.{placing}
 use Rattle.isoal_base.proofs.Ranges.{map_same}
-use Rattle.isoal_unframed.specs.Cells.{turned}
-use Rattle.isoal_unframed.specs.Streams.{place_of, place_at}
+use Rattle.isoal_unframed.specs.State.Cells.{turned}
+use Rattle.isoal_unframed.specs.State.Streams.{place_of, place_at}
 use Rattle.isoal_unframed.specs.Units.{unit_of, held_in}
-use Rattle.isoal_unframed.specs.Windows.{handed_of, time_of, owed_at, owed_of, held_at, held_in_event, slot_in}
+use Rattle.isoal_unframed.specs.State.Windows.{handed_of, time_of, owed_at, owed_of, held_at, held_in_event, slot_in}
 use Rattle.isoal_unframed.proofs.Places.{slot_fits, event_fits}
 use Rattle.isoal_unframed.proofs.Turns.{take-turned, get-turned, set-turned, next_turn, turned_next, turned_round}
 

@@ -8,7 +8,7 @@ use Rattle.unit_outlets.specs.Handed.{Handed}
 use Rattle.isoal_base.specs.Stays.{Stay, Call, hear, close, opened, heard}
 use Rattle.isoal_base.specs.Hearing.{read_as}
 use Rattle.isoal_unframed.specs.Units.{unframed, unit_of}
-use Rattle.isoal_unframed.specs.Windows.{handed_of, time_of}
+use Rattle.isoal_unframed.specs.State.Windows.{handed_of, time_of}
 
 -- Heard, for an unframed stream
 abbrev pub heard_in : Stay → List Call → ℕ → Option Content

@@ -1,13 +1,8 @@
 pub mod Air
 pub mod Calls
-pub mod Cells
 pub mod Histories
-pub mod Receivers
-pub mod Rings
 pub mod Runs
-pub mod Sender
 pub mod Slot
-pub mod Streams
 pub mod Struck
 pub mod Units
-pub mod Windows
+pub mod State

@@ -3,7 +3,7 @@ use Rattle.std.specs.Prelude.{ℕ, ◌≡◌, List, [], ◌∷◌, ◌++◌, tak
 use Rattle.unit_outlets.specs.Handed.{Handed}
 use Rattle.isoal_base.specs.Stays.{Call, hear, close, opened}
 use Rattle.isoal_unframed.specs.Histories.{handed, units_of}
-use Rattle.isoal_unframed.specs.Windows.{Window, Stands}
+use Rattle.isoal_unframed.specs.State.Windows.{Window, Stands}
 use Rattle.isoal_unframed.specs.declared.in_call.InCall.{InCall}
 use Rattle.isoal_unframed.specs.declared.in_call.InCall.TheVariants.{Hear, Close}
 

@@ -10,7 +10,7 @@ use Rattle.isoal_base.specs.Stays.{Stay, Call, hear, close, opened}
 use Rattle.isoal_base.specs.Hearing.{read_as}
 use Rattle.isoal_unframed.specs.Histories.{heard_in}
 use Rattle.isoal_unframed.specs.Units.{unframed}
-use Rattle.isoal_unframed.specs.Windows.{time_of}
+use Rattle.isoal_unframed.specs.State.Windows.{time_of}
 
 -- the unit of each event and slot, where the slot has one
 abbrev pub Slots : Type 0

@@ -9,7 +9,7 @@ ghost use Rattle.isoal_unframed.specs.Slot.{fragments_of, laid, laid_unit};
 ghost use Rattle.isoal_base.specs.Air.{pdu_at};
 ghost use Rattle.isoal_unframed.specs.Air.{laid_u, unframed_air, unit_at};
 ghost use Rattle.isoal_unframed.specs.Calls.{Call, accepted, begun, events, lays};
-ghost use Rattle.isoal_unframed.specs.Sender.{Sender, StandsFor};
+ghost use Rattle.isoal_unframed.specs.State.Sender.{Sender, StandsFor};
 
 /// The PDU of each payload number of an event that was laid is the one that division gives; it stays whatever follows.
 pub fn each_number_is_laid()

@@ -3,9 +3,9 @@ ghost use Rattle.std.specs.List.{All};
 ghost use Rattle.std.specs.Option.{option_map, option_copied};
 ghost use Rattle.big_info.specs.Schedule.{per_unit_of};
 ghost use Rattle.unit_outlets.specs.Handed.{Caused};
-ghost use Rattle.isoal_unframed.specs.Cells.{Within, count_of, entry_in, kept_in, part_of, held_cells};
+ghost use Rattle.isoal_unframed.specs.State.Cells.{Within, count_of, entry_in, kept_in, part_of, held_cells};
 ghost use Rattle.isoal_unframed.specs.Units.{unit_of, held_in};
-ghost use Rattle.isoal_unframed.specs.Windows.{HandsOver, handed_of};
+ghost use Rattle.isoal_unframed.specs.State.Windows.{HandsOver, handed_of};
 ghost use Rattle.isoal_unframed.specs.declared.cell.Cell.TheVariants.{Empty};
 
 use crate::cell::Cell;
@@ -25,7 +25,7 @@ pub(crate) struct Ring {
 }
 
 impl Ring {
-    ghost use Rattle.isoal_unframed.specs.Rings.{kept_of, octets_at};
+    ghost use Rattle.isoal_unframed.specs.State.Rings.{kept_of, octets_at};
 
     /// So many places, all empty.
     pub(crate) fn new(alloc: Global, places: usize, max_pdu: u8) -> Result<Ring, Memory>

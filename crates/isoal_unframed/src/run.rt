@@ -3,7 +3,7 @@ ghost use Rattle.unit_outlets.specs.Handed.{Handed, Caused};
 ghost use Rattle.isoal_base.specs.Stays.{Call, opened};
 ghost use Rattle.isoal_unframed.specs.Histories.{handed, units_of};
 ghost use Rattle.isoal_unframed.specs.Runs.{call_of, after_all, Stopped};
-ghost use Rattle.isoal_unframed.specs.Windows.{Stands};
+ghost use Rattle.isoal_unframed.specs.State.Windows.{Stands};
 ghost use Rattle.isoal_unframed.specs.declared.in_call.InCall.TheVariants.{Close};
 
 use crate::in_call::InCall;

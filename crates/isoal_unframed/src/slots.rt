@@ -3,7 +3,7 @@ ghost use Rattle.std.specs.Prelude.{◌≡◌, ◌≤◌, ◌++◌, length, slic
 ghost use Rattle.big_info.specs.Schedule.{per_unit_of};
 ghost use Rattle.iso_pdu.specs.Layout.{fragment as a_fragment, end as an_end};
 ghost use Rattle.iso_pdu.specs.Spelling.{pdu as spelled};
-ghost use Rattle.isoal_unframed.specs.Sender.{Begins, event_pdus, slot_pdus};
+ghost use Rattle.isoal_unframed.specs.State.Sender.{Begins, event_pdus, slot_pdus};
 
 use bcast_base::{EventPdus, Memory, Octets};
 use big_info::Group;

@@ -1,7 +1,7 @@
 ghost use Rattle.std.specs.Prelude.{◌≡◌, ◌≤◌, ◌<◌, ◌+◌, ◌*◌, ◌^◌, ◌%◌};
 ghost use Rattle.big_info.specs.Schedule.{per_event_of, per_unit_of};
 ghost use Rattle.isoal_base.specs.Stays.{window_of};
-ghost use Rattle.isoal_unframed.specs.Windows.{time_of};
+ghost use Rattle.isoal_unframed.specs.State.Windows.{time_of};
 
 use bcast_base::Bis;
 use big_info::Group;
@@ -24,7 +24,7 @@ pub(crate) struct Stream {
 }
 
 impl Stream {
-    ghost use Rattle.isoal_unframed.specs.Streams.{stay_of, place_of, place_at};
+    ghost use Rattle.isoal_unframed.specs.State.Streams.{stay_of, place_of, place_at};
 
     /// How many numbers the H + 1 events of the window have.
     pub(crate) fn window(&self) -> usize

@@ -6,7 +6,7 @@ ghost use Rattle.isoal_base.specs.Hearing.{answer_of};
 ghost use Rattle.isoal_base.specs.Stays.{Call, hear, close, opened, window_of};
 ghost use Rattle.isoal_unframed.specs.Histories.{units_of};
 ghost use Rattle.isoal_unframed.specs.Units.{unframed};
-ghost use Rattle.isoal_unframed.specs.Windows.{Stands, HandsOver, after_hear, after_close, owed, held_in_event};
+ghost use Rattle.isoal_unframed.specs.State.Windows.{Stands, HandsOver, after_hear, after_close, owed, held_in_event};
 
 use crate::ring::Ring;
 use crate::stream::Stream;
@@ -29,11 +29,11 @@ pub struct UnframedIn {
 }
 
 impl Model for UnframedIn {
-    ghost use Rattle.isoal_unframed.specs.Cells.{turned};
-    ghost use Rattle.isoal_unframed.specs.Receivers.{IsReceiver};
-    ghost use Rattle.isoal_unframed.specs.Rings.{kept_of};
-    ghost use Rattle.isoal_unframed.specs.Streams.{stay_of, place_of};
-    ghost use Rattle.isoal_unframed.specs.Windows.{Window};
+    ghost use Rattle.isoal_unframed.specs.State.Cells.{turned};
+    ghost use Rattle.isoal_unframed.specs.State.Receivers.{IsReceiver};
+    ghost use Rattle.isoal_unframed.specs.State.Rings.{kept_of};
+    ghost use Rattle.isoal_unframed.specs.State.Streams.{stay_of, place_of};
+    ghost use Rattle.isoal_unframed.specs.State.Windows.{Window};
 
     ghost Value = { Window };
 

@@ -4,7 +4,7 @@ ghost use Rattle.big_info.specs.declared.info.BigInfo.{BigInfo};
 ghost use Rattle.isoal_unframed.specs.Air.{unframed_air};
 ghost use Rattle.isoal_unframed.specs.Calls.{Call, accept, lay, begun};
 ghost use Rattle.isoal_base.specs.Air.{laid_in};
-ghost use Rattle.isoal_unframed.specs.Sender.{MayWait, PutFaultIs, StandsFor, after_event, event_pdus, with_unit};
+ghost use Rattle.isoal_unframed.specs.State.Sender.{MayWait, PutFaultIs, StandsFor, after_event, event_pdus, with_unit};
 
 use crate::slots::lay_slots;
 use bcast_base::{EventPdus, Memory, Octets, Times};
@@ -29,7 +29,7 @@ pub struct UnframedOut {
 }
 
 impl Model for UnframedOut {
-    ghost use Rattle.isoal_unframed.specs.Sender.{Sender};
+    ghost use Rattle.isoal_unframed.specs.State.Sender.{Sender};
 
     ghost Value = { Sender };
 

@@ -5,7 +5,7 @@ use Rattle.std.proofs.lemmas.List.{append-nil, map-append}
 use Rattle.std.proofs.lemmas.List.Sums.{sum_by-cons, sum_by-append}
 use Rattle.std.specs.Io.KnownBytes.{Consumes, IsAtEnd}
 use Rattle.bcast_io.specs.Faults.{Rose as OutsideRose}
-use Rattle.bcast_io.specs.Reading.{MayFollow}
+use Rattle.bcast_io.specs.State.Reading.{MayFollow}
 use Rattle.bcast_io.specs.TextLines.{lines_of}
 use Rattle.unit_outlets.specs.Account.{Account, Fits}
 use Rattle.unit_outlets.specs.Faults.{Rose}

@@ -4,7 +4,7 @@ use Rattle.std.proofs.lemmas.List.{append-nil, length-reverse, reverse-reverse}
 use Rattle.std.proofs.lemmas.Bool.{false≢true}
 use Rattle.std.specs.Io.KnownBytes.{Appends, Keeps}
 use Rattle.bcast_io.specs.TextLines.{TextLine, lines_of}
-use Rattle.bcast_io.specs.Reading.{MayFollow}
+use Rattle.bcast_io.specs.State.Reading.{MayFollow}
 use Rattle.bcast_io.specs.Writing.{AppendsFront, AppendsShort}
 use Rattle.bcast_io.proofs.Transfers.{Appends-then, AppendsFront-then, AppendsFront-nothing, Consumes-nothing}
 use Rattle.unit_outlets.specs.Account.{Account}
@@ -27,7 +27,7 @@ use Rattle.replay_steps.specs.Meets.{BoxesStand}
 use Rattle.replay_steps.specs.LineMeets.{refusal_at, output_at}
 use Rattle.replay_command.specs.Replayed.{Done, ReadFaulted, brought_by, Broken}
 use Rattle.replay_command.specs.Ended.{Ended}
-use Rattle.replay_command.specs.Between.{TextIs, RunTo, Refuses}
+use Rattle.replay_command.specs.State.Between.{TextIs, RunTo, Refuses}
 
 -- ---- the transcript over an accepted history
 

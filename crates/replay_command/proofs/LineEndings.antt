@@ -25,7 +25,7 @@ use Rattle.replay_steps.specs.Meets.{BoxesStand}
 use Rattle.replay_steps.specs.LineMeets.{LinesStand, refusal_at, output_at}
 use Rattle.replay_command.specs.Replayed.{Comes, brought_by, BoxesCut, BoxFailed, Broken, OutletFaulted, ReadsAhead, CutAt, BoxesAt, TookFront}
 use Rattle.replay_command.specs.Ended.{Ended}
-use Rattle.replay_command.specs.Between.{Refuses, Puts, StepRuns}
+use Rattle.replay_command.specs.State.Between.{Refuses, Puts, StepRuns}
 use Rattle.replay_steps.proofs.Laws.{accounts_append, lines_append}
 use Rattle.replay_command.proofs.Endings.{out_then, out_all, out_line, out_refused, ends_refused, writes_refused, units_then, units_all, units_refused, units_rest, handed_line, took_history, front_of_short, front_none}
 use Rattle.replay_command.proofs.RefusalLaws.{never_no_end}

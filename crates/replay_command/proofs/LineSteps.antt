@@ -1,7 +1,7 @@
 -- What the loop of `replay` does at a line, put together.
 use Rattle.std.proofs.Common.{◌≡◌, ℕ, ◌+◌, ◌≤◌, false, List, [], ◌∷◌, length, refl, sym, subst, arith, Option, None, Some, Result, Ok, Err, inl, inr}
 use Rattle.bcast_io.specs.TextLines.{TextLine, plain, too_long, past, text_limit}
-use Rattle.bcast_io.specs.Reading.{Reading, lines_left}
+use Rattle.bcast_io.specs.State.Reading.{Reading, lines_left}
 use Rattle.bcast_io.specs.declared.line_reader.LineRead.{LineRead}
 use Rattle.bcast_io.specs.declared.line_reader.LineRead.TheVariants.{Line, LineTooLong, TextTooLong}
 use Rattle.bcast_io.specs.declared.source.Failed.{Failed}
@@ -16,7 +16,7 @@ use Rattle.transcript_text.specs.declared.stop.Stop.TheVariants.{Refused, Outlet
 use Rattle.replay_steps.specs.LineMeets.{LinesStand, LineMeets}
 use Rattle.replay_command.specs.Replayed.{Comes, ReadsAhead, Broken}
 use Rattle.replay_command.specs.Ended.{Ended}
-use Rattle.replay_command.specs.Between.{ReadTo, NextIs, RunTo, Refuses, Puts, StepRuns, LineRuns}
+use Rattle.replay_command.specs.State.Between.{ReadTo, NextIs, RunTo, Refuses, Puts, StepRuns, LineRuns}
 use Rattle.bcast_io.proofs.Transfers.{Appends-nothing}
 use Rattle.replay_command.proofs.ReadingOn.{read_none, comes_of, ahead_of}
 use Rattle.replay_command.proofs.LineEndings.{ends_refusal, step_put, outlet_put, step_memory}

@@ -5,9 +5,9 @@ use Rattle.std.proofs.lemmas.List.{append-nil, length-reverse}
 use Rattle.std.proofs.lemmas.Bool.{false≢true}
 use Rattle.std.specs.Io.KnownBytes.{Consumes, IsAtEnd}
 use Rattle.bcast_io.specs.TextLines.{TextLine, plain, too_long, past, lines_of, lines_from}
-use Rattle.bcast_io.specs.Reading.{Reading, IsSound, IsPast, IsDone, Took, BreaksOff, lines_after}
-use Rattle.bcast_io.specs.Reading as reading
-use Rattle.bcast_io.specs.Answering.{Answers, Anew}
+use Rattle.bcast_io.specs.State.Reading.{Reading, IsSound, IsPast, IsDone, Took, BreaksOff, lines_after}
+use Rattle.bcast_io.specs.State.Reading as reading
+use Rattle.bcast_io.specs.State.Answering.{Answers, Anew}
 use Rattle.bcast_io.specs.declared.line_reader.LineRead.{LineRead}
 use Rattle.bcast_io.specs.declared.line_reader.LineRead.TheVariants.{Line, LineTooLong, TextTooLong, End}
 use Rattle.bcast_io.specs.declared.source.Failed.{Failed}
@@ -15,7 +15,7 @@ use Rattle.bcast_io.proofs.Transfers.{Consumes-nothing, Consumes-then}
 use Rattle.bcast_io.proofs.LineLaws.{lines-nothing, lines-unended, lines-end, lines-past_all}
 use Rattle.line_runs.proofs.RunLaws.{reverse_onto}
 use Rattle.replay_command.specs.Replayed.{Comes, ReadsAhead, ReadsAtMost, read_limit}
-use Rattle.replay_command.specs.Between.{ReadTo, TextIs, NextIs}
+use Rattle.replay_command.specs.State.Between.{ReadTo, TextIs, NextIs}
 
 -- nothing was read yet
 pub read_none : (left : Option (List ℕ)) (reader : Reading)

@@ -2,14 +2,14 @@
 ghost use Rattle.std.specs.Prelude.{◌≡◌, ◌≢◌, ◌<◌, ◌+◌, ◌∷◌, ℕ, List, Option, None, Some, Ok, length, map, true, IfNone, IfOk, OnOk, OnErr, IsSome};
 ghost use Rattle.bcast_io.specs.Faults.{Rose};
 ghost use Rattle.bcast_io.specs.TextLines.{TextLine, plain};
-ghost use Rattle.bcast_io.specs.Reading.{lines_left};
-ghost use Rattle.bcast_io.specs.Answering.{GoesOn};
+ghost use Rattle.bcast_io.specs.State.Reading.{lines_left};
+ghost use Rattle.bcast_io.specs.State.Answering.{GoesOn};
 ghost use Rattle.unit_outlets.specs.Account.{Account};
 ghost use Rattle.replay_command.specs.World.{world_of};
 ghost use Rattle.replay_command.specs.Promised.{Promised};
 ghost use Rattle.replay_command.specs.Replayed.{Comes, ReadsAhead, ReadsAtMost, read_limit};
 ghost use Rattle.replay_command.specs.Ended.{Ended};
-ghost use Rattle.replay_command.specs.Between.{ReadTo, TextIs, NextIs, RunTo, Refuses, Puts, StepRuns, LineRuns};
+ghost use Rattle.replay_command.specs.State.Between.{ReadTo, TextIs, NextIs, RunTo, Refuses, Puts, StepRuns, LineRuns};
 
 use crate::status::Status;
 use crate::words::{Mode, Words, mode_of};

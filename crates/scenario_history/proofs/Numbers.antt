@@ -17,7 +17,7 @@ use Rattle.isoal_unframed.specs.Air.{before_event}
 use Rattle.isoal_unframed.specs.Calls.{Call as StreamCall, accept, lay, lays, accepted, begun, events as laid_events}
 use Rattle.isoal_unframed.specs.Histories.{handed, unit_at, units_of}
 use Rattle.isoal_unframed.specs.Struck.{IsStruck, Place, Struck, closed_slots}
-use Rattle.isoal_unframed.specs.Windows.{time_of}
+use Rattle.isoal_unframed.specs.State.Windows.{time_of}
 use Rattle.source_machine.specs.Airs.{place_of, slots_of}
 use Rattle.source_machine.specs.Calls.{Setup, Call as SourceCall, give, event as perform, events, given, laid_with, next_of, stream_calls as source_stream}
 use Rattle.delegator_machine.specs.Calls.{Tuning}

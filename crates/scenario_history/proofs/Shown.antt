@@ -16,7 +16,7 @@ use Rattle.isoal_base.specs.Stays as stays
 use Rattle.isoal_base.specs.Stays.{Stay, opened}
 use Rattle.isoal_unframed.specs.Histories.{handed, heard_in, numbers_of, unit_at, units_of}
 use Rattle.isoal_unframed.specs.Units.{unit_of}
-use Rattle.isoal_unframed.specs.Windows.{handed_of, time_of}
+use Rattle.isoal_unframed.specs.State.Windows.{handed_of, time_of}
 use Rattle.source_machine.specs.Calls.{Setup, Call as SourceCall}
 use Rattle.delegator_machine.specs.Calls.{Tuning, Call, tick, place}
 use Rattle.delegator_machine.specs.Handing.{bis_of, handed_at, handed_by as ticked_by, handed_since as ticked_since, of_stream}

@@ -11,7 +11,7 @@ use Rattle.unit_outlets.specs.Handed.{Handed, valid, lost}
 use Rattle.isoal_base.specs.Stays as stays
 use Rattle.isoal_base.specs.Stays.{Stay}
 use Rattle.isoal_unframed.specs.Struck.{Place, Struck}
-use Rattle.isoal_unframed.specs.Windows.{time_of}
+use Rattle.isoal_unframed.specs.State.Windows.{time_of}
 use Rattle.line_runs.specs.Runs.{Accepted}
 use Rattle.source_machine.specs.Airs.{place_of, slots_of}
 use Rattle.source_machine.specs.Calls.{Setup, Call as SourceCall, given, next_of}

@@ -7,7 +7,7 @@ use Rattle.delegator_machine.specs.Hearings.{hearing_of}
 use Rattle.isoal_base.specs.declared.hearing.Hearing.{Hearing}
 use Rattle.scenario_history.specs.Refusals.{has_beyond}
 use Rattle.scenario_history.specs.Sinks.{is_of}
-use Rattle.delegator_machine.specs.Sinks.{StandsFor}
+use Rattle.delegator_machine.specs.State.Sinks.{StandsFor}
 use Rattle.scenario_history.specs.Boxes.{most_sinks}
 use Rattle.scenario_sinks.specs.declared.sink.Sink.{Sink}
 use Rattle.scenario_sinks.specs.Pasts.{Past}

@@ -11,7 +11,7 @@ use Rattle.isoal_base.specs.declared.laid.EventLaid.{EventLaid}
 use Rattle.isoal_base.specs.Air.{Air, Entry, laid_in}
 use Rattle.isoal_unframed.specs.Air.{unframed_air}
 use Rattle.isoal_unframed.specs.Calls.{Call, lay, lays, accepted, begun}
-use Rattle.isoal_unframed.specs.Sender.{Sender, StandsFor}
+use Rattle.isoal_unframed.specs.State.Sender.{Sender, StandsFor}
 use Rattle.source_machine.specs.State.Sources.{Stream, kept_of, last_laid, pdus_at, stream_after}
 use Rattle.source_machine.specs.State.Streams.{Grows, Lays}
 

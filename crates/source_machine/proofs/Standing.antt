@@ -9,7 +9,7 @@ use Rattle.isoal_base.proofs.Ranges.{map_changed, map_constant}
 use Rattle.isoal_base.specs.Air.{Air}
 use Rattle.isoal_base.specs.declared.laid.PutFault.{PutFault}
 use Rattle.isoal_base.specs.declared.laid.PutFault.TheVariants.{Backlog as Full, Memory, TimeOrder, TooLong}
-use Rattle.isoal_unframed.specs.Sender.{PutFaultIs}
+use Rattle.isoal_unframed.specs.State.Sender.{PutFaultIs}
 use Rattle.source_machine.specs.Airs.{AreAirs, Sends, airs_of, waiting_of}
 use Rattle.source_machine.specs.Calls.{Setup, Call, give, event, events, laid_with, next_of, stream_calls}
 use Rattle.source_machine.specs.Faults.{event_fault, give_fault, of_sender, refused_unit}

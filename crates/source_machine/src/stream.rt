@@ -1,7 +1,7 @@
 ghost use Rattle.std.specs.Prelude.{◌≡◌, ◌≤◌, ◌<◌, ◌+◌, ◌*◌, ◌/◌, ◌%◌, [], length, map, replicate, All, Some, IfOk, IfErr, OnOk, OnErr};
 ghost use Rattle.std.specs.List.{AllZip, range_with_len};
 ghost use Rattle.big_info.specs.Schedule.{horizon_of};
-ghost use Rattle.isoal_unframed.specs.Sender.{PutFaultIs};
+ghost use Rattle.isoal_unframed.specs.State.Sender.{PutFaultIs};
 ghost use Rattle.radio_schedule.specs.PayloadNumber.{payload_number};
 ghost use Rattle.source_machine.specs.State.Sources.{stream_after};
 ghost use Rattle.source_machine.specs.State.Streams.{Accepts, Grows, IsLaid, Lays, sender_of, sent_at, sent_of};

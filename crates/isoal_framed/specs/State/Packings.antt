@@ -1,7 +1,7 @@
 -- What comes into a PDU that is being filled, and what it changes.
 use Rattle.std.specs.Prelude.{ℕ, ◌+◌, ◌-◌, ◌≡◌, Bool, true, false, List, [], ◌∷◌, ◌++◌, Option, Some, None, if◌then◌else◌}
 use Rattle.std.specs.List.{slice_get}
-use Rattle.iso_pdu.specs.Packing.{room_in}
+use Rattle.iso_pdu.specs.State.Packing.{room_in}
 use Rattle.isoal_framed.specs.Air.{part_of}
 use Rattle.isoal_framed.specs.Calls.{Timed}
 use Rattle.isoal_framed.specs.Places.{Act, carries, leaves_out, ends, overhead}

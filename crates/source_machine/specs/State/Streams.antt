@@ -4,7 +4,7 @@ use Rattle.big_info.specs.declared.info.BigInfo.{BigInfo}
 use Rattle.big_info.specs.Schedule.{horizon_of}
 use Rattle.isoal_base.specs.Air.{Air}
 use Rattle.isoal_unframed.specs.Calls.{Call, accept, lays}
-use Rattle.isoal_unframed.specs.Sender.{Sender}
+use Rattle.isoal_unframed.specs.State.Sender.{Sender}
 use Rattle.radio_schedule.specs.PayloadNumber.{payload_number}
 use Rattle.source_machine.specs.Airs.{AreAirs, Sends}
 use Rattle.source_machine.specs.Calls.{Setup, Call as SourceCall, event}

@@ -1,5 +1,5 @@
 use Rattle.std.proofs.Common.{◌∙◌, ap}
-use Rattle.delegator_machine.specs.Steps.{owed_by, tick_at}
+use Rattle.delegator_machine.specs.State.Steps.{owed_by, tick_at}
 use Rattle.delegator_machine.proofs.Handing.{caused_more, caused_past, handed_more, handed_past, written_more}
 use Rattle.delegator_machine.proofs.on_group.close_all.Goals as goal
 use Rattle.delegator_machine.proofs.on_group.close_all.Goals.{in-Ok, in-Err}

@@ -1,8 +1,8 @@
 use Rattle.std.proofs.Common.{◌≡◌, ◌++◌, length, map, take, drop}
 use Rattle.std.specs.List.{flat_map}
 use Rattle.unit_outlets.specs.Handed.{Caused}
-use Rattle.isoal_unframed.specs.Windows.{HandsOver}
-use Rattle.delegator_machine.specs.Steps.{owed_by, tick_at}
+use Rattle.isoal_unframed.specs.State.Windows.{HandsOver}
+use Rattle.delegator_machine.specs.State.Steps.{owed_by, tick_at}
 use Rattle.delegator_machine.proofs.on_group.close_all.Given as goal
 
 abbrev pub invariant-streams : goal.invariant-streams

@@ -5,7 +5,7 @@ use Rattle.iso_pdu.specs.declared.pdu.Pdu.{Pdu}
 use Rattle.iso_pdu.specs.Faults.{FaultIs}
 use Rattle.iso_pdu.specs.Layout.{PduIs, HasAtMost}
 use Rattle.iso_pdu.specs.Reading.{read_of}
-use Rattle.iso_pdu.specs.Views.{content_of}
+use Rattle.iso_pdu.specs.State.Views.{content_of}
 use Rattle.iso_pdu.proofs.PdusRead.{read_of-spelled, read_of-fault, pdu_long}
 use Rattle.iso_pdu.proofs.pdu.read_pdu.Goals as goal
 

@@ -1,5 +1,5 @@
 use Rattle.std.proofs.Common.{◌∙◌, ap, subst, map, vec_len}
-use Rattle.iso_pdu.specs.Views.{part_of}
+use Rattle.iso_pdu.specs.State.Views.{part_of}
 use Rattle.isoal_framed.specs.Tokens.{token_of}
 use Rattle.isoal_framed.specs.State.Buffers.{run_in}
 use Rattle.isoal_framed.specs.State.Joining.{hands_at, run_at}

@@ -1,5 +1,5 @@
 use Rattle.std.proofs.Common.{ℕ, ◌≡◌, ◌≤◌, ◌+◌, ◌-◌, List, [], length, drop}
-use Rattle.iso_pdu.specs.Packing.{room_in}
+use Rattle.iso_pdu.specs.State.Packing.{room_in}
 use Rattle.isoal_framed.specs.Air.{pdus_ended}
 use Rattle.isoal_framed.specs.Calls.{Timed}
 use Rattle.isoal_framed.specs.Places.{Act, done}

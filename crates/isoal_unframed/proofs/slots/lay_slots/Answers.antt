@@ -2,7 +2,7 @@ use Rattle.std.proofs.Common.{◌≡◌, ◌+◌, ◌++◌, suc, arith, ap, sym,
 use Rattle.std.specs.List.{slice_get}
 use Rattle.big_info.specs.Schedule.{per_unit_of}
 use Rattle.isoal_unframed.proofs.Rows.{flat_map_one_more}
-use Rattle.isoal_unframed.specs.Sender.{slot_pdus}
+use Rattle.isoal_unframed.specs.State.Sender.{slot_pdus}
 use Rattle.isoal_unframed.proofs.slots.lay_slots.Goals as goal
 
 pub slots-preserved : goal.slots-preserved

@@ -1,10 +1,10 @@
 use Rattle.std.proofs.Common.{◌∙◌, ◌+◌, ◌*◌, ◌≡◌, ap, sym, map, take, drop, arith}
 use Rattle.std.specs.List.{range_with_len, sum}
 use Rattle.std.proofs.lemmas.List.{drop-drop}
-use Rattle.isoal_unframed.specs.Rings.{kept_of}
-use Rattle.isoal_unframed.specs.Streams.{stay_of}
+use Rattle.isoal_unframed.specs.State.Rings.{kept_of}
+use Rattle.isoal_unframed.specs.State.Streams.{stay_of}
 use Rattle.isoal_unframed.specs.Units.{held_in}
-use Rattle.isoal_unframed.specs.Windows.{held_at}
+use Rattle.isoal_unframed.specs.State.Windows.{held_at}
 use Rattle.isoal_unframed.proofs.Places.{places_fit}
 use Rattle.isoal_unframed.proofs.Windows.{sum_more}
 use Rattle.isoal_unframed.proofs.window.held.Goals as goal

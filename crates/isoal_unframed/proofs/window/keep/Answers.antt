@@ -1,8 +1,8 @@
 use Rattle.std.proofs.Common.{◌∙◌, ◌+◌, ◌*◌, ◌≡◌, ◌≤◌, ◌<◌, true, false, length, subst, sym, arith, Some}
 use Rattle.isoal_base.specs.Stays.{window_of}
-use Rattle.isoal_unframed.specs.Cells.{part_of}
-use Rattle.isoal_unframed.specs.Rings.{kept_of}
-use Rattle.isoal_unframed.specs.Streams.{place_of}
+use Rattle.isoal_unframed.specs.State.Cells.{part_of}
+use Rattle.isoal_unframed.specs.State.Rings.{kept_of}
+use Rattle.isoal_unframed.specs.State.Streams.{place_of}
 use Rattle.isoal_unframed.proofs.Kept.{length-kept}
 use Rattle.isoal_unframed.proofs.Windows.{is_placed, is_put, place_within}
 use Rattle.isoal_unframed.proofs.window.keep.Goals as goal

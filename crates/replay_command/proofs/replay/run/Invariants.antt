@@ -1,6 +1,6 @@
 use Rattle.std.proofs.Common.{◌≡◌, ◌+◌, ◌≤◌, map}
 use Rattle.bcast_io.specs.TextLines.{text_limit}
-use Rattle.bcast_io.specs.Reading.{lines_left}
+use Rattle.bcast_io.specs.State.Reading.{lines_left}
 use Rattle.replay_command.proofs.LineSteps.{Running}
 use Rattle.replay_command.proofs.replay.run.Given as goal
 

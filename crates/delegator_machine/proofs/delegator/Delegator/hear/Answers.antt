@@ -1,6 +1,6 @@
 use Rattle.std.proofs.Common.{◌∷◌, ◌∙◌, Some, subst, sym}
 use Rattle.delegator_machine.specs.Calls.{hear}
-use Rattle.delegator_machine.specs.Sinks.{StandsFor}
+use Rattle.delegator_machine.specs.State.Sinks.{StandsFor}
 use Rattle.delegator_machine.proofs.Standing.{some_answers, some_hears}
 use Rattle.delegator_machine.proofs.delegator.Delegator.hear.Goals as goal
 

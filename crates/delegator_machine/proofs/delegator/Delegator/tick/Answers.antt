@@ -1,7 +1,7 @@
 use Rattle.std.proofs.Common.{◌∷◌, ◌∙◌, Some, subst, sym}
-use Rattle.isoal_unframed.specs.Windows.{HandsOver}
+use Rattle.isoal_unframed.specs.State.Windows.{HandsOver}
 use Rattle.delegator_machine.specs.Calls.{tick}
-use Rattle.delegator_machine.specs.Sinks.{StandsFor}
+use Rattle.delegator_machine.specs.State.Sinks.{StandsFor}
 use Rattle.delegator_machine.proofs.Standing.{some_hands, some_ticks}
 use Rattle.delegator_machine.proofs.delegator.Delegator.tick.Goals as goal
 

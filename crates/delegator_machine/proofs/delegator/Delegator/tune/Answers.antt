@@ -1,6 +1,6 @@
 use Rattle.std.proofs.Common.{◌∷◌, Some, subst, sym}
 use Rattle.delegator_machine.specs.Calls.{Tuning, tune}
-use Rattle.delegator_machine.specs.Sinks.{StandsFor}
+use Rattle.delegator_machine.specs.State.Sinks.{StandsFor}
 use Rattle.delegator_machine.proofs.Standing.{fresh_stands}
 use Rattle.delegator_machine.proofs.delegator.Delegator.tune.Goals as goal
 

@@ -1,7 +1,7 @@
 use Rattle.std.proofs.Common.{◌≡◌, ◌+◌, ◌++◌, ◌∷◌, [], ◌∙◌, ap, sym, map, vec_len, arith}
 use Rattle.std.specs.List.{range_with_len}
 use Rattle.std.proofs.lemmas.List.FromFn.{map-range_with_len_more}
-use Rattle.delegator_machine.specs.Steps.{fresh_at}
+use Rattle.delegator_machine.specs.State.Steps.{fresh_at}
 use Rattle.delegator_machine.proofs.on_group.SinkOnGroup.new.Goals as goal
 
 pub indices-preserved : goal.indices-preserved

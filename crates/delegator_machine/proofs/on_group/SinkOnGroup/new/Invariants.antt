@@ -1,6 +1,6 @@
 use Rattle.std.proofs.Common.{◌≡◌, ◌+◌, map, vec_len}
 use Rattle.std.specs.List.{range_with_len}
-use Rattle.delegator_machine.specs.Steps.{fresh_at}
+use Rattle.delegator_machine.specs.State.Steps.{fresh_at}
 use Rattle.delegator_machine.proofs.on_group.SinkOnGroup.new.Given as goal
 
 abbrev pub invariant-indices : goal.invariant-indices

@@ -1,7 +1,7 @@
 use Rattle.std.proofs.Common.{ap, ◌∙◌, ◌≡◌, ◌≤◌, ◌+◌, ◌-◌, length, subst, take, drop, replicate, arith}
 use Rattle.std.proofs.lemmas.List.{length-take-le, length-drop, length-replicate}
 use Rattle.isoal_unframed.specs.declared.cell.Cell.TheVariants.{Empty}
-use Rattle.isoal_unframed.specs.Cells.{kept_in}
+use Rattle.isoal_unframed.specs.State.Cells.{kept_in}
 use Rattle.isoal_unframed.proofs.Kept.{kept_cleared}
 use Rattle.isoal_unframed.proofs.Vecs.{mid_is}
 use Rattle.isoal_unframed.proofs.ring.Ring.clear.Goals as goal

@@ -4,7 +4,7 @@ use Rattle.std.proofs.lemmas.List.{length-drop, length-take-le}
 use Rattle.std.proofs.lemmas.Nat.{mul-le}
 use Rattle.std.proofs.lemmas.Option.{IfSome_then}
 use Rattle.std.proofs.Math.Nat.{add-mul}
-use Rattle.isoal_unframed.specs.Cells.{kept_in}
+use Rattle.isoal_unframed.specs.State.Cells.{kept_in}
 use Rattle.isoal_unframed.specs.Units.{unit_of}
 use Rattle.isoal_unframed.proofs.Kept.{slot_front, slot_behind, slot_octets, slot-kept, option_same}
 use Rattle.isoal_unframed.proofs.Vecs.{mid_is}

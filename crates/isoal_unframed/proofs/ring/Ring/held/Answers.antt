@@ -1,5 +1,5 @@
 use Rattle.std.proofs.Common.{ap, ◌∙◌, ◌≤◌, ◌+◌, ◌-◌, ◌≡◌, ◌*◌, length, sym, subst, take, drop, arith}
-use Rattle.isoal_unframed.specs.Cells.{held_cells}
+use Rattle.isoal_unframed.specs.State.Cells.{held_cells}
 use Rattle.isoal_unframed.proofs.Kept.{held_slot}
 use Rattle.isoal_unframed.proofs.ring.Ring.held.Goals as goal
 

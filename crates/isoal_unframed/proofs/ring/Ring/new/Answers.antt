@@ -1,5 +1,5 @@
 use Rattle.std.proofs.Common.{ap, ◌∙◌}
-use Rattle.isoal_unframed.specs.Cells.{kept_in}
+use Rattle.isoal_unframed.specs.State.Cells.{kept_in}
 use Rattle.isoal_unframed.proofs.Kept.{kept_replicate}
 use Rattle.isoal_unframed.proofs.ring.Ring.new.Goals as goal
 

@@ -1,5 +1,5 @@
 use Rattle.std.proofs.Common.{ap, ◌∙◌, ◌≡◌, ◌<◌, ◌≤◌, ◌+◌, ◌-◌, ◌*◌, ◌++◌, length, set, sym, refl, subst, take, drop, Some, arith}
-use Rattle.isoal_unframed.specs.Cells.{kept_in, part_of}
+use Rattle.isoal_unframed.specs.State.Cells.{kept_in, part_of}
 use Rattle.isoal_unframed.proofs.Kept.{set-kept}
 use Rattle.isoal_unframed.proofs.Places.{slot_fits}
 use Rattle.isoal_unframed.proofs.Vecs.{mid_is}

@@ -1,6 +1,6 @@
 use Rattle.std.proofs.Common.{◌∷◌, sym, subst}
 use Rattle.isoal_base.specs.Stays.{hear}
-use Rattle.isoal_unframed.specs.Windows.{Stands}
+use Rattle.isoal_unframed.specs.State.Windows.{Stands}
 use Rattle.isoal_unframed.proofs.Stands.{hear_stands}
 use Rattle.isoal_unframed.proofs.unframed_in.UnframedIn.hear.Goals as goal
 

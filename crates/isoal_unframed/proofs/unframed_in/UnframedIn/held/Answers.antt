@@ -1,8 +1,8 @@
 use Rattle.std.proofs.Common.{sym, ◌∙◌, ◌≡◌, ◌≤◌, ◌+◌, length, subst, arith}
 use Rattle.isoal_base.specs.Stays.{window_of}
-use Rattle.isoal_unframed.specs.Rings.{kept_of}
-use Rattle.isoal_unframed.specs.Streams.{stay_of, place_of}
-use Rattle.isoal_unframed.specs.Windows.{held_in_event}
+use Rattle.isoal_unframed.specs.State.Rings.{kept_of}
+use Rattle.isoal_unframed.specs.State.Streams.{stay_of, place_of}
+use Rattle.isoal_unframed.specs.State.Windows.{held_in_event}
 use Rattle.isoal_unframed.proofs.Kept.{length-kept}
 use Rattle.isoal_unframed.proofs.Windows.{place_within, held-turned}
 use Rattle.isoal_unframed.proofs.unframed_in.UnframedIn.held.Goals as goal

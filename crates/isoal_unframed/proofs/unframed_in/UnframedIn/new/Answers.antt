@@ -1,8 +1,8 @@
 use Rattle.std.proofs.Common.{ap, ◌≡◌, ◌∙◌, ◌≤◌, ◌+◌, replicate, None, arith}
 use Rattle.isoal_base.specs.Stays.{window_of}
-use Rattle.isoal_unframed.specs.Cells.{turned}
-use Rattle.isoal_unframed.specs.Rings.{kept_of}
-use Rattle.isoal_unframed.specs.Streams.{place_of}
+use Rattle.isoal_unframed.specs.State.Cells.{turned}
+use Rattle.isoal_unframed.specs.State.Rings.{kept_of}
+use Rattle.isoal_unframed.specs.State.Streams.{place_of}
 use Rattle.isoal_unframed.proofs.Windows.{turned_replicate, place_within}
 use Rattle.isoal_unframed.proofs.unframed_in.UnframedIn.new.Goals as goal
 

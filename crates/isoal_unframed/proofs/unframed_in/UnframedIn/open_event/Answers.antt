@@ -1,7 +1,7 @@
 use Rattle.std.proofs.Common.{sym, ◌∙◌, ◌≡◌, ◌≤◌, ◌+◌, length, subst, arith}
 use Rattle.isoal_base.specs.Stays.{window_of}
-use Rattle.isoal_unframed.specs.Rings.{kept_of}
-use Rattle.isoal_unframed.specs.Streams.{place_of}
+use Rattle.isoal_unframed.specs.State.Rings.{kept_of}
+use Rattle.isoal_unframed.specs.State.Streams.{place_of}
 use Rattle.isoal_unframed.proofs.Kept.{length-kept}
 use Rattle.isoal_unframed.proofs.Turns.{length-turned}
 use Rattle.isoal_unframed.proofs.Windows.{place_within}

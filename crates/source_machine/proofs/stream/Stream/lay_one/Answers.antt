@@ -1,5 +1,5 @@
 use Rattle.std.proofs.Common.{ap, arith}
-use Rattle.isoal_unframed.specs.Sender.{Sender}
+use Rattle.isoal_unframed.specs.State.Sender.{Sender}
 use Rattle.source_machine.proofs.LaidEvents.{lays_one}
 use Rattle.source_machine.proofs.stream.Stream.lay_one.Goals as goal
 

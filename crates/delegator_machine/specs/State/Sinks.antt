@@ -4,7 +4,7 @@ use Rattle.std.specs.List.{range_with_len}
 use Rattle.big_info.specs.declared.info.BigInfo.{BigInfo}
 use Rattle.isoal_base.specs.Stays as stays
 use Rattle.isoal_base.specs.Stays.{Stay, opened}
-use Rattle.isoal_unframed.specs.Windows.{Window}
+use Rattle.isoal_unframed.specs.State.Windows.{Window}
 use Rattle.delegator_machine.specs.Calls.{Tuning, Call, place}
 use Rattle.delegator_machine.specs.Hearings.{entries_of}
 use Rattle.delegator_machine.specs.Streams.{is_in, stay_on, stream_calls}

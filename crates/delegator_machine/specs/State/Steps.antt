@@ -7,9 +7,9 @@ use Rattle.isoal_base.specs.declared.hearing.Hearing.TheVariants as hearings
 use Rattle.isoal_base.specs.Hearing.{answer_of}
 use Rattle.isoal_base.specs.Stays.{Stay, window_of}
 use Rattle.isoal_unframed.specs.Units.{unframed}
-use Rattle.isoal_unframed.specs.Windows.{Window, after_hear, after_close, owed}
+use Rattle.isoal_unframed.specs.State.Windows.{Window, after_hear, after_close, owed}
 use Rattle.delegator_machine.specs.Calls.{Tuning}
-use Rattle.delegator_machine.specs.Sinks.{OnGroup}
+use Rattle.delegator_machine.specs.State.Sinks.{OnGroup}
 use Rattle.delegator_machine.specs.Streams.{is_in, number_of, stay_on}
 
 -- the window of a stream on which nothing was heard yet

@@ -4,7 +4,7 @@ use Rattle.std.specs.Io.KnownBytes.{Consumes}
 use Rattle.bcast_io.specs.declared.line_reader.LineRead.{LineRead}
 use Rattle.bcast_io.specs.declared.line_reader.LineRead.TheVariants.{Line, LineTooLong, TextTooLong, End}
 use Rattle.bcast_io.specs.TextLines.{TextLine, plain, too_long}
-use Rattle.bcast_io.specs.Reading.{Reading, Reads, Took, IsPast, IsDone, lines_left}
+use Rattle.bcast_io.specs.State.Reading.{Reading, Reads, Took, IsPast, IsDone, lines_left}
 
 -- the answer names this line, of which the reader holds the octets
 abbrev pub Names : LineRead → Option (List ℕ) → TextLine → Type 0

@@ -1,0 +1,6 @@
+pub mod Cells
+pub mod Rings
+pub mod Receivers
+pub mod Sender
+pub mod Streams
+pub mod Windows
