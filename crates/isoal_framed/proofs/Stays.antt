@@ -1,19 +1,16 @@
 -- A stay, from its first number on: what it decides are the entries of the units that were sent.
-use Rattle.std.proofs.Common.{ℕ, zero, suc, ◌≡◌, ◌+◌, ◌-◌, ◌*◌, ◌/◌, ◌<◌, ◌≤◌, ◌⊎◌, inl, inr, true, false, Bool, ◌&&◌, cond, is_some, List, [], ◌∷◌, ◌++◌, map, length, drop}
-use Rattle.std.proofs.Common.{Option, Some, None, refl, sym, ap, ◌∙◌, subst, arith, append_assoc, length-append, length-drop}
+use Rattle.std.proofs.Common.{ℕ, zero, suc, ◌≡◌, ◌+◌, ◌-◌, ◌*◌, ◌/◌, ◌<◌, ◌≤◌, ◌⊎◌, inl, inr, true, false, Bool, is_some, List, [], ◌∷◌, ◌++◌, map, length, drop}
+use Rattle.std.proofs.Common.{Option, Some, None, refl, sym, ap, ◌∙◌, subst, arith, append_assoc, length-drop}
 use Rattle.std.specs.List.{flat_map, range_with_len}
 use Rattle.std.proofs.Math.Nat.{add-mul, le-div_iff_mul-le, div-lt_iff_lt-mul}
 use Rattle.std.proofs.lemmas.Bool.{cases_order, cond-true, cond-false, true≢false}
-use Rattle.std.proofs.lemmas.Option.{none-some}
-use Rattle.iso_pdu.specs.Layout.{Part}
 use Rattle.isoal_base.specs.Stays.{Stay, Call, opened, heard, FirstHeard}
 use Rattle.isoal_base.specs.Hearing.{read_as}
 use Rattle.isoal_base.proofs.Heards.{cases_option, heard_first}
 use Rattle.isoal_framed.specs.Histories.{heard_in, event_tokens, closed_tokens, decided}
-use Rattle.isoal_framed.specs.Tokens.{Token, missing, segmented, token_of, tokens_of}
-use Rattle.isoal_framed.specs.Units.{Run}
+use Rattle.isoal_framed.specs.Tokens.{missing, segmented, token_of, tokens_of}
 use Rattle.isoal_framed.specs.State.Joining.{hands}
-use Rattle.isoal_framed.specs.Struck.{Fit, Sent, octets_in, behind, carried, parts_at, InOrder, FromSource, is_heard, closed_end, entry_of, struck}
+use Rattle.isoal_framed.specs.Struck.{Fit, Sent, behind, carried, parts_at, InOrder, FromSource, is_heard, closed_end, entry_of, struck}
 use Rattle.isoal_framed.proofs.Closed.{flat_same, opened_least}
 use Rattle.isoal_framed.proofs.Joins.{units_are}
 use Rattle.isoal_framed.proofs.Struck.{tok, toks, toks_same, shown_from, carried_later, entry_missed}
@@ -122,7 +119,7 @@ order_less from laid closed (unit ∷ units) less order = (
 )
 
 -- behind a unit's numbers it has no segments
-carried_past : (first number : ℕ) (offset : Option ℕ) (segments : List (List ℕ)) (whole : Bool) → first + length segments ≤ number → carried first offset segments whole number ≡ []
+pub carried_past : (first number : ℕ) (offset : Option ℕ) (segments : List (List ℕ)) (whole : Bool) → first + length segments ≤ number → carried first offset segments whole number ≡ []
 carried_past first number offset [] whole past = refl
 carried_past first number offset (octets ∷ segments) whole past =
     carried_later first number offset octets segments whole (omega arith) ∙ carried_past (first + 1) number None segments whole (omega arith)

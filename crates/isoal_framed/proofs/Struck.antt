@@ -1,16 +1,15 @@
 -- What the tokens of a stay decide are the entries of the units that were sent.
-use Rattle.std.proofs.Common.{ℕ, zero, suc, ◌≡◌, ◌+◌, ◌-◌, ◌*◌, ◌/◌, ◌<◌, ◌≤◌, ◌⊎◌, inl, inr, true, false, Bool, ◌&&◌, leb, ltb, eqb, cond, is_some, List, [], ◌∷◌, ◌++◌, map}
+use Rattle.std.proofs.Common.{ℕ, zero, suc, ◌≡◌, ◌+◌, ◌-◌, ◌/◌, ◌<◌, ◌≤◌, inl, inr, true, false, Bool, ◌&&◌, leb, ltb, eqb, cond, List, [], ◌∷◌, ◌++◌, map}
 use Rattle.std.proofs.Common.{length, Option, Some, None, refl, sym, ap, ◌∙◌, subst, arith, append_assoc, length-append}
 use Rattle.std.specs.List.{flat_map, range_with_len}
 use Rattle.std.proofs.lemmas.Bool.{cases_Bool, cases_order, and_from, and_left, cond-true, cond-false, le-leb, lt-ltb, le-ltb, eq-eqb, ne_eqb}
 use Rattle.std.proofs.lemmas.List.{append-nil}
 use Rattle.std.proofs.lemmas.Option.{none-some}
-use Rattle.iso_pdu.specs.Layout.{Part}
 use Rattle.unit_outlets.specs.Handed.{Handed, valid, lost}
 use Rattle.isoal_base.specs.Stays.{Stay}
 use Rattle.isoal_framed.specs.Tokens.{Token, starts, goes_on, missing, token_of, time_of}
 use Rattle.isoal_framed.specs.Units.{Run}
-use Rattle.isoal_framed.specs.State.Joining.{hands, hands_at, run_at, hands_joined, run_joined}
+use Rattle.isoal_framed.specs.State.Joining.{hands, hands_joined, run_joined}
 use Rattle.isoal_framed.specs.Struck.{Fit, Sent, octets_in, behind, is_last, part_with, carried, parts_at, InOrder, first_missing, entry_by, entry_of}
 use Rattle.isoal_framed.proofs.Closed.{flat_same}
 
@@ -27,7 +26,7 @@ joined_fits max_sdu bis time octets fits =
     )
 
 -- the segments that a number carries
-carried_here : (from : ℕ) (offset : Option ℕ) (octets : List ℕ) (segments : List (List ℕ)) (whole : Bool)
+pub carried_here : (from : ℕ) (offset : Option ℕ) (octets : List ℕ) (segments : List (List ℕ)) (whole : Bool)
     → carried from offset (octets ∷ segments) whole from ≡ part_with offset (whole && is_last segments) octets ∷ []
 carried_here from offset octets segments whole =
     cond-true (eqb from from) (part_with offset (whole && is_last segments) octets ∷ []) (carried (from + 1) None segments whole from) (eq-eqb from from refl)
@@ -38,7 +37,7 @@ carried_later from number offset octets segments whole after =
     cond-false (eqb from number) (part_with offset (whole && is_last segments) octets ∷ []) (carried (from + 1) None segments whole number)
     (ne_eqb from number (λ same. omega arith))
 
-carried_before : (from number : ℕ) (offset : Option ℕ) (segments : List (List ℕ)) (whole : Bool) → number < from → carried from offset segments whole number ≡ []
+pub carried_before : (from number : ℕ) (offset : Option ℕ) (segments : List (List ℕ)) (whole : Bool) → number < from → carried from offset segments whole number ≡ []
 carried_before from number offset [] whole before = refl
 carried_before from number offset (octets ∷ segments) whole before =
     cond-false (eqb from number) (part_with offset (whole && is_last segments) octets ∷ []) (carried (from + 1) None segments whole number)

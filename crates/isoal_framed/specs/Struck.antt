@@ -1,6 +1,6 @@
 -- The units that a stay brings through, told by the units that the source sent and by the numbers heard alone, and by no
 -- octet heard (Core 5.2, volume 6 part G, section 2.2).
-use Rattle.std.specs.Prelude.{ℕ, ◌+◌, ◌-◌, ◌*◌, ◌/◌, ◌≤◌, ◌≡◌, ◌==◌, nat_lt, ◌&&◌, is_some, Bool, true, false, List, [], ◌∷◌, ◌++◌, length, Option, Some, None, if◌then◌else◌}
+use Rattle.std.specs.Prelude.{ℕ, ◌+◌, ◌-◌, ◌*◌, ◌/◌, ◌≤◌, ◌≡◌, ◌==◌, nat_lt, ◌&&◌, is_some, Bool, true, false, List, [], ◌∷◌, length, Option, Some, None, if◌then◌else◌}
 use Rattle.std.specs.List.{AllByRecursion, flat_map}
 use Rattle.iso_pdu.specs.Layout.{Part, start, more}
 use Rattle.unit_outlets.specs.Handed.{Handed, valid, lost}
