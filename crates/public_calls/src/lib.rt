@@ -9,8 +9,6 @@ mod boxes;
 #[cfg(test)]
 mod framed_receivers;
 #[cfg(test)]
-mod framed_senders;
-#[cfg(test)]
 mod groups;
 #[cfg(test)]
 mod lines;
