@@ -1,9 +1,8 @@
 -- The units of an air, act by act.
 use Rattle.std.proofs.Common.{ℕ, zero, suc, ◌≡◌, ◌+◌, ◌-◌, ◌*◌, ◌<◌, ◌≤◌, ◌⊎◌, inl, inr, true, false, Bool, ◌&&◌, eqb, cond, List, [], ◌∷◌, ◌++◌, map, length, take, drop}
-use Rattle.std.proofs.Common.{Option, Some, None, refl, sym, ap, ◌∙◌, subst, arith, append_assoc, length-append}
-use Rattle.std.specs.List.{AllByRecursion, flat_map, range_with_len, slice_get}
-use Rattle.std.proofs.Math.Nat.{add-mul}
-use Rattle.std.proofs.lemmas.Bool.{cases_Bool, cond-true, cond-false, eq-eqb, ne_eqb, and_left, true≢false, false≢true}
+use Rattle.std.proofs.Common.{Option, Some, None, refl, sym, ap, ◌∙◌, subst, arith, length-append}
+use Rattle.std.specs.List.{range_with_len, slice_get}
+use Rattle.std.proofs.lemmas.Bool.{cond-true, cond-false, eq-eqb, ne_eqb, true≢false, false≢true}
 use Rattle.std.proofs.lemmas.Grind.{flat_map-append}
 use Rattle.std.proofs.lemmas.List.{append-nil, length-take}
 use Rattle.std.proofs.lemmas.Option.{none-some, slice_get_past}
@@ -12,9 +11,9 @@ use Rattle.iso_pdu.specs.Layout.{Part, start, more, framed}
 use Rattle.iso_pdu.specs.Spelling.{pdu}
 use Rattle.isoal_base.specs.Air.{Air}
 use Rattle.isoal_base.proofs.Ranges.{map_same, map_append}
-use Rattle.isoal_framed.specs.Air.{AllCome, IsEvent, IsAirOf, pdus_ended, part_of, open_parts, pdus_of}
+use Rattle.isoal_framed.specs.Air.{AllCome, IsAirOf, pdus_ended, part_of, open_parts, pdus_of}
 use Rattle.isoal_framed.specs.Calls.{Call, accept, lay, Timed, accepted}
-use Rattle.isoal_framed.specs.Places.{Act, carries, leaves_out, ends, Comes, HasTurn, IsSegment, place_of, overhead, least_room, done, sent, room}
+use Rattle.isoal_framed.specs.Places.{Act, carries, leaves_out, ends, Comes, IsSegment, place_of, overhead, least_room, done, sent, room}
 use Rattle.isoal_framed.specs.Sends.{EventsAre, Sends}
 use Rattle.isoal_framed.specs.Struck.{Sent, Fit, InOrder, octets_in, behind, carried, is_last, part_with, parts_at}
 use Rattle.isoal_framed.proofs.Senders.{room_between}

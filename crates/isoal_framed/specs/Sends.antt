@@ -1,5 +1,5 @@
 -- The units that an air sends (Core 5.2, volume 6 part G, section 2.2), each told by the numbers that carry it.
-use Rattle.std.specs.Prelude.{ℕ, ◌*◌, ◌≡◌, List, [], ◌∷◌, length, map}
+use Rattle.std.specs.Prelude.{◌*◌, ◌≡◌, List, [], ◌∷◌, length, map}
 use Rattle.std.specs.List.{range_with_len}
 use Rattle.big_info.specs.declared.info.BigInfo.{BigInfo}
 use Rattle.iso_pdu.specs.Layout.{framed}
