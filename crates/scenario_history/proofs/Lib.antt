@@ -14,5 +14,6 @@ mod Closes
 mod Shown
 mod Numbers
 mod InOrder
+mod MetAirs
 mod OneTranscript
 pub mod Laws

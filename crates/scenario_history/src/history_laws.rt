@@ -15,11 +15,10 @@ use scenario_text::a_line_says_one_step;
 use source_machine::{air_is_by_division, one_air, what_was_sent_stays};
 
 /// Some airs meet the relation of their framing: those by division (Core 5.2, volume 6 part G, section 2.1).
+#[tactic(auto, using(crate::proofs::MetAirs::airs_by_division))]
 pub fn some_airs_meet()
     ensures { MeetAirs airs_of }
-{
-    one_air();
-}
+{}
 
 /// At most one list of octets is the transcript of a text: any two airs that meet the relation of their framing give the
 /// same, and the same end, the same units and the same output of its lines.

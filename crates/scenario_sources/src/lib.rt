@@ -11,5 +11,6 @@ mod sources;
 mod standpoint;
 
 pub use place::Place;
+pub use source_machine::Identity;
 pub use sources::Sources;
 pub use standpoint::Standpoint;

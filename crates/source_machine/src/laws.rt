@@ -15,7 +15,7 @@ use isoal_unframed::each_number_is_laid;
 pub fn one_air()
     ensures same { (setup : Setup) (calls : List Call) (airs others : List Air) → setup.info.framing ≡ 0
         → AreAirs setup calls airs → AreAirs setup calls others → airs ≡ others }
-    ensures some { (setup : Setup) (calls : List Call) → AreAirs setup calls (airs_of setup calls) }
+    ensures some { (setup : Setup) (calls : List Call) → setup.info.framing ≡ 0 → AreAirs setup calls (airs_of setup calls) }
     ensures only { (setup : Setup) (calls : List Call) (airs : List Air) → setup.info.framing ≡ 0 → AreAirs setup calls airs → airs ≡ airs_of setup calls }
 {}
 
