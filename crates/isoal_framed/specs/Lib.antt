@@ -1,0 +1,4 @@
+pub mod Histories
+pub mod State
+pub mod Tokens
+pub mod Units
