@@ -40,11 +40,13 @@ places-preserved g c =
           (left_more (tokens_of (stay_of c.args.stream.now) c.args.event) (kept_of c.args.store.now.places) c.places.counter (c.args.count - c.places.counter)
           (c.args.count - (c.places.counter + 1)) below (omega (arith, c.places-test.true)))
           (c.take_pdu-handed.ensures.run
-          ∙ ap (λ max_sdu. run_after max_sdu (run_in c.places.store.joining) (tokens_of (stay_of c.args.stream.now) c.args.event (read_as segmented c.args.stream.now.group.info.max_pdu c.pdu.result.now))) c.places.invariant.room
+          ∙ ap (λ max_sdu. run_after max_sdu (run_in c.places.store.joining)
+          (tokens_of (stay_of c.args.stream.now) c.args.event (read_as segmented c.args.stream.now.group.info.max_pdu c.pdu.result.now))) c.places.invariant.room
           ∙ ap (λ kept. run_after (vec_len c.args.store.now.joining.octets) (run_in c.places.store.joining) (tokens_of (stay_of c.args.stream.now) c.args.event kept)) entry)
           (subst (λ kept. HandsOn (hands (vec_len c.args.store.now.joining.octets) c.args.stream.now.bis (run_in c.places.store.joining) (tokens_of (stay_of c.args.stream.now) c.args.event kept))
           c.places.handed (g.T.UnitTaker.calls c.places.taker) (g.T.UnitTaker.calls c.take_pdu-handed.new.taker) c.take_pdu-handed.result) entry
-          (subst (λ max_sdu. HandsOn (hands max_sdu c.args.stream.now.bis (run_in c.places.store.joining) (tokens_of (stay_of c.args.stream.now) c.args.event (read_as segmented c.args.stream.now.group.info.max_pdu c.pdu.result.now)))
+          (subst (λ max_sdu. HandsOn (hands max_sdu c.args.stream.now.bis (run_in c.places.store.joining)
+          (tokens_of (stay_of c.args.stream.now) c.args.event (read_as segmented c.args.stream.now.group.info.max_pdu c.pdu.result.now)))
           c.places.handed (g.T.UnitTaker.calls c.places.taker) (g.T.UnitTaker.calls c.take_pdu-handed.new.taker) c.take_pdu-handed.result) c.places.invariant.room c.take_pdu-handed.ensures.hands))
           c.take_pdu-handed.ensures.cause;
     }

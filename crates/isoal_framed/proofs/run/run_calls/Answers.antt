@@ -37,6 +37,7 @@ returns-in_err-step-clause-stopped g c past before stands is =
           (c.step.ensures.stands (after_all (take c.calls.call-index c.args.calls.now) past) (c.calls.invariant.stands past stands));
       count = front.0;
       front = front.1
-          ∙ ap (λ stay. before ++ take front.0 (decided stay (call_of (get_or c.args.calls.now c.calls.call-index Close) ∷ after_all (take c.calls.call-index c.args.calls.now) past))) (sym c.step.ensures.stay)
+          ∙ ap (λ stay. before ++ take front.0 (decided stay (call_of (get_or c.args.calls.now c.calls.call-index Close) ∷ after_all (take c.calls.call-index c.args.calls.now) past)))
+          (sym c.step.ensures.stay)
           ∙ ap (λ history. before ++ take front.0 (decided c.step.new.receiver.stay history)) (after_more c.args.calls.now c.calls.call-index Close past c.calls-test.true);
     })
