@@ -19,7 +19,7 @@ use Rattle.scenario_history.specs.Steps.{is_over}
 use Rattle.scenario_history.specs.Boxes.{SinkUnit, handed_up, Took}
 use Rattle.scenario_history.specs.Lines.{Said, a_step, nothing, unsaid, rules_of, steps_of, said_after, handed_on, handed_said, with_said}
 use Rattle.scenario_history.specs.Transcript.{out_of, end_after, last_line_after, last_end_after, has_end, transcript_of, transcript_end, units_of}
-use Rattle.scenario_history.proofs.BoxLaws.{took_all}
+use Rattle.scenario_history.proofs.Laws.{took_all}
 use Rattle.replay_command.specs.declared.status.Status.{Status}
 use Rattle.replay_command.specs.declared.status.Status.TheVariants as statuses
 use Rattle.replay_steps.specs.declared.machine.Machine.{Machine}

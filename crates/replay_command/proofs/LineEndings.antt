@@ -14,7 +14,7 @@ use Rattle.scenario_history.specs.Boxes.{SinkUnit, accounts_after, handed_up, ha
 use Rattle.scenario_history.specs.Output.{unit_lines, output_of}
 use Rattle.scenario_history.specs.Lines.{Said, a_step, nothing, unsaid, rules_of, steps_of, said_after, handed_on, handed_said, output_said}
 use Rattle.scenario_history.specs.Transcript.{out_of, last_line_after, end_after, has_end, transcript_of, transcript_end, units_of}
-use Rattle.scenario_history.proofs.BoxLaws.{took_all}
+use Rattle.scenario_history.proofs.Laws.{took_all}
 use Rattle.scenario_text.specs.declared.step.Step.{Step}
 use Rattle.scenario_text.specs.declared.step.Step.TheVariants as kinds
 use Rattle.replay_command.specs.declared.status.Status.{Status}

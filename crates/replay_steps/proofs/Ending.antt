@@ -17,7 +17,7 @@ use Rattle.scenario_history.specs.Sinks.{is_of, sink_calls, source_of, ticked_if
 use Rattle.scenario_history.specs.Boxes.{SinkUnit, account_at, accounts_after, box_of, closing, closing_both, closing_by, handed_by, handed_up, sink_numbers, valid_for}
 use Rattle.scenario_history.specs.Output.{output_of, sum_if, sum_of, unit_lines}
 use Rattle.scenario_history.specs.Refusals.{no_sink, phase_refusal}
-use Rattle.scenario_history.proofs.Sums.{box_was_made, octets_add_up, units_add_up}
+use Rattle.scenario_history.proofs.Laws.{box_was_made, octets_add_up, units_add_up}
 use Rattle.scenario_sources.specs.declared.sources.Sources.{Sources}
 use Rattle.scenario_sources.specs.State.Standing.{SourcesStand}
 use Rattle.scenario_sources.proofs.Laws.{drop_says, end_says, sources_stay}

@@ -274,11 +274,11 @@ units_in_order below airs meets boxes s n bis made legal source_below sink_below
 -- ---- the law
 
 pub order_law_holds : Below → (starts : List Account) → OrderLaw starts
-order_law_holds below starts airs meets lines accepted s n source_below sink_below =
+order_law_holds below starts airs meets lines accepted s n source_below =
     let lawful_steps : Legal airs (length starts) (steps_of lines) = legal below.in_range airs starts lines accepted in
     record {
       rising = closes_rise airs (length starts) s n (steps_of lines) lawful_steps source_below;
-      slots = λ bis least greatest. slots_are_shown below airs (length starts) s n bis (steps_of lines) lawful_steps source_below sink_below least greatest;
-      in_source_order = λ bis least greatest clean.
+      slots = λ bis sink_below least greatest. slots_are_shown below airs (length starts) s n bis (steps_of lines) lawful_steps source_below sink_below least greatest;
+      in_source_order = λ bis sink_below least greatest clean.
           units_in_order below airs meets (length starts) s n bis (steps_of lines) lawful_steps source_below sink_below least greatest clean;
     }

@@ -1,18 +1,19 @@
-pub mod Sums
-pub mod BoxLaws
-pub mod Legals
-pub mod Sources
-pub mod Wholes
-pub mod Below
-pub mod Stays
-pub mod Hears
-pub mod FromSources
-pub mod Closings
-pub mod Ticks
-pub mod UnitsLaw
-pub mod Closes
-pub mod Shown
-pub mod Numbers
-pub mod InOrder
-pub mod MetAirs
-pub mod OneTranscript
+mod Sums
+mod BoxLaws
+mod Legals
+mod Sources
+mod Wholes
+mod Below
+mod Stays
+mod Hears
+mod FromSources
+mod Closings
+mod Ticks
+mod UnitsLaw
+mod Closes
+mod Shown
+mod Numbers
+mod InOrder
+mod MetAirs
+mod OneTranscript
+pub mod Laws

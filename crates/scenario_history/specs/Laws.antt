@@ -188,14 +188,14 @@ pub record InSourceOrder (setup : Setup) (calls : List SourceCall) (bis : ℕ) (
 -- valid units are, in order, units that the source accepted on the stream, each at most once
 pub record StaysInOrder (airs : Airs) (steps : List Step) (s n : ℕ) : Type 0 where
   pub rising : IsStrictlyIncreasing (map (λ (closed : Closed). closed.event) (closed_since airs s n steps))
-  pub slots : (bis : ℕ) → 1 ≤ bis → bis ≤ 31
+  pub slots : (bis : ℕ) → n ≤ 7 → 1 ≤ bis → bis ≤ 31
       → AllZip (IsOfSlot (setup_of (steps_of_source s steps)) bis)
       (slots_closed (setup_of (steps_of_source s steps)) bis (closed_since airs s n steps)) (shown_since (is_made n) airs s n bis steps)
-  pub in_source_order : (bis : ℕ) → 1 ≤ bis → bis ≤ 31 → injected_since (is_made n) n steps ≡ false
+  pub in_source_order : (bis : ℕ) → n ≤ 7 → 1 ≤ bis → bis ≤ 31 → injected_since (is_made n) n steps ≡ false
       → InSourceOrder (setup_of (steps_of_source s steps)) (source_calls (steps_of_source s steps)) bis
       (valid_in (shown_since (is_made n) airs s n bis steps))
 
 -- The order law: of a scenario of which no line was refused, the stays of each sink with each source are in order.
 abbrev pub OrderLaw : List Account → Type 0
 OrderLaw starts = (airs : Airs) → MeetAirs airs → (lines : List TextLine) → Accepted (rules_of airs starts) lines
-    → (s : ℕ) → (n : ℕ) → s ≤ 1 → n ≤ 7 → StaysInOrder airs (steps_of lines) s n
+    → (s : ℕ) → (n : ℕ) → s ≤ 1 → StaysInOrder airs (steps_of lines) s n

@@ -1,5 +1,5 @@
 use Rattle.scenario_history.proofs.OneTranscript.{out_of_same, transcript_end_same, transcript_same, units_same}
-use Rattle.scenario_history.proofs.laws.one_transcript.Goals as goal
+use Rattle.scenario_history.proofs.history_laws.one_transcript.Goals as goal
 
 pub returns-clause-octets : goal.returns-clause-octets
 returns-clause-octets c = λ airs others starts lines meets meet_too.
