@@ -2,8 +2,8 @@ ghost use Rattle.std.specs.Prelude.{◌≡◌, ◌<◌, ◌^◌};
 ghost use Rattle.big_info.specs.Widths.{FitsWidths};
 
 use bcast_base::Bis;
-use big_info::{BigInfo, Limits};
-use multi_source::{Broadcast, Field, FieldFault};
+use big_info::BigInfo;
+use multi_source::Broadcast;
 use source_machine::{EventFault, GiveFault, Identity, Setup, SourceIdle};
 use std::alloc::Global;
 use std::test::Fail;
@@ -68,38 +68,6 @@ fn started(alloc: Global, info: BigInfo, first: u64) -> Result<Broadcast, &'stat
         return Err("no memory");
     };
     Ok(source)
-}
-
-#[test]
-fn two_sources_are_heard_apart(rt: HostRuntime) -> Result<(), Fail> {
-    let info = info(4, 1, 1, 1, 0);
-    assert!(rt; info.fits());
-    let mut other = setup(info);
-    other.identity.sid = 1;
-    let one = Bis::new(1).ok_or("no stream")?;
-    let mut field = Field::new(rt.alloc());
-    field.start(0, setup(info), Limits::VERSION_2, 0)?;
-    assert_eq!(rt;
-        field.start(1, setup(info), Limits::VERSION_2, 0),
-        Err(FieldFault::IdentTwice)
-    );
-    field.start(1, other, Limits::VERSION_2, 7)?;
-    if let Some(source) = field.source(0) {
-        source.give(one, None, &[0xC0])?;
-    }
-    field.event(0)?;
-    field.event(1)?;
-    field.stop(0);
-    assert!(rt; field.source(0).is_none());
-    assert_eq!(rt;
-        field.heard_at(0, 0, one, 0)?,
-        [0x00, 0x01, 0xC0].as_slice()
-    );
-    assert_eq!(rt; field.heard_at(1, 0, one, 0)?, [0x01, 0x00].as_slice());
-    assert_eq!(rt; field.of(3), None);
-    field.put(3, 1);
-    assert_eq!(rt; field.of(3), Some(1));
-    Ok(())
 }
 
 #[test]
