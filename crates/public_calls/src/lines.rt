@@ -26,8 +26,9 @@ fn each_version_has_its_lines(rt: HostRuntime) {
     assert_eq!(rt; fault_of(rt.alloc(), b"sink 0 1 5"), bad(3));
     assert_eq!(rt; read_line_in(rt.alloc(), 2, b"sink 0 1 5").err(), None);
     assert_eq!(rt; fault_of(rt.alloc(), b"source 0"), bad(0));
+    assert_eq!(rt; read_line_in(rt.alloc(), 2, b"source 0").err(), None);
     assert_eq!(rt;
-        read_line_in(rt.alloc(), 2, b"source 0").err(),
+        read_line_in(rt.alloc(), 2, b"relay 0 1 2").err(),
         Some(LineFault::NotBuilt)
     );
 }

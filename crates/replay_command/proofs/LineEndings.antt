@@ -20,7 +20,7 @@ use Rattle.scenario_text.specs.declared.step.Step.TheVariants as kinds
 use Rattle.replay_command.specs.declared.status.Status.{Status}
 use Rattle.replay_command.specs.declared.status.Status.TheVariants as statuses
 use Rattle.replay_steps.specs.declared.machine.Machine.{Machine}
-use Rattle.replay_steps.specs.Handing.{BoxFails, CutShort}
+use Rattle.scenario_sinks.specs.Handing.{BoxFails, CutShort}
 use Rattle.replay_steps.specs.Meets.{BoxesStand}
 use Rattle.replay_steps.specs.LineMeets.{LinesStand, refusal_at, output_at}
 use Rattle.replay_command.specs.Replayed.{Comes, brought_by, BoxesCut, BoxFailed, Broken, OutletFaulted, ReadsAhead, CutAt, BoxesAt, TookFront}

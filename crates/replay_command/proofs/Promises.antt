@@ -1,37 +1,14 @@
 -- What is promised of a call, from what its run did.
-use Rattle.std.proofs.Common.{◌≡◌, ◌≢◌, ◌≤◌, ℕ, List, [], map, false, refl}
-use Rattle.std.specs.List.{AllZip}
-use Rattle.std.specs.List.Sorted.{IsStrictlyIncreasing}
+use Rattle.std.proofs.Common.{◌≡◌, ◌≢◌, ℕ, List, [], refl}
 use Rattle.bcast_io.specs.Faults.{Rose}
-use Rattle.bcast_io.specs.TextLines.{TextLine}
-use Rattle.unit_outlets.specs.Account.{Account}
-use Rattle.source_machine.specs.Airs.{airs_of}
-use Rattle.line_runs.specs.Runs.{Accepted}
-use Rattle.scenario_history.specs.Laws.{Closed, InSourceOrder, IsOfSlot, closed_since, injected_since, is_made, shown_since, slots_closed, valid_in}
-use Rattle.scenario_history.specs.Lines.{rules_of, steps_of}
-use Rattle.scenario_history.specs.Source.{setup_of, source_calls}
 use Rattle.replay_command.specs.declared.status.Status.{Status}
 use Rattle.replay_command.specs.declared.status.Status.TheVariants as statuses
 use Rattle.replay_command.specs.Promised.{Promised, Did}
 use Rattle.replay_command.specs.Replayed.{ReadsAtMost, read_limit}
-use Rattle.replay_command.specs.UnitLaws.{UnitsLaw, OrderLaw}
+use Rattle.scenario_history.specs.Laws.{UnitsLaw, OrderLaw}
 use Rattle.replay_command.specs.World.{World}
 use Rattle.replay_command.proofs.Completing.{ended_at, ended_whole, ended_ahead, ended_complete}
 use Rattle.replay_command.proofs.ReadingOn.{none_within}
-
--- the three parts of the order law
-pub order_of : (starts : List Account)
-    → ((lines : List TextLine) (n : ℕ) → Accepted (rules_of airs_of starts) lines → IsStrictlyIncreasing (map (λ (closed : Closed). closed.event) (closed_since n (steps_of lines))))
-    → ((lines : List TextLine) (n bis : ℕ) → Accepted (rules_of airs_of starts) lines → n ≤ 7 → 1 ≤ bis → bis ≤ 31
-    → AllZip (IsOfSlot (setup_of (steps_of lines)) bis) (slots_closed (setup_of (steps_of lines)) bis (closed_since n (steps_of lines))) (shown_since n bis (steps_of lines)))
-    → ((lines : List TextLine) (n bis : ℕ) → Accepted (rules_of airs_of starts) lines → n ≤ 7 → 1 ≤ bis → bis ≤ 31 → injected_since (is_made n) n (steps_of lines) ≡ false
-    → InSourceOrder (setup_of (steps_of lines)) (source_calls (steps_of lines)) bis (valid_in (shown_since n bis (steps_of lines))))
-    → OrderLaw starts
-order_of starts rising slots in_order = λ lines n bis accepted sinks least greatest. (
-  rising lines n accepted,
-  slots lines n bis accepted sinks least greatest,
-  in_order lines n bis accepted sinks least greatest,
-)
 
 module _ {W : Type 0} (words : List W) (old new : World) (status : Status) where
   did : Did status old new → (other : Status) → status ≡ other → Did other old new

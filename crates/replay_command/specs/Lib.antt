@@ -1,5 +1,4 @@
 pub mod World
-pub mod UnitLaws
 pub mod Replayed
 pub mod Ended
 pub mod Between

@@ -14,7 +14,7 @@ use Rattle.line_runs.specs.Runs.{through, refused, Accepted}
 use Rattle.scenario_history.specs.Boxes.{SinkUnit, Took}
 use Rattle.scenario_history.specs.Lines.{rules_of, handed_on}
 use Rattle.scenario_history.specs.Transcript.{out_of, end_after, transcript_of, transcript_end, units_of}
-use Rattle.replay_steps.specs.Handing.{BoxFails, CutShort}
+use Rattle.scenario_sinks.specs.Handing.{BoxFails, CutShort}
 
 -- the octets that a call took from its source; `over` says that it met the end of the input
 pub record TextRead (left left' : Option (List ℕ)) (text : List ℕ) (over : Bool) : Type 0 where

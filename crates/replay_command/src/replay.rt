@@ -15,10 +15,10 @@ use crate::status::Status;
 use crate::words::{Mode, Words, mode_of};
 use bcast_base::Octets;
 use bcast_io::{ByteSink, ByteSource, Failed, LineRead, LineReader, SinkFault, write_whole};
-use replay_steps::{Machine, Stop};
+use replay_steps::Machine;
 use scenario_history::{order_law, units_law};
 use std::alloc::Global;
-use transcript_text::{Refusal, put_refusal};
+use transcript_text::{Refusal, Stop, put_refusal};
 use unit_outlets::Outlet;
 
 /// Runs the scenario that the source gives, a step a line, and writes its transcript to the sink. Each `sink` line

@@ -1,27 +1,20 @@
--- The events that a sink closes rise.
-use Rattle.std.proofs.Common.{ℕ, zero, suc, ◌≡◌, ◌≢◌, ◌<◌, ◌≤◌, ◌+◌, ◌*◌, ◌==◌, ◌||◌, cond, leb, Bool, true, false, List, [], ◌∷◌, ◌++◌, length, map, Option, None, Some, refl, sym, ◌∙◌, ap, subst, arith}
-use Rattle.std.specs.Prelude.{unwrap_or, is_some}
+-- The events of a source that a sink closes rise, over all its stays with the source.
+use Rattle.std.proofs.Common.{ℕ, zero, suc, ◌≡◌, ◌≢◌, ◌<◌, ◌≤◌, ◌+◌, ◌==◌, ◌||◌, cond, leb, not, Bool, true, false, List, [], ◌∷◌, ◌++◌, map, Option, None, Some, refl, sym, ◌∙◌, ap, subst, arith}
 use Rattle.std.specs.List.Sorted.{IsStrictlyIncreasing}
-use Rattle.std.proofs.lemmas.Bool.{eqb-false, leb-true, or_parts, false≢true}
+use Rattle.std.proofs.lemmas.Bool.{eqb-true, eqb-false, leb-true, or_parts}
 use Rattle.std.proofs.lemmas.Option.{none-some, same_Some}
-use Rattle.bcast_io.specs.TextLines.{TextLine}
-use Rattle.unit_outlets.specs.Account.{Account}
-use Rattle.line_runs.specs.Runs.{Accepted}
-use Rattle.source_machine.specs.Airs.{airs_of}
-use Rattle.source_machine.specs.Calls.{events, next_of}
 use Rattle.delegator_machine.specs.Calls.{Tuning, Call, tune, hear, tick, place}
 use Rattle.delegator_machine.specs.Streams.{closes}
 use Rattle.scenario_text.specs.declared.step.Step.{Step}
 use Rattle.scenario_text.specs.declared.step.Step.TheVariants as steps
-use Rattle.scenario_history.specs.Steps.{group_of, is_stopped, is_over, start_of}
-use Rattle.scenario_history.specs.Source.{setup_of, source_calls, performed, event_back, pdu_in, open_event}
-use Rattle.scenario_history.specs.Sinks.{spot_at, is_lost, unless_lost, heard_on_air, tuning_of, ticked, with_sink_call, sink_calls}
-use Rattle.scenario_history.specs.Lines.{rules_of, steps_of}
-use Rattle.scenario_history.specs.Refusals.{is_first, is_started}
-use Rattle.scenario_history.specs.Laws.{Closed, closed_in, closed_at, closed_by, closed_since, is_made}
-use Rattle.scenario_history.proofs.Legals.{Legal, LinesInRange, Permitted, legal, permitted}
-use Rattle.scenario_history.proofs.Phases.{Phase, phase_of, start_once}
-use Rattle.scenario_history.proofs.SourceHears.{air_place}
+use Rattle.scenario_history.specs.Steps.{chosen_of, chosen_steps, is_over, steps_of_source}
+use Rattle.scenario_history.specs.Source.{Airs, event_back, is_sending, open_event, pdu_in, performed, setup_of}
+use Rattle.scenario_history.specs.Sinks.{heard_on_air, is_lost, is_of, reaches, sink_calls, source_after, source_of, spot_at, spots_of, ticked, tuning_of, unless_lost, with_sink_call}
+use Rattle.scenario_history.specs.Laws.{Closed, closed_at, closed_by, closed_if, closed_in, closed_since, is_made}
+use Rattle.scenario_history.proofs.Legals.{Legal}
+use Rattle.scenario_history.proofs.Wholes.{next_in, next_rises}
+use Rattle.scenario_history.proofs.Stays.{air_place}
+use Rattle.scenario_history.proofs.Ticks.{end_ticks, event_ticks, is_its}
 
 -- ---- numbers that rise between two bounds
 
@@ -55,21 +48,22 @@ map_on f (x ∷ xs) ys = ap (λ zs. f x ∷ zs) (map_on f xs ys)
 abbrev pub event_of : Closed → ℕ
 event_of closed = closed.event
 
--- the open event of a sink, or the next event of the source
+-- the stay of a sink with a source, where it is of the source
+abbrev pub stay_if : Bool → List Call → Option Tuning
+stay_if mine calls = cond mine (place calls) None
+
+-- the open event of the stay, or the next event of the source
 abbrev pub front_of : Option Tuning → List Call → ℕ → ℕ
 front_of None calls next = next
 front_of (Some tuning) calls next = tuning.first + closes tuning calls
 
-abbrev pub front : List Call → ℕ → ℕ
-front calls next = front_of (place calls) calls next
-
-abbrev pub next_in : List Step → ℕ
-next_in made = next_of (setup_of made) (source_calls made)
+abbrev pub front : Bool → List Call → ℕ → ℕ
+front mine calls next = front_of (stay_if mine calls) calls next
 
 -- the events that a step closes lie between the open events before it and after it, and those up to the source's next one
-pub record Moves (calls : List Call) (next : ℕ) (closed : List Closed) (calls' : List Call) (next' : ℕ) : Type 0 where
-  pub climbs_on : Climb (front calls next) (map event_of closed) (front calls' next')
-  pub within : front calls' next' ≤ next'
+pub record Moves (mine : Bool) (calls : List Call) (next : ℕ) (closed : List Closed) (mine' : Bool) (calls' : List Call) (next' : ℕ) : Type 0 where
+  pub climbs_on : Climb (front mine calls next) (map event_of closed) (front mine' calls' next')
+  pub within : front mine' calls' next' ≤ next'
 
 later_next : (p : Option Tuning) (calls : List Call) (next next' : ℕ) → next ≤ next' → front_of p calls next ≤ front_of p calls next'
 later_next None calls next next' more = more
@@ -79,48 +73,57 @@ later_within : (p : Option Tuning) (calls : List Call) (next next' : ℕ) → ne
 later_within None calls next next' more within = omega arith
 later_within (Some tuning) calls next next' more within = omega (arith, more, within)
 
-stay_moves : (calls : List Call) (next next' : ℕ) → next ≤ next' → front calls next ≤ next → Moves calls next [] calls next'
-stay_moves calls next next' more within = record {
-  climbs_on = later_next (place calls) calls next next' more;
-  within = later_within (place calls) calls next next' more within;
+stay_moves : (mine : Bool) (calls : List Call) (next next' : ℕ) → next ≤ next' → front mine calls next ≤ next → Moves mine calls next [] mine calls next'
+stay_moves mine calls next next' more within = record {
+  climbs_on = later_next (stay_if mine calls) calls next next' more;
+  within = later_within (stay_if mine calls) calls next next' more within;
 }
 
-gone_moves : (gone : Bool) (calls : List Call) (next : ℕ) → front calls next ≤ next → Moves calls next [] (cond gone [] calls) next
-gone_moves true calls next within = record { climbs_on = within; within = omega arith }
-gone_moves false calls next within = stay_moves calls next next (omega arith) within
+gone_moves : (s : ℕ) (gone : Bool) (calls : List Call) (source : Option ℕ) (next next' : ℕ) → next ≤ next' → front (is_of s source) calls next ≤ next
+    → Moves (is_of s source) calls next [] (is_of s (cond gone None source)) (cond gone [] calls) next'
+gone_moves s true calls source next next' more within = record { climbs_on = omega (arith, within, more); within = omega arith }
+gone_moves s false calls source next next' more within = stay_moves (is_of s source) calls next next' more within
 
-put_moves : (put : Bool) (on : Tuning) (calls : List Call) (next : ℕ) → on.first ≡ next → front calls next ≤ next → Moves calls next [] (cond put (tune on ∷ calls) calls) next
-put_moves true on calls next is within = record { climbs_on = omega (arith, is, within); within = omega (arith, is) }
-put_moves false on calls next is within = stay_moves calls next next (omega arith) within
+on_moves : (mine its : Bool) (on : Tuning) (calls : List Call) (next next' : ℕ) → next ≤ next' → (its ≡ true → on.first ≡ next) → front mine calls next ≤ next
+    → Moves mine calls next [] its (tune on ∷ calls) next'
+on_moves mine true on calls next next' more is within = record { climbs_on = omega (arith, is refl, within); within = omega (arith, is refl, more) }
+on_moves mine false on calls next next' more is within = record { climbs_on = omega (arith, within, more); within = omega arith }
 
+put_moves : (s : ℕ) (put : Bool) (on : Tuning) (chosen : ℕ) (calls : List Call) (source : Option ℕ) (next next' : ℕ) → next ≤ next' → ((chosen == s) ≡ true → on.first ≡ next)
+    → front (is_of s source) calls next ≤ next
+    → Moves (is_of s source) calls next [] (is_of s (cond put (Some chosen) source)) (cond put (tune on ∷ calls) calls) next'
+put_moves s true on chosen calls source next next' more is within = on_moves (is_of s source) (chosen == s) on calls next next' more is within
+put_moves s false on chosen calls source next next' more is within = stay_moves (is_of s source) calls next next' more within
+
+-- calls that neither put the sink anywhere nor close an event
 front_again : (calls more : List Call) (next : ℕ) (p : Option Tuning) → ((tuning : Tuning) → closes tuning more ≡ closes tuning calls)
     → front_of p more next ≡ front_of p calls next
 front_again calls more next None same = refl
 front_again calls more next (Some tuning) same = ap (λ count. tuning.first + count) (same tuning)
 
--- calls that neither put the sink anywhere nor close an event
-same_front : (calls more : List Call) (next : ℕ) (p : Option Tuning) → place more ≡ p → place calls ≡ p → ((tuning : Tuning) → closes tuning more ≡ closes tuning calls)
-    → front more next ≡ front calls next
-same_front calls more next p is_more is same =
-    ap (λ q. front_of q more next) is_more ∙ front_again calls more next p same ∙ sym (ap (λ q. front_of q calls next) is)
+same_front : (mine : Bool) (calls more : List Call) (next : ℕ) → place more ≡ place calls → ((tuning : Tuning) → closes tuning more ≡ closes tuning calls)
+    → front mine more next ≡ front mine calls next
+same_front mine calls more next there same =
+    ap (λ p. front_of (cond mine p None) more next) there ∙ front_again calls more next (stay_if mine calls) same
 
-more_moves : (mine : Bool) (more calls : List Call) (next : ℕ) → place more ≡ place calls → ((tuning : Tuning) → closes tuning more ≡ closes tuning calls)
-    → front calls next ≤ next → Moves calls next [] (cond mine more calls) next
-more_moves true more calls next there same within =
-    let is : front more next ≡ front calls next = same_front calls more next (place calls) there refl same in
-    record { climbs_on = omega (arith, is); within = omega (arith, is, within) }
-more_moves false more calls next there same within = stay_moves calls next next (omega arith) within
+more_moves : (mine hit : Bool) (more calls : List Call) (next next' : ℕ) → next ≤ next' → place more ≡ place calls → ((tuning : Tuning) → closes tuning more ≡ closes tuning calls)
+    → front mine calls next ≤ next → Moves mine calls next [] mine (cond hit more calls) next'
+more_moves mine true more calls next next' later there same within =
+    let is : front mine more next' ≡ front mine calls next' = same_front mine calls more next' there same in
+    let moved : Moves mine calls next [] mine calls next' = stay_moves mine calls next next' later within in
+    record { climbs_on = omega (arith, is, moved.climbs_on); within = omega (arith, is, moved.within) }
+more_moves mine false more calls next next' later there same within = stay_moves mine calls next next' later within
 
 lost_closes : (gone : Bool) (event bis subevent : ℕ) (octets : List ℕ) (calls : List Call) (tuning : Tuning)
     → closes tuning (unless_lost gone (hear event bis subevent octets) calls) ≡ closes tuning calls
 lost_closes true event bis subevent octets calls tuning = refl
 lost_closes false event bis subevent octets calls tuning = refl
 
-air_closes : (earlier : List Step) (lose count : ℕ) (calls : List Call) (tuning : Tuning) → closes tuning (heard_on_air airs_of earlier lose count calls) ≡ closes tuning calls
-air_closes earlier lose zero calls tuning = refl
-air_closes earlier lose (suc i) calls tuning =
-    lost_closes (is_lost (setup_of earlier).info (event_back earlier 0) lose (spot_at (setup_of earlier).info i)) _ _ _ _ (heard_on_air airs_of earlier lose i calls) tuning
-    ∙ air_closes earlier lose i calls tuning
+air_closes : (airs : Airs) (own : List Step) (lose count : ℕ) (calls : List Call) (tuning : Tuning) → closes tuning (heard_on_air airs own lose count calls) ≡ closes tuning calls
+air_closes airs own lose zero calls tuning = refl
+air_closes airs own lose (suc i) calls tuning =
+    lost_closes (is_lost (setup_of own).info (event_back own 0) lose (spot_at (setup_of own).info i)) _ _ _ _ (heard_on_air airs own lose i calls) tuning
+    ∙ air_closes airs own lose i calls tuning
 
 -- an event of the source is over
 closed_one : (tuning : Tuning) (calls : List Call) (event next next' : ℕ) (over : Bool) → leb (tuning.first + closes tuning calls) event ≡ over
@@ -139,64 +142,88 @@ tick_on_moves None calls event next next' is past more within = (more, omega ari
 tick_on_moves (Some tuning) calls event next next' is past more within =
     closed_one tuning calls event next next' (leb (tuning.first + closes tuning calls) event) refl past more within
 
-tick_moves : (last_open : Option ℕ) (calls : List Call) (next next' : ℕ) → ((event : ℕ) → last_open ≡ Some event → event < next) → next ≤ next' → front calls next ≤ next
-    → Moves calls next (closed_at calls last_open) (ticked last_open calls) next'
-tick_moves None calls next next' past more within = stay_moves calls next next' more within
+tick_moves : (last_open : Option ℕ) (calls : List Call) (next next' : ℕ) → ((event : ℕ) → last_open ≡ Some event → event < next) → next ≤ next' → front true calls next ≤ next
+    → Moves true calls next (closed_at calls last_open) true (ticked last_open calls) next'
+tick_moves None calls next next' past more within = stay_moves true calls next next' more within
 tick_moves (Some event) calls next next' past more within =
     let moved = tick_on_moves (place calls) calls event next next' refl (past event refl) more within in
     record { climbs_on = moved.0; within = moved.1 }
+
+-- a close of an event of the source, or of another
+close_moves : (mine its : Bool) (last_open : Option ℕ) (calls calls' : List Call) (next next' : ℕ) → ((event : ℕ) → last_open ≡ Some event → event < next) → next ≤ next'
+    → front mine calls next ≤ next → (mine ≡ true → calls' ≡ cond its (ticked last_open calls) calls)
+    → Moves mine calls next (cond its (closed_if mine calls last_open) []) mine calls' next'
+close_moves true true last_open calls calls' next next' past more within is =
+    subst (λ cs. Moves true calls next (closed_at calls last_open) true cs next') (sym (is refl)) (tick_moves last_open calls next next' past more within)
+close_moves true false last_open calls calls' next next' past more within is =
+    subst (λ cs. Moves true calls next [] true cs next') (sym (is refl)) (stay_moves true calls next next' more within)
+close_moves false true last_open calls calls' next next' past more within is = record { climbs_on = more; within = omega arith }
+close_moves false false last_open calls calls' next next' past more within is = record { climbs_on = more; within = omega arith }
 
 open_if : (shut : Bool) (last event : ℕ) → cond shut None (Some last) ≡ Some event → (shut ≡ false) × (last ≡ event)
 open_if true last event is = absurd (none-some event is)
 open_if false last event is = (refl, same_Some last event is)
 
--- the open event of the source is before its next one
-pub open_before : (made : List Step) (event : ℕ) → open_event made ≡ Some event → event < next_in made
-open_before made event is =
-    let last_open = open_if (is_stopped made || is_over made || (performed made == 0)) (event_back made 0) event is in
-    let some : (performed made == 0) ≡ false = (or_parts (is_stopped made || is_over made) (performed made == 0) last_open.0).1 in
-    let count : performed made ≢ 0 = eqb-false (performed made) 0 some in
+-- the open event of a source is before its next one
+pub open_before : (own : List Step) (event : ℕ) → open_event own ≡ Some event → event < next_in own
+open_before own event is =
+    let last_open = open_if (not (is_sending own) || is_over own || (performed own == 0)) (event_back own 0) event is in
+    let some : (performed own == 0) ≡ false = (or_parts (not (is_sending own) || is_over own) (performed own == 0) last_open.0).1 in
+    let count : performed own ≢ 0 = eqb-false (performed own) 0 some in
     omega (arith, last_open.1, count)
 
-no_start : (start : Option ℕ) → is_some start ≡ false → unwrap_or start 0 ≡ 0
-no_start None idle = refl
-no_start (Some first) idle = absurd (false≢true (sym idle))
+-- ---- step by step
 
-pub moves_by : (boxes n : ℕ) (step : Step) (earlier : List Step) (calls : List Call) → Phase earlier → Permitted boxes earlier step → front calls (next_in earlier) ≤ next_in earlier
-    → calls ≡ sink_calls airs_of n earlier
-    → Moves calls (next_in earlier) (closed_by n earlier step) (with_sink_call airs_of n step earlier calls) (next_in (step ∷ earlier))
-moves_by boxes n (steps.Sink sink streams slots mtu) earlier calls phase permits within is = gone_moves (sink == n) calls (next_in earlier) within
-moves_by boxes n (steps.Drop sink) earlier calls phase permits within is = gone_moves (sink == n) calls (next_in earlier) within
-moves_by boxes n (steps.Tuned sink which) earlier calls phase permits within is = put_moves (sink == n) (tuning_of earlier which) calls (next_in earlier) refl within
-moves_by boxes n (steps.Hear sink back bis subevent) earlier calls phase permits within is =
-    more_moves (sink == n) (hear (event_back earlier back) bis subevent (pdu_in airs_of earlier (event_back earlier back) bis subevent) ∷ calls) calls (next_in earlier) refl (λ tuning. refl) within
-moves_by boxes n (steps.Air sink lose) earlier calls phase permits within is =
-    more_moves (sink == n) (heard_on_air airs_of earlier lose ((setup_of earlier).info.num_bis * (setup_of earlier).info.nse) calls) calls (next_in earlier)
-    (air_place earlier lose ((setup_of earlier).info.num_bis * (setup_of earlier).info.nse) calls)
-    (air_closes earlier lose ((setup_of earlier).info.num_bis * (setup_of earlier).info.nse) calls) within
-moves_by boxes n (steps.Inject sink back bis subevent octets) earlier calls phase permits within is =
-    more_moves (sink == n) (hear (event_back earlier back) bis subevent octets ∷ calls) calls (next_in earlier) refl (λ tuning. refl) within
-moves_by boxes n steps.Event earlier calls phase permits within is =
-    subst (λ all. Moves calls (next_in earlier) (closed_at all (open_event earlier)) (ticked (open_event earlier) calls) (next_in (steps.Event ∷ earlier))) is
-    (tick_moves (open_event earlier) calls (next_in earlier) (next_in (steps.Event ∷ earlier)) (open_before earlier) (omega arith) within)
-moves_by boxes n steps.Stop earlier calls phase permits within is =
-    subst (λ all. Moves calls (next_in earlier) (closed_at all (open_event earlier)) (ticked (open_event earlier) calls) (next_in earlier)) is
-    (tick_moves (open_event earlier) calls (next_in earlier) (next_in earlier) (open_before earlier) (omega arith) within)
-moves_by boxes n steps.End earlier calls phase permits within is =
-    subst (λ all. Moves calls (next_in earlier) (closed_at all (open_event earlier)) (ticked (open_event earlier) calls) (next_in earlier)) is
-    (tick_moves (open_event earlier) calls (next_in earlier) (next_in earlier) (open_before earlier) (omega arith) within)
-moves_by boxes n (steps.Start first) earlier calls phase permits within is =
-    let idle : is_started earlier ≡ false = start_once (is_first earlier) (is_some (group_of earlier)) (is_started earlier) permits.in_order in
-    let none : events (source_calls earlier) ≡ 0 = ap events (phase.quiet idle) in
-    let least : unwrap_or (start_of earlier) 0 ≡ 0 = no_start (start_of earlier) idle in
-    stay_moves calls (next_in earlier) (next_in (steps.Start first ∷ earlier)) (omega (arith, none, least)) within
-moves_by boxes n _ earlier calls phase permits within is = stay_moves calls (next_in earlier) (next_in earlier) (omega arith) within
+-- the sink is of this source
+abbrev pub mine_in : ℕ → ℕ → List Step → Bool
+mine_in s n made = is_of s (source_of n made)
+
+abbrev pub its_front : Airs → ℕ → ℕ → List Step → ℕ
+its_front airs s n made = front (mine_in s n made) (sink_calls airs n made) (next_in (steps_of_source s made))
+
+pub moves_by : (airs : Airs) (s n : ℕ) (step : Step) (earlier : List Step) (next' : ℕ) → s ≤ 1 → next_in (steps_of_source s earlier) ≤ next'
+    → its_front airs s n earlier ≤ next_in (steps_of_source s earlier)
+    → Moves (mine_in s n earlier) (sink_calls airs n earlier) (next_in (steps_of_source s earlier)) (closed_by airs s n earlier step)
+    (is_of s (source_after n step earlier (source_of n earlier))) (with_sink_call airs n step earlier (sink_calls airs n earlier)) next'
+moves_by airs s n (steps.Sink sink streams slots mtu) earlier next' least more within =
+    gone_moves s (sink == n) (sink_calls airs n earlier) (source_of n earlier) (next_in (steps_of_source s earlier)) next' more within
+moves_by airs s n (steps.Drop sink) earlier next' least more within =
+    gone_moves s (sink == n) (sink_calls airs n earlier) (source_of n earlier) (next_in (steps_of_source s earlier)) next' more within
+moves_by airs s n (steps.Tuned sink which) earlier next' least more within =
+    put_moves s (sink == n) (tuning_of (chosen_steps earlier) which) (chosen_of earlier) (sink_calls airs n earlier) (source_of n earlier) (next_in (steps_of_source s earlier)) next' more
+    (λ same. ap (λ t. next_in (steps_of_source t earlier)) (eqb-true (chosen_of earlier) s same)) within
+moves_by airs s n (steps.Hear sink back bis subevent) earlier next' least more within =
+    more_moves (mine_in s n earlier) (reaches sink n earlier)
+    (hear (event_back (chosen_steps earlier) back) bis subevent (pdu_in airs (chosen_steps earlier) (event_back (chosen_steps earlier) back) bis subevent) ∷ sink_calls airs n earlier)
+    (sink_calls airs n earlier) (next_in (steps_of_source s earlier)) next' more refl (λ tuning. refl) within
+moves_by airs s n (steps.Air sink lose) earlier next' least more within =
+    more_moves (mine_in s n earlier) (reaches sink n earlier) (heard_on_air airs (chosen_steps earlier) lose (spots_of (chosen_steps earlier)) (sink_calls airs n earlier))
+    (sink_calls airs n earlier) (next_in (steps_of_source s earlier)) next' more
+    (air_place airs (chosen_steps earlier) lose (spots_of (chosen_steps earlier)) (sink_calls airs n earlier))
+    (air_closes airs (chosen_steps earlier) lose (spots_of (chosen_steps earlier)) (sink_calls airs n earlier)) within
+moves_by airs s n (steps.Inject sink back bis subevent octets) earlier next' least more within =
+    more_moves (mine_in s n earlier) (reaches sink n earlier) (hear (event_back (chosen_steps earlier) back) bis subevent octets ∷ sink_calls airs n earlier)
+    (sink_calls airs n earlier) (next_in (steps_of_source s earlier)) next' more refl (λ tuning. refl) within
+moves_by airs s n steps.Event earlier next' least more within =
+    close_moves (mine_in s n earlier) (chosen_of earlier == s) (open_event (steps_of_source s earlier)) (sink_calls airs n earlier) _ (next_in (steps_of_source s earlier)) next'
+    (open_before (steps_of_source s earlier)) more within
+    (λ mine. event_ticks (chosen_of earlier) s (λ t. open_event (steps_of_source t earlier)) (sink_calls airs n earlier) (source_of n earlier) (is_its s (source_of n earlier) mine))
+moves_by airs s n steps.Stop earlier next' least more within =
+    close_moves (mine_in s n earlier) (chosen_of earlier == s) (open_event (steps_of_source s earlier)) (sink_calls airs n earlier) _ (next_in (steps_of_source s earlier)) next'
+    (open_before (steps_of_source s earlier)) more within
+    (λ mine. event_ticks (chosen_of earlier) s (λ t. open_event (steps_of_source t earlier)) (sink_calls airs n earlier) (source_of n earlier) (is_its s (source_of n earlier) mine))
+moves_by airs s n steps.End earlier next' least more within =
+    close_moves (mine_in s n earlier) true (open_event (steps_of_source s earlier)) (sink_calls airs n earlier) _ (next_in (steps_of_source s earlier)) next'
+    (open_before (steps_of_source s earlier)) more within
+    (λ mine. end_ticks s (λ t. open_event (steps_of_source t earlier)) (sink_calls airs n earlier) (source_of n earlier) least (is_its s (source_of n earlier) mine))
+moves_by airs s n _ earlier next' least more within =
+    stay_moves (mine_in s n earlier) (sink_calls airs n earlier) (next_in (steps_of_source s earlier)) next' more within
 
 -- ---- all events that a sink closed
 
-pub record Closing (n : ℕ) (made : List Step) : Type 0 where
-  pub rise : Climb 0 (map event_of (closed_since n made)) (front (sink_calls airs_of n made) (next_in made))
-  pub within : front (sink_calls airs_of n made) (next_in made) ≤ next_in made
+pub record Closing (airs : Airs) (s n : ℕ) (made : List Step) : Type 0 where
+  pub rise : Climb 0 (map event_of (closed_since airs s n made)) (its_front airs s n made)
+  pub within : its_front airs s n made ≤ next_in (steps_of_source s made)
 
 made_again : (again : Bool) (before now : List Closed) (low high : ℕ) → Climb 0 (map event_of before) low → Climb low (map event_of now) high
     → Climb 0 (map event_of (cond again [] (before ++ now))) high
@@ -204,20 +231,21 @@ made_again true before now low high first rest = omega arith
 made_again false before now low high first rest =
     subst (λ xs. Climb 0 xs high) (sym (map_on event_of before now)) (climb_on 0 (map event_of before) low (map event_of now) high first rest)
 
-pub closing : (boxes n : ℕ) (made : List Step) → Legal boxes made → Closing n made
-closing boxes n [] legal = record { rise = omega arith; within = omega arith }
-closing boxes n (step ∷ earlier) legal =
-    let before : Closing n earlier = closing boxes n earlier legal.0 in
-    let moved : Moves (sink_calls airs_of n earlier) (next_in earlier) (closed_by n earlier step) (with_sink_call airs_of n step earlier (sink_calls airs_of n earlier)) (next_in (step ∷ earlier)) =
-    moves_by boxes n step earlier (sink_calls airs_of n earlier) (phase_of boxes earlier legal.0) (permitted boxes earlier step legal.1) before.within refl in
+pub moved : (airs : Airs) (boxes s n : ℕ) (step : Step) (earlier : List Step) → Legal airs boxes (step ∷ earlier) → s ≤ 1 → its_front airs s n earlier ≤ next_in (steps_of_source s earlier)
+    → Moves (mine_in s n earlier) (sink_calls airs n earlier) (next_in (steps_of_source s earlier)) (closed_by airs s n earlier step)
+    (mine_in s n (step ∷ earlier)) (sink_calls airs n (step ∷ earlier)) (next_in (steps_of_source s (step ∷ earlier)))
+moved airs boxes s n step earlier legal least within =
+    moves_by airs s n step earlier (next_in (steps_of_source s (step ∷ earlier))) least (next_rises airs boxes s earlier step legal) within
+
+pub closing : (airs : Airs) (boxes s n : ℕ) (made : List Step) → Legal airs boxes made → s ≤ 1 → Closing airs s n made
+closing airs boxes s n [] legal least = record { rise = omega arith; within = omega arith }
+closing airs boxes s n (step ∷ earlier) legal least =
+    let before : Closing airs s n earlier = closing airs boxes s n earlier legal.0 least in
+    let now = moved airs boxes s n step earlier legal least before.within in
     record {
-      rise = made_again (is_made n step) (closed_since n earlier) (closed_by n earlier step) (front (sink_calls airs_of n earlier) (next_in earlier))
-          (front (sink_calls airs_of n (step ∷ earlier)) (next_in (step ∷ earlier))) before.rise moved.climbs_on;
-      within = moved.within;
+      rise = made_again (is_made n step) (closed_since airs s n earlier) (closed_by airs s n earlier step) (its_front airs s n earlier) (its_front airs s n (step ∷ earlier)) before.rise now.climbs_on;
+      within = now.within;
     }
 
-pub closes_rise : LinesInRange → (starts : List Account) (lines : List TextLine) (n : ℕ) → Accepted (rules_of airs_of starts) lines
-    → IsStrictlyIncreasing (map event_of (closed_since n (steps_of lines)))
-closes_rise ranged starts lines n accepted =
-    climbs 0 (map event_of (closed_since n (steps_of lines))) (front (sink_calls airs_of n (steps_of lines)) (next_in (steps_of lines)))
-    (closing (length starts) n (steps_of lines) (legal ranged starts lines accepted)).rise
+pub closes_rise : (airs : Airs) (boxes s n : ℕ) (made : List Step) → Legal airs boxes made → s ≤ 1 → IsStrictlyIncreasing (map event_of (closed_since airs s n made))
+closes_rise airs boxes s n made legal least = climbs 0 (map event_of (closed_since airs s n made)) (its_front airs s n made) (closing airs boxes s n made legal least).rise

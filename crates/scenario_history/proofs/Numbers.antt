@@ -1,5 +1,6 @@
 -- The units of an event by their numbers, and what a close hands of them.
-use Rattle.std.proofs.Common.{ℕ, zero, suc, ◌≡◌, ◌<◌, ◌≤◌, ◌+◌, ◌-◌, ◌==◌, min, cond, Bool, true, false, List, [], ◌∷◌, ◌++◌, length, map, Some, refl, sym, ◌∙◌, ap, subst, arith, inl, inr, append_assoc}
+use Rattle.std.proofs.Common.{ℕ, zero, suc, ◌≡◌, ◌<◌, ◌≤◌, ◌+◌, ◌-◌, ◌==◌, min, cond, Bool, true, false, List}
+use Rattle.std.proofs.Common.{[], ◌∷◌, ◌++◌, length, map, Some, refl, sym, ◌∙◌, ap, subst, arith, inl, inr, append_assoc}
 use Rattle.std.specs.Prelude.{slice_get}
 use Rattle.std.specs.List.{AllZip, AllByRecursion, range_with_len}
 use Rattle.std.proofs.lemmas.Bool.{cases_eq, eq-eqb, ne_eqb, false≢true}
@@ -16,20 +17,25 @@ use Rattle.isoal_unframed.specs.Air.{before_event}
 use Rattle.isoal_unframed.specs.Calls.{Call as StreamCall, accept, lay, lays, accepted, begun, events as laid_events}
 use Rattle.isoal_unframed.specs.Histories.{handed, unit_at, units_of}
 use Rattle.isoal_unframed.specs.Struck.{IsStruck, Place, Struck, closed_slots}
-use Rattle.source_machine.specs.Airs.{airs_of, slots_of}
+use Rattle.isoal_unframed.specs.Windows.{time_of}
+use Rattle.source_machine.specs.Airs.{place_of, slots_of}
 use Rattle.source_machine.specs.Calls.{Setup, Call as SourceCall, give, event as perform, events, given, laid_with, next_of, stream_calls as source_stream}
-use Rattle.delegator_machine.specs.Calls.{Tuning, place}
+use Rattle.delegator_machine.specs.Calls.{Tuning}
 use Rattle.delegator_machine.specs.Handing.{bis_of}
 use Rattle.delegator_machine.specs.Streams.{stay_on, stream_calls}
 use Rattle.scenario_text.specs.declared.step.Step.{Step}
-use Rattle.scenario_history.specs.Source.{setup_of}
+use Rattle.scenario_history.specs.Steps.{steps_of_source}
+use Rattle.scenario_history.specs.Source.{Airs}
+use Rattle.scenario_history.specs.Airs.{MeetAirs}
 use Rattle.scenario_history.specs.Sinks.{sink_calls}
-use Rattle.scenario_history.specs.Refusals.{is_started}
-use Rattle.scenario_history.specs.Laws.{IsGiven, injected_since, is_tuned, is_valid, number_of_slot, slot_time, time_in, valid_in}
-use Rattle.scenario_history.proofs.Legals.{Legal, legal}
-use Rattle.scenario_history.proofs.Phases.{Phase, Within, bounds_in, phase_of}
-use Rattle.scenario_history.proofs.SourceHears.{Counted, Own, SentStays, TunedTo, all_own, from_source}
-use Rattle.scenario_history.proofs.UnitsLaw.{UnitsStruck}
+use Rattle.scenario_history.specs.Laws.{IsGiven, injected_since, is_tuned, is_valid, time_in, valid_in, whole_stay}
+use Rattle.scenario_history.proofs.Below.{Below}
+use Rattle.scenario_history.proofs.Legals.{Legal}
+use Rattle.scenario_history.proofs.Sources.{Settled, bounds_in, lawful, settled}
+use Rattle.scenario_history.proofs.Wholes.{Within}
+use Rattle.scenario_history.proofs.Stays.{IsOn, OnSource, TunedTo, on_source}
+use Rattle.scenario_history.proofs.Hears.{Own, all_own}
+use Rattle.scenario_history.proofs.FromSources.{from_source}
 use Rattle.scenario_history.proofs.Closes.{Climb, climb_from, climb_on}
 use Rattle.scenario_history.proofs.Shown.{slot_time_is, zip_on}
 
@@ -148,7 +154,7 @@ pub record Batch (setup : Setup) (whole : List SourceCall) (bis low high : ℕ) 
 -- a valid entry of a slot has the slot's unit, and its time
 abbrev pub IsSlots : Setup → List SourceCall → ℕ → ℕ → ℕ → Handed → Type 0
 IsSlots setup whole bis event slot unit = (stream : ℕ) → (time : ℕ) → (octets : List ℕ) → unit ≡ valid stream time octets
-    → (stream ≡ bis) × (time ≡ slot_time setup event slot) × (slots_of setup whole bis event slot ≡ Some octets)
+    → (stream ≡ bis) × (time ≡ time_of (whole_stay setup bis) event slot) × (slots_of setup whole bis event slot ≡ Some octets)
 
 batch_one : (setup : Setup) (whole : List SourceCall) (bis event slot low : ℕ) (unit : Handed) (rest : List Handed)
     → setup.first ≤ event → event < next_of setup whole → slot < per_event_of setup.info → low ≤ first_in setup.info (source_stream setup.info bis whole) (event - setup.first) + slot
@@ -162,13 +168,14 @@ batch_one setup whole bis event slot low (lost stream time) rest from_first perf
 batch_one setup whole bis event slot low (valid stream time octets) rest from_first performed_then inside least most is more =
     let here = is stream time octets refl in
     let count : first_in setup.info (source_stream setup.info bis whole) (event - setup.first) + slot < length (accepted (before_event (source_stream setup.info bis whole) (event - setup.first))) =
-    slice_get_within (accepted (before_event (source_stream setup.info bis whole) (event - setup.first))) (first_in setup.info (source_stream setup.info bis whole) (event - setup.first) + slot) octets here.2 in
+    slice_get_within (accepted (before_event (source_stream setup.info bis whole) (event - setup.first)))
+    (first_in setup.info (source_stream setup.info bis whole) (event - setup.first) + slot) octets here.2 in
     let next = more (first_in setup.info (source_stream setup.info bis whole) (event - setup.first) + slot + 1) (omega arith) (omega (arith, count, inside)) in
     let front_of_all = accepted_more (source_stream setup.info bis whole) (event - setup.first) in
-    let found : slice_get (given bis whole) (number_of_slot setup whole bis event slot) ≡ Some octets =
-    ap (λ units. slice_get units (number_of_slot setup whole bis event slot)) (sym (accepted_are setup.info bis whole) ∙ front_of_all.1)
-    ∙ get_more (accepted (before_event (source_stream setup.info bis whole) (event - setup.first))) front_of_all.0 (number_of_slot setup whole bis event slot) octets here.2 in
-    let one : IsGiven setup whole bis (number_of_slot setup whole bis event slot) (valid stream time octets) = record {
+    let found : slice_get (given bis whole) (place_of setup whole bis event slot) ≡ Some octets =
+    ap (λ units. slice_get units (place_of setup whole bis event slot)) (sym (accepted_are setup.info bis whole) ∙ front_of_all.1)
+    ∙ get_more (accepted (before_event (source_stream setup.info bis whole) (event - setup.first))) front_of_all.0 (place_of setup whole bis event slot) octets here.2 in
+    let one : IsGiven setup whole bis (place_of setup whole bis event slot) (valid stream time octets) = record {
       event = event;
       slot = slot;
       octets = octets;
@@ -180,7 +187,7 @@ batch_one setup whole bis event slot low (valid stream time octets) rest from_fi
       unit_is = ap (λ b. valid b time octets) here.0 ∙ ap (λ t. valid bis t octets) here.1;
     } in
     record {
-      numbers = number_of_slot setup whole bis event slot ∷ next.numbers;
+      numbers = place_of setup whole bis event slot ∷ next.numbers;
       climb = (least, next.climb);
       given = (one, next.given);
     }
@@ -260,9 +267,11 @@ last_batch setup whole tuning bis event sc on is past from_first performed_then 
     (handed (stay_on tuning bis) sc) (map (unit_at (stay_on tuning bis) sc (opened (stay_on tuning bis) sc)) (range_with_len 0 (per_event_of tuning.info)))
     (AllZip-long _ _ _ before) now in
     let count : per_event_of tuning.info ≡ per_event_of setup.info = ap per_event_of on.info in
-    let begun_least : begun setup.info (before_event (source_stream setup.info bis whole) (event - setup.first)) ≤ length (accepted (before_event (source_stream setup.info bis whole) (event - setup.first))) =
+    let begun_least : begun setup.info (before_event (source_stream setup.info bis whole) (event - setup.first)) ≤ length
+    (accepted (before_event (source_stream setup.info bis whole) (event - setup.first))) =
     begun_within setup.info (before_event (source_stream setup.info bis whole) (event - setup.first)) in
-    batch setup whole bis event (unit_at (stay_on tuning bis) sc event) 0 (per_event_of tuning.info) (first_in setup.info (source_stream setup.info bis whole) (event - setup.first)) from_first performed_then
+    batch setup whole bis event (unit_at (stay_on tuning bis) sc event) 0 (per_event_of tuning.info)
+    (first_in setup.info (source_stream setup.info bis whole) (event - setup.first)) from_first performed_then
     (omega (arith, count)) (omega arith) (omega (arith, begun_least))
     (λ slot least below. struck_slots setup whole tuning bis event slot (stays.close ∷ sc) (unit_at (stay_on tuning bis) sc event slot) on past
     (subst (λ e. IsStruck (stay_on tuning bis) (slots_of setup whole bis) (stays.close ∷ sc) e slot (unit_at (stay_on tuning bis) sc e slot)) is
@@ -270,25 +279,26 @@ last_batch setup whole tuning bis event sc on is past from_first performed_then 
     (λ slot. record { event = opened (stay_on tuning bis) sc; slot = slot }) (unit_at (stay_on tuning bis) sc (opened (stay_on tuning bis) sc)) 0 (per_event_of tuning.info) rest slot least below)))
 
 -- what the stay's next close hands on the stream
-pub close_batch : Counted → SentStays → UnitsStruck → (boxes n bis : ℕ) (setup : Setup) (whole : List SourceCall) (tuning : Tuning) (made : List Step) → Legal boxes made
-    → Within setup whole made → is_started made ≡ true → TunedTo setup tuning → 1 ≤ bis → place (sink_calls airs_of n made) ≡ Some tuning → injected_since (is_tuned n) n made ≡ false
+pub close_batch : Below → (airs : Airs) → MeetAirs airs → (boxes s n bis : ℕ) (setup : Setup) (whole : List SourceCall) (tuning : Tuning) (made : List Step) → Legal airs boxes made
+    → Within setup whole (steps_of_source s made) → TunedTo setup tuning → 1 ≤ bis → IsOn airs s n made tuning → injected_since (is_tuned n) n made ≡ false
     → ((event : ℕ) → (slot : ℕ) → (unit : List ℕ) → slots_of setup whole bis event slot ≡ Some unit → length unit ≤ setup.info.max_sdu)
-    → (event : ℕ) → opened (stay_on tuning bis) (stream_calls (stay_on tuning bis) (sink_calls airs_of n made)) ≡ event → tuning.first ≤ event → event < next_of setup whole
+    → (event : ℕ) → opened (stay_on tuning bis) (stream_calls (stay_on tuning bis) (sink_calls airs n made)) ≡ event → tuning.first ≤ event → event < next_of setup whole
     → Batch setup whole bis (first_in setup.info (source_stream setup.info bis whole) (event - setup.first)) (past_in setup.info (source_stream setup.info bis whole) (event - setup.first))
-    (valid_in (units_of (stay_on tuning bis) (stream_calls (stay_on tuning bis) (sink_calls airs_of n made)) event))
-close_batch counted stays_sent struck boxes n bis setup whole tuning made legal within started on least is clean fits event opened_at past performed_then =
-    let phase : Phase made = phase_of boxes made legal in
-    let info : tuning.info ≡ (setup_of made).info = on.info ∙ ap (λ (s : Setup). s.info) (sym (within.setup_is started)) in
-    let bounds : Bounds tuning.info = subst Bounds (sym info) (bounds_in made phase started) in
-    let plain : tuning.info.framing ≡ 0 = ap (λ (i : BigInfo). i.framing) info ∙ phase.plain in
+    (valid_in (units_of (stay_on tuning bis) (stream_calls (stay_on tuning bis) (sink_calls airs n made)) event))
+close_batch below airs meets boxes s n bis setup whole tuning made legal within on least is clean fits event opened_at past performed_then =
+    let own : List Step = steps_of_source s made in
+    let settles : Settled own = settled airs own (lawful airs boxes s made legal) in
+    let there : OnSource own tuning = on_source airs boxes s n made tuning legal is in
+    let bounds : Bounds tuning.info = subst Bounds (sym there.tuned.info) (bounds_in own settles there.started) in
+    let plain : tuning.info.framing ≡ 0 = ap (λ (i : BigInfo). i.framing) there.tuned.info ∙ settles.plain in
+    let calls : List stays.Call = stream_calls (stay_on tuning bis) (sink_calls airs n made) in
     let short : (e : ℕ) → (slot : ℕ) → (unit : List ℕ) → slots_of setup whole bis e slot ≡ Some unit → length unit ≤ tuning.info.max_sdu =
     λ e slot unit has. subst (λ (i : BigInfo). length unit ≤ i.max_sdu) (sym on.info) (fits e slot unit has) in
-    let own : AllByRecursion (Own (stay_on tuning bis) (slots_of setup whole bis)) (stream_calls (stay_on tuning bis) (sink_calls airs_of n made)) =
-    all_own counted stays_sent setup whole tuning boxes n bis made legal within on.info least is clean in
-    let before : Struck (stay_on tuning bis) (slots_of setup whole bis) (stream_calls (stay_on tuning bis) (sink_calls airs_of n made)) (handed (stay_on tuning bis) (stream_calls (stay_on tuning bis) (sink_calls airs_of n made))) =
-    struck (stay_on tuning bis) (slots_of setup whole bis) (stream_calls (stay_on tuning bis) (sink_calls airs_of n made)) bounds plain short
-    (from_source (stay_on tuning bis) (slots_of setup whole bis) (stream_calls (stay_on tuning bis) (sink_calls airs_of n made)) own) in
-    let now : Struck (stay_on tuning bis) (slots_of setup whole bis) (stays.close ∷ stream_calls (stay_on tuning bis) (sink_calls airs_of n made)) (handed (stay_on tuning bis) (stays.close ∷ stream_calls (stay_on tuning bis) (sink_calls airs_of n made))) =
-    struck (stay_on tuning bis) (slots_of setup whole bis) (stays.close ∷ stream_calls (stay_on tuning bis) (sink_calls airs_of n made)) bounds plain short
-    (from_source (stay_on tuning bis) (slots_of setup whole bis) (stays.close ∷ stream_calls (stay_on tuning bis) (sink_calls airs_of n made)) (tt, own)) in
-    last_batch setup whole tuning bis event (stream_calls (stay_on tuning bis) (sink_calls airs_of n made)) on opened_at past (omega (arith, past, on.first)) performed_then before now
+    let all : AllByRecursion (Own (stay_on tuning bis) (slots_of setup whole bis)) calls =
+    all_own below airs meets setup whole tuning boxes s n bis made legal within on.info least is clean in
+    let before : Struck (stay_on tuning bis) (slots_of setup whole bis) calls (handed (stay_on tuning bis) calls) =
+    below.struck (stay_on tuning bis) (slots_of setup whole bis) calls bounds plain short (from_source (stay_on tuning bis) (slots_of setup whole bis) calls all) in
+    let now : Struck (stay_on tuning bis) (slots_of setup whole bis) (stays.close ∷ calls) (handed (stay_on tuning bis) (stays.close ∷ calls)) =
+    below.struck (stay_on tuning bis) (slots_of setup whole bis) (stays.close ∷ calls) bounds plain short
+    (from_source (stay_on tuning bis) (slots_of setup whole bis) (stays.close ∷ calls) (tt, all)) in
+    last_batch setup whole tuning bis event calls on opened_at past (omega (arith, past, on.first)) performed_then before now

@@ -1,16 +1,16 @@
 -- What one word spells, and the ranges that follow.
-use Rattle.std.proofs.Common.{leb, ◌≡◌, ◌≤◌, ◌<◌, ℕ, ◌/◌, ◌^◌, Bool, true, false, cond, List, [], ◌∷◌, ◌++◌, take, length, None, Some, Result, Ok, Err, refl, ap, sym, ◌∙◌, arith, decimal, ◌&&◌}
+use Rattle.std.proofs.Common.{leb, nat_eq, eqb-true, ◌≡◌, ◌≤◌, ◌<◌, ℕ, ◌/◌, ◌^◌, Bool, true, false, cond, List, [], ◌∷◌, ◌++◌, take, length, None, Some, Result, Ok, Err, refl, ap, sym, ◌∙◌, arith, decimal, ◌&&◌}
 use Rattle.std.specs.Prelude.{IsErr}
 use Rattle.std.specs.Str.{bytes_eq}
 use Rattle.std.specs.Str.Parse.{digits_value}
 use Rattle.std.proofs.Math.Seq.{take-append_seam}
 use Rattle.std.proofs.lemmas.Slice.Eq.{bytes_eq-Decides}
 use Rattle.std.proofs.lemmas.Fmt.{digits_value-decimal, decimal_injective}
-use Rattle.std.proofs.lemmas.Bool.{leb-true, le-leb, lt-leb}
+use Rattle.std.proofs.lemmas.Bool.{leb-true, le-leb, lt-leb, eq-eqb}
 use Rattle.hex.specs.Hex.{decode_of}
 use Rattle.hex.proofs.HexLemmas.{decode_of-ok}
 use Rattle.hex.specs.declared.error.FromHexError.{FromHexError}
-use Rattle.scenario_text.specs.Reading.{decimal_in, framing_in, octets_in, within}
+use Rattle.scenario_text.specs.Reading.{decimal_in, framing_in, octets_in, within, exact_in, exactly}
 use Rattle.scenario_text.proofs.Decimals.{own}
 
 -- ---- decimals
@@ -143,3 +143,38 @@ within_is most (Ok octets) bytes e =
     let found = some_is _ _ bytes e in
     (ap (λ (b : List ℕ). Ok b) found.1, rw (← found.1) (leb-true (length octets) most found.0))
 within_is most (Err f) bytes e = absurd cc
+
+-- ---- exactly so many octets
+
+exactly_err : (count : ℕ) (read : Result (List ℕ) FromHexError) → IsErr read → exactly count read ≡ None
+exactly_err count (Ok bytes) e = absurd (cc e)
+exactly_err count (Err f) e = refl
+
+exactly_other : (count : ℕ) (read : Result (List ℕ) FromHexError) → ((bytes : List ℕ) → read ≡ Ok bytes → length bytes ≡ count → ⊥) → exactly count read ≡ None
+exactly_other count (Ok bytes) h = not_chosen _ bytes (λ same. h bytes refl (eqb-true (length bytes) count same))
+exactly_other count (Err f) h = refl
+
+pub no_array : (count : ℕ) (word : List ℕ) → IsErr (decode_of word) → exact_in count word ≡ None
+unfolding exact_in
+no_array count word err = exactly_err count (decode_of word) err
+
+pub other_count : (count : ℕ) (word : List ℕ) → (length word / 2 ≡ count → ⊥) → exact_in count word ≡ None
+unfolding exact_in
+other_count count word other = exactly_other count (decode_of word) (λ bytes ok same. let len = (decode_of-ok word bytes ok).2 in other (omega arith))
+
+pub array_is : (count : ℕ) (word bytes : List ℕ) → decode_of word ≡ Ok bytes → length bytes ≡ count → exact_in count word ≡ Some bytes
+unfolding exact_in
+array_is count word bytes ok same = let is : nat_eq (length bytes) count ≡ true = eq-eqb (length bytes) count same in rw (ok, is) refl
+
+pub array_read : (count : ℕ) (word bytes : List ℕ) → decode_of word ≡ Ok bytes → length word / 2 ≡ count → exact_in count word ≡ Some bytes
+array_read count word bytes ok same = let len = (decode_of-ok word bytes ok).2 in array_is count word bytes ok (omega arith)
+
+pub exactly_is : (count : ℕ) (read : Result (List ℕ) FromHexError) (bytes : List ℕ) → exactly count read ≡ Some bytes → (read ≡ Ok bytes) × (length bytes ≡ count)
+exactly_is count (Ok octets) bytes e =
+    let found = some_is _ _ bytes e in
+    (ap (λ (b : List ℕ). Ok b) found.1, rw (← found.1) (eqb-true (length octets) count found.0))
+exactly_is count (Err f) bytes e = absurd cc
+
+pub exact_length : (count : ℕ) (word bytes : List ℕ) → exact_in count word ≡ Some bytes → length bytes ≡ count
+unfolding exact_in
+exact_length count word bytes e = (exactly_is count (decode_of word) bytes e).1

@@ -6,14 +6,14 @@ use Rattle.std.proofs.lemmas.Bool.{ltb-true}
 use Rattle.hex.specs.Hex.{decode_of}
 use Rattle.scenario_text.specs.declared.fault.LineFault.{LineFault}
 use Rattle.scenario_text.specs.declared.fault.LineFault.TheVariants.{BadLine, NotBuilt}
-use Rattle.scenario_text.specs.Table.{Place, between, framing_word, time_up_to, octets_up_to, perhaps, rising, Row, table, row_of}
-use Rattle.scenario_text.specs.Reading.{Value, number, maybe, string, Left, ◌>>=◌, next_of, taken, as_value, decimal_in, framing_in, time_in, timed, octets_in, within, perhaps_of, with_stream, streams_of, rising_of, at_place, at_places, ended, Spelled, word_in, at_row, at_line, line_after}
-use Rattle.scenario_text.specs.Lines.{Rising, with_streams, Spells, a_number, unframed, framed, no_time, a_time, no_octets, pairs, left_out, given, some_streams, SpellsAll}
+use Rattle.scenario_text.specs.Table.{Place, between, framing_word, time_up_to, octets_up_to, octets_exactly, perhaps, rising, Row, table, row_of, rows_of_2}
+use Rattle.scenario_text.specs.Reading.{Value, number, maybe, string, Left, ◌>>=◌, next_of, taken, as_value, decimal_in, framing_in, time_in, timed, octets_in, within, exact_in, perhaps_of, with_stream, streams_of, rising_of, at_place, at_places, ended, Spelled, word_in, at_row, at_line, line_after}
+use Rattle.scenario_text.specs.Lines.{Rising, with_streams, Spells, a_number, unframed, framed, no_time, a_time, no_octets, pairs, exact, left_out, given, some_streams, SpellsAll}
 use Rattle.std.proofs.lemmas.List.{nil_from_length}
 use Rattle.std.proofs.lemmas.Fmt.{digits_decimal, decimal_nonempty}
 use Rattle.hex.proofs.HexLemmas.{decode_of-ok}
 use Rattle.scenario_text.proofs.Decimals.{own}
-use Rattle.scenario_text.proofs.OneWord.{decimal_range, decimal_is, decimal_fits, within_is}
+use Rattle.scenario_text.proofs.OneWord.{decimal_range, decimal_is, decimal_fits, within_is, array_is, exactly_is}
 use Rattle.scenario_text.proofs.OneWord.{pairs as pairs_read}
 
 refused : (b : Bool) → (b ≡ true → ⊥) → b ≡ false
@@ -27,6 +27,7 @@ is_small (between least greatest) = nat_lt greatest (2 ^ 64)
 is_small framing_word = true
 is_small (time_up_to greatest) = nat_lt greatest (2 ^ 64)
 is_small (octets_up_to most) = true
+is_small (octets_exactly count) = true
 is_small (perhaps least greatest) = nat_lt greatest (2 ^ 64)
 is_small rising = true
 
@@ -87,6 +88,9 @@ place_again place value words rest read small (a_time greatest n r high) =
 place_again place value words rest read small (no_octets most r) = (read + 1, refl)
 place_again place value words rest read small (pairs most word octets r some e fits) =
     let this : octets_in most word ≡ Some octets = pairs_again most word octets some e fits in
+    (read + 1, rw this refl)
+place_again place value words rest read small (exact count word octets r e fits) =
+    let this : exact_in count word ≡ Some octets = array_is count word octets e fits in
     (read + 1, rw this refl)
 place_again place value words rest read small (left_out least greatest) = (read, refl)
 place_again place value words rest read small (given least greatest n r low high) =
@@ -183,6 +187,10 @@ octets_spelled most (x ∷ word) octets rest e = elim (split_cond (bytes_eq (x �
   | inr h ↦ let w = within_is most (decode_of (x ∷ word)) octets h.1 in pairs most (x ∷ word) octets rest (λ none. cc) w.0 w.1
 ]
 
+exact_spelled : (count : ℕ) (word octets : List ℕ) (rest : List (List ℕ)) → exact_in count word ≡ Some octets → Spells (octets_exactly count) (string octets) (word ∷ rest) rest
+unfolding exact_in
+exact_spelled count word octets rest e = let is = exactly_is count (decode_of word) octets e in exact count word octets rest is.0 is.1
+
 streams_back : (words : List (List ℕ)) (set least read last : ℕ) (left : Left) → streams_of set least read words ≡ Ok (last, left)
     → (others : List ℕ) × Rising least others × (words ≡ map decimal others) × (with_streams set others ≡ last) × (left.words ≡ [])
 unfolding streams_of
@@ -240,6 +248,9 @@ place_spelled (time_up_to greatest) words read v left e =
 place_spelled (octets_up_to most) words read v left e =
     let one = one_read (octets_in most) string words read v left e in
     spelled_as (octets_up_to most) v (string one.found) words (one.word ∷ left.words) left.words left.words one.value_is one.split refl (octets_spelled most one.word one.found left.words one.fits)
+place_spelled (octets_exactly count) words read v left e =
+    let one = one_read (exact_in count) string words read v left e in
+    spelled_as (octets_exactly count) v (string one.found) words (one.word ∷ left.words) left.words left.words one.value_is one.split refl (exact_spelled count one.word one.found left.words one.fits)
 place_spelled (perhaps least greatest) words read v left e = perhaps_spelled least greatest words read v left e
 place_spelled rising words read v left e = rising_spelled words read v left e
 
@@ -325,8 +336,12 @@ most_slots_small : (b : Bool) → nat_lt (cond b 8 4) (2 ^ 64) ≡ true
 most_slots_small true = refl
 most_slots_small false = refl
 
+rows_of_2_small : (b : Bool) → rows_small (cond b rows_of_2 []) ≡ true
+rows_of_2_small true = refl
+rows_of_2_small false = refl
+
 table_small : (version : ℕ) → rows_small (table version) ≡ true
-table_small version = rw (most_slots_small (nat_eq version 2)) refl
+table_small version = rw (most_slots_small (nat_eq version 2), rows_of_2_small (nat_eq version 2)) refl
 
 pub reads_again : (version : ℕ) (spelled : Spelled) (words : List (List ℕ)) → Found version spelled words → first_row version 0 words ≡ Ok spelled
 reads_again version spelled words found = found_again version 0 spelled words found (row_small spelled.first (table version) found.places (table_small version) found.row)

@@ -1,13 +1,13 @@
 -- The values at the places of a row spell a step, and its numbers keep to their ranges.
-use Rattle.std.proofs.Common.{◌≡◌, ◌^◌, ℕ, Bool, true, false, cond, List, [], ◌∷◌, Option, None, Some, refl, sym, subst, arith, codes, IsSome}
+use Rattle.std.proofs.Common.{◌≡◌, ◌≤◌, ◌^◌, ℕ, Bool, nat_eq, true, false, cond, List, [], ◌∷◌, Option, None, Some, refl, sym, subst, arith, codes, IsSome}
 use Rattle.std.specs.Str.{bytes_eq}
 use Rattle.scenario_text.specs.declared.step.Step.{Step}
-use Rattle.scenario_text.specs.declared.step.Step.TheVariants.{Scenario, Group, Start, Sink, Tuned, Unit, Event, Hear, Air, Inject, Sniff, Drop, Stop, End}
+use Rattle.scenario_text.specs.declared.step.Step.TheVariants.{Scenario, Group, Ident, Start, Sink, Tuned, Unit, Event, Hear, Air, Inject, Sniff, Drop, Stop, End, Source}
 use Rattle.scenario_text.specs.Ranges.{IsInRange}
-use Rattle.scenario_text.specs.Table.{Place, between, framing_word, time_up_to, octets_up_to, perhaps, rising, bits, most_slots, table, row_of}
+use Rattle.scenario_text.specs.Table.{Place, between, framing_word, time_up_to, octets_up_to, octets_exactly, perhaps, rising, bits, most_slots, table, row_of, rows_of_2}
 use Rattle.scenario_text.specs.Reading.{Value, number, maybe, string}
 use Rattle.scenario_text.specs.Lines.{spelling}
-use Rattle.scenario_text.specs.Steps.{scenario_of, group_of, start_of, sink_of, tuned_of, unit_of, hear_of, air_of, inject_of, sniff_of, drop_of, alone, step_named}
+use Rattle.scenario_text.specs.Steps.{scenario_of, group_of, ident_of, source_of, start_of, sink_of, tuned_of, unit_of, hear_of, air_of, inject_of, sniff_of, drop_of, alone, step_named}
 use Rattle.scenario_text.proofs.Places.{Kinds, InPlaces}
 
 -- ---- values of the kinds of a row spell a step
@@ -23,6 +23,14 @@ some_group : (values : List Value) → Kinds group_places values → IsSome (gro
 some_group (number framing ∷ number origin ∷ number delay ∷ number iso ∷ number sdu ∷ number max_sdu ∷ number max_pdu
     ∷ number num_bis ∷ number bn ∷ number nse ∷ number irc ∷ number pto ∷ number sub ∷ number spacing ∷ number phy ∷ []) h = refl
 some_group _ h = absurd h
+
+some_ident : (values : List Value) → Kinds (between 0 1 ∷ octets_exactly 6 ∷ between 0 15 ∷ octets_exactly 3 ∷ []) values → IsSome (ident_of values)
+some_ident (number address_type ∷ string address ∷ number sid ∷ string broadcast_id ∷ []) h = refl
+some_ident _ h = absurd h
+
+some_source : (values : List Value) → Kinds (between 0 1 ∷ []) values → IsSome (source_of values)
+some_source (number source ∷ []) h = refl
+some_source _ h = absurd h
 
 some_start : (greatest : ℕ) (values : List Value) → Kinds (between 0 greatest ∷ []) values → IsSome (start_of values)
 some_start greatest (number first ∷ []) h = refl
@@ -75,6 +83,11 @@ row_or false row places other values here there this others kinds e = others e
 no_row : (places : List Place) (there : Option Step) → None ≡ Some places → IsSome there
 no_row places there e = absurd cc
 
+some_step_of_2 : (b : Bool) (first : List ℕ) (places : List Place) (v : List Value) → Kinds places v → row_of first (cond b rows_of_2 []) ≡ Some places
+    → IsSome (cond (bytes_eq first (codes "source")) (source_of v) None)
+some_step_of_2 true f p v k e = row_or (bytes_eq f (codes "source")) _ p _ v _ _ (some_source v) (no_row p None) k e
+some_step_of_2 false f p v k e = absurd cc
+
 pub some_step : (version : ℕ) (first : List ℕ) (places : List Place) (v : List Value) → Kinds places v → row_of first (table version) ≡ Some places → IsSome (step_named first v)
 some_step version f p v k e =
     row_or (bytes_eq f (codes "scenario")) _ p _ v _ _ (some_scenario v)
@@ -90,12 +103,17 @@ some_step version f p v k e =
     (λ e. row_or (bytes_eq f (codes "sniff")) _ p _ v _ _ (some_sniff v)
     (λ e. row_or (bytes_eq f (codes "drop")) _ p _ v _ _ (some_drop v)
     (λ e. row_or (bytes_eq f (codes "stop")) _ p _ v _ _ (some_alone Stop v)
-    (λ e. row_or (bytes_eq f (codes "end")) _ p _ v _ _ (some_alone End v) (no_row p None) k e) k e) k e) k e) k e) k e) k e) k e) k e) k e) k e) k e) k e) k e
+    (λ e. row_or (bytes_eq f (codes "end")) _ p _ v _ _ (some_alone End v)
+    (λ e. row_or (bytes_eq f (codes "ident")) _ p _ v _ _ (some_ident v) (λ e. some_step_of_2 (nat_eq version 2) f p v k e) k e) k e) k e) k e) k e) k e) k e) k e) k e) k e) k e) k e) k e) k e) k e
 
 -- ---- the ranges
 
 here : (row places : List Place) (values : List Value) → Some row ≡ Some places → InPlaces places values → InPlaces row values
 here row places values e h = let same : row ≡ places = cc in subst (λ (p : List Place). InPlaces p values) (sym same) h
+
+in_range_of_2 : (b : Bool) (source : ℕ) (places : List Place) → row_of (codes "source") (cond b rows_of_2 []) ≡ Some places → InPlaces places (number source ∷ []) → source ≤ 1
+in_range_of_2 true source places e h = let f = here (between 0 1 ∷ []) places _ e h in f.0.1
+in_range_of_2 false source places e h = absurd cc
 
 pub in_range : (version : ℕ) (said : Step) (places : List Place) → row_of (spelling said).first (table version) ≡ Some places → InPlaces places (spelling said).values → IsInRange said
 in_range version (Scenario which) places e h = let f = here _ places _ e h in (f.0.0, f.0.1)
@@ -119,6 +137,7 @@ in_range version (Group framing origin delay iso sdu max_sdu max_pdu num_bis bn 
       spacing_is = omega arith;
       phy_is = omega arith;
     }
+in_range version (Ident address_type address sid broadcast_id) places e h = let f = here _ places _ e h in (f.0.1, f.1.0, f.1.1.0.1, f.1.1.1.0)
 in_range version (Start first) places e h = let f = here (between 0 549755813887 ∷ []) places _ e h in omega arith
 in_range version (Sink sink streams slots mtu) places e h = let f = here _ places _ e h in f.0.1
 in_range version (Tuned sink which) places e h = let f = here _ places _ e h in f.0.1
@@ -131,3 +150,4 @@ in_range version (Sniff back bis subevent) places e h = let f = here _ places _ 
 in_range version (Drop sink) places e h = let f = here _ places _ e h in f.0.1
 in_range version Stop places e h = tt
 in_range version End places e h = tt
+in_range version (Source source) places e h = in_range_of_2 (nat_eq version 2) source places e h

@@ -3,10 +3,10 @@ use Rattle.std.proofs.Common.{◌≡◌, ℕ, Bool, true, false, cond, List, [],
 use Rattle.std.specs.Str.{bytes_eq}
 use Rattle.std.proofs.lemmas.Slice.Eq.{bytes_eq-Decides}
 use Rattle.scenario_text.specs.declared.step.Step.{Step}
-use Rattle.scenario_text.specs.declared.step.Step.TheVariants.{Scenario, Group, Start, Sink, Tuned, Unit, Event, Hear, Air, Inject, Sniff, Drop, Stop, End}
+use Rattle.scenario_text.specs.declared.step.Step.TheVariants.{Scenario, Group, Ident, Start, Sink, Tuned, Unit, Event, Hear, Air, Inject, Sniff, Drop, Stop, End, Source}
 use Rattle.scenario_text.specs.Reading.{Value, number, maybe, string, Spelled}
 use Rattle.scenario_text.specs.Lines.{spelling}
-use Rattle.scenario_text.specs.Steps.{scenario_of, group_of, start_of, sink_of, tuned_of, unit_of, hear_of, air_of, inject_of, sniff_of, drop_of, alone, step_named, step_of}
+use Rattle.scenario_text.specs.Steps.{scenario_of, group_of, ident_of, source_of, start_of, sink_of, tuned_of, unit_of, hear_of, air_of, inject_of, sniff_of, drop_of, alone, step_named, step_of}
 
 -- ---- a step has its spelling
 
@@ -14,6 +14,7 @@ pub step_spelled : (said : Step) → step_of (spelling said) ≡ Some said
 unfolding step_of
 step_spelled (Scenario version) = refl
 step_spelled (Group framing origin delay iso sdu max_sdu max_pdu num_bis bn nse irc pto sub spacing phy) = refl
+step_spelled (Ident address_type address sid broadcast_id) = refl
 step_spelled (Start first) = refl
 step_spelled (Sink sink streams slots mtu) = refl
 step_spelled (Tuned sink which) = refl
@@ -26,6 +27,7 @@ step_spelled (Sniff back bis subevent) = refl
 step_spelled (Drop sink) = refl
 step_spelled Stop = refl
 step_spelled End = refl
+step_spelled (Source source) = refl
 
 abbrev spelled_as : List ℕ → List Value → Spelled
 spelled_as first values = record { first = first; values = values }
@@ -46,6 +48,14 @@ group_is (number framing ∷ number origin ∷ number delay ∷ number iso ∷ n
     ∷ number num_bis ∷ number bn ∷ number nse ∷ number irc ∷ number pto ∷ number sub ∷ number spacing ∷ number phy ∷ []) said e =
     so (Group framing origin delay iso sdu max_sdu max_pdu num_bis bn nse irc pto sub spacing phy) said _ e refl
 group_is _ said e = absurd cc
+
+ident_is : (values : List Value) (said : Step) → ident_of values ≡ Some said → spelling said ≡ spelled_as (codes "ident") values
+ident_is (number address_type ∷ string address ∷ number sid ∷ string broadcast_id ∷ []) said e = so (Ident address_type address sid broadcast_id) said _ e refl
+ident_is _ said e = absurd cc
+
+source_is : (values : List Value) (said : Step) → source_of values ≡ Some said → spelling said ≡ spelled_as (codes "source") values
+source_is (number source ∷ []) said e = so (Source source) said _ e refl
+source_is _ said e = absurd cc
 
 start_is : (values : List Value) (said : Step) → start_of values ≡ Some said → spelling said ≡ spelled_as (codes "start") values
 start_is (number first ∷ []) said e = so (Start first) said _ e refl
@@ -106,5 +116,6 @@ named_is f v s e =
     (λ e. or_else f (codes "sink") v _ _ s (sink_is v s) (λ e. or_else f (codes "tuned") v _ _ s (tuned_is v s) (λ e. or_else f (codes "unit") v _ _ s (unit_is v s)
     (λ e. or_else f (codes "event") v _ _ s (alone_is Event s v refl) (λ e. or_else f (codes "hear") v _ _ s (hear_is v s) (λ e. or_else f (codes "air") v _ _ s (air_is v s)
     (λ e. or_else f (codes "inject") v _ _ s (inject_is v s) (λ e. or_else f (codes "sniff") v _ _ s (sniff_is v s) (λ e. or_else f (codes "drop") v _ _ s (drop_is v s)
-    (λ e. or_else f (codes "stop") v _ _ s (alone_is Stop s v refl) (λ e. or_else f (codes "end") v _ _ s (alone_is End s v refl) (λ e. absurd cc)
-    e) e) e) e) e) e) e) e) e) e) e) e) e) e
+    (λ e. or_else f (codes "stop") v _ _ s (alone_is Stop s v refl) (λ e. or_else f (codes "end") v _ _ s (alone_is End s v refl) (λ e. or_else f (codes "ident") v _ _ s (ident_is v s)
+    (λ e. or_else f (codes "source") v _ _ s (source_is v s) (λ e. absurd cc)
+    e) e) e) e) e) e) e) e) e) e) e) e) e) e) e) e

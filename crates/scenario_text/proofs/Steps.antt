@@ -4,7 +4,7 @@ use Rattle.std.specs.Prelude.{IfOk, IfSome, IfNone}
 use Rattle.scenario_text.specs.declared.fault.LineFault.{LineFault}
 use Rattle.scenario_text.specs.declared.fault.LineFault.TheVariants.{BadLine, NotBuilt, Memory}
 use Rattle.scenario_text.specs.declared.step.Step.{Step}
-use Rattle.scenario_text.specs.declared.step.Step.TheVariants.{Scenario, Group, Start, Sink, Tuned, Unit, Event, Hear, Air, Inject, Sniff, Drop, Stop, End}
+use Rattle.scenario_text.specs.declared.step.Step.TheVariants.{Scenario, Group, Ident, Start, Sink, Tuned, Unit, Event, Hear, Air, Inject, Sniff, Drop, Stop, End, Source}
 use Rattle.scenario_text.specs.Ranges.{IsInRange}
 use Rattle.scenario_text.specs.Words.{words_of, onto_first}
 use Rattle.scenario_text.specs.Reading.{Spelled, Gives, ◌>>=◌, spelled_by, reading}
@@ -26,6 +26,7 @@ one_step a b e = some_is a b (sym (step_spelled a) ∙ (ap step_of e ∙ step_sp
 no_comment : (said : Step) → get_or (spelling said).first 0 0 ≡ 35 → ⊥
 no_comment (Scenario version) e = omega arith
 no_comment (Group framing origin delay iso sdu max_sdu max_pdu num_bis bn nse irc pto sub spacing phy) e = omega arith
+no_comment (Ident address_type address sid broadcast_id) e = omega arith
 no_comment (Start first) e = omega arith
 no_comment (Sink sink streams slots mtu) e = omega arith
 no_comment (Tuned sink which) e = omega arith
@@ -38,10 +39,12 @@ no_comment (Sniff back bis subevent) e = omega arith
 no_comment (Drop sink) e = omega arith
 no_comment Stop e = omega arith
 no_comment End e = omega arith
+no_comment (Source source) e = omega arith
 
 not_empty : (said : Step) → (spelling said).first ≡ [] → ⊥
 not_empty (Scenario version) e = absurd cc
 not_empty (Group framing origin delay iso sdu max_sdu max_pdu num_bis bn nse irc pto sub spacing phy) e = absurd cc
+not_empty (Ident address_type address sid broadcast_id) e = absurd cc
 not_empty (Start first) e = absurd cc
 not_empty (Sink sink streams slots mtu) e = absurd cc
 not_empty (Tuned sink which) e = absurd cc
@@ -54,6 +57,7 @@ not_empty (Sniff back bis subevent) e = absurd cc
 not_empty (Drop sink) e = absurd cc
 not_empty Stop e = absurd cc
 not_empty End e = absurd cc
+not_empty (Source source) e = absurd cc
 
 refused : (b : Bool) → (b ≡ true → ⊥) → b ≡ false
 refused true h = absurd (h refl)

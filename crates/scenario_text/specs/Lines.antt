@@ -2,9 +2,9 @@
 use Rattle.std.specs.Prelude.{◌≡◌, ◌≢◌, ◌≤◌, ◌+◌, ℕ, List, [], ◌∷◌, length, map, ⊤, Option, None, Some, Ok, codes, decimal}
 use Rattle.hex.specs.Hex.{decode_of}
 use Rattle.scenario_text.specs.Words.{words_of}
-use Rattle.scenario_text.specs.Table.{Place, between, framing_word, time_up_to, octets_up_to, perhaps, rising, table, row_of}
+use Rattle.scenario_text.specs.Table.{Place, between, framing_word, time_up_to, octets_up_to, octets_exactly, perhaps, rising, table, row_of}
 use Rattle.scenario_text.specs.declared.step.Step.{Step}
-use Rattle.scenario_text.specs.declared.step.Step.TheVariants.{Scenario, Group, Start, Sink, Tuned, Unit, Event, Hear, Air, Inject, Sniff, Drop, Stop, End}
+use Rattle.scenario_text.specs.declared.step.Step.TheVariants.{Scenario, Group, Ident, Start, Sink, Tuned, Unit, Event, Hear, Air, Inject, Sniff, Drop, Stop, End, Source}
 use Rattle.scenario_text.specs.Reading.{Value, number, maybe, string, Spelled, with_stream, comment}
 
 -- the first word of a step's line, and its values in the order of the line
@@ -14,6 +14,10 @@ spelling (Group framing origin delay iso sdu max_sdu max_pdu num_bis bn nse irc 
   first = codes "group";
   values = number framing ∷ number origin ∷ number delay ∷ number iso ∷ number sdu ∷ number max_sdu ∷ number max_pdu
       ∷ number num_bis ∷ number bn ∷ number nse ∷ number irc ∷ number pto ∷ number sub ∷ number spacing ∷ number phy ∷ [];
+}
+spelling (Ident address_type address sid broadcast_id) = record {
+  first = codes "ident";
+  values = number address_type ∷ string address ∷ number sid ∷ string broadcast_id ∷ [];
 }
 spelling (Start first) = record { first = codes "start"; values = number first ∷ [] }
 spelling (Sink sink streams slots mtu) = record {
@@ -36,6 +40,7 @@ spelling (Sniff back bis subevent) = record { first = codes "sniff"; values = nu
 spelling (Drop sink) = record { first = codes "drop"; values = number sink ∷ [] }
 spelling Stop = record { first = codes "stop"; values = [] }
 spelling End = record { first = codes "end"; values = [] }
+spelling (Source source) = record { first = codes "source"; values = number source ∷ [] }
 
 abbrev pub spelling_of : Option Step → Option Spelled
 spelling_of None = None
@@ -63,6 +68,8 @@ pub data Spells : Place → Value → List (List ℕ) → List (List ℕ) → Ty
   no_octets : (most : ℕ) (rest : List (List ℕ)) → Spells (octets_up_to most) (string []) (codes "-" ∷ rest) rest
   pairs : (most : ℕ) (word octets : List ℕ) (rest : List (List ℕ)) → word ≢ [] → decode_of word ≡ Ok octets → length octets ≤ most
       → Spells (octets_up_to most) (string octets) (word ∷ rest) rest
+  exact : (count : ℕ) (word octets : List ℕ) (rest : List (List ℕ)) → decode_of word ≡ Ok octets → length octets ≡ count
+      → Spells (octets_exactly count) (string octets) (word ∷ rest) rest
   left_out : (least greatest : ℕ) → Spells (perhaps least greatest) (maybe None) [] []
   given : (least greatest n : ℕ) (rest : List (List ℕ)) → least ≤ n → n ≤ greatest
       → Spells (perhaps least greatest) (maybe (Some n)) (decimal n ∷ rest) rest

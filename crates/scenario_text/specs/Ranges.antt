@@ -1,8 +1,8 @@
 -- What the numbers of a step keep to, whatever its line: the ranges of the scenario language, which for a group are
 -- the widths of the BIGInfo (Core 5.2, volume 6 part B, section 4.4.6.11).
-use Rattle.std.specs.Prelude.{ℕ, ◌≤◌, ◌<◌, ◌^◌, ⊤, length}
+use Rattle.std.specs.Prelude.{ℕ, ◌≡◌, ◌≤◌, ◌<◌, ◌^◌, ⊤, length}
 use Rattle.scenario_text.specs.declared.step.Step.{Step}
-use Rattle.scenario_text.specs.declared.step.Step.TheVariants.{Scenario, Group, Start, Sink, Tuned, Unit, Event, Hear, Air, Inject, Sniff, Drop, Stop, End}
+use Rattle.scenario_text.specs.declared.step.Step.TheVariants.{Scenario, Group, Ident, Start, Sink, Tuned, Unit, Event, Hear, Air, Inject, Sniff, Drop, Stop, End, Source}
 
 pub record GroupRanges (framing origin delay iso sdu max_sdu max_pdu num_bis bn nse irc pto sub spacing phy : ℕ) : Type 0 where
   pub framing_is : framing ≤ 1
@@ -27,6 +27,7 @@ abbrev pub IsInRange : Step → Type 0
 IsInRange (Scenario version) = (1 ≤ version) × (version ≤ 2)
 IsInRange (Group framing origin delay iso sdu max_sdu max_pdu num_bis bn nse irc pto sub spacing phy) =
     GroupRanges framing origin delay iso sdu max_sdu max_pdu num_bis bn nse irc pto sub spacing phy
+IsInRange (Ident address_type address sid broadcast_id) = (address_type ≤ 1) × (length address ≡ 6) × (sid ≤ 15) × (length broadcast_id ≡ 3)
 IsInRange (Start first) = first < 2 ^ 39
 IsInRange (Sink sink streams slots mtu) = sink ≤ 7
 IsInRange (Tuned sink which) = sink ≤ 7
@@ -39,3 +40,4 @@ IsInRange (Sniff back bis subevent) = (back ≤ 31) × (subevent ≤ 30)
 IsInRange (Drop sink) = sink ≤ 7
 IsInRange Stop = ⊤
 IsInRange End = ⊤
+IsInRange (Source source) = source ≤ 1

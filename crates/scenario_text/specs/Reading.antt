@@ -7,7 +7,7 @@ use Rattle.hex.specs.declared.error.FromHexError.{FromHexError}
 use Rattle.scenario_text.specs.declared.fault.LineFault.{LineFault}
 use Rattle.scenario_text.specs.declared.fault.LineFault.TheVariants.{BadLine, NotBuilt, Memory}
 use Rattle.scenario_text.specs.Words.{words_of}
-use Rattle.scenario_text.specs.Table.{Place, between, framing_word, time_up_to, octets_up_to, perhaps, rising, table, row_of, is_later}
+use Rattle.scenario_text.specs.Table.{Place, between, framing_word, time_up_to, octets_up_to, octets_exactly, perhaps, rising, table, row_of, is_later}
 
 -- the value of a place: a number, a number or none, octets
 pub data Value : Type 0 where
@@ -76,6 +76,13 @@ unfoldable pub octets_in : ℕ → List ℕ → Option (List ℕ)
 octets_in most [] = None
 octets_in most (c ∷ word) = if bytes_eq (c ∷ word) (codes "-") then Some [] else within most (decode_of (c ∷ word))
 
+abbrev pub exactly : ℕ → Result (List ℕ) FromHexError → Option (List ℕ)
+exactly count (Ok bytes) = if length bytes == count then Some bytes else None
+exactly count (Err e) = None
+
+unfoldable pub exact_in : ℕ → List ℕ → Option (List ℕ)
+exact_in count word = exactly count (decode_of word)
+
 -- ---- the words that are left
 
 -- a word that fits is read, and one that doesn't has the number of words before it
@@ -117,6 +124,7 @@ at_place (between least greatest) left = as_value number (next (decimal_in least
 at_place framing_word left = as_value number (next framing_in left)
 at_place (time_up_to greatest) left = as_value maybe (next (time_in greatest) left)
 at_place (octets_up_to most) left = as_value string (next (octets_in most) left)
+at_place (octets_exactly count) left = as_value string (next (exact_in count) left)
 at_place (perhaps least greatest) left = as_value maybe (perhaps_of least greatest left.read left.words)
 at_place rising left = as_value number (rising_of left)
 

@@ -3,7 +3,7 @@
 use Rattle.std.specs.Prelude.{ℕ, if◌then◌else◌, List, [], ◌∷◌, Option, None, Some, Result, Ok, Err, codes, bytes_eq}
 use Rattle.scenario_text.specs.declared.fault.LineFault.{LineFault}
 use Rattle.scenario_text.specs.declared.step.Step.{Step}
-use Rattle.scenario_text.specs.declared.step.Step.TheVariants.{Scenario, Group, Start, Sink, Tuned, Unit, Event, Hear, Air, Inject, Sniff, Drop, Stop, End}
+use Rattle.scenario_text.specs.declared.step.Step.TheVariants.{Scenario, Group, Ident, Start, Sink, Tuned, Unit, Event, Hear, Air, Inject, Sniff, Drop, Stop, End, Source}
 use Rattle.scenario_text.specs.Reading.{Value, number, maybe, string, Spelled, reading}
 
 -- ---- the steps by their values
@@ -17,6 +17,15 @@ group_of (number framing ∷ number origin ∷ number delay ∷ number iso ∷ n
     ∷ number num_bis ∷ number bn ∷ number nse ∷ number irc ∷ number pto ∷ number sub ∷ number spacing ∷ number phy ∷ []) =
     Some (Group framing origin delay iso sdu max_sdu max_pdu num_bis bn nse irc pto sub spacing phy)
 group_of _ = None
+
+abbrev pub ident_of : List Value → Option Step
+ident_of (number address_type ∷ string address ∷ number sid ∷ string broadcast_id ∷ []) =
+    Some (Ident address_type address sid broadcast_id)
+ident_of _ = None
+
+abbrev pub source_of : List Value → Option Step
+source_of (number source ∷ []) = Some (Source source)
+source_of _ = None
 
 abbrev pub start_of : List Value → Option Step
 start_of (number first ∷ []) = Some (Start first)
@@ -78,6 +87,8 @@ step_named first values =
     else if bytes_eq first (codes "drop") then drop_of values
     else if bytes_eq first (codes "stop") then alone Stop values
     else if bytes_eq first (codes "end") then alone End values
+    else if bytes_eq first (codes "ident") then ident_of values
+    else if bytes_eq first (codes "source") then source_of values
     else None
 
 -- the step that a first word and values spell; None where they spell none

@@ -11,6 +11,8 @@ pub data Place : Type 0 where
   time_up_to : ℕ → Place
   -- octets as pairs of hexadecimal digits of either case, or `-` for none: at most so many
   octets_up_to : ℕ → Place
+  -- exactly so many octets as pairs of hexadecimal digits of either case
+  octets_exactly : ℕ → Place
   -- as the last place: a decimal from a least to a greatest number, or no word
   perhaps : ℕ → ℕ → Place
   -- as the last place: one word or more, decimals from 1 to 31 of which each is above the one before
@@ -41,6 +43,10 @@ subevent = between 0 30
 abbrev pub most_slots : ℕ → ℕ
 most_slots version = if version == 2 then 8 else 4
 
+-- the lines of version 2 alone
+abbrev pub rows_of_2 : List Row
+rows_of_2 = record { first = codes "source"; places = between 0 1 ∷ [] } ∷ []
+
 abbrev pub table : ℕ → List Row
 table version =
     record { first = codes "scenario"; places = between 1 2 ∷ [] }
@@ -62,7 +68,8 @@ table version =
     ∷ record { first = codes "drop"; places = sink ∷ [] }
     ∷ record { first = codes "stop"; places = [] }
     ∷ record { first = codes "end"; places = [] }
-    ∷ []
+    ∷ record { first = codes "ident"; places = between 0 1 ∷ octets_exactly 6 ∷ between 0 15 ∷ octets_exactly 3 ∷ [] }
+    ∷ (if version == 2 then rows_of_2 else [])
 
 -- the places of the row with this first word
 abbrev pub row_of : List ℕ → List Row → Option (List Place)
@@ -76,7 +83,7 @@ is_among word (other ∷ others) = bytes_eq word other || is_among word others
 -- the first words of the lines that have no row yet, those of both versions and those of version 2 alone
 abbrev pub later_words : List (List ℕ)
 later_words =
-    codes "ident" ∷ codes "subgroup" ∷ codes "meta" ∷ codes "bis" ∷ codes "cipher" ∷ codes "pac" ∷ codes "locate"
+    codes "subgroup" ∷ codes "meta" ∷ codes "bis" ∷ codes "cipher" ∷ codes "pac" ∷ codes "locate"
     ∷ codes "context" ∷ codes "announce" ∷ codes "train" ∷ codes "write" ∷ codes "add" ∷ codes "modify"
     ∷ codes "remove" ∷ codes "code" ∷ codes "serve" ∷ codes "tell" ∷ codes "read" ∷ codes "drain" ∷ codes "show"
     ∷ codes "lose" ∷ codes "terminate" ∷ codes "control" ∷ codes "forge" ∷ []
@@ -84,7 +91,7 @@ later_words =
 abbrev pub later_words_of_2 : List (List ℕ)
 later_words_of_2 =
     codes "assist" ∷ codes "apart" ∷ codes "awrite" ∷ codes "aserve" ∷ codes "atell" ∷ codes "aread"
-    ∷ codes "adrain" ∷ codes "ashow" ∷ codes "source" ∷ codes "relay" ∷ []
+    ∷ codes "adrain" ∷ codes "ashow" ∷ codes "relay" ∷ []
 
 abbrev pub is_later : ℕ → List ℕ → Bool
 is_later version first = is_among first later_words || (if version == 2 then is_among first later_words_of_2 else false)

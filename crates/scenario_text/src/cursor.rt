@@ -1,10 +1,10 @@
 ghost use Rattle.std.specs.Prelude.{◌≡◌, ◌≤◌, ◌^◌, ◌<◌, ◌+◌, ◌-◌, ◌∷◌, ℕ, List, [], Some, None, length, IfOk, IfSome, IsTrue, ◌≢◌, ◌↔◌};
-ghost use Rattle.scenario_text.specs.Reading.{GivesNext, Fails, Left, next, word_in, decimal_in, framing_in, time_in, octets_in, perhaps_of, rising_of, with_stream as stream_in, ended};
+ghost use Rattle.scenario_text.specs.Reading.{GivesNext, Fails, Left, next, word_in, decimal_in, framing_in, time_in, octets_in, exact_in, perhaps_of, rising_of, with_stream as stream_in, ended};
 ghost use Rattle.scenario_text.specs.Words.{words_of};
 ghost use Rattle.scenario_text.specs.Rests.{words_after, octets_after};
 
 use crate::fault::LineFault;
-use crate::word::{decimal_within, framing_of, octets_of, time_of};
+use crate::word::{array_of, decimal_within, framing_of, octets_of, time_of};
 use bcast_base::{Bis, BisSet, Octets};
 use memchr::memchr;
 use std::alloc::Global;
@@ -191,6 +191,20 @@ impl<'a> Cursor<'a> {
     {
         let word = self.word()?;
         match octets_of(alloc, word, most)? {
+            Some(octets) => Ok(octets),
+            None => Err(self.misfit()),
+        }
+    }
+
+    /// Exactly `N` octets as pairs of hexadecimal digits.
+    #[tactic(auto, using(crate::proofs::NextWords::fits, crate::proofs::NextWords::misfits, crate::proofs::OneWord::exact_length))]
+    pub fn array<const N: usize>(&mut self) -> Result<[u8; N], LineFault>
+        requires { 0 < N }
+        ensures range { IfOk result (λ octets. length octets ≡ N) }
+        ensures gives { GivesNext (λ n. n) result self.new (next (exact_in N) self.old) }
+    {
+        let word = self.word()?;
+        match array_of(word) {
             Some(octets) => Ok(octets),
             None => Err(self.misfit()),
         }

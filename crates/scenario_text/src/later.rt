@@ -2,8 +2,7 @@ ghost use Rattle.std.specs.Prelude.{◌≡◌, map};
 ghost use Rattle.scenario_text.specs.Table.{is_among as among, is_later};
 
 /// The first words of the lines of both versions that are not built yet.
-const LATER: [&[u8]; 24] = [
-    b"ident",
+const LATER: [&[u8]; 23] = [
     b"subgroup",
     b"meta",
     b"bis",
@@ -30,9 +29,8 @@ const LATER: [&[u8]; 24] = [
 ];
 
 /// The first words of the lines of version 2 alone, none of which is built yet.
-const LATER_IN_VERSION_2: [&[u8]; 10] = [
-    b"assist", b"apart", b"awrite", b"aserve", b"atell", b"aread", b"adrain", b"ashow", b"source",
-    b"relay",
+const LATER_IN_VERSION_2: [&[u8]; 9] = [
+    b"assist", b"apart", b"awrite", b"aserve", b"atell", b"aread", b"adrain", b"ashow", b"relay",
 ];
 
 /// Whether the word is one of these.

@@ -123,6 +123,12 @@ fn named(alloc: Global, version: u8, name: &[u8], words: &mut Cursor<'_>) -> Res
     if name == b"end".as_slice() {
         return Ok(Step::End);
     }
+    if name == b"ident".as_slice() {
+        return ident(words);
+    }
+    if version == 2 && name == b"source".as_slice() {
+        return source(words);
+    }
     if is_of_the_language(version, name) {
         return Err(LineFault::NotBuilt);
     }
@@ -158,6 +164,27 @@ fn group(words: &mut Cursor<'_>) -> Result<Step, LineFault>
         spacing: words.bits(20)?,
         phy: words.bits(3)? as u8,
     })
+}
+
+fn ident(words: &mut Cursor<'_>) -> Result<Step, LineFault>
+    ensures in_range { IfOk result IsInRange }
+    ensures gives { GivesNext spelling result words.new (at_line 1 (codes "ident") words.old) }
+{
+    Ok(Step::Ident {
+        address_type: words.octet(0, 1)?,
+        address: words.array()?,
+        sid: words.octet(0, 15)?,
+        broadcast_id: words.array()?,
+    })
+}
+
+/// A line of version 2.
+fn source(words: &mut Cursor<'_>) -> Result<Step, LineFault>
+    ensures in_range { IfOk result IsInRange }
+    ensures gives { GivesNext spelling result words.new (at_line 2 (codes "source") words.old) }
+{
+    let source = words.octet(0, 1)?;
+    Ok(Step::Source { source })
 }
 
 fn start(words: &mut Cursor<'_>) -> Result<Step, LineFault>

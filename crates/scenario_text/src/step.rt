@@ -26,6 +26,14 @@ pub enum Step {
         spacing: u32,
         phy: u8,
     },
+    /// Who the source is: address type 0 public or 1 random, address, advertising set and Broadcast_ID, with the octets
+    /// of both in the order in which they are sent.
+    Ident {
+        address_type: u8,
+        address: [u8; 6],
+        sid: u8,
+        broadcast_id: [u8; 3],
+    },
     /// Starts the source with this first event.
     Start {
         first: u64,
@@ -85,4 +93,8 @@ pub enum Step {
     Stop,
     /// Ends the scenario.
     End,
+    /// Chooses the source that later lines mean.
+    Source {
+        source: u8,
+    },
 }

@@ -1,5 +1,5 @@
-ghost use Rattle.std.specs.Prelude.{◌≡◌, ◌≤◌, IfOk};
-ghost use Rattle.scenario_text.specs.Reading.{decimal_in, framing_in, time_in, octets_in};
+ghost use Rattle.std.specs.Prelude.{◌≡◌, ◌≤◌, ◌<◌, IfOk};
+ghost use Rattle.scenario_text.specs.Reading.{decimal_in, framing_in, time_in, octets_in, exact_in};
 
 use crate::decimal::decimal;
 use crate::digits::decodes;
@@ -68,4 +68,19 @@ pub fn octets_of(alloc: Global, word: &[u8], most: usize) -> Result<Option<Octet
         return Ok(None);
     }
     Ok(Some(Octets::of(octets)))
+}
+
+/// Exactly `N` octets as pairs of hexadecimal digits.
+pub fn array_of<const N: usize>(word: &[u8]) -> Option<[u8; N]>
+    requires { 0 < N }
+    ensures { result ≡ exact_in N word.now }
+{
+    if word.len() / 2 != N {
+        return None;
+    }
+    let mut octets = [0; N];
+    if !decodes(word, &mut octets) {
+        return None;
+    }
+    Some(octets)
 }

@@ -9,7 +9,7 @@ use Rattle.isoal_base.specs.declared.hearing.Hearing.{Hearing}
 use Rattle.isoal_base.specs.declared.hearing.Hearing.TheVariants.{NotOnGroup, NotTaken, NoNumber, Heard}
 use Rattle.unit_outlets.specs.Handed.{Handed, valid, lost}
 use Rattle.transcript_text.specs.declared.refusal.Refusal.{Refusal}
-use Rattle.transcript_text.specs.declared.refusal.Refusal.TheVariants.{TextTooLong, LineTooLong, BadLine, NotBuilt, AfterEnd, Order, BadGroup, NoSuchSink, SinkTwice, NoOutlet}
+use Rattle.transcript_text.specs.declared.refusal.Refusal.TheVariants.{TextTooLong, LineTooLong, BadLine, NotBuilt, AfterEnd, Order, BadGroup, IdentTwice, NoSuchSink, SinkTwice, NoOutlet}
 use Rattle.transcript_text.specs.declared.refusal.Refusal.TheVariants.{NoSuchBis, UnitTooLong, TimeOrder, Backlog, NoSuchSubevent, NotOnAir, CounterEnds, NoEnd}
 
 -- the octet between two words, and the one that ends a line
@@ -91,6 +91,7 @@ refusal_name NotBuilt = codes "NotBuilt"
 refusal_name AfterEnd = codes "AfterEnd"
 refusal_name Order = codes "Order"
 refusal_name (BadGroup fault) = codes "BadGroup"
+refusal_name IdentTwice = codes "IdentTwice"
 refusal_name NoSuchSink = codes "NoSuchSink"
 refusal_name SinkTwice = codes "SinkTwice"
 refusal_name NoOutlet = codes "NoOutlet"

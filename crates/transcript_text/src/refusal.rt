@@ -23,6 +23,8 @@ pub enum Refusal {
     Order,
     /// The numbers of the group don't go together.
     BadGroup { fault: GroupFault },
+    /// The other source was started with the same address type, advertising set and Broadcast_ID.
+    IdentTwice,
     /// No sink of this number lives.
     NoSuchSink,
     /// A sink of this number lives already.
@@ -59,6 +61,7 @@ fn name_of(reason: Refusal) -> &'static [u8]
         Refusal::AfterEnd => b"AfterEnd",
         Refusal::Order => b"Order",
         Refusal::BadGroup { .. } => b"BadGroup",
+        Refusal::IdentTwice => b"IdentTwice",
         Refusal::NoSuchSink => b"NoSuchSink",
         Refusal::SinkTwice => b"SinkTwice",
         Refusal::NoOutlet => b"NoOutlet",

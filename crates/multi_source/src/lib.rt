@@ -1,0 +1,6 @@
+//! Sources with the air that each is heard through: one of a scenario, and two side by side.
+#![tactic(auto)]
+
+mod broadcast;
+
+pub use broadcast::Broadcast;
