@@ -8,6 +8,7 @@ mod Packings
 mod Rings
 mod Runs
 mod Senders
+mod Sends
 mod Stays
 mod Struck
 mod Walks

@@ -119,7 +119,7 @@ order_less from laid closed (unit ∷ units) less order = (
 )
 
 -- behind a unit's numbers it has no segments
-carried_past : (first number : ℕ) (offset : Option ℕ) (segments : List (List ℕ)) (whole : Bool) → first + length segments ≤ number → carried first offset segments whole number ≡ []
+pub carried_past : (first number : ℕ) (offset : Option ℕ) (segments : List (List ℕ)) (whole : Bool) → first + length segments ≤ number → carried first offset segments whole number ≡ []
 carried_past first number offset [] whole past = refl
 carried_past first number offset (octets ∷ segments) whole past =
     carried_later first number offset octets segments whole (omega arith) ∙ carried_past (first + 1) number None segments whole (omega arith)

@@ -26,7 +26,7 @@ joined_fits max_sdu bis time octets fits =
     )
 
 -- the segments that a number carries
-carried_here : (from : ℕ) (offset : Option ℕ) (octets : List ℕ) (segments : List (List ℕ)) (whole : Bool)
+pub carried_here : (from : ℕ) (offset : Option ℕ) (octets : List ℕ) (segments : List (List ℕ)) (whole : Bool)
     → carried from offset (octets ∷ segments) whole from ≡ part_with offset (whole && is_last segments) octets ∷ []
 carried_here from offset octets segments whole =
     cond-true (eqb from from) (part_with offset (whole && is_last segments) octets ∷ []) (carried (from + 1) None segments whole from) (eq-eqb from from refl)
@@ -37,7 +37,7 @@ carried_later from number offset octets segments whole after =
     cond-false (eqb from number) (part_with offset (whole && is_last segments) octets ∷ []) (carried (from + 1) None segments whole number)
     (ne_eqb from number (λ same. omega arith))
 
-carried_before : (from number : ℕ) (offset : Option ℕ) (segments : List (List ℕ)) (whole : Bool) → number < from → carried from offset segments whole number ≡ []
+pub carried_before : (from number : ℕ) (offset : Option ℕ) (segments : List (List ℕ)) (whole : Bool) → number < from → carried from offset segments whole number ≡ []
 carried_before from number offset [] whole before = refl
 carried_before from number offset (octets ∷ segments) whole before =
     cond-false (eqb from number) (part_with offset (whole && is_last segments) octets ∷ []) (carried (from + 1) None segments whole number)

@@ -2,6 +2,7 @@ pub mod Air
 pub mod Calls
 pub mod Histories
 pub mod Places
+pub mod Sends
 pub mod State
 pub mod Struck
 pub mod Tokens

@@ -17,7 +17,9 @@ mod run;
 mod store;
 mod stream;
 
-pub use air_laws::{a_sender_lays_a_framed_air, one_framed_air, worked_events};
+pub use air_laws::{
+    a_framed_air_sends_units, a_sender_lays_a_framed_air, one_framed_air, worked_events,
+};
 pub use framed_in::FramedIn;
 pub use framed_out::FramedOut;
 pub use in_call::InCall;
