@@ -1,15 +1,13 @@
 //! What holds of every line, whatever reads it.
 ghost use Rattle.std.specs.Prelude.{◌≡◌, ◌↔◌, ℕ, List, Some, None, Ok};
 ghost use Rattle.scenario_text.specs.Ranges.{IsInRange};
-ghost use Rattle.scenario_text.specs.Reading.{Spelled};
-ghost use Rattle.scenario_text.specs.Lines.{spelling, LineIs, IsBlank};
-ghost use Rattle.scenario_text.specs.Steps.{step_of, read_of};
+ghost use Rattle.scenario_text.specs.Lines.{LineIs, IsBlank};
+ghost use Rattle.scenario_text.specs.Steps.{read_of};
 ghost use Rattle.scenario_text.specs.declared.step.Step.{Step};
 
 /// A line reads as the step that it says and as no other, within its ranges; it reads as none exactly where it is empty
 /// or a comment.
 pub fn a_line_says_one_step()
-    ensures spelled { (spelled : Spelled) (step : Step) → (step_of spelled ≡ Some step) ↔ (spelling step ≡ spelled) }
     ensures says { (version : ℕ) (line : List ℕ) (step : Step) → LineIs version step line ↔ (read_of version line ≡ Ok (Some step)) }
     ensures one { (version : ℕ) (line : List ℕ) (this that : Step) → LineIs version this line → LineIs version that line → this ≡ that }
     ensures in_range { (version : ℕ) (line : List ℕ) (step : Step) → read_of version line ≡ Ok (Some step) → IsInRange step }
