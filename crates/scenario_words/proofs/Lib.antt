@@ -7,3 +7,4 @@ pub mod OneWord
 pub mod Streams
 pub mod WishWords
 pub mod Spelling
+pub mod Fitting

@@ -1,5 +1,5 @@
 -- One place of a line: what is read is spelled so, and what is spelled so is read. Upper crates may cite `place_spelled`,
--- `place_again` and `is_small`.
+-- `place_again`, `word_spelled`, `word_again` and `is_small`.
 use Rattle.std.proofs.Common.{◌≡◌, ◌≢◌, ◌≤◌, ◌<◌, ℕ, zero, suc, ◌+◌, ◌^◌, Bool, true, false, cond, nat_lt, nat_le, List, [], ◌∷◌, ◌++◌, length, map, Option, None, Some, Result, Ok, Err, refl, ap, sym, subst, ◌∙◌, arith, decimal, ◌⊎◌, inl, inr, codes, get_or, ◌/◌}
 use Rattle.std.specs.Prelude.{is_none}
 use Rattle.std.specs.Str.{bytes_eq}
@@ -69,7 +69,7 @@ list_again most octets word h are = let this : octets_in most word ≡ Some octe
 decimal_again : (least greatest n : ℕ) (word : List ℕ) → nat_lt greatest (2 ^ 64) ≡ true → word ≡ decimal n → least ≤ n → n ≤ greatest → decimal_in least greatest word ≡ Some n
 decimal_again least greatest n word small e low high = decimal_fits least greatest n word (omega (arith, ltb-true greatest (2 ^ 64) small)) e low high
 
-word_again : (place : WordPlace) (value : WordValue place) (word : List ℕ) → is_small (one place) ≡ true → SpellsWord place value word → word_in place word ≡ Some value
+pub word_again : (place : WordPlace) (value : WordValue place) (word : List ℕ) → is_small (one place) ≡ true → SpellsWord place value word → word_in place word ≡ Some value
 unfolding framing_in time_in
 word_again (between least greatest) n word small h = decimal_again least greatest n word small h.0 h.1 h.2
 word_again framing_word n word small h = elim h [

@@ -3,3 +3,4 @@ pub mod Rests
 pub mod Places
 pub mod Reading
 pub mod Spelling
+pub mod Fitting

@@ -1,0 +1,208 @@
+-- Steps and their lines: what is read is the step that the line says, and what a line says is read.
+use Rattle.std.proofs.Common.{◌≡◌, ◌≤◌, ◌+◌, ℕ, Bool, true, false, cond, nat_eq, ◌||◌, not, List, [], ◌∷◌, Option, None, Some, Result, Ok, Err, refl, ap, sym, subst, ◌∙◌, eqb-true}
+use Rattle.std.specs.Prelude.{IfOk, IfSome, IfNone}
+use Rattle.scenario_words.specs.declared.fault.LineFault.{LineFault}
+use Rattle.scenario_words.specs.Words.{words_of, onto_first}
+use Rattle.scenario_words.specs.Places.{Place, one, perhaps, rising, wishes, PlaceValue}
+use Rattle.scenario_words.specs.Reading.{Left, Gives, ◌>>=◌, any_word, next_of, at_place, ended}
+use Rattle.scenario_words.proofs.Spelling.{place_again, place_spelled, bind_ok, IsLast}
+use Rattle.scenario_text.specs.declared.step.Step.{Step}
+use Rattle.scenario_text.specs.Ranges.{IsInRange}
+use Rattle.scenario_text.specs.Table.{Build, Row, row_of}
+use Rattle.scenario_text.specs.Lines.{Says, LineIs, IsBlank}
+use Rattle.scenario_text.specs.Steps.{built_at, at_known, whole, line_after, step_of, read_of}
+use Rattle.scenario_text.proofs.Rows.{all_small, takes_all, none_more, takes_all_last, is_word, is_fine, and_parts, of_table, Fine}
+use Rattle.scenario_text.proofs.Within.{row_within, says_within}
+
+abbrev left_of : List (List ℕ) → ℕ → Left
+left_of words read = record { words = words; read = read }
+
+abbrev done : {A : Type 0} → A → Result A LineFault
+done x = Ok x
+
+ok_is : {A : Type 0} (x y : A) → done x ≡ done y → x ≡ y
+ok_is x y e = cc
+
+some_is : {A : Type 0} (x y : A) → Some x ≡ Some y → x ≡ y
+some_is x y e = cc
+
+-- ---- the words at the places of a row
+
+built_again : (places : List Place) (build : Build places) (step : Step) (words : List (List ℕ)) (read : ℕ) → all_small places ≡ true → Says places build step words
+    → (k : ℕ) × (built_at places build (left_of words read) ≡ Ok (step, left_of [] k))
+built_again [] built step words read small e = (read, rw (e.0, e.1) refl)
+built_again (place ∷ places) build step words read small e =
+    let parts = and_parts _ (all_small places) small in
+    let first = place_again place e.0 words e.1 read parts.0 e.2 in
+    let others = built_again places (build e.0) step e.1 first.0 parts.1 e.3 in
+    (others.0, rw first.1 others.1)
+
+last_place : (place : Place) (places : List Place) (built : Build places) (step : Step) (words : List (List ℕ)) (read : ℕ) (left : Left) → (none_more places || not (takes_all place)) ≡ true
+    → built_at places built (left_of words read) ≡ Ok (step, left) → left.words ≡ [] → IsLast place words
+last_place (one place) places built step words read left last e none = tt
+last_place (perhaps least greatest) places built step words read left last e none = tt
+last_place rising places built step words read left last e none = tt
+last_place (wishes most) [] built step words read left last e none =
+    let both = ok_is (built, left_of words read) (step, left) e in
+    ap (λ (p : Step × Left). p.1.words) both ∙ none
+last_place (wishes most) (place ∷ places) built step words read left last e none = absurd cc
+
+built_says : (places : List Place) (build : Build places) (step : Step) (words : List (List ℕ)) (read : ℕ) (left : Left) → takes_all_last places ≡ true
+    → built_at places build (left_of words read) ≡ Ok (step, left) → left.words ≡ [] → Says places build step words
+built_says [] built step words read left last e none =
+    let both = ok_is (built, left_of words read) (step, left) e in
+    (ap (λ (p : Step × Left). p.0) both, ap (λ (p : Step × Left). p.1.words) both ∙ none)
+built_says (place ∷ places) build step words read left last e none =
+    let parts = and_parts (none_more places || not (takes_all place)) (takes_all_last places) last in
+    let a = bind_ok (at_place place (left_of words read)) (λ value. built_at places (build value.0) value.1) (step, left) e in
+    let here = last_place place places (build a.0.0) step a.0.1.words a.0.1.read left parts.0 a.2 none in
+    (a.0.0, a.0.1.words, place_spelled place words read a.0.0 a.0.1 a.1 here, built_says places (build a.0.0) step a.0.1.words a.0.1.read left parts.1 a.2 none)
+
+-- ---- a line
+
+ended_is : (read : ℕ) (words : List (List ℕ)) (u : Unit {0}) → ended read words ≡ Ok u → words ≡ []
+ended_is read [] u e = refl
+ended_is read (word ∷ words) u e = absurd cc
+
+-- a line that was read has a row, and its words spell the values of the step
+record Found (version : ℕ) (step : Step) (words : List (List ℕ)) : Type 0 where
+  pub first : List ℕ
+  pub others : List (List ℕ)
+  pub split : words ≡ first ∷ others
+  pub row : Row
+  pub known : row_of version first ≡ Some row
+  pub said : Says row.places row.build step others
+
+found_at : (version : ℕ) (first : List ℕ) (words : List (List ℕ)) (read : ℕ) (known : Option Row) (step : Step) (left : Left) → row_of version first ≡ known
+    → at_known known (left_of words read) ≡ Ok (step, left) → left.words ≡ [] → Found version step (first ∷ words)
+found_at version first words read None step left is e none = absurd cc
+found_at version first words read (Some row) step left is e none =
+    let fine = of_table version first row is in
+    let parts = and_parts (is_word row.first) _ fine.fine in
+    let places = and_parts (all_small row.places) (takes_all_last row.places) parts.1 in
+    record { first = first; others = words; split = refl; row = row; known = is; said = built_says row.places row.build step words read left places.1 e none }
+
+abbrev stepped : ℕ → ℕ → List (List ℕ) → Result Step LineFault
+stepped version read words = next_of any_word read words >>= line_after version
+
+found_by : (version read : ℕ) (words : List (List ℕ)) (step : Step) → stepped version read words ≡ Ok step → Found version step words
+found_by version read [] step e = absurd cc
+found_by version read (first ∷ words) step e =
+    let a = bind_ok (at_known (row_of version first) (left_of words (read + 1))) whole step e in
+    let b = bind_ok (ended a.0.1.read a.0.1.words) (λ none. Ok a.0.0) step a.2 in
+    let same : a.0.0 ≡ step = ok_is a.0.0 step b.2 in
+    let found = found_at version first words (read + 1) (row_of version first) a.0.0 a.0.1 refl a.1 (ended_is a.0.1.read a.0.1.words b.0 b.1) in
+    subst (λ (s : Step). Found version s (first ∷ words)) same found
+
+found_again : (version read : ℕ) (words : List (List ℕ)) (step : Step) → Found version step words → stepped version read words ≡ Ok step
+found_again version read words step found =
+    let fine = of_table version found.first found.row found.known in
+    let parts = and_parts (is_word found.row.first) _ fine.fine in
+    let places = and_parts (all_small found.row.places) (takes_all_last found.row.places) parts.1 in
+    let again = built_again found.row.places found.row.build step found.others (read + 1) places.0 found.said in
+    rw (found.split, found.known, again.1) refl
+
+-- ---- no step's line is blank
+
+head_word : List (List ℕ) → List ℕ
+head_word [] = []
+head_word (word ∷ words) = word
+
+onto_head : (octet : ℕ) (words : List (List ℕ)) → is_word (head_word (onto_first octet words)) ≡ not (nat_eq octet 35)
+unfolding head_word
+onto_head octet [] = refl
+onto_head octet (word ∷ words) = refl
+
+first_word : (version : ℕ) (first : List ℕ) (row : Row) → row_of version first ≡ Some row → is_word first ≡ true
+first_word version first row e =
+    let fine = of_table version first row e in
+    rw fine.same (and_parts (is_word row.first) _ fine.fine).0
+
+not_true : (b : Bool) → not b ≡ true → b ≡ false
+not_true true e = absurd cc
+not_true false e = refl
+
+not_other : (comment space : Bool) (octet : ℕ) (line : List ℕ) → nat_eq octet 35 ≡ comment → nat_eq octet 32 ≡ space
+    → is_word (head_word (cond space ([] ∷ words_of line) (onto_first octet (words_of line)))) ≡ true → comment ≡ false
+unfolding head_word
+not_other comment true octet line is sp e = absurd cc
+not_other comment false octet line is sp e =
+    let negated : not comment ≡ true = ap not (sym is) ∙ (sym (onto_head octet (words_of line)) ∙ e) in
+    not_true comment negated
+
+no_comment : (octet : ℕ) (line : List ℕ) → is_word (head_word (words_of (octet ∷ line))) ≡ true → nat_eq octet 35 ≡ false
+unfolding head_word
+no_comment octet line e = not_other (nat_eq octet 35) (nat_eq octet 32) octet line refl refl e
+
+line_again : (version : ℕ) (line : List ℕ) (step : Step) → LineIs version step line → read_of version line ≡ Ok (Some step)
+unfolding read_of step_of head_word
+line_again version [] step is =
+    let word = first_word version is.first is.row is.known in
+    let empty : [] ≡ is.first = ap head_word is.split in
+    absurd (cc (rw (← empty) at word))
+line_again version (octet ∷ line) step is =
+    let word = first_word version is.first is.row is.known in
+    let head : is_word (head_word (words_of (octet ∷ line))) ≡ true = ap (λ (ws : List (List ℕ)). is_word (head_word ws)) is.split ∙ word in
+    let other = no_comment octet line head in
+    let read = found_again version 0 (words_of (octet ∷ line)) step (record { first = is.first; others = is.words; split = is.split; row = is.row; known = is.known; said = is.spelled }) in
+    rw (other, read) refl
+
+step_in : (r : Result Step LineFault) (step : Step) → (r >>= λ s. Ok (Some s)) ≡ Ok (Some step) → r ≡ Ok step
+step_in (Ok x) step e = ap done (some_is x step (ok_is (Some x) (Some step) e))
+step_in (Err f) step e = absurd cc
+
+chosen_in : (b : Bool) (r : Result Step LineFault) (step : Step) → cond b (Ok None) (r >>= λ s. Ok (Some s)) ≡ Ok (Some step) → r ≡ Ok step
+chosen_in true r step e = absurd cc
+chosen_in false r step e = step_in r step e
+
+line_says : (version : ℕ) (line : List ℕ) (step : Step) → read_of version line ≡ Ok (Some step) → LineIs version step line
+unfolding read_of step_of
+line_says version [] step e = absurd cc
+line_says version (octet ∷ line) step e =
+    let found = found_by version 0 (words_of (octet ∷ line)) step (chosen_in _ (stepped version 0 (words_of (octet ∷ line))) step e) in
+    record { first = found.first; words = found.others; split = found.split; row = found.row; known = found.known; spelled = found.said }
+
+-- ---- the clauses
+
+pub says_so : (version : ℕ) (line : List ℕ) (step : Step) → LineIs version step line → read_of version line ≡ Ok (Some step)
+says_so version line step is = line_again version line step is
+
+pub so_says : (version : ℕ) (line : List ℕ) (step : Step) → read_of version line ≡ Ok (Some step) → LineIs version step line
+so_says version line step e = line_says version line step e
+
+pub one_said : (version : ℕ) (line : List ℕ) (this that : Step) → LineIs version this line → LineIs version that line → this ≡ that
+one_said version line this that is other =
+    some_is this that (ok_is (Some this) (Some that) (sym (says_so version line this is) ∙ says_so version line that other))
+
+pub said_in_range : (version : ℕ) (line : List ℕ) (step : Step) → read_of version line ≡ Ok (Some step) → IsInRange step
+said_in_range version line step e =
+    let is = so_says version line step e in
+    says_within is.row.places is.row.build step is.words is.spelled (row_within version is.first is.row is.known)
+
+pub is_found : (version : ℕ) (line : List ℕ) (r : Result (Option Step) LineFault) → Gives (λ read. read) r (read_of version line) → IfOk r (λ read. IfSome read (λ step. LineIs version step line))
+is_found version line (Ok (Some step)) given = line_says version line step given
+is_found version line (Ok None) given = tt
+is_found version line (Err e) given = tt
+
+pub is_read : (version : ℕ) (line : List ℕ) (r : Result (Option Step) LineFault) → Gives (λ read. read) r (read_of version line) → (step : Step) → LineIs version step line → Gives (λ read. read) r (Ok (Some step))
+is_read version line r given step is = subst (λ (read : Result (Option Step) LineFault). Gives (λ x. x) r read) (says_so version line step is) given
+
+none_chosen : (b : Bool) (r : Result Step LineFault) → cond b (Ok None) (r >>= λ s. Ok (Some s)) ≡ Ok None → b ≡ true
+none_chosen true r e = refl
+none_chosen false (Ok x) e = absurd cc
+none_chosen false (Err f) e = absurd cc
+
+pub none_is_blank : (version : ℕ) (line : List ℕ) → read_of version line ≡ Ok None → IsBlank line
+unfolding read_of
+none_is_blank version [] e = tt
+none_is_blank version (octet ∷ line) e = eqb-true octet 35 (none_chosen _ (step_of version (octet ∷ line)) e)
+
+pub blank_is_none : (version : ℕ) (line : List ℕ) → IsBlank line → read_of version line ≡ Ok None
+unfolding read_of
+blank_is_none version [] blank = refl
+blank_is_none version (octet ∷ line) blank = rw blank refl
+
+pub is_blank : (version : ℕ) (line : List ℕ) (r : Result (Option Step) LineFault) → Gives (λ read. read) r (read_of version line) → IfOk r (λ read. IfNone read (IsBlank line))
+is_blank version line (Ok (Some step)) given = tt
+is_blank version line (Ok None) given = none_is_blank version line given
+is_blank version line (Err e) given = tt

@@ -1,0 +1,11 @@
+use Rattle.scenario_text.proofs.Steps.{is_found, is_read, is_blank}
+use Rattle.scenario_text.proofs.line.read_line_in.Goals as goal
+
+pub returns-clause-found : goal.returns-clause-found
+returns-clause-found c = is_found c.args.version c.args.line.now c.read.result c.read.ensures.reads
+
+pub returns-clause-only : goal.returns-clause-only
+returns-clause-only c = is_read c.args.version c.args.line.now c.read.result c.read.ensures.reads
+
+pub returns-clause-none : goal.returns-clause-none
+returns-clause-none c = is_blank c.args.version c.args.line.now c.read.result c.read.ensures.reads
