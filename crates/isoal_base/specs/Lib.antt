@@ -1,3 +1,3 @@
+pub mod Air
 pub mod Hearing
-pub mod Slot
 pub mod Stays

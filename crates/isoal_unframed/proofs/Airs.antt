@@ -4,7 +4,8 @@ use Rattle.std.proofs.lemmas.List.{drop-append-le, drop-drop, drop_min, length-a
 use Rattle.big_info.specs.declared.info.BigInfo.{BigInfo}
 use Rattle.big_info.specs.Schedule.{per_event_of, per_unit_of}
 use Rattle.isoal_unframed.proofs.Events.{next_event_is}
-use Rattle.isoal_unframed.specs.Air.{Laid, unframed_air}
+use Rattle.isoal_base.specs.Air.{Laid}
+use Rattle.isoal_unframed.specs.Air.{unframed_air}
 use Rattle.isoal_unframed.specs.Calls.{Call, accept, lay, accepted, begun, lays}
 use Rattle.isoal_unframed.specs.Sender.{Sender, StandsFor, after_event, event_pdus, with_unit}
 

@@ -10,10 +10,11 @@ use Rattle.big_info.specs.Schedule.{per_event_of, per_unit_of}
 use Rattle.big_info.specs.declared.info.BigInfo.{BigInfo}
 use Rattle.iso_pdu.specs.Spelling.{pdu}
 use Rattle.isoal_unframed.proofs.Rows.{map_same, rows}
-use Rattle.isoal_unframed.specs.Air.{Laid, event_at, laid_u, next_event, pdu_at, unframed_air, unit_at}
+use Rattle.isoal_base.specs.Air.{Laid, event_at, pdu_at}
+use Rattle.isoal_unframed.specs.Air.{laid_u, next_event, unframed_air, unit_at}
 use Rattle.isoal_unframed.specs.Calls.{Call, accept, lay, accepted, begun, events}
 use Rattle.isoal_unframed.specs.Sender.{Sender, StandsFor, event_pdus}
-use Rattle.isoal_base.specs.Slot.{laid}
+use Rattle.isoal_unframed.specs.Slot.{laid}
 
 slice_get_drop : {X : Type 0} (xs : List X) (n i : ℕ) → slice_get (drop n xs) i ≡ slice_get xs (n + i)
 slice_get_drop xs zero i = let same : 0 + i ≡ i = omega arith in rw same refl

@@ -9,7 +9,7 @@ use Rattle.std.proofs.lemmas.Bool.{cond-true, cond-false, lt-ltb, le-ltb, le-leb
 use Rattle.std.proofs.lemmas.List.{drop-drop, length-drop, append_assoc, take-append-drop}
 use Rattle.std.proofs.lemmas.Option.{none-some, same_Some, cond_some}
 use Rattle.iso_pdu.specs.Layout.{Content, fragment, end}
-use Rattle.isoal_base.specs.Slot.{fragments_of, laid_unit, laid}
+use Rattle.isoal_unframed.specs.Slot.{fragments_of, laid_unit, laid}
 use Rattle.isoal_unframed.specs.Units.{unit_after}
 
 -- what is left of a unit behind its first fragment

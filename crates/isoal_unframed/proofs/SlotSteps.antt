@@ -10,7 +10,7 @@ use Rattle.std.specs.List.{flat_map, range_with_len}
 use Rattle.iso_pdu.specs.Layout.{fragment, end}
 use Rattle.iso_pdu.specs.Spelling.{payload_of, pdu}
 use Rattle.isoal_unframed.proofs.Rows.{flat_map_nothing, flat_map_same, map_same}
-use Rattle.isoal_base.specs.Slot.{fragments_of, laid_unit}
+use Rattle.isoal_unframed.specs.Slot.{fragments_of, laid_unit}
 use Rattle.isoal_unframed.specs.Sender.{Begins}
 
 ceil_more : (n k : ℕ) → 1 ≤ k → div_ceil (n + k) k ≡ suc (div_ceil n k)

@@ -9,7 +9,7 @@ use Rattle.std.proofs.lemmas.Option.{none-some, same_Some, slice_get-get_or, sli
 use Rattle.big_info.specs.Bounds.{Bounds}
 use Rattle.big_info.specs.Schedule.{per_event_of, per_unit_of}
 use Rattle.iso_pdu.specs.Layout.{Content}
-use Rattle.isoal_base.specs.Slot.{fragments_of, laid}
+use Rattle.isoal_unframed.specs.Slot.{fragments_of, laid}
 use Rattle.isoal_base.specs.Stays.{Stay, Call, hear, close, opened, FirstHeard}
 use Rattle.isoal_base.specs.Hearing.{read_as}
 use Rattle.isoal_base.proofs.Heards.{heard_same, entry_outside, heard_first}

@@ -1,27 +1,12 @@
--- What a sender of an unframed stream lays (Core 5.2, volume 6 part G, section 2.1), by division alone. Events count from
--- the first one laid as 0.
-use Rattle.std.specs.Prelude.{ℕ, ◌+◌, ◌*◌, ◌/◌, ◌%◌, ◌==◌, if◌then◌else◌, Option, Some, None, List, [], ◌∷◌, length, map}
+-- What a sender of an unframed stream lays (Core 5.2, volume 6 part G, section 2.1), by division alone.
+use Rattle.std.specs.Prelude.{ℕ, ◌+◌, ◌*◌, ◌/◌, ◌%◌, ◌==◌, if◌then◌else◌, Option, List, [], ◌∷◌, map}
 use Rattle.std.specs.List.{range_with_len, slice_get}
-use Rattle.std.specs.Option.{option_and_then}
 use Rattle.big_info.specs.declared.info.BigInfo.{BigInfo}
 use Rattle.big_info.specs.Schedule.{per_unit_of}
 use Rattle.iso_pdu.specs.Spelling.{pdu}
+use Rattle.isoal_base.specs.Air.{Air, Laid}
 use Rattle.isoal_unframed.specs.Calls.{Call, accept, lay, accepted, begun, events}
-use Rattle.isoal_base.specs.Slot.{laid}
-
--- an event of a stream: its PDUs by rising payload number, and the times of the units that were left out
-pub record Laid : Type 0 where
-  pub pdus : List (List ℕ)
-  pub stale : List ℕ
-
--- an event that was laid, and how many units have their slot then
-pub record Entry : Type 0 where
-  pub event : Laid
-  pub begun : ℕ
-
--- the newest event first
-abbrev pub Air : Type 0
-Air = List Entry
+use Rattle.isoal_unframed.specs.Slot.{laid}
 
 -- the calls before the lay of an event
 abbrev pub before_event : List Call → ℕ → List Call
@@ -51,12 +36,3 @@ unframed_air info [] = []
 unframed_air info (accept octets ∷ earlier) = unframed_air info earlier
 unframed_air info (lay ∷ earlier) =
     record { event = next_event info earlier; begun = begun info (lay ∷ earlier) } ∷ unframed_air info earlier
-
--- an event of an air
-abbrev pub event_at : Air → ℕ → Option Laid
-event_at [] event = None
-event_at (entry ∷ earlier) event = if length earlier == event then Some entry.event else event_at earlier event
-
--- the PDU of a payload number, where an event has `bn` of them
-abbrev pub pdu_at : ℕ → Air → ℕ → Option (List ℕ)
-pdu_at bn air number = option_and_then (λ event. slice_get event.pdus (number % bn)) (event_at air (number / bn))

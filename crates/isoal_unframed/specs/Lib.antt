@@ -6,6 +6,7 @@ pub mod Receivers
 pub mod Rings
 pub mod Runs
 pub mod Sender
+pub mod Slot
 pub mod Streams
 pub mod Struck
 pub mod Units

@@ -4,11 +4,9 @@ use Rattle.std.specs.List.{flat_map, range_with_len, slice_get}
 use Rattle.big_info.specs.declared.info.BigInfo.{BigInfo}
 use Rattle.big_info.specs.Schedule.{per_event_of, per_unit_of}
 use Rattle.iso_pdu.specs.Spelling.{pdu}
-use Rattle.isoal_base.specs.Slot.{laid}
-use Rattle.isoal_base.specs.declared.laid.EventLaid.{EventLaid}
+use Rattle.isoal_unframed.specs.Slot.{laid}
 use Rattle.isoal_base.specs.declared.laid.PutFault.{PutFault}
 use Rattle.isoal_base.specs.declared.laid.PutFault.TheVariants.{TooLong, TimeOrder, Backlog, Memory}
-use Rattle.isoal_unframed.specs.Air.{Laid}
 use Rattle.isoal_unframed.specs.Calls.{Call, accepted, begun}
 
 -- the group, and the units that wait for a slot, in the order of acceptance
@@ -46,10 +44,6 @@ event_pdus info waiting =
 
 abbrev pub after_event : Sender → Sender
 after_event sender = record { info = sender.info; waiting = drop (per_event_of sender.info) sender.waiting }
-
--- the answer of a lay without where its octets lie in memory
-abbrev pub laid_in : EventLaid → Laid
-laid_in event = record { pdus = event.pdus; stale = event.stale }
 
 -- what waits are the units accepted that have no slot yet
 pub record StandsFor (info : BigInfo) (calls : List Call) (sender : Sender) : Type 0 where

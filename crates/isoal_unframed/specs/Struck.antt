@@ -5,7 +5,7 @@ use Rattle.std.specs.List.{AllZip, range_with_len}
 use Rattle.big_info.specs.Schedule.{per_event_of, per_unit_of}
 use Rattle.iso_pdu.specs.Layout.{Content}
 use Rattle.unit_outlets.specs.Handed.{Handed, valid, lost}
-use Rattle.isoal_base.specs.Slot.{fragments_of, laid}
+use Rattle.isoal_unframed.specs.Slot.{fragments_of, laid}
 use Rattle.isoal_base.specs.Stays.{Stay, Call, hear, close, opened}
 use Rattle.isoal_base.specs.Hearing.{read_as}
 use Rattle.isoal_unframed.specs.Histories.{heard_in}

@@ -3,7 +3,8 @@ ghost use Rattle.big_info.specs.Schedule.{per_event_of, per_unit_of};
 ghost use Rattle.big_info.specs.declared.info.BigInfo.{BigInfo};
 ghost use Rattle.isoal_unframed.specs.Air.{unframed_air};
 ghost use Rattle.isoal_unframed.specs.Calls.{Call, accept, lay, begun};
-ghost use Rattle.isoal_unframed.specs.Sender.{MayWait, PutFaultIs, StandsFor, after_event, event_pdus, laid_in, with_unit};
+ghost use Rattle.isoal_base.specs.Air.{laid_in};
+ghost use Rattle.isoal_unframed.specs.Sender.{MayWait, PutFaultIs, StandsFor, after_event, event_pdus, with_unit};
 
 use crate::slots::lay_slots;
 use bcast_base::{EventPdus, Memory, Octets, Times};

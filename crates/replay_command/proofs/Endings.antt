@@ -21,9 +21,9 @@ use Rattle.scenario_history.specs.Transcript.{out_of, end_after, last_line_after
 use Rattle.scenario_history.proofs.BoxLaws.{took_all}
 use Rattle.replay_command.specs.declared.status.Status.{Status}
 use Rattle.replay_command.specs.declared.status.Status.TheVariants as statuses
-use Rattle.replay_command.specs.declared.machine.Machine.{Machine}
-use Rattle.replay_command.specs.Meets.{BoxesStand}
-use Rattle.replay_command.specs.LineMeets.{refusal_at, output_at}
+use Rattle.replay_steps.specs.declared.machine.Machine.{Machine}
+use Rattle.replay_steps.specs.Meets.{BoxesStand}
+use Rattle.replay_steps.specs.LineMeets.{refusal_at, output_at}
 use Rattle.replay_command.specs.Replayed.{MayFollow, Done, ReadFaulted, brought_by, Broken}
 use Rattle.replay_command.specs.Ended.{Ended}
 use Rattle.replay_command.specs.Between.{TextIs, RunTo, Refuses}

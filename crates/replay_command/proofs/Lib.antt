@@ -1,18 +1,6 @@
-pub mod Handings
-pub mod Closings
-pub mod Starts
-pub mod SumLaws
-pub mod Beyonds
-pub mod OneSink
-pub mod Tunings
-pub mod SinkSteps
-pub mod CloseSteps
-pub mod Airing
-pub mod StepLaws
-pub mod LineLaws
-pub mod ReadingOn
-pub mod RefusalLaws
-pub mod Endings
-pub mod LineEndings
-pub mod LineSteps
-pub mod Completing
+mod ReadingOn
+mod RefusalLaws
+mod Endings
+mod LineEndings
+mod LineSteps
+mod Completing

@@ -19,14 +19,14 @@ use Rattle.scenario_text.specs.declared.step.Step.{Step}
 use Rattle.scenario_text.specs.declared.step.Step.TheVariants as kinds
 use Rattle.replay_command.specs.declared.status.Status.{Status}
 use Rattle.replay_command.specs.declared.status.Status.TheVariants as statuses
-use Rattle.replay_command.specs.declared.machine.Machine.{Machine}
-use Rattle.replay_command.specs.Handing.{BoxFails, CutShort}
-use Rattle.replay_command.specs.Meets.{BoxesStand}
-use Rattle.replay_command.specs.LineMeets.{LinesStand, refusal_at, output_at}
+use Rattle.replay_steps.specs.declared.machine.Machine.{Machine}
+use Rattle.replay_steps.specs.Handing.{BoxFails, CutShort}
+use Rattle.replay_steps.specs.Meets.{BoxesStand}
+use Rattle.replay_steps.specs.LineMeets.{LinesStand, refusal_at, output_at}
 use Rattle.replay_command.specs.Replayed.{Comes, brought_by, BoxesCut, BoxFailed, Broken, OutletFaulted, ReadsAhead, CutAt}
 use Rattle.replay_command.specs.Ended.{Ended}
 use Rattle.replay_command.specs.Between.{Refuses, Puts, StepRuns}
-use Rattle.replay_command.proofs.Handings.{accounts_append, lines_append}
+use Rattle.replay_steps.proofs.Laws.{accounts_append, lines_append}
 use Rattle.replay_command.proofs.Endings.{out_then, out_all, out_line, out_refused, ends_refused, writes_refused, units_then, units_all, units_refused, units_rest, handed_line, took_history, front_of_short, front_none}
 use Rattle.replay_command.proofs.RefusalLaws.{never_no_end}
 

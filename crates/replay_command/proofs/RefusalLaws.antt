@@ -24,7 +24,7 @@ use Rattle.scenario_history.specs.Source.{setup_of, source_calls, performed}
 use Rattle.scenario_history.specs.Boxes.{box_of}
 use Rattle.scenario_history.specs.Refusals.{refuse_if, no_sink, no_place, has_beyond, is_out_of_order, give_refusal, air_refusal, counter_ends, own_refusal, phase_refusal, refusal_of}
 use Rattle.scenario_history.specs.Lines.{said_by, said_in, steps_of, refusal_said}
-use Rattle.replay_command.specs.LineMeets.{refusal_at}
+use Rattle.replay_steps.specs.LineMeets.{refusal_at}
 
 abbrev OtherThan : Option Refusal → Type 0
 OtherThan None = Unit {0}

@@ -14,10 +14,10 @@ use Rattle.transcript_text.specs.declared.refusal.Refusal.{Refusal}
 use Rattle.transcript_text.specs.Lines.{refusal_line}
 use Rattle.line_runs.specs.Runs.{brought, Accepted}
 use Rattle.scenario_history.specs.Lines.{rules_of}
-use Rattle.replay_command.specs.declared.machine.Machine.{Machine}
+use Rattle.replay_steps.specs.declared.machine.Machine.{Machine}
 use Rattle.replay_command.specs.declared.status.Status.{Status}
 use Rattle.replay_command.specs.declared.status.Status.TheVariants as statuses
-use Rattle.replay_command.specs.LineMeets.{LinesStand}
+use Rattle.replay_steps.specs.LineMeets.{LinesStand}
 use Rattle.replay_command.specs.Replayed.{TextRead, Comes, ReadsAhead}
 use Rattle.replay_command.specs.Ended.{Ended}
 

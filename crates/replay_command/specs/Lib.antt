@@ -1,16 +1,3 @@
-pub mod Versions
-pub mod Gathering
-pub mod Machines
-pub mod Handing
-pub mod Meets
-pub mod LineMeets
 pub mod Replayed
-pub mod Closing
-pub mod Groups
-pub mod Stops
-pub mod Sums
-pub mod Beyond
-pub mod Tuning
-pub mod Airing
 pub mod Ended
 pub mod Between

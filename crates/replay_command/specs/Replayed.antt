@@ -13,7 +13,7 @@ use Rattle.line_runs.specs.Runs.{through, refused, Accepted}
 use Rattle.scenario_history.specs.Boxes.{SinkUnit, Took}
 use Rattle.scenario_history.specs.Lines.{rules_of, handed_on}
 use Rattle.scenario_history.specs.Transcript.{out_of, end_after, transcript_of, transcript_end, units_of}
-use Rattle.replay_command.specs.Handing.{BoxFails}
+use Rattle.replay_steps.specs.Handing.{BoxFails}
 
 -- what may follow the octets read: where the input was at its end, nothing
 abbrev pub MayFollow : Bool → Bool → List ℕ → Type 0

@@ -1,24 +1,10 @@
 //! The program `replay`: reads a scenario, runs it line by line and writes its transcript.
 #![tactic(auto)]
 
-mod air_steps;
-mod close;
-mod close_steps;
-mod described;
-mod gathered;
-mod hand;
-mod machine;
 mod replay;
-mod sink;
-mod sink_steps;
-mod source_steps;
 mod status;
-mod step;
-mod stop;
-mod sums;
 #[cfg(test)]
 mod tests;
-mod version;
 mod words;
 
 use bcast_base::Memory;

@@ -1,10 +1,2 @@
 pub mod Sums
 pub mod BoxLaws
-pub mod Legals
-pub mod Phases
-pub mod SourceHears
-pub mod UnitsLaw
-pub mod Closes
-pub mod Shown
-pub mod Numbers
-pub mod InOrder

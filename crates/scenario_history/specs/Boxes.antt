@@ -1,5 +1,5 @@
 -- Which box a sink has, what each close hands up, and what the boxes took (the units are the SDUs of Core 5.2, volume 6
--- part G, section 1). Boxes count from 0, in the order of their list.
+-- part G, section 1). Boxes count from 0, in the order of their list. Lists of steps have the newest first.
 use Rattle.std.specs.Prelude.{ℕ, ◌+◌, ◌==◌, Bool, false, List, [], ◌∷◌, ◌++◌, map, length, sum, slice_get, slice_index_or, slice_set, option_map, ◌≡◌, Option, None, Some, if◌then◌else◌}
 use Rattle.std.specs.List.{flat_map, range_with_len}
 use Rattle.circular_buffer.specs.Buffer.{keep_last}
@@ -9,9 +9,9 @@ use Rattle.delegator_machine.specs.Calls.{Call}
 use Rattle.delegator_machine.specs.Handing.{handed_at}
 use Rattle.scenario_text.specs.declared.step.Step.{Step}
 use Rattle.scenario_text.specs.declared.step.Step.TheVariants.{Sink, Event, Drop, Stop, End}
-use Rattle.scenario_history.specs.Steps.{sinks_made}
+use Rattle.scenario_history.specs.Steps.{chosen_of, sinks_made, steps_of_source}
 use Rattle.scenario_history.specs.Source.{Airs, open_event}
-use Rattle.scenario_history.specs.Sinks.{sink_calls}
+use Rattle.scenario_history.specs.Sinks.{is_of, sink_calls, source_of}
 
 -- how many sinks may live
 abbrev pub most_sinks : ℕ
@@ -31,30 +31,42 @@ abbrev pub box_of : ℕ → List Step → Option ℕ
 box_of n [] = None
 box_of n (step ∷ earlier) = box_after n step earlier (box_of n earlier)
 
--- a unit that a sink hands up, with the box of the sink
+-- a unit that a sink hands up, with the source that the sink is of and the box of the sink
 pub record SinkUnit : Type 0 where
+  pub source : ℕ
   pub sink : ℕ
   pub box : ℕ
   pub unit : Handed
 
--- what a sink hands up after these calls as an event is closed, by rising stream and then in order
-abbrev pub closing_by : ℕ → ℕ → List Call → Option ℕ → List SinkUnit
-closing_by event n calls None = []
-closing_by event n calls (Some box) = map (λ unit. record { sink = n; box = box; unit = unit }) (handed_at calls event)
+-- what a sink with a box or none hands up after these calls as an event of a source is closed, by rising stream and then
+-- in order
+abbrev pub closing_in : ℕ → ℕ → ℕ → List Call → Option ℕ → List SinkUnit
+closing_in s event n calls None = []
+closing_in s event n calls (Some box) =
+    map (λ unit. record { source = s; sink = n; box = box; unit = unit }) (handed_at calls event)
 
--- what all sinks hand up as an event is closed, by rising number
-abbrev pub closing_at : Airs → List Step → Option ℕ → List SinkUnit
-closing_at airs steps None = []
-closing_at airs steps (Some event) = flat_map (λ n. closing_by event n (sink_calls airs n steps) (box_of n steps)) sink_numbers
+-- the same of a sink of this source or of none: as an event of source `s` is closed, only its sinks hand something up
+abbrev pub closing_by : ℕ → ℕ → ℕ → List Call → Option ℕ → Option ℕ → List SinkUnit
+closing_by s event n calls source box = if is_of s source then closing_in s event n calls box else []
 
-abbrev pub closing : Airs → List Step → List SinkUnit
-closing airs steps = closing_at airs steps (open_event steps)
+-- what the sinks of a source hand up as its open event is closed, by rising number
+abbrev pub closing_at : Airs → ℕ → List Step → Option ℕ → List SinkUnit
+closing_at airs s steps None = []
+closing_at airs s steps (Some event) =
+    flat_map (λ n. closing_by s event n (sink_calls airs n steps) (source_of n steps) (box_of n steps)) sink_numbers
+
+abbrev pub closing : Airs → ℕ → List Step → List SinkUnit
+closing airs s steps = closing_at airs s steps (open_event (steps_of_source s steps))
+
+-- what both sources' sinks hand up at `end`, those of source 0 first
+abbrev pub closing_both : Airs → List Step → List SinkUnit
+closing_both airs steps = closing airs 0 steps ++ closing airs 1 steps
 
 -- what the step after these hands up
 abbrev pub handed_by : Airs → List Step → Step → List SinkUnit
-handed_by airs earlier Event = closing airs earlier
-handed_by airs earlier Stop = closing airs earlier
-handed_by airs earlier End = closing airs earlier
+handed_by airs earlier Event = closing airs (chosen_of earlier) earlier
+handed_by airs earlier Stop = closing airs (chosen_of earlier) earlier
+handed_by airs earlier End = closing_both airs earlier
 handed_by airs earlier _ = []
 
 -- all that was handed up, in order

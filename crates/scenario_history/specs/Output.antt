@@ -1,15 +1,18 @@
 -- What each step prints. The lines are the scenario language's own; the units and times in them are after Core 5.2,
 -- volume 6 part G, sections 2.1 and 3.2.
-use Rattle.std.specs.Prelude.{ℕ, ◌+◌, List, [], ◌++◌, map, length, Option, None, Some}
+use Rattle.std.specs.Prelude.{ℕ, ◌+◌, List, [], ◌++◌, map, length, Option, None, Some, if◌then◌else◌}
 use Rattle.std.specs.List.{flat_map, sum}
 use Rattle.unit_outlets.specs.Account.{Account}
+use Rattle.isoal_base.specs.declared.hearing.Hearing.{Hearing}
+use Rattle.isoal_base.specs.declared.hearing.Hearing.TheVariants.{NotOnGroup}
 use Rattle.delegator_machine.specs.Hearings.{hearing_of}
 use Rattle.transcript_text.specs.Lines.{handed_line, pdu_line, heard_line, sum_line}
 use Rattle.scenario_text.specs.declared.step.Step.{Step}
 use Rattle.scenario_text.specs.declared.step.Step.TheVariants.{Event, Inject, Sniff, Drop, Stop, End}
+use Rattle.scenario_history.specs.Steps.{chosen_of, chosen_steps}
 use Rattle.scenario_history.specs.Source.{Airs, event_back, pdu_in}
-use Rattle.scenario_history.specs.Sinks.{sink_calls}
-use Rattle.scenario_history.specs.Boxes.{SinkUnit, sink_numbers, account_at, box_of, closing, valid_for, handed_up}
+use Rattle.scenario_history.specs.Sinks.{is_of, sink_calls, source_of}
+use Rattle.scenario_history.specs.Boxes.{SinkUnit, sink_numbers, account_at, box_of, closing, closing_both, valid_for, handed_up}
 
 abbrev pub unit_line : SinkUnit → List ℕ
 unit_line unit = handed_line unit.sink unit.unit
@@ -30,15 +33,22 @@ sum_if starts units n (Some box) = sum_of starts units n box
 abbrev pub sums_of : List Account → List SinkUnit → List Step → List ℕ
 sums_of starts units steps = flat_map (λ n. sum_if starts units n (box_of n steps)) sink_numbers
 
+-- what a sink makes of a PDU that is injected in the place of one of the chosen source: a sink that isn't of this source is
+-- on no group of it
+abbrev pub injected_hearing : Airs → List Step → ℕ → ℕ → ℕ → ℕ → List ℕ → Hearing
+injected_hearing airs steps sink back bis subevent octets =
+    if is_of (chosen_of steps) (source_of sink steps)
+    then hearing_of (sink_calls airs sink steps) (event_back (chosen_steps steps) back) bis subevent octets else NotOnGroup
+
 -- what a step after these prints, with these accounts at the start
 abbrev pub output_of : Airs → List Account → List Step → Step → List ℕ
-output_of airs starts steps Event = unit_lines (closing airs steps)
-output_of airs starts steps Stop = unit_lines (closing airs steps)
+output_of airs starts steps Event = unit_lines (closing airs (chosen_of steps) steps)
+output_of airs starts steps Stop = unit_lines (closing airs (chosen_of steps) steps)
 output_of airs starts steps End =
-    unit_lines (closing airs steps) ++ sums_of starts (handed_up airs steps ++ closing airs steps) steps
+    unit_lines (closing_both airs steps) ++ sums_of starts (handed_up airs steps ++ closing_both airs steps) steps
 output_of airs starts steps (Drop sink) = sum_if starts (handed_up airs steps) sink (box_of sink steps)
 output_of airs starts steps (Inject sink back bis subevent octets) =
-    heard_line sink (hearing_of (sink_calls airs sink steps) (event_back steps back) bis subevent octets)
+    heard_line sink (injected_hearing airs steps sink back bis subevent octets)
 output_of airs starts steps (Sniff back bis subevent) =
-    pdu_line (event_back steps back) bis subevent (pdu_in airs steps (event_back steps back) bis subevent)
+    pdu_line (event_back (chosen_steps steps) back) bis subevent (pdu_in airs (chosen_steps steps) (event_back (chosen_steps steps) back) bis subevent)
 output_of airs starts steps _ = []

@@ -1,6 +1,7 @@
 -- Why a step is refused after those before it: the first reason that holds, in the order of test. The refusals are the
--- scenario language's own; those of a group, a unit and a place on the air are after Core 5.2, volume 6 parts B and G.
-use Rattle.std.specs.Prelude.{ℕ, ◌==◌, ◌&&◌, ◌||◌, nat_lt, nat_le, not, is_some, unwrap_or, Bool, true, false, List, [], Option, None, Some, if◌then◌else◌}
+-- scenario language's own; those of a group, a unit and a place on the air are after Core 5.2, volume 6 parts B and G. Lists
+-- of steps have the newest first; where a list is called `own` its steps are those of one source.
+use Rattle.std.specs.Prelude.{ℕ, ◌==◌, ◌&&◌, ◌||◌, nat_lt, nat_le, not, is_some, unwrap_or, bytes_eq, Bool, true, false, List, [], Option, None, Some, if◌then◌else◌}
 use Rattle.std.specs.List.{list_any}
 use Rattle.std.specs.Option.{option_or, option_map}
 use Rattle.big_info.specs.Rows.{first_fault}
@@ -12,46 +13,49 @@ use Rattle.source_machine.specs.declared.fault.EventFault.{EventFault}
 use Rattle.source_machine.specs.Faults.{give_fault, event_fault, air_fault}
 use Rattle.delegator_machine.specs.Streams.{streams_of}
 use Rattle.transcript_text.specs.declared.refusal.Refusal.{Refusal}
-use Rattle.transcript_text.specs.declared.refusal.Refusal.TheVariants.{NotBuilt, AfterEnd, Order, BadGroup, NoSuchSink, SinkTwice, NoOutlet, NoSuchBis, UnitTooLong, TimeOrder, Backlog, NoSuchSubevent, NotOnAir, CounterEnds}
+use Rattle.transcript_text.specs.declared.refusal.Refusal.TheVariants.{NotBuilt, AfterEnd, Order, BadGroup, IdentTwice, NoSuchSink, SinkTwice, NoOutlet, NoSuchBis, UnitTooLong, TimeOrder, Backlog, NoSuchSubevent, NotOnAir, CounterEnds}
 use Rattle.scenario_text.specs.declared.step.Step.{Step}
-use Rattle.scenario_text.specs.declared.step.Step.TheVariants.{Scenario, Group, Start, Sink, Tuned, Unit, Event, Hear, Air, Inject, Sniff, Drop, Stop}
-use Rattle.scenario_history.specs.Steps.{version_of, group_of, start_of, is_stopped, is_over, sinks_made}
-use Rattle.scenario_history.specs.Source.{Airs, no_group, setup_of, source_calls, performed}
+use Rattle.scenario_text.specs.declared.step.Step.TheVariants.{Scenario, Group, Ident, Start, Sink, Tuned, Unit, Event, Hear, Air, Inject, Sniff, Drop, Stop}
+use Rattle.scenario_history.specs.Steps.{Stage, chosen_of, chosen_steps, is_over, is_unbegun_at, other_of, sinks_made, stage_of, steps_of_source, version_of}
+use Rattle.scenario_history.specs.Source.{Airs, Identity, group_of, ident_of, identity_of, is_absent_at, is_described_at, is_sending, is_started, no_group, performed, phase_of, setup_of, source_calls}
 use Rattle.scenario_history.specs.Boxes.{box_of}
 
 abbrev pub refuse_if : Bool → Refusal → Option Refusal
 refuse_if true reason = Some reason
 refuse_if false reason = None
 
--- the source was started
-abbrev pub is_started : List Step → Bool
-is_started steps = is_some (start_of steps)
+-- `scenario` is the first step and stands once
+abbrev pub is_misplaced : Stage → Step → Bool
+is_misplaced stage (Scenario version) = not (is_unbegun_at stage)
+is_misplaced stage _ = is_unbegun_at stage
 
--- the source is between its start and its stop
-abbrev pub is_sending : List Step → Bool
-is_sending steps = is_started steps && not (is_stopped steps)
+-- A source line stands in the wrong phase of its source, of which these are the steps: `group` stands once, before `start`;
+-- `ident` after `group`, before `start`, once; `start` once, after `group`; `tuned`, `unit`, `event` and `stop` between
+-- `start` and `stop`; `hear`, `air`, `inject` and `sniff` after `start`.
+abbrev pub is_out_of_phase : List Step → Step → Bool
+is_out_of_phase own (Group framing origin delay iso sdu max_sdu max_pdu num_bis bn nse irc pto sub spacing phy) =
+    not (is_absent_at (phase_of own))
+is_out_of_phase own (Ident address_type address sid broadcast_id) =
+    not (is_described_at (phase_of own)) || is_some (ident_of own)
+is_out_of_phase own (Start first) = not (is_described_at (phase_of own))
+is_out_of_phase own (Tuned sink which) = not (is_sending own)
+is_out_of_phase own (Unit bis time octets) = not (is_sending own)
+is_out_of_phase own Event = not (is_sending own)
+is_out_of_phase own Stop = not (is_sending own)
+is_out_of_phase own (Hear sink back bis subevent) = not (is_started own)
+is_out_of_phase own (Air sink lose) = not (is_started own)
+is_out_of_phase own (Inject sink back bis subevent octets) = not (is_started own)
+is_out_of_phase own (Sniff back bis subevent) = not (is_started own)
+is_out_of_phase own _ = false
 
--- no step was made
-abbrev pub is_first : List Step → Bool
-is_first [] = true
-is_first _ = false
-
--- The step stands in the wrong phase. `scenario` is the first step and stands once; `group` stands once, and `start` once
--- after it.
+-- the step stands in the wrong phase of the scenario, or of the source that it means
 abbrev pub is_out_of_order : List Step → Step → Bool
-is_out_of_order steps (Scenario version) = not (is_first steps)
-is_out_of_order steps (Group framing origin delay iso sdu max_sdu max_pdu num_bis bn nse irc pto sub spacing phy) =
-    is_first steps || is_some (group_of steps)
-is_out_of_order steps (Start first) = is_first steps || not (is_some (group_of steps)) || is_started steps
-is_out_of_order steps (Tuned sink which) = is_first steps || not (is_sending steps)
-is_out_of_order steps (Unit bis time octets) = is_first steps || not (is_sending steps)
-is_out_of_order steps Event = is_first steps || not (is_sending steps)
-is_out_of_order steps Stop = is_first steps || not (is_sending steps)
-is_out_of_order steps (Hear sink back bis subevent) = is_first steps || not (is_started steps)
-is_out_of_order steps (Air sink lose) = is_first steps || not (is_started steps)
-is_out_of_order steps (Inject sink back bis subevent octets) = is_first steps || not (is_started steps)
-is_out_of_order steps (Sniff back bis subevent) = is_first steps || not (is_started steps)
-is_out_of_order steps _ = is_first steps
+is_out_of_order steps step = is_misplaced (stage_of steps) step || is_out_of_phase (chosen_steps steps) step
+
+-- the step is of the language and not built yet
+abbrev pub is_unbuilt : Step → Bool
+is_unbuilt (Group framing origin delay iso sdu max_sdu max_pdu num_bis bn nse irc pto sub spacing phy) = not (framing == 0)
+is_unbuilt _ = false
 
 -- how many events ahead a group may reach in a version
 abbrev pub horizon_in : ℕ → ℕ
@@ -72,10 +76,9 @@ air_refusal NoStreamThere = NoSuchBis
 air_refusal NoSubeventThere = NoSuchSubevent
 air_refusal NotKept = NotOnAir
 
--- the place on the air is none
+-- the place on the air of a source is none
 abbrev pub no_place : List Step → ℕ → ℕ → ℕ → Option Refusal
-no_place steps back bis subevent =
-    option_map air_refusal (air_fault (setup_of steps) (source_calls steps) back bis subevent)
+no_place own back bis subevent = option_map air_refusal (air_fault (setup_of own) (source_calls own) back bis subevent)
 
 abbrev pub counter_ends : Option EventFault → Option Refusal
 counter_ends None = None
@@ -85,32 +88,59 @@ counter_ends (Some fault) = Some CounterEnds
 unfoldable pub has_beyond : ℕ → ℕ → Bool
 has_beyond num_bis which = list_any (λ bis. nat_lt num_bis bis) (streams_of which)
 
+-- two sources have the same address type, SID and Broadcast_ID
+unfoldable pub is_same_identity : Identity → Identity → Bool
+is_same_identity one other =
+    (one.address_type == other.address_type) && (one.sid == other.sid) && bytes_eq one.broadcast_id other.broadcast_id
+
+-- the source beside the chosen one was started, also where it was stopped since, with the chosen one's identity
+abbrev pub is_ident_twice : List Step → Bool
+is_ident_twice steps =
+    is_started (steps_of_source (other_of (chosen_of steps)) steps)
+    && is_same_identity (identity_of (chosen_steps steps)) (identity_of (steps_of_source (other_of (chosen_of steps)) steps))
+
+-- what is refused of a step in the right phase by what the sinks are, where there are so many boxes
+abbrev pub sink_refusal : ℕ → List Step → Step → Option Refusal
+sink_refusal boxes steps (Sink sink streams slots mtu) =
+    option_or (refuse_if (is_some (box_of sink steps)) SinkTwice) (refuse_if (nat_le boxes (sinks_made steps)) NoOutlet)
+sink_refusal boxes steps (Drop sink) = no_sink sink steps
+sink_refusal boxes steps (Tuned sink which) = no_sink sink steps
+sink_refusal boxes steps (Hear sink back bis subevent) = no_sink sink steps
+sink_refusal boxes steps (Air sink lose) = no_sink sink steps
+sink_refusal boxes steps (Inject sink back bis subevent octets) = no_sink sink steps
+sink_refusal boxes steps _ = None
+
+-- what is refused of a step in the right phase by what its source is, in a scenario of this version: the steps here are
+-- those of the source
+abbrev pub source_refusal : Airs → ℕ → List Step → Step → Option Refusal
+source_refusal airs version own (Start first) =
+    option_map BadGroup (first_fault (horizon_in version) (unwrap_or (group_of own) no_group).info)
+source_refusal airs version own (Tuned sink which) = refuse_if (has_beyond (setup_of own).info.num_bis which) NoSuchBis
+source_refusal airs version own (Unit bis time octets) =
+    option_map give_refusal (give_fault (setup_of own) (source_calls own) (airs (setup_of own) (source_calls own)) bis time octets)
+source_refusal airs version own Event = counter_ends (event_fault (setup_of own) (source_calls own))
+source_refusal airs version own (Hear sink back bis subevent) = no_place own back bis subevent
+source_refusal airs version own (Air sink lose) = refuse_if (performed own == 0) NotOnAir
+source_refusal airs version own (Inject sink back bis subevent octets) = no_place own back bis subevent
+source_refusal airs version own (Sniff back bis subevent) = no_place own back bis subevent
+source_refusal airs version own _ = None
+
+-- what is refused of a step in the right phase by what both sources are
+abbrev pub twin_refusal : List Step → Step → Option Refusal
+twin_refusal steps (Start first) = refuse_if (is_ident_twice steps) IdentTwice
+twin_refusal steps _ = None
+
 -- what is refused of a step that stands in the right phase, where there are so many boxes
 abbrev pub own_refusal : Airs → ℕ → List Step → Step → Option Refusal
-own_refusal airs boxes steps (Group framing origin delay iso sdu max_sdu max_pdu num_bis bn nse irc pto sub spacing phy) =
-    refuse_if (not (framing == 0)) NotBuilt
-own_refusal airs boxes steps (Start first) =
-    option_map BadGroup (first_fault (horizon_in (version_of steps)) (unwrap_or (group_of steps) no_group).info)
-own_refusal airs boxes steps (Sink sink streams slots mtu) =
-    option_or (refuse_if (is_some (box_of sink steps)) SinkTwice) (refuse_if (nat_le boxes (sinks_made steps)) NoOutlet)
-own_refusal airs boxes steps (Drop sink) = no_sink sink steps
-own_refusal airs boxes steps (Tuned sink which) =
-    option_or (no_sink sink steps) (refuse_if (has_beyond (setup_of steps).info.num_bis which) NoSuchBis)
-own_refusal airs boxes steps (Unit bis time octets) =
-    option_map give_refusal (give_fault (setup_of steps) (source_calls steps) (airs (setup_of steps) (source_calls steps)) bis time octets)
-own_refusal airs boxes steps Event = counter_ends (event_fault (setup_of steps) (source_calls steps))
-own_refusal airs boxes steps (Hear sink back bis subevent) = option_or (no_sink sink steps) (no_place steps back bis subevent)
-own_refusal airs boxes steps (Air sink lose) =
-    option_or (no_sink sink steps) (refuse_if (performed steps == 0) NotOnAir)
-own_refusal airs boxes steps (Inject sink back bis subevent octets) =
-    option_or (no_sink sink steps) (no_place steps back bis subevent)
-own_refusal airs boxes steps (Sniff back bis subevent) = no_place steps back bis subevent
-own_refusal airs boxes steps _ = None
+own_refusal airs boxes steps step =
+    option_or (sink_refusal boxes steps step)
+    (option_or (source_refusal airs (version_of steps) (chosen_steps steps) step) (twin_refusal steps step))
 
 -- the first reason that holds of a step that doesn't follow `end`
 abbrev pub phase_refusal : Airs → ℕ → List Step → Step → Option Refusal
 phase_refusal airs boxes steps step =
-    option_or (refuse_if (is_out_of_order steps step) Order) (own_refusal airs boxes steps step)
+    option_or (refuse_if (is_out_of_order steps step) Order)
+    (option_or (refuse_if (is_unbuilt step) NotBuilt) (own_refusal airs boxes steps step))
 
 -- the first reason that holds
 abbrev pub refusal_of : Airs → ℕ → List Step → Step → Option Refusal

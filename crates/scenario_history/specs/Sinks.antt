@@ -1,12 +1,35 @@
 -- The sinks of a scenario as the calls that each took: where it was tuned, the PDUs that it heard and the events that it
--- closed (Core 5.2, volume 6 part B, section 4.4.6). Lists of steps and calls have the newest first.
+-- closed (Core 5.2, volume 6 part B, section 4.4.6). A PDU of a source reaches only the sinks of that source, and as an
+-- event of a source is closed, only its sinks close it. Lists of steps and calls have the newest first; where a list is
+-- called `own` its steps are those of one source.
 use Rattle.std.specs.Prelude.{ℕ, zero, suc, ◌+◌, ◌-◌, ◌*◌, ◌/◌, ◌%◌, ◌==◌, ◌&&◌, nat_lt, Bool, true, false, List, [], ◌∷◌, Option, None, Some, if◌then◌else◌}
 use Rattle.big_info.specs.declared.info.BigInfo.{BigInfo}
 use Rattle.source_machine.specs.Calls.{next_of, next_anchor_of}
 use Rattle.delegator_machine.specs.Calls.{Tuning, Call, tune, hear, tick}
 use Rattle.scenario_text.specs.declared.step.Step.{Step}
 use Rattle.scenario_text.specs.declared.step.Step.TheVariants.{Sink, Tuned, Event, Hear, Air, Inject, Drop, Stop, End}
+use Rattle.scenario_history.specs.Steps.{chosen_of, chosen_steps, steps_of_source}
 use Rattle.scenario_history.specs.Source.{Airs, setup_of, source_calls, event_back, pdu_in, open_event}
+
+-- ---- the source of a sink
+
+abbrev pub source_after : ℕ → Step → List Step → Option ℕ → Option ℕ
+source_after n (Sink sink streams slots mtu) earlier source = if sink == n then None else source
+source_after n (Drop sink) earlier source = if sink == n then None else source
+source_after n (Tuned sink which) earlier source = if sink == n then Some (chosen_of earlier) else source
+source_after n _ earlier source = source
+
+-- the source that the sink of this number is of: the one of the last step that put it on a group
+abbrev pub source_of : ℕ → List Step → Option ℕ
+source_of n [] = None
+source_of n (step ∷ earlier) = source_after n step earlier (source_of n earlier)
+
+-- a sink of this source, or of none, is of source `s`
+abbrev pub is_of : ℕ → Option ℕ → Bool
+is_of s None = false
+is_of s (Some source) = source == s
+
+-- ---- what a sink hears
 
 -- a place on the air: the stream and the subevent
 pub record Spot : Type 0 where
@@ -25,48 +48,71 @@ count_of info event spot = (event * info.num_bis + (spot.bis - 1)) * info.nse + 
 abbrev pub is_lost : BigInfo → ℕ → ℕ → Spot → Bool
 is_lost info event lose spot = nat_lt 0 lose && (count_of info event spot % lose == lose - 1)
 
--- the sink hears the PDU at a spot of an event
+-- a sink hears the PDU at a spot of an event
 abbrev pub hear_at : Airs → List Step → ℕ → Spot → Call
-hear_at airs earlier event spot = hear event spot.bis spot.subevent (pdu_in airs earlier event spot.bis spot.subevent)
+hear_at airs own event spot = hear event spot.bis spot.subevent (pdu_in airs own event spot.bis spot.subevent)
 
 abbrev pub unless_lost : Bool → Call → List Call → List Call
 unless_lost true call calls = calls
 unless_lost false call calls = call ∷ calls
 
--- the sink hears the PDUs of the first `count` spots of the last event but those that are lost
+-- a sink hears the PDUs of the first `count` spots of the last event but those that are lost
 abbrev pub heard_on_air : Airs → List Step → ℕ → ℕ → List Call → List Call
-heard_on_air airs earlier lose zero calls = calls
-heard_on_air airs earlier lose (suc i) calls =
-    unless_lost (is_lost (setup_of earlier).info (event_back earlier 0) lose (spot_at (setup_of earlier).info i))
-    (hear_at airs earlier (event_back earlier 0) (spot_at (setup_of earlier).info i)) (heard_on_air airs earlier lose i calls)
+heard_on_air airs own lose zero calls = calls
+heard_on_air airs own lose (suc i) calls =
+    unless_lost (is_lost (setup_of own).info (event_back own 0) lose (spot_at (setup_of own).info i))
+    (hear_at airs own (event_back own 0) (spot_at (setup_of own).info i)) (heard_on_air airs own lose i calls)
+
+-- how many spots an event has
+abbrev pub spots_of : List Step → ℕ
+spots_of own = (setup_of own).info.num_bis * (setup_of own).info.nse
 
 -- on these streams from the next event on
 abbrev pub tuning_of : List Step → ℕ → Tuning
-tuning_of earlier which = record {
-  info = (setup_of earlier).info;
+tuning_of own which = record {
+  info = (setup_of own).info;
   which = which;
-  first = next_of (setup_of earlier) (source_calls earlier);
-  anchor = next_anchor_of (setup_of earlier) (source_calls earlier);
-  delay = (setup_of earlier).delay;
+  first = next_of (setup_of own) (source_calls own);
+  anchor = next_anchor_of (setup_of own) (source_calls own);
+  delay = (setup_of own).delay;
 }
+
+-- what is heard of the chosen source by a sink reaches the sink of this number: it is that sink, and it is of the source
+abbrev pub reaches : ℕ → ℕ → List Step → Bool
+reaches sink n earlier = (sink == n) && is_of (chosen_of earlier) (source_of n earlier)
+
+-- ---- its calls
 
 abbrev pub ticked : Option ℕ → List Call → List Call
 ticked None calls = calls
 ticked (Some event) calls = tick event ∷ calls
 
--- what a step after these adds to the calls of a sink
+-- the event is closed by sinks of its source alone
+abbrev pub ticked_if : Bool → Option ℕ → List Call → List Call
+ticked_if is_its last_open calls = if is_its then ticked last_open calls else calls
+
+-- the open event of a source is closed
+abbrev pub ticked_by : ℕ → ℕ → List Step → List Call → List Call
+ticked_by s n earlier calls = ticked_if (is_of s (source_of n earlier)) (open_event (steps_of_source s earlier)) calls
+
+-- what a step after these adds to the calls of a sink; `end` closes the event of source 0 first
 abbrev pub with_sink_call : Airs → ℕ → Step → List Step → List Call → List Call
 with_sink_call airs n (Sink sink streams slots mtu) earlier calls = if sink == n then [] else calls
 with_sink_call airs n (Drop sink) earlier calls = if sink == n then [] else calls
-with_sink_call airs n (Tuned sink which) earlier calls = if sink == n then tune (tuning_of earlier which) ∷ calls else calls
+with_sink_call airs n (Tuned sink which) earlier calls =
+    if sink == n then tune (tuning_of (chosen_steps earlier) which) ∷ calls else calls
 with_sink_call airs n (Hear sink back bis subevent) earlier calls =
-    if sink == n then hear_at airs earlier (event_back earlier back) (record { bis = bis; subevent = subevent }) ∷ calls else calls
-with_sink_call airs n (Air sink lose) earlier calls = if sink == n then heard_on_air airs earlier lose ((setup_of earlier).info.num_bis * (setup_of earlier).info.nse) calls else calls
+    if reaches sink n earlier
+    then hear_at airs (chosen_steps earlier) (event_back (chosen_steps earlier) back) (record { bis = bis; subevent = subevent }) ∷ calls
+    else calls
+with_sink_call airs n (Air sink lose) earlier calls =
+    if reaches sink n earlier
+    then heard_on_air airs (chosen_steps earlier) lose (spots_of (chosen_steps earlier)) calls else calls
 with_sink_call airs n (Inject sink back bis subevent octets) earlier calls =
-    if sink == n then hear (event_back earlier back) bis subevent octets ∷ calls else calls
-with_sink_call airs n Event earlier calls = ticked (open_event earlier) calls
-with_sink_call airs n Stop earlier calls = ticked (open_event earlier) calls
-with_sink_call airs n End earlier calls = ticked (open_event earlier) calls
+    if reaches sink n earlier then hear (event_back (chosen_steps earlier) back) bis subevent octets ∷ calls else calls
+with_sink_call airs n Event earlier calls = ticked_by (chosen_of earlier) n earlier calls
+with_sink_call airs n Stop earlier calls = ticked_by (chosen_of earlier) n earlier calls
+with_sink_call airs n End earlier calls = ticked_by 1 n earlier (ticked_by 0 n earlier calls)
 with_sink_call airs n _ earlier calls = calls
 
 -- the calls of the sink of this number since it was made

@@ -1,12 +1,141 @@
--- The source of a scenario as the calls that it took, and the PDUs on its air (Core 5.2, volume 6 part B,
--- section 4.4.6, and part G, section 2). Lists of steps have the newest first.
-use Rattle.std.specs.Prelude.{ℕ, ◌-◌, ◌==◌, ◌||◌, List, [], ◌∷◌, Option, None, Some, unwrap_or, if◌then◌else◌}
-use Rattle.isoal_unframed.specs.Air.{Air}
+-- A source of a scenario: what its lines say of it, the calls that it took, and the PDUs on its air (Core 5.2, volume 6
+-- part B, section 4.4.6, and part G, section 2; the numbers of a group are those of the BIGInfo, section 4.4.6.11 of part
+-- B). The steps here are those of one source, the newest first.
+use Rattle.std.specs.Prelude.{ℕ, ◌-◌, ◌==◌, ◌||◌, not, Bool, true, false, List, [], ◌∷◌, Option, None, Some, unwrap_or, replicate, if◌then◌else◌}
+use Rattle.big_info.specs.declared.info.BigInfo.{BigInfo}
+use Rattle.isoal_base.specs.Air.{Air}
 use Rattle.source_machine.specs.Calls.{Setup, Call, give, event as perform, events, next_of}
 use Rattle.source_machine.specs.Airs.{pdu_of}
 use Rattle.scenario_text.specs.declared.step.Step.{Step}
-use Rattle.scenario_text.specs.declared.step.Step.TheVariants.{Unit, Event}
-use Rattle.scenario_history.specs.Steps.{GroupLine, info_with, group_of, start_of, is_stopped, is_over}
+use Rattle.scenario_text.specs.declared.step.Step.TheVariants.{Group, Ident, Start, Unit, Event, Stop}
+use Rattle.scenario_history.specs.Steps.{last_given, is_over}
+
+-- ---- what its lines say
+
+-- what a `group` line says: the group, the anchor of the first event in µs, and Presentation_Delay in µs
+pub record GroupLine : Type 0 where
+  pub info : BigInfo
+  pub origin : ℕ
+  pub delay : ℕ
+
+-- the BIGInfo of a group whose other fields aren't spoken of
+abbrev pub info_with : (framing iso sdu max_sdu max_pdu num_bis bn nse irc pto sub spacing phy : ℕ) → BigInfo
+info_with framing iso sdu max_sdu max_pdu num_bis bn nse irc pto sub spacing phy = record {
+  big_offset = 0;
+  big_offset_units = 0;
+  iso_interval = iso;
+  num_bis = num_bis;
+  nse = nse;
+  bn = bn;
+  sub_interval = sub;
+  pto = pto;
+  bis_spacing = spacing;
+  irc = irc;
+  max_pdu = max_pdu;
+  seed_access_address = 0;
+  sdu_interval = sdu;
+  max_sdu = max_sdu;
+  base_crc_init = 0;
+  chm = 0;
+  phy = phy;
+  bis_payload_count = 0;
+  framing = framing;
+  cipher = None;
+}
+
+abbrev pub group_given : Step → Option GroupLine
+group_given (Group framing origin delay iso sdu max_sdu max_pdu num_bis bn nse irc pto sub spacing phy) = Some (record {
+  info = info_with framing iso sdu max_sdu max_pdu num_bis bn nse irc pto sub spacing phy;
+  origin = origin;
+  delay = delay;
+})
+group_given _ = None
+
+abbrev pub group_of : List Step → Option GroupLine
+group_of steps = last_given group_given steps
+
+abbrev pub start_given : Step → Option ℕ
+start_given (Start first) = Some first
+start_given _ = None
+
+-- the first event of the source, where it was started
+abbrev pub start_of : List Step → Option ℕ
+start_of steps = last_given start_given steps
+
+-- who sends: the address type and the address, the advertising SID and the Broadcast_ID
+pub record Identity : Type 0 where
+  pub address_type : ℕ
+  pub address : List ℕ
+  pub sid : ℕ
+  pub broadcast_id : List ℕ
+
+abbrev pub identity_given : Step → Option Identity
+identity_given (Ident address_type address sid broadcast_id) =
+    Some (record { address_type = address_type; address = address; sid = sid; broadcast_id = broadcast_id })
+identity_given _ = None
+
+-- what `ident` says, where it was said
+abbrev pub ident_of : List Step → Option Identity
+ident_of steps = last_given identity_given steps
+
+-- without `ident` a source is of type 0, and its address, its SID and its Broadcast_ID are 0
+abbrev pub no_identity : Identity
+no_identity = record { address_type = 0; address = replicate 6 0; sid = 0; broadcast_id = replicate 3 0 }
+
+abbrev pub identity_of : List Step → Identity
+identity_of steps = unwrap_or (ident_of steps) no_identity
+
+-- ---- its phase
+
+-- where a source stands: without a group, described by one, between its start and its stop, or stopped
+pub data Phase : Type 0 where
+  absent : Phase
+  described : Phase
+  sending : Phase
+  stopped : Phase
+
+abbrev pub phase_given : Step → Option Phase
+phase_given (Group framing origin delay iso sdu max_sdu max_pdu num_bis bn nse irc pto sub spacing phy) = Some described
+phase_given (Start first) = Some sending
+phase_given Stop = Some stopped
+phase_given _ = None
+
+abbrev pub phase_of : List Step → Phase
+phase_of steps = unwrap_or (last_given phase_given steps) absent
+
+abbrev pub is_absent_at : Phase → Bool
+is_absent_at absent = true
+is_absent_at described = false
+is_absent_at sending = false
+is_absent_at stopped = false
+
+abbrev pub is_described_at : Phase → Bool
+is_described_at absent = false
+is_described_at described = true
+is_described_at sending = false
+is_described_at stopped = false
+
+abbrev pub is_sending_at : Phase → Bool
+is_sending_at absent = false
+is_sending_at described = false
+is_sending_at sending = true
+is_sending_at stopped = false
+
+abbrev pub was_started_at : Phase → Bool
+was_started_at absent = false
+was_started_at described = false
+was_started_at sending = true
+was_started_at stopped = true
+
+-- the source is between its start and its stop
+abbrev pub is_sending : List Step → Bool
+is_sending steps = is_sending_at (phase_of steps)
+
+-- the source was started
+abbrev pub is_started : List Step → Bool
+is_started steps = was_started_at (phase_of steps)
+
+-- ---- its calls and its air
 
 -- the airs of a source after its calls, one a stream
 abbrev pub Airs : Type 0
@@ -49,4 +178,4 @@ pdu_in airs steps event bis subevent =
 -- the event that is open: the last one performed, until it is closed by the next one, by `stop` or by `end`
 abbrev pub open_event : List Step → Option ℕ
 open_event steps =
-    if is_stopped steps || is_over steps || (performed steps == 0) then None else Some (event_back steps 0)
+    if not (is_sending steps) || is_over steps || (performed steps == 0) then None else Some (event_back steps 0)

@@ -1,95 +1,107 @@
--- What the steps of a scenario say of its version and of its source. Lists of steps have the newest first. The scenario
--- language is this project's own; the numbers of a group are those of the BIGInfo (Core 5.2, volume 6 part B,
--- section 4.4.6.11).
-use Rattle.std.specs.Prelude.{ℕ, ◌+◌, Bool, true, false, List, [], ◌∷◌, Option, None, Some, unwrap_or}
-use Rattle.std.specs.List.{list_any}
+-- What the steps of a scenario say of its version, of its sinks and of the source that each step means. Lists of steps have
+-- the newest first. The scenario language is this project's own.
+use Rattle.std.specs.Prelude.{ℕ, ◌+◌, ◌-◌, ◌==◌, ◌&&◌, ◌||◌, Bool, true, false, List, [], ◌∷◌, Option, None, Some, unwrap_or, if◌then◌else◌}
 use Rattle.std.specs.Option.{option_or}
-use Rattle.big_info.specs.declared.info.BigInfo.{BigInfo}
 use Rattle.scenario_text.specs.declared.step.Step.{Step}
-use Rattle.scenario_text.specs.declared.step.Step.TheVariants.{Scenario, Group, Start, Sink, Stop, End}
+use Rattle.scenario_text.specs.declared.step.Step.TheVariants.{Scenario, Group, Ident, Start, Sink, Tuned, Unit, Event, Hear, Air, Inject, Sniff, Source, Stop, End}
 
 -- what the last step that gives something gives
 abbrev pub last_given : {A : Type 0} → (Step → Option A) → List Step → Option A
 last_given gives [] = None
 last_given gives (step ∷ earlier) = option_or (gives step) (last_given gives earlier)
 
--- ---- the version
+-- ---- the scenario
 
-abbrev pub version_given : Step → Option ℕ
-version_given (Scenario version) = Some version
-version_given _ = None
+-- where a scenario stands: before its first step, under way in a version, or behind `end`
+pub data Stage : Type 0 where
+  unbegun : Stage
+  running : (version : ℕ) → Stage
+  over : (version : ℕ) → Stage
 
 -- a scenario has the version of its first step, and 1 before it
+abbrev pub version_at : Stage → ℕ
+version_at unbegun = 1
+version_at (running version) = version
+version_at (over version) = version
+
+abbrev pub stage_after : Step → Stage → Stage
+stage_after (Scenario version) stage = running version
+stage_after End stage = over (version_at stage)
+stage_after _ stage = stage
+
+abbrev pub stage_of : List Step → Stage
+stage_of [] = unbegun
+stage_of (step ∷ earlier) = stage_after step (stage_of earlier)
+
 abbrev pub version_of : List Step → ℕ
-version_of steps = unwrap_or (last_given version_given steps) 1
+version_of steps = version_at (stage_of steps)
 
--- ---- the source
+abbrev pub is_unbegun_at : Stage → Bool
+is_unbegun_at unbegun = true
+is_unbegun_at (running version) = false
+is_unbegun_at (over version) = false
 
--- what a `group` line says: the group, the anchor of the first event in µs, and Presentation_Delay in µs
-pub record GroupLine : Type 0 where
-  pub info : BigInfo
-  pub origin : ℕ
-  pub delay : ℕ
+-- no `scenario` step was made
+abbrev pub is_unbegun : List Step → Bool
+is_unbegun steps = is_unbegun_at (stage_of steps)
 
--- the BIGInfo of a group whose other fields aren't spoken of
-abbrev pub info_with : (framing iso sdu max_sdu max_pdu num_bis bn nse irc pto sub spacing phy : ℕ) → BigInfo
-info_with framing iso sdu max_sdu max_pdu num_bis bn nse irc pto sub spacing phy = record {
-  big_offset = 0;
-  big_offset_units = 0;
-  iso_interval = iso;
-  num_bis = num_bis;
-  nse = nse;
-  bn = bn;
-  sub_interval = sub;
-  pto = pto;
-  bis_spacing = spacing;
-  irc = irc;
-  max_pdu = max_pdu;
-  seed_access_address = 0;
-  sdu_interval = sdu;
-  max_sdu = max_sdu;
-  base_crc_init = 0;
-  chm = 0;
-  phy = phy;
-  bis_payload_count = 0;
-  framing = framing;
-  cipher = None;
-}
+abbrev pub is_over_at : Stage → Bool
+is_over_at unbegun = false
+is_over_at (running version) = false
+is_over_at (over version) = true
 
-abbrev pub group_given : Step → Option GroupLine
-group_given (Group framing origin delay iso sdu max_sdu max_pdu num_bis bn nse irc pto sub spacing phy) = Some (record {
-  info = info_with framing iso sdu max_sdu max_pdu num_bis bn nse irc pto sub spacing phy;
-  origin = origin;
-  delay = delay;
-})
-group_given _ = None
-
-abbrev pub group_of : List Step → Option GroupLine
-group_of steps = last_given group_given steps
-
-abbrev pub start_given : Step → Option ℕ
-start_given (Start first) = Some first
-start_given _ = None
-
--- the first event of the source, where it was started
-abbrev pub start_of : List Step → Option ℕ
-start_of steps = last_given start_given steps
-
-abbrev pub is_stop : Step → Bool
-is_stop Stop = true
-is_stop _ = false
-
--- whether the source was stopped
-abbrev pub is_stopped : List Step → Bool
-is_stopped steps = list_any is_stop steps
-
-abbrev pub is_end : Step → Bool
-is_end End = true
-is_end _ = false
-
--- whether the scenario ended
+-- the scenario ended
 abbrev pub is_over : List Step → Bool
-is_over steps = list_any is_end steps
+is_over steps = is_over_at (stage_of steps)
+
+-- ---- the sources, 0 and 1
+
+abbrev pub chosen_given : Step → Option ℕ
+chosen_given (Source source) = Some source
+chosen_given _ = None
+
+-- the source that a source line means after these steps
+abbrev pub chosen_of : List Step → ℕ
+chosen_of steps = unwrap_or (last_given chosen_given steps) 0
+
+-- the source beside this one
+abbrev pub other_of : ℕ → ℕ
+other_of s = 1 - s
+
+-- the step is one of the whole scenario
+abbrev pub is_common : Step → Bool
+is_common (Scenario version) = true
+is_common End = true
+is_common _ = false
+
+-- the step is a source line: it means the chosen source
+abbrev pub is_source_line : Step → Bool
+is_source_line (Group framing origin delay iso sdu max_sdu max_pdu num_bis bn nse irc pto sub spacing phy) = true
+is_source_line (Ident address_type address sid broadcast_id) = true
+is_source_line (Start first) = true
+is_source_line (Tuned sink which) = true
+is_source_line (Unit bis time octets) = true
+is_source_line Event = true
+is_source_line (Hear sink back bis subevent) = true
+is_source_line (Air sink lose) = true
+is_source_line (Inject sink back bis subevent octets) = true
+is_source_line (Sniff back bis subevent) = true
+is_source_line Stop = true
+is_source_line _ = false
+
+-- the step after these says something of a source
+abbrev pub is_of_source : ℕ → List Step → Step → Bool
+is_of_source s earlier step = is_common step || (is_source_line step && (chosen_of earlier == s))
+
+-- the steps that say something of a source: all that is said of a source is taken of these
+abbrev pub steps_of_source : ℕ → List Step → List Step
+steps_of_source s [] = []
+steps_of_source s (step ∷ earlier) =
+    if is_of_source s earlier step then step ∷ steps_of_source s earlier else steps_of_source s earlier
+
+-- the steps of the source that a source line means after these steps
+abbrev pub chosen_steps : List Step → List Step
+chosen_steps steps = steps_of_source (chosen_of steps) steps
 
 -- ---- the sinks
 

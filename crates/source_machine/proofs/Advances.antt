@@ -1,12 +1,12 @@
 -- The streams of a source as events are laid.
-use Rattle.std.proofs.Common.{ℕ, ◌≡◌, ◌<◌, ◌≤◌, ◌+◌, ◌^◌, List, ◌∷◌, length, get_or, map, arith, ◌∙◌, ap, sym, refl, inl, inr}
+use Rattle.std.proofs.Common.{ℕ, ◌≡◌, ◌<◌, ◌≤◌, ◌+◌, ◌^◌, List, [], ◌∷◌, length, get_or, map, arith, ◌∙◌, ap, sym, refl, inl, inr}
 use Rattle.std.proofs.lemmas.Bool.{cases_lt}
 use Rattle.std.proofs.lemmas.List.Elements.{AllZip-get_or, length_all_zip}
 use Rattle.std.specs.List.{All, AllZip, range_with_len}
 use Rattle.big_info.specs.Schedule.{horizon_of}
 use Rattle.source_machine.specs.Calls.{Setup, Call, event, laid_with, stream_calls}
-use Rattle.source_machine.specs.Sources.{Source, Stream, kept_of, stream_after, stream_of}
-use Rattle.source_machine.specs.Streams.{Grows, IsReady, IsSource, Lays}
+use Rattle.source_machine.specs.State.Sources.{Source, Stream, kept_of, stream_after, stream_of}
+use Rattle.source_machine.specs.State.Streams.{Grows, IsLaid, IsReady, IsSource, Lays}
 use Rattle.isoal_unframed.specs.Calls.{lays}
 use Rattle.source_machine.proofs.Lists.{zip_map}
 
@@ -26,7 +26,7 @@ stream_next : (setup : Setup) (next count : ℕ) (old new : Stream) → setup.fi
     → (next ≡ setup.first → count ≡ horizon_of setup.info + 1) → (setup.first < next → count ≡ 1)
     → IsReady setup next old → Lays count old new → IsReady setup (next + 1) new
 stream_next setup next count old new order first later ready laying =
-    let room : kept_of old.info ≡ horizon_of setup.info + 32 = ap kept_of ready.info in
+    let room : kept_of old.info ≡ horizon_of setup.info + 1 = ap kept_of ready.info in
     record {
       info = laying.grows.info ∙ ready.info;
       kept = λ some. elim (cases_lt setup.first next) [
@@ -52,7 +52,7 @@ streams_next setup calls count n new is laying =
     ∙ ap (λ k. stream_after setup.info (lays k (stream_calls setup.info bis calls))) is) laying
 
 pub source_grown : (source : Source) (new : List Stream) → IsSource source → AllZip Grows source.streams new
-    → IsSource (record { setup = source.setup; next = source.next; streams = new })
+    → IsSource (record source { streams = new })
 source_grown source new is grows = record {
   unframed = is.unframed;
   origin = is.origin;
@@ -66,7 +66,7 @@ source_grown source new is grows = record {
 pub source_next : (source : Source) (count : ℕ) (new : List Stream) → IsSource source → source.next < 2 ^ 39
     → (source.next ≡ source.setup.first → count ≡ horizon_of source.setup.info + 1) → (source.setup.first < source.next → count ≡ 1)
     → AllZip (Lays count) source.streams new
-    → IsSource (record { setup = source.setup; next = source.next + 1; streams = new })
+    → IsSource (record source { next = source.next + 1; streams = new })
 source_next source count new is below first later laying = record {
   unframed = is.unframed;
   origin = is.origin;
@@ -76,3 +76,22 @@ source_next source count new is below first later laying = record {
   streams = sym (length_all_zip (Lays count) source.streams new laying) ∙ is.streams;
   ready = ready_next source.setup source.next count source.streams new is.first first later is.ready laying;
 }
+
+grown_by : (count : ℕ) (old new : List Stream) → AllZip (Lays count) old new → AllZip Grows old new
+grown_by count [] [] all = tt
+grown_by count [] (y ∷ new) all = absurd all
+grown_by count (x ∷ old) [] all = absurd all
+grown_by count (x ∷ old) (y ∷ new) all = (all.0.grows, grown_by count old new all.1)
+
+-- the streams after laying, where no event is counted
+pub source_laid : (source : Source) (count : ℕ) (new : List Stream) → IsSource source → AllZip (Lays count) source.streams new
+    → IsSource (record source { streams = new })
+source_laid source count new is laying = source_grown source new is (grown_by count source.streams new laying)
+
+-- each stream has the next event and the H events behind it
+pub streams_laid : (source : Source) (count : ℕ) (new : List Stream) → IsSource source
+    → (source.next ≡ source.setup.first → count ≡ horizon_of source.setup.info + 1) → (source.setup.first < source.next → count ≡ 1)
+    → AllZip (Lays count) source.streams new → All (IsLaid source.setup.info) new
+streams_laid source count new is first later laying = λ k none within.
+    let ready = ready_next source.setup source.next count source.streams new is.first first later is.ready laying k none within in
+    record { group = ready.info; kept = ready.kept (omega (arith, is.first)) }

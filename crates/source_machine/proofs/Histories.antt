@@ -1,19 +1,18 @@
 -- What the calls of a source say of its streams.
-use Rattle.std.proofs.Common.{ℕ, ◌≡◌, ◌≢◌, ◌<◌, ◌≤◌, ◌+◌, ◌-◌, zero, suc, Option, Some, List, [], ◌∷◌, ◌++◌, length, arith, ◌∙◌, ap, sym, refl, inl, inr}
+use Rattle.std.proofs.Common.{ℕ, ◌≡◌, ◌≢◌, ◌<◌, ◌≤◌, ◌+◌, ◌-◌, zero, suc, Option, Some, List, [], ◌∷◌, ◌++◌, length, map, arith, ◌∙◌, ap, sym, refl, inl, inr}
 use Rattle.std.proofs.lemmas.Bool.{cases_eq, eq-eqb, ne_eqb}
 use Rattle.std.proofs.lemmas.List.{length-drop}
 use Rattle.std.proofs.lemmas.List.FromFn.{get_or-map-range_with_len, length-map-range_with_len}
 use Rattle.std.proofs.lemmas.Option.{slice_get-get_or}
-use Rattle.std.specs.List.{range_with_len, slice_get}
+use Rattle.std.specs.List.{AllZip, range_with_len, slice_get}
 use Rattle.big_info.specs.declared.info.BigInfo.{BigInfo}
 use Rattle.big_info.specs.Schedule.{horizon_of}
-use Rattle.isoal_unframed.specs.Air.{Air, event_at, unframed_air}
+use Rattle.isoal_base.specs.Air.{Air, begun_in, event_at}
+use Rattle.isoal_unframed.specs.Air.{unframed_air}
 use Rattle.isoal_unframed.specs.Calls.{Call as StreamCall, accept, lay, lays, accepted, begun, events as laid_events}
-use Rattle.source_machine.specs.Airs.{AreAirs, airs_of, begun_in, begun_of, waiting_of}
+use Rattle.source_machine.specs.Airs.{AreAirs, IsAir, airs_of, begun_of, waiting_of}
 use Rattle.source_machine.specs.Calls.{Setup, Call, give, event, events, given, stream_calls, laid_with}
-use Rattle.source_machine.specs.Sources.{stream_of}
-use Rattle.std.proofs.lemmas.Slice.Zip.{AllZip-map}
-use Rattle.source_machine.proofs.Lists.{zip_from_map}
+use Rattle.source_machine.specs.State.Sources.{stream_of}
 
 lays_accepted : (calls : List StreamCall) (n : ℕ) → accepted (lays n calls) ≡ accepted calls
 lays_accepted calls zero = refl
@@ -99,12 +98,25 @@ waiting_is setup calls bis least within =
     ∙ ap (λ units. length units - begun setup.info sent) (sym (accepted_are setup.info bis calls))
     ∙ sym (length-drop (begun setup.info sent) (accepted sent))
 
-pub are_airs : (setup : Setup) (calls : List Call) → AreAirs setup calls (airs_of setup calls)
-are_airs setup calls = zip_from_map (λ bis. unframed_air setup.info (stream_calls setup.info bis calls)) (range_with_len 1 setup.info.num_bis)
+each_is : (setup : Setup) (calls : List Call) (indices : List ℕ)
+    → AllZip (IsAir setup calls) indices (map (λ bis. unframed_air setup.info (stream_calls setup.info bis calls)) indices)
+each_is setup calls [] = tt
+each_is setup calls (bis ∷ indices) = (record { unframed = λ unframed. refl }, each_is setup calls indices)
 
-pub airs_only : (setup : Setup) (calls : List Call) (airs : List Air) → AreAirs setup calls airs → airs ≡ airs_of setup calls
-airs_only setup calls airs are =
-    AllZip-map (λ bis. unframed_air setup.info (stream_calls setup.info bis calls)) (range_with_len 1 setup.info.num_bis) airs are
+pub are_airs : (setup : Setup) (calls : List Call) → AreAirs setup calls (airs_of setup calls)
+are_airs setup calls = each_is setup calls (range_with_len 1 setup.info.num_bis)
+
+each_only : (setup : Setup) (calls : List Call) (indices : List ℕ) (airs : List Air) → setup.info.framing ≡ 0 → AllZip (IsAir setup calls) indices airs
+    → airs ≡ map (λ bis. unframed_air setup.info (stream_calls setup.info bis calls)) indices
+each_only setup calls [] [] unframed are = refl
+each_only setup calls [] (air ∷ airs) unframed are = absurd are
+each_only setup calls (bis ∷ indices) [] unframed are = absurd are
+each_only setup calls (bis ∷ indices) (air ∷ airs) unframed are =
+    ap (λ x. x ∷ airs) (are.0.unframed unframed)
+    ∙ ap (λ xs. unframed_air setup.info (stream_calls setup.info bis calls) ∷ xs) (each_only setup calls indices airs unframed are.1)
+
+pub airs_only : (setup : Setup) (calls : List Call) (airs : List Air) → setup.info.framing ≡ 0 → AreAirs setup calls airs → airs ≡ airs_of setup calls
+airs_only setup calls airs unframed are = each_only setup calls (range_with_len 1 setup.info.num_bis) airs unframed are
 
 -- what was laid stays whatever is laid behind it
 lays_keep : (info : BigInfo) (calls : List StreamCall) (n e : ℕ) → e < laid_events calls

@@ -8,11 +8,12 @@ use Rattle.circular_buffer.specs.Buffer.{keep_last}
 use Rattle.big_info.specs.declared.info.BigInfo.{BigInfo}
 use Rattle.isoal_base.proofs.Ranges.{map_append, map_rest, map_same}
 use Rattle.isoal_base.specs.declared.laid.EventLaid.{EventLaid}
-use Rattle.isoal_unframed.specs.Air.{Air, Entry, unframed_air}
+use Rattle.isoal_base.specs.Air.{Air, Entry, laid_in}
+use Rattle.isoal_unframed.specs.Air.{unframed_air}
 use Rattle.isoal_unframed.specs.Calls.{Call, lay, lays, accepted, begun}
-use Rattle.isoal_unframed.specs.Sender.{Sender, StandsFor, laid_in}
-use Rattle.source_machine.specs.Sources.{Stream, kept_of, last_laid, pdus_at, stream_after}
-use Rattle.source_machine.specs.Streams.{Grows, Lays}
+use Rattle.isoal_unframed.specs.Sender.{Sender, StandsFor}
+use Rattle.source_machine.specs.State.Sources.{Stream, kept_of, last_laid, pdus_at, stream_after}
+use Rattle.source_machine.specs.State.Streams.{Grows, Lays}
 
 newest_at : (entry : Entry) (air : Air) (n : ℕ) → length air ≡ n → pdus_at (entry ∷ air) n ≡ entry.event.pdus
 newest_at entry air n is = rw (eq-eqb (length air) n is) refl

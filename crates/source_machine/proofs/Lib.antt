@@ -1,7 +1,9 @@
 mod Advances
+pub mod AirLaws
 mod Histories
 mod LaidEvents
 mod Lists
 mod Orders
 mod Payloads
+mod Sending
 mod Standing

@@ -56,10 +56,6 @@ zip_broken R xs ys i new long within none_changes done same item made =
       | inr after ↦ rw (rest_same xs ys i new same k none after) (none_changes (get_or xs k none))
     ])
 
-pub zip_from_map : {A B : Type 0} (f : A → B) (xs : List A) → AllZip (λ x y. y ≡ f x) xs (map f xs)
-zip_from_map f [] = tt
-zip_from_map f (x ∷ xs) = (refl, zip_from_map f xs)
-
 pub on_err_of : {T E : Type 0} (P : E → Type 0) (r : Result T E) (fault : E) → IsErrAnd r (λ e. e ≡ fault) → P fault → IfErr r P
 on_err_of P (Ok x) fault is p = tt
 on_err_of P (Err e) fault is p = subst P (sym is) p

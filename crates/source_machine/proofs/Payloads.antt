@@ -9,14 +9,15 @@ use Rattle.std.specs.List.{slice_get}
 use Rattle.std.specs.Option.{option_and_then}
 use Rattle.big_info.specs.declared.info.BigInfo.{BigInfo}
 use Rattle.big_info.specs.Schedule.{group_count, horizon_of}
-use Rattle.isoal_unframed.specs.Air.{Air, Laid, event_at, laid_u, pdu_at, unframed_air}
+use Rattle.isoal_base.specs.Air.{Air, Laid, event_at, pdu_at}
+use Rattle.isoal_unframed.specs.Air.{laid_u, unframed_air}
 use Rattle.isoal_unframed.specs.Calls.{events as laid_events}
 use Rattle.radio_schedule.specs.PayloadNumber.{ahead_of, payload_number}
 use Rattle.source_machine.specs.Airs.{airs_of, content_at, pdu_of}
 use Rattle.iso_pdu.specs.Spelling.{pdu as spelled}
 use Rattle.source_machine.specs.Calls.{Setup, Call, events, next_of, stream_calls}
-use Rattle.source_machine.specs.Sources.{kept_of, last_laid, pdus_at, pdus_in, stream_of}
-use Rattle.source_machine.specs.Streams.{sent_of}
+use Rattle.source_machine.specs.State.Sources.{kept_of, last_laid, pdus_at, pdus_in, stream_of}
+use Rattle.source_machine.specs.State.Streams.{sent_of}
 use Rattle.source_machine.proofs.Histories.{ahead_laid, air_at, air_length, calls_keep}
 
 pub event_of_number : (info : BigInfo) (event subevent : ℕ) → 1 ≤ info.bn
@@ -42,17 +43,18 @@ last_laid_at count air i event within at =
     slice_get-get_or (last_laid count air) i [] (omega arith)
     ∙ ap (λ pdus. Some pdus) (get_or-map-range_with_len (pdus_at air) (length air - count) (min count (length air)) i event [] within at)
 
-pub sent_is : (setup : Setup) (calls : List Call) (back bis subevent : ℕ) (pdu : List ℕ) → 1 ≤ setup.info.bn
-    → 1 ≤ bis → bis ≤ setup.info.num_bis → back ≤ 31 → back < events calls
+-- a stream that performed an event keeps it with the H events behind it
+pub sent_is : (setup : Setup) (calls : List Call) (bis subevent : ℕ) (pdu : List ℕ) → 1 ≤ setup.info.bn
+    → 1 ≤ bis → bis ≤ setup.info.num_bis → 0 < events calls
     → ahead_of setup.info (subevent / setup.info.bn) ≤ horizon_of setup.info
-    → sent_of (stream_of setup calls bis) back subevent ≡ Some pdu
-    → pdu_of setup (airs_of setup calls) (next_of setup calls - 1 - back) bis subevent ≡ Some pdu
-sent_is setup calls back bis subevent pdu some least within near performed ahead is =
+    → sent_of (stream_of setup calls bis) subevent ≡ Some pdu
+    → pdu_of setup (airs_of setup calls) (next_of setup calls - 1) bis subevent ≡ Some pdu
+sent_is setup calls bis subevent pdu some least within performed ahead is =
     let info = setup.info in
     let bn = info.bn in
     let air = unframed_air info (stream_calls info bis calls) in
     let kept = kept_of info in
-    let e : ℕ = next_of setup calls - 1 - back - setup.first in
+    let e : ℕ = next_of setup calls - 1 - setup.first in
     let a : ℕ = ahead_of info (subevent / bn) in
     let place : payload_number info 0 subevent % bn ≡ payload_number info e subevent % bn =
     place_of_number info 0 subevent some ∙ sym (place_of_number info e subevent some) in
@@ -61,7 +63,7 @@ sent_is setup calls back bis subevent pdu some least within near performed ahead
     let long : length (last_laid kept air) ≡ min kept (length air) = length-map-range_with_len (pdus_at air) (length air - kept) (min kept (length air)) in
     let here : payload_number info 0 subevent / bn ≡ 0 + a = event_of_number info 0 subevent some in
     let there : payload_number info e subevent / bn ≡ e + a = event_of_number info e subevent some in
-    let i : ℕ = length (last_laid kept air) + payload_number info 0 subevent / bn - (horizon_of info + 1 + back) in
+    let i : ℕ = length (last_laid kept air) + payload_number info 0 subevent / bn - kept in
     let event : slice_get (last_laid kept air) i ≡ Some (pdus_at air (payload_number info e subevent / bn)) =
     last_laid_at kept air i (payload_number info e subevent / bn) (omega arith) (omega arith) in
     let sent : slice_get (pdus_at air (payload_number info e subevent / bn)) (payload_number info e subevent % bn) ≡ Some pdu =

@@ -1,37 +1,38 @@
 -- A source that stands for its calls.
-use Rattle.std.proofs.Common.{ℕ, ◌≡◌, ◌<◌, ◌≤◌, ◌+◌, ◌-◌, ◌*◌, ◌/◌, ◌^◌, Option, Some, None, List, [], ◌∷◌, length, get_or, set, replicate, arith, ◌∙◌, ap, sym, refl, subst, inl, inr}
+use Rattle.std.proofs.Common.{ℕ, ◌≡◌, ◌<◌, ◌≤◌, ◌+◌, ◌-◌, ◌*◌, ◌/◌, ◌^◌, Option, Some, None, List, [], ◌∷◌, false, length, map, get_or, set, replicate, arith, ◌∙◌, ap, sym, refl, subst, inl, inr}
 use Rattle.std.proofs.lemmas.Bool.{cases_eq, eq-eqb, ne_eqb, le-leb, lt-leb, le-ltb}
 use Rattle.std.proofs.lemmas.List.FromFn.{get_or-map-range_with_len}
 use Rattle.std.specs.Prelude.{nat_le, if◌then◌else◌}
-use Rattle.std.specs.List.{AllZip}
-use Rattle.big_info.specs.Schedule.{horizon_of}
+use Rattle.std.specs.List.{AllZip, range_with_len}
+use Rattle.big_info.specs.Schedule.{group_count, horizon_of}
 use Rattle.isoal_base.proofs.Ranges.{map_changed, map_constant}
-use Rattle.isoal_unframed.specs.Air.{Air}
+use Rattle.isoal_base.specs.Air.{Air}
 use Rattle.isoal_base.specs.declared.laid.PutFault.{PutFault}
 use Rattle.isoal_base.specs.declared.laid.PutFault.TheVariants.{Backlog as Full, Memory, TimeOrder, TooLong}
 use Rattle.isoal_unframed.specs.Sender.{PutFaultIs}
-use Rattle.radio_schedule.specs.PayloadNumber.{ahead_of}
-use Rattle.source_machine.specs.Airs.{airs_of, pdu_of, waiting_of}
+use Rattle.source_machine.specs.Airs.{AreAirs, Sends, airs_of, waiting_of}
 use Rattle.source_machine.specs.Calls.{Setup, Call, give, event, events, laid_with, next_of, stream_calls}
-use Rattle.source_machine.specs.Faults.{air_fault, event_fault, give_fault, of_sender, refused_unit}
-use Rattle.source_machine.specs.Sources.{Source, StandsFor, Stream, stream_after, stream_of}
-use Rattle.source_machine.specs.Streams.{Accepts, IsFit, Lays, sender_of, sent_of}
+use Rattle.source_machine.specs.Faults.{event_fault, give_fault, of_sender, refused_unit}
+use Rattle.source_machine.specs.State.Sources.{Source, StandsFor, Stream, stream_after, stream_of}
+use Rattle.source_machine.specs.State.Streams.{Accepts, IsFit, IsSource, Lays, Performs, sender_of, sent_at}
+use Rattle.source_machine.specs.declared.setup.Identity.{Identity}
 use Rattle.source_machine.specs.declared.fault.GiveFault.TheVariants.{Backlog}
 use Rattle.source_machine.proofs.Advances.{streams_next}
-use Rattle.source_machine.proofs.Histories.{given_other, given_same, waiting_is}
-use Rattle.source_machine.proofs.Payloads.{sent_is}
+use Rattle.source_machine.proofs.Sending.{event_sends, gathered_count}
+use Rattle.source_machine.proofs.Histories.{airs_only, given_other, given_same, waiting_is}
 
 pub stands_new : (setup : Setup) (streams : List Stream) → streams ≡ replicate setup.info.num_bis (stream_after setup.info [])
-    → StandsFor [] (record { setup = setup; next = setup.first; streams = streams })
-stands_new setup streams are = record {
+    → (identity : Identity) → StandsFor [] (record { identity = identity; setup = setup; next = setup.first; streams = streams; failed = false })
+stands_new setup streams are identity = record {
   next = omega arith;
   streams = are ∙ sym (map_constant (stream_of setup []) (stream_after setup.info []) 1 setup.info.num_bis (λ bis least below. refl));
+  works = refl;
 }
 
 pub stands_event : (source : Source) (calls : List Call) (count : ℕ) (new : List Stream) → StandsFor calls source
     → (source.next ≡ source.setup.first → count ≡ horizon_of source.setup.info + 1) → (source.setup.first < source.next → count ≡ 1)
     → AllZip (Lays count) source.streams new
-    → StandsFor (event ∷ calls) (record { setup = source.setup; next = source.next + 1; streams = new })
+    → StandsFor (event ∷ calls) (record source { next = source.next + 1; streams = new })
 stands_event source calls count new stands first later laying =
     let setup = source.setup in
     let is : count ≡ laid_with setup.info calls =
@@ -42,6 +43,7 @@ stands_event source calls count new stands first later laying =
     record {
       next = omega (arith, stands.next);
       streams = streams_next setup calls count setup.info.num_bis new is (subst (λ streams. AllZip (Lays count) streams new) stands.streams laying);
+      works = stands.works;
     }
 
 pub has_numbers_left : (source : Source) (calls : List Call) → StandsFor calls source
@@ -59,7 +61,7 @@ stream_is source calls bis stream stands least within is =
 
 pub stands_give : (source : Source) (calls : List Call) (bis : ℕ) (time : Option ℕ) (octets : List ℕ) (old new : Stream) → StandsFor calls source
     → 1 ≤ bis → bis ≤ source.setup.info.num_bis → old ≡ get_or source.streams (bis - 1) old → Accepts octets old new
-    → StandsFor (give bis time octets ∷ calls) (record { setup = source.setup; next = source.next; streams = set source.streams (bis - 1) new })
+    → StandsFor (give bis time octets ∷ calls) (record source { streams = set source.streams (bis - 1) new })
 stands_give source calls bis time octets old new stands least within is accepts =
     let setup = source.setup in
     let here : stream_of setup (give bis time octets ∷ calls) bis ≡ new =
@@ -72,6 +74,7 @@ stands_give source calls bis time octets old new stands least within is accepts 
           ∙ sym (map_changed (stream_of setup calls) (stream_of setup (give bis time octets ∷ calls)) 1 setup.info.num_bis (bis - 1) new (omega arith)
           (λ i first last other. sym (ap (stream_after setup.info) (given_other setup.info i bis time octets calls (λ e. other (omega (arith, e, at))))))
           (ap (stream_of setup (give bis time octets ∷ calls)) at ∙ here));
+      works = stands.works;
     }
 
 fit_fault : (setup : Setup) (calls : List Call) (airs : List Air) (bis : ℕ) (time : Option ℕ) (octets : List ℕ)
@@ -80,55 +83,55 @@ fit_fault : (setup : Setup) (calls : List Call) (airs : List Air) (bis : ℕ) (t
 fit_fault setup calls airs bis time octets unframed fit =
     rw (le-ltb setup.info.num_bis bis fit.has_stream, le-ltb setup.info.max_sdu (length octets) fit.short, eq-eqb setup.info.framing 0 unframed, fit.untimed) refl
 
-pub takes_unit : (source : Source) (calls : List Call) (bis : ℕ) (time : Option ℕ) (octets : List ℕ) (stream : Stream) → StandsFor calls source
-    → source.setup.info.framing ≡ 0 → IsFit source.setup bis time octets → 1 ≤ bis → stream ≡ get_or source.streams (bis - 1) stream
-    → length stream.waiting < 16 → give_fault source.setup calls (airs_of source.setup calls) bis time octets ≡ None
-takes_unit source calls bis time octets stream stands unframed fit least is room =
-    let waits : waiting_of calls (airs_of source.setup calls) bis ≡ length stream.waiting =
-    waiting_is source.setup calls bis least fit.has_stream
+pub takes_unit : (source : Source) (calls : List Call) (airs : List Air) (bis : ℕ) (time : Option ℕ) (octets : List ℕ) (stream : Stream) → StandsFor calls source
+    → AreAirs source.setup calls airs → source.setup.info.framing ≡ 0 → IsFit source.setup bis time octets → 1 ≤ bis → stream ≡ get_or source.streams (bis - 1) stream
+    → length stream.waiting < 16 → give_fault source.setup calls airs bis time octets ≡ None
+takes_unit source calls airs bis time octets stream stands are unframed fit least is room =
+    let waits : waiting_of calls airs bis ≡ length stream.waiting =
+    ap (λ list. waiting_of calls list bis) (airs_only source.setup calls airs unframed are) ∙ waiting_is source.setup calls bis least fit.has_stream
     ∙ sym (ap (λ (s : Stream). length s.waiting) (stream_is source calls bis stream stands least fit.has_stream is)) in
-    fit_fault source.setup calls (airs_of source.setup calls) bis time octets unframed fit
+    fit_fault source.setup calls airs bis time octets unframed fit
     ∙ rw (waits, lt-leb 16 (length stream.waiting) room) refl
 
-pub backlog : (source : Source) (calls : List Call) (bis : ℕ) (time : Option ℕ) (octets : List ℕ) (stream : Stream) → StandsFor calls source
-    → source.setup.info.framing ≡ 0 → IsFit source.setup bis time octets → 1 ≤ bis → stream ≡ get_or source.streams (bis - 1) stream
-    → 16 ≤ length stream.waiting → give_fault source.setup calls (airs_of source.setup calls) bis time octets ≡ Some Backlog
-backlog source calls bis time octets stream stands unframed fit least is full =
-    let waits : waiting_of calls (airs_of source.setup calls) bis ≡ length stream.waiting =
-    waiting_is source.setup calls bis least fit.has_stream
+pub backlog : (source : Source) (calls : List Call) (airs : List Air) (bis : ℕ) (time : Option ℕ) (octets : List ℕ) (stream : Stream) → StandsFor calls source
+    → AreAirs source.setup calls airs → source.setup.info.framing ≡ 0 → IsFit source.setup bis time octets → 1 ≤ bis → stream ≡ get_or source.streams (bis - 1) stream
+    → 16 ≤ length stream.waiting → give_fault source.setup calls airs bis time octets ≡ Some Backlog
+backlog source calls airs bis time octets stream stands are unframed fit least is full =
+    let waits : waiting_of calls airs bis ≡ length stream.waiting =
+    ap (λ list. waiting_of calls list bis) (airs_only source.setup calls airs unframed are) ∙ waiting_is source.setup calls bis least fit.has_stream
     ∙ sym (ap (λ (s : Stream). length s.waiting) (stream_is source calls bis stream stands least fit.has_stream is)) in
-    fit_fault source.setup calls (airs_of source.setup calls) bis time octets unframed fit
+    fit_fault source.setup calls airs bis time octets unframed fit
     ∙ rw (waits, le-leb 16 (length stream.waiting) full) refl
 
-pub on_air : (source : Source) (calls : List Call) (back bis subevent : ℕ) → StandsFor calls source
-    → bis ≤ source.setup.info.num_bis → subevent < source.setup.info.nse → back < source.next - source.setup.first
-    → air_fault source.setup calls back bis subevent ≡ None
-on_air source calls back bis subevent stands has_stream has_subevent performed =
-    rw (
-      le-ltb source.setup.info.num_bis bis has_stream,
-      lt-leb source.setup.info.nse subevent has_subevent,
-      lt-leb (events calls) back (omega (arith, stands.next, performed)),
-    ) refl
-
-pub heard_is : (source : Source) (calls : List Call) (back bis subevent : ℕ) (stream : Stream) (pdu : List ℕ) → StandsFor calls source
-    → 1 ≤ source.setup.info.bn → 1 ≤ bis → bis ≤ source.setup.info.num_bis → back ≤ 31 → back < source.next - source.setup.first
-    → ahead_of source.setup.info (subevent / source.setup.info.bn) ≤ horizon_of source.setup.info
-    → stream ≡ get_or source.streams (bis - 1) stream → sent_of stream back subevent ≡ Some pdu
-    → pdu_of source.setup (airs_of source.setup calls) (next_of source.setup calls - 1 - back) bis subevent ≡ Some pdu
-heard_is source calls back bis subevent stream pdu stands some least within near performed ahead is sent =
-    sent_is source.setup calls back bis subevent pdu some least within near (omega (arith, stands.next, performed)) ahead
-    (subst (λ (s : Stream). sent_of s back subevent ≡ Some pdu) (stream_is source calls bis stream stands least within is) sent)
-
 -- a sender's refusal says why the source refuses the unit
-pub put_refused : (source : Source) (calls : List Call) (bis : ℕ) (time : Option ℕ) (octets : List ℕ) (stream : Stream) (fault : PutFault) → StandsFor calls source
-    → source.setup.info.framing ≡ 0 → IsFit source.setup bis time octets → 1 ≤ bis → stream ≡ get_or source.streams (bis - 1) stream
+pub put_refused : (source : Source) (calls : List Call) (airs : List Air) (bis : ℕ) (time : Option ℕ) (octets : List ℕ) (stream : Stream) (fault : PutFault) → StandsFor calls source
+    → AreAirs source.setup calls airs → source.setup.info.framing ≡ 0 → IsFit source.setup bis time octets → 1 ≤ bis → stream ≡ get_or source.streams (bis - 1) stream
     → PutFaultIs (sender_of stream) octets fault
-    → give_fault source.setup calls (airs_of source.setup calls) bis time octets ≡ refused_unit (of_sender fault)
-put_refused source calls bis time octets stream TooLong stands unframed fit least is fault =
+    → give_fault source.setup calls airs bis time octets ≡ refused_unit (of_sender fault)
+put_refused source calls airs bis time octets stream TooLong stands are unframed fit least is fault =
     let info = ap (λ (s : Stream). s.info.max_sdu) (stream_is source calls bis stream stands least fit.has_stream is) in
     absurd (omega (arith, info, fit.short, fault))
-put_refused source calls bis time octets stream TimeOrder stands unframed fit least is fault = absurd fault
-put_refused source calls bis time octets stream Full stands unframed fit least is fault =
-    backlog source calls bis time octets stream stands unframed fit least is (omega (arith, fault.1))
-put_refused source calls bis time octets stream Memory stands unframed fit least is fault =
-    takes_unit source calls bis time octets stream stands unframed fit least is fault.room
+put_refused source calls airs bis time octets stream TimeOrder stands are unframed fit least is fault = absurd fault
+put_refused source calls airs bis time octets stream Full stands are unframed fit least is fault =
+    backlog source calls airs bis time octets stream stands are unframed fit least is (omega (arith, fault.1))
+put_refused source calls airs bis time octets stream Memory stands are unframed fit least is fault =
+    takes_unit source calls airs bis time octets stream stands are unframed fit least is fault.room
+
+-- the next event was performed, where each stream laid so many events
+pub performs : (source : Source) (count : ℕ) (new : List Stream) (pdus : List (List ℕ)) → IsSource source → 1 ≤ source.setup.info.bn
+    → group_count source.setup.info * source.setup.info.bn ≡ source.setup.info.nse
+    → (source.next ≡ source.setup.first → count ≡ horizon_of source.setup.info + 1) → (source.setup.first < source.next → count ≡ 1)
+    → AllZip (Lays count) source.streams new
+    → map Some pdus ≡ map (sent_at source.setup.info new) (range_with_len 0 (source.setup.info.num_bis * source.setup.info.nse))
+    → Performs source (record source { next = source.next + 1; streams = new }) pdus
+performs source count new pdus is some whole first later laying gathered = record {
+  next = refl;
+  failed = refl;
+  count = gathered_count (sent_at source.setup.info new) pdus (source.setup.info.num_bis * source.setup.info.nse) gathered;
+  stands = λ calls stands. stands_event source calls count new stands first later laying;
+  sent = λ calls airs stands are.
+      let after = stands_event source calls count new stands first later laying in
+      subst (λ list. Sends source.setup list source.next pdus) (sym (airs_only source.setup (event ∷ calls) airs is.unframed are))
+      (subst (λ at. Sends source.setup (airs_of source.setup (event ∷ calls)) at pdus) (omega (arith, stands.next))
+      (event_sends source.setup (event ∷ calls) new pdus some whole (omega arith) after.streams gathered));
+}

@@ -1,24 +1,25 @@
 -- What the streams of a source send (Core 5.2, volume 6 part B, section 4.4.6, and part G, section 2): the air of each,
 -- and the PDU of it that a subevent carries.
-use Rattle.std.specs.Prelude.{ℕ, ◌+◌, ◌-◌, ◌/◌, ◌%◌, ◌≡◌, List, [], ◌∷◌, length, map, Option, Some, None, slice_get, option_and_then}
+use Rattle.std.specs.Prelude.{ℕ, ◌+◌, ◌-◌, ◌*◌, ◌/◌, ◌%◌, ◌≡◌, ◌≤◌, ◌<◌, List, [], ◌∷◌, length, map, Option, Some, None, slice_get, option_and_then}
 use Rattle.std.specs.List.{AllZip, range_with_len}
 use Rattle.big_info.specs.Schedule.{per_unit_of}
 use Rattle.iso_pdu.specs.Layout.{Content}
-use Rattle.isoal_base.specs.Slot.{laid}
+use Rattle.isoal_unframed.specs.Slot.{laid}
 use Rattle.radio_schedule.specs.PayloadNumber.{payload_number}
-use Rattle.isoal_unframed.specs.Air.{Air, before_event, pdu_at, unframed_air, unit_at}
+use Rattle.isoal_base.specs.Air.{Air, begun_in, pdu_at}
+use Rattle.isoal_unframed.specs.Air.{before_event, unframed_air, unit_at}
 use Rattle.isoal_unframed.specs.Calls.{begun}
 use Rattle.source_machine.specs.Calls.{Setup, Call, given, stream_calls}
 
--- the air of a stream after these calls
-abbrev pub IsAir : Setup → List Call → ℕ → Air → Type 0
-IsAir setup calls bis air = air ≡ unframed_air setup.info (stream_calls setup.info bis calls)
+-- the air of a stream after these calls, by the framing of the group
+pub record IsAir (setup : Setup) (calls : List Call) (bis : ℕ) (air : Air) : Type 0 where
+  pub unframed : setup.info.framing ≡ 0 → air ≡ unframed_air setup.info (stream_calls setup.info bis calls)
 
 -- the airs of the streams, by rising index
 abbrev pub AreAirs : Setup → List Call → List Air → Type 0
 AreAirs setup calls airs = AllZip (IsAir setup calls) (range_with_len 1 setup.info.num_bis) airs
 
--- the only such airs
+-- the only such airs of an unframed group
 abbrev pub airs_of : Setup → List Call → List Air
 airs_of setup calls =
     map (λ bis. unframed_air setup.info (stream_calls setup.info bis calls)) (range_with_len 1 setup.info.num_bis)
@@ -28,6 +29,12 @@ airs_of setup calls =
 abbrev pub pdu_of : Setup → List Air → ℕ → ℕ → ℕ → Option (List ℕ)
 pdu_of setup airs event bis subevent =
     option_and_then (λ air. pdu_at setup.info.bn air (payload_number setup.info (event - setup.first) subevent)) (slice_get airs (bis - 1))
+
+-- the PDUs that an event sends: that of stream b and subevent n, from 0, stands at place (b - 1) × NSE + n
+pub record Sends (setup : Setup) (airs : List Air) (event : ℕ) (pdus : List (List ℕ)) : Type 0 where
+  pub count : length pdus ≡ setup.info.num_bis * setup.info.nse
+  pub each : (bis subevent : ℕ) → 1 ≤ bis → bis ≤ setup.info.num_bis → subevent < setup.info.nse
+      → slice_get pdus ((bis - 1) * setup.info.nse + subevent) ≡ pdu_of setup airs event bis subevent
 
 -- the unit of each event and slot of a stream, where the slot has one; events count as the payload counter does
 abbrev pub slots_of : Setup → List Call → ℕ → ℕ → ℕ → Option (List ℕ)
@@ -43,11 +50,6 @@ abbrev pub content_at : Setup → List Call → ℕ → ℕ → Content
 content_at setup calls bis number =
     laid setup.info.max_pdu (slots_of setup calls bis (number / setup.info.bn) (number % setup.info.bn / per_unit_of setup.info))
     (number % setup.info.bn % per_unit_of setup.info)
-
--- how many units of an air have their slot or were left out
-abbrev pub begun_in : Air → ℕ
-begun_in [] = 0
-begun_in (entry ∷ earlier) = entry.begun
 
 abbrev pub begun_of : Option Air → ℕ
 begun_of None = 0

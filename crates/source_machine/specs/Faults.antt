@@ -1,18 +1,28 @@
 -- Which calls of a source are refused, and why: the first cause that holds (Core 5.2, volume 6 part B, section 4.4.6:
 -- payload counters have 39 bits; part G, section 2: only framed units have times of their own).
-use Rattle.std.specs.Prelude.{ℕ, ◌+◌, ◌*◌, ◌^◌, ◌==◌, ◌&&◌, nat_lt, nat_le, is_some, if◌then◌else◌, List, length, Option, Some, None}
+use Rattle.std.specs.Prelude.{ℕ, ◌+◌, ◌*◌, ◌^◌, ◌==◌, ◌≡◌, ◌&&◌, nat_lt, nat_le, is_some, if◌then◌else◌, List, length, Option, Some, None}
 use Rattle.big_info.specs.Schedule.{horizon_of}
 use Rattle.radio_schedule.specs.declared.air.AirFault.{AirFault}
 use Rattle.radio_schedule.specs.declared.air.AirFault.TheVariants.{NoSuchBis as NoStream, NoSuchSubevent, NotOnAir}
 use Rattle.isoal_base.specs.declared.laid.PutFault.{PutFault}
 use Rattle.isoal_base.specs.declared.laid.PutFault.TheVariants as put_faults
-use Rattle.isoal_unframed.specs.Air.{Air}
+use Rattle.isoal_base.specs.Air.{Air}
 use Rattle.source_machine.specs.Calls.{Setup, Call, events, next_of}
 use Rattle.source_machine.specs.Airs.{waiting_of}
+use Rattle.big_info.specs.declared.info.BigInfo.{BigInfo}
+use Rattle.big_info.specs.Rows.{first_fault}
+use Rattle.source_machine.specs.declared.fault.ConfigureFault.{ConfigureFault}
+use Rattle.source_machine.specs.declared.fault.ConfigureFault.TheVariants as configure_faults
 use Rattle.source_machine.specs.declared.fault.GiveFault.{GiveFault}
 use Rattle.source_machine.specs.declared.fault.GiveFault.TheVariants as give_faults
 use Rattle.source_machine.specs.declared.fault.EventFault.{EventFault}
 use Rattle.source_machine.specs.declared.fault.EventFault.TheVariants as event_faults
+
+-- why a source takes no group, where a payload may be sent so many events ahead: the first row of the group check that
+-- holds; nothing is said of want of memory
+abbrev pub ConfigureFails : ℕ → BigInfo → ConfigureFault → Type 0
+ConfigureFails horizon info (configure_faults.BadGroup fault) = first_fault horizon info ≡ Some fault
+ConfigureFails horizon info configure_faults.Memory = Unit {0}
 
 -- why a unit is refused: the group has no such stream, the unit has more than Max_SDU octets, it has a time in an
 -- unframed group, 16 units of the stream wait

@@ -1,5 +1,5 @@
 pub mod Airs
 pub mod Calls
 pub mod Faults
-pub mod Sources
-pub mod Streams
+pub mod Setups
+pub mod State

@@ -3,7 +3,17 @@ ghost use Rattle.source_machine.specs.declared.fault.EventFault.TheVariants.{Mem
 ghost use Rattle.source_machine.specs.Faults.{of_sender};
 
 use bcast_base::Memory;
+use big_info::GroupFault;
 use isoal_base::PutFault;
+
+/// Why a source took no group.
+#[derive(Clone, Copy, Debug, PartialEq, Eq)]
+pub enum ConfigureFault {
+    /// The first row of the group check that holds.
+    BadGroup(GroupFault),
+    /// Memory ran out.
+    Memory,
+}
 
 /// Why a source refused a unit.
 #[derive(Clone, Copy, Debug, PartialEq, Eq)]

@@ -3,31 +3,34 @@ ghost use Rattle.std.specs.Prelude.{◌≡◌, ◌≤◌, ◌<◌, ◌-◌, ◌+
 ghost use Rattle.big_info.specs.Schedule.{per_event_of};
 ghost use Rattle.big_info.specs.declared.group.Group.{Group};
 ghost use Rattle.iso_pdu.specs.Spelling.{pdu};
-ghost use Rattle.isoal_unframed.specs.Air.{Air, laid_u};
+ghost use Rattle.isoal_base.specs.Air.{Air};
+ghost use Rattle.isoal_unframed.specs.Air.{laid_u};
 ghost use Rattle.radio_schedule.specs.PayloadNumber.{payload_number};
 ghost use Rattle.source_machine.specs.Airs.{AreAirs, airs_of, content_at, pdu_of, place_of, slots_of};
 ghost use Rattle.source_machine.specs.Calls.{Call, Setup, given, next_of, stream_calls};
 
 use isoal_unframed::each_number_is_laid;
 
-/// The calls of a source fix the airs of its streams.
+/// The calls of a source of an unframed group fix the airs of its streams.
 pub fn one_air()
-    ensures same { (setup : Setup) (calls : List Call) (airs others : List Air) → AreAirs setup calls airs → AreAirs setup calls others → airs ≡ others }
-    ensures some { (setup : Setup) (calls : List Call) → AreAirs setup calls (airs_of setup calls) }
+    ensures same { (setup : Setup) (calls : List Call) (airs others : List Air) → setup.info.framing ≡ 0
+        → AreAirs setup calls airs → AreAirs setup calls others → airs ≡ others }
+    ensures some { (setup : Setup) (calls : List Call) → setup.info.framing ≡ 0 → AreAirs setup calls (airs_of setup calls) }
+    ensures only { (setup : Setup) (calls : List Call) (airs : List Air) → setup.info.framing ≡ 0 → AreAirs setup calls airs → airs ≡ airs_of setup calls }
 {}
 
 /// Each subevent of an event that was performed carries the PDU that division gives at its payload number: `laid` where
 /// numbers count from the first event on, and `counted` where they are those of the payload counter.
 pub fn air_is_by_division()
-    ensures laid { (group : Group) (setup : Setup) (calls : List Call) (event bis subevent : ℕ)
-        → setup.info ≡ group.info → setup.first ≤ event → event < next_of setup calls
+    ensures laid { (group : Group) (setup : Setup) (calls : List Call) (airs : List Air) (event bis subevent : ℕ)
+        → setup.info ≡ group.info → setup.info.framing ≡ 0 → AreAirs setup calls airs → setup.first ≤ event → event < next_of setup calls
         → 1 ≤ bis → bis ≤ group.info.num_bis → subevent < group.info.nse
-        → pdu_of setup (airs_of setup calls) event bis subevent
+        → pdu_of setup airs event bis subevent
         ≡ Some (laid_u setup.info (stream_calls setup.info bis calls) (payload_number setup.info (event - setup.first) subevent)) }
-    ensures counted { (group : Group) (setup : Setup) (calls : List Call) (event bis subevent : ℕ)
-        → setup.info ≡ group.info → setup.first ≤ event → event < next_of setup calls
+    ensures counted { (group : Group) (setup : Setup) (calls : List Call) (airs : List Air) (event bis subevent : ℕ)
+        → setup.info ≡ group.info → setup.info.framing ≡ 0 → AreAirs setup calls airs → setup.first ≤ event → event < next_of setup calls
         → 1 ≤ bis → bis ≤ group.info.num_bis → subevent < group.info.nse
-        → pdu_of setup (airs_of setup calls) event bis subevent
+        → pdu_of setup airs event bis subevent
         ≡ Some (pdu (content_at setup calls bis (payload_number setup.info event subevent))) }
 {
     each_number_is_laid();
@@ -35,10 +38,10 @@ pub fn air_is_by_division()
 
 /// What an event that was performed sent stays, whatever calls follow.
 pub fn what_was_sent_stays()
-    ensures { (group : Group) (setup : Setup) (later calls : List Call) (event bis subevent : ℕ)
-        → setup.info ≡ group.info → setup.first ≤ event → event < next_of setup calls
+    ensures { (group : Group) (setup : Setup) (later calls : List Call) (airs others : List Air) (event bis subevent : ℕ)
+        → setup.info ≡ group.info → setup.info.framing ≡ 0 → AreAirs setup calls airs → AreAirs setup (later ++ calls) others → setup.first ≤ event → event < next_of setup calls
         → 1 ≤ bis → bis ≤ group.info.num_bis → subevent < group.info.nse
-        → pdu_of setup (airs_of setup (later ++ calls)) event bis subevent ≡ pdu_of setup (airs_of setup calls) event bis subevent }
+        → pdu_of setup others event bis subevent ≡ pdu_of setup airs event bis subevent }
 {}
 
 /// The unit of a slot is one that was given to the stream, and the units take the slots in the order of acceptance, each

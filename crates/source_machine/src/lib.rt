@@ -1,11 +1,17 @@
 //! The source of a broadcast isochronous group: what it takes, and what each of its events sends.
 #![tactic(auto)]
 
-mod broadcast;
+mod configured;
 mod fault;
 mod laws;
+mod sent;
+mod setup;
 mod stream;
+mod streaming;
 
-pub use broadcast::Broadcast;
-pub use fault::{EventFault, GiveFault};
+pub use configured::{SourceConfigured, SourceIdle};
+pub use fault::{ConfigureFault, EventFault, GiveFault};
 pub use laws::{air_is_by_division, one_air, units_keep_their_order, what_was_sent_stays};
+pub use sent::{Sent, Stale, StaleList};
+pub use setup::{Identity, Setup};
+pub use streaming::SourceStreaming;

@@ -1,12 +1,12 @@
-ghost use Rattle.std.specs.Prelude.{◌≡◌, ◌≤◌, ◌<◌, ◌+◌, ◌/◌, ◌%◌, [], length, Some, IfOk, IfErr, OnOk, OnErr};
-ghost use Rattle.std.specs.List.{AllZip};
+ghost use Rattle.std.specs.Prelude.{◌≡◌, ◌≤◌, ◌<◌, ◌+◌, ◌*◌, ◌/◌, ◌%◌, [], length, map, replicate, All, Some, IfOk, IfErr, OnOk, OnErr};
+ghost use Rattle.std.specs.List.{AllZip, range_with_len};
 ghost use Rattle.big_info.specs.Schedule.{horizon_of};
 ghost use Rattle.isoal_unframed.specs.Sender.{PutFaultIs};
 ghost use Rattle.radio_schedule.specs.PayloadNumber.{payload_number};
-ghost use Rattle.source_machine.specs.Sources.{stream_after};
-ghost use Rattle.source_machine.specs.Streams.{Accepts, Grows, Lays, sender_of, sent_of};
+ghost use Rattle.source_machine.specs.State.Sources.{stream_after};
+ghost use Rattle.source_machine.specs.State.Streams.{Accepts, Grows, IsLaid, Lays, sender_of, sent_at, sent_of};
 
-use bcast_base::{EventPdus, Memory};
+use bcast_base::{EventPdus, Memory, Octets};
 use big_info::Group;
 use circular_buffer::HeapCircularBuffer;
 use isoal_base::PutFault;
@@ -15,10 +15,7 @@ use radio_schedule::payload_of;
 use std::alloc::Global;
 use std::marker::Model;
 
-/// How many events that were performed are kept.
-const EVENTS: u32 = 32;
-
-/// A stream of a source: its sender, and the events that were laid last.
+/// A stream of a source: its sender, and the event that was performed last with the H events laid behind it.
 #[derive(Drop)]
 pub(crate) struct Stream {
     out: UnframedOut,
@@ -26,8 +23,8 @@ pub(crate) struct Stream {
 }
 
 impl Model for Stream {
-    ghost use Rattle.source_machine.specs.Sources.{Stream};
-    ghost use Rattle.source_machine.specs.Streams.{Keeps};
+    ghost use Rattle.source_machine.specs.State.Sources.{Stream};
+    ghost use Rattle.source_machine.specs.State.Streams.{Keeps};
 
     ghost Value = { Stream };
 
@@ -44,7 +41,7 @@ impl Stream {
     {
         Ok(Stream {
             out: UnframedOut::new(alloc, group),
-            laid: HeapCircularBuffer::with_capacity(alloc, (group.horizon() + EVENTS) as usize)?,
+            laid: HeapCircularBuffer::with_capacity(alloc, (group.horizon() + 1) as usize)?,
         })
     }
 
@@ -59,7 +56,7 @@ impl Stream {
         Ok(())
     }
 
-    /// Lays the next event. Where the last 32 events and the H events behind them are kept, the oldest is dropped.
+    /// Lays the next event. Where H + 1 events are kept, the oldest is dropped.
     fn lay_one(&mut self) -> Result<(), Memory>
         ensures ok { OnOk result (Lays 1 self.old self.new) }
         ensures err { OnErr result (self.new ≡ self.old) }
@@ -78,15 +75,14 @@ impl Stream {
         self.out.put(octets)
     }
 
-    /// The PDU that a subevent, from 0, carried in the event `back` events before the last one that was performed.
-    pub(crate) fn sent(&self, group: &Group, back: u8, subevent: u8) -> &[u8]
-        requires group { self.now.info ≡ group.now.info }
+    /// The PDU that a subevent, from 0, carries in the oldest event that is kept.
+    fn sent(&self, group: &Group, subevent: u8) -> &[u8]
+        requires laid { IsLaid group.now.info self.now }
         requires subevent { subevent < group.now.info.nse }
-        requires kept { back + horizon_of group.now.info < length self.now.laid }
-        ensures { sent_of self.now back subevent ≡ Some result.now }
+        ensures { sent_of self.now subevent ≡ Some result.now }
     {
         let (ahead, place) = carried(group, subevent);
-        let behind = group.horizon() - ahead + u32::from(back);
+        let behind = group.horizon() - ahead;
         let pdus = self.laid.nth_back(behind as usize).unwrap();
         pdus.item(place).as_slice()
     }
@@ -104,8 +100,16 @@ fn carried(group: &Group, subevent: u8) -> (u32, usize)
     ((number / bn) as u32, (number % bn) as usize)
 }
 
+/// Lays the next `count` events of all streams.
+pub(crate) fn lay_all(streams: &mut Vec<Stream>, count: u32) -> Result<(), Memory>
+    ensures ok { OnOk result (AllZip (Lays count) streams.old.items streams.new.items) }
+    ensures err { OnErr result (AllZip Grows streams.old.items streams.new.items) }
+{
+    lay_each(streams.as_mut_slice(), count)
+}
+
 /// Lays the next `count` events of each stream.
-pub(crate) fn lay_all(streams: &mut [Stream], count: u32) -> Result<(), Memory>
+fn lay_each(streams: &mut [Stream], count: u32) -> Result<(), Memory>
     ensures ok { OnOk result (AllZip (Lays count) streams.old streams.new) }
     ensures err { OnErr result (AllZip Grows streams.old streams.new) }
 {
@@ -113,4 +117,37 @@ pub(crate) fn lay_all(streams: &mut [Stream], count: u32) -> Result<(), Memory>
         stream.lay(count)?;
     }
     Ok(())
+}
+
+/// The PDUs of the oldest event that the streams keep: that of stream b and subevent n stands at place (b - 1) × NSE + n.
+pub(crate) fn sent_pdus(
+    alloc: Global,
+    group: &Group,
+    streams: &[Stream],
+) -> Result<EventPdus, Memory>
+    requires count { length streams.now ≡ group.now.info.num_bis }
+    requires laid { All (IsLaid group.now.info) streams.now }
+    ensures { IfOk result (λ pdus. map Some pdus ≡ map (sent_at group.now.info streams.now) (range_with_len 0 (group.now.info.num_bis * group.now.info.nse))) }
+{
+    let nse = u16::from(group.info.nse);
+    let count = u16::from(group.info.num_bis) * nse;
+    let mut pdus = EventPdus::new(alloc);
+    'places: for place in 0..count {
+        let stream = &streams[usize::from(place / nse)];
+        let pdu = stream.sent(group, (place % nse) as u8);
+        pdus.push(Octets::copy(alloc, pdu)?)?;
+    }
+    Ok(pdus)
+}
+
+/// The streams of a group before their first event.
+pub(crate) fn new_streams(alloc: Global, group: &Group) -> Result<Vec<Stream>, Memory>
+    requires { group.now.info.framing ≡ 0 }
+    ensures { IfOk result (λ streams. streams.items ≡ replicate group.now.info.num_bis (stream_after group.now.info [])) }
+{
+    let mut streams = Vec::new(alloc);
+    'streams: for _ in 0..group.info.num_bis {
+        streams.push(Stream::new(alloc, group)?)?;
+    }
+    Ok(streams)
 }

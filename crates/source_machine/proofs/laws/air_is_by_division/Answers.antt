@@ -2,16 +2,18 @@ use Rattle.std.proofs.Common.{◌≡◌, ◌<◌, ◌≤◌, ◌-◌, ◌*◌, �
 use Rattle.std.specs.Option.{option_and_then}
 use Rattle.big_info.specs.declared.info.BigInfo.{BigInfo}
 use Rattle.big_info.specs.Schedule.{group_count}
-use Rattle.isoal_unframed.specs.Air.{laid_u, pdu_at, unframed_air}
+use Rattle.isoal_base.specs.Air.{pdu_at}
+use Rattle.isoal_unframed.specs.Air.{laid_u, unframed_air}
 use Rattle.isoal_unframed.specs.Calls.{events as laid_events}
 use Rattle.radio_schedule.specs.PayloadNumber.{payload_number}
+use Rattle.source_machine.specs.Airs.{pdu_of}
 use Rattle.source_machine.specs.Calls.{stream_calls}
-use Rattle.source_machine.proofs.Histories.{air_at}
+use Rattle.source_machine.proofs.Histories.{air_at, airs_only}
 use Rattle.source_machine.proofs.Payloads.{carried_is_laid, number_counted}
 use Rattle.source_machine.proofs.laws.air_is_by_division.Goals as goal
 
 pub returns-clause-laid : goal.returns-clause-laid
-returns-clause-laid c = λ group setup calls event bis subevent of_group least past bis_least bis_within within.
+returns-clause-laid c = λ group setup calls airs event bis subevent of_group unframed are least past bis_least bis_within within.
     let info = setup.info in
     let some : 1 ≤ info.bn = rw of_group group.bounds.bn in
     let whole : group_count info * info.bn ≡ info.nse = rw of_group group.bounds.whole_groups in
@@ -21,10 +23,11 @@ returns-clause-laid c = λ group setup calls event bis subevent of_group least p
     let law : number / info.bn < laid_events sent → pdu_at info.bn (unframed_air info sent) number ≡ Some (laid_u info sent number) =
     subst (λ (i : BigInfo). number / i.bn < laid_events sent → pdu_at i.bn (unframed_air i sent) number ≡ Some (laid_u i sent number)) (sym of_group)
     (c.each_number_is_laid.ensures.laid group sent number) in
-    ap (option_and_then (λ air. pdu_at info.bn air number)) (air_at setup calls bis bis_least (rw of_group bis_within))
+    ap (λ list. pdu_of setup list event bis subevent) (airs_only setup calls airs unframed are)
+    ∙ ap (option_and_then (λ air. pdu_at info.bn air number)) (air_at setup calls bis bis_least (rw of_group bis_within))
     ∙ law (carried_is_laid setup calls event bis subevent some whole least past inside)
 
 pub returns-clause-counted : goal.returns-clause-counted
-returns-clause-counted c = λ group setup calls event bis subevent of_group least past bis_least bis_within within.
-    returns-clause-laid c group setup calls event bis subevent of_group least past bis_least bis_within within
+returns-clause-counted c = λ group setup calls airs event bis subevent of_group unframed are least past bis_least bis_within within.
+    returns-clause-laid c group setup calls airs event bis subevent of_group unframed are least past bis_least bis_within within
     ∙ ap (λ pdu. Some pdu) (number_counted setup calls event bis subevent (rw of_group group.bounds.bn) least)

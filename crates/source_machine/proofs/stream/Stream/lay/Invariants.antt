@@ -1,4 +1,4 @@
-use Rattle.source_machine.specs.Streams.{Lays}
+use Rattle.source_machine.specs.State.Streams.{Lays}
 use Rattle.source_machine.proofs.stream.Stream.lay.Given as goal
 
 abbrev pub invariant-events : goal.invariant-events

@@ -1,0 +1,2 @@
+mod Airing
+mod Answered

@@ -1,0 +1,19 @@
+use Rattle.std.proofs.Common.{◌∷◌, ◌∙◌, sym, subst, ap}
+use Rattle.source_machine.specs.Airs.{Sends}
+use Rattle.source_machine.specs.Calls.{event}
+use Rattle.multi_source.specs.State.Broadcasts.{IsOnAir}
+use Rattle.multi_source.proofs.Airing.{event_on_air}
+use Rattle.multi_source.proofs.broadcast.Broadcast.event.Goals as goal
+
+pub returns-in-Ok-clause-ok : goal.returns-in-Ok-clause-ok
+returns-in-Ok-clause-ok c = rw (← c.self.view_is) (λ calls broadcast. (
+  (c.in-Ok.ensures.ok calls broadcast.source).0,
+  record {
+    source = (c.in-Ok.ensures.ok calls broadcast.source).1;
+    air = subst (λ setup. IsOnAir setup (event ∷ calls) c.push.new.self) (sym c.event.ensures.setup)
+        (subst (IsOnAir c.self.inside.source.setup (event ∷ calls)) (sym c.push.ensures)
+        (event_on_air c.self.inside.source.setup calls c.self.inside.air c.in-Ok.sent.pdus c.event.ensures.checked.0 c.event.ensures.checked.1 broadcast.air
+        (λ airs are. subst (λ at. Sends c.self.inside.source.setup airs at c.in-Ok.sent.pdus) (c.in-Ok.ensures.event.0 ∙ broadcast.source.next)
+        (c.in-Ok.ensures.pdus calls airs broadcast.source are))));
+  },
+))

@@ -1,0 +1,2 @@
+-- How the state of sources stands for their calls.
+pub mod Broadcasts

@@ -1,0 +1,176 @@
+ghost use Rattle.std.specs.Prelude.{◌≡◌, ◌≤◌, ◌<◌, ◌+◌, ◌-◌, ◌^◌, ◌∷◌, [], List, Some, None, true, IfOk, IfErr, IfSome, OnOk, OnErr};
+ghost use Rattle.big_info.specs.Widths.{FitsWidths};
+ghost use Rattle.big_info.specs.Rows.{first_fault};
+ghost use Rattle.isoal_base.specs.Air.{Air as StreamAir};
+ghost use Rattle.source_machine.specs.Airs.{AreAirs, pdu_of};
+ghost use Rattle.source_machine.specs.Calls.{Call, give as gives, event as performs, last_of, next_anchor_of, next_of};
+ghost use Rattle.source_machine.specs.Faults.{ConfigureFails, air_fault, event_fault, give_fault, refused_event, refused_unit};
+ghost use Rattle.source_machine.specs.Setups.{started};
+ghost use Rattle.multi_source.specs.State.Broadcasts.{StandsFor};
+
+use bcast_base::Bis;
+use big_info::{Group, Limits};
+use radio_schedule::{Air, AirFault};
+use source_machine::{
+    ConfigureFault, EventFault, GiveFault, Identity, Setup, SourceIdle, SourceStreaming, StaleList,
+};
+use std::alloc::Global;
+use std::marker::Model;
+
+/// A source since its start, and the air that it is heard through (Core 5.2, volume 6 part B, section 4.4.6).
+#[derive(Drop)]
+pub struct Broadcast {
+    source: SourceStreaming,
+    first: u64,
+    air: Air,
+}
+
+impl Model for Broadcast {
+    ghost use Rattle.std.specs.Prelude.{◌≡◌};
+    ghost use Rattle.multi_source.specs.State.Broadcasts.{Broadcasting, IsOfGroup};
+
+    ghost Value = { Broadcasting };
+
+    ghost view = { λ b. record { source = b.source; air = b.air } };
+
+    ghost invariant = { λ b. (b.first ≡ b.source.setup.first) × IsOfGroup b.source.setup b.air };
+}
+
+impl Broadcast {
+    /// Starts a source of an unframed group, whose next event is `first`, by these limits. Nothing is on the air.
+    ///
+    /// BadGroup comes exactly where a row of the group check holds, with the first that does.
+    pub fn start(
+        alloc: Global,
+        setup: Setup,
+        limits: Limits,
+        first: u64,
+    ) -> Result<Broadcast, ConfigureFault>
+        requires widths { FitsWidths setup.info }
+        requires horizon { limits.horizon ≤ 31 }
+        requires unframed { setup.info.framing ≡ 0 }
+        requires origin { setup.origin ≤ 2 ^ 48 }
+        requires delay { setup.delay < 2 ^ 24 }
+        requires first { first < 2 ^ 39 }
+        ensures ok { IfOk result (λ broadcast. (broadcast.source.identity ≡ setup.identity) × (broadcast.source.setup ≡ started setup first) × StandsFor [] broadcast) }
+        ensures checked { OnOk result (first_fault limits.horizon setup.info ≡ None) }
+        ensures err { IfErr result (λ fault. ConfigureFails limits.horizon setup.info fault) }
+    {
+        let configured = match SourceIdle::new(alloc).configure_within(setup, limits) {
+            Ok(configured) => configured,
+            Err(kept) => return Err(kept.fault),
+        };
+        match configured.start(first) {
+            Ok(source) => match Air::new(alloc, source.group()) {
+                Ok(air) => Ok(Broadcast { source, first, air }),
+                Err(_) => Err(ConfigureFault::Memory),
+            },
+            Err(_) => Err(ConfigureFault::Memory),
+        }
+    }
+
+    /// Gives a unit to a stream, as `SourceStreaming::give` does.
+    pub fn give(&mut self, bis: Bis, time: Option<u64>, octets: &[u8]) -> Result<(), GiveFault>
+        ensures identity { self.new.source.identity ≡ self.old.source.identity }
+        ensures setup { self.new.source.setup ≡ self.old.source.setup }
+        ensures ok { OnOk result ((calls : List Call) → StandsFor calls self.old → StandsFor (gives bis time octets.now ∷ calls) self.new) }
+        ensures accepted { OnOk result ((calls : List Call) (airs : List StreamAir) → StandsFor calls self.old → AreAirs self.old.source.setup calls airs
+            → give_fault self.old.source.setup calls airs bis time octets.now ≡ None) }
+        ensures err { OnErr result (self.new ≡ self.old) }
+        ensures cause { IfErr result (λ fault. (calls : List Call) (airs : List StreamAir) → StandsFor calls self.old → AreAirs self.old.source.setup calls airs
+            → give_fault self.old.source.setup calls airs bis time octets.now ≡ refused_unit fault) }
+    {
+        self.source.give(bis, time, octets)
+    }
+
+    /// Performs the next event, as `SourceStreaming::event` does, and puts it on the air.
+    pub fn event(&mut self) -> Result<StaleList, EventFault>
+        ensures identity { self.new.source.identity ≡ self.old.source.identity }
+        ensures setup { self.new.source.setup ≡ self.old.source.setup }
+        ensures ok { OnOk result ((calls : List Call) → StandsFor calls self.old
+            → (event_fault self.old.source.setup calls ≡ None) × StandsFor (performs ∷ calls) self.new) }
+        ensures stale { IfOk result (λ stale. stale ≡ []) }
+        ensures cause { IfErr result (λ fault. (calls : List Call) → StandsFor calls self.old
+            → event_fault self.old.source.setup calls ≡ refused_event fault) }
+        ensures next { OnOk result (self.new.source.next ≡ self.old.source.next + 1) }
+        ensures same { OnErr result (self.new.source.next ≡ self.old.source.next) }
+    {
+        match self.source.event() {
+            Ok(sent) => {
+                self.air.push(sent.pdus);
+                Ok(sent.stale)
+            }
+            Err(fault) => Err(fault),
+        }
+    }
+
+    /// The PDU of a stream that was sent in a subevent, from 0, of the event `back` events before the last one.
+    ///
+    /// The first refusal that holds is answered: NoSuchBis and NoSuchSubevent where the group has no such stream or
+    /// subevent, NotOnAir where fewer than `back` + 1 events were performed.
+    pub fn heard_at(&self, back: u8, bis: Bis, subevent: u8) -> Result<&[u8], AirFault>
+        requires { back ≤ 31 }
+        ensures ok { IfOk result (λ pdu. (calls : List Call) (airs : List StreamAir) → StandsFor calls self.now → AreAirs self.now.source.setup calls airs
+            → (air_fault self.now.source.setup calls back bis subevent ≡ None)
+            × (pdu_of self.now.source.setup airs (next_of self.now.source.setup calls - 1 - back) bis subevent ≡ Some pdu.now)) }
+        ensures err { IfErr result (λ fault. (calls : List Call) → StandsFor calls self.now
+            → air_fault self.now.source.setup calls back bis subevent ≡ Some fault) }
+    {
+        self.air.heard_at(back, bis, subevent)
+    }
+
+    /// Who the source is.
+    pub fn identity(&self) -> Identity
+        ensures { result ≡ self.now.source.identity }
+    {
+        self.source.identity()
+    }
+
+    /// The group.
+    pub fn group(&self) -> &Group
+        ensures info { result.now.info ≡ self.now.source.setup.info }
+        ensures unframed { result.now.info.framing ≡ 0 }
+    {
+        self.source.group()
+    }
+
+    /// The presentation delay in µs.
+    pub fn delay(&self) -> u32
+        ensures delay { result ≡ self.now.source.setup.delay }
+        ensures within { result < 2 ^ 24 }
+    {
+        self.source.delay()
+    }
+
+    /// The next event.
+    pub fn next_event(&self) -> u64
+        ensures next { result ≡ self.now.source.next }
+        ensures calls { (calls : List Call) → StandsFor calls self.now → result ≡ next_of self.now.source.setup calls }
+        ensures least { self.now.source.setup.first ≤ result }
+        ensures greatest { result ≤ 2 ^ 39 }
+    {
+        self.source.next_event()
+    }
+
+    /// The anchor of the next event, in µs.
+    pub fn next_anchor(&self) -> u64
+        ensures calls { (calls : List Call) → StandsFor calls self.now → result ≡ next_anchor_of self.now.source.setup calls }
+        ensures greatest { result ≤ 2 ^ 61 }
+    {
+        self.source.next_anchor()
+    }
+
+    /// The last event that was performed; `None` exactly where none was.
+    pub fn last_event(&self) -> Option<u64>
+        ensures calls { (calls : List Call) → StandsFor calls self.now → result ≡ last_of self.now.source.setup calls }
+        ensures last { IfSome result (λ event. event + 1 ≡ self.now.source.next) }
+        ensures greatest { IfSome result (λ event. event < 2 ^ 39) }
+    {
+        let next = self.source.next_event();
+        if next > self.first {
+            Some(next - 1)
+        } else {
+            None
+        }
+    }
+}

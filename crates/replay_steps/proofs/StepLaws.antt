@@ -1,0 +1,79 @@
+-- Each step by its own clause.
+use Rattle.std.proofs.Common.{◌≡◌, ℕ, List, [], ◌++◌, length, map, true, false, inl, inr, None, Some, Result, Ok, Err, refl, sym, ◌∙◌, ap, subst, append-nil}
+use Rattle.std.proofs.lemmas.List.{length-map}
+use Rattle.unit_outlets.specs.Account.{Account}
+use Rattle.source_machine.specs.Airs.{airs_of}
+use Rattle.transcript_text.specs.declared.refusal.Refusal.TheVariants.{Order}
+use Rattle.scenario_text.specs.declared.step.Step.{Step}
+use Rattle.scenario_history.specs.Steps.{is_over}
+use Rattle.scenario_history.specs.Boxes.{accounts_after, handed_by, handed_up}
+use Rattle.scenario_history.specs.Output.{output_of}
+use Rattle.scenario_history.specs.Refusals.{is_first, is_out_of_order, phase_refusal, refusal_of}
+use Rattle.scenario_history.proofs.Sums.{boxes_stay}
+use Rattle.replay_steps.specs.declared.machine.Machine.{Machine}
+use Rattle.replay_steps.specs.declared.stop.Stop.{Stop}
+use Rattle.replay_steps.specs.declared.stop.Stop.TheVariants.{Refused, OutletFault, Memory}
+use Rattle.replay_steps.specs.Meets.{BoxesStand, Quiet, Tells, Meets, StepMeets}
+
+-- there are as many boxes as at the start
+pub boxes_count : (starts accounts : List Account) (steps : List Step) → BoxesStand starts steps accounts → length accounts ≡ length starts
+boxes_count starts accounts steps boxes = ap length boxes.accounts_are ∙ boxes_stay starts (handed_up airs_of steps)
+
+pub boxes_counted : {A : Type 0} (f : A → Account) (items : List A) (starts : List Account) (steps : List Step) (n : ℕ) → n ≡ length items
+    → BoxesStand starts steps (map f items) → n ≡ length starts
+boxes_counted f items starts steps n is boxes = is ∙ sym (length-map items f) ∙ boxes_count starts (map f items) steps boxes
+
+pub quiet_meets : (starts : List Account) (boxes : ℕ) (steps : List Step) (made : Step) (new : Machine) (text : List ℕ) (accounts : List Account) (r : Result (Unit {0}) Stop)
+    → boxes ≡ length starts → output_of airs_of starts steps made ≡ [] → handed_by airs_of steps made ≡ []
+    → Quiet boxes steps made new r → Meets starts steps made new text text accounts accounts r
+quiet_meets starts boxes steps made new text accounts (Ok x) count output handed q =
+    (subst (λ n. phase_refusal airs_of n steps made ≡ None) count q.0, q.1, sym (ap (λ l. text ++ l) output ∙ append-nil text), sym (ap (accounts_after accounts) handed))
+quiet_meets starts boxes steps made new text accounts (Err (Refused reason)) count output handed q =
+    (subst (λ n. phase_refusal airs_of n steps made ≡ Some reason) count q, refl, refl)
+quiet_meets starts boxes steps made new text accounts (Err OutletFault) count output handed q = absurd q
+quiet_meets starts boxes steps made new text accounts (Err Memory) count output handed q = inl refl
+
+pub tells_meets : (starts : List Account) (steps : List Step) (made : Step) (new : Machine) (text told : List ℕ) (accounts : List Account) (r : Result (Unit {0}) Stop)
+    → handed_by airs_of steps made ≡ [] → Tells starts steps made new text told r → Meets starts steps made new text told accounts accounts r
+tells_meets starts steps made new text told accounts (Ok x) handed t = (t.0, t.1, t.2, sym (ap (accounts_after accounts) handed))
+tells_meets starts steps made new text told accounts (Err (Refused reason)) handed t = (t.0, t.1, refl)
+tells_meets starts steps made new text told accounts (Err OutletFault) handed t = absurd t
+tells_meets starts steps made new text told accounts (Err Memory) handed t = inl refl
+
+-- a step that follows no `end`
+pub goes_on : (boxes : ℕ) (steps : List Step) (made : Step) → is_over steps ≡ false → phase_refusal airs_of boxes steps made ≡ refusal_of airs_of boxes steps made
+goes_on boxes steps made not_over = rw not_over refl
+
+pub meets_step : (starts : List Account) (steps : List Step) (made : Step) (new : Machine) (text told : List ℕ) (before after : List Account) (r : Result (Unit {0}) Stop)
+    → is_over steps ≡ false → Meets starts steps made new text told before after r → StepMeets starts steps made new text told before after r
+meets_step starts steps made new text told before after (Ok x) not_over m = (sym (goes_on (length starts) steps made not_over) ∙ m.0, m.1, m.2, m.3)
+meets_step starts steps made new text told before after (Err (Refused reason)) not_over m = (sym (goes_on (length starts) steps made not_over) ∙ m.0, m.1, m.2)
+meets_step starts steps made new text told before after (Err OutletFault) not_over m = (sym (goes_on (length starts) steps made not_over) ∙ m.0, m.1)
+meets_step starts steps made new text told before after (Err Memory) not_over (inl same) = inl same
+meets_step starts steps made new text told before after (Err Memory) not_over (inr m) = inr (sym (goes_on (length starts) steps made not_over) ∙ m.0, m.1)
+
+-- ---- a step as it was read
+
+pub quiet_as : (starts : List Account) (boxes : ℕ) (steps : List Step) (made other : Step) (new : Machine) (text : List ℕ) (accounts : List Account) (r : Result (Unit {0}) Stop)
+    → made ≡ other → boxes ≡ length starts → output_of airs_of starts steps other ≡ [] → handed_by airs_of steps other ≡ []
+    → Quiet boxes steps other new r → Meets starts steps made new text text accounts accounts r
+quiet_as starts boxes steps made other new text accounts r is count output handed q =
+    let P : Step → Type 0 = λ s. Meets starts steps s new text text accounts accounts r in
+    subst P (sym is) (quiet_meets starts boxes steps other new text accounts r count output handed q)
+
+pub tells_as : (starts : List Account) (steps : List Step) (made other : Step) (new : Machine) (text told : List ℕ) (accounts : List Account) (r : Result (Unit {0}) Stop)
+    → made ≡ other → handed_by airs_of steps other ≡ [] → Tells starts steps other new text told r → Meets starts steps made new text told accounts accounts r
+tells_as starts steps made other new text told accounts r is handed t =
+    let P : Step → Type 0 = λ s. Meets starts steps s new text told accounts accounts r in
+    subst P (sym is) (tells_meets starts steps other new text told accounts r handed t)
+
+pub meets_as : (starts : List Account) (steps : List Step) (made other : Step) (new : Machine) (text told : List ℕ) (before after : List Account) (r : Result (Unit {0}) Stop)
+    → made ≡ other → Meets starts steps other new text told before after r → Meets starts steps made new text told before after r
+meets_as starts steps made other new text told before after r is m =
+    let P : Step → Type 0 = λ s. Meets starts steps s new text told before after r in subst P (sym is) m
+
+-- ---- the first step
+
+pub meets_first : (starts : List Account) (steps : List Step) (made : Step) (new : Machine) (text : List ℕ) (accounts : List Account)
+    → is_over steps ≡ false → is_first steps ≡ true → is_out_of_order steps made ≡ true → StepMeets starts steps made new text text accounts accounts (Err (Refused Order))
+meets_first starts steps made new text accounts not_over first out = (rw (not_over, out) refl, refl, refl)

@@ -1,0 +1,24 @@
+-- The units that were gathered from a receiver (the SDUs of Core 5.2, volume 6 part G, section 1), as the calls of a
+-- taker.
+use Rattle.std.specs.Prelude.{ℕ, List, map, Option, Some, None}
+use Rattle.unit_outlets.specs.Handed.{Handed, valid, lost, Counts}
+use Rattle.scenario_history.specs.Boxes.{SinkUnit}
+use Rattle.replay_steps.specs.declared.gathered.HandedUnit.{HandedUnit}
+use Rattle.replay_steps.specs.declared.gathered.Gathered.{Gathered}
+
+abbrev pub handed_as : ℕ → ℕ → Option (List ℕ) → Handed
+handed_as bis time (Some octets) = valid bis time octets
+handed_as bis time None = lost bis time
+
+abbrev pub handed_of : HandedUnit → Handed
+handed_of unit = handed_as unit.bis unit.time unit.octets
+
+abbrev pub calls_of : Gathered → List Handed
+calls_of gathered = map handed_of gathered.units.items
+
+abbrev pub counts_of : Gathered → Counts
+counts_of gathered = record { faults = 0; wants = gathered.wants }
+
+-- these units of a sink with its box
+abbrev pub units_for : ℕ → ℕ → List Handed → List SinkUnit
+units_for sink box units = map (λ unit. record { sink = sink; box = box; unit = unit }) units

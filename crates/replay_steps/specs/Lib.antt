@@ -1,0 +1,13 @@
+pub mod Versions
+pub mod Gathering
+pub mod Machines
+pub mod Handing
+pub mod Meets
+pub mod LineMeets
+pub mod Closing
+pub mod Groups
+pub mod Stops
+pub mod Sums
+pub mod Beyond
+pub mod Tuning
+pub mod Airing

@@ -1,0 +1,59 @@
+-- What a step does, by the definitions of a scenario.
+use Rattle.std.specs.Prelude.{ℕ, ◌≡◌, ◌≤◌, ◌⊎◌, List, ◌∷◌, ◌++◌, length, None, Some, Result, Ok, Err}
+use Rattle.unit_outlets.specs.Account.{Account}
+use Rattle.source_machine.specs.Airs.{airs_of}
+use Rattle.scenario_text.specs.declared.step.Step.{Step}
+use Rattle.scenario_history.specs.Steps.{sinks_made}
+use Rattle.scenario_history.specs.Boxes.{accounts_after, handed_up, handed_by}
+use Rattle.scenario_history.specs.Output.{output_of}
+use Rattle.scenario_history.specs.Refusals.{phase_refusal, refusal_of}
+use Rattle.replay_steps.specs.declared.machine.Machine.{Machine}
+use Rattle.replay_steps.specs.declared.stop.Stop.{Stop}
+use Rattle.replay_steps.specs.declared.stop.Stop.TheVariants.{Refused, OutletFault, Memory}
+use Rattle.replay_steps.specs.Machines.{Stands}
+use Rattle.replay_steps.specs.Handing.{BoxFails, CutShort}
+
+-- a step that prints nothing and hands up no unit, with so many boxes
+abbrev pub Quiet : ℕ → List Step → Step → Machine → Result (Unit {0}) Stop → Type 0
+Quiet boxes steps next new (Ok _) = (phase_refusal airs_of boxes steps next ≡ None) × Stands (next ∷ steps) new
+Quiet boxes steps next new (Err (Refused reason)) = phase_refusal airs_of boxes steps next ≡ Some reason
+Quiet boxes steps next new (Err OutletFault) = ⊥
+Quiet boxes steps next new (Err Memory) = Unit {0}
+
+-- the boxes are as these steps leave them, by what they were at the start
+pub record BoxesStand (starts : List Account) (steps : List Step) (accounts : List Account) : Type 0 where
+  pub accounts_are : accounts ≡ accounts_after starts (handed_up airs_of steps)
+  pub room : sinks_made steps ≤ length starts
+
+-- a step that prints and hands up no unit: a text that ended in `text` ends in `told`
+abbrev pub Tells : List Account → List Step → Step → Machine → List ℕ → List ℕ → Result (Unit {0}) Stop → Type 0
+Tells starts steps next new text told (Ok _) =
+    (phase_refusal airs_of (length starts) steps next ≡ None) × Stands (next ∷ steps) new × (told ≡ text ++ output_of airs_of starts steps next)
+Tells starts steps next new text told (Err (Refused reason)) =
+    (phase_refusal airs_of (length starts) steps next ≡ Some reason) × (told ≡ text)
+Tells starts steps next new text told (Err OutletFault) = ⊥
+Tells starts steps next new text told (Err Memory) = Unit {0}
+
+-- a step, where the accounts of the boxes were `before` and are `after`
+abbrev pub Meets : List Account → List Step → Step → Machine → List ℕ → List ℕ → List Account → List Account → Result (Unit {0}) Stop → Type 0
+Meets starts steps next new text told before after (Ok _) =
+    (phase_refusal airs_of (length starts) steps next ≡ None) × Stands (next ∷ steps) new
+    × (told ≡ text ++ output_of airs_of starts steps next) × (after ≡ accounts_after before (handed_by airs_of steps next))
+Meets starts steps next new text told before after (Err (Refused reason)) =
+    (phase_refusal airs_of (length starts) steps next ≡ Some reason) × (told ≡ text) × (after ≡ before)
+Meets starts steps next new text told before after (Err OutletFault) =
+    (phase_refusal airs_of (length starts) steps next ≡ None) × BoxFails (handed_by airs_of steps next) text told before after
+Meets starts steps next new text told before after (Err Memory) =
+    (after ≡ before) ⊎ ((phase_refusal airs_of (length starts) steps next ≡ None) × CutShort (handed_by airs_of steps next) before after)
+
+-- a step, with the refusal of one that follows `end` beside the others
+abbrev pub StepMeets : List Account → List Step → Step → Machine → List ℕ → List ℕ → List Account → List Account → Result (Unit {0}) Stop → Type 0
+StepMeets starts steps next new text told before after (Ok _) =
+    (refusal_of airs_of (length starts) steps next ≡ None) × Stands (next ∷ steps) new
+    × (told ≡ text ++ output_of airs_of starts steps next) × (after ≡ accounts_after before (handed_by airs_of steps next))
+StepMeets starts steps next new text told before after (Err (Refused reason)) =
+    (refusal_of airs_of (length starts) steps next ≡ Some reason) × (told ≡ text) × (after ≡ before)
+StepMeets starts steps next new text told before after (Err OutletFault) =
+    (refusal_of airs_of (length starts) steps next ≡ None) × BoxFails (handed_by airs_of steps next) text told before after
+StepMeets starts steps next new text told before after (Err Memory) =
+    (after ≡ before) ⊎ ((refusal_of airs_of (length starts) steps next ≡ None) × CutShort (handed_by airs_of steps next) before after)

@@ -1,0 +1,49 @@
+ghost use Rattle.std.specs.Prelude.{◌≡◌, ◌≤◌};
+ghost use Rattle.scenario_history.specs.Refusals.{horizon_in};
+
+use big_info::Limits;
+
+/// The version of a scenario.
+#[derive(Clone, Copy, Debug, PartialEq, Eq)]
+pub enum Version {
+    One,
+    Two,
+}
+
+impl Version {
+    ghost use Rattle.replay_steps.specs.Versions.{number_of};
+
+    /// The version of this number.
+    pub(crate) fn of(number: u8) -> Version
+        requires least { 1 ≤ number }
+        requires greatest { number ≤ 2 }
+        ensures { number_of result ≡ number }
+    {
+        if number == 2 {
+            Version::Two
+        } else {
+            Version::One
+        }
+    }
+
+    /// Its number.
+    pub(crate) fn number(self) -> u8
+        ensures { result ≡ number_of self }
+    {
+        match self {
+            Version::One => 1,
+            Version::Two => 2,
+        }
+    }
+
+    /// How far its groups may reach.
+    pub(crate) fn limits(self) -> Limits
+        ensures horizon { result.horizon ≡ horizon_in (number_of self) }
+        ensures least { result.horizon ≤ 31 }
+    {
+        match self {
+            Version::One => Limits::VERSION_1,
+            Version::Two => Limits::VERSION_2,
+        }
+    }
+}

@@ -1,0 +1,192 @@
+-- Closing an event for one sink after the other.
+use Rattle.std.proofs.Common.{◌≡◌, ◌≢◌, ℕ, ◌+◌, ◌<◌, ◌≤◌, List, [], ◌∷◌, ◌++◌, length, map, OnOk, refl, sym, ◌∙◌, ap, subst, slice_get, slice_set, get_or, arith, Bool, true, false, Option, Result, Ok, Err, None, Some, ◌⊎◌, inl, inr}
+use Rattle.std.specs.List.{flat_map, range_with_len}
+use Rattle.std.proofs.lemmas.Grind.{flat_map-append}
+use Rattle.std.proofs.lemmas.List.{append-nil}
+use Rattle.std.proofs.lemmas.Option.{slice_get-get_or}
+use Rattle.std.proofs.lemmas.Result.{on_ok_weaker}
+use Rattle.unit_outlets.specs.Account.{Account}
+use Rattle.unit_outlets.specs.Handed.{Handed}
+use Rattle.delegator_machine.specs.Calls.{Call, tick}
+use Rattle.delegator_machine.specs.Handing.{handed_at}
+use Rattle.delegator_machine.specs.Sinks.{StandsFor}
+use Rattle.scenario_history.specs.Sinks.{is_of, ticked_if}
+use Rattle.scenario_history.specs.Boxes.{SinkUnit, most_sinks, sink_numbers, closing_by, accounts_after}
+use Rattle.scenario_history.specs.Output.{unit_lines}
+use Rattle.scenario_sinks.specs.declared.gathered.Gathered.{Gathered}
+use Rattle.scenario_sinks.specs.declared.gathered.HandedUnit.{HandedUnit}
+use Rattle.scenario_sinks.specs.declared.sink.Owner.{Owner}
+use Rattle.scenario_sinks.specs.declared.sink.Sink.{Sink}
+use Rattle.transcript_text.specs.declared.stop.Stop.{Stop}
+use Rattle.scenario_sinks.specs.Pasts.{Past, with_close}
+use Rattle.scenario_sinks.specs.Handing.{Hands}
+use Rattle.scenario_sinks.specs.declared.sinks.Sinks.{Sinks}
+use Rattle.scenario_sinks.specs.Closing.{Closes, closings}
+use Rattle.scenario_sinks.specs.State.Gathering.{handed_of, units_for}
+use Rattle.scenario_sinks.specs.State.Standing.{EntryIs, EntryAt, EntriesAre, SinksStand}
+use Rattle.scenario_sinks.specs.State.Between.{SinkCloses, AllClose, Between}
+use Rattle.scenario_sinks.proofs.Entries.{SinkIs, entry_of}
+use Rattle.scenario_sinks.proofs.Handings.{hands_then, hands_stop}
+use Rattle.scenario_sinks.proofs.Ranges.{range_append, get_set_here, get_set_other, nat_same}
+
+pub closings_more : (source event : ℕ) (past : Past) (n : ℕ)
+    → closings source event past (range_with_len 0 (n + 1)) ≡ closings source event past (range_with_len 0 n) ++ closing_by source event n (past.calls n) (past.sources n) (past.boxes n)
+closings_more source event past n =
+    let each : ℕ → List SinkUnit = λ i. closing_by source event i (past.calls i) (past.sources i) (past.boxes i) in
+    let e : 0 + n ≡ n = omega arith in
+    ap (flat_map each) (range_append 0 n 1)
+    ∙ flat_map-append each (range_with_len 0 n) (range_with_len (0 + n) 1)
+    ∙ ap (λ last. flat_map each (range_with_len 0 n) ++ last) (append-nil (each (0 + n)) ∙ ap each e)
+
+pub closings_split : (source event : ℕ) (past : Past) (n k : ℕ) → n + k ≡ most_sinks
+    → closings source event past sink_numbers ≡ closings source event past (range_with_len 0 n) ++ closings source event past (range_with_len n k)
+unfolding sink_numbers
+closings_split source event past n k e =
+    let each : ℕ → List SinkUnit = λ i. closing_by source event i (past.calls i) (past.sources i) (past.boxes i) in
+    let f : 0 + n ≡ n = omega arith in
+    ap (λ m. flat_map each (range_with_len 0 m)) (sym e)
+    ∙ ap (flat_map each) (range_append 0 n k)
+    ∙ flat_map-append each (range_with_len 0 n) (range_with_len (0 + n) k)
+    ∙ ap (λ m. flat_map each (range_with_len 0 n) ++ flat_map each (range_with_len m k)) f
+
+entry_after : (past : Past) (source event number : ℕ) (sinks : List (Option Sink)) (entry : Option Sink) (n : ℕ)
+    → number < length sinks → EntryAt (with_close source (Some event) past) number (Some entry)
+    → ((m : ℕ) → m < number → EntryAt (with_close source (Some event) past) m (slice_get sinks m)) → n < number + 1
+    → (n ≡ number) ⊎ (n ≢ number)
+    → EntryAt (with_close source (Some event) past) n (slice_get (slice_set sinks number entry) n)
+entry_after past source event number sinks entry n within here done below (inl e) =
+    let P : ℕ → Type 0 = λ m. EntryAt (with_close source (Some event) past) m (slice_get (slice_set sinks number entry) m) in
+    subst P (sym e)
+    (let Q : Option (Option Sink) → Type 0 = λ o. EntryAt (with_close source (Some event) past) number o in
+    subst Q (sym (get_set_here sinks number entry within)) here)
+entry_after past source event number sinks entry n within here done below (inr other) =
+    let Q : Option (Option Sink) → Type 0 = λ o. EntryAt (with_close source (Some event) past) n o in
+    let less : n < number = omega arith in
+    subst Q (sym (get_set_other sinks number n entry other)) (done n less)
+
+pub between_next : (past : Past) (source event number : ℕ) (sinks : List (Option Sink)) (entry : Option Sink) (gathered next : Gathered)
+    (text told told2 : List ℕ) (before mid after : List Account) → length sinks ≡ most_sinks → number < most_sinks
+    → Between past source event number sinks gathered text told before mid
+    → SinkCloses (past.boxes number) (past.sources number) (past.calls number) number source event entry next told told2 mid after (Ok tt)
+    → Between past source event (number + 1) (slice_set sinks number entry) next text told2 before after
+between_next past source event number sinks entry gathered next text told told2 before mid after eight within b s =
+    let inside : number < length sinks = omega arith in
+    let h = hands_then (closings source event past (range_with_len 0 number)) (closing_by source event number (past.calls number) (past.sources number) (past.boxes number)) text told told2 before mid after (Ok tt) b.lines b.boxes_are s.hands in
+    record {
+      done = λ n below. entry_after past source event number sinks entry n inside s.is_ticked.entry_is b.done below (nat_same n number);
+      left = λ n least below.
+          let other : n ≢ number = λ e. omega arith in
+          let Q : Option (Option Sink) → Type 0 = λ o. EntryAt past n o in
+          let more : number ≤ n = omega arith in
+          subst Q (sym (get_set_other sinks number n entry other)) (b.left n more below);
+      empty = s.is_ticked.empty;
+      lines = h.0 ∙ ap (λ units. text ++ unit_lines units) (sym (closings_more source event past number));
+      boxes_are = h.1 ∙ ap (accounts_after before) (sym (closings_more source event past number));
+    }
+
+pub between_ends : (past : Past) (source event number k : ℕ) (sinks sinks2 : List (Option Sink)) (entry : Option Sink) (gathered next : Gathered)
+    (text told told2 : List ℕ) (before mid after : List Account) (stop : Stop) → number + 1 + k ≡ most_sinks
+    → Between past source event number sinks gathered text told before mid
+    → SinkCloses (past.boxes number) (past.sources number) (past.calls number) number source event entry next told told2 mid after (Err stop)
+    → AllClose past source event sinks2 next text told2 before after (Err stop)
+between_ends past source event number k sinks sinks2 entry gathered next text told told2 before mid after stop all b s =
+    let front : List SinkUnit = closings source event past (range_with_len 0 number) in
+    let here : List SinkUnit = closing_by source event number (past.calls number) (past.sources number) (past.boxes number) in
+    let rest : List SinkUnit = closings source event past (range_with_len (number + 1) k) in
+    let P : List SinkUnit → Type 0 = λ units. Hands units text told2 before after (Err stop) in
+    record {
+      hands = subst P (sym (closings_split source event past (number + 1) k all ∙ ap (λ units. units ++ rest) (closings_more source event past number)))
+          (hands_stop (front ++ here) rest text told2 before after stop
+          (hands_then front here text told told2 before mid after (Err stop) b.lines b.boxes_are s.hands));
+      is_ticked = tt;
+    }
+
+pub between_over : (past : Past) (source event number : ℕ) (sinks : List (Option Sink)) (gathered : Gathered)
+    (text told : List ℕ) (before after : List Account) → number ≡ most_sinks
+    → Between past source event number sinks gathered text told before after
+    → AllClose past source event sinks gathered text told before after (Ok tt)
+between_over past source event number sinks gathered text told before after all b =
+    let zero_more : number + 0 ≡ most_sinks = omega arith in
+    let e = closings_split source event past number 0 zero_more ∙ append-nil (closings source event past (range_with_len 0 number)) in
+    record {
+      hands = (b.lines ∙ ap (λ units. text ++ unit_lines units) (sym e), b.boxes_are ∙ ap (accounts_after before) (sym e));
+      is_ticked = record {
+        entries = λ n below. let less : n < number = omega arith in b.done n less;
+        empty = b.empty;
+      };
+    }
+
+-- the entry of the next sink
+pub entry_here : (past : Past) (source event number at : ℕ) (sinks : List (Option Sink)) (d : Option Sink) (gathered : Gathered)
+    (text told : List ℕ) (before after : List Account) → at ≡ number → length sinks ≡ most_sinks → number < most_sinks
+    → Between past source event number sinks gathered text told before after → EntryAt past number (Some (get_or sinks at d))
+entry_here past source event number at sinks d gathered text told before after same eight below b =
+    let inside : at < length sinks = omega arith in
+    let Q : Option (Option Sink) → Type 0 = λ o. EntryAt past number o in
+    let here : slice_get sinks number ≡ slice_get sinks at = ap (slice_get sinks) (sym same) in
+    subst Q (here ∙ slice_get-get_or sinks at d inside) (b.left number (omega arith) below)
+
+pub between_next_at : (past : Past) (source event number at : ℕ) (sinks : List (Option Sink)) (entry : Option Sink) (gathered next : Gathered)
+    (text told told2 : List ℕ) (before mid after : List Account) → at ≡ number → length sinks ≡ most_sinks → number < most_sinks
+    → Between past source event number sinks gathered text told before mid
+    → SinkCloses (past.boxes number) (past.sources number) (past.calls number) number source event entry next told told2 mid after (Ok tt)
+    → Between past source event (number + 1) (slice_set sinks at entry) next text told2 before after
+between_next_at past source event number at sinks entry gathered next text told told2 before mid after same eight within b s =
+    let P : ℕ → Type 0 = λ i. Between past source event (number + 1) (slice_set sinks i entry) next text told2 before after in
+    subst P (sym same) (between_next past source event number sinks entry gathered next text told told2 before mid after eight within b s)
+
+-- the sinks after a close
+pub all_closed : (past : Past) (source event : ℕ) (closed : Option ℕ) (old new : Sinks) (sinks : List (Option Sink)) (text told : List ℕ) (before after : List Account) (r : Result (Unit {0}) Stop)
+    → SinksStand past old → closed ≡ Some event → new.entries.items ≡ sinks → AllClose past source event sinks new.gathered text told before after r → new.outlets ≡ old.outlets
+    → Closes past source closed new text told before after r
+all_closed past source event closed old new sinks text told before after r stands is items c more =
+    let P : Option ℕ → Type 0 = λ o. Closes past source o new text told before after r in
+    let E : List (Option Sink) → Type 0 = λ s. EntriesAre (with_close source (Some event) past) s in
+    subst P (sym is) (record {
+      hands = c.hands;
+      stands = on_ok_weaker r (λ t. record { entries = subst E (sym items) t.entries; made = more ∙ stands.made; empty = t.empty }) c.is_ticked;
+    })
+
+entry_kept : (box own : Option ℕ) (calls : List Call) (source : ℕ) (b : Bool) (entry : Option (Option Sink)) → EntryIs box own calls entry → EntryIs box own (ticked_if b None calls) entry
+entry_kept box own calls source true entry is = is
+entry_kept box own calls source false entry is = is
+
+-- no event is open
+pub none_closed : (past : Past) (source : ℕ) (closed : Option ℕ) (old : Sinks) (text : List ℕ) (before : List Account)
+    → SinksStand past old → closed ≡ None → Closes past source closed old text text before before (Ok tt)
+none_closed past source closed old text before stands is =
+    let P : Option ℕ → Type 0 = λ o. Closes past source o old text text before before (Ok tt) in
+    subst P (sym is) (record {
+      hands = (sym (append-nil text), refl);
+      stands = record {
+        entries = λ n below. entry_kept (past.boxes n) (past.sources n) (past.calls n) source (is_of source (past.sources n)) (slice_get old.entries.items n) (stands.entries n below);
+        made = stands.made;
+        empty = stands.empty;
+      };
+    })
+
+pub lent_entries : (past : Past) (sinks lent : List (Option Sink)) → lent ≡ sinks → EntriesAre past sinks → EntriesAre past lent
+lent_entries past sinks lent is are = let E : List (Option Sink) → Type 0 = λ s. EntriesAre past s in subst E (sym is) are
+
+-- ---- one sink
+
+pub gathered_are : (old new slice : List HandedUnit) (units : List Handed) → old ≡ [] → map handed_of new ≡ map handed_of old ++ units → slice ≡ new → map handed_of slice ≡ units
+gathered_are old new slice units empty e is = ap (map handed_of) is ∙ e ∙ ap (λ xs. map handed_of xs ++ units) empty
+
+pub sink_closes : (box own : Option ℕ) (calls : List Call) (n source event : ℕ) (sink new : Sink) (of : Bool) (units : List Handed) (gathered : Gathered)
+    (text told : List ℕ) (before after : List Account) (r : Result (Unit {0}) Stop) → SinkIs box own calls sink → of ≡ is_of source sink.source → of ≡ true
+    → units ≡ handed_at calls event
+    → (let owner : Owner = record { source = source; sink = n; outlet = sink.outlet } in Hands (units_for owner units) text told before after r)
+    → new.outlet ≡ sink.outlet → new.source ≡ sink.source → StandsFor (tick event ∷ calls) new.delegator → OnOk r (gathered.units.items ≡ [])
+    → SinkCloses box own calls n source event (Some new) gathered text told before after r
+sink_closes box own calls n source event sink new of units gathered text told before after r is o t e hands outlet from stands empty =
+    let owner : Owner = record { source = source; sink = n; outlet = sink.outlet } in
+    let mine : is_of source own ≡ true = ap (is_of source) is.own_is ∙ sym o ∙ t in
+    let own_units : closing_by source event n calls own box ≡ units_for owner (handed_at calls event) = rw (mine, is.box_is) refl in
+    let here : EntryIs box own (ticked_if (is_of source own) (Some event) calls) (Some (Some new)) =
+    rw mine (entry_of box own (tick event ∷ calls) new (record { box_is = is.box_is ∙ ap Some (sym outlet); own_is = is.own_is ∙ sym from; stands = stands })) in
+    let P : List SinkUnit → Type 0 = λ us. Hands us text told before after r in
+    record {
+      hands = subst P (ap (units_for owner) e ∙ sym own_units) hands;
+      is_ticked = on_ok_weaker r (λ none. record { entry_is = here; empty = none }) empty;
+    }

@@ -1,0 +1,162 @@
+-- Units that go to their boxes one after the other.
+use Rattle.std.proofs.Common.{◌≡◌, ℕ, ◌+◌, ◌<◌, ◌≤◌, List, [], ◌∷◌, ◌++◌, length, map, take, drop, refl, sym, ◌∙◌, ap, subst, append_assoc, slice_get, slice_set, get_or, arith, Result, Ok, Err, Some, zero, suc}
+use Rattle.std.proofs.lemmas.List.{append-nil, map-append, take-append-drop, take_more}
+use Rattle.std.proofs.lemmas.Option.{get_or_from_slice_get}
+use Rattle.unit_outlets.specs.Account.{Account, with_unit}
+use Rattle.unit_outlets.specs.Handed.{valid, lost}
+use Rattle.unit_outlets.specs.Took.{TookAt}
+use Rattle.unit_outlets.specs.declared.fault.OutletFault.{OutletFault as Refusal}
+use Rattle.unit_outlets.specs.declared.fault.OutletFault.TheVariants.{Failed, Memory as NoMemory}
+use Rattle.scenario_history.specs.Boxes.{SinkUnit, account_at, accounts_after, no_account, with_handed}
+use Rattle.scenario_history.specs.Output.{unit_line, unit_lines}
+use Rattle.transcript_text.specs.declared.stop.Stop.{Stop}
+use Rattle.transcript_text.specs.declared.stop.Stop.TheVariants.{Refused, OutletFault, Memory}
+use Rattle.scenario_sinks.specs.State.Gathering.{handed_of, units_for}
+use Rattle.scenario_sinks.specs.declared.gathered.HandedUnit.{HandedUnit}
+use Rattle.scenario_sinks.specs.declared.sink.Owner.{Owner}
+use Rattle.scenario_sinks.specs.Handing.{BoxTakes, Hands}
+
+pub set_past : {A : Type 0} (xs : List A) (i : ℕ) (x : A) → length xs ≤ i → slice_set xs i x ≡ xs
+set_past [] i x h = refl
+set_past (y ∷ xs) zero x h = absurd (omega arith)
+set_past (y ∷ xs) (suc i) x h = ap (λ rest. y ∷ rest) (set_past xs i x (omega arith))
+
+pub box_took : (place : ℕ) (octets : List ℕ) (old new : List Account) → TookAt place octets old new (Ok tt)
+    → new ≡ slice_set old place (with_unit octets (account_at old place))
+box_took place octets old new t =
+    t.others ∙ ap (slice_set old place) (t.took.1 ∙ ap (with_unit octets) (sym (get_or_from_slice_get old place t.before no_account t.here)))
+
+pub set_same : {A : Type 0} (xs : List A) (i : ℕ) (x : A) → slice_get xs i ≡ Some x → slice_set xs i x ≡ xs
+set_same [] i x h = refl
+set_same (y ∷ xs) zero x h = let e : y ≡ x = cc in ap (λ front. front ∷ xs) (sym e)
+set_same (y ∷ xs) (suc i) x h = ap (λ rest. y ∷ rest) (set_same xs i x h)
+
+pub box_wanted : (place : ℕ) (octets : List ℕ) (old new : List Account) (result : Result (Unit {0}) Refusal)
+    → TookAt place octets old new result → result ≡ Err NoMemory → new ≡ old
+box_wanted place octets old new result t e =
+    let P : Result (Unit {0}) Refusal → Type 0 = λ r. TookAt place octets old new r in
+    let took : TookAt place octets old new (Err NoMemory) = subst P e t in
+    took.others ∙ set_same old place took.after (took.here ∙ ap Some (sym took.took.1))
+
+pub lines_append : (us vs : List SinkUnit) → unit_lines (us ++ vs) ≡ unit_lines us ++ unit_lines vs
+lines_append [] vs = refl
+lines_append (u ∷ us) vs = ap (λ rest. unit_line u ++ rest) (lines_append us vs) ∙ sym (append_assoc (unit_line u) (unit_lines us) (unit_lines vs))
+
+pub accounts_append : (us vs : List SinkUnit) (old : List Account) → accounts_after old (us ++ vs) ≡ accounts_after (accounts_after old us) vs
+accounts_append [] vs old = refl
+accounts_append (u ∷ us) vs old = accounts_append us vs (with_handed old u.box u.unit)
+
+pub hands_then : (us vs : List SinkUnit) (text told told2 : List ℕ) (old mid new : List Account) (r : Result (Unit {0}) Stop)
+    → told ≡ text ++ unit_lines us → mid ≡ accounts_after old us → Hands vs told told2 mid new r → Hands (us ++ vs) text told2 old new r
+hands_then us vs text told told2 old mid new (Ok x) t a h = (
+  h.0 ∙ ap (λ front. front ++ unit_lines vs) t ∙ append_assoc text (unit_lines us) (unit_lines vs) ∙ ap (λ rest. text ++ rest) (sym (lines_append us vs)),
+  h.1 ∙ ap (λ accounts. accounts_after accounts vs) a ∙ sym (accounts_append us vs old),
+)
+hands_then us vs text told told2 old mid new (Err (Refused reason)) t a h = h
+hands_then us vs text told told2 old mid new (Err OutletFault) t a h = record {
+  done = us ++ h.done;
+  unit = h.unit;
+  rest = h.rest;
+  split = ap (λ rest. us ++ rest) h.split ∙ sym (append_assoc us h.done (h.unit ∷ h.rest));
+  bis = h.bis;
+  time = h.time;
+  octets = h.octets;
+  is_valid = h.is_valid;
+  lines = h.lines ∙ ap (λ front. front ++ unit_lines h.done) t ∙ append_assoc text (unit_lines us) (unit_lines h.done) ∙ ap (λ rest. text ++ rest) (sym (lines_append us h.done));
+  box = let P : List Account → Type 0 = λ accounts. TookAt h.unit.box h.octets accounts new (Err Failed) in
+      subst P (ap (λ accounts. accounts_after accounts h.done) a ∙ sym (accounts_append us h.done old)) h.box;
+}
+hands_then us vs text told told2 old mid new (Err Memory) t a h = record {
+  done = us ++ h.done;
+  rest = h.rest;
+  split = ap (λ rest. us ++ rest) h.split ∙ sym (append_assoc us h.done h.rest);
+  boxes = h.boxes ∙ ap (λ accounts. accounts_after accounts h.done) a ∙ sym (accounts_append us h.done old);
+}
+
+pub hands_stop : (us vs : List SinkUnit) (text told : List ℕ) (old new : List Account) (stop : Stop)
+    → Hands us text told old new (Err stop) → Hands (us ++ vs) text told old new (Err stop)
+hands_stop us vs text told old new (Refused reason) h = h
+hands_stop us vs text told old new OutletFault h = record {
+  done = h.done;
+  unit = h.unit;
+  rest = h.rest ++ vs;
+  split = ap (λ all. all ++ vs) h.split ∙ append_assoc h.done (h.unit ∷ h.rest) vs;
+  bis = h.bis;
+  time = h.time;
+  octets = h.octets;
+  is_valid = h.is_valid;
+  lines = h.lines;
+  box = h.box;
+}
+hands_stop us vs text told old new Memory h = record {
+  done = h.done;
+  rest = h.rest ++ vs;
+  split = ap (λ all. all ++ vs) h.split ∙ append_assoc h.done h.rest vs;
+  boxes = h.boxes;
+}
+
+-- one unit
+pub hands_lost : (owner : Owner) (bis time : ℕ) (text told : List ℕ) (old : List Account)
+    → told ≡ text ++ unit_lines (units_for owner (lost bis time ∷ [])) → Hands (units_for owner (lost bis time ∷ [])) text told old old (Ok tt)
+hands_lost owner bis time text told old t = (t, refl)
+
+pub hands_front : (units : List SinkUnit) (text told : List ℕ) (old : List Account) → Hands units text told old old (Err Memory)
+hands_front units text told old = record { done = []; rest = units; split = refl; boxes = refl }
+
+pub hands_valid : (owner : Owner) (bis time : ℕ) (octets text : List ℕ) (old new : List Account) (stop : Stop)
+    → BoxTakes owner.outlet octets old new (Err stop) → Hands (units_for owner (valid bis time octets ∷ [])) text text old new (Err stop)
+hands_valid owner bis time octets text old new (Refused reason) h = h
+hands_valid owner bis time octets text old new OutletFault h = record {
+  done = [];
+  unit = record { source = owner.source; sink = owner.sink; box = owner.outlet; unit = valid bis time octets };
+  rest = [];
+  split = refl;
+  bis = bis;
+  time = time;
+  octets = octets;
+  is_valid = refl;
+  lines = sym (append-nil text);
+  box = h;
+}
+hands_valid owner bis time octets text old new Memory h = record { done = []; rest = units_for owner (valid bis time octets ∷ []); split = refl; boxes = h }
+
+-- ---- the units of a sink, one after the other
+
+pub units_more : (owner : Owner) (units : List HandedUnit) (i : ℕ) (unit : HandedUnit) → i < length units → unit ≡ get_or units i unit
+    → units_for owner (map handed_of (take (i + 1) units)) ≡ units_for owner (map handed_of (take i units)) ++ units_for owner (handed_of unit ∷ [])
+units_more owner units i unit within is =
+    ap (λ front. units_for owner (map handed_of front)) (take_more units i unit within ∙ ap (λ last. take i units ++ last ∷ []) (sym is))
+    ∙ ap (units_for owner) (map-append handed_of (take i units) (unit ∷ []))
+    ∙ map-append (λ handed. record { source = owner.source; sink = owner.sink; box = owner.outlet; unit = handed }) (map handed_of (take i units)) (handed_of unit ∷ [])
+
+pub units_split : (owner : Owner) (units : List HandedUnit) (i : ℕ)
+    → units_for owner (map handed_of units) ≡ units_for owner (map handed_of (take i units)) ++ units_for owner (map handed_of (drop i units))
+units_split owner units i =
+    ap (λ all. units_for owner (map handed_of all)) (sym (take-append-drop i units))
+    ∙ ap (units_for owner) (map-append handed_of (take i units) (drop i units))
+    ∙ map-append (λ handed. record { source = owner.source; sink = owner.sink; box = owner.outlet; unit = handed }) (map handed_of (take i units)) (map handed_of (drop i units))
+
+-- one more unit was handed
+pub hands_more : (owner : Owner) (units : List HandedUnit) (i : ℕ) (unit : HandedUnit) → i < length units → unit ≡ get_or units i unit
+    → (text told told2 : List ℕ) (old mid new : List Account) (r : Result (Unit {0}) Stop)
+    → told ≡ text ++ unit_lines (units_for owner (map handed_of (take i units)))
+    → mid ≡ accounts_after old (units_for owner (map handed_of (take i units)))
+    → Hands (units_for owner (handed_of unit ∷ [])) told told2 mid new r
+    → Hands (units_for owner (map handed_of (take (i + 1) units))) text told2 old new r
+hands_more owner units i unit within is text told told2 old mid new r t a h =
+    let P : List SinkUnit → Type 0 = λ us. Hands us text told2 old new r in
+    subst P (sym (units_more owner units i unit within is))
+    (hands_then (units_for owner (map handed_of (take i units))) (units_for owner (handed_of unit ∷ [])) text told told2 old mid new r t a h)
+
+-- a unit was refused, and none behind it is handed
+pub hands_ends : (owner : Owner) (units : List HandedUnit) (i : ℕ) (unit : HandedUnit) → i < length units → unit ≡ get_or units i unit
+    → (text told told2 : List ℕ) (old mid new : List Account) (stop : Stop)
+    → told ≡ text ++ unit_lines (units_for owner (map handed_of (take i units)))
+    → mid ≡ accounts_after old (units_for owner (map handed_of (take i units)))
+    → Hands (units_for owner (handed_of unit ∷ [])) told told2 mid new (Err stop)
+    → Hands (units_for owner (map handed_of units)) text told2 old new (Err stop)
+hands_ends owner units i unit within is text told told2 old mid new stop t a h =
+    let P : List SinkUnit → Type 0 = λ us. Hands us text told2 old new (Err stop) in
+    subst P (sym (units_split owner units (i + 1)))
+    (hands_stop (units_for owner (map handed_of (take (i + 1) units))) (units_for owner (map handed_of (drop (i + 1) units))) text told2 old new stop
+    (hands_more owner units i unit within is text told told2 old mid new (Err stop) t a h))

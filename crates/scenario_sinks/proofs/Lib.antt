@@ -1,0 +1,7 @@
+pub mod Ranges
+pub mod Handings
+pub mod Entries
+pub mod Closings
+pub mod SumLaws
+pub mod Beyonds
+pub mod OneSink

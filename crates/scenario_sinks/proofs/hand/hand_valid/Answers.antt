@@ -1,0 +1,16 @@
+use Rattle.std.proofs.Common.{refl, [], ◌∷◌}
+use Rattle.unit_outlets.specs.Handed.{valid}
+use Rattle.scenario_sinks.specs.State.Gathering.{units_for}
+use Rattle.scenario_sinks.proofs.Handings.{hands_valid}
+use Rattle.scenario_sinks.proofs.hand.hand_valid.Goals as goal
+
+pub returns-in-Err : goal.returns-in-Err
+returns-in-Err g c = hands_valid c.args.owner c.args.bis c.args.time c.args.octets.now c.args.text.now _ _ c.in-Err.stop c.in-Err.ensures
+
+pub returns-in-Err-put_valid : goal.returns-in-Err-put_valid
+returns-in-Err-put_valid g c = record {
+  done = units_for c.args.owner (valid c.args.bis c.args.time c.args.octets.now ∷ []);
+  rest = [];
+  split = refl;
+  boxes = c.in-Ok.ensures;
+}

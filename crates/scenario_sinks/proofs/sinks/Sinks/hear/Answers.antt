@@ -1,0 +1,12 @@
+use Rattle.std.proofs.Common.{refl, sym, ◌∙◌, arith}
+use Rattle.scenario_sinks.proofs.Entries.{entry_read}
+use Rattle.scenario_sinks.proofs.OneSink.{heard}
+use Rattle.scenario_sinks.proofs.sinks.Sinks.hear.Goals as goal
+
+pub returns : goal.returns
+returns c past stands =
+    let eight = sym c.args.self.now.entries.ok.0 ∙ c.args.self.now.eight in
+    let entry = entry_read past c.args.sink c.from.result c.args.self.now.entries.items c.index_mut.result.now c.from.ensures eight (omega arith) c.index_mut.ensures.value stands.entries in
+    heard c.args.sink c.from.result c.args.source c.args.event c.args.bis c.args.subevent c.args.octets.now past c.args.self.now _ c.hear_entry.new.entry c.hear_entry.result
+    stands c.from.ensures (omega arith) eight
+    (c.hear_entry.ensures (past.boxes c.args.sink) (past.sources c.args.sink) (past.calls c.args.sink) entry) refl refl refl

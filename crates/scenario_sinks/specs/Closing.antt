@@ -1,0 +1,25 @@
+-- What the sinks of a source hand up as an event of it is closed (Core 5.2, volume 6 part G, section 2.1).
+use Rattle.std.specs.Prelude.{ℕ, List, [], Option, None, Some, Result, OnOk}
+use Rattle.std.specs.List.{flat_map}
+use Rattle.unit_outlets.specs.Account.{Account}
+use Rattle.scenario_history.specs.Boxes.{SinkUnit, sink_numbers, closing_by}
+use Rattle.scenario_sinks.specs.declared.sinks.Sinks.{Sinks}
+use Rattle.transcript_text.specs.declared.stop.Stop.{Stop}
+use Rattle.scenario_sinks.specs.Pasts.{Past, with_close}
+use Rattle.scenario_sinks.specs.Handing.{Hands}
+use Rattle.scenario_sinks.specs.State.Standing.{SinksStand}
+
+-- the units of the sinks with these numbers
+abbrev pub closings : ℕ → ℕ → Past → List ℕ → List SinkUnit
+closings source event past numbers = flat_map (λ n. closing_by source event n (past.calls n) (past.sources n) (past.boxes n)) numbers
+
+-- the units of all sinks, by rising number, where an event is open
+abbrev pub closings_at : ℕ → Option ℕ → Past → List SinkUnit
+closings_at source None past = []
+closings_at source (Some event) past = closings source event past sink_numbers
+
+-- what became of the close of the open event of a source, where one is open
+pub record Closes (past : Past) (source : ℕ) (closed : Option ℕ) (new : Sinks) (text told : List ℕ) (before after : List Account)
+    (result : Result (Unit {0}) Stop) : Type 0 where
+  pub hands : Hands (closings_at source closed past) text told before after result
+  pub stands : OnOk result (SinksStand (with_close source closed past) new)

@@ -1,0 +1,5 @@
+pub mod Gathering
+pub mod Standing
+pub mod Between
+pub mod Beyond
+pub mod Entries

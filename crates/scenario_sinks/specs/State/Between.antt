@@ -1,0 +1,46 @@
+-- What stands between the closes of two sinks.
+use Rattle.std.specs.Prelude.{ℕ, ◌≡◌, ◌≤◌, ◌<◌, slice_get, List, [], ◌++◌, Option, Some, Result, OnOk}
+use Rattle.std.specs.List.{range_with_len}
+use Rattle.unit_outlets.specs.Account.{Account}
+use Rattle.delegator_machine.specs.Calls.{Call}
+use Rattle.scenario_history.specs.Boxes.{most_sinks, accounts_after, closing_by}
+use Rattle.scenario_history.specs.Sinks.{is_of, ticked_if}
+use Rattle.scenario_history.specs.Output.{unit_lines}
+use Rattle.scenario_sinks.specs.declared.gathered.Gathered.{Gathered}
+use Rattle.scenario_sinks.specs.declared.sink.Sink.{Sink}
+use Rattle.transcript_text.specs.declared.stop.Stop.{Stop}
+use Rattle.scenario_sinks.specs.Pasts.{Past, with_close}
+use Rattle.scenario_sinks.specs.Handing.{Hands}
+use Rattle.scenario_sinks.specs.Closing.{closings, closings_at}
+use Rattle.scenario_sinks.specs.State.Standing.{EntryIs, EntryAt, EntriesAre}
+
+-- one sink is ticked, where it is of the source
+pub record SinkTicked (box own : Option ℕ) (calls : List Call) (source event : ℕ) (entry : Option Sink) (gathered : Gathered) : Type 0 where
+  pub entry_is : EntryIs box own (ticked_if (is_of source own) (Some event) calls) (Some entry)
+  pub empty : gathered.units.items ≡ []
+
+-- what became of a close of one sink
+pub record SinkCloses (box own : Option ℕ) (calls : List Call) (n source event : ℕ) (entry : Option Sink) (gathered : Gathered)
+    (text told : List ℕ) (before after : List Account) (result : Result (Unit {0}) Stop) : Type 0 where
+  pub hands : Hands (closing_by source event n calls own box) text told before after result
+  pub is_ticked : OnOk result (SinkTicked box own calls source event entry gathered)
+
+-- the sinks below a number are ticked, and the others not yet
+pub record Between (past : Past) (source event number : ℕ) (sinks : List (Option Sink)) (gathered : Gathered)
+    (text told : List ℕ) (before after : List Account) : Type 0 where
+  pub done : (n : ℕ) → n < number → EntryAt (with_close source (Some event) past) n (slice_get sinks n)
+  pub left : (n : ℕ) → number ≤ n → n < most_sinks → EntryAt past n (slice_get sinks n)
+  pub empty : gathered.units.items ≡ []
+  pub lines : told ≡ text ++ unit_lines (closings source event past (range_with_len 0 number))
+  pub boxes_are : after ≡ accounts_after before (closings source event past (range_with_len 0 number))
+
+-- all sinks of the source are ticked
+pub record SinksTicked (past : Past) (source event : ℕ) (sinks : List (Option Sink)) (gathered : Gathered) : Type 0 where
+  pub entries : EntriesAre (with_close source (Some event) past) sinks
+  pub empty : gathered.units.items ≡ []
+
+-- what became of a close over all sinks
+pub record AllClose (past : Past) (source event : ℕ) (sinks : List (Option Sink)) (gathered : Gathered)
+    (text told : List ℕ) (before after : List Account) (result : Result (Unit {0}) Stop) : Type 0 where
+  pub hands : Hands (closings_at source (Some event) past) text told before after result
+  pub is_ticked : OnOk result (SinksTicked past source event sinks gathered)

@@ -1,0 +1,26 @@
+-- What the sinks of a scenario keep, and the past that it stands for.
+use Rattle.std.specs.Prelude.{ℕ, ◌≡◌, ◌<◌, List, [], Option, None, Some, slice_get}
+use Rattle.delegator_machine.specs.Calls.{Call}
+use Rattle.delegator_machine.specs.Sinks.{StandsFor}
+use Rattle.scenario_history.specs.Boxes.{most_sinks}
+use Rattle.scenario_sinks.specs.declared.sink.Sink.{Sink}
+use Rattle.scenario_sinks.specs.declared.sinks.Sinks.{Sinks}
+use Rattle.scenario_sinks.specs.Pasts.{Past}
+
+-- the entry of a number with this box, or none where no sink lives; the sink is of this source and took these calls
+abbrev pub EntryIs : Option ℕ → Option ℕ → List Call → Option (Option Sink) → Type 0
+EntryIs None source calls entry = entry ≡ Some None
+EntryIs (Some box) source calls entry =
+    (sink : Sink) × (entry ≡ Some (Some sink)) × (sink.outlet ≡ box) × (sink.source ≡ source) × StandsFor calls sink.delegator
+
+abbrev pub EntryAt : Past → ℕ → Option (Option Sink) → Type 0
+EntryAt past n entry = EntryIs (past.boxes n) (past.sources n) (past.calls n) entry
+
+abbrev pub EntriesAre : Past → List (Option Sink) → Type 0
+EntriesAre past sinks = (n : ℕ) → n < most_sinks → EntryAt past n (slice_get sinks n)
+
+-- the sinks are as their past left them
+pub record SinksStand (past : Past) (sinks : Sinks) : Type 0 where
+  pub entries : EntriesAre past sinks.entries.items
+  pub made : sinks.outlets ≡ past.made
+  pub empty : sinks.gathered.units.items ≡ []

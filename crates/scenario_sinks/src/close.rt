@@ -1,0 +1,82 @@
+//! Closing an event of a source: each of its sinks hands its units up.
+ghost use Rattle.std.specs.Prelude.{◌≡◌, ◌<◌, ◌^◌, ℕ, List, [], Option, Some, length, map};
+ghost use Rattle.delegator_machine.specs.Calls.{Call};
+ghost use Rattle.scenario_sinks.specs.Pasts.{Past};
+ghost use Rattle.scenario_sinks.specs.State.Standing.{EntryIs, EntriesAre};
+ghost use Rattle.scenario_sinks.specs.State.Between.{SinkCloses, AllClose};
+
+use crate::gathered::Gathered;
+use crate::hand::hand_units;
+use crate::sink::{Owner, Sink, is_of};
+use bcast_base::Octets;
+use transcript_text::Stop;
+use unit_outlets::Outlet;
+
+/// Closes an event of a source for the sink of a number, where one lives that is of this source: its units go to its
+/// box, and then to the text.
+fn close_sink(
+    entry: &mut Option<Sink>,
+    number: u8,
+    source: u8,
+    event: u64,
+    gathered: &mut Gathered,
+    outlets: &mut Vec<Box<dyn Outlet>>,
+    text: &mut Octets,
+) -> Result<(), Stop>
+    requires { event < 2 ^ 39 }
+    ensures { (box own : Option ℕ) (calls : List Call) → EntryIs box own calls (Some entry.old) → gathered.old.units.items ≡ []
+        → SinkCloses box own calls number source event entry.new gathered.new text.old text.new (map account outlets.old.items) (map account outlets.new.items) result }
+{
+    let Some(sink) = entry else {
+        return Ok(());
+    };
+    if !is_of(sink.source, source) {
+        return Ok(());
+    }
+    match sink.delegator.tick(event, gathered) {
+        Ok(()) => {}
+        Err(_) => return Err(Stop::Memory),
+    }
+    let owner = Owner {
+        source,
+        sink: number,
+        outlet: sink.outlet,
+    };
+    match hand_units(gathered.units.as_slice(), owner, outlets, text) {
+        Ok(()) => {}
+        Err(stop) => return Err(stop),
+    }
+    gathered.units.clear();
+    Ok(())
+}
+
+/// Closes an event of a source for all its sinks, by rising number.
+pub(crate) fn close_sinks(
+    sinks: &mut [Option<Sink>],
+    source: u8,
+    event: u64,
+    gathered: &mut Gathered,
+    outlets: &mut Vec<Box<dyn Outlet>>,
+    text: &mut Octets,
+) -> Result<(), Stop>
+    requires event { event < 2 ^ 39 }
+    requires eight { length sinks.old ≡ 8 }
+    ensures { (past : Past) → EntriesAre past sinks.old → gathered.old.units.items ≡ []
+        → AllClose past source event sinks.new gathered.new text.old text.new (map account outlets.old.items) (map account outlets.new.items) result }
+{
+    'sinks: for number in 0..8u8 {
+        match close_sink(
+            &mut sinks[usize::from(number)],
+            number,
+            source,
+            event,
+            gathered,
+            outlets,
+            text,
+        ) {
+            Ok(()) => continue 'sinks,
+            Err(stop) => return Err(stop),
+        }
+    }
+    Ok(())
+}

@@ -1,0 +1,91 @@
+ghost use Rattle.std.specs.Prelude.{◌≡◌, ◌++◌, ◌∷◌, [], OnOk, OnErr, IsErr};
+ghost use Rattle.unit_outlets.specs.Handed.{Caused};
+
+use bcast_base::{Bis, Memory, Octets};
+use std::alloc::Global;
+use unit_outlets::{TakerFault, UnitTaker};
+
+/// A unit that a receiver handed up: its octets, or none where it is lost.
+#[derive(Drop)]
+pub struct HandedUnit {
+    pub bis: Bis,
+    pub time: u64,
+    pub octets: Option<Octets>,
+}
+
+/// The units of a close, in order, before they go to the box of their sink.
+#[derive(Drop)]
+pub struct Gathered {
+    alloc: Global,
+    pub units: Vec<HandedUnit>,
+    wants: u64,
+}
+
+impl Gathered {
+    ghost use Rattle.scenario_sinks.specs.State.Gathering.{counts_of};
+
+    /// Nothing gathered yet. It takes no memory.
+    pub(crate) fn new(alloc: Global) -> Gathered
+        ensures { result.units.items ≡ [] }
+    {
+        Gathered {
+            alloc,
+            units: Vec::new(alloc),
+            wants: 0,
+        }
+    }
+
+    fn put(&mut self, unit: HandedUnit) -> Result<(), Memory>
+        ensures ok { OnOk result (self.new.units.items ≡ self.old.units.items ++ unit ∷ []) }
+        ensures err { OnErr result (self.new.units.items ≡ self.old.units.items) }
+        ensures wants { self.new.wants ≡ self.old.wants }
+    {
+        self.units.push(unit)?;
+        Ok(())
+    }
+
+    /// Counts a want of memory, up to the last number.
+    fn want(&mut self) -> Result<(), TakerFault>
+        ensures refused { IsErr result }
+        ensures cause { Caused (counts_of self.old) (counts_of self.new) result }
+        ensures units { self.new.units.items ≡ self.old.units.items }
+    {
+        self.wants = self.wants.saturating_add(1);
+        Err(TakerFault::Memory)
+    }
+}
+
+impl UnitTaker for Gathered {
+    ghost use Rattle.scenario_sinks.specs.State.Gathering.{calls_of, counts_of};
+
+    ghost calls = { calls_of };
+
+    ghost counts = { counts_of };
+
+    fn valid(&mut self, bis: Bis, time: u64, octets: &[u8]) -> Result<(), TakerFault> {
+        let Ok(octets) = Octets::copy(self.alloc, octets) else {
+            return self.want();
+        };
+        let unit = HandedUnit {
+            bis,
+            time,
+            octets: Some(octets),
+        };
+        match self.put(unit) {
+            Ok(()) => Ok(()),
+            Err(_) => self.want(),
+        }
+    }
+
+    fn lost(&mut self, bis: Bis, time: u64) -> Result<(), TakerFault> {
+        let unit = HandedUnit {
+            bis,
+            time,
+            octets: None,
+        };
+        match self.put(unit) {
+            Ok(()) => Ok(()),
+            Err(_) => self.want(),
+        }
+    }
+}

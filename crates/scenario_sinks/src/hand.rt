@@ -1,0 +1,90 @@
+//! Units on their way from the sinks to the boxes and the text.
+ghost use Rattle.std.specs.Prelude.{◌≡◌, ◌<◌, ◌≤◌, ◌^◌, ◌∷◌, [], ℕ, List, Option, Some, map};
+ghost use Rattle.unit_outlets.specs.Account.{Account};
+ghost use Rattle.unit_outlets.specs.Handed.{valid, lost};
+ghost use Rattle.scenario_sinks.specs.State.Gathering.{handed_of, units_for};
+ghost use Rattle.scenario_sinks.specs.Handing.{BoxTakes, Hands};
+
+use crate::gathered::{Gathered, HandedUnit};
+use crate::sink::Owner;
+use bcast_base::{Bis, Memory, Octets};
+use transcript_text::{Stop, put_lost, put_valid};
+use unit_outlets::{Outlet, OutletFault, TakerFault, take_at};
+
+/// Puts a unit into the box at a place, where there is one.
+fn put_in_box(outlets: &mut Vec<Box<dyn Outlet>>, place: usize, octets: &[u8]) -> Result<(), Stop>
+    ensures { BoxTakes place octets.now (map account outlets.old.items) (map account outlets.new.items) result }
+{
+    if place >= outlets.len() {
+        return Ok(());
+    }
+    match take_at(outlets, place, octets) {
+        Ok(()) => Ok(()),
+        Err(OutletFault::Failed) => Err(Stop::OutletFault),
+        Err(OutletFault::Memory) => Err(Stop::Memory),
+    }
+}
+
+/// Hands a valid unit of a sink: to the box at this place, and then to the text.
+fn hand_valid(
+    owner: Owner,
+    bis: Bis,
+    time: u64,
+    octets: &[u8],
+    outlets: &mut Vec<Box<dyn Outlet>>,
+    text: &mut Octets,
+) -> Result<(), Stop>
+    ensures { Hands (units_for owner (valid bis time octets.now ∷ [])) text.old text.new (map account outlets.old.items) (map account outlets.new.items) result }
+{
+    match put_in_box(outlets, owner.outlet, octets) {
+        Ok(()) => {}
+        Err(stop) => return Err(stop),
+    }
+    match put_valid(text, owner.sink, bis.get(), time, octets) {
+        Ok(()) => Ok(()),
+        Err(Memory) => Err(Stop::Memory),
+    }
+}
+
+/// Tells that a unit of a sink is lost.
+fn hand_lost(owner: Owner, bis: Bis, time: u64, text: &mut Octets) -> Result<(), Stop>
+    ensures { (accounts : List Account) → Hands (units_for owner (lost bis time ∷ [])) text.old text.new accounts accounts result }
+{
+    match put_lost(text, owner.sink, bis.get(), time) {
+        Ok(()) => Ok(()),
+        Err(Memory) => Err(Stop::Memory),
+    }
+}
+
+/// Hands a unit of a sink, valid or lost.
+fn hand_unit(
+    unit: &HandedUnit,
+    owner: Owner,
+    outlets: &mut Vec<Box<dyn Outlet>>,
+    text: &mut Octets,
+) -> Result<(), Stop>
+    ensures { Hands (units_for owner (handed_of unit.now ∷ [])) text.old text.new (map account outlets.old.items) (map account outlets.new.items) result }
+{
+    match &unit.octets {
+        Some(octets) => { hand_valid(owner, unit.bis, unit.time, octets.as_slice(), outlets, text) }
+        None => hand_lost(owner, unit.bis, unit.time, text),
+    }
+}
+
+/// Hands units of a sink in order.
+pub(crate) fn hand_units(
+    units: &[HandedUnit],
+    owner: Owner,
+    outlets: &mut Vec<Box<dyn Outlet>>,
+    text: &mut Octets,
+) -> Result<(), Stop>
+    ensures { Hands (units_for owner (map handed_of units.now)) text.old text.new (map account outlets.old.items) (map account outlets.new.items) result }
+{
+    'units: for unit in units {
+        match hand_unit(unit, owner, outlets, text) {
+            Ok(()) => continue 'units,
+            Err(stop) => return Err(stop),
+        }
+    }
+    Ok(())
+}

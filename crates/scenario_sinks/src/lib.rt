@@ -1,0 +1,15 @@
+//! The sinks of a scenario: each with its box, the source that it is of, what it hears, and what it hands up.
+#![tactic(auto)]
+
+mod beyond;
+mod close;
+mod entry;
+mod gathered;
+mod hand;
+mod joining;
+mod sink;
+mod sinks;
+mod sums;
+
+pub use joining::Joining;
+pub use sinks::Sinks;

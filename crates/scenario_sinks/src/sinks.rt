@@ -1,0 +1,189 @@
+ghost use Rattle.std.specs.Prelude.{◌≡◌, ◌≤◌, ◌<◌, ◌^◌, ◌++◌, vec_len, IfOk, OnOk, map, replicate, is_some, None, Option};
+ghost use Rattle.std.specs.Option.{ForSome};
+
+use crate::close::close_sinks;
+use crate::entry::{hear_entry, tune_entry};
+use crate::gathered::Gathered;
+use crate::joining::Joining;
+use crate::sink::Sink;
+use crate::sums::{put_sum_at, put_sums};
+use bcast_base::{Bis, Memory, Octets};
+use delegator_machine::Delegator;
+use isoal_base::Hearing;
+use std::alloc::Global;
+use transcript_text::{Refusal, Stop};
+use unit_outlets::Outlet;
+
+/// The most sinks that live at once.
+const SINKS: usize = 8;
+
+/// The sinks of a scenario, with the numbers 0 to 7.
+#[derive(Drop)]
+pub struct Sinks {
+    alloc: Global,
+    entries: Vec<Option<Sink>>,
+    /// How many boxes of the list were taken.
+    outlets: usize,
+    gathered: Gathered,
+    ghost eight: { vec_len entries ≡ 8 },
+}
+
+impl Sinks {
+    ghost use Rattle.scenario_history.specs.Boxes.{sink_numbers};
+    ghost use Rattle.scenario_sinks.specs.Closing.{Closes};
+    ghost use Rattle.scenario_sinks.specs.Hearing.{Hears};
+    ghost use Rattle.scenario_sinks.specs.Joinings.{tuning_in};
+    ghost use Rattle.scenario_sinks.specs.Pasts.{Past, nothing, with_sink, with_tuning, without};
+    ghost use Rattle.scenario_sinks.specs.Refusals.{Answers, not_living, not_made, not_tuned};
+    ghost use Rattle.scenario_sinks.specs.State.Standing.{SinksStand};
+    ghost use Rattle.scenario_sinks.specs.Sums.{Puts, sum_where, sums_where};
+
+    /// No sinks yet.
+    pub fn new(alloc: Global) -> Result<Sinks, Memory>
+        ensures { IfOk result (λ sinks. SinksStand nothing sinks) }
+    {
+        Ok(Sinks {
+            alloc,
+            entries: no_sinks(alloc)?,
+            outlets: 0,
+            gathered: Gathered::new(alloc),
+        })
+    }
+
+    /// Whether a sink of this number lives.
+    pub fn lives(&self, sink: u8) -> bool
+        requires { sink ≤ 7 }
+        ensures { (past : Past) → SinksStand past self.now → result ≡ is_some (past.boxes sink) }
+    {
+        self.entries[usize::from(sink)].is_some()
+    }
+
+    /// Makes a sink with the next box, of so many. It is refused with SinkTwice where a sink of this number lives, else
+    /// with NoOutlet where no box is left. It takes no memory.
+    pub fn make(&mut self, sink: u8, boxes: usize) -> Result<(), Stop>
+        requires { sink ≤ 7 }
+        ensures { (past : Past) → SinksStand past self.old → Answers (not_made (past.boxes sink) past.made boxes) past (with_sink sink past) self.new result }
+    {
+        let place = usize::from(sink);
+        if self.entries[place].is_some() {
+            return Err(Stop::Refused(Refusal::SinkTwice));
+        }
+        if self.outlets >= boxes {
+            return Err(Stop::Refused(Refusal::NoOutlet));
+        }
+        self.entries[place] = Some(Sink {
+            outlet: self.outlets,
+            source: None,
+            delegator: Delegator::new(self.alloc),
+        });
+        self.outlets += 1;
+        Ok(())
+    }
+
+    /// Ends a sink, and puts the sums of its box at the end of the text. It is refused with NoSuchSink where no sink of
+    /// this number lives.
+    pub fn end(
+        &mut self,
+        sink: u8,
+        outlets: &Vec<Box<dyn Outlet>>,
+        text: &mut Octets,
+    ) -> Result<(), Stop>
+        requires { sink ≤ 7 }
+        ensures answer { (past : Past) → SinksStand past self.old → Answers (not_living (past.boxes sink)) past (without sink past) self.new result }
+        ensures text { (past : Past) → SinksStand past self.old → Puts (sum_where (map account outlets.now.items) sink (past.boxes sink)) text.old text.new result }
+    {
+        let Some(entry) = &self.entries[usize::from(sink)] else {
+            return Err(Stop::Refused(Refusal::NoSuchSink));
+        };
+        match put_sum_at(sink, entry.outlet, outlets, text) {
+            Ok(()) => {}
+            Err(_) => return Err(Stop::Memory),
+        }
+        self.entries[usize::from(sink)] = None;
+        Ok(())
+    }
+
+    /// Puts a sink on the group of a source. It is refused with NoSuchSink where no sink of this number lives, else with
+    /// NoSuchBis where a stream is above those of the group.
+    pub fn tune(&mut self, sink: u8, source: u8, joining: &Joining) -> Result<(), Stop>
+        requires { sink ≤ 7 }
+        ensures { (past : Past) → SinksStand past self.old
+            → Answers (not_tuned (past.boxes sink) joining.now.group.info.num_bis joining.now.which) past (with_tuning sink source (tuning_in joining.now) past) self.new result }
+    {
+        tune_entry(&mut self.entries[usize::from(sink)], source, joining)
+    }
+
+    /// Hands a sink octets in the place of a PDU of a source: in a subevent, from 0, of an event of a stream. The answer is
+    /// what the sink made of them, and none where no sink of this number lives. It takes no memory.
+    pub fn hear(
+        &mut self,
+        sink: u8,
+        source: u8,
+        event: u64,
+        bis: Bis,
+        subevent: u8,
+        octets: &[u8],
+    ) -> Option<Hearing>
+        requires sink { sink ≤ 7 }
+        requires event { event ≤ 2 ^ 39 }
+        ensures { (past : Past) → SinksStand past self.old → Hears past sink source event bis subevent octets.now self.new result }
+    {
+        hear_entry(
+            &mut self.entries[usize::from(sink)],
+            source,
+            event,
+            bis,
+            subevent,
+            octets,
+        )
+    }
+
+    /// Closes the open event of a source, where one is open: the sinks of the source hand their units up, by rising number
+    /// and then by rising stream, each valid unit to the box of its sink and then, as a line, to the end of the text. After a
+    /// refusal of a box, or want of memory, a front of the units was handed.
+    pub fn close(
+        &mut self,
+        source: u8,
+        closed: Option<u64>,
+        outlets: &mut Vec<Box<dyn Outlet>>,
+        text: &mut Octets,
+    ) -> Result<(), Stop>
+        requires { ForSome closed (λ event. event < 2 ^ 39) }
+        ensures { (past : Past) → SinksStand past self.old
+            → Closes past source closed self.new text.old text.new (map account outlets.old.items) (map account outlets.new.items) result }
+    {
+        let Some(event) = closed else {
+            return Ok(());
+        };
+        close_sinks(
+            &mut self.entries,
+            source,
+            event,
+            &mut self.gathered,
+            outlets,
+            text,
+        )
+    }
+
+    /// Puts the sums of the boxes of the living sinks at the end of the text, by rising number.
+    pub fn sums(&self, outlets: &Vec<Box<dyn Outlet>>, text: &mut Octets) -> Result<(), Memory>
+        ensures { (past : Past) → SinksStand past self.now
+            → OnOk result (text.new ≡ text.old ++ sums_where (map account outlets.now.items) past.boxes sink_numbers) }
+    {
+        put_sums(&self.entries, outlets, text)
+    }
+}
+
+/// Eight places for sinks, all empty.
+fn no_sinks(alloc: Global) -> Result<Vec<Option<Sink>>, Memory>
+    ensures { IfOk result (λ sinks. sinks.items ≡ replicate 8 None) }
+{
+    let mut sinks = Vec::new(alloc);
+    'sinks: for _ in 0..SINKS {
+        match sinks.push(None) {
+            Ok(()) => continue 'sinks,
+            Err(_) => return Err(Memory),
+        }
+    }
+    Ok(sinks)
+}

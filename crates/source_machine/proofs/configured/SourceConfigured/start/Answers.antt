@@ -1,0 +1,13 @@
+use Rattle.std.proofs.Common.{refl}
+use Rattle.source_machine.proofs.Standing.{stands_new}
+use Rattle.source_machine.proofs.configured.SourceConfigured.start.Goals as goal
+
+pub returns-in-Ok-clause-ok : goal.returns-in-Ok-clause-ok
+returns-in-Ok-clause-ok c =
+    let plan = c.self.inside.plan in
+    rw (← c.self.view_is) (
+      refl,
+      refl,
+      stands_new (record { info = plan.group.info; origin = plan.origin; delay = plan.delay; first = c.args.first_event })
+          c.in-Ok.streams.items c.in-Ok.ensures plan.identity,
+    )

@@ -1,0 +1,33 @@
+use Rattle.std.proofs.Common.{◌≡◌, ◌-◌, get_or, arith, subst}
+use Rattle.source_machine.specs.Faults.{of_sender}
+use Rattle.source_machine.proofs.Lists.{on_err_of}
+use Rattle.source_machine.proofs.Standing.{put_refused, stands_give, takes_unit}
+use Rattle.source_machine.proofs.streaming.SourceStreaming.give.Goals as goal
+
+pub returns-in_err-give-clause-cause : goal.returns-in_err-give-clause-cause
+returns-in_err-give-clause-cause c =
+    let fit = rw (← c.self.view_is) at c.in_ok-check_unit.ensures.ok in
+    let is : c.index_mut.result.now ≡ get_or c.self.inside.streams.items (c.args.bis - 1) c.index_mut.result.now =
+    subst (λ i. c.index_mut.result.now ≡ get_or c.self.inside.streams.items i c.index_mut.result.now) (omega arith) c.index_mut.ensures.value in
+    rw (← c.self.view_is)
+    (on_err_of _ c.from_residual-in_err-give.result (of_sender c.in_err-give.field-0.0) c.from_residual-in_err-give.ensures.1
+    (λ calls airs stands are. put_refused _ calls airs c.args.bis c.args.time c.args.octets.now c.index_mut.result.now c.in_err-give.field-0.0 stands are
+    c.self.invariant.unframed fit (omega arith) is c.in_err-give.ensures.fault))
+
+pub returns-clause-ok : goal.returns-clause-ok
+returns-clause-ok c =
+    let fit = rw (← c.self.view_is) at c.in_ok-check_unit.ensures.ok in
+    let at : c.from.result ≡ c.args.bis - 1 = omega arith in
+    let is : c.index_mut.result.now ≡ get_or c.self.inside.streams.items (c.args.bis - 1) c.index_mut.result.now =
+    subst (λ i. c.index_mut.result.now ≡ get_or c.self.inside.streams.items i c.index_mut.result.now) at c.index_mut.ensures.value in
+    rw (← c.self.view_is) (λ calls stands.
+    rw at (stands_give _ calls c.args.bis c.args.time c.args.octets.now c.index_mut.result.now c.give.new.self stands
+    (omega arith) fit.has_stream is c.in_ok-give.ensures.ok))
+
+pub returns-clause-accepted : goal.returns-clause-accepted
+returns-clause-accepted c =
+    let fit = rw (← c.self.view_is) at c.in_ok-check_unit.ensures.ok in
+    let is : c.index_mut.result.now ≡ get_or c.self.inside.streams.items (c.args.bis - 1) c.index_mut.result.now =
+    subst (λ i. c.index_mut.result.now ≡ get_or c.self.inside.streams.items i c.index_mut.result.now) (omega arith) c.index_mut.ensures.value in
+    rw (← c.self.view_is) (λ calls airs stands are. takes_unit _ calls airs c.args.bis c.args.time c.args.octets.now c.index_mut.result.now stands are
+    c.self.invariant.unframed fit (omega arith) is c.in_ok-give.ensures.ok.room)
