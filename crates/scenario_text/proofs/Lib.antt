@@ -1,3 +1,4 @@
 pub mod Rows
 pub mod Within
 pub mod Steps
+pub mod Misfits

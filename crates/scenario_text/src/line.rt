@@ -1,9 +1,11 @@
-ghost use Rattle.std.specs.Prelude.{◌≡◌, ◌⊎◌, IfOk, IfSome, IfNone, Ok, Some, None};
+ghost use Rattle.std.specs.Prelude.{◌≡◌, ◌⊎◌, ℕ, IfOk, IfSome, IfNone, Ok, Err, Some, None};
+ghost use Rattle.scenario_words.specs.declared.fault.LineFault.TheVariants.{BadLine};
 ghost use Rattle.scenario_words.specs.Reading.{Gives, GivesNext};
 ghost use Rattle.scenario_text.specs.Ranges.{IsInRange};
 ghost use Rattle.scenario_text.specs.Table.{row_of, source_row_of, sink_row_of, row_of_2};
 ghost use Rattle.scenario_text.specs.Lines.{LineIs, IsBlank};
 ghost use Rattle.scenario_text.specs.Steps.{at_known, step_of as step_in, read_of};
+ghost use Rattle.scenario_text.specs.Misfits.{IsMisfit};
 ghost use Rattle.scenario_text.specs.declared.step.Step.{Step};
 
 use crate::step::Step;
@@ -21,6 +23,8 @@ pub fn read_line(alloc: Global, line: &[u8]) -> Result<Option<Step>, LineFault>
     // None comes exactly for an empty line or a comment.
     ensures blank { IsBlank line.now → result ≡ Ok None }
     ensures none { IfOk result (λ read. IfNone read (IsBlank line.now)) }
+    // The number of a fault is that of the words that fit.
+    ensures misfit { (k : ℕ) → result ≡ Err (BadLine k) → IsMisfit 1 line.now k }
     // What it answers is what the line reads as.
     ensures reads { Gives (λ read. read) result (read_of 1 line.now) }
 {
@@ -38,6 +42,8 @@ pub fn read_line_in(alloc: Global, version: u8, line: &[u8]) -> Result<Option<St
     // None comes exactly for an empty line or a comment.
     ensures blank { IsBlank line.now → result ≡ Ok None }
     ensures none { IfOk result (λ read. IfNone read (IsBlank line.now)) }
+    // The number of a fault is that of the words that fit.
+    ensures misfit { (k : ℕ) → result ≡ Err (BadLine k) → IsMisfit version line.now k }
     // What it answers is what the line reads as.
     ensures reads { Gives (λ read. read) result (read_of version line.now) }
 {
@@ -161,7 +167,7 @@ fn named_of_source(
 }
 
 /// The step where the first word is that of a line of a sink, or a later one.
-#[tactic(auto, unfolding(crate::specs::Table::sink_row_of, crate::specs::Table::row_of_2))]
+#[tactic(auto, unfolding(crate::specs::Table::sink_row_of))]
 fn named_of_sink(
     alloc: Global,
     version: u8,
@@ -219,10 +225,7 @@ fn named_of_sink(
     if name == b"forge".as_slice() {
         return sink_lines::forge(alloc, words);
     }
-    if version == 2 {
-        return named_of_2(alloc, version, name, words);
-    }
-    Err(LineFault::BadLine { word: 0 })
+    named_of_2(alloc, version, name, words)
 }
 
 /// The step where the first word is that of a line of version 2 alone.
@@ -233,10 +236,12 @@ fn named_of_2(
     name: &[u8],
     words: &mut Cursor<'_>,
 ) -> Result<Step, LineFault>
-    requires { version ≡ 2 }
     ensures in_range { IfOk result IsInRange }
     ensures gives { GivesNext (λ step. step) result words.new (at_known (row_of_2 version name.now) words.old) }
 {
+    if version != 2 {
+        return Err(LineFault::BadLine { word: 0 });
+    }
     if name == b"assist".as_slice() {
         return later_lines::assist(words);
     }

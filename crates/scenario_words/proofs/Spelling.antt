@@ -326,7 +326,7 @@ within_most : {P : Type 0} (b : Bool) (found all : List Wish × Left) → (b ≡
 within_most true found all p e = (p refl, ok_is found all e)
 within_most false found all p e = absurd cc
 
-bounded_is : (most : ℕ) (found all : List Wish × Left) → bounded most found ≡ Ok all → (wishes_octets found.0 ≤ most) × (found ≡ all)
+pub bounded_is : (most : ℕ) (found all : List Wish × Left) → bounded most found ≡ Ok all → (wishes_octets found.0 ≤ most) × (found ≡ all)
 bounded_is most found all e = within_most (nat_le (wishes_octets found.0) most) found all (leb-true (wishes_octets found.0) most) e
 
 wishes_spelled : (most : ℕ) (words : List (List ℕ)) (read : ℕ) (all : List Wish) (left : Left) → all_wishes_of most (left_of words read) ≡ Ok (all, left) → left.words ≡ []

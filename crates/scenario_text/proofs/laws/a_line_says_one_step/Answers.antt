@@ -1,4 +1,5 @@
 use Rattle.scenario_text.proofs.Steps.{says_so, so_says, one_said, said_in_range, none_is_blank, blank_is_none}
+use Rattle.scenario_text.proofs.Misfits.{is_misfit, one_number}
 use Rattle.scenario_text.proofs.laws.a_line_says_one_step.Goals as goal
 
 pub returns-clause-says : goal.returns-clause-says
@@ -12,3 +13,9 @@ returns-clause-in_range c = said_in_range
 
 pub returns-clause-blank : goal.returns-clause-blank
 returns-clause-blank c version line = (none_is_blank version line, blank_is_none version line)
+
+pub returns-clause-misfit : goal.returns-clause-misfit
+returns-clause-misfit c = is_misfit
+
+pub returns-clause-number : goal.returns-clause-number
+returns-clause-number c = one_number

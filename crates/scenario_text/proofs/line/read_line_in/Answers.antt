@@ -1,4 +1,5 @@
 use Rattle.scenario_text.proofs.Steps.{is_found, is_read, is_blank}
+use Rattle.scenario_text.proofs.Misfits.{result_misfit}
 use Rattle.scenario_text.proofs.line.read_line_in.Goals as goal
 
 pub returns-clause-found : goal.returns-clause-found
@@ -9,3 +10,6 @@ returns-clause-only c = is_read c.args.version c.args.line.now c.read.result c.r
 
 pub returns-clause-none : goal.returns-clause-none
 returns-clause-none c = is_blank c.args.version c.args.line.now c.read.result c.read.ensures.reads
+
+pub returns-clause-misfit : goal.returns-clause-misfit
+returns-clause-misfit c k e = result_misfit c.args.version k c.args.line.now c.read.result c.read.ensures.reads e
