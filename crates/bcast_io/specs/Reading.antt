@@ -25,8 +25,8 @@ abbrev pub lines_after : Bool → Reading → List ℕ → List TextLine
 lines_after at_end r octets = lines_from at_end r.taken r.part octets
 
 -- what may follow: where the input is over, its end alone
-abbrev pub MayFollow : Reading → Bool → List ℕ → Type 0
-MayFollow r at_end more = r.over ≡ true → (at_end ≡ true) × (more ≡ [])
+abbrev pub MayFollow : Bool → Bool → List ℕ → Type 0
+MayFollow over at_end more = over ≡ true → (at_end ≡ true) × (more ≡ [])
 
 -- Of the octets ahead and a further piece `octets` were taken, and the rest is ahead now. Whatever follows them, these
 -- lines come first, and then those that the new state gives.
@@ -34,7 +34,7 @@ pub record Reads (old new : Reading) (piece : List ℕ) (lines : List TextLine) 
   pub octets : List ℕ
   pub count : new.taken ≡ old.taken + length octets
   pub split : old.ahead ++ piece ≡ octets ++ new.ahead
-  pub first : (at_end : Bool) (more : List ℕ) → MayFollow new at_end more
+  pub first : (at_end : Bool) (more : List ℕ) → MayFollow new.over at_end more
       → lines_after at_end old (octets ++ more) ≡ lines ++ lines_after at_end new more
 
 -- the same with the piece that was taken from a source

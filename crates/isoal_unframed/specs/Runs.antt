@@ -1,8 +1,8 @@
 -- Calls of a receiver as a history.
-use Rattle.std.specs.Prelude.{ℕ, ◌≤◌, ◌≡◌, List, [], ◌∷◌, ◌++◌, length, take}
+use Rattle.std.specs.Prelude.{ℕ, ◌≡◌, List, [], ◌∷◌, ◌++◌, take, slice_get, Some}
 use Rattle.unit_outlets.specs.Handed.{Handed}
-use Rattle.isoal_base.specs.Stays.{Call, hear, close}
-use Rattle.isoal_unframed.specs.Histories.{handed}
+use Rattle.isoal_base.specs.Stays.{Call, hear, close, opened}
+use Rattle.isoal_unframed.specs.Histories.{handed, units_of}
 use Rattle.isoal_unframed.specs.Windows.{Window, Stands}
 use Rattle.isoal_unframed.specs.declared.in_call.InCall.{InCall}
 use Rattle.isoal_unframed.specs.declared.in_call.InCall.TheVariants.{Hear, Close}
@@ -16,10 +16,13 @@ abbrev pub after_all : List InCall → List Call → List Call
 after_all [] past = past
 after_all (call ∷ calls) past = after_all calls (call_of call ∷ past)
 
--- a fault of the taker: some first calls were made, and a front of what they hand was handed
+-- A fault of the taker: all that the calls before a close hand was handed, and then a front of what that close hands.
 pub record Stopped (calls : List InCall) (past : List Call) (before : List Handed) (window : Window) (now : List Handed) : Type 0 where
-  pub made : ℕ
-  pub within : made ≤ length calls
-  pub stands : Stands (after_all (take made calls) past) window
+  -- the calls before the close, and their history
+  pub earlier : ℕ
+  pub closes : slice_get calls earlier ≡ Some Close
+  pub history : List Call
+  pub history_is : history ≡ after_all (take earlier calls) past
+  pub stands : Stands (close ∷ history) window
   pub count : ℕ
-  pub front : now ≡ before ++ take count (handed window.stay (after_all (take made calls) past))
+  pub front : now ≡ before ++ (handed window.stay history ++ take count (units_of window.stay history (opened window.stay history)))

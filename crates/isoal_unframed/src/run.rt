@@ -1,15 +1,17 @@
 ghost use Rattle.std.specs.Prelude.{◌≡◌, ◌≤◌, ◌<◌, ◌+◌, ◌^◌, ℕ, List, ◌∷◌, ◌++◌, length, take, OnOk, OnErr};
 ghost use Rattle.unit_outlets.specs.Handed.{Handed, Caused};
-ghost use Rattle.isoal_base.specs.Stays.{Call};
-ghost use Rattle.isoal_unframed.specs.Histories.{handed};
+ghost use Rattle.isoal_base.specs.Stays.{Call, opened};
+ghost use Rattle.isoal_unframed.specs.Histories.{handed, units_of};
 ghost use Rattle.isoal_unframed.specs.Runs.{call_of, after_all, Stopped};
 ghost use Rattle.isoal_unframed.specs.Windows.{Stands};
+ghost use Rattle.isoal_unframed.specs.declared.in_call.InCall.TheVariants.{Close};
 
 use crate::in_call::InCall;
 use crate::unframed_in::UnframedIn;
 use unit_outlets::{TakerFault, UnitTaker};
 
-/// Makes the calls in order, up to the first fault of the taker. Each of them may be a close, so the open event and
+/// Makes the calls in order, up to the first fault of the taker: then all that the calls before were to hand was handed,
+/// and a front of the units of the close at which it failed. Each of them may be a close, so the open event and
 /// their number together are at most 2^39.
 pub fn run_calls<T: UnitTaker>(
     receiver: &mut UnframedIn,
@@ -39,7 +41,9 @@ fn step<T: UnitTaker>(
     ensures event { receiver.new.event ≤ receiver.old.event + 1 }
     ensures stands { (past : List Call) → Stands past receiver.old → Stands (call_of call.entry ∷ past) receiver.new }
     ensures handed { (past : List Call) → (before : List Handed) → Stands past receiver.old → T.calls taker.old ≡ before ++ handed receiver.old.stay past → OnOk result (T.calls taker.new ≡ before ++ handed receiver.old.stay (call_of call.entry ∷ past)) }
-    ensures front { (past : List Call) → (before : List Handed) → Stands past receiver.old → T.calls taker.old ≡ before ++ handed receiver.old.stay past → OnErr result ((n : ℕ) × (T.calls taker.new ≡ before ++ take n (handed receiver.old.stay (call_of call.entry ∷ past)))) }
+    ensures front { (past : List Call) → (before : List Handed) → Stands past receiver.old → T.calls taker.old ≡ before ++ handed receiver.old.stay past
+        → OnErr result ((n : ℕ) × (T.calls taker.new ≡ before ++ (handed receiver.old.stay past ++ take n (units_of receiver.old.stay past (opened receiver.old.stay past))))) }
+    ensures closes { OnErr result (call.entry ≡ Close) }
     ensures cause { Caused (T.counts taker.old) (T.counts taker.new) result }
 {
     match call {

@@ -5,6 +5,7 @@ use Rattle.std.proofs.lemmas.List.{append-nil, map-append}
 use Rattle.std.proofs.lemmas.List.Sums.{sum_by-cons, sum_by-append}
 use Rattle.std.specs.Io.KnownBytes.{Consumes, IsAtEnd}
 use Rattle.bcast_io.specs.Faults.{Rose as OutsideRose}
+use Rattle.bcast_io.specs.Reading.{MayFollow}
 use Rattle.bcast_io.specs.TextLines.{lines_of}
 use Rattle.unit_outlets.specs.Account.{Account, Fits}
 use Rattle.unit_outlets.specs.Faults.{Rose}
@@ -17,7 +18,7 @@ use Rattle.scenario_history.specs.Transcript.{transcript_end, units_of}
 use Rattle.scenario_history.proofs.BoxLaws.{took_all, valid_append}
 use Rattle.replay_command.specs.declared.status.Status.{Status}
 use Rattle.replay_command.specs.declared.status.Status.TheVariants as statuses
-use Rattle.replay_command.specs.Replayed.{MayFollow, TextRead, OutletFaulted}
+use Rattle.replay_command.specs.Replayed.{TextRead, OutletFaulted}
 use Rattle.replay_command.specs.Ended.{Ended, IsDoneOrMemory, IsNoFault, IsWhole, AheadOf, NoneFailed, Holds, RoomFor, RoomForText, Complete}
 use Rattle.replay_command.proofs.Endings.{units_all}
 use Rattle.replay_command.proofs.LineEndings.{units_line}
@@ -63,7 +64,7 @@ ended_whole text starts ends left left' kept kept' status e is whole =
     whole_at text starts ends left' kept kept' status (left_at status text starts ends left left' kept kept' is e) whole
 
 pub ended_ahead : (status : Status) (starts ends : List Account) (left left' kept kept' : Option (List ℕ)) → Ended status starts ends left left' kept kept'
-    → AheadOf status starts left left' kept kept'
+    → AheadOf status starts ends left left' kept kept'
 ended_ahead statuses.Done starts ends left left' kept kept' e = tt
 ended_ahead (statuses.Refused line reason) starts ends left left' kept kept' e = e.1
 ended_ahead statuses.Usage starts ends left left' kept kept' e = tt

@@ -4,6 +4,7 @@ use Rattle.std.proofs.lemmas.List.{append-nil, length-reverse, reverse-reverse}
 use Rattle.std.proofs.lemmas.Bool.{false≢true}
 use Rattle.std.specs.Io.KnownBytes.{Appends, Keeps}
 use Rattle.bcast_io.specs.TextLines.{TextLine, lines_of}
+use Rattle.bcast_io.specs.Reading.{MayFollow}
 use Rattle.bcast_io.specs.Writing.{AppendsFront, AppendsShort}
 use Rattle.bcast_io.proofs.Transfers.{Appends-then, AppendsFront-then, AppendsFront-nothing, Consumes-nothing}
 use Rattle.unit_outlets.specs.Account.{Account}
@@ -24,7 +25,7 @@ use Rattle.replay_command.specs.declared.status.Status.TheVariants as statuses
 use Rattle.replay_steps.specs.declared.machine.Machine.{Machine}
 use Rattle.replay_steps.specs.Meets.{BoxesStand}
 use Rattle.replay_steps.specs.LineMeets.{refusal_at, output_at}
-use Rattle.replay_command.specs.Replayed.{MayFollow, Done, ReadFaulted, brought_by, Broken}
+use Rattle.replay_command.specs.Replayed.{Done, ReadFaulted, brought_by, Broken}
 use Rattle.replay_command.specs.Ended.{Ended}
 use Rattle.replay_command.specs.Between.{TextIs, RunTo, Refuses}
 
@@ -244,6 +245,7 @@ module _ (starts : List Account) (history : List TextLine) (left left' kept mid 
       front = brought (rules_of airs_of starts) history ++ f.front;
       written = Appends-then kept mid kept' (brought (rules_of airs_of starts) history) f.front r.written f.appended;
       not_before = omega (arith, ap length (ap (out_of airs_of starts) t.whole ∙ out_all starts history r.accepted), length-append (brought (rules_of airs_of starts) history) f.front);
+      boxes = took_same starts accounts _ _ (sym no_end_units) (took_history starts accounts history r.stands.boxes);
     }),
   )
   ends_no_end (statuses.Refused line why) f =

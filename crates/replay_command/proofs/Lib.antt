@@ -4,3 +4,4 @@ mod Endings
 mod LineEndings
 mod LineSteps
 mod Completing
+mod Promises

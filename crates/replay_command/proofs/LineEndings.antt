@@ -20,10 +20,10 @@ use Rattle.scenario_text.specs.declared.step.Step.TheVariants as kinds
 use Rattle.replay_command.specs.declared.status.Status.{Status}
 use Rattle.replay_command.specs.declared.status.Status.TheVariants as statuses
 use Rattle.replay_steps.specs.declared.machine.Machine.{Machine}
-use Rattle.replay_steps.specs.Handing.{BoxFails, CutShort}
+use Rattle.scenario_sinks.specs.Handing.{BoxFails, CutShort}
 use Rattle.replay_steps.specs.Meets.{BoxesStand}
 use Rattle.replay_steps.specs.LineMeets.{LinesStand, refusal_at, output_at}
-use Rattle.replay_command.specs.Replayed.{Comes, brought_by, BoxesCut, BoxFailed, Broken, OutletFaulted, ReadsAhead, CutAt}
+use Rattle.replay_command.specs.Replayed.{Comes, brought_by, BoxesCut, BoxFailed, Broken, OutletFaulted, ReadsAhead, CutAt, BoxesAt, TookFront}
 use Rattle.replay_command.specs.Ended.{Ended}
 use Rattle.replay_command.specs.Between.{Refuses, Puts, StepRuns}
 use Rattle.replay_steps.proofs.Laws.{accounts_append, lines_append}
@@ -156,6 +156,64 @@ cut_failed starts before after history line text told accepted none b f later =
       fails = f;
     })
 
+-- ---- what the boxes took where a write was cut short
+
+-- the units that an accepted line adds
+units_added : (starts : List Account) (history : List TextLine) (line : TextLine) → Accepted (rules_of airs_of starts) history → refusal_at starts history line ≡ None
+    → units_of airs_of starts (reverse (line ∷ history)) ≡ units_of airs_of starts (reverse history) ++ handed_on airs_of history line
+units_added starts history line accepted none =
+    units_all starts (line ∷ history) (accepted, none)
+    ∙ handed_line history line
+    ∙ ap (λ front. front ++ handed_on airs_of history line) (sym (units_all starts history accepted))
+
+took_before : (starts accounts : List Account) (history : List TextLine) → Accepted (rules_of airs_of starts) history → BoxesStand starts (steps_of history) accounts
+    → Took starts accounts (units_of airs_of starts (reverse history))
+took_before starts accounts history accepted b =
+    let P : List SinkUnit → Type 0 = λ u. Took starts accounts u in subst P (sym (units_all starts history accepted)) (took_history starts accounts history b)
+
+at_refused : (starts accounts : List Account) (history : List TextLine) (line : TextLine) (reason : Refusal) → Accepted (rules_of airs_of starts) history
+    → refusal_at starts history line ≡ Some reason → BoxesStand starts (steps_of history) accounts → BoxesAt starts accounts history line
+at_refused starts accounts history line reason accepted because b = record {
+  accounts = accounts;
+  before = took_before starts accounts history accepted b;
+  units = [];
+  added = ap (units_of airs_of starts) (reverse-append (line ∷ []) history)
+      ∙ units_refused starts history accepted line reason because []
+      ∙ sym (units_all starts history accepted)
+      ∙ sym (append-nil (units_of airs_of starts (reverse history)));
+  front = inl (record { done = []; rest = []; split = refl; boxes = refl });
+}
+
+at_front : (starts before after : List Account) (history : List TextLine) (line : TextLine) → Accepted (rules_of airs_of starts) history
+    → refusal_at starts history line ≡ None → BoxesStand starts (steps_of history) before → TookFront (handed_on airs_of history line) before after
+    → BoxesAt starts after history line
+at_front starts before after history line accepted none b front = record {
+  accounts = before;
+  before = took_before starts before history accepted b;
+  units = handed_on airs_of history line;
+  added = units_added starts history line accepted none;
+  front = front;
+}
+
+-- all units of the line were taken
+at_after : (starts accounts : List Account) (history : List TextLine) (line : TextLine) → Accepted (rules_of airs_of starts) history
+    → refusal_at starts history line ≡ None → BoxesStand starts (steps_of (line ∷ history)) accounts → BoxesAt starts accounts history line
+at_after starts accounts history line accepted none b =
+    let all = handed_up airs_of (steps_of history) in
+    let here = handed_on airs_of history line in
+    record {
+      accounts = accounts_after starts all;
+      before = let P : List SinkUnit → Type 0 = λ u. Took starts (accounts_after starts all) u in subst P (sym (units_all starts history accepted)) (took_all starts all);
+      units = here;
+      added = units_added starts history line accepted none;
+      front = inl (record {
+        done = here;
+        rest = [];
+        split = sym (append-nil here);
+        boxes = b.accounts_are ∙ ap (accounts_after starts) (handed_line history line) ∙ accounts_append all here starts;
+      });
+    }
+
 -- ---- a write that was cut short
 
 brought_front : (over : Bool) (starts : List Account) (kept kept' : Option (List ℕ)) (text : List ℕ) (octets rest : List ℕ)
@@ -194,11 +252,11 @@ ends_broken starts history line left left' kept mid kept' accounts octets c acce
       boxes = subst P (sym now.1) (cut now.0);
     }
 
-ends_cut : (starts : List Account) (history : List TextLine) (line : TextLine) (left left' kept mid kept' : Option (List ℕ)) (octets : List ℕ) (number : ℕ)
+ends_cut : (starts : List Account) (history : List TextLine) (line : TextLine) (left left' kept mid kept' : Option (List ℕ)) (accounts : List Account) (octets : List ℕ) (number : ℕ)
     → number ≡ length history + 1 → Comes left left' history line → Accepted (rules_of airs_of starts) history → Appends kept mid (brought (rules_of airs_of starts) history)
-    → Brings starts history line octets → AppendsShort mid kept' octets
-    → CutAt starts left left' kept kept' number
-ends_cut starts history line left left' kept mid kept' octets number is_next c accepted written brings s =
+    → Brings starts history line octets → BoxesAt starts accounts history line → AppendsShort mid kept' octets
+    → CutAt starts accounts left left' kept kept' number
+ends_cut starts history line left left' kept mid kept' accounts octets number is_next c accepted written brings at s =
     let now = lines_now left left' history line c in
     let more = brings [] in
     let so_far = brought (rules_of airs_of starts) history in
@@ -218,16 +276,17 @@ ends_cut starts history line left left' kept mid kept' octets number is_next c a
       written = Appends-then kept mid kept' so_far s.front written s.appended;
       not_before = omega (arith, ap length (out_all starts history accepted), length-append so_far s.front);
       longer = omega (arith, ap length with_line, length-append so_far (octets ++ more.0), length-append octets more.0, length-append so_far s.front, ap length s.whole, length-append s.front s.rest, s.some);
+      boxes = at;
     }
 
 ends_write : (starts : List Account) (history : List TextLine) (line : TextLine) (left left' kept mid kept' : Option (List ℕ)) (accounts : List Account) (octets : List ℕ) (number : ℕ)
     → number ≡ length history + 1 → Comes left left' history line → ReadsAhead left left' number
     → Accepted (rules_of airs_of starts) history → Appends kept mid (brought (rules_of airs_of starts) history)
-    → Brings starts history line octets → CutFor starts history line accounts → AppendsShort mid kept' octets
+    → Brings starts history line octets → CutFor starts history line accounts → BoxesAt starts accounts history line → AppendsShort mid kept' octets
     → Ended statuses.WriteFault starts accounts left left' kept kept'
-ends_write starts history line left left' kept mid kept' accounts octets number is_next c ahead accepted written brings cut s = (
+ends_write starts history line left left' kept mid kept' accounts octets number is_next c ahead accepted written brings cut at s = (
   ends_broken starts history line left left' kept mid kept' accounts octets c accepted written brings cut (front_of_short mid kept' octets s),
-  inl (number, ends_cut starts history line left left' kept mid kept' octets number is_next c accepted written brings s, ahead),
+  inl (number, ends_cut starts history line left left' kept mid kept' accounts octets number is_next c accepted written brings at s, ahead),
 )
 
 -- ---- a refusal
@@ -246,7 +305,8 @@ ends_refusal starts history line left left' kept mid kept' accounts number reaso
     (brings_refused starts history line reason number is_next accepted because) (cut_before starts accounts history line accepted b) f
 ends_refusal starts history line left left' kept mid kept' accounts number reason is_next c ahead accepted written b because statuses.WriteFault f =
     ends_write starts history line left left' kept mid kept' accounts (refusal_line number reason) number is_next c ahead accepted written
-    (brings_refused starts history line reason number is_next accepted because) (cut_before starts accounts history line accepted b) f
+    (brings_refused starts history line reason number is_next accepted because) (cut_before starts accounts history line accepted b)
+    (at_refused starts accounts history line reason accepted because b) f
 ends_refusal starts history line left left' kept mid kept' accounts number reason is_next c ahead accepted written b because (statuses.Refused at why) f =
     let so_far = brought (rules_of airs_of starts) history in
     let P : Status → Type 0 = λ s. Ended s starts accounts left left' kept kept' in
@@ -294,7 +354,8 @@ step_put starts history line left left' kept mid kept' machine accounts number o
 step_put starts history line left left' kept mid kept' machine accounts number octets is_next c ahead accepted written none stands told (Some statuses.WriteFault) p =
     let P : List ℕ → Type 0 = λ xs. AppendsShort mid kept' xs in
     ends_write starts history line left left' kept mid kept' accounts (output_at starts history line) number is_next c ahead accepted written
-    (brings_output starts history line accepted none) (cut_after starts accounts history line accepted none stands.boxes) (subst P told p)
+    (brings_output starts history line accepted none) (cut_after starts accounts history line accepted none stands.boxes)
+    (at_after starts accounts history line accepted none stands.boxes) (subst P told p)
 step_put starts history line left left' kept mid kept' machine accounts number octets is_next c ahead accepted written none stands told (Some statuses.Memory) p =
     let P : List ℕ → Type 0 = λ xs. AppendsShort mid kept' xs in
     ends_broken starts history line left left' kept mid kept' accounts (output_at starts history line) c accepted written
@@ -355,7 +416,8 @@ module _ (starts : List Account) (history : List TextLine) (line : TextLine) (le
       stopped : (status : Status) → Puts told mid kept' (Some status) → Ended status starts after left left' kept kept'
       stopped statuses.WriteFault p =
           ends_write starts history line left left' kept mid kept' after told number is_next c ahead accepted written
-          brings_told (cut_failed starts before after history line [] told accepted none b f) p
+          brings_told (cut_failed starts before after history line [] told accepted none b f)
+          (at_front starts before after history line accepted none b (inr (told, f))) p
       stopped statuses.Memory p =
           ends_broken starts history line left left' kept mid kept' after told c accepted written
           brings_told (cut_failed starts before after history line [] told accepted none b f) (front_of_short mid kept' told p)

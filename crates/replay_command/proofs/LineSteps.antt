@@ -11,8 +11,8 @@ use Rattle.transcript_text.specs.declared.refusal.Refusal.TheVariants as refusal
 use Rattle.replay_command.specs.declared.status.Status.{Status}
 use Rattle.replay_command.specs.declared.status.Status.TheVariants as statuses
 use Rattle.replay_steps.specs.declared.machine.Machine.{Machine}
-use Rattle.replay_steps.specs.declared.stop.Stop.{Stop}
-use Rattle.replay_steps.specs.declared.stop.Stop.TheVariants.{Refused, OutletFault, Memory}
+use Rattle.transcript_text.specs.declared.stop.Stop.{Stop}
+use Rattle.transcript_text.specs.declared.stop.Stop.TheVariants.{Refused, OutletFault, Memory}
 use Rattle.replay_steps.specs.LineMeets.{LinesStand, LineMeets}
 use Rattle.replay_command.specs.Replayed.{Comes, ReadsAhead, Broken}
 use Rattle.replay_command.specs.Ended.{Ended}

@@ -14,7 +14,7 @@ use Rattle.bcast_io.specs.declared.source.Failed.{Failed}
 use Rattle.bcast_io.proofs.Transfers.{Consumes-nothing, Consumes-then}
 use Rattle.bcast_io.proofs.LineLaws.{lines-nothing, lines-unended, lines-end, lines-past_all}
 use Rattle.line_runs.proofs.RunLaws.{reverse_onto}
-use Rattle.replay_command.specs.Replayed.{Comes, ReadsAhead}
+use Rattle.replay_command.specs.Replayed.{Comes, ReadsAhead, ReadsAtMost, read_limit}
 use Rattle.replay_command.specs.Between.{ReadTo, TextIs, NextIs}
 
 -- nothing was read yet
@@ -26,6 +26,7 @@ read_none left reader e =
       passed = [];
       consumed = Consumes-nothing left;
       begins = λ at_end more follows. refl;
+      count = refl;
       anew = refl;
       at_end = λ over. absurd (false≢true over);
       sound = record { least = omega arith; fits = omega arith; ended = λ over. absurd (false≢true over) };
@@ -65,7 +66,7 @@ comes_of left left' lines line reader r = record {
 -- a step of the reader after these lines, which passed the octets of further ones
 pub begins_more : (left mid left' : Option (List ℕ)) (lines : List TextLine) (old new : Reading) (further : List TextLine)
     (r : ReadTo left mid lines old) → old.over ≡ false → (t : Took old new mid left' further)
-    → (at_end : Bool) (more : List ℕ) → reading.MayFollow new at_end more
+    → (at_end : Bool) (more : List ℕ) → reading.MayFollow new.over at_end more
     → lines_of at_end ((r.passed ++ t.reads.octets) ++ more) ≡ reverse lines ++ (further ++ lines_after at_end new more)
 begins_more left mid left' lines old new further r going t at_end more follows =
     ap (lines_of at_end) (append_assoc r.passed t.reads.octets more)
@@ -89,6 +90,7 @@ read_line left mid left' lines old new line r going t part sound end = record {
   begins = λ at_end more follows.
       begins_more left mid left' lines old new (line ∷ []) r going t at_end more follows
       ∙ sym (reverse_onto line lines (lines_after at_end new more));
+  count = t.reads.count ∙ ap (λ n. n + length t.reads.octets) r.count ∙ sym (length-append r.passed t.reads.octets);
   anew = part;
   at_end = end;
   sound = sound;
@@ -194,6 +196,37 @@ next_is left mid left' lines old new (Ok End) a b anew sound over end r =
 next_is left mid left' lines old new (Err failed) a b anew sound over end r =
     let going : old.over ≡ false = going_on old.over (λ e. let is = (over e).0 in cc) in
     read_broken left mid left' lines old new r going b
+
+-- no more is read than a text and one read behind it
+within_took : (left mid left' : Option (List ℕ)) (lines more : List TextLine) (old new : Reading) → ReadTo left mid lines old → Took old new mid left' more → IsSound new
+    → ReadsAtMost left left' read_limit
+within_took left mid left' lines more old new r t sound = record {
+  octets = (r.passed ++ t.reads.octets) ++ new.ahead;
+  consumed = consumed_more left mid left' lines old new more r t;
+  within = omega (arith, r.count, t.reads.count, sound.least, sound.fits, length-append (r.passed ++ t.reads.octets) new.ahead, length-append r.passed t.reads.octets);
+}
+
+pub next_within : (left mid left' : Option (List ℕ)) (lines : List TextLine) (old new : Reading) (result : Result LineRead Failed)
+    → IfOk result (λ read. Answers read old new mid left')
+    → OnErr result (BreaksOff old new mid left')
+    → IsSound new
+    → ReadTo left mid lines old
+    → ReadsAtMost left left' read_limit
+next_within left mid left' lines old new (Ok Line) a b sound r = within_took left mid left' lines _ old new r a.2 sound
+next_within left mid left' lines old new (Ok LineTooLong) a b sound r = within_took left mid left' lines _ old new r a.1 sound
+next_within left mid left' lines old new (Ok TextTooLong) a b sound r = within_took left mid left' lines _ old new r a.2 sound
+next_within left mid left' lines old new (Ok End) a b sound r =
+    let none : old.ahead ≡ [] = a.0.ahead in
+    record {
+      octets = (r.passed ++ old.ahead) ++ [];
+      consumed = Consumes-then left mid left' (r.passed ++ old.ahead) [] r.consumed a.1;
+      within = omega (arith, r.count, r.sound.fits, ap length none, length-append (r.passed ++ old.ahead) [], length-append r.passed old.ahead);
+    }
+next_within left mid left' lines old new (Err failed) a b sound r = within_took left mid left' lines _ old new r b.took sound
+
+-- nothing was read
+pub none_within : (left : Option (List ℕ)) → ReadsAtMost left left read_limit
+none_within left = record { octets = []; consumed = Consumes-nothing left; within = omega arith }
 
 -- the answer Line lends a line
 pub line_lent : (mid left' : Option (List ℕ)) (old new : Reading) (result : Result LineRead Failed) → IfOk result (λ read. Answers read old new mid left') → result ≡ Ok Line → IsSome new.line

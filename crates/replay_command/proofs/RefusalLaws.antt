@@ -13,16 +13,16 @@ use Rattle.source_machine.specs.declared.fault.EventFault.{EventFault}
 use Rattle.source_machine.specs.Airs.{airs_of}
 use Rattle.source_machine.specs.Faults.{event_fault, air_fault}
 use Rattle.transcript_text.specs.declared.refusal.Refusal.{Refusal}
-use Rattle.transcript_text.specs.declared.refusal.Refusal.TheVariants.{AfterEnd, Order, BadGroup, NoSuchSink, SinkTwice, NoOutlet, NoSuchBis, NotBuilt, NotOnAir, NoEnd}
+use Rattle.transcript_text.specs.declared.refusal.Refusal.TheVariants.{AfterEnd, Order, BadGroup, IdentTwice, NoSuchSink, SinkTwice, NoOutlet, NoSuchBis, NotBuilt, NotOnAir, NoEnd}
 use Rattle.scenario_text.specs.declared.step.Step.{Step}
 use Rattle.scenario_text.specs.declared.step.Step.TheVariants as kinds
 use Rattle.scenario_text.specs.declared.fault.LineFault.{LineFault}
 use Rattle.scenario_text.specs.declared.fault.LineFault.TheVariants as misread
 use Rattle.scenario_text.specs.Steps.{read_of}
-use Rattle.scenario_history.specs.Steps.{version_of, is_over, sinks_made}
+use Rattle.scenario_history.specs.Steps.{chosen_steps, version_of, is_over, sinks_made}
 use Rattle.scenario_history.specs.Source.{setup_of, source_calls, performed}
 use Rattle.scenario_history.specs.Boxes.{box_of}
-use Rattle.scenario_history.specs.Refusals.{refuse_if, no_sink, no_place, has_beyond, is_out_of_order, give_refusal, air_refusal, counter_ends, own_refusal, phase_refusal, refusal_of}
+use Rattle.scenario_history.specs.Refusals.{refuse_if, no_sink, no_place, has_beyond, is_ident_twice, is_out_of_order, is_unbuilt, give_refusal, air_refusal, counter_ends, sink_refusal, source_refusal, twin_refusal, own_refusal, phase_refusal, refusal_of}
 use Rattle.scenario_history.specs.Lines.{said_by, said_in, steps_of, refusal_said}
 use Rattle.replay_steps.specs.LineMeets.{refusal_at}
 
@@ -70,36 +70,63 @@ other_no_sink sink steps = other_sink (not (is_some (box_of sink steps)))
 other_no_place : (steps : List Step) (back bis subevent : ℕ) → OtherThan (no_place steps back bis subevent)
 other_no_place steps back bis subevent = other_map air_refusal other_place (air_fault (setup_of steps) (source_calls steps) back bis subevent)
 
-other_own : (boxes : ℕ) (steps : List Step) (step : Step) → OtherThan (own_refusal airs_of boxes steps step)
-other_own boxes steps (kinds.Group framing origin delay iso sdu max_sdu max_pdu num_bis bn nse irc pto sub spacing phy) = other_if _ NotBuilt (λ e. cc)
-other_own boxes steps (kinds.Start first) = other_map BadGroup other_group _
-other_own boxes steps (kinds.Sink sink streams slots mtu) =
+other_of_sinks : (boxes : ℕ) (steps : List Step) (step : Step) → OtherThan (sink_refusal boxes steps step)
+other_of_sinks boxes steps (kinds.Sink sink streams slots mtu) =
     other_or (refuse_if (is_some (box_of sink steps)) SinkTwice) (refuse_if (nat_le boxes (sinks_made steps)) NoOutlet)
     (other_if (is_some (box_of sink steps)) SinkTwice (λ e. cc)) (other_if (nat_le boxes (sinks_made steps)) NoOutlet (λ e. cc))
-other_own boxes steps (kinds.Drop sink) = other_no_sink sink steps
-other_own boxes steps (kinds.Tuned sink which) =
-    other_or (no_sink sink steps) (refuse_if (has_beyond (setup_of steps).info.num_bis which) NoSuchBis)
-    (other_no_sink sink steps) (other_if (has_beyond (setup_of steps).info.num_bis which) NoSuchBis (λ e. cc))
-other_own boxes steps (kinds.Unit bis time octets) = other_map give_refusal other_give _
-other_own boxes steps kinds.Event = other_counter (event_fault (setup_of steps) (source_calls steps))
-other_own boxes steps (kinds.Hear sink back bis subevent) =
-    other_or (no_sink sink steps) (no_place steps back bis subevent) (other_no_sink sink steps) (other_no_place steps back bis subevent)
-other_own boxes steps (kinds.Air sink lose) =
-    other_or (no_sink sink steps) (refuse_if (performed steps == 0) NotOnAir) (other_no_sink sink steps) (other_if (performed steps == 0) NotOnAir (λ e. cc))
-other_own boxes steps (kinds.Inject sink back bis subevent octets) =
-    other_or (no_sink sink steps) (no_place steps back bis subevent) (other_no_sink sink steps) (other_no_place steps back bis subevent)
-other_own boxes steps (kinds.Sniff back bis subevent) = other_no_place steps back bis subevent
-other_own boxes steps (kinds.Scenario version) = tt
-other_own boxes steps kinds.Stop = tt
-other_own boxes steps kinds.End = tt
+other_of_sinks boxes steps (kinds.Drop sink) = other_no_sink sink steps
+other_of_sinks boxes steps (kinds.Tuned sink which) = other_no_sink sink steps
+other_of_sinks boxes steps (kinds.Hear sink back bis subevent) = other_no_sink sink steps
+other_of_sinks boxes steps (kinds.Air sink lose) = other_no_sink sink steps
+other_of_sinks boxes steps (kinds.Inject sink back bis subevent octets) = other_no_sink sink steps
+other_of_sinks boxes steps (kinds.Group framing origin delay iso sdu max_sdu max_pdu num_bis bn nse irc pto sub spacing phy) = tt
+other_of_sinks boxes steps (kinds.Ident address_type address sid broadcast_id) = tt
+other_of_sinks boxes steps (kinds.Start first) = tt
+other_of_sinks boxes steps (kinds.Unit bis time octets) = tt
+other_of_sinks boxes steps kinds.Event = tt
+other_of_sinks boxes steps (kinds.Sniff back bis subevent) = tt
+other_of_sinks boxes steps (kinds.Scenario version) = tt
+other_of_sinks boxes steps (kinds.Source source) = tt
+other_of_sinks boxes steps kinds.Stop = tt
+other_of_sinks boxes steps kinds.End = tt
+
+other_of_source : (version : ℕ) (own : List Step) (step : Step) → OtherThan (source_refusal airs_of version own step)
+other_of_source version own (kinds.Start first) = other_map BadGroup other_group _
+other_of_source version own (kinds.Tuned sink which) = other_if (has_beyond (setup_of own).info.num_bis which) NoSuchBis (λ e. cc)
+other_of_source version own (kinds.Unit bis time octets) = other_map give_refusal other_give _
+other_of_source version own kinds.Event = other_counter (event_fault (setup_of own) (source_calls own))
+other_of_source version own (kinds.Hear sink back bis subevent) = other_no_place own back bis subevent
+other_of_source version own (kinds.Air sink lose) = other_if (performed own == 0) NotOnAir (λ e. cc)
+other_of_source version own (kinds.Inject sink back bis subevent octets) = other_no_place own back bis subevent
+other_of_source version own (kinds.Sniff back bis subevent) = other_no_place own back bis subevent
+other_of_source version own (kinds.Group framing origin delay iso sdu max_sdu max_pdu num_bis bn nse irc pto sub spacing phy) = tt
+other_of_source version own (kinds.Ident address_type address sid broadcast_id) = tt
+other_of_source version own (kinds.Sink sink streams slots mtu) = tt
+other_of_source version own (kinds.Drop sink) = tt
+other_of_source version own (kinds.Scenario v) = tt
+other_of_source version own (kinds.Source source) = tt
+other_of_source version own kinds.Stop = tt
+other_of_source version own kinds.End = tt
+
+other_of_twin : (steps : List Step) (step : Step) → OtherThan (twin_refusal steps step)
+other_of_twin steps (kinds.Start first) = other_if (is_ident_twice steps) IdentTwice (λ e. cc)
+other_of_twin steps _ = tt
+
+other_own : (boxes : ℕ) (steps : List Step) (step : Step) → OtherThan (own_refusal airs_of boxes steps step)
+other_own boxes steps step =
+    other_or (sink_refusal boxes steps step) (option_or (source_refusal airs_of (version_of steps) (chosen_steps steps) step) (twin_refusal steps step))
+    (other_of_sinks boxes steps step)
+    (other_or (source_refusal airs_of (version_of steps) (chosen_steps steps) step) (twin_refusal steps step)
+    (other_of_source (version_of steps) (chosen_steps steps) step) (other_of_twin steps step))
 
 other_step : (boxes : ℕ) (steps : List Step) (step : Step) → OtherThan (refusal_of airs_of boxes steps step)
 other_step boxes steps step =
     other_or (refuse_if (is_over steps) AfterEnd) (phase_refusal airs_of boxes steps step)
     (other_if (is_over steps) AfterEnd (λ e. cc))
-    (other_or (refuse_if (is_out_of_order steps step) Order) (own_refusal airs_of boxes steps step)
+    (other_or (refuse_if (is_out_of_order steps step) Order) (option_or (refuse_if (is_unbuilt step) NotBuilt) (own_refusal airs_of boxes steps step))
     (other_if (is_out_of_order steps step) Order (λ e. cc))
-    (other_own boxes steps step))
+    (other_or (refuse_if (is_unbuilt step) NotBuilt) (own_refusal airs_of boxes steps step)
+    (other_if (is_unbuilt step) NotBuilt (λ e. cc)) (other_own boxes steps step)))
 
 other_read : (boxes : ℕ) (steps : List Step) (read : Result (Option Step) LineFault) → OtherThan (refusal_said airs_of boxes steps (said_by read))
 other_read boxes steps (Ok None) = tt

@@ -26,8 +26,9 @@ use Rattle.replay_command.specs.Ended.{Ended}
 pub record ReadTo (left left' : Option (List ℕ)) (lines : List TextLine) (reader : Reading) : Type 0 where
   pub passed : List ℕ
   pub consumed : Consumes left left' (passed ++ reader.ahead)
-  pub begins : (at_end : Bool) (more : List ℕ) → MayFollow reader at_end more
+  pub begins : (at_end : Bool) (more : List ℕ) → MayFollow reader.over at_end more
       → lines_of at_end (passed ++ more) ≡ reverse lines ++ lines_after at_end reader more
+  pub count : reader.taken ≡ length passed
   pub anew : reader.part ≡ []
   pub at_end : reader.over ≡ true → IsAtEnd left'
   pub sound : IsSound reader

@@ -20,7 +20,7 @@ Ended (statuses.Refused line reason) starts ends left left' kept kept' =
     RefusedAt starts ends left left' kept kept' line reason × (reason ≢ NoEnd → ReadsAhead left left' line)
 Ended statuses.Usage starts ends left left' kept kept' = ⊥
 Ended statuses.ReadFault starts ends left left' kept kept' = ReadFaulted starts ends left left' kept kept'
-Ended statuses.WriteFault starts ends left left' kept kept' = Broken starts ends left left' kept kept' × WriteCut starts left left' kept kept'
+Ended statuses.WriteFault starts ends left left' kept kept' = Broken starts ends left left' kept kept' × WriteCut starts ends left left' kept kept'
 Ended statuses.OutletFault starts ends left left' kept kept' = OutletFaulted starts ends left left' kept kept'
 Ended statuses.Memory starts ends left left' kept kept' = Broken starts ends left left' kept kept'
 
@@ -44,10 +44,10 @@ IsWhole _ = ⊥
 
 -- At most so many octets were read past the end of the line of a refusal other than NoEnd, and past that in whose octets
 -- a write was cut. What an outlet fault says of the line of its unit has the same.
-abbrev pub AheadOf : Status → List Account → Option (List ℕ) → Option (List ℕ) → Option (List ℕ) → Option (List ℕ) → Type 0
-AheadOf (statuses.Refused line reason) starts left left' kept kept' = reason ≢ NoEnd → ReadsAhead left left' line
-AheadOf statuses.WriteFault starts left left' kept kept' = WriteCut starts left left' kept kept'
-AheadOf _ starts left left' kept kept' = Unit {0}
+abbrev pub AheadOf : Status → List Account → List Account → Option (List ℕ) → Option (List ℕ) → Option (List ℕ) → Option (List ℕ) → Type 0
+AheadOf (statuses.Refused line reason) starts ends left left' kept kept' = reason ≢ NoEnd → ReadsAhead left left' line
+AheadOf statuses.WriteFault starts ends left left' kept kept' = WriteCut starts ends left left' kept kept'
+AheadOf _ starts ends left left' kept kept' = Unit {0}
 
 -- no box counted a fault, and none stands at the last number of its count
 abbrev pub NoneFailed : List Account → List Account → Type 0

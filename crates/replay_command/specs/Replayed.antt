@@ -3,7 +3,8 @@
 -- The language and its statuses are this project's own.
 use Rattle.std.specs.Prelude.{ℕ, ◌≡◌, ◌≤◌, ◌<◌, ◌⊎◌, ◌+◌, Bool, true, false, List, [], ◌∷◌, ◌++◌, length, reverse, Option}
 use Rattle.std.specs.Io.KnownBytes.{Appends, Consumes, IsAtEnd}
-use Rattle.bcast_io.specs.TextLines.{TextLine, lines_of}
+use Rattle.bcast_io.specs.TextLines.{TextLine, lines_of, text_limit}
+use Rattle.bcast_io.specs.Reading.{MayFollow}
 use Rattle.bcast_io.specs.Writing.{AppendsFront}
 use Rattle.unit_outlets.specs.Account.{Account}
 use Rattle.source_machine.specs.Airs.{airs_of}
@@ -13,11 +14,7 @@ use Rattle.line_runs.specs.Runs.{through, refused, Accepted}
 use Rattle.scenario_history.specs.Boxes.{SinkUnit, Took}
 use Rattle.scenario_history.specs.Lines.{rules_of, handed_on}
 use Rattle.scenario_history.specs.Transcript.{out_of, end_after, transcript_of, transcript_end, units_of}
-use Rattle.replay_steps.specs.Handing.{BoxFails}
-
--- what may follow the octets read: where the input was at its end, nothing
-abbrev pub MayFollow : Bool → Bool → List ℕ → Type 0
-MayFollow over at_end more = over ≡ true → (at_end ≡ true) × (more ≡ [])
+use Rattle.scenario_sinks.specs.Handing.{BoxFails, CutShort}
 
 -- the octets that a call took from its source; `over` says that it met the end of the input
 pub record TextRead (left left' : Option (List ℕ)) (text : List ℕ) (over : Bool) : Type 0 where
@@ -105,6 +102,16 @@ pub record ReadsAhead (left left' : Option (List ℕ)) (line : ℕ) : Type 0 whe
   pub least : length ahead ≤ 65536
   pub within : length (lines_of true upto) ≤ line
 
+-- a call took at most so many octets from its source
+pub record ReadsAtMost (left left' : Option (List ℕ)) (most : ℕ) : Type 0 where
+  pub octets : List ℕ
+  pub consumed : Consumes left left' octets
+  pub within : length octets ≤ most
+
+-- the most octets that a call takes: a text, and one read behind it, in which is the octet that makes the text too long
+abbrev pub read_limit : ℕ
+read_limit = text_limit + 65536
+
 -- OutletFault: the lines before one were run, and none is refused; the box of a unit that this line hands up failed, and
 -- what was brought before that unit was written. No octet was read but for those that follow the line in one read ahead.
 pub record OutletFaulted (starts ends : List Account) (left left' kept kept' : Option (List ℕ)) : Type 0 where
@@ -119,9 +126,21 @@ pub record OutletFaulted (starts ends : List Account) (left left' kept kept' : O
   pub fails : BoxFails (handed_on airs_of earlier line) (out_of airs_of starts (reverse earlier)) told accounts ends
   pub written : Appends kept kept' told
 
+-- the boxes took a front of these units, and then one of them may have failed at the next unit and counted it
+abbrev pub TookFront : List SinkUnit → List Account → List Account → Type 0
+TookFront units before after = CutShort units before after ⊎ ((told : List ℕ) × BoxFails units [] told before after)
+
+-- The boxes took all units of the lines before one, then a front of those that this line adds, and none of a later one.
+pub record BoxesAt (starts ends : List Account) (earlier : List TextLine) (line : TextLine) : Type 0 where
+  pub accounts : List Account
+  pub before : Took starts accounts (units_of airs_of starts (reverse earlier))
+  pub units : List SinkUnit
+  pub added : units_of airs_of starts (reverse (line ∷ earlier)) ≡ units_of airs_of starts (reverse earlier) ++ units
+  pub front : TookFront units accounts ends
+
 -- What was written ends within the octets that this line brings: it is the least line such that it and those before it
--- bring more than what was written.
-pub record CutAt (starts : List Account) (left left' kept kept' : Option (List ℕ)) (line : ℕ) : Type 0 where
+-- bring more than what was written. The boxes took no unit of a later line.
+pub record CutAt (starts ends : List Account) (left left' kept kept' : Option (List ℕ)) (line : ℕ) : Type 0 where
   pub text : List ℕ
   pub over : Bool
   pub read : TextRead left left' text over
@@ -135,18 +154,20 @@ pub record CutAt (starts : List Account) (left left' kept kept' : Option (List �
   pub written : Appends kept kept' front
   pub not_before : length (out_of airs_of starts (reverse earlier)) ≤ length front
   pub longer : length front < length (out_of airs_of starts (reverse (last ∷ earlier)))
+  pub boxes : BoxesAt starts ends earlier last
 
--- the line of NoEnd wasn't written whole
-pub record NoEndCut (starts : List Account) (left left' kept kept' : Option (List ℕ)) : Type 0 where
+-- the line of NoEnd wasn't written whole; the boxes took all units
+pub record NoEndCut (starts ends : List Account) (left left' kept kept' : Option (List ℕ)) : Type 0 where
   pub text : List ℕ
   pub read : TextRead left left' text true
   pub ends_so : transcript_end airs_of starts (lines_of true text) ≡ refused (length (lines_of true text) + 1) NoEnd
   pub front : List ℕ
   pub written : Appends kept kept' front
   pub not_before : length (out_of airs_of starts (lines_of true text)) ≤ length front
+  pub boxes : Took starts ends (units_of airs_of starts (lines_of true text))
 
 -- WriteFault: what was written ends within what a line brings, and at most so many octets were read past the end of that
 -- line; or it ends within the line of NoEnd
-abbrev pub WriteCut : List Account → Option (List ℕ) → Option (List ℕ) → Option (List ℕ) → Option (List ℕ) → Type 0
-WriteCut starts left left' kept kept' =
-    ((line : ℕ) × CutAt starts left left' kept kept' line × ReadsAhead left left' line) ⊎ NoEndCut starts left left' kept kept'
+abbrev pub WriteCut : List Account → List Account → Option (List ℕ) → Option (List ℕ) → Option (List ℕ) → Option (List ℕ) → Type 0
+WriteCut starts ends left left' kept kept' =
+    ((line : ℕ) × CutAt starts ends left left' kept kept' line × ReadsAhead left left' line) ⊎ NoEndCut starts ends left left' kept kept'

@@ -1,38 +1,24 @@
 //! The run of a scenario, line by line.
-ghost use Rattle.std.specs.Prelude.{◌≡◌, ◌≢◌, ◌↔◌, ◌≤◌, ◌<◌, ◌+◌, ◌^◌, [], ◌∷◌, ℕ, List, Option, None, Some, Ok, Err, length, map, true, false, IfNone, IfOk, OnOk, OnErr, IsSome};
-ghost use Rattle.std.specs.Io.KnownBytes.{Appends};
-ghost use Rattle.std.specs.List.{AllZip, Contains};
-ghost use Rattle.std.specs.List.Sorted.{IsStrictlyIncreasing};
+ghost use Rattle.std.specs.Prelude.{◌≡◌, ◌≢◌, ◌<◌, ◌+◌, ◌∷◌, ℕ, List, Option, None, Some, Ok, length, map, true, IfNone, IfOk, OnOk, OnErr, IsSome};
 ghost use Rattle.bcast_io.specs.Faults.{Rose};
-ghost use Rattle.bcast_io.specs.TextLines.{TextLine, plain, text_limit, lines_of};
+ghost use Rattle.bcast_io.specs.TextLines.{TextLine, plain};
 ghost use Rattle.bcast_io.specs.Reading.{lines_left};
 ghost use Rattle.bcast_io.specs.Answering.{GoesOn};
 ghost use Rattle.unit_outlets.specs.Account.{Account};
-ghost use Rattle.source_machine.specs.Airs.{airs_of};
-ghost use Rattle.delegator_machine.specs.Calls.{Tuning, place};
-ghost use Rattle.delegator_machine.specs.Streams.{streams_of};
-ghost use Rattle.line_runs.specs.Runs.{through, Accepted};
-ghost use Rattle.transcript_text.specs.declared.refusal.Refusal.{Refusal as Reason};
-ghost use Rattle.transcript_text.specs.declared.refusal.Refusal.TheVariants.{NoEnd};
-ghost use Rattle.scenario_history.specs.Boxes.{Took};
-ghost use Rattle.scenario_history.specs.Laws.{Closed, InSourceOrder, IsOfSlot, IsStayStruck, closed_since, injected_since, is_made, is_tuned, shown_since, slots_closed, valid_in};
-ghost use Rattle.scenario_history.specs.Lines.{rules_of, steps_of};
-ghost use Rattle.scenario_history.specs.Sinks.{sink_calls};
-ghost use Rattle.scenario_history.specs.Source.{setup_of, source_calls};
-ghost use Rattle.scenario_history.specs.Transcript.{transcript_end, units_of};
-ghost use Rattle.replay_steps.specs.LineMeets.{LinesStand, refusal_at};
-ghost use Rattle.replay_command.specs.Replayed.{Done, RefusedAt, ReadFaulted, Broken, OutletFaulted, Comes, ReadsAhead, WriteCut};
-ghost use Rattle.replay_command.specs.Ended.{Ended, Complete, IsWhole, AheadOf};
+ghost use Rattle.replay_command.specs.World.{world_of};
+ghost use Rattle.replay_command.specs.Promised.{Promised};
+ghost use Rattle.replay_command.specs.Replayed.{Comes, ReadsAhead, ReadsAtMost, read_limit};
+ghost use Rattle.replay_command.specs.Ended.{Ended};
 ghost use Rattle.replay_command.specs.Between.{ReadTo, TextIs, NextIs, RunTo, Refuses, Puts, StepRuns, LineRuns};
 
 use crate::status::Status;
 use crate::words::{Mode, Words, mode_of};
 use bcast_base::Octets;
 use bcast_io::{ByteSink, ByteSource, Failed, LineRead, LineReader, SinkFault, write_whole};
-use replay_steps::{Machine, Stop};
+use replay_steps::Machine;
 use scenario_history::{order_law, units_law};
 use std::alloc::Global;
-use transcript_text::{Refusal, put_refusal};
+use transcript_text::{Refusal, Stop, put_refusal};
 use unit_outlets::Outlet;
 
 /// Runs the scenario that the source gives, a step a line, and writes its transcript to the sink. Each `sink` line
@@ -49,56 +35,15 @@ pub fn replay<S: ByteSource, K: ByteSink>(
     sink: &mut K,
     outlets: &mut Vec<Box<dyn Outlet>>,
 ) -> Status
-    // Any word is Usage: nothing is read or written then, and no box is called.
-    ensures usage { (result ≡ Status.Usage) ↔ (words.now ≢ []) }
+    // What the call did to the source, to the sink and to the boxes, and which status comes.
+    ensures promised { let old = world_of S.left S.faults K.contents K.faults source.old sink.old (map account outlets.old.items) in
+        let new = world_of S.left S.faults K.contents K.faults source.new sink.new (map account outlets.new.items) in
+        Promised words.now old new result }
+
+    // For Usage nothing is read or written, and no box is called.
     ensures unread { result ≡ Status.Usage → source.new ≡ source.old }
     ensures unwritten { result ≡ Status.Usage → sink.new ≡ sink.old }
     ensures uncalled { result ≡ Status.Usage → outlets.new ≡ outlets.old }
-
-    // Each answer tells what was read, written and handed to the boxes.
-    ensures done { result ≡ Status.Done
-        → Done (map account outlets.old.items) (map account outlets.new.items) (S.left source.old) (S.left source.new) (K.contents sink.old) (K.contents sink.new) }
-    ensures refused { (line : ℕ) (reason : Reason) → result ≡ Status.Refused line reason
-        → RefusedAt (map account outlets.old.items) (map account outlets.new.items) (S.left source.old) (S.left source.new) (K.contents sink.old) (K.contents sink.new) line reason }
-    ensures read_fault { result ≡ Status.ReadFault → Rose (S.faults source.old) (S.faults source.new)
-        × ReadFaulted (map account outlets.old.items) (map account outlets.new.items) (S.left source.old) (S.left source.new) (K.contents sink.old) (K.contents sink.new) }
-    ensures write_fault { result ≡ Status.WriteFault → Rose (K.faults sink.old) (K.faults sink.new)
-        × Broken (map account outlets.old.items) (map account outlets.new.items) (S.left source.old) (S.left source.new) (K.contents sink.old) (K.contents sink.new) }
-    ensures outlet_fault { result ≡ Status.OutletFault
-        → OutletFaulted (map account outlets.old.items) (map account outlets.new.items) (S.left source.old) (S.left source.new) (K.contents sink.old) (K.contents sink.new) }
-    ensures memory { result ≡ Status.Memory
-        → Broken (map account outlets.old.items) (map account outlets.new.items) (S.left source.old) (S.left source.new) (K.contents sink.old) (K.contents sink.new) }
-
-    // Each answer but that of a fault leaves its count.
-    ensures no_read_fault { result ≢ Status.ReadFault → S.faults source.new ≡ S.faults source.old }
-    ensures no_write_fault { result ≢ Status.WriteFault → K.faults sink.new ≡ K.faults sink.old }
-
-    // The boxes took the units of the whole text, where the source tells it.
-    ensures boxes { (text : List ℕ) → S.left source.old ≡ Some text
-        → IsWhole result
-        → Took (map account outlets.old.items) (map account outlets.new.items) (units_of airs_of (map account outlets.old.items) (lines_of true text)) }
-
-    // What the outside does decides which answers can come.
-    ensures completeness { (text : List ℕ) → S.left source.old ≡ Some text → words.now ≡ []
-        → Complete text (map account outlets.old.items) (map account outlets.new.items)
-        (S.faults source.old) (S.faults source.new) (K.faults sink.old) (K.faults sink.new) result }
-
-    // At most 65,536 octets past the line of the answer were read.
-    ensures reading_ahead { AheadOf result (map account outlets.old.items) (S.left source.old) (S.left source.new) (K.contents sink.old) (K.contents sink.new) }
-
-    // The units law: in a stay into which no PDU was injected, the closes hand on each stream that it takes what the
-    // source's slots say, whatever lines were read.
-    ensures units_law { (lines : List TextLine) (n bis : ℕ) (tuning : Tuning) → Accepted (rules_of airs_of (map account outlets.old.items)) lines
-        → place (sink_calls airs_of n (steps_of lines)) ≡ Some tuning → Contains (streams_of tuning.which) bis
-        → injected_since (is_tuned n) n (steps_of lines) ≡ false → IsStayStruck (steps_of lines) n tuning bis }
-
-    // No sink closes an event twice; each of its units has the time of a slot; and where no PDU was injected into it, its
-    // valid units are, in order, units that the source accepted on the stream, each at most once.
-    ensures order_law { (lines : List TextLine) (n bis : ℕ) → Accepted (rules_of airs_of (map account outlets.old.items)) lines
-        → n ≤ 7 → 1 ≤ bis → bis ≤ 31
-        → IsStrictlyIncreasing (map (λ (closed : Closed). closed.event) (closed_since n (steps_of lines)))
-        × AllZip (IsOfSlot (setup_of (steps_of lines)) bis) (slots_closed (setup_of (steps_of lines)) bis (closed_since n (steps_of lines))) (shown_since n bis (steps_of lines))
-        × (injected_since (is_made n) n (steps_of lines) ≡ false → InSourceOrder (setup_of (steps_of lines)) (source_calls (steps_of lines)) bis (valid_in (shown_since n bis (steps_of lines)))) }
 {
     units_law();
     order_law();
@@ -116,6 +61,7 @@ fn run<S: ByteSource, K: ByteSink>(
     outlets: &mut Vec<Box<dyn Outlet>>,
 ) -> Status
     ensures ended { Ended result (map account outlets.old.items) (map account outlets.new.items) (S.left source.old) (S.left source.new) (K.contents sink.old) (K.contents sink.new) }
+    ensures within { ReadsAtMost (S.left source.old) (S.left source.new) read_limit }
     ensures read_fault { result ≡ Status.ReadFault → Rose (S.faults source.old) (S.faults source.new) }
     ensures no_read_fault { result ≢ Status.ReadFault → S.faults source.new ≡ S.faults source.old }
     ensures write_fault { result ≡ Status.WriteFault → Rose (K.faults sink.old) (K.faults sink.new) }
@@ -158,6 +104,8 @@ fn run_line<S: ByteSource, K: ByteSink>(
     ensures runs { (starts : List Account) (lines : List TextLine) (left kept : Option (List ℕ)) → number ≡ length lines + 1
         → ReadTo left (S.left source.old) lines reader.old → RunTo starts lines kept (K.contents sink.old) machine.old (map account outlets.old.items)
         → LineRuns starts lines left (S.left source.new) kept (K.contents sink.new) reader.new machine.new (map account outlets.new.items) result }
+    ensures within { (left : Option (List ℕ)) (lines : List TextLine) → ReadTo left (S.left source.old) lines reader.old
+        → ReadsAtMost left (S.left source.new) read_limit }
     ensures nearer { IfNone result (lines_left reader.new < lines_left reader.old) }
     ensures read_fault { result ≡ Some Status.ReadFault → Rose (S.faults source.old) (S.faults source.new) }
     ensures no_read_fault { result ≢ Some Status.ReadFault → S.faults source.new ≡ S.faults source.old }
@@ -177,6 +125,8 @@ fn run_line<S: ByteSource, K: ByteSink>(
 fn read_next<S: ByteSource>(reader: &mut LineReader, source: &mut S) -> Result<LineRead, Failed>
     ensures next { (left : Option (List ℕ)) (lines : List TextLine) → ReadTo left (S.left source.old) lines reader.old
         → NextIs left (S.left source.new) lines reader.new result }
+    ensures within { (left : Option (List ℕ)) (lines : List TextLine) → ReadTo left (S.left source.old) lines reader.old
+        → ReadsAtMost left (S.left source.new) read_limit }
     ensures line { result ≡ Ok LineRead.Line → IsSome reader.new.line }
     ensures nearer { IfOk result (λ read. GoesOn read reader.old reader.new) }
     ensures cause { OnErr result (Rose (S.faults source.old) (S.faults source.new)) }

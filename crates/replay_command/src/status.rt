@@ -1,3 +1,6 @@
+ghost use Rattle.std.specs.Prelude.{◌≡◌, option_copied};
+ghost use Rattle.replay_command.specs.Statuses.{exit_number, text_of};
+
 use transcript_text::Refusal;
 
 /// How a call of `replay` ended.
@@ -21,7 +24,9 @@ pub enum Status {
 
 impl Status {
     /// The exit status of the program.
-    pub(crate) fn exit_code(self) -> u8 {
+    pub(crate) fn exit_code(self) -> u8
+        ensures { result ≡ exit_number self }
+    {
         match self {
             Status::Done => 0,
             Status::Refused { .. } => 1,
@@ -34,7 +39,9 @@ impl Status {
     }
 
     /// What the program says on standard error.
-    pub(crate) fn message(self) -> Option<&'static str> {
+    pub(crate) fn message(self) -> Option<&'static str>
+        ensures { option_copied result ≡ text_of self }
+    {
         match self {
             Status::Done | Status::Refused { .. } => None,
             Status::Usage => Some("usage: replay [--migrate | --toml | --seed N --events M]"),

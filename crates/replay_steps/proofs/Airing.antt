@@ -1,37 +1,164 @@
 -- The PDUs of the air that a sink hears.
-use Rattle.std.proofs.Common.{◌≡◌, ℕ, zero, suc, ◌+◌, ◌-◌, ◌*◌, ◌/◌, ◌%◌, ◌<◌, ◌≤◌, ◌==◌, ◌||◌, Bool, true, false, not, nat_le, if◌then◌else◌, List, [], Option, None, Some, option_map, unwrap_or, refl, sym, ◌∙◌, ap, subst, add-one, eq-eqb, ne_eqb, arith}
+use Rattle.std.proofs.Common.{◌≡◌, ℕ, zero, suc, ◌+◌, ◌-◌, ◌*◌, ◌/◌, ◌%◌, ◌<◌, ◌≤◌, ◌==◌, ◌&&◌, ◌++◌, ◌∷◌, Bool, true, false, not, is_some, nat_le, if◌then◌else◌, List, length, Option, None, Some, option_map, Result, Ok, Err, refl, sym, ◌∙◌, ap, subst, add-one, ne_eqb, arith}
 use Rattle.std.proofs.lemmas.Bool.{le-ltb}
 use Rattle.std.proofs.lemmas.Nat.{div_below, mod_below}
 use Rattle.std.specs.Option.{option_or}
-use Rattle.radio_schedule.specs.declared.air.AirFault.{AirFault}
-use Rattle.source_machine.specs.Airs.{airs_of, pdu_of}
-use Rattle.source_machine.specs.Calls.{Setup, Call as SourceCall, events, last_of, next_of}
+use Rattle.unit_outlets.specs.Account.{Account}
+use Rattle.big_info.specs.declared.group.Group.{Group}
+use Rattle.big_info.specs.declared.info.BigInfo.{BigInfo}
+use Rattle.source_machine.specs.Airs.{airs_of}
+use Rattle.source_machine.specs.Calls.{events}
 use Rattle.source_machine.specs.Faults.{air_fault}
-use Rattle.source_machine.specs.Sources.{Source}
-use Rattle.delegator_machine.specs.Calls.{Call}
-use Rattle.delegator_machine.specs.Sinks.{StandsFor as SinkStands}
+use Rattle.delegator_machine.specs.Calls.{Call, hear}
+use Rattle.isoal_base.specs.declared.hearing.Hearing.{Hearing}
+use Rattle.transcript_text.specs.Lines.{heard_line, pdu_line}
 use Rattle.transcript_text.specs.declared.refusal.Refusal.{Refusal}
-use Rattle.transcript_text.specs.declared.refusal.Refusal.TheVariants.{NotOnAir, Order}
+use Rattle.transcript_text.specs.declared.refusal.Refusal.TheVariants.{NoSuchSink, NotOnAir, Order}
+use Rattle.transcript_text.specs.declared.stop.Stop.{Stop}
+use Rattle.transcript_text.specs.declared.stop.Stop.TheVariants.{Refused, OutletFault, Memory}
 use Rattle.scenario_text.specs.declared.step.Step.{Step}
-use Rattle.scenario_text.specs.declared.step.Step.TheVariants.{Hear, Air, Inject}
-use Rattle.scenario_history.specs.Source.{source_calls, event_back, pdu_in}
-use Rattle.scenario_history.specs.Sinks.{heard_on_air}
-use Rattle.scenario_history.specs.Refusals.{is_first, is_started, refuse_if, no_place, air_refusal}
-use Rattle.replay_steps.specs.declared.sink.Sink.{Sink}
-use Rattle.replay_steps.specs.declared.machine.Phase.{Phase}
-use Rattle.replay_steps.specs.declared.machine.Phase.TheVariants.{Started}
-use Rattle.replay_steps.specs.Machines.{EntryIs, PhaseIs}
-use Rattle.replay_steps.specs.Airing.{SourceIs, heard_at_spot, unless_sink}
-use Rattle.replay_steps.proofs.OneSink.{TouchesOne}
+use Rattle.scenario_text.specs.declared.step.Step.TheVariants.{Air, Hear, Inject, Sniff}
+use Rattle.scenario_history.specs.Steps.{chosen_of, chosen_steps, running, stage_of}
+use Rattle.scenario_history.specs.Source.{event_back, is_started, pdu_in, performed, setup_of, source_calls}
+use Rattle.scenario_history.specs.Sinks.{Spot, hear_at, heard_on_air, is_lost, is_of, reaches, sink_calls, source_of, spot_at, spots_of, unless_lost}
+use Rattle.scenario_history.specs.Boxes.{box_of}
+use Rattle.scenario_history.specs.Output.{injected_hearing}
+use Rattle.scenario_history.specs.Refusals.{air_refusal, no_place, no_sink, own_refusal, phase_refusal, refuse_if, source_refusal}
+use Rattle.scenario_sources.specs.Answers.{NoPlace}
+use Rattle.scenario_sources.specs.declared.sources.Sources.{Sources}
+use Rattle.scenario_sources.specs.State.Standing.{SourcesStand}
+use Rattle.scenario_sources.proofs.Laws.{SaysNothing, air_says, hear_says, inject_says, sniff_says, sources_stay}
+use Rattle.scenario_sinks.specs.declared.sinks.Sinks.{Sinks}
+use Rattle.scenario_sinks.specs.Hearing.{Hears, hearing_by}
+use Rattle.scenario_sinks.specs.Pasts.{Past, with_hearing}
+use Rattle.scenario_sinks.specs.State.Standing.{SinksStand}
+use Rattle.scenario_sinks.proofs.Laws.{SamePast, stands_same}
+use Rattle.replay_steps.specs.declared.machine.Machine.{Machine}
+use Rattle.replay_steps.specs.Airing.{OnAir, Reaches, past_on_air}
+use Rattle.replay_steps.specs.Machines.{Stands, past_of}
+use Rattle.replay_steps.specs.Meets.{Quiet, Tells}
+use Rattle.replay_steps.specs.Versions.{stage_in}
+use Rattle.replay_steps.proofs.Stepping.{or_none}
+
+-- ---- whether a PDU may be handed to a sink
+
+or_front : (a b rest : Option Refusal) (reason : Refusal) → option_or a b ≡ Some reason → option_or a (option_or b rest) ≡ Some reason
+or_front None None rest reason e = absurd (cc e)
+or_front None (Some x) rest reason e = e
+or_front (Some x) b rest reason e = e
+
+-- the refusals of a step that brings something to a sink in the place of a PDU
+pub record Brings (n : ℕ) (made : Step) : Type 0 where
+  pub refusal : (boxes version : ℕ) (steps : List Step) → stage_of steps ≡ running version
+      → phase_refusal airs_of boxes steps made
+      ≡ option_or (refuse_if (not (is_started (chosen_steps steps))) Order) (option_or (no_sink n steps) (option_or (source_refusal airs_of version (chosen_steps steps) made) None))
+
+pub hear_brings : (n back bis subevent : ℕ) → Brings n (Hear n back bis subevent)
+hear_brings n back bis subevent = record { refusal = λ boxes version steps e. rw e refl }
+
+pub air_brings : (n lose : ℕ) → Brings n (Air n lose)
+air_brings n lose = record { refusal = λ boxes version steps e. rw e refl }
+
+pub inject_brings : (n back bis subevent : ℕ) (octets : List ℕ) → Brings n (Inject n back bis subevent octets)
+inject_brings n back bis subevent octets = record { refusal = λ boxes version steps e. rw e refl }
+
+pub reach_fails : (boxes version n : ℕ) (steps : List Step) (made : Step) (new : Machine) (stop : Stop) → Brings n made → stage_of steps ≡ running version
+    → Reaches steps n (Err stop) → Quiet boxes steps made new (Err stop)
+reach_fails boxes version n steps made new (Refused reason) brings e r =
+    brings.refusal boxes version steps e
+    ∙ or_front (refuse_if (not (is_started (chosen_steps steps))) Order) (no_sink n steps) (option_or (source_refusal airs_of version (chosen_steps steps) made) None) reason r
+reach_fails boxes version n steps made new OutletFault brings e r = r
+reach_fails boxes version n steps made new Memory brings e r = absurd r
+
+pub own_fault : (boxes version n : ℕ) (steps : List Step) (made : Step) → Brings n made → stage_of steps ≡ running version → is_started (chosen_steps steps) ≡ true
+    → is_some (box_of n steps) ≡ true → phase_refusal airs_of boxes steps made ≡ source_refusal airs_of version (chosen_steps steps) made
+own_fault boxes version n steps made brings e started lives =
+    brings.refusal boxes version steps e ∙ rw (started, lives) (or_none (source_refusal airs_of version (chosen_steps steps) made))
+
+-- ---- the sinks after a hearing
+
+some_heard : (past : Past) (n source event bis subevent : ℕ) (octets : List ℕ) (new : Sinks) (o : Option Hearing) → is_some (past.boxes n) ≡ true
+    → Hears past n source event bis subevent octets new o → SinksStand (with_hearing n source event bis subevent octets past) new
+some_heard past n source event bis subevent octets new None lives h =
+    let e : true ≡ false = sym lives ∙ ap is_some h in absurd (cc e)
+some_heard past n source event bis subevent octets new (Some hearing) lives h = h.2
+
+heard_as : (past : Past) (n s t d e bis subevent : ℕ) (o p : List ℕ) (new : Sinks) → s ≡ t → d ≡ e → o ≡ p
+    → SinksStand (with_hearing n s d bis subevent o past) new → SinksStand (with_hearing n t e bis subevent p past) new
+heard_as past n s t d e bis subevent o p new a b c h =
+    let S : ℕ → Type 0 = λ x. SinksStand (with_hearing n x e bis subevent p past) new in
+    let E : ℕ → Type 0 = λ x. SinksStand (with_hearing n s x bis subevent p past) new in
+    let O : List ℕ → Type 0 = λ x. SinksStand (with_hearing n s d bis subevent x past) new in
+    subst S a (subst E b (subst O c h))
+
+brought : (steps : List Step) (made : Step) (old new : Machine) → Stands steps old → SaysNothing made → stage_of (made ∷ steps) ≡ stage_of steps
+    → new.stage ≡ old.stage → new.sources ≡ old.sources → SinksStand (past_of (made ∷ steps)) new.sinks → Stands (made ∷ steps) new
+brought steps made old new stands nothing on stage same heard = record {
+  stage = ap stage_in stage ∙ stands.stage ∙ sym on;
+  sources = let S : Sources → Type 0 = λ s. SourcesStand (made ∷ steps) s in subst S (sym same) (sources_stay made steps old.sources nothing stands.sources);
+  sinks = heard;
+}
+
+pub hear_meets : (boxes version n source event back bis subevent : ℕ) (pdu : List ℕ) (steps : List Step) (old new : Machine) (o : Option Hearing) (group : Group)
+    → Stands steps old → stage_of steps ≡ running version → Reaches steps n (Ok group)
+    → (no_place (chosen_steps steps) back bis subevent ≡ None) × (pdu ≡ pdu_in airs_of (chosen_steps steps) (event_back (chosen_steps steps) back) bis subevent)
+    → source ≡ chosen_of steps → event ≡ event_back (chosen_steps steps) back
+    → new.stage ≡ old.stage → new.sources ≡ old.sources → Hears (past_of steps) n source event bis subevent pdu new.sinks o
+    → Quiet boxes steps (Hear n back bis subevent) new (Ok tt)
+hear_meets boxes version n source event back bis subevent pdu steps old new o group stands e r place chosen is stage same h = (
+  own_fault boxes version n steps (Hear n back bis subevent) (hear_brings n back bis subevent) e r.0 r.2 ∙ place.0,
+  brought steps (Hear n back bis subevent) old new stands (hear_says n back bis subevent) refl stage same
+      (heard_as (past_of steps) n source (chosen_of steps) event (event_back (chosen_steps steps) back) bis subevent pdu
+      (pdu_in airs_of (chosen_steps steps) (event_back (chosen_steps steps) back) bis subevent) new.sinks chosen is place.1
+      (some_heard (past_of steps) n source event bis subevent pdu new.sinks o r.2 h)),
+)
+
+pub place_fails : (boxes version n back bis subevent : ℕ) (steps : List Step) (made : Step) (new : Machine) (group : Group) (stop : Stop) → Brings n made
+    → source_refusal airs_of version (chosen_steps steps) made ≡ no_place (chosen_steps steps) back bis subevent → stage_of steps ≡ running version
+    → Reaches steps n (Ok group) → NoPlace (chosen_steps steps) back bis subevent stop → Quiet boxes steps made new (Err stop)
+place_fails boxes version n back bis subevent steps made new group (Refused reason) brings own e r p = own_fault boxes version n steps made brings e r.0 r.2 ∙ own ∙ p
+place_fails boxes version n back bis subevent steps made new group OutletFault brings own e r p = p
+place_fails boxes version n back bis subevent steps made new group Memory brings own e r p = tt
+
+-- ---- inject
+
+pub quiet_tells : (starts : List Account) (steps : List Step) (made : Step) (new : Machine) (text : List ℕ) (stop : Stop) → Quiet (length starts) steps made new (Err stop)
+    → Tells starts steps made new text text (Err stop)
+quiet_tells starts steps made new text (Refused reason) q = (q, refl)
+quiet_tells starts steps made new text OutletFault q = q
+quiet_tells starts steps made new text Memory q = tt
+
+pub inject_meets : (starts : List Account) (version n source event back bis subevent : ℕ) (octets : List ℕ) (steps : List Step) (old new : Machine) (hearing : Hearing) (group : Group)
+    (text told : List ℕ) → Stands steps old → stage_of steps ≡ running version → Reaches steps n (Ok group)
+    → no_place (chosen_steps steps) back bis subevent ≡ None → source ≡ chosen_of steps → event ≡ event_back (chosen_steps steps) back
+    → new.stage ≡ old.stage → new.sources ≡ old.sources → Hears (past_of steps) n source event bis subevent octets new.sinks (Some hearing)
+    → told ≡ text ++ heard_line n hearing → Tells starts steps (Inject n back bis subevent octets) new text told (Ok tt)
+inject_meets starts version n source event back bis subevent octets steps old new hearing group text told stands e r place chosen is stage same h t =
+    let made : Step = Inject n back bis subevent octets in
+    let answer : hearing ≡ injected_hearing airs_of steps n back bis subevent octets =
+    h.1 ∙ ap (λ s. hearing_by (source_of n steps) (sink_calls airs_of n steps) s event bis subevent octets) chosen
+    ∙ ap (λ d. hearing_by (source_of n steps) (sink_calls airs_of n steps) (chosen_of steps) d bis subevent octets) is in (
+      own_fault (length starts) version n steps made (inject_brings n back bis subevent octets) e r.0 r.2 ∙ place,
+      brought steps made old new stands (inject_says n back bis subevent octets) refl stage same
+          (heard_as (past_of steps) n source (chosen_of steps) event (event_back (chosen_steps steps) back) bis subevent octets octets new.sinks chosen is refl h.2),
+      t ∙ ap (λ x. text ++ heard_line n x) answer,
+    )
+
+-- the sink lives, so it hears
+pub inject_fails : (starts : List Account) (version n source event bis subevent : ℕ) (octets : List ℕ) (steps : List Step) (new : Sinks) (group : Group) → Reaches steps n (Ok group)
+    → Hears (past_of steps) n source event bis subevent octets new None → ⊥
+inject_fails starts version n source event bis subevent octets steps new group r h = let e : true ≡ false = sym r.2 ∙ ap is_some h in cc e
+
+-- ---- air
 
 not_within : (a b : ℕ) → b < a → nat_le a b ≡ false
 not_within a b h = search (arith, h)
 
 -- a PDU of each stream and subevent of the group is heard, once an event was performed
-pub no_fault : (setup : Setup) (calls : List SourceCall) (bis subevent : ℕ) → bis ≤ setup.info.num_bis → subevent < setup.info.nse
-    → 0 < events calls → air_fault setup calls 0 bis subevent ≡ None
-no_fault setup calls bis subevent p q r =
-    rw (le-ltb setup.info.num_bis bis p, not_within setup.info.nse subevent q, not_within (events calls) 0 r) refl
+pub no_fault : (own : List Step) (bis subevent : ℕ) → bis ≤ (setup_of own).info.num_bis → subevent < (setup_of own).info.nse → 0 < performed own
+    → air_fault (setup_of own) (source_calls own) 0 bis subevent ≡ None
+no_fault own bis subevent p q r =
+    rw (le-ltb (setup_of own).info.num_bis bis p, not_within (setup_of own).info.nse subevent q, not_within (events (source_calls own)) 0 r) refl
 
 -- the spots of an event are those of the streams and the subevents of the group
 pub spot_within : (streams subevents i : ℕ) → i < streams * subevents → (0 < subevents) × (i / subevents < streams) × (i % subevents < subevents)
@@ -40,88 +167,130 @@ spot_within streams (suc k) i h =
     let some : 0 < suc k = omega arith in
     (some, div_below i (suc k) streams some h, mod_below i (suc k) some)
 
-pub spot_more : (steps : List Step) (lose i : ℕ) (calls : List Call)
-    → heard_on_air airs_of steps lose (i + 1) calls ≡ heard_at_spot airs_of steps lose i (heard_on_air airs_of steps lose i calls)
-spot_more steps lose i calls = ap (λ n. heard_on_air airs_of steps lose n calls) (add-one i)
-
--- ---- a place on the air
-
-pub place_is : (steps : List Step) (source : Source) (back bis subevent : ℕ) → SourceIs steps source
-    → air_fault source.setup (source_calls steps) back bis subevent ≡ None → no_place steps back bis subevent ≡ None
-place_is steps source back bis subevent is fault =
-    ap (λ (setup : Setup). option_map air_refusal (air_fault setup (source_calls steps) back bis subevent)) (sym is.setup)
-    ∙ ap (option_map air_refusal) fault
-
-pub place_faults : (steps : List Step) (source : Source) (back bis subevent : ℕ) (fault : AirFault) → SourceIs steps source
-    → air_fault source.setup (source_calls steps) back bis subevent ≡ Some fault → no_place steps back bis subevent ≡ Some (air_refusal fault)
-place_faults steps source back bis subevent fault is e =
-    ap (λ (setup : Setup). option_map air_refusal (air_fault setup (source_calls steps) back bis subevent)) (sym is.setup)
-    ∙ ap (option_map air_refusal) e
-
-pub event_is : (steps : List Step) (source : Source) (back : ℕ) → SourceIs steps source → source.next - 1 - back ≡ event_back steps back
-event_is steps source back is =
-    ap (λ n. n - 1 - back) (is.stands.next ∙ ap (λ (setup : Setup). next_of setup (source_calls steps)) is.setup)
-
-pub pdu_is : (steps : List Step) (source : Source) (back bis subevent : ℕ) (pdu : List ℕ) → SourceIs steps source
-    → pdu_of source.setup (airs_of source.setup (source_calls steps)) (next_of source.setup (source_calls steps) - 1 - back) bis subevent ≡ Some pdu
-    → pdu_in airs_of steps (event_back steps back) bis subevent ≡ pdu
-pdu_is steps source back bis subevent pdu is e =
-    ap (λ (setup : Setup). unwrap_or (pdu_of setup (airs_of setup (source_calls steps)) (next_of setup (source_calls steps) - 1 - back) bis subevent) [])
-    (sym is.setup)
-    ∙ ap (λ (o : Option (List ℕ)). unwrap_or o []) e
-
--- ---- the sink of an entry
-
-pub calls_at : (box : Option ℕ) (calls : List Call) (entry : Option Sink) (sink : Sink) → EntryIs box calls (Some entry) → entry ≡ Some sink
-    → (box ≡ Some sink.outlet) × SinkStands calls sink.delegator
-calls_at None calls entry sink is e = absurd (cc (is, e))
-calls_at (Some b) calls entry sink is e =
-    let same : is.0 ≡ sink = cc (is.1, e) in
-    (ap Some (sym is.2 ∙ ap (λ (s : Sink). s.outlet) same), subst (λ (s : Sink). SinkStands calls s.delegator) same is.3)
-
-pub entry_meets : (box : Option ℕ) (sink new : Sink) (fault : Option Refusal) (calls : List Call) → box ≡ Some sink.outlet → fault ≡ None
-    → new.outlet ≡ sink.outlet → SinkStands calls new.delegator
-    → (unless_sink box fault ≡ None) × EntryIs box calls (Some (Some new))
-entry_meets None sink new fault calls b e same stands = absurd (cc b)
-entry_meets (Some n) sink new fault calls b e same stands =
-    let own : new.outlet ≡ n = cc (b, same) in
-    (e, (new, refl, own, stands))
-
--- ---- the steps
-
-pub in_phase : (steps : List Step) (own : Option Refusal) → is_first steps ≡ false → is_started steps ≡ true
-    → option_or (refuse_if (is_first steps || not (is_started steps)) Order) own ≡ own
-in_phase steps own later started = rw (later, started) refl
-
-pub started_is : (steps : List Step) (phase : Phase) (source : Source) → PhaseIs steps phase → phase ≡ Started source
-    → (is_started steps ≡ true) × SourceIs steps source
-started_is steps phase source is e =
-    let p = subst (PhaseIs steps) e is in
-    (p.1, record { setup = p.2; stands = p.3 })
-
-pub own_calls : (n : ℕ) (box : Option ℕ) (calls next : List Call) (entry : Option Sink) → EntryIs box next (Some entry)
-    → EntryIs box (if n == n then next else calls) (Some entry)
-own_calls n box calls next entry is =
-    let P : Bool → Type 0 = λ b. EntryIs box (if b then next else calls) (Some entry) in
-    subst P (sym (eq-eqb n n refl)) is
-
-pub hear_touches : (n back bis subevent : ℕ) (steps : List Step) → TouchesOne n (Hear n back bis subevent) steps
-hear_touches n back bis subevent steps = record { box_stays = λ m apart. refl; calls_stay = λ m apart. rw apart refl }
-
-pub air_touches : (n lose : ℕ) (steps : List Step) → TouchesOne n (Air n lose) steps
-air_touches n lose steps = record { box_stays = λ m apart. refl; calls_stay = λ m apart. rw apart refl }
-
-pub inject_touches : (n back bis subevent : ℕ) (octets : List ℕ) (steps : List Step) → TouchesOne n (Inject n back bis subevent octets) steps
-inject_touches n back bis subevent octets steps = record { box_stays = λ m apart. refl; calls_stay = λ m apart. rw apart refl }
-
--- ---- the last event
-
-some_event : (n m event : ℕ) → Some event ≡ (if n == 0 then None else Some m) → 0 < n
-some_event zero m event e = absurd (cc e)
-some_event (suc n) m event e = omega arith
-
-pub last_some : (setup : Setup) (calls : List SourceCall) (event : ℕ) → Some event ≡ last_of setup calls → 0 < events calls
-last_some setup calls event e = some_event (events calls) (next_of setup calls - 1) event e
-
-pub on_air : (n : ℕ) → 0 < n → refuse_if (n == 0) NotOnAir ≡ None
+on_air : (n : ℕ) → 0 < n → refuse_if (n == 0) NotOnAir ≡ None
 on_air n h = ap (λ (b : Bool). refuse_if b NotOnAir) (ne_eqb n 0 (λ e. omega arith))
+
+pub air_meets : (boxes version n lose event : ℕ) (steps : List Step) (old new : Machine) (group : Group) → Stands steps old → stage_of steps ≡ running version
+    → OnAir steps n event group → new.stage ≡ old.stage → new.sources ≡ old.sources → SinksStand (past_of (Air n lose ∷ steps)) new.sinks
+    → Quiet boxes steps (Air n lose) new (Ok tt)
+air_meets boxes version n lose event steps old new group stands e on stage same heard = (
+  own_fault boxes version n steps (Air n lose) (air_brings n lose) e on.started on.lives ∙ on_air (performed (chosen_steps steps)) on.some,
+  brought steps (Air n lose) old new stands (air_says n lose) refl stage same heard,
+)
+
+pub air_fails : (boxes version n lose : ℕ) (steps : List Step) (group : Group) → stage_of steps ≡ running version → Reaches steps n (Ok group)
+    → performed (chosen_steps steps) ≡ 0 → phase_refusal airs_of boxes steps (Air n lose) ≡ Some NotOnAir
+air_fails boxes version n lose steps group e r none =
+    own_fault boxes version n steps (Air n lose) (air_brings n lose) e r.0 r.2 ∙ ap (λ k. refuse_if (k == 0) NotOnAir) none
+
+if_same : {A : Type 0} (b : Bool) (x : A) → x ≡ (if b then x else x)
+if_same true x = refl
+if_same false x = refl
+
+pub air_begins : (steps : List Step) (n lose : ℕ) (sinks : Sinks) → SinksStand (past_of steps) sinks → SinksStand (past_on_air steps n lose 0) sinks
+air_begins steps n lose sinks stands =
+    stands_same (past_of steps) (past_on_air steps n lose 0) sinks
+    (record { boxes = λ m. refl; sources = λ m. refl; calls = λ m. if_same (reaches n m steps) (sink_calls airs_of m steps); made = refl }) stands
+
+-- the PDU at a spot is lost
+spot_lost : (b : Bool) (lost : Bool) (call : Call) (calls heard : List Call) → lost ≡ true
+    → (if b then heard else calls) ≡ (if b then unless_lost lost call heard else calls)
+spot_lost true lost call calls heard e = rw e refl
+spot_lost false lost call calls heard e = refl
+
+pub lost_next : (steps : List Step) (n lose i : ℕ) (sinks : Sinks)
+    → is_lost (setup_of (chosen_steps steps)).info (event_back (chosen_steps steps) 0) lose (spot_at (setup_of (chosen_steps steps)).info i) ≡ true
+    → SinksStand (past_on_air steps n lose i) sinks → SinksStand (past_on_air steps n lose (i + 1)) sinks
+lost_next steps n lose i sinks lost stands =
+    let own : List Step = chosen_steps steps in
+    let P : ℕ → Type 0 = λ k. SinksStand (past_on_air steps n lose k) sinks in
+    subst P (sym (add-one i)) (stands_same (past_on_air steps n lose i) (past_on_air steps n lose (suc i)) sinks
+    (record {
+      boxes = λ m. refl;
+      sources = λ m. refl;
+      calls = λ m. spot_lost (reaches n m steps) _ (hear_at airs_of own (event_back own 0) (spot_at (setup_of own).info i)) (sink_calls airs_of m steps)
+          (heard_on_air airs_of own lose i (sink_calls airs_of m steps)) lost;
+      made = refl;
+    }) stands)
+
+-- it is heard
+spot_heard : (b : Bool) (lost : Bool) (call : Call) (calls heard : List Call) → lost ≡ false
+    → (if b then call ∷ (if b then heard else calls) else (if b then heard else calls)) ≡ (if b then unless_lost lost call heard else calls)
+spot_heard true lost call calls heard e = rw e refl
+spot_heard false lost call calls heard e = refl
+
+pub heard_next : (steps : List Step) (n lose i source event bis subevent : ℕ) (pdu : List ℕ) (sinks : Sinks) (o : Option Hearing)
+    → is_lost (setup_of (chosen_steps steps)).info (event_back (chosen_steps steps) 0) lose (spot_at (setup_of (chosen_steps steps)).info i) ≡ false
+    → is_some (box_of n steps) ≡ true → source ≡ chosen_of steps → event ≡ event_back (chosen_steps steps) 0
+    → bis ≡ i / (setup_of (chosen_steps steps)).info.nse + 1 → subevent ≡ i % (setup_of (chosen_steps steps)).info.nse
+    → pdu ≡ pdu_in airs_of (chosen_steps steps) (event_back (chosen_steps steps) 0) bis subevent
+    → Hears (past_on_air steps n lose i) n source event bis subevent pdu sinks o → SinksStand (past_on_air steps n lose (i + 1)) sinks
+heard_next steps n lose i source event bis subevent pdu sinks o kept lives chosen is b s p h =
+    let own : List Step = chosen_steps steps in
+    let nse : ℕ = (setup_of own).info.nse in
+    let heard = heard_as (past_on_air steps n lose i) n source (chosen_of steps) event (event_back own 0) bis subevent pdu (pdu_in airs_of own (event_back own 0) bis subevent) sinks chosen is p
+    (some_heard (past_on_air steps n lose i) n source event bis subevent pdu sinks o lives h) in
+    let B : ℕ → Type 0 = λ x. SinksStand (with_hearing n (chosen_of steps) (event_back own 0) x subevent (pdu_in airs_of own (event_back own 0) x subevent) (past_on_air steps n lose i)) sinks in
+    let S : ℕ → Type 0 = λ x. SinksStand (with_hearing n (chosen_of steps) (event_back own 0) (i / nse + 1) x (pdu_in airs_of own (event_back own 0) (i / nse + 1) x) (past_on_air steps n lose i)) sinks in
+    let P : ℕ → Type 0 = λ k. SinksStand (past_on_air steps n lose k) sinks in
+    subst P (sym (add-one i)) (stands_same
+    (with_hearing n (chosen_of steps) (event_back own 0) (i / nse + 1) (i % nse) (pdu_in airs_of own (event_back own 0) (i / nse + 1) (i % nse)) (past_on_air steps n lose i))
+    (past_on_air steps n lose (suc i)) sinks
+    (record {
+      boxes = λ m. refl;
+      sources = λ m. refl;
+      calls = λ m. spot_heard (reaches n m steps) _ (hear_at airs_of own (event_back own 0) (spot_at (setup_of own).info i)) (sink_calls airs_of m steps)
+          (heard_on_air airs_of own lose i (sink_calls airs_of m steps)) kept;
+      made = refl;
+    }) (subst S s (subst B b heard)))
+
+-- what was computed of a spot is what is said of it
+pub lost_as : (steps : List Step) (n event lose i nse nse2 : ℕ) (r b : Bool) (group : Group) → OnAir steps n event group → nse ≡ group.info.nse → nse2 ≡ group.info.nse
+    → (let spot : Spot = record { bis = i / nse + 1; subevent = i % nse2 } in r ≡ is_lost group.info event lose spot) → r ≡ b
+    → is_lost (setup_of (chosen_steps steps)).info (event_back (chosen_steps steps) 0) lose (spot_at (setup_of (chosen_steps steps)).info i) ≡ b
+lost_as steps n event lose i nse nse2 r b group on p q is e =
+    let own : List Step = chosen_steps steps in
+    let at : ℕ → ℕ → Spot = λ k l. record { bis = i / k + 1; subevent = i % l } in
+    sym (is ∙ ap (λ k. is_lost group.info event lose (at k nse2)) p ∙ ap (λ k. is_lost group.info event lose (at group.info.nse k)) q
+    ∙ ap (λ (info : BigInfo). is_lost info event lose (spot_at info i)) on.info ∙ ap (λ d. is_lost (setup_of own).info d lose (spot_at (setup_of own).info i)) on.event_is) ∙ e
+
+pub no_place_there : (own : List Step) (bis subevent : ℕ) (stop : Stop) → bis ≤ (setup_of own).info.num_bis → subevent < (setup_of own).info.nse → 0 < performed own
+    → NoPlace own 0 bis subevent stop → ⊥
+no_place_there own bis subevent (Refused reason) p q r e =
+    let none : no_place own 0 bis subevent ≡ None = ap (option_map air_refusal) (no_fault own bis subevent p q r) in cc (none, e)
+no_place_there own bis subevent OutletFault p q r e = e
+no_place_there own bis subevent Memory p q r e = e
+
+pub no_sink_there : (steps : List Step) (n : ℕ) → is_started (chosen_steps steps) ≡ true → is_some (box_of n steps) ≡ false
+    → option_or (refuse_if (not (is_started (chosen_steps steps))) Order) (no_sink n steps) ≡ Some NoSuchSink
+no_sink_there steps n started none = rw (started, none) refl
+
+-- ---- sniff
+
+pub sniff_early : (boxes version back bis subevent : ℕ) (steps : List Step) → stage_of steps ≡ running version → is_started (chosen_steps steps) ≡ false
+    → phase_refusal airs_of boxes steps (Sniff back bis subevent) ≡ Some Order
+sniff_early boxes version back bis subevent steps e started = rw (e, started) refl
+
+sniff_fault : (boxes version back bis subevent : ℕ) (steps : List Step) → stage_of steps ≡ running version → is_started (chosen_steps steps) ≡ true
+    → phase_refusal airs_of boxes steps (Sniff back bis subevent) ≡ no_place (chosen_steps steps) back bis subevent
+sniff_fault boxes version back bis subevent steps e started = rw (e, started) (or_none (no_place (chosen_steps steps) back bis subevent))
+
+pub sniff_fails : (starts : List Account) (version back bis subevent : ℕ) (steps : List Step) (new : Machine) (text : List ℕ) (stop : Stop) → stage_of steps ≡ running version
+    → is_started (chosen_steps steps) ≡ true → NoPlace (chosen_steps steps) back bis subevent stop → Tells starts steps (Sniff back bis subevent) new text text (Err stop)
+sniff_fails starts version back bis subevent steps new text (Refused reason) e started p = (sniff_fault (length starts) version back bis subevent steps e started ∙ p, refl)
+sniff_fails starts version back bis subevent steps new text OutletFault e started p = p
+sniff_fails starts version back bis subevent steps new text Memory e started p = tt
+
+pub sniff_meets : (starts : List Account) (version event back bis subevent : ℕ) (pdu : List ℕ) (steps : List Step) (machine : Machine) (text told : List ℕ) → Stands steps machine
+    → stage_of steps ≡ running version → is_started (chosen_steps steps) ≡ true
+    → (no_place (chosen_steps steps) back bis subevent ≡ None) × (pdu ≡ pdu_in airs_of (chosen_steps steps) (event_back (chosen_steps steps) back) bis subevent)
+    → event ≡ event_back (chosen_steps steps) back → told ≡ text ++ pdu_line event bis subevent pdu → Tells starts steps (Sniff back bis subevent) machine text told (Ok tt)
+sniff_meets starts version event back bis subevent pdu steps machine text told stands e started place is t = (
+  sniff_fault (length starts) version back bis subevent steps e started ∙ place.0,
+  record {
+    stage = stands.stage;
+    sources = sources_stay (Sniff back bis subevent) steps machine.sources (sniff_says back bis subevent) stands.sources;
+    sinks = stands.sinks;
+  },
+  t ∙ ap (λ d. text ++ pdu_line d bis subevent pdu) is ∙ ap (λ o. text ++ pdu_line (event_back (chosen_steps steps) back) bis subevent o) place.1,
+)

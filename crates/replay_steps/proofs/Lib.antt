@@ -1,13 +1,7 @@
 pub mod Laws
-mod Handings
-mod Closings
-mod Starts
-mod SumLaws
-mod Beyonds
-mod OneSink
-mod Tunings
-mod SinkSteps
-mod CloseSteps
-mod Airing
-mod StepLaws
-mod LineLaws
+pub mod Stepping
+pub mod Airing
+pub mod Closing
+pub mod Ending
+pub mod StepLaws
+pub mod LineLaws

@@ -1,5 +1,5 @@
 -- A line by its step.
-use Rattle.std.proofs.Common.{◌≡◌, ℕ, zero, suc, ◌+◌, ◌<◌, ◌≤◌, nat_le, List, [], ◌∷◌, ◌++◌, length, replicate, true, false, Bool, inl, inr, Option, None, Some, Result, Ok, Err, refl, sym, ◌∙◌, ap, subst, is_some, slice_get, arith}
+use Rattle.std.proofs.Common.{◌≡◌, ℕ, ◌+◌, ◌<◌, ◌≤◌, nat_le, List, [], ◌∷◌, ◌++◌, length, true, false, Bool, inl, inr, Option, None, Some, Result, Ok, Err, refl, sym, ◌∙◌, ap, subst, is_some, arith}
 use Rattle.std.specs.Option.{option_or}
 use Rattle.std.proofs.lemmas.Bool.{leb-false}
 use Rattle.bcast_io.specs.TextLines.{TextLine, plain}
@@ -12,21 +12,24 @@ use Rattle.scenario_text.specs.declared.step.Step.{Step}
 use Rattle.scenario_text.specs.declared.step.Step.TheVariants as steps
 use Rattle.scenario_history.specs.Steps.{sinks_made, version_of, is_over}
 use Rattle.scenario_history.specs.Boxes.{accounts_after, box_of, handed_by, handed_up}
-use Rattle.scenario_history.specs.Refusals.{refusal_of, refuse_if, is_out_of_order}
+use Rattle.scenario_history.specs.Refusals.{refusal_of, refuse_if, is_out_of_order, sink_refusal}
 use Rattle.scenario_history.specs.Lines.{Said, a_step, steps_of, said_by, said_after, with_said, refusal_said, output_said, handed_said}
-use Rattle.replay_steps.specs.declared.sink.Sink.{Sink}
 use Rattle.replay_steps.specs.declared.machine.Machine.{Machine}
-use Rattle.replay_steps.specs.declared.stop.Stop.{Stop}
-use Rattle.replay_steps.specs.declared.stop.Stop.TheVariants.{Refused, OutletFault, Memory}
+use Rattle.transcript_text.specs.declared.stop.Stop.{Stop}
+use Rattle.transcript_text.specs.declared.stop.Stop.TheVariants.{Refused, OutletFault, Memory}
 use Rattle.replay_steps.specs.Machines.{Stands}
 use Rattle.replay_steps.specs.Meets.{BoxesStand, StepMeets}
-use Rattle.replay_steps.specs.Handing.{BoxFails, CutShort}
+use Rattle.scenario_sinks.specs.Handing.{BoxFails, CutShort}
 use Rattle.replay_steps.specs.LineMeets.{LineMeets}
 use Rattle.replay_steps.proofs.Laws.{accounts_append}
 
 last_none : {A : Type 0} (a b : Option A) → option_or a b ≡ None → b ≡ None
 last_none None b e = e
 last_none (Some x) b e = absurd (cc)
+
+first_none : {A : Type 0} (a b : Option A) → option_or a b ≡ None → a ≡ None
+first_none None b e = refl
+first_none (Some x) b e = absurd (cc)
 
 test_fails : (b : Bool) (reason : Refusal) → refuse_if b reason ≡ None → b ≡ false
 test_fails true reason e = absurd (cc)
@@ -37,7 +40,8 @@ sink_fits : (boxes n streams slots : ℕ) (mtu : Option ℕ) (earlier : List Ste
 sink_fits boxes n streams slots mtu earlier e =
     let phase = last_none (refuse_if (is_over earlier) AfterEnd) _ e in
     let own = last_none (refuse_if (is_out_of_order earlier (steps.Sink n streams slots mtu)) Order) _ phase in
-    let outlet = last_none (refuse_if (is_some (box_of n earlier)) SinkTwice) _ own in
+    let sink = first_none (sink_refusal boxes earlier (steps.Sink n streams slots mtu)) _ own in
+    let outlet = last_none (refuse_if (is_some (box_of n earlier)) SinkTwice) _ sink in
     let less : sinks_made earlier < boxes = leb-false boxes (sinks_made earlier) (test_fails (nat_le boxes (sinks_made earlier)) NoOutlet outlet) in
     omega arith
 
@@ -45,7 +49,9 @@ room_stays : (boxes : ℕ) (earlier : List Step) (made : Step) → refusal_of ai
 room_stays boxes earlier (steps.Sink n streams slots mtu) e room = sink_fits boxes n streams slots mtu earlier e
 room_stays boxes earlier (steps.Scenario version) e room = room
 room_stays boxes earlier (steps.Group framing origin delay iso sdu max_sdu max_pdu num_bis bn nse irc pto sub spacing phy) e room = room
+room_stays boxes earlier (steps.Ident address_type address sid broadcast_id) e room = room
 room_stays boxes earlier (steps.Start first) e room = room
+room_stays boxes earlier (steps.Source source) e room = room
 room_stays boxes earlier (steps.Tuned n which) e room = room
 room_stays boxes earlier (steps.Unit bis time octets) e room = room
 room_stays boxes earlier steps.Event e room = room
@@ -96,14 +102,6 @@ pub line_meets : (starts : List Account) (lines : List TextLine) (line : List �
     → StepMeets starts (steps_of lines) made new text told before after r → LineMeets starts lines (plain line) new text told before after r
 line_meets starts lines line version made new text told before after r boxes is reads m =
     said_meets starts lines (plain line) made new text told before after r boxes (ap (λ v. said_by (read_of v line)) (sym is) ∙ ap said_by reads) m
-
-get_replicate : (x : Option Sink) (n k : ℕ) → n < k → slice_get (replicate k x) n ≡ Some x
-get_replicate x n zero below = absurd (omega arith)
-get_replicate x zero (suc k) below = refl
-get_replicate x (suc n) (suc k) below = get_replicate x n k (omega arith)
-
-pub none_made : (sinks : List (Option Sink)) (n k : ℕ) → sinks ≡ replicate k None → n < k → slice_get sinks n ≡ Some None
-none_made sinks n k is below = ap (λ s. slice_get s n) is ∙ get_replicate None n k below
 
 pub nothing_handed : (starts : List Account) → BoxesStand starts [] starts
 nothing_handed starts = record { accounts_are = refl; room = omega arith }

@@ -1,19 +1,21 @@
 -- Each step by its own clause.
 use Rattle.std.proofs.Common.{◌≡◌, ℕ, List, [], ◌++◌, length, map, true, false, inl, inr, None, Some, Result, Ok, Err, refl, sym, ◌∙◌, ap, subst, append-nil}
+use Rattle.std.specs.Option.{option_or}
 use Rattle.std.proofs.lemmas.List.{length-map}
 use Rattle.unit_outlets.specs.Account.{Account}
 use Rattle.source_machine.specs.Airs.{airs_of}
-use Rattle.transcript_text.specs.declared.refusal.Refusal.TheVariants.{Order}
+use Rattle.transcript_text.specs.declared.refusal.Refusal.TheVariants.{AfterEnd, Order}
 use Rattle.scenario_text.specs.declared.step.Step.{Step}
-use Rattle.scenario_history.specs.Steps.{is_over}
+use Rattle.scenario_text.specs.declared.step.Step.TheVariants.{Scenario}
+use Rattle.scenario_history.specs.Steps.{is_over, over, running, stage_of, unbegun}
 use Rattle.scenario_history.specs.Boxes.{accounts_after, handed_by, handed_up}
 use Rattle.scenario_history.specs.Output.{output_of}
-use Rattle.scenario_history.specs.Refusals.{is_first, is_out_of_order, phase_refusal, refusal_of}
+use Rattle.scenario_history.specs.Refusals.{phase_refusal, refusal_of, refuse_if}
 use Rattle.scenario_history.proofs.Sums.{boxes_stay}
 use Rattle.replay_steps.specs.declared.machine.Machine.{Machine}
-use Rattle.replay_steps.specs.declared.stop.Stop.{Stop}
-use Rattle.replay_steps.specs.declared.stop.Stop.TheVariants.{Refused, OutletFault, Memory}
-use Rattle.replay_steps.specs.Meets.{BoxesStand, Quiet, Tells, Meets, StepMeets}
+use Rattle.transcript_text.specs.declared.stop.Stop.{Stop}
+use Rattle.transcript_text.specs.declared.stop.Stop.TheVariants.{Refused, OutletFault, Memory}
+use Rattle.replay_steps.specs.Meets.{BoxesStand, First, Quiet, Tells, Meets, StepMeets}
 
 -- there are as many boxes as at the start
 pub boxes_count : (starts accounts : List Account) (steps : List Step) → BoxesStand starts steps accounts → length accounts ≡ length starts
@@ -72,8 +74,23 @@ pub meets_as : (starts : List Account) (steps : List Step) (made other : Step) (
 meets_as starts steps made other new text told before after r is m =
     let P : Step → Type 0 = λ s. Meets starts steps s new text told before after r in subst P (sym is) m
 
--- ---- the first step
+-- ---- where the scenario stands
 
-pub meets_first : (starts : List Account) (steps : List Step) (made : Step) (new : Machine) (text : List ℕ) (accounts : List Account)
-    → is_over steps ≡ false → is_first steps ≡ true → is_out_of_order steps made ≡ true → StepMeets starts steps made new text text accounts accounts (Err (Refused Order))
-meets_first starts steps made new text accounts not_over first out = (rw (not_over, out) refl, refl, refl)
+pub goes_on_in : (version : ℕ) (steps : List Step) → stage_of steps ≡ running version → is_over steps ≡ false
+goes_on_in version steps e = rw e refl
+
+pub not_begun : (steps : List Step) → stage_of steps ≡ unbegun → is_over steps ≡ false
+not_begun steps e = rw e refl
+
+pub refused_after_end : (starts : List Account) (version : ℕ) (steps : List Step) (made : Step) (new : Machine) (text : List ℕ) (accounts : List Account)
+    → stage_of steps ≡ over version → StepMeets starts steps made new text text accounts accounts (Err (Refused AfterEnd))
+refused_after_end starts version steps made new text accounts e = (rw e refl, refl, refl)
+
+-- the first step: only `scenario` is made
+pub first_meets : (starts : List Account) (steps : List Step) (made : Step) (new : Machine) (text : List ℕ) (accounts : List Account) (r : Result (Unit {0}) Stop)
+    → stage_of steps ≡ unbegun → First (length starts) steps made new r → StepMeets starts steps made new text text accounts accounts r
+first_meets starts steps (Scenario version) new text accounts (Ok x) e f = (rw e refl, f.1, sym (append-nil text), refl)
+first_meets starts steps made new text accounts (Ok x) e f = absurd f.0
+first_meets starts steps made new text accounts (Err (Refused reason)) e f = (ap (λ b. option_or (refuse_if b AfterEnd) (phase_refusal airs_of (length starts) steps made)) (not_begun steps e) ∙ f, refl, refl)
+first_meets starts steps made new text accounts (Err OutletFault) e f = absurd f
+first_meets starts steps made new text accounts (Err Memory) e f = inl refl

@@ -1,40 +1,41 @@
--- What the sinks of a scenario hear of the air of its source (Core 5.2, volume 6 part B, section 4.4.6).
-use Rattle.std.specs.Prelude.{ℕ, ◌≡◌, ◌<◌, not, is_some, List, Option, Some, None, Result, Ok, Err}
+-- What the sinks of a scenario hear of the air of the chosen source (Core 5.2, volume 6 part B, section 4.4.6).
+use Rattle.std.specs.Prelude.{ℕ, ◌≡◌, ◌<◌, ◌&&◌, ◌==◌, not, true, is_some, List, Option, Some, Result, Ok, Err, if◌then◌else◌}
 use Rattle.std.specs.Option.{option_or}
-use Rattle.source_machine.specs.Sources.{Source, StandsFor}
-use Rattle.delegator_machine.specs.Calls.{Call}
-use Rattle.transcript_text.specs.declared.refusal.Refusal.{Refusal}
-use Rattle.transcript_text.specs.declared.refusal.Refusal.TheVariants.{NoSuchSink}
+use Rattle.big_info.specs.declared.group.Group.{Group}
+use Rattle.source_machine.specs.Airs.{airs_of}
+use Rattle.transcript_text.specs.declared.refusal.Refusal.TheVariants.{Order}
+use Rattle.transcript_text.specs.declared.stop.Stop.{Stop}
+use Rattle.transcript_text.specs.declared.stop.Stop.TheVariants.{Refused, OutletFault, Memory}
 use Rattle.scenario_text.specs.declared.step.Step.{Step}
-use Rattle.scenario_history.specs.Source.{Airs, setup_of, source_calls, performed, event_back}
-use Rattle.scenario_history.specs.Sinks.{spot_at, is_lost, hear_at, unless_lost}
-use Rattle.scenario_history.specs.Refusals.{refuse_if}
-use Rattle.replay_steps.specs.declared.sink.Sink.{Sink}
-use Rattle.replay_steps.specs.Machines.{EntryIs}
+use Rattle.scenario_history.specs.Steps.{chosen_of, chosen_steps, sinks_made}
+use Rattle.scenario_history.specs.Source.{event_back, is_started, performed, setup_of}
+use Rattle.scenario_history.specs.Sinks.{heard_on_air, reaches, sink_calls, source_of}
+use Rattle.scenario_history.specs.Boxes.{box_of}
+use Rattle.scenario_history.specs.Refusals.{no_sink, refuse_if}
+use Rattle.scenario_sinks.specs.Pasts.{Past}
 
--- the source is as the steps leave it
-pub record SourceIs (steps : List Step) (source : Source) : Type 0 where
-  pub setup : source.setup ≡ setup_of steps
-  pub stands : StandsFor (source_calls steps) source
+-- a PDU of the chosen source may be handed to a sink: the source was started and has this group, and the sink lives
+abbrev pub Reaches : List Step → ℕ → Result Group Stop → Type 0
+Reaches steps sink (Ok group) =
+    (is_started (chosen_steps steps) ≡ true) × (group.info ≡ (setup_of (chosen_steps steps)).info) × (is_some (box_of sink steps) ≡ true)
+Reaches steps sink (Err (Refused reason)) =
+    option_or (refuse_if (not (is_started (chosen_steps steps))) Order) (no_sink sink steps) ≡ Some reason
+Reaches steps sink (Err OutletFault) = ⊥
+Reaches steps sink (Err Memory) = ⊥
 
--- and this is the last event that it performed
-pub record IsLast (steps : List Step) (event : ℕ) (source : Source) : Type 0 where
-  pub source_is : SourceIs steps source
-  pub some : 0 < performed steps
-  pub event_is : event ≡ event_back steps 0
+-- a sink heard the PDUs of the first `count` spots of the last event of the chosen source but those that are lost
+abbrev pub past_on_air : List Step → ℕ → ℕ → ℕ → Past
+past_on_air steps sink lose count = record {
+  boxes = λ n. box_of n steps;
+  sources = λ n. source_of n steps;
+  calls = λ n. if reaches sink n steps then heard_on_air airs_of (chosen_steps steps) lose count (sink_calls airs_of n steps) else sink_calls airs_of n steps;
+  made = sinks_made steps;
+}
 
--- the sink hears the PDU at one spot of the last event, unless it is lost
-abbrev pub heard_at_spot : Airs → List Step → ℕ → ℕ → List Call → List Call
-heard_at_spot airs steps lose i calls =
-    unless_lost (is_lost (setup_of steps).info (event_back steps 0) lose (spot_at (setup_of steps).info i))
-    (hear_at airs steps (event_back steps 0) (spot_at (setup_of steps).info i)) calls
-
--- why a step of one sink is refused: no sink has the number, or else this
-abbrev pub unless_sink : Option ℕ → Option Refusal → Option Refusal
-unless_sink box fault = option_or (refuse_if (not (is_some box)) NoSuchSink) fault
-
--- a step of the sink of an entry with this box, after which the sink took these calls; `fault` is why it is refused where
--- the sink lives
-abbrev pub EntryMeets : {A : Type 0} → Option ℕ → Option Refusal → List Call → Option Sink → Result A Refusal → Type 0
-EntryMeets box fault calls entry (Ok _) = (unless_sink box fault ≡ None) × EntryIs box calls (Some entry)
-EntryMeets box fault calls entry (Err reason) = unless_sink box fault ≡ Some reason
+-- the chosen source was started, its group has these numbers, and this is the last event that it performed
+pub record OnAir (steps : List Step) (sink event : ℕ) (group : Group) : Type 0 where
+  pub started : is_started (chosen_steps steps) ≡ true
+  pub info : group.info ≡ (setup_of (chosen_steps steps)).info
+  pub lives : is_some (box_of sink steps) ≡ true
+  pub some : 0 < performed (chosen_steps steps)
+  pub event_is : event ≡ event_back (chosen_steps steps) 0

@@ -1,13 +1,5 @@
 pub mod Versions
-pub mod Gathering
 pub mod Machines
-pub mod Handing
 pub mod Meets
 pub mod LineMeets
-pub mod Closing
-pub mod Groups
-pub mod Stops
-pub mod Sums
-pub mod Beyond
-pub mod Tuning
 pub mod Airing

@@ -6,11 +6,11 @@ use Rattle.source_machine.specs.Airs.{airs_of}
 use Rattle.transcript_text.specs.declared.refusal.Refusal.{Refusal}
 use Rattle.scenario_history.specs.Lines.{rules_of, steps_of, handed_on}
 use Rattle.replay_steps.specs.declared.machine.Machine.{Machine}
-use Rattle.replay_steps.specs.declared.stop.Stop.{Stop}
-use Rattle.replay_steps.specs.declared.stop.Stop.TheVariants.{Refused, OutletFault, Memory}
+use Rattle.transcript_text.specs.declared.stop.Stop.{Stop}
+use Rattle.transcript_text.specs.declared.stop.Stop.TheVariants.{Refused, OutletFault, Memory}
 use Rattle.replay_steps.specs.Machines.{Stands}
 use Rattle.replay_steps.specs.Meets.{BoxesStand}
-use Rattle.replay_steps.specs.Handing.{BoxFails, CutShort}
+use Rattle.scenario_sinks.specs.Handing.{BoxFails, CutShort}
 
 -- the machine and the accounts of the boxes are as these lines leave them, by what the accounts were at the start
 pub record LinesStand (starts : List Account) (lines : List TextLine) (machine : Machine) (accounts : List Account) : Type 0 where

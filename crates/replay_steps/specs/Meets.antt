@@ -3,15 +3,16 @@ use Rattle.std.specs.Prelude.{ℕ, ◌≡◌, ◌≤◌, ◌⊎◌, List, ◌∷
 use Rattle.unit_outlets.specs.Account.{Account}
 use Rattle.source_machine.specs.Airs.{airs_of}
 use Rattle.scenario_text.specs.declared.step.Step.{Step}
+use Rattle.scenario_text.specs.declared.step.Step.TheVariants.{Scenario}
 use Rattle.scenario_history.specs.Steps.{sinks_made}
 use Rattle.scenario_history.specs.Boxes.{accounts_after, handed_up, handed_by}
 use Rattle.scenario_history.specs.Output.{output_of}
 use Rattle.scenario_history.specs.Refusals.{phase_refusal, refusal_of}
 use Rattle.replay_steps.specs.declared.machine.Machine.{Machine}
-use Rattle.replay_steps.specs.declared.stop.Stop.{Stop}
-use Rattle.replay_steps.specs.declared.stop.Stop.TheVariants.{Refused, OutletFault, Memory}
+use Rattle.transcript_text.specs.declared.stop.Stop.{Stop}
+use Rattle.transcript_text.specs.declared.stop.Stop.TheVariants.{Refused, OutletFault, Memory}
 use Rattle.replay_steps.specs.Machines.{Stands}
-use Rattle.replay_steps.specs.Handing.{BoxFails, CutShort}
+use Rattle.scenario_sinks.specs.Handing.{BoxFails, CutShort}
 
 -- a step that prints nothing and hands up no unit, with so many boxes
 abbrev pub Quiet : ℕ → List Step → Step → Machine → Result (Unit {0}) Stop → Type 0
@@ -19,6 +20,18 @@ Quiet boxes steps next new (Ok _) = (phase_refusal airs_of boxes steps next ≡ 
 Quiet boxes steps next new (Err (Refused reason)) = phase_refusal airs_of boxes steps next ≡ Some reason
 Quiet boxes steps next new (Err OutletFault) = ⊥
 Quiet boxes steps next new (Err Memory) = Unit {0}
+
+-- the step is `scenario`
+abbrev pub IsScenario : Step → Type 0
+IsScenario (Scenario version) = Unit {0}
+IsScenario _ = ⊥
+
+-- the first step of a scenario
+abbrev pub First : ℕ → List Step → Step → Machine → Result (Unit {0}) Stop → Type 0
+First boxes steps next new (Ok _) = IsScenario next × Stands (next ∷ steps) new
+First boxes steps next new (Err (Refused reason)) = phase_refusal airs_of boxes steps next ≡ Some reason
+First boxes steps next new (Err OutletFault) = ⊥
+First boxes steps next new (Err Memory) = Unit {0}
 
 -- the boxes are as these steps leave them, by what they were at the start
 pub record BoxesStand (starts : List Account) (steps : List Step) (accounts : List Account) : Type 0 where

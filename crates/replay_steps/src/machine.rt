@@ -1,43 +1,23 @@
-ghost use Rattle.std.specs.Prelude.{◌≡◌, ◌<◌, vec_len, IfOk, List, [], map, replicate, None};
+ghost use Rattle.std.specs.Prelude.{◌≡◌, IfOk, List, [], map};
 ghost use Rattle.bcast_io.specs.TextLines.{TextLine, plain};
 ghost use Rattle.unit_outlets.specs.Account.{Account};
 
-use crate::described::Described;
-use crate::gathered::Gathered;
-use crate::sink::Sink;
-use crate::stop::Stop;
-use crate::version::Version;
+use crate::version::Stage;
 use bcast_base::{Memory, Octets};
+use scenario_sinks::Sinks;
+use scenario_sources::Sources;
 use scenario_text::{LineFault, read_line_in};
-use source_machine::Broadcast;
 use std::alloc::Global;
-use transcript_text::Refusal;
+use transcript_text::{Refusal, Stop};
 use unit_outlets::Outlet;
-
-/// The most sinks that live at once.
-const SINKS: usize = 8;
-
-/// The source of a scenario.
-#[derive(Drop)]
-pub enum Phase {
-    Absent,
-    Described(Described),
-    Started(Broadcast),
-}
 
 /// A scenario as far as it was run.
 #[derive(Drop)]
 pub struct Machine {
-    pub(crate) alloc: Global,
-    pub(crate) version: Option<Version>,
-    pub(crate) phase: Phase,
-    pub(crate) is_stopped: bool,
-    pub(crate) sinks: Vec<Option<Sink>>,
-    /// How many boxes of the list were taken.
-    pub(crate) outlets: usize,
-    pub(crate) gathered: Gathered,
-    pub(crate) is_over: bool,
-    ghost eight: { vec_len sinks ≡ 8 },
+    alloc: Global,
+    pub(crate) stage: Stage,
+    pub(crate) sources: Sources,
+    pub(crate) sinks: Sinks,
 }
 
 impl Machine {
@@ -51,13 +31,9 @@ impl Machine {
     {
         Ok(Machine {
             alloc,
-            version: None,
-            phase: Phase::Absent,
-            is_stopped: false,
-            sinks: no_sinks(alloc)?,
-            outlets: 0,
-            gathered: Gathered::new(alloc),
-            is_over: false,
+            stage: Stage::Unbegun,
+            sources: Sources::new(alloc)?,
+            sinks: Sinks::new(alloc)?,
         })
     }
 
@@ -65,7 +41,7 @@ impl Machine {
     pub fn is_over(&self) -> bool
         ensures { (starts : List Account) (lines : List TextLine) (accounts : List Account) → LinesStand starts lines self.now accounts → result ≡ is_over (steps_of lines) }
     {
-        self.is_over
+        matches!(self.stage, Stage::Over(_))
     }
 
     /// Runs a line, and puts what it prints at the end of the text.
@@ -78,7 +54,7 @@ impl Machine {
         ensures { (starts : List Account) (lines : List TextLine) → LinesStand starts lines self.old (map account outlets.old.items)
             → LineMeets starts lines (plain line.now) self.new text.old text.new (map account outlets.old.items) (map account outlets.new.items) result }
     {
-        let version = self.version.unwrap_or(Version::One).number();
+        let version = self.stage.version().number();
         match read_line_in(self.alloc, version, line) {
             Ok(Some(step)) => self.step(step, outlets, text),
             Ok(None) => Ok(()),
@@ -87,18 +63,4 @@ impl Machine {
             Err(LineFault::Memory) => Err(Stop::Memory),
         }
     }
-}
-
-/// Eight places for sinks, all empty.
-fn no_sinks(alloc: Global) -> Result<Vec<Option<Sink>>, Memory>
-    ensures { IfOk result (λ sinks. sinks.items ≡ replicate 8 None) }
-{
-    let mut sinks = Vec::new(alloc);
-    'sinks: for _ in 0..SINKS {
-        match sinks.push(None) {
-            Ok(()) => continue 'sinks,
-            Err(_) => return Err(Memory),
-        }
-    }
-    Ok(sinks)
 }

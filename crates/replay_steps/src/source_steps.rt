@@ -1,94 +1,65 @@
-//! The steps that make the source and feed it.
-ghost use Rattle.std.specs.Prelude.{◌≡◌, ◌≤◌, ◌<◌, ◌^◌, ℕ, List, false};
+//! The steps of the sources alone.
+ghost use Rattle.std.specs.Prelude.{◌≡◌, ◌≤◌, ◌<◌, ◌^◌, ℕ, List};
 ghost use Rattle.big_info.specs.Widths.{FitsWidths};
 ghost use Rattle.scenario_text.specs.declared.step.Step.{Step};
-ghost use Rattle.scenario_text.specs.declared.step.Step.TheVariants.{Start as StartStep, Unit as UnitStep};
-ghost use Rattle.scenario_history.specs.Refusals.{is_first};
+ghost use Rattle.scenario_text.specs.declared.step.Step.TheVariants.{Ident as IdentStep, Start as StartStep, Unit as UnitStep, Source as SourceStep};
+ghost use Rattle.scenario_history.specs.Steps.{running, stage_of};
+ghost use Rattle.scenario_sources.specs.Described.{IsPlain, group_step};
 ghost use Rattle.replay_steps.specs.Machines.{Stands};
-ghost use Rattle.replay_steps.specs.Groups.{IsPlain, group_step};
 ghost use Rattle.replay_steps.specs.Meets.{Quiet};
-ghost use Rattle.replay_steps.specs.Stops.{GiveStops};
+ghost use Rattle.replay_steps.specs.Versions.{number_of};
 
-use crate::described::Described;
-use crate::machine::{Machine, Phase};
-use crate::stop::Stop;
+use crate::machine::Machine;
 use crate::version::Version;
 use bcast_base::Bis;
-use big_info::{BigInfo, check_group_within};
-use source_machine::{Broadcast, GiveFault};
-use transcript_text::Refusal;
+use big_info::BigInfo;
+use scenario_sources::Identity;
+use transcript_text::Stop;
 
 impl Machine {
-    /// `group`: describes the source, once. Origin and delay are in µs.
+    /// `group`: describes the chosen source. Origin and delay are in µs.
     pub(crate) fn group(&mut self, info: BigInfo, origin: u64, delay: u32) -> Result<(), Stop>
         requires widths { FitsWidths info }
         requires origin { origin ≤ 2 ^ 48 }
         requires delay { delay < 2 ^ 24 }
-        ensures { (boxes : ℕ) (steps : List Step) → IsPlain info → Stands steps self.old → is_first steps ≡ false
+        ensures { (boxes version : ℕ) (steps : List Step) → IsPlain info → Stands steps self.old → stage_of steps ≡ running version
             → Quiet boxes steps (group_step info origin delay) self.new result }
     {
-        if !matches!(self.phase, Phase::Absent) {
-            return Err(Stop::Refused(Refusal::Order));
-        }
-        if info.framing != 0 {
-            return Err(Stop::Refused(Refusal::NotBuilt));
-        }
-        self.phase = Phase::Described(Described {
-            info,
-            origin,
-            delay,
-        });
-        Ok(())
+        self.sources.describe(info, origin, delay)
     }
 
-    /// `start`: starts the source, once.
-    pub(crate) fn start(&mut self, first: u64) -> Result<(), Stop>
+    /// `ident`: names the chosen source.
+    pub(crate) fn ident(&mut self, identity: Identity) -> Result<(), Stop>
+        ensures { (boxes version : ℕ) (steps : List Step) → Stands steps self.old → stage_of steps ≡ running version
+            → Quiet boxes steps (IdentStep identity.address_type identity.address identity.sid identity.broadcast_id) self.new result }
+    {
+        self.sources.identify(identity)
+    }
+
+    /// `start`: starts the chosen source.
+    pub(crate) fn start(&mut self, version: Version, first: u64) -> Result<(), Stop>
         requires { first < 2 ^ 39 }
-        ensures { (boxes : ℕ) (steps : List Step) → Stands steps self.old → is_first steps ≡ false
+        ensures { (boxes : ℕ) (steps : List Step) → Stands steps self.old → stage_of steps ≡ running (number_of version)
             → Quiet boxes steps (StartStep first) self.new result }
     {
-        let limits = self.version.unwrap_or(Version::One).limits();
-        let Phase::Described(described) = &self.phase else {
-            return Err(Stop::Refused(Refusal::Order));
-        };
-        let group = match check_group_within(&described.info, limits) {
-            Ok(group) => group,
-            Err(fault) => return Err(Stop::Refused(Refusal::BadGroup { fault })),
-        };
-        match Broadcast::new(self.alloc, &group, described.origin, described.delay, first) {
-            Ok(source) => self.phase = Phase::Started(source),
-            Err(_) => return Err(Stop::Memory),
-        }
-        Ok(())
+        self.sources.start(version.limits(), first)
     }
 
-    /// `unit`: gives the source a unit of a stream.
+    /// `unit`: gives the chosen source a unit of a stream.
     pub(crate) fn unit(&mut self, bis: Bis, time: Option<u64>, octets: &[u8]) -> Result<(), Stop>
-        ensures { (boxes : ℕ) (steps : List Step) → Stands steps self.old → is_first steps ≡ false
+        ensures { (boxes version : ℕ) (steps : List Step) → Stands steps self.old → stage_of steps ≡ running version
             → Quiet boxes steps (UnitStep bis time octets.now) self.new result }
     {
-        if self.is_stopped {
-            return Err(Stop::Refused(Refusal::Order));
-        }
-        let Phase::Started(source) = &mut self.phase else {
-            return Err(Stop::Refused(Refusal::Order));
-        };
-        match source.give(bis, time, octets) {
-            Ok(()) => Ok(()),
-            Err(fault) => Err(give_stop(fault)),
-        }
+        self.sources.give(bis, time, octets)
     }
-}
 
-/// What the refusal of a unit means to a scenario.
-fn give_stop(fault: GiveFault) -> Stop
-    ensures { GiveStops fault result }
-{
-    match fault {
-        GiveFault::NoSuchBis => Stop::Refused(Refusal::NoSuchBis),
-        GiveFault::UnitTooLong => Stop::Refused(Refusal::UnitTooLong),
-        GiveFault::TimeOrder => Stop::Refused(Refusal::TimeOrder),
-        GiveFault::Backlog => Stop::Refused(Refusal::Backlog),
-        GiveFault::Memory => Stop::Memory,
+    /// `source`: chooses the source that later lines mean.
+    pub(crate) fn choose(&mut self, source: u8) -> Result<(), Stop>
+        requires { source ≤ 1 }
+        ensures { (boxes version : ℕ) (steps : List Step) → Stands steps self.old → stage_of steps ≡ running version
+            → Quiet boxes steps (SourceStep source) self.new result }
+    {
+        self.sources.choose(source);
+        Ok(())
     }
 }

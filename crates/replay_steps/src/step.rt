@@ -1,33 +1,33 @@
 //! The step of a line.
-ghost use Rattle.std.specs.Prelude.{◌≡◌, List, map, false};
+ghost use Rattle.std.specs.Prelude.{◌≡◌, ℕ, List, map};
 ghost use Rattle.unit_outlets.specs.Account.{Account};
 ghost use Rattle.scenario_text.specs.Ranges.{IsInRange};
 ghost use Rattle.scenario_text.specs.declared.step.Step.{Step as Said};
-ghost use Rattle.scenario_history.specs.Steps.{is_over};
-ghost use Rattle.scenario_history.specs.Refusals.{is_first};
+ghost use Rattle.scenario_history.specs.Steps.{running, stage_of, unbegun};
 ghost use Rattle.replay_steps.specs.Machines.{Stands};
-ghost use Rattle.replay_steps.specs.Meets.{BoxesStand, Meets, StepMeets};
+ghost use Rattle.replay_steps.specs.Meets.{BoxesStand, First, Meets, StepMeets};
+ghost use Rattle.replay_steps.specs.Versions.{number_of};
 
-use crate::air_steps::Place;
 use crate::machine::Machine;
-use crate::stop::Stop;
-use crate::version::Version;
+use crate::version::{Stage, Version};
 use bcast_base::Octets;
 use big_info::BigInfo;
+use scenario_sources::{Identity, Place};
 use scenario_text::Step;
-use transcript_text::Refusal;
+use transcript_text::{Refusal, Stop};
 use unit_outlets::Outlet;
 
 impl Machine {
     /// Makes a step that is not the first, and follows no `end`.
     fn later_step(
         &mut self,
+        version: Version,
         step: Step,
         outlets: &mut Vec<Box<dyn Outlet>>,
         text: &mut Octets,
     ) -> Result<(), Stop>
         requires { IsInRange step }
-        ensures { (starts : List Account) (steps : List Said) → Stands steps self.old → is_first steps ≡ false → is_over steps ≡ false
+        ensures { (starts : List Account) (steps : List Said) → Stands steps self.old → stage_of steps ≡ running (number_of version)
             → BoxesStand starts steps (map account outlets.old.items)
             → Meets starts steps step self.new text.old text.new (map account outlets.old.items) (map account outlets.new.items) result }
     {
@@ -75,7 +75,18 @@ impl Machine {
                 origin,
                 delay,
             ),
-            Step::Start { first } => self.start(first),
+            Step::Ident {
+                address_type,
+                address,
+                sid,
+                broadcast_id,
+            } => self.ident(Identity {
+                address_type,
+                address,
+                sid,
+                broadcast_id,
+            }),
+            Step::Start { first } => self.start(version, first),
             Step::Sink { sink, .. } => self.sink(sink, outlets.len()),
             Step::Tuned { sink, which } => self.tuned(sink, which),
             Step::Unit { bis, time, octets } => self.unit(bis, time, octets.as_slice()),
@@ -122,7 +133,8 @@ impl Machine {
             }
             Step::Drop { sink } => self.drop_sink(sink, outlets, text),
             Step::Stop => self.stop(outlets, text),
-            Step::End => self.end(outlets, text),
+            Step::End => self.end(version, outlets, text),
+            Step::Source { source } => self.choose(source),
         }
     }
 
@@ -137,16 +149,22 @@ impl Machine {
         ensures { (starts : List Account) (steps : List Said) → Stands steps self.old → BoxesStand starts steps (map account outlets.old.items)
             → StepMeets starts steps step self.new text.old text.new (map account outlets.old.items) (map account outlets.new.items) result }
     {
-        if self.is_over {
-            return Err(Stop::Refused(Refusal::AfterEnd));
+        match self.stage {
+            Stage::Over(_) => Err(Stop::Refused(Refusal::AfterEnd)),
+            Stage::Running(version) => self.later_step(version, step, outlets, text),
+            Stage::Unbegun => self.first_step(step),
         }
-        if self.version.is_some() {
-            return self.later_step(step, outlets, text);
-        }
+    }
+
+    /// Makes the first step.
+    fn first_step(&mut self, step: Step) -> Result<(), Stop>
+        requires { IsInRange step }
+        ensures { (boxes : ℕ) (steps : List Said) → Stands steps self.old → stage_of steps ≡ unbegun → First boxes steps step self.new result }
+    {
         let Step::Scenario { version } = step else {
             return Err(Stop::Refused(Refusal::Order));
         };
-        self.version = Some(Version::of(version));
+        self.stage = Stage::Running(Version::of(version));
         Ok(())
     }
 }

@@ -5,9 +5,17 @@ use big_info::Limits;
 
 /// The version of a scenario.
 #[derive(Clone, Copy, Debug, PartialEq, Eq)]
-pub enum Version {
+pub(crate) enum Version {
     One,
     Two,
+}
+
+/// Where a scenario stands: before its first step, under way in a version, or behind `end`.
+#[derive(Clone, Copy, Debug, PartialEq, Eq)]
+pub(crate) enum Stage {
+    Unbegun,
+    Running(Version),
+    Over(Version),
 }
 
 impl Version {
@@ -44,6 +52,22 @@ impl Version {
         match self {
             Version::One => Limits::VERSION_1,
             Version::Two => Limits::VERSION_2,
+        }
+    }
+}
+
+impl Stage {
+    ghost use Rattle.scenario_history.specs.Steps.{version_at};
+    ghost use Rattle.replay_steps.specs.Versions.{number_of, stage_in};
+
+    /// The version of a scenario here; 1 before its first step.
+    pub(crate) fn version(self) -> Version
+        ensures { number_of result ≡ version_at (stage_in self) }
+    {
+        match self {
+            Stage::Unbegun => Version::One,
+            Stage::Running(version) => version,
+            Stage::Over(version) => version,
         }
     }
 }

@@ -1,2 +1,17 @@
 pub mod Sums
 pub mod BoxLaws
+pub mod Legals
+pub mod Sources
+pub mod Wholes
+pub mod Below
+pub mod Stays
+pub mod Hears
+pub mod FromSources
+pub mod Closings
+pub mod Ticks
+pub mod UnitsLaw
+pub mod Closes
+pub mod Shown
+pub mod Numbers
+pub mod InOrder
+pub mod MetAirs

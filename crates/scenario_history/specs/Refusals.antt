@@ -1,7 +1,7 @@
 -- Why a step is refused after those before it: the first reason that holds, in the order of test. The refusals are the
 -- scenario language's own; those of a group, a unit and a place on the air are after Core 5.2, volume 6 parts B and G. Lists
 -- of steps have the newest first; where a list is called `own` its steps are those of one source.
-use Rattle.std.specs.Prelude.{ℕ, ◌==◌, ◌&&◌, ◌||◌, nat_lt, nat_le, not, is_some, unwrap_or, bytes_eq, Bool, true, false, List, [], Option, None, Some, if◌then◌else◌}
+use Rattle.std.specs.Prelude.{ℕ, ◌==◌, ◌&&◌, ◌||◌, nat_lt, nat_le, not, is_some, unwrap_or, bytes_eq, Bool, true, false, List, Option, None, Some, if◌then◌else◌}
 use Rattle.std.specs.List.{list_any}
 use Rattle.std.specs.Option.{option_or, option_map}
 use Rattle.big_info.specs.Rows.{first_fault}

@@ -4,14 +4,50 @@ ghost use Rattle.unit_outlets.specs.Account.{Account};
 ghost use Rattle.source_machine.specs.Airs.{airs_of};
 ghost use Rattle.scenario_history.specs.Airs.{MeetAirs};
 ghost use Rattle.scenario_history.specs.Boxes.{SinkUnit, accounts_after, Took};
+ghost use Rattle.scenario_history.specs.Laws.{OrderLaw, UnitsLaw};
 
-use source_machine::one_air;
+use delegator_machine::{each_stream_hands_its_units, one_event_is_open};
+use isoal_unframed::units_are_struck;
+use scenario_text::a_line_says_one_step;
+use source_machine::{air_is_by_division, one_air, what_was_sent_stays};
 
-/// Some airs meet the relation of their framing.
+/// Some airs meet the relation of their framing: those by division (Core 5.2, volume 6 part G, section 2.1).
+#[tactic(auto, using(crate::proofs::MetAirs::airs_by_division))]
 pub fn some_airs_meet()
     ensures { MeetAirs airs_of }
+{}
+
+/// The units law of a stay (Core 5.2, volume 6 part G, section 2.1): where no PDU was injected into a sink since it was put
+/// on its group, what it handed up since on a stream that it takes is one entry for each slot of each event closed in the
+/// stay, in order: the source's unit of the slot, valid, where the slot has one and all numbers that carry it are heard,
+/// else lost. It holds after each step, so at the end of each stay too.
+pub fn units_law()
+    ensures { (starts : List Account) → UnitsLaw starts }
 {
+    a_line_says_one_step();
     one_air();
+    air_is_by_division();
+    what_was_sent_stays();
+    units_are_struck();
+    one_event_is_open();
+    each_stream_hands_its_units();
+}
+
+/// The order of units over all stays of a sink with one and the same source since it was made (Core 5.2, volume 6 part G,
+/// sections 2.1 and 3.2): the events that it closed rise, so none is closed twice; what it handed up on a stream is one
+/// entry for each slot of each of these events that it took the stream in, in order, at the slot's time by the source's
+/// anchors; and where no PDU was injected into it, its valid units are, in order, units that the source accepted on the
+/// stream, each at most once.
+pub fn order_law()
+    ensures { (starts : List Account) → OrderLaw starts }
+{
+    a_line_says_one_step();
+    one_air();
+    air_is_by_division();
+    what_was_sent_stays();
+    units_are_struck();
+    one_event_is_open();
+    each_stream_hands_its_units();
 }
 
 /// Boxes that take units one after the other, each valid one going to the box of its sink, took all of them: the sums of

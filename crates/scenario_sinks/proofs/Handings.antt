@@ -15,6 +15,7 @@ use Rattle.scenario_sinks.specs.State.Gathering.{handed_of, units_for}
 use Rattle.scenario_sinks.specs.declared.gathered.HandedUnit.{HandedUnit}
 use Rattle.scenario_sinks.specs.declared.sink.Owner.{Owner}
 use Rattle.scenario_sinks.specs.Handing.{BoxTakes, Hands}
+use Rattle.scenario_sinks.proofs.Laws.{hands_stop, hands_then}
 
 pub set_past : {A : Type 0} (xs : List A) (i : ℕ) (x : A) → length xs ≤ i → slice_set xs i x ≡ xs
 set_past [] i x h = refl
@@ -37,63 +38,6 @@ box_wanted place octets old new result t e =
     let P : Result (Unit {0}) Refusal → Type 0 = λ r. TookAt place octets old new r in
     let took : TookAt place octets old new (Err NoMemory) = subst P e t in
     took.others ∙ set_same old place took.after (took.here ∙ ap Some (sym took.took.1))
-
-pub lines_append : (us vs : List SinkUnit) → unit_lines (us ++ vs) ≡ unit_lines us ++ unit_lines vs
-lines_append [] vs = refl
-lines_append (u ∷ us) vs = ap (λ rest. unit_line u ++ rest) (lines_append us vs) ∙ sym (append_assoc (unit_line u) (unit_lines us) (unit_lines vs))
-
-pub accounts_append : (us vs : List SinkUnit) (old : List Account) → accounts_after old (us ++ vs) ≡ accounts_after (accounts_after old us) vs
-accounts_append [] vs old = refl
-accounts_append (u ∷ us) vs old = accounts_append us vs (with_handed old u.box u.unit)
-
-pub hands_then : (us vs : List SinkUnit) (text told told2 : List ℕ) (old mid new : List Account) (r : Result (Unit {0}) Stop)
-    → told ≡ text ++ unit_lines us → mid ≡ accounts_after old us → Hands vs told told2 mid new r → Hands (us ++ vs) text told2 old new r
-hands_then us vs text told told2 old mid new (Ok x) t a h = (
-  h.0 ∙ ap (λ front. front ++ unit_lines vs) t ∙ append_assoc text (unit_lines us) (unit_lines vs) ∙ ap (λ rest. text ++ rest) (sym (lines_append us vs)),
-  h.1 ∙ ap (λ accounts. accounts_after accounts vs) a ∙ sym (accounts_append us vs old),
-)
-hands_then us vs text told told2 old mid new (Err (Refused reason)) t a h = h
-hands_then us vs text told told2 old mid new (Err OutletFault) t a h = record {
-  done = us ++ h.done;
-  unit = h.unit;
-  rest = h.rest;
-  split = ap (λ rest. us ++ rest) h.split ∙ sym (append_assoc us h.done (h.unit ∷ h.rest));
-  bis = h.bis;
-  time = h.time;
-  octets = h.octets;
-  is_valid = h.is_valid;
-  lines = h.lines ∙ ap (λ front. front ++ unit_lines h.done) t ∙ append_assoc text (unit_lines us) (unit_lines h.done) ∙ ap (λ rest. text ++ rest) (sym (lines_append us h.done));
-  box = let P : List Account → Type 0 = λ accounts. TookAt h.unit.box h.octets accounts new (Err Failed) in
-      subst P (ap (λ accounts. accounts_after accounts h.done) a ∙ sym (accounts_append us h.done old)) h.box;
-}
-hands_then us vs text told told2 old mid new (Err Memory) t a h = record {
-  done = us ++ h.done;
-  rest = h.rest;
-  split = ap (λ rest. us ++ rest) h.split ∙ sym (append_assoc us h.done h.rest);
-  boxes = h.boxes ∙ ap (λ accounts. accounts_after accounts h.done) a ∙ sym (accounts_append us h.done old);
-}
-
-pub hands_stop : (us vs : List SinkUnit) (text told : List ℕ) (old new : List Account) (stop : Stop)
-    → Hands us text told old new (Err stop) → Hands (us ++ vs) text told old new (Err stop)
-hands_stop us vs text told old new (Refused reason) h = h
-hands_stop us vs text told old new OutletFault h = record {
-  done = h.done;
-  unit = h.unit;
-  rest = h.rest ++ vs;
-  split = ap (λ all. all ++ vs) h.split ∙ append_assoc h.done (h.unit ∷ h.rest) vs;
-  bis = h.bis;
-  time = h.time;
-  octets = h.octets;
-  is_valid = h.is_valid;
-  lines = h.lines;
-  box = h.box;
-}
-hands_stop us vs text told old new Memory h = record {
-  done = h.done;
-  rest = h.rest ++ vs;
-  split = ap (λ all. all ++ vs) h.split ∙ append_assoc h.done h.rest vs;
-  boxes = h.boxes;
-}
 
 -- one unit
 pub hands_lost : (owner : Owner) (bis time : ℕ) (text told : List ℕ) (old : List Account)

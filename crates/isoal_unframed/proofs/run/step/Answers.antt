@@ -14,6 +14,5 @@ returns-in-Close-clause-handed g c past before stands is =
 
 pub returns-in-Close-clause-front : goal.returns-in-Close-clause-front
 returns-in-Close-clause-front g c past before stands is =
-    subst (λ call. OnErr c.close.result ((n : ℕ) × (g.T.UnitTaker.calls c.close.new.taker ≡ before ++ take n (handed c.args.receiver.now.stay (call_of call ∷ past))))) (sym c.in-Close.is)
-    (hands_front (units_of c.args.receiver.now.stay past (opened c.args.receiver.now.stay past)) (g.T.UnitTaker.calls c.args.taker.now) (g.T.UnitTaker.calls c.close.new.taker)
-    before (handed c.args.receiver.now.stay past) c.close.result (c.close.ensures.units past stands) is)
+    hands_front (units_of c.args.receiver.now.stay past (opened c.args.receiver.now.stay past)) (g.T.UnitTaker.calls c.args.taker.now) (g.T.UnitTaker.calls c.close.new.taker)
+    before (handed c.args.receiver.now.stay past) c.close.result (c.close.ensures.units past stands) is

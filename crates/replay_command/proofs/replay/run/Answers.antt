@@ -1,5 +1,6 @@
 use Rattle.std.proofs.Common.{◌+◌, ◌∙◌, map, refl, arith}
 use Rattle.replay_command.proofs.Endings.{ends_at_once}
+use Rattle.replay_command.proofs.ReadingOn.{none_within}
 use Rattle.replay_command.proofs.LineSteps.{running_none, bound_none, running_more, running_ends}
 use Rattle.replay_command.proofs.replay.run.Goals as goal
 
@@ -10,6 +11,16 @@ returns-in_default-clause-ended g c =
 pub returns-in_default-new-clause-ended : goal.returns-in_default-new-clause-ended
 returns-in_default-new-clause-ended g c =
     ends_at_once (map (λ b. (goal.Outlet-dyn g (b.vtable, b.value)).account b.value) c.args.outlets.now.items) (g.S.ByteSource.left c.args.source.now) (g.K.ByteSink.contents c.args.sink.now)
+
+pub returns-in_default-clause-within : goal.returns-in_default-clause-within
+returns-in_default-clause-within g c = none_within (g.S.ByteSource.left c.args.source.now)
+
+pub returns-in_default-new-clause-within : goal.returns-in_default-new-clause-within
+returns-in_default-new-clause-within g c = none_within (g.S.ByteSource.left c.args.source.now)
+
+pub returns-in-Some-clause-within : goal.returns-in-Some-clause-within
+returns-in-Some-clause-within g c =
+    c.run_line.ensures.within (g.S.ByteSource.left c.args.source.now) c.lines.invariant.running.lines c.lines.invariant.running.read
 
 pub lines-init : goal.lines-init
 lines-init g c = record {

@@ -1,22 +1,20 @@
-use Rattle.std.proofs.Common.{◌≡◌, ℕ, ◌*◌, List, sym, ◌∙◌, ap, subst, arith}
-use Rattle.source_machine.specs.Airs.{airs_of}
-use Rattle.source_machine.specs.Calls.{Setup}
-use Rattle.delegator_machine.specs.Calls.{Call}
-use Rattle.delegator_machine.specs.Sinks.{StandsFor as SinkStands}
-use Rattle.scenario_history.specs.Sinks.{heard_on_air}
-use Rattle.replay_steps.proofs.Airing.{spot_more}
+use Rattle.std.proofs.Common.{◌≡◌, ℕ, ◌*◌, ◌∙◌, ap, subst, arith}
+use Rattle.big_info.specs.declared.info.BigInfo.{BigInfo}
+use Rattle.scenario_sinks.specs.State.Standing.{SinksStand}
+use Rattle.replay_steps.specs.Airing.{past_on_air}
+use Rattle.replay_steps.proofs.Airing.{air_begins}
 use Rattle.replay_steps.proofs.air_steps.hear_all.Goals as goal
 
+pub spots-init : goal.spots-init
+spots-init c steps on sources sinks = air_begins steps c.args.sink c.args.lose c.args.sinks.now sinks
+
 pub spots-preserved : goal.spots-preserved
-spots-preserved c steps calls last stands =
-    let P : List Call → Type 0 = λ heard. SinkStands heard c.hear_spot.new.delegator in
-    subst P (sym (spot_more steps c.args.lose c.spots.spot calls))
-    (c.hear_spot.ensures steps (heard_on_air airs_of steps c.args.lose c.spots.spot calls) last (c.spots.invariant steps calls last stands))
+spots-preserved c steps on sources sinks = c.hear_spot.ensures steps on sources (c.spots.invariant steps on sources sinks)
 
 pub returns : goal.returns
-returns c steps calls last stands =
-    let P : ℕ → Type 0 = λ n. SinkStands (heard_on_air airs_of steps c.args.lose n calls) c.spots.delegator in
-    let spots : Setup → ℕ = λ setup. setup.info.num_bis * setup.info.nse in
+returns c steps on sources sinks =
+    let P : ℕ → Type 0 = λ n. SinksStand (past_on_air steps c.args.sink c.args.lose n) c.spots.sinks in
+    let spots : BigInfo → ℕ = λ info. info.num_bis * info.nse in
     let all : c.spots.spot ≡ c.from.result * c.from-2.result = omega arith in
-    let count : c.from.result * c.from-2.result ≡ c.args.source.now.setup.info.num_bis * c.args.source.now.setup.info.nse = cc in
-    subst P (all ∙ count ∙ ap spots last.source_is.setup) (c.spots.invariant steps calls last stands)
+    let count : c.from.result * c.from-2.result ≡ c.args.group.now.info.num_bis * c.args.group.now.info.nse = cc in
+    subst P (all ∙ count ∙ ap spots on.info) (c.spots.invariant steps on sources sinks)

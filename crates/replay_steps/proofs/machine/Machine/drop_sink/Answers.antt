@@ -1,10 +1,9 @@
-use Rattle.std.proofs.Common.{refl, sym, ◌∙◌, arith, Some, ap, get_or}
-use Rattle.replay_steps.proofs.SinkSteps.{drop_meets}
+use Rattle.std.proofs.Common.{refl}
+use Rattle.replay_steps.specs.Machines.{past_of}
+use Rattle.replay_steps.proofs.Ending.{drop_meets}
 use Rattle.replay_steps.proofs.machine.Machine.drop_sink.Goals as goal
 
 pub returns : goal.returns
-returns g c starts steps stands later boxes =
-    drop_meets starts _ c.args.sink c.from-2.result steps c.args.self.now _ c.in-Some.entry c.args.text.now c.put_sum_at.new.text stands later c.from-2.ensures (omega arith)
-    (sym c.args.self.now.sinks.ok.0 ∙ c.args.self.now.eight)
-    (rw c.in-Some.is at c.index.ensures ∙ ap (λ i. get_or c.args.self.now.sinks.items i (Some c.in-Some.entry)) (c.from.ensures ∙ sym c.from-2.ensures)) boxes c.in-Ok.ensures refl refl
-    (record { version = refl; phase = refl; stopped = refl; over = refl; gathered = refl })
+returns g c starts version steps stands e boxes =
+    drop_meets starts _ version c.args.sink steps c.args.self.now _ c.args.text.now c.end.new.text c.end.result stands e boxes refl refl
+    (c.end.ensures.answer (past_of steps) stands.sinks) (c.end.ensures.text (past_of steps) stands.sinks)

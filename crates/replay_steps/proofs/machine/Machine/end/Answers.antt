@@ -1,11 +1,46 @@
-use Rattle.std.proofs.Common.{refl, sym, ◌∙◌, ap, length}
-use Rattle.replay_steps.specs.Machines.{boxes_in, calls_in}
-use Rattle.std.proofs.lemmas.List.{with_items_is}
-use Rattle.replay_steps.proofs.CloseSteps.{lent_entries, end_meets}
+use Rattle.std.proofs.Common.{refl}
+use Rattle.replay_steps.specs.declared.version.Stage.TheVariants.{Over}
+use Rattle.scenario_sinks.specs.Pasts.{with_close}
+use Rattle.replay_steps.specs.Machines.{past_of}
+use Rattle.replay_steps.specs.Versions.{number_of}
+use Rattle.replay_steps.proofs.Closing.{not_over}
+use Rattle.replay_steps.proofs.Ending.{end_meets, first_stops, second_stops, sums_stop}
 use Rattle.replay_steps.proofs.machine.Machine.end.Goals as goal
 
-pub returns : goal.returns
-returns g c starts steps stands later not_over boxes =
-    end_meets starts steps c.open_event-closed.result c.args.self.now _ c.end_sinks.new.sinks c.args.text.now c.end_sinks.new.text _ _ c.end_sinks.result
-    stands later (c.open_event-closed.ensures.event steps stands not_over) boxes (with_items_is c.args.self.now.sinks c.end_sinks.new.sinks (c.end_sinks.auto.sinks ∙ ap length c.as_mut_slice.ensures.value ∙ sym c.args.self.now.sinks.ok.0)) refl refl refl refl refl
-    (c.end_sinks.ensures (boxes_in steps) (calls_in steps) (lent_entries steps c.args.self.now.sinks.items c.as_mut_slice.result.now c.as_mut_slice.ensures.value stands.sinks) stands.gathered)
+pub returns-in-Err : goal.returns-in-Err
+returns-in-Err g c starts steps stands e boxes =
+    let version = number_of c.args.version in
+    let first = c.open-first.ensures.event steps stands.sources (not_over 0 version steps e) in
+    let second = c.open-second.ensures.event steps stands.sources (not_over 1 version steps e) in
+    first_stops starts version steps c.open-first.result c.open-second.result c.close.new.self (record c.args.self.now { stage = Over c.args.version; sinks = c.close.new.self })
+    c.args.text.now c.close.new.text _ _ c.in-Err.stop e first second (c.in-Err.ensures (past_of steps) stands.sinks)
+
+pub returns-in-Err-close : goal.returns-in-Err-close
+returns-in-Err-close g c starts steps stands e boxes =
+    let version = number_of c.args.version in
+    let first = c.open-first.ensures.event steps stands.sources (not_over 0 version steps e) in
+    let second = c.open-second.ensures.event steps stands.sources (not_over 1 version steps e) in
+    let one = c.in-Ok.ensures (past_of steps) stands.sinks in
+    second_stops starts version steps c.open-first.result c.open-second.result c.close.new.self c.close-2.new.self
+    (record c.args.self.now { stage = Over c.args.version; sinks = c.close-2.new.self })
+    c.args.text.now c.close.new.text c.close-2.new.text _ _ _ c.in-Err-close.stop e first second one (c.in-Err-close.ensures (with_close 0 c.open-first.result (past_of steps)) one.stands)
+
+pub returns-in-Ok-sums : goal.returns-in-Ok-sums
+returns-in-Ok-sums g c starts steps stands e boxes =
+    let version = number_of c.args.version in
+    let first = c.open-first.ensures.event steps stands.sources (not_over 0 version steps e) in
+    let second = c.open-second.ensures.event steps stands.sources (not_over 1 version steps e) in
+    let one = c.in-Ok.ensures (past_of steps) stands.sinks in
+    let two = c.in-Ok-close.ensures (with_close 0 c.open-first.result (past_of steps)) one.stands in
+    end_meets starts version steps c.open-first.result c.open-second.result c.close.new.self c.args.self.now _ c.args.text.now c.close.new.text c.close-2.new.text c.sums.new.text _ _ _
+    stands e boxes first second refl refl one two (c.in-Ok-sums.ensures (with_close 1 c.open-second.result (with_close 0 c.open-first.result (past_of steps))) two.stands)
+
+pub returns-in-Err-sums : goal.returns-in-Err-sums
+returns-in-Err-sums g c starts steps stands e boxes =
+    let version = number_of c.args.version in
+    let first = c.open-first.ensures.event steps stands.sources (not_over 0 version steps e) in
+    let second = c.open-second.ensures.event steps stands.sources (not_over 1 version steps e) in
+    let one = c.in-Ok.ensures (past_of steps) stands.sinks in
+    let two = c.in-Ok-close.ensures (with_close 0 c.open-first.result (past_of steps)) one.stands in
+    sums_stop starts version steps c.open-first.result c.open-second.result c.close.new.self c.close-2.new.self
+    (record c.args.self.now { stage = Over c.args.version; sinks = c.close-2.new.self }) c.args.text.now c.close.new.text c.close-2.new.text c.sums.new.text _ _ _ e first second one two

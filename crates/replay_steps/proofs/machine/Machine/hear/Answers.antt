@@ -1,48 +1,23 @@
-use Rattle.std.proofs.Common.{◌≡◌, ◌<◌, Option, Some, length, sym, ◌∙◌, ap, subst, not, arith}
-use Rattle.source_machine.specs.Airs.{airs_of}
+use Rattle.std.proofs.Common.{refl}
 use Rattle.scenario_text.specs.declared.step.Step.TheVariants.{Hear as HearStep}
-use Rattle.scenario_history.specs.Sinks.{sink_calls}
-use Rattle.scenario_history.specs.Boxes.{box_of}
-use Rattle.scenario_history.specs.Refusals.{own_refusal}
-use Rattle.replay_steps.specs.declared.sink.Sink.{Sink}
-use Rattle.replay_steps.specs.Machines.{EntryIs}
-use Rattle.replay_steps.proofs.OneSink.{entry_at, one_sink}
-use Rattle.replay_steps.proofs.Airing.{in_phase, started_is, own_calls, hear_touches}
+use Rattle.replay_steps.specs.Machines.{past_of}
+use Rattle.replay_steps.proofs.Airing.{hear_brings, hear_meets, place_fails, reach_fails}
 use Rattle.replay_steps.proofs.machine.Machine.hear.Goals as goal
 
-pub returns-in-Ok : goal.returns-in-Ok
-returns-in-Ok c boxes steps stands later =
-    let started = started_is steps c.args.self.now.phase c.in-Started.source stands.phase c.in-Started.is in
-    let below : c.args.sink < 8 = omega arith in
-    let eight : length c.args.self.now.sinks.items ≡ 8 = sym c.args.self.now.sinks.ok.0 ∙ c.args.self.now.eight in
-    let Q : Option Sink → Type 0 = λ o. EntryIs (box_of c.args.sink steps) (sink_calls airs_of c.args.sink steps) (Some o) in
-    let entry = subst Q (sym c.index_mut.ensures.value)
-    (entry_at steps c.args.sink c.from.result c.args.self.now.sinks.items c.index_mut.result.now c.from.ensures below eight stands.sinks) in
-    let step = HearStep c.args.sink c.args.place.back c.args.place.bis c.args.place.subevent in
-    let meets = c.in-Ok.ensures steps (box_of c.args.sink steps) (sink_calls airs_of c.args.sink steps) started.1 entry in (
-      in_phase steps (own_refusal airs_of boxes steps step) later started.0 ∙ meets.0,
-      record {
-        first = stands.first ∙ ap not later;
-        version = stands.version;
-        phase = stands.phase;
-        stopped = stands.stopped;
-        over = stands.over;
-        boxes = stands.boxes;
-        sinks = one_sink c.args.sink c.from.result step steps c.args.self.now.sinks.items c.hear_place.new.entry c.from.ensures below eight
-            (hear_touches c.args.sink c.args.place.back c.args.place.bis c.args.place.subevent steps) stands.sinks
-            (own_calls c.args.sink (box_of c.args.sink steps) (sink_calls airs_of c.args.sink steps) _ c.hear_place.new.entry meets.1);
-        gathered = stands.gathered;
-      },
-    )
-
 pub returns-in-Err : goal.returns-in-Err
-returns-in-Err c boxes steps stands later =
-    let started = started_is steps c.args.self.now.phase c.in-Started.source stands.phase c.in-Started.is in
-    let below : c.args.sink < 8 = omega arith in
-    let eight : length c.args.self.now.sinks.items ≡ 8 = sym c.args.self.now.sinks.ok.0 ∙ c.args.self.now.eight in
-    let Q : Option Sink → Type 0 = λ o. EntryIs (box_of c.args.sink steps) (sink_calls airs_of c.args.sink steps) (Some o) in
-    let entry = subst Q (sym c.index_mut.ensures.value)
-    (entry_at steps c.args.sink c.from.result c.args.self.now.sinks.items c.index_mut.result.now c.from.ensures below eight stands.sinks) in
-    let step = HearStep c.args.sink c.args.place.back c.args.place.bis c.args.place.subevent in
-    in_phase steps (own_refusal airs_of boxes steps step) later started.0
-    ∙ c.in-Err.ensures steps (box_of c.args.sink steps) (sink_calls airs_of c.args.sink steps) started.1 entry
+returns-in-Err c boxes version steps stands e =
+    reach_fails boxes version c.args.sink steps (HearStep c.args.sink c.args.place.back c.args.place.bis c.args.place.subevent) c.args.self.now c.in-Err.stop
+    (hear_brings c.args.sink c.args.place.back c.args.place.bis c.args.place.subevent) e (c.in-Err.ensures steps stands)
+
+pub returns-in-Ok-heard_at : goal.returns-in-Ok-heard_at
+returns-in-Ok-heard_at c boxes version steps stands e =
+    let reach = c.in-Ok.ensures steps stands in
+    hear_meets boxes version c.args.sink c.chosen-source.result c.event_back-event.result c.args.place.back c.args.place.bis c.args.place.subevent c.in-Ok-heard_at.pdu.now steps c.args.self.now _ c.hear.result
+    c.in-Ok.field-0 stands e reach (c.in-Ok-heard_at.ensures.ok steps stands.sources) (c.chosen-source.ensures.source steps stands.sources)
+    (c.event_back-event.ensures.event steps stands.sources reach.0) refl refl (c.hear.ensures (past_of steps) stands.sinks)
+
+pub returns-in-Err-heard_at : goal.returns-in-Err-heard_at
+returns-in-Err-heard_at c boxes version steps stands e =
+    let reach = c.in-Ok.ensures steps stands in
+    place_fails boxes version c.args.sink c.args.place.back c.args.place.bis c.args.place.subevent steps (HearStep c.args.sink c.args.place.back c.args.place.bis c.args.place.subevent) c.args.self.now c.in-Ok.field-0 c.in-Err-heard_at.stop
+    (hear_brings c.args.sink c.args.place.back c.args.place.bis c.args.place.subevent) refl e reach (c.in-Err-heard_at.ensures.err steps stands.sources reach.0)

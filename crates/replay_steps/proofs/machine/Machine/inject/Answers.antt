@@ -1,53 +1,31 @@
-use Rattle.std.proofs.Common.{◌≡◌, ◌<◌, ◌++◌, Option, Some, length, refl, sym, ◌∙◌, ap, subst, not, arith}
-use Rattle.source_machine.specs.Airs.{airs_of}
-use Rattle.transcript_text.specs.Lines.{heard_line}
+use Rattle.std.proofs.Common.{refl, length}
 use Rattle.scenario_text.specs.declared.step.Step.TheVariants.{Inject as InjectStep}
-use Rattle.scenario_history.specs.Sinks.{sink_calls}
-use Rattle.scenario_history.specs.Boxes.{box_of}
-use Rattle.scenario_history.specs.Refusals.{own_refusal}
-use Rattle.replay_steps.specs.declared.sink.Sink.{Sink}
-use Rattle.replay_steps.specs.Machines.{EntryIs}
-use Rattle.replay_steps.proofs.OneSink.{entry_at, one_sink}
-use Rattle.replay_steps.proofs.Airing.{in_phase, started_is, own_calls, inject_touches}
+use Rattle.replay_steps.specs.Machines.{past_of}
+use Rattle.replay_steps.proofs.Airing.{inject_brings, inject_fails, inject_meets, place_fails, quiet_tells, reach_fails}
 use Rattle.replay_steps.proofs.machine.Machine.inject.Goals as goal
 
-pub returns-in-Ok-put_heard : goal.returns-in-Ok-put_heard
-returns-in-Ok-put_heard c starts steps stands later =
-    let started = started_is steps c.args.self.now.phase c.in-Started.source stands.phase c.in-Started.is in
-    let below : c.args.sink < 8 = omega arith in
-    let eight : length c.args.self.now.sinks.items ≡ 8 = sym c.args.self.now.sinks.ok.0 ∙ c.args.self.now.eight in
-    let Q : Option Sink → Type 0 = λ o. EntryIs (box_of c.args.sink steps) (sink_calls airs_of c.args.sink steps) (Some o) in
-    let entry = subst Q (sym c.index_mut.ensures.value)
-    (entry_at steps c.args.sink c.from.result c.args.self.now.sinks.items c.index_mut.result.now c.from.ensures below eight stands.sinks) in
-    let step = InjectStep c.args.sink c.args.place.back c.args.place.bis c.args.place.subevent c.args.octets.now in
-    let meets = c.in-Ok.ensures.meets steps (box_of c.args.sink steps) (sink_calls airs_of c.args.sink steps) started.1 entry in
-    let hearing = c.in-Ok.ensures.hearing steps (box_of c.args.sink steps) (sink_calls airs_of c.args.sink steps) started.1 entry in (
-      in_phase steps (own_refusal airs_of (length starts) steps step) later started.0 ∙ meets.0,
-      record {
-        first = stands.first ∙ ap not later;
-        version = stands.version;
-        phase = stands.phase;
-        stopped = stands.stopped;
-        over = stands.over;
-        boxes = stands.boxes;
-        sinks = one_sink c.args.sink c.from.result step steps c.args.self.now.sinks.items c.hear_octets.new.entry c.from.ensures below eight
-            (inject_touches c.args.sink c.args.place.back c.args.place.bis c.args.place.subevent c.args.octets.now steps) stands.sinks
-            (own_calls c.args.sink (box_of c.args.sink steps) (sink_calls airs_of c.args.sink steps) _ c.hear_octets.new.entry meets.1);
-        gathered = stands.gathered;
-      },
-      c.in-Ok-put_heard.ensures.ok ∙ ap (λ h. c.args.text.now ++ heard_line c.args.sink h) hearing,
-    )
-
 pub returns-in-Err : goal.returns-in-Err
-returns-in-Err c starts steps stands later =
-    let started = started_is steps c.args.self.now.phase c.in-Started.source stands.phase c.in-Started.is in
-    let below : c.args.sink < 8 = omega arith in
-    let eight : length c.args.self.now.sinks.items ≡ 8 = sym c.args.self.now.sinks.ok.0 ∙ c.args.self.now.eight in
-    let Q : Option Sink → Type 0 = λ o. EntryIs (box_of c.args.sink steps) (sink_calls airs_of c.args.sink steps) (Some o) in
-    let entry = subst Q (sym c.index_mut.ensures.value)
-    (entry_at steps c.args.sink c.from.result c.args.self.now.sinks.items c.index_mut.result.now c.from.ensures below eight stands.sinks) in
-    let step = InjectStep c.args.sink c.args.place.back c.args.place.bis c.args.place.subevent c.args.octets.now in (
-      in_phase steps (own_refusal airs_of (length starts) steps step) later started.0
-          ∙ c.in-Err.ensures.meets steps (box_of c.args.sink steps) (sink_calls airs_of c.args.sink steps) started.1 entry,
-      refl,
-    )
+returns-in-Err c starts version steps stands e =
+    let made = InjectStep c.args.sink c.args.place.back c.args.place.bis c.args.place.subevent c.args.octets.now in
+    quiet_tells starts steps made c.args.self.now c.args.text.now c.in-Err.stop (reach_fails (length starts) version c.args.sink steps made c.args.self.now c.in-Err.stop
+    (inject_brings c.args.sink c.args.place.back c.args.place.bis c.args.place.subevent c.args.octets.now) e (c.in-Err.ensures steps stands))
+
+pub returns-in-Err-heard_at : goal.returns-in-Err-heard_at
+returns-in-Err-heard_at c starts version steps stands e =
+    let made = InjectStep c.args.sink c.args.place.back c.args.place.bis c.args.place.subevent c.args.octets.now in
+    let reach = c.in-Ok.ensures steps stands in
+    quiet_tells starts steps made c.args.self.now c.args.text.now c.in-Err-heard_at.stop
+    (place_fails (length starts) version c.args.sink c.args.place.back c.args.place.bis c.args.place.subevent steps made c.args.self.now c.in-Ok.field-0 c.in-Err-heard_at.stop
+    (inject_brings c.args.sink c.args.place.back c.args.place.bis c.args.place.subevent c.args.octets.now) refl e reach (c.in-Err-heard_at.ensures.err steps stands.sources reach.0))
+
+pub returns-in_default : goal.returns-in_default
+returns-in_default c starts version steps stands e =
+    absurd (inject_fails starts version c.args.sink c.chosen-source.result c.event_back-event.result c.args.place.bis c.args.place.subevent c.args.octets.now steps c.hear.new.self c.in-Ok.field-0 (c.in-Ok.ensures steps stands)
+    (c.in_default.ensures (past_of steps) stands.sinks))
+
+pub returns-in-Ok-put_heard : goal.returns-in-Ok-put_heard
+returns-in-Ok-put_heard c starts version steps stands e =
+    let reach = c.in-Ok.ensures steps stands in
+    inject_meets starts version c.args.sink c.chosen-source.result c.event_back-event.result c.args.place.back c.args.place.bis c.args.place.subevent c.args.octets.now steps c.args.self.now _ c.in-Some.hearing c.in-Ok.field-0
+    c.args.text.now c.put_heard.new.text stands e reach (c.in-Ok-heard_at.ensures.ok steps stands.sources).0 (c.chosen-source.ensures.source steps stands.sources)
+    (c.event_back-event.ensures.event steps stands.sources reach.0) refl refl (c.in-Some.ensures (past_of steps) stands.sinks) c.in-Ok-put_heard.ensures.ok

@@ -1,48 +1,57 @@
 use Rattle.std.proofs.Common.{refl, sym, ◌∙◌, ap, length}
 use Rattle.scenario_text.specs.declared.step.Step.TheVariants.{Unit as UnitStep, Inject as InjectStep}
+use Rattle.replay_steps.specs.Versions.{number_of}
 use Rattle.replay_steps.proofs.StepLaws.{boxes_counted, quiet_as, tells_as, meets_as}
 use Rattle.replay_steps.proofs.machine.Machine.later_step.Goals as goal
 
 pub returns-in-Group : goal.returns-in-Group
-returns-in-Group g c starts steps stands later not_over boxes =
-    quiet_as starts (length starts) steps c.args.step _ c.group.new.self c.args.text.now _ c.group.result c.in-Group.is refl refl refl (c.group.ensures (length starts) steps refl stands later)
+returns-in-Group g c starts steps stands e boxes =
+    quiet_as starts (length starts) steps c.args.step _ c.group.new.self c.args.text.now _ c.group.result c.in-Group.is refl refl refl (c.group.ensures (length starts) (number_of c.args.version) steps refl stands e)
 
 pub returns-in-Start : goal.returns-in-Start
-returns-in-Start g c starts steps stands later not_over boxes =
-    quiet_as starts (length starts) steps c.args.step _ c.start.new.self c.args.text.now _ c.start.result c.in-Start.is refl refl refl (c.start.ensures (length starts) steps stands later)
+returns-in-Start g c starts steps stands e boxes =
+    quiet_as starts (length starts) steps c.args.step _ c.start.new.self c.args.text.now _ c.start.result c.in-Start.is refl refl refl (c.start.ensures (length starts) steps stands e)
 
 pub returns-in-Sink : goal.returns-in-Sink
-returns-in-Sink g c starts steps stands later not_over boxes =
-    quiet_as starts c.len.result steps c.args.step _ c.sink.new.self c.args.text.now _ c.sink.result c.in-Sink.is (boxes_counted _ c.args.outlets.now.items starts steps c.len.result (c.len.ensures ∙ c.args.outlets.now.ok.0) boxes) refl refl (c.sink.ensures steps c.in-Sink.streams c.in-Sink.slots c.in-Sink.mtu stands later)
+returns-in-Sink g c starts steps stands e boxes =
+    quiet_as starts c.len.result steps c.args.step _ c.sink.new.self c.args.text.now _ c.sink.result c.in-Sink.is (boxes_counted _ c.args.outlets.now.items starts steps c.len.result (c.len.ensures ∙ c.args.outlets.now.ok.0) boxes) refl refl (c.sink.ensures (number_of c.args.version) steps c.in-Sink.streams c.in-Sink.slots c.in-Sink.mtu stands e)
 
 pub returns-in-Tuned : goal.returns-in-Tuned
-returns-in-Tuned g c starts steps stands later not_over boxes =
-    quiet_as starts (length starts) steps c.args.step _ c.tuned.new.self c.args.text.now _ c.tuned.result c.in-Tuned.is refl refl refl (c.tuned.ensures (length starts) steps stands later)
+returns-in-Tuned g c starts steps stands e boxes =
+    quiet_as starts (length starts) steps c.args.step _ c.tuned.new.self c.args.text.now _ c.tuned.result c.in-Tuned.is refl refl refl (c.tuned.ensures (length starts) (number_of c.args.version) steps stands e)
 
 pub returns-in-Unit : goal.returns-in-Unit
-returns-in-Unit g c starts steps stands later not_over boxes =
-    quiet_as starts (length starts) steps c.args.step _ c.unit.new.self c.args.text.now _ c.unit.result (c.in-Unit.is ∙ ap (λ octets. UnitStep c.in-Unit.bis c.in-Unit.time octets) (sym c.as_slice.ensures)) refl refl refl (c.unit.ensures (length starts) steps stands later)
+returns-in-Unit g c starts steps stands e boxes =
+    quiet_as starts (length starts) steps c.args.step _ c.unit.new.self c.args.text.now _ c.unit.result (c.in-Unit.is ∙ ap (λ octets. UnitStep c.in-Unit.bis c.in-Unit.time octets) (sym c.as_slice.ensures)) refl refl refl (c.unit.ensures (length starts) (number_of c.args.version) steps stands e)
 
 pub returns-in-Hear : goal.returns-in-Hear
-returns-in-Hear g c starts steps stands later not_over boxes =
-    quiet_as starts (length starts) steps c.args.step _ c.hear.new.self c.args.text.now _ c.hear.result c.in-Hear.is refl refl refl (c.hear.ensures (length starts) steps stands later)
+returns-in-Hear g c starts steps stands e boxes =
+    quiet_as starts (length starts) steps c.args.step _ c.hear.new.self c.args.text.now _ c.hear.result c.in-Hear.is refl refl refl (c.hear.ensures (length starts) (number_of c.args.version) steps stands e)
 
 pub returns-in-Air : goal.returns-in-Air
-returns-in-Air g c starts steps stands later not_over boxes =
-    quiet_as starts (length starts) steps c.args.step _ c.air.new.self c.args.text.now _ c.air.result c.in-Air.is refl refl refl (c.air.ensures (length starts) steps stands later)
+returns-in-Air g c starts steps stands e boxes =
+    quiet_as starts (length starts) steps c.args.step _ c.air.new.self c.args.text.now _ c.air.result c.in-Air.is refl refl refl (c.air.ensures (length starts) (number_of c.args.version) steps stands e)
 
 pub returns-in-Event : goal.returns-in-Event
-returns-in-Event g c starts steps stands later not_over boxes =
-    meets_as starts steps c.args.step _ c.event.new.self c.args.text.now c.event.new.text _ _ c.event.result c.in-Event.is (c.event.ensures starts steps stands later not_over)
+returns-in-Event g c starts steps stands e boxes =
+    meets_as starts steps c.args.step _ c.event.new.self c.args.text.now c.event.new.text _ _ c.event.result c.in-Event.is (c.event.ensures starts (number_of c.args.version) steps stands e)
 
 pub returns-in-Stop : goal.returns-in-Stop
-returns-in-Stop g c starts steps stands later not_over boxes =
-    meets_as starts steps c.args.step _ c.stop.new.self c.args.text.now c.stop.new.text _ _ c.stop.result c.in-Stop.is (c.stop.ensures starts steps stands later not_over)
+returns-in-Stop g c starts steps stands e boxes =
+    meets_as starts steps c.args.step _ c.stop.new.self c.args.text.now c.stop.new.text _ _ c.stop.result c.in-Stop.is (c.stop.ensures starts (number_of c.args.version) steps stands e)
 
 pub returns-in-Inject : goal.returns-in-Inject
-returns-in-Inject g c starts steps stands later not_over boxes =
-    tells_as starts steps c.args.step _ c.inject.new.self c.args.text.now c.inject.new.text _ c.inject.result (c.in-Inject.is ∙ ap (λ octets. InjectStep c.in-Inject.sink c.in-Inject.back c.in-Inject.bis c.in-Inject.subevent octets) (sym c.as_slice-in-Inject.ensures)) refl (c.inject.ensures starts steps stands later)
+returns-in-Inject g c starts steps stands e boxes =
+    tells_as starts steps c.args.step _ c.inject.new.self c.args.text.now c.inject.new.text _ c.inject.result (c.in-Inject.is ∙ ap (λ octets. InjectStep c.in-Inject.sink c.in-Inject.back c.in-Inject.bis c.in-Inject.subevent octets) (sym c.as_slice-in-Inject.ensures)) refl (c.inject.ensures starts (number_of c.args.version) steps stands e)
 
 pub returns-in-Sniff : goal.returns-in-Sniff
-returns-in-Sniff g c starts steps stands later not_over boxes =
-    tells_as starts steps c.args.step _ c.args.self.now c.args.text.now c.sniff.new.text _ c.sniff.result c.in-Sniff.is refl (c.sniff.ensures starts steps stands later)
+returns-in-Sniff g c starts steps stands e boxes =
+    tells_as starts steps c.args.step _ c.args.self.now c.args.text.now c.sniff.new.text _ c.sniff.result c.in-Sniff.is refl (c.sniff.ensures starts (number_of c.args.version) steps stands e)
+
+pub returns-in-Ident : goal.returns-in-Ident
+returns-in-Ident g c starts steps stands e boxes =
+    quiet_as starts (length starts) steps c.args.step _ c.ident.new.self c.args.text.now _ c.ident.result c.in-Ident.is refl refl refl (c.ident.ensures (length starts) (number_of c.args.version) steps stands e)
+
+pub returns-in-Source : goal.returns-in-Source
+returns-in-Source g c starts steps stands e boxes =
+    quiet_as starts (length starts) steps c.args.step _ c.choose.new.self c.args.text.now _ c.choose.result c.in-Source.is refl refl refl (c.choose.ensures (length starts) (number_of c.args.version) steps stands e)

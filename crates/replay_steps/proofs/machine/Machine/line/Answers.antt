@@ -1,12 +1,11 @@
-use Rattle.std.proofs.Common.{ℕ, Option, Ok, unwrap_or, ◌∙◌, ap}
+use Rattle.std.proofs.Common.{Ok, ◌∙◌, ap}
 use Rattle.scenario_history.specs.Lines.{steps_of}
-use Rattle.replay_steps.specs.Versions.{number_of}
-use Rattle.replay_steps.proofs.Starts.{version_is}
+use Rattle.scenario_history.specs.Steps.{version_at}
 use Rattle.replay_steps.proofs.LineLaws.{line_meets}
 use Rattle.replay_steps.proofs.machine.Machine.line.Goals as goal
 
 pub returns-in-Ok-Some : goal.returns-in-Ok-Some
 returns-in-Ok-Some g c starts lines stand =
-    let version = c.number-version.ensures ∙ ap number_of c.unwrap_or.ensures ∙ version_is c.args.self.now.version ∙ ap (λ (o : Option ℕ). unwrap_or o 1) stand.stands.version in
+    let version = c.number-version.ensures ∙ c.version.ensures ∙ ap version_at stand.stands.stage in
     line_meets starts lines c.args.line.now c.number-version.result c.in-Ok-Some.step c.step.new.self c.args.text.now c.step.new.text _ _ c.step.result stand.boxes version
     (c.in-Ok-Some.ensures.reads ∙ ap (λ o. Ok o) c.in-Ok-Some.field-0-is) (c.step.ensures starts (steps_of lines) stand.stands stand.boxes)

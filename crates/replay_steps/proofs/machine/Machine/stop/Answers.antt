@@ -1,16 +1,18 @@
-use Rattle.std.proofs.Common.{refl, sym, ◌∙◌, ap, length}
-use Rattle.source_machine.specs.Calls.{Setup, last_of}
-use Rattle.scenario_history.specs.Source.{source_calls}
-use Rattle.replay_steps.specs.Machines.{boxes_in, calls_in}
-use Rattle.std.proofs.lemmas.List.{with_items_is}
-use Rattle.replay_steps.proofs.CloseSteps.{lent_entries, stop_meets}
+use Rattle.std.proofs.Common.{◌∷◌, refl}
+use Rattle.scenario_text.specs.declared.step.Step.TheVariants.{Event as EventStep, Stop as StopStep}
+use Rattle.replay_steps.specs.Machines.{past_of}
+use Rattle.replay_steps.proofs.Closing.{close_refused, closes_meet}
 use Rattle.replay_steps.proofs.machine.Machine.stop.Goals as goal
 
+pub returns-in-Err : goal.returns-in-Err
+returns-in-Err g c starts version steps stands e =
+    close_refused starts version steps StopStep (record c.args.self.now { sources = c.stop.new.self }) c.args.text.now _ c.in-Err.stop (record { stage = λ stage. refl; placed = λ v. refl; refusal = λ boxes steps. refl }) e
+    (c.in-Err.ensures.closes version steps stands.sources)
+
 pub returns : goal.returns
-returns g c starts steps stands later not_over =
-    let p = rw c.in-Started.is at stands.phase in
-    let calls = source_calls steps in
-    stop_meets starts steps c.last_event-closed.result c.args.self.now _ c.close_event.new.sinks c.args.text.now c.close_event.new.text _ _ c.close_event.result
-    stands later not_over (sym stands.stopped ∙ c.if-self.false) p.1 (c.last_event-closed.ensures.calls calls p.3 ∙ ap (λ (s : Setup). last_of s calls) p.2)
-    (with_items_is c.args.self.now.sinks c.close_event.new.sinks (c.close_event.auto.sinks ∙ ap length c.as_mut_slice.ensures.value ∙ sym c.args.self.now.sinks.ok.0)) refl refl refl refl refl
-    (c.close_event.ensures (boxes_in steps) (calls_in steps) (lent_entries steps c.args.self.now.sinks.items c.as_mut_slice.result.now c.as_mut_slice.ensures.value stands.sinks) stands.gathered)
+returns g c starts version steps stands e =
+    let performed = c.in-Ok.ensures.closes version steps stands.sources in
+    closes_meet starts version c.chosen.result steps StopStep c.in-Ok.closed c.args.self.now _ c.args.text.now c.close.new.text _ _ c.close.result
+    (record { stage = λ stage. refl; placed = λ v. refl; refusal = λ boxes steps. refl })
+    (record { past = λ steps. refl; handed = λ steps. refl; output = λ starts steps. refl })
+    stands e performed.0 performed.1 performed.2 (c.chosen.ensures.source (StopStep ∷ steps) performed.1) refl (c.close.ensures (past_of steps) stands.sinks)

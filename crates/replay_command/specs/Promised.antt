@@ -1,0 +1,52 @@
+-- What a call of `replay` promises of the outside before it and after it, by its words and its status. The program is
+-- this project's own.
+use Rattle.std.specs.Prelude.{ℕ, ◌≡◌, ◌≢◌, ◌↔◌, true, List, [], Some}
+use Rattle.bcast_io.specs.Faults.{Rose}
+use Rattle.bcast_io.specs.TextLines.{lines_of}
+use Rattle.source_machine.specs.Airs.{airs_of}
+use Rattle.transcript_text.specs.declared.refusal.Refusal.{Refusal}
+use Rattle.scenario_history.specs.Boxes.{Took}
+use Rattle.scenario_history.specs.Transcript.{units_of}
+use Rattle.replay_command.specs.declared.status.Status.{Status}
+use Rattle.replay_command.specs.declared.status.Status.TheVariants as statuses
+use Rattle.replay_command.specs.Ended.{AheadOf, Complete, Ended, IsWhole}
+use Rattle.replay_command.specs.Replayed.{ReadsAtMost, read_limit}
+use Rattle.scenario_history.specs.Laws.{UnitsLaw, OrderLaw}
+use Rattle.replay_command.specs.World.{World}
+
+-- between these worlds a call read, wrote and handed to the boxes what this status says
+abbrev pub Did : Status → World → World → Type 0
+Did status old new = Ended status old.boxes new.boxes old.left new.left old.taken new.taken
+
+pub record Promised {W : Type 0} (words : List W) (old new : World) (status : Status) : Type 0 where
+  -- Any word is Usage, and nothing else is.
+  pub usage : (status ≡ statuses.Usage) ↔ (words ≢ [])
+  -- Done: the text was read to its end, no line of it is refused, and its transcript was written.
+  pub done : status ≡ statuses.Done → Did statuses.Done old new
+  -- Refused: the transcript ends with this refusal of this line, whatever follows what was read, and was written.
+  pub refused : (line : ℕ) (reason : Refusal) → status ≡ statuses.Refused line reason → Did (statuses.Refused line reason) old new
+  -- ReadFault: the source counted a fault, and what the whole lines read bring was written; none of them is refused.
+  pub read_fault : status ≡ statuses.ReadFault → Rose old.reads new.reads × Did statuses.ReadFault old new
+  -- WriteFault: the sink counted a fault, and a front of what the lines read bring was written.
+  pub write_fault : status ≡ statuses.WriteFault → Rose old.writes new.writes × Did statuses.WriteFault old new
+  -- OutletFault: the box of a unit counted a fault, and what comes before the line of that unit was written.
+  pub outlet_fault : status ≡ statuses.OutletFault → Did statuses.OutletFault old new
+  -- Memory: a front of what the lines read bring was written.
+  pub memory : status ≡ statuses.Memory → Did statuses.Memory old new
+  -- The source's count stays with each status but ReadFault.
+  pub no_read_fault : status ≢ statuses.ReadFault → new.reads ≡ old.reads
+  -- The sink's count stays with each status but WriteFault.
+  pub no_write_fault : status ≢ statuses.WriteFault → new.writes ≡ old.writes
+  -- The boxes took the units of the whole text, where the transcript was written to its end or to its refusal.
+  pub boxes : (text : List ℕ) → old.left ≡ Some text → IsWhole status → Took old.boxes new.boxes (units_of airs_of old.boxes (lines_of true text))
+  -- What the outside does decides which statuses can come.
+  pub complete : (text : List ℕ) → old.left ≡ Some text → words ≡ []
+      → Complete text old.boxes new.boxes old.reads new.reads old.writes new.writes status
+  -- At most 65,536 octets were read past the line of the status.
+  pub reading_ahead : AheadOf status old.boxes new.boxes old.left new.left old.taken new.taken
+  -- No more is read than the longest text and the one read behind it that shows it too long.
+  pub reads_at_most : ReadsAtMost old.left new.left read_limit
+  -- In a stay without injected PDUs each closed slot hands what the source's PDUs that were heard make of it.
+  pub units_law : UnitsLaw old.boxes
+  -- A sink's units are in the order of the source, and each comes at most once.
+  pub order_law : OrderLaw old.boxes

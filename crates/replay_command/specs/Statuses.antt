@@ -1,0 +1,22 @@
+-- What the program makes of a status: its exit status, and what it says on standard error. Both are this project's own.
+use Rattle.std.specs.Prelude.{ℕ, List, Option, None, Some, codes}
+use Rattle.replay_command.specs.declared.status.Status.{Status}
+use Rattle.replay_command.specs.declared.status.Status.TheVariants.{Done, Refused, Usage, ReadFault, WriteFault, OutletFault, Memory}
+
+abbrev pub exit_number : Status → ℕ
+exit_number Done = 0
+exit_number (Refused line reason) = 1
+exit_number Usage = 2
+exit_number ReadFault = 3
+exit_number WriteFault = 4
+exit_number OutletFault = 5
+exit_number Memory = 6
+
+abbrev pub text_of : Status → Option (List ℕ)
+text_of Done = None
+text_of (Refused line reason) = None
+text_of Usage = Some (codes "usage: replay [--migrate | --toml | --seed N --events M]")
+text_of ReadFault = Some (codes "read fault")
+text_of WriteFault = Some (codes "write fault")
+text_of OutletFault = Some (codes "outlet fault")
+text_of Memory = Some (codes "no memory")

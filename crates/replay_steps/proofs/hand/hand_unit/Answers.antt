@@ -1,4 +1,0 @@
-use Rattle.replay_steps.proofs.hand.hand_unit.Goals as goal
-
-pub returns-in-None : goal.returns-in-None
-returns-in-None g c = rw c.in-None.is (c.hand_lost.ensures _)

@@ -1,6 +1,0 @@
-use Rattle.std.proofs.Common.{◌∙◌, ap, Err}
-use Rattle.replay_steps.proofs.Handings.{box_wanted}
-use Rattle.replay_steps.proofs.hand.put_in_box.Goals as goal
-
-pub returns-in-Err-Memory : goal.returns-in-Err-Memory
-returns-in-Err-Memory g c = box_wanted _ _ _ _ _ c.take_at.ensures (c.in-Err-Memory.is ∙ ap Err c.in-Err-Memory.field-0-is)

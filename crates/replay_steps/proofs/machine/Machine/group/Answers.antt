@@ -1,0 +1,11 @@
+use Rattle.std.proofs.Common.{refl}
+use Rattle.scenario_text.specs.declared.step.Step.TheVariants.{Ident as IdentStep, Start as StartStep, Unit as UnitStep}
+use Rattle.scenario_sources.specs.Described.{group_step}
+use Rattle.replay_steps.specs.Versions.{number_of}
+use Rattle.replay_steps.proofs.Stepping.{sources_meet}
+use Rattle.replay_steps.proofs.machine.Machine.group.Goals as goal
+
+pub returns : goal.returns
+returns c boxes version steps plain stands e =
+    sources_meet boxes version steps (group_step c.args.info c.args.origin c.args.delay) c.args.self.now _ c.describe.result (record { stage = λ stage. refl; placed = λ v. refl; refusal = λ boxes steps. refl }) refl stands e refl refl
+    (c.describe.ensures version steps plain stands.sources)

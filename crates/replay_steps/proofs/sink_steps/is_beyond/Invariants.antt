@@ -1,6 +1,0 @@
-use Rattle.std.proofs.Common.{◌≡◌, false}
-use Rattle.replay_steps.proofs.Beyonds.{some_beyond}
-use Rattle.replay_steps.proofs.sink_steps.is_beyond.Given as goal
-
-abbrev pub invariant-places : goal.invariant-places
-invariant-places l = some_beyond l.num_bis l.which l.place ≡ false

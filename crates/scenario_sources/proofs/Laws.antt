@@ -1,0 +1,79 @@
+-- What upper crates may cite: a step that says nothing of the sources leaves them.
+use Rattle.std.proofs.Common.{◌≡◌, ℕ, ◌<◌, Bool, true, false, List, ◌∷◌, if◌then◌else◌, refl, sym, ◌∙◌, ap, subst, slice_get, Option, None, Some}
+use Rattle.source_machine.specs.Calls.{Call, Setup}
+use Rattle.source_machine.specs.Sources.{StandsFor}
+use Rattle.scenario_text.specs.declared.step.Step.{Step}
+use Rattle.scenario_text.specs.declared.step.Step.TheVariants.{Scenario, Sink, Tuned, Hear, Air, Inject, Sniff, Drop, End}
+use Rattle.scenario_history.specs.Steps.{chosen_given, chosen_of, is_of_source, steps_of_source}
+use Rattle.scenario_history.specs.Source.{group_of, ident_of, phase_of, setup_of, source_calls}
+use Rattle.scenario_sources.specs.declared.phase.Phase.{Phase}
+use Rattle.scenario_sources.specs.declared.phase.Phase.TheVariants as phases
+use Rattle.scenario_sources.specs.declared.phase.Started.{Started}
+use Rattle.scenario_sources.specs.declared.sources.Sources.{Sources}
+use Rattle.scenario_sources.specs.State.Phases.{PhaseAt, PhaseIs, StartedIs}
+use Rattle.scenario_sources.specs.State.Standing.{PhasesAre, SourcesStand}
+
+-- the step says nothing of a source
+pub record SaysNothing (made : Step) : Type 0 where
+  pub chosen : chosen_given made ≡ None
+  pub phase : (own : List Step) → phase_of (made ∷ own) ≡ phase_of own
+  pub group : (own : List Step) → group_of (made ∷ own) ≡ group_of own
+  pub ident : (own : List Step) → ident_of (made ∷ own) ≡ ident_of own
+  pub setup : (own : List Step) → setup_of (made ∷ own) ≡ setup_of own
+  pub calls : (own : List Step) → source_calls (made ∷ own) ≡ source_calls own
+
+started_stays : (made : Step) (own : List Step) (started : Started) → SaysNothing made → StartedIs own started → StartedIs (made ∷ own) started
+started_stays made own started nothing is = record {
+  ident = is.ident ∙ sym (nothing.ident own);
+  setup = is.setup ∙ sym (nothing.setup own);
+  calls = let P : List Call → Type 0 = λ calls. StandsFor calls started.source in subst P (sym (nothing.calls own)) is.calls;
+}
+
+phase_stays : (made : Step) (own : List Step) (phase : Phase) → SaysNothing made → PhaseIs own phase → PhaseIs (made ∷ own) phase
+phase_stays made own phases.Absent nothing is =
+    (nothing.phase own ∙ is.0, record { ident = nothing.ident own ∙ is.1.ident; calls = nothing.calls own ∙ is.1.calls })
+phase_stays made own (phases.Described said) nothing is = (
+  nothing.phase own ∙ is.0,
+  record { group = nothing.group own ∙ is.1.group; ident = is.1.ident ∙ sym (nothing.ident own); calls = nothing.calls own ∙ is.1.calls },
+)
+phase_stays made own (phases.Sending started) nothing is = (nothing.phase own ∙ is.0, started_stays made own started nothing is.1)
+phase_stays made own (phases.Stopped started) nothing is = (nothing.phase own ∙ is.0, started_stays made own started nothing is.1)
+
+at_stays : (b : Bool) (made : Step) (own : List Step) (o : Option Phase) → SaysNothing made → PhaseAt own o → PhaseAt (if b then made ∷ own else own) o
+at_stays true made own None nothing is = is
+at_stays true made own (Some phase) nothing is = phase_stays made own phase nothing is
+at_stays false made own o nothing is = is
+
+-- the sources are left as they are
+pub sources_stay : (made : Step) (steps : List Step) (sources : Sources) → SaysNothing made → SourcesStand steps sources → SourcesStand (made ∷ steps) sources
+sources_stay made steps sources nothing stands = record {
+  chosen = stands.chosen ∙ sym (rw nothing.chosen refl);
+  phases = λ s below. at_stays (is_of_source s steps made) made (steps_of_source s steps) (slice_get sources.phases.items s) nothing (stands.phases s below);
+}
+
+pub scenario_says : (version : ℕ) → SaysNothing (Scenario version)
+scenario_says version = record { chosen = refl; phase = λ own. refl; group = λ own. refl; ident = λ own. refl; setup = λ own. refl; calls = λ own. refl }
+
+pub sink_says : (sink streams slots : ℕ) (mtu : Option ℕ) → SaysNothing (Sink sink streams slots mtu)
+sink_says sink streams slots mtu = record { chosen = refl; phase = λ own. refl; group = λ own. refl; ident = λ own. refl; setup = λ own. refl; calls = λ own. refl }
+
+pub drop_says : (sink : ℕ) → SaysNothing (Drop sink)
+drop_says sink = record { chosen = refl; phase = λ own. refl; group = λ own. refl; ident = λ own. refl; setup = λ own. refl; calls = λ own. refl }
+
+pub tuned_says : (sink which : ℕ) → SaysNothing (Tuned sink which)
+tuned_says sink which = record { chosen = refl; phase = λ own. refl; group = λ own. refl; ident = λ own. refl; setup = λ own. refl; calls = λ own. refl }
+
+pub hear_says : (sink back bis subevent : ℕ) → SaysNothing (Hear sink back bis subevent)
+hear_says sink back bis subevent = record { chosen = refl; phase = λ own. refl; group = λ own. refl; ident = λ own. refl; setup = λ own. refl; calls = λ own. refl }
+
+pub air_says : (sink lose : ℕ) → SaysNothing (Air sink lose)
+air_says sink lose = record { chosen = refl; phase = λ own. refl; group = λ own. refl; ident = λ own. refl; setup = λ own. refl; calls = λ own. refl }
+
+pub inject_says : (sink back bis subevent : ℕ) (octets : List ℕ) → SaysNothing (Inject sink back bis subevent octets)
+inject_says sink back bis subevent octets = record { chosen = refl; phase = λ own. refl; group = λ own. refl; ident = λ own. refl; setup = λ own. refl; calls = λ own. refl }
+
+pub sniff_says : (back bis subevent : ℕ) → SaysNothing (Sniff back bis subevent)
+sniff_says back bis subevent = record { chosen = refl; phase = λ own. refl; group = λ own. refl; ident = λ own. refl; setup = λ own. refl; calls = λ own. refl }
+
+pub end_says : SaysNothing End
+end_says = record { chosen = refl; phase = λ own. refl; group = λ own. refl; ident = λ own. refl; setup = λ own. refl; calls = λ own. refl }

@@ -1,0 +1,188 @@
+-- The sources after a step that means one of them.
+use Rattle.std.proofs.Common.{◌≡◌, ◌≢◌, ℕ, zero, suc, ◌<◌, ◌==◌, Bool, true, false, List, [], ◌∷◌, length, refl, sym, ◌∙◌, ap, subst, eq-eqb, ne_eqb, slice_get, slice_set, get_or, if◌then◌else◌, ◌&&◌, option_map, unwrap_or, arith, Option, None, Some, ◌⊎◌, inl, inr, Result, Ok, Err}
+use Rattle.std.proofs.lemmas.Option.{slice_get-get_or}
+use Rattle.std.specs.Option.{option_or}
+use Rattle.transcript_text.specs.declared.refusal.Refusal.{Refusal}
+use Rattle.transcript_text.specs.declared.refusal.Refusal.TheVariants.{IdentTwice}
+use Rattle.transcript_text.specs.declared.stop.Stop.{Stop}
+use Rattle.transcript_text.specs.declared.stop.Stop.TheVariants.{Refused, OutletFault, Memory}
+use Rattle.scenario_text.specs.declared.step.Step.{Step}
+use Rattle.scenario_text.specs.declared.step.Step.TheVariants.{Start}
+use Rattle.scenario_history.specs.Steps.{chosen_given, chosen_of, chosen_steps, is_of_source, other_of, steps_of_source}
+use Rattle.scenario_history.specs.Source as history
+use Rattle.scenario_history.specs.Source.{ident_of, identity_of, is_started, no_identity}
+use Rattle.scenario_history.specs.Refusals.{is_ident_twice, is_same_identity, refuse_if, twin_refusal}
+use Rattle.scenario_sources.specs.declared.identity.Identity.{Identity}
+use Rattle.scenario_sources.specs.declared.phase.Phase.{Phase}
+use Rattle.scenario_sources.specs.declared.sources.Sources.{Sources}
+use Rattle.scenario_sources.specs.Answers.{Answers, Closes}
+use Rattle.scenario_sources.specs.Described.{identity_in, identity_or_none}
+use Rattle.scenario_sources.specs.Faults.{fault_in, fault_of}
+use Rattle.scenario_sources.specs.State.Phases.{Becomes, Begins, IsReady, PhaseAt, PhaseIs}
+use Rattle.scenario_sources.specs.State.Phases as state
+use Rattle.scenario_sources.specs.State.Standing.{PhasesAre, SourcesStand}
+
+nat_same : (m n : ℕ) → (m ≡ n) ⊎ (m ≢ n)
+nat_same zero zero = inl refl
+nat_same zero (suc n) = inr (λ e. omega arith)
+nat_same (suc m) zero = inr (λ e. omega arith)
+nat_same (suc m) (suc n) = elim (nat_same m n) [ inl e ↦ inl (ap suc e) | inr other ↦ inr (λ e. other (omega arith)) ]
+
+get_set_here : {A : Type 0} (xs : List A) (i : ℕ) (x : A) → i < length xs → slice_get (slice_set xs i x) i ≡ Some x
+get_set_here [] i x h = absurd (omega arith)
+get_set_here (y ∷ xs) zero x h = refl
+get_set_here (y ∷ xs) (suc i) x h = get_set_here xs i x (omega arith)
+
+get_set_other : {A : Type 0} (xs : List A) (i j : ℕ) (x : A) → j ≢ i → slice_get (slice_set xs i x) j ≡ slice_get xs j
+get_set_other [] i j x h = refl
+get_set_other (y ∷ xs) zero zero x h = absurd (h refl)
+get_set_other (y ∷ xs) zero (suc j) x h = refl
+get_set_other (y ∷ xs) (suc i) zero x h = refl
+get_set_other (y ∷ xs) (suc i) (suc j) x h = get_set_other xs i j x (λ e. h (ap suc e))
+
+-- the phase of a source that was read
+pub phase_read : (steps : List Step) (s at : ℕ) (phases : List Phase) (phase : Phase) → at ≡ s → s < 2 → length phases ≡ 2
+    → phase ≡ get_or phases at phase → PhasesAre steps phases → PhaseIs (steps_of_source s steps) phase
+phase_read steps s at phases phase same below two is are =
+    let inside : at < length phases = omega arith in
+    let Q : Option Phase → Type 0 = λ o. PhaseAt (steps_of_source s steps) o in
+    let here : slice_get phases s ≡ slice_get phases at = ap (slice_get phases) (sym same) in
+    subst Q (here ∙ slice_get-get_or phases at phase inside ∙ ap Some (sym is)) (are s below)
+
+-- the phase of the chosen source
+pub chosen_read : (steps : List Step) (at : ℕ) (sources : Sources) (phase : Phase) → at ≡ sources.chosen → sources.chosen < 2 → length sources.phases.items ≡ 2
+    → phase ≡ get_or sources.phases.items at phase → SourcesStand steps sources → PhaseIs (chosen_steps steps) phase
+chosen_read steps at sources phase same below two is stands =
+    let P : ℕ → Type 0 = λ s. PhaseIs (steps_of_source s steps) phase in
+    subst P stands.chosen (phase_read steps sources.chosen at sources.phases.items phase same below two is stands.phases)
+
+-- the step means the chosen source
+pub record MeansChosen (made : Step) : Type 0 where
+  pub line : (s : ℕ) (steps : List Step) → is_of_source s steps made ≡ (chosen_of steps == s)
+  pub chooses : chosen_given made ≡ None
+
+own_grows : (made : Step) (steps : List Step) → MeansChosen made → steps_of_source (chosen_of steps) (made ∷ steps) ≡ made ∷ chosen_steps steps
+own_grows made steps means =
+    ap (λ (b : Bool). if b then made ∷ chosen_steps steps else chosen_steps steps) (means.line (chosen_of steps) steps ∙ eq-eqb (chosen_of steps) (chosen_of steps) refl)
+
+other_stays : (made : Step) (steps : List Step) (s : ℕ) → MeansChosen made → s ≢ chosen_of steps → steps_of_source s (made ∷ steps) ≡ steps_of_source s steps
+other_stays made steps s means other =
+    ap (λ (b : Bool). if b then made ∷ steps_of_source s steps else steps_of_source s steps) (means.line s steps ∙ ne_eqb (chosen_of steps) s (λ e. other (sym e)))
+
+chosen_stays : (made : Step) (steps : List Step) → chosen_given made ≡ None → chosen_of (made ∷ steps) ≡ chosen_of steps
+chosen_stays made steps none = rw none refl
+
+phase_after : (made : Step) (steps : List Step) (s : ℕ) (phases : List Phase) (phase : Phase) → MeansChosen made → chosen_of steps < length phases
+    → s < 2 → PhasesAre steps phases → PhaseIs (made ∷ chosen_steps steps) phase → (s ≡ chosen_of steps) ⊎ (s ≢ chosen_of steps)
+    → PhaseAt (steps_of_source s (made ∷ steps)) (slice_get (slice_set phases (chosen_of steps) phase) s)
+phase_after made steps s phases phase means inside below are here (inl e) =
+    let c : ℕ = chosen_of steps in
+    let P : ℕ → Type 0 = λ n. PhaseAt (steps_of_source n (made ∷ steps)) (slice_get (slice_set phases c phase) n) in
+    let O : List Step → Type 0 = λ own. PhaseAt own (slice_get (slice_set phases c phase) c) in
+    let Q : Option Phase → Type 0 = λ o. PhaseAt (made ∷ chosen_steps steps) o in
+    subst P (sym e) (subst O (sym (own_grows made steps means)) (subst Q (sym (get_set_here phases c phase inside)) here))
+phase_after made steps s phases phase means inside below are here (inr other) =
+    let O : List Step → Type 0 = λ own. PhaseAt own (slice_get (slice_set phases (chosen_of steps) phase) s) in
+    let Q : Option Phase → Type 0 = λ o. PhaseAt (steps_of_source s steps) o in
+    subst O (sym (other_stays made steps s means other)) (subst Q (sym (get_set_other phases (chosen_of steps) s phase other)) (are s below))
+
+-- the chosen source has a new phase
+pub lifted : (made : Step) (steps : List Step) (at : ℕ) (old new : Sources) (phase : Phase) → MeansChosen made → at ≡ old.chosen → old.chosen < 2
+    → length old.phases.items ≡ 2 → SourcesStand steps old → PhaseIs (made ∷ chosen_steps steps) phase
+    → new.chosen ≡ old.chosen → new.phases.items ≡ slice_set old.phases.items at phase → SourcesStand (made ∷ steps) new
+lifted made steps at old new phase means same within two stands here chosen set =
+    let inside : chosen_of steps < length old.phases.items = omega (arith, stands.chosen) in
+    let P : List Phase → Type 0 = λ phases. PhasesAre (made ∷ steps) phases in
+    record {
+      chosen = chosen ∙ stands.chosen ∙ sym (chosen_stays made steps means.chooses);
+      phases = subst P (sym (set ∙ ap (λ i. slice_set old.phases.items i phase) (same ∙ stands.chosen)))
+          (λ s below. phase_after made steps s old.phases.items phase means inside below stands.phases here (nat_same s (chosen_of steps)));
+    }
+
+-- the phase was read and put back
+again_at : (steps : List Step) (s : ℕ) (phases : List Phase) (phase : Phase) → chosen_of steps < length phases → s < 2 → PhasesAre steps phases
+    → PhaseIs (chosen_steps steps) phase → (s ≡ chosen_of steps) ⊎ (s ≢ chosen_of steps)
+    → PhaseAt (steps_of_source s steps) (slice_get (slice_set phases (chosen_of steps) phase) s)
+again_at steps s phases phase inside below are here (inl e) =
+    let c : ℕ = chosen_of steps in
+    let P : ℕ → Type 0 = λ n. PhaseAt (steps_of_source n steps) (slice_get (slice_set phases c phase) n) in
+    let Q : Option Phase → Type 0 = λ o. PhaseAt (chosen_steps steps) o in
+    subst P (sym e) (subst Q (sym (get_set_here phases c phase inside)) here)
+again_at steps s phases phase inside below are here (inr other) =
+    let Q : Option Phase → Type 0 = λ o. PhaseAt (steps_of_source s steps) o in
+    subst Q (sym (get_set_other phases (chosen_of steps) s phase other)) (are s below)
+
+again : (steps : List Step) (at : ℕ) (old new : Sources) (phase : Phase) → at ≡ old.chosen → old.chosen < 2
+    → length old.phases.items ≡ 2 → SourcesStand steps old → PhaseIs (chosen_steps steps) phase
+    → new.chosen ≡ old.chosen → new.phases.items ≡ slice_set old.phases.items at phase → SourcesStand steps new
+again steps at old new phase same within two stands here chosen set =
+    let inside : chosen_of steps < length old.phases.items = omega (arith, stands.chosen) in
+    let P : List Phase → Type 0 = λ phases. PhasesAre steps phases in
+    record {
+      chosen = chosen ∙ stands.chosen;
+      phases = subst P (sym (set ∙ ap (λ i. slice_set old.phases.items i phase) (same ∙ stands.chosen)))
+          (λ s below. again_at steps s old.phases.items phase inside below stands.phases here (nat_same s (chosen_of steps)));
+    }
+
+fault_same : (version : ℕ) (steps : List Step) (made : Step) → twin_refusal steps made ≡ None → (fault : Option Refusal) → fault_in version (chosen_steps steps) made ≡ fault
+    → fault_of version steps made ≡ fault
+fault_same version steps made twin None e = rw (e, twin) refl
+fault_same version steps made twin (Some reason) e = rw e refl
+
+-- what became of the chosen source became of all
+pub answers : (version : ℕ) (made : Step) (steps : List Step) (at : ℕ) (old new : Sources) (phase : Phase) (r : Result (Unit {0}) Stop) → MeansChosen made
+    → twin_refusal steps made ≡ None → at ≡ old.chosen → old.chosen < 2 → length old.phases.items ≡ 2 → SourcesStand steps old
+    → Becomes version (chosen_steps steps) made phase r → new.chosen ≡ old.chosen → new.phases.items ≡ slice_set old.phases.items at phase
+    → Answers version steps made new r
+answers version made steps at old new phase (Ok x) means twin same within two stands b chosen set =
+    (fault_same version steps made twin None b.0, lifted made steps at old new phase means same within two stands b.1 chosen set)
+answers version made steps at old new phase (Err (Refused reason)) means twin same within two stands b chosen set =
+    (fault_same version steps made twin (Some reason) b.0, again steps at old new phase same within two stands b.1 chosen set)
+answers version made steps at old new phase (Err OutletFault) means twin same within two stands b chosen set = b
+answers version made steps at old new phase (Err Memory) means twin same within two stands b chosen set = tt
+
+pub closes : (version : ℕ) (made : Step) (steps : List Step) (at : ℕ) (old new : Sources) (phase : Phase) (r : Result (Option ℕ) Stop) → MeansChosen made
+    → twin_refusal steps made ≡ None → at ≡ old.chosen → old.chosen < 2 → length old.phases.items ≡ 2 → SourcesStand steps old
+    → state.Closes version (chosen_steps steps) made phase r → new.chosen ≡ old.chosen → new.phases.items ≡ slice_set old.phases.items at phase
+    → Closes version steps made new r
+closes version made steps at old new phase (Ok x) means twin same within two stands b chosen set =
+    (fault_same version steps made twin None b.0, lifted made steps at old new phase means same within two stands b.1 chosen set, b.2)
+closes version made steps at old new phase (Err (Refused reason)) means twin same within two stands b chosen set =
+    (fault_same version steps made twin (Some reason) b.0, again steps at old new phase same within two stands b.1 chosen set)
+closes version made steps at old new phase (Err OutletFault) means twin same within two stands b chosen set = b
+closes version made steps at old new phase (Err Memory) means twin same within two stands b chosen set = tt
+
+-- ---- start
+
+-- the other source was started with the same identity
+pub twice_is : (steps : List Step) (own : Identity) (said : Option Identity) (other : List Step) (r : Bool) → identity_in own ≡ identity_or_none said
+    → option_map identity_in said ≡ ident_of (chosen_steps steps) → other ≡ steps_of_source (other_of (chosen_of steps)) steps
+    → r ≡ (is_started other && is_same_identity (identity_in own) (identity_of other)) → r ≡ is_ident_twice steps
+twice_is steps own said other r is ident same e =
+    e ∙ ap (λ o. is_started o && is_same_identity (identity_in own) (identity_of o)) same
+    ∙ ap (λ i. is_started (steps_of_source (other_of (chosen_of steps)) steps) && is_same_identity i (identity_of (steps_of_source (other_of (chosen_of steps)) steps)))
+    (is ∙ ap (λ (o : Option history.Identity). unwrap_or o no_identity) ident)
+
+-- all but the proofs of what is always true of them is the same
+pub stands_as : (steps : List Step) (old new : Sources) → SourcesStand steps old → new.chosen ≡ old.chosen → new.phases.items ≡ old.phases.items → SourcesStand steps new
+stands_as steps old new stands chosen items =
+    let P : List Phase → Type 0 = λ phases. PhasesAre steps phases in record { chosen = chosen ∙ stands.chosen; phases = subst P (sym items) stands.phases }
+
+pub start_refused : (version first : ℕ) (steps : List Step) (old new : Sources) (stop : Stop) → SourcesStand steps old → new.chosen ≡ old.chosen
+    → new.phases.items ≡ old.phases.items → IsReady version first (chosen_steps steps) (Err stop) → Answers version steps (Start first) new (Err stop)
+start_refused version first steps old new (Refused reason) stands chosen items e = (rw e refl, stands_as steps old new stands chosen items)
+start_refused version first steps old new OutletFault stands chosen items e = e
+start_refused version first steps old new Memory stands chosen items e = tt
+
+pub start_twice : (version first : ℕ) (steps : List Step) (twice : Bool) → fault_in version (chosen_steps steps) (Start first) ≡ None → twice ≡ is_ident_twice steps → twice ≡ true
+    → fault_of version steps (Start first) ≡ Some IdentTwice
+start_twice version first steps twice e is t = rw e (ap (λ (b : Bool). refuse_if b IdentTwice) (sym is ∙ t))
+
+pub start_wants : (version first : ℕ) (steps : List Step) (sources : Sources) (stop : Stop) → Begins first (chosen_steps steps) (Err stop) → Answers version steps (Start first) sources (Err stop)
+start_wants version first steps sources (Refused reason) b = absurd b
+start_wants version first steps sources OutletFault b = b
+start_wants version first steps sources Memory b = tt
+
+pub start_passes : (version first : ℕ) (steps : List Step) (twice : Bool) → fault_in version (chosen_steps steps) (Start first) ≡ None → twice ≡ is_ident_twice steps → twice ≡ false
+    → fault_of version steps (Start first) ≡ None
+start_passes version first steps twice e is t = rw e (ap (λ (b : Bool). refuse_if b IdentTwice) (sym is ∙ t))

@@ -1,0 +1,117 @@
+-- One source after a step that means it.
+use Rattle.std.proofs.Common.{◌≡◌, ℕ, ◌==◌, Bool, true, false, List, [], ◌∷◌, refl, sym, ◌∙◌, ap, subst, is_some, unwrap_or, option_map, eq-eqb, Option, None, Some, Result, Ok, Err}
+use Rattle.std.specs.Option.{option_or}
+use Rattle.big_info.specs.declared.fault.GroupFault.{GroupFault}
+use Rattle.big_info.specs.declared.info.BigInfo.{BigInfo}
+use Rattle.big_info.specs.Rows.{first_fault}
+use Rattle.source_machine.specs.Airs.{airs_of}
+use Rattle.source_machine.specs.Calls.{Call, Setup, give}
+use Rattle.source_machine.specs.declared.fault.GiveFault.{GiveFault}
+use Rattle.source_machine.specs.Faults.{give_fault, refused_unit}
+use Rattle.source_machine.specs.Sources.{Source, StandsFor}
+use Rattle.transcript_text.specs.declared.refusal.Refusal.{Refusal}
+use Rattle.transcript_text.specs.declared.refusal.Refusal.TheVariants.{BadGroup}
+use Rattle.transcript_text.specs.declared.stop.Stop.{Stop}
+use Rattle.transcript_text.specs.declared.stop.Stop.TheVariants.{Refused, OutletFault, Memory}
+use Rattle.scenario_text.specs.declared.step.Step.{Step}
+use Rattle.scenario_text.specs.declared.step.Step.TheVariants.{Ident, Start, Unit as UnitStep}
+use Rattle.scenario_history.specs.Source.{GroupLine, absent, described, sending, phase_of, ident_of, group_of, setup_of, setup_from, source_calls}
+use Rattle.scenario_history.specs.Refusals.{give_refusal, horizon_in}
+use Rattle.scenario_sources.specs.declared.identity.Identity.{Identity}
+use Rattle.scenario_sources.specs.declared.phase.Described.{Described}
+use Rattle.scenario_sources.specs.declared.phase.Phase.TheVariants as phases
+use Rattle.scenario_sources.specs.declared.phase.Started.{Started}
+use Rattle.scenario_sources.specs.Described.{IsPlain, group_step, identity_in}
+use Rattle.scenario_sources.specs.Faults.{fault_in}
+use Rattle.scenario_sources.specs.State.Phases.{AbsentIs, Becomes, DescribedIs, PhaseIs, StartedIs, line_of}
+use Rattle.scenario_sources.specs.State.Stops.{GivesTo, GiveStops}
+
+same_line : (i j : BigInfo) (o p d e : ℕ) → i ≡ j → o ≡ p → d ≡ e
+    → let one : GroupLine = record { info = i; origin = o; delay = d } in let other : GroupLine = record { info = j; origin = p; delay = e } in one ≡ other
+same_line i j o p d e a b c = rw (a, b, c) refl
+
+none_of : {A : Type 0} (o : Option A) → is_some o ≡ false → o ≡ None
+none_of None e = refl
+none_of (Some x) e = absurd (cc e)
+
+-- ---- group, ident
+
+pub describes : (version : ℕ) (own : List Step) (info : BigInfo) (origin delay : ℕ) (new : Described) → IsPlain info → info.framing ≡ 0
+    → (phase_of own ≡ absent) × AbsentIs own → new.info ≡ info → new.origin ≡ origin → new.delay ≡ delay → new.identity ≡ None
+    → Becomes version own (group_step info origin delay) (phases.Described new) (Ok tt)
+describes version own info origin delay new plain unframed is i o d n = (
+  rw (is.0, unframed) refl,
+  (
+    refl,
+    record {
+      group = ap Some (same_line _ new.info origin new.origin delay new.delay (sym plain ∙ sym i) (sym o) (sym d));
+      ident = ap (option_map identity_in) n ∙ sym is.1.ident;
+      calls = is.1.calls;
+    },
+  ),
+)
+
+pub identifies : (version : ℕ) (own : List Step) (identity : Identity) (said new : Described) → (phase_of own ≡ described) × DescribedIs own said
+    → is_some said.identity ≡ false → new.info ≡ said.info → new.origin ≡ said.origin → new.delay ≡ said.delay → new.identity ≡ Some identity
+    → Becomes version own (Ident identity.address_type identity.address identity.sid identity.broadcast_id) (phases.Described new) (Ok tt)
+identifies version own identity said new is none i o d n =
+    let unsaid : ident_of own ≡ None = sym is.1.ident ∙ ap (option_map identity_in) (none_of said.identity none) in (
+      rw (is.0, unsaid) refl,
+      (
+        is.0,
+        record {
+          group = is.1.group ∙ ap Some (same_line said.info new.info said.origin new.origin said.delay new.delay (sym i) (sym o) (sym d));
+          ident = ap (option_map identity_in) n;
+          calls = is.1.calls;
+        },
+      ),
+    )
+
+-- ---- start
+
+pub may_start : (version first horizon : ℕ) (own : List Step) (said : Described) (fault : Option GroupFault) → horizon ≡ horizon_in version
+    → (phase_of own ≡ described) × DescribedIs own said → first_fault horizon said.info ≡ fault → fault_in version own (Start first) ≡ option_map BadGroup fault
+may_start version first horizon own said fault h is e = rw (is.0, is.1.group, ← h, e) refl
+
+pub starts : (first : ℕ) (own : List Step) (said : Described) (source : Source) (info : BigInfo) → (phase_of own ≡ described) × DescribedIs own said → info ≡ said.info
+    → (let setup : Setup = record { info = info; origin = said.origin; delay = said.delay; first = first } in source.setup ≡ setup) → StandsFor [] source
+    → (let new : Started = record { identity = said.identity; source = source } in StartedIs (Start first ∷ own) new)
+starts first own said source info is same setup stands = record {
+  ident = is.1.ident;
+  setup = setup ∙ rw (same, is.1.group) refl;
+  calls = let P : List Call → Type 0 = λ calls. StandsFor calls source in subst P (sym is.1.calls) stands;
+}
+
+-- ---- unit
+
+pub gives_not : (old new : Source) (bis : ℕ) (time : Option ℕ) (octets : List ℕ) (fault : GiveFault) (stop : Stop) → new ≡ old
+    → ((calls : List Call) → StandsFor calls old → give_fault old.setup calls (airs_of old.setup calls) bis time octets ≡ refused_unit fault)
+    → GiveStops fault stop → GivesTo old bis time octets new (Err stop)
+gives_not old new bis time octets fault (Refused reason) same cause g =
+    (same, λ calls stands. ap (option_map give_refusal) (cause calls stands) ∙ g)
+gives_not old new bis time octets fault OutletFault same cause g = g
+gives_not old new bis time octets fault Memory same cause g = tt
+
+pub gives : (version : ℕ) (own : List Step) (old new : Started) (bis : ℕ) (time : Option ℕ) (octets : List ℕ) (r : Result (Unit {0}) Stop)
+    → (phase_of own ≡ sending) × StartedIs own old → new.identity ≡ old.identity → GivesTo old.source bis time octets new.source r
+    → Becomes version own (UnitStep bis time octets) (phases.Sending new) r
+gives version own old new bis time octets (Ok x) is identity g =
+    let given = g.1 (source_calls own) is.1.calls in (
+      rw is.0 (ap (λ (s : Setup). option_map give_refusal (give_fault s (source_calls own) (airs_of s (source_calls own)) bis time octets)) (sym is.1.setup)
+          ∙ ap (option_map give_refusal) given.0),
+      (is.0, record { ident = ap (option_map identity_in) identity ∙ is.1.ident; setup = g.0 ∙ is.1.setup; calls = given.1 }),
+    )
+gives version own old new bis time octets (Err (Refused reason)) is identity g = (
+  rw is.0 (ap (λ (s : Setup). option_map give_refusal (give_fault s (source_calls own) (airs_of s (source_calls own)) bis time octets)) (sym is.1.setup)
+      ∙ g.1 (source_calls own) is.1.calls),
+  (
+    is.0,
+    record {
+      ident = ap (option_map identity_in) identity ∙ is.1.ident;
+      setup = ap (λ (s : Source). s.setup) g.0 ∙ is.1.setup;
+      calls = let P : Source → Type 0 = λ s. StandsFor (source_calls own) s in subst P (sym g.0) is.1.calls;
+    },
+  ),
+)
+gives version own old new bis time octets (Err OutletFault) is identity g = g
+gives version own old new bis time octets (Err Memory) is identity g = tt

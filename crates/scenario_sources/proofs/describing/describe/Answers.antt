@@ -1,0 +1,8 @@
+use Rattle.std.proofs.Common.{refl, subst, List}
+use Rattle.scenario_sources.specs.State.Phases.{PhaseIs}
+use Rattle.scenario_sources.proofs.Phasing.{describes}
+use Rattle.scenario_sources.proofs.describing.describe.Goals as goal
+
+pub returns : goal.returns
+returns c version own plain is =
+    describes version own c.args.info c.args.origin c.args.delay _ plain c.if-info-ne0.false (rw c.in-Absent.is at is) refl refl refl refl

@@ -1,0 +1,4 @@
+pub mod Described
+pub mod Faults
+pub mod Answers
+pub mod State

@@ -1,0 +1,28 @@
+-- What the refusals of a source mean to a scenario, whose language is this project's own.
+use Rattle.std.specs.Prelude.{ℕ, ◌≡◌, ◌∷◌, List, Option, None, Some, Result, Ok, Err}
+use Rattle.std.specs.Option.{option_map}
+use Rattle.source_machine.specs.declared.fault.GiveFault.{GiveFault}
+use Rattle.source_machine.specs.Airs.{airs_of}
+use Rattle.source_machine.specs.Calls.{Call, give}
+use Rattle.source_machine.specs.Faults.{give_fault, refused_unit}
+use Rattle.source_machine.specs.Sources.{Source, StandsFor}
+use Rattle.transcript_text.specs.declared.stop.Stop.{Stop}
+use Rattle.transcript_text.specs.declared.stop.Stop.TheVariants.{Refused, OutletFault, Memory}
+use Rattle.scenario_history.specs.Refusals.{give_refusal}
+
+-- a refused unit is a refused step, and want of memory stays so
+abbrev pub GiveStops : GiveFault → Stop → Type 0
+GiveStops fault (Refused reason) = option_map give_refusal (refused_unit fault) ≡ Some reason
+GiveStops fault OutletFault = ⊥
+GiveStops fault Memory = Unit {0}
+
+-- what became of a source that was given a unit
+abbrev pub GivesTo : Source → ℕ → Option ℕ → List ℕ → Source → Result (Unit {0}) Stop → Type 0
+GivesTo old bis time octets new (Ok _) =
+    (new.setup ≡ old.setup) × ((calls : List Call) → StandsFor calls old
+    → (give_fault old.setup calls (airs_of old.setup calls) bis time octets ≡ None) × StandsFor (give bis time octets ∷ calls) new)
+GivesTo old bis time octets new (Err (Refused reason)) =
+    (new ≡ old) × ((calls : List Call) → StandsFor calls old
+    → option_map give_refusal (give_fault old.setup calls (airs_of old.setup calls) bis time octets) ≡ Some reason)
+GivesTo old bis time octets new (Err OutletFault) = ⊥
+GivesTo old bis time octets new (Err Memory) = Unit {0}

@@ -1,0 +1,109 @@
+//! What the lines before `start` say of a source, and its start.
+ghost use Rattle.std.specs.Prelude.{◌≡◌, ◌≤◌, ◌<◌, ◌^◌, ◌&&◌, ℕ, List};
+ghost use Rattle.big_info.specs.Widths.{FitsWidths};
+ghost use Rattle.scenario_text.specs.declared.step.Step.{Step};
+ghost use Rattle.scenario_text.specs.declared.step.Step.TheVariants.{Ident as IdentStep};
+ghost use Rattle.scenario_history.specs.Refusals.{horizon_in, is_same_identity};
+ghost use Rattle.scenario_history.specs.Source.{identity_of, is_started};
+ghost use Rattle.scenario_sources.specs.Described.{IsPlain, group_step, identity_in};
+ghost use Rattle.scenario_sources.specs.State.Phases.{Becomes, Begins, IsReady, PhaseIs};
+ghost use Rattle.scenario_sources.specs.declared.phase.Phase.TheVariants.{Described as DescribedPhase};
+
+use crate::identity::{Identity, identity_or, is_same};
+use crate::phase::{Described, Phase, Ready, Started};
+use big_info::{BigInfo, Limits, check_group_within};
+use source_machine::Broadcast;
+use std::alloc::Global;
+use transcript_text::{Refusal, Stop};
+
+/// `group`: describes a source, once.
+pub(crate) fn describe(
+    phase: &mut Phase,
+    info: BigInfo,
+    origin: u64,
+    delay: u32,
+) -> Result<(), Stop>
+    requires widths { FitsWidths info }
+    requires origin { origin ≤ 2 ^ 48 }
+    requires delay { delay < 2 ^ 24 }
+    ensures { (version : ℕ) (own : List Step) → IsPlain info → PhaseIs own phase.old → Becomes version own (group_step info origin delay) phase.new result }
+{
+    let Phase::Absent = phase else {
+        return Err(Stop::Refused(Refusal::Order));
+    };
+    if info.framing != 0 {
+        return Err(Stop::Refused(Refusal::NotBuilt));
+    }
+    *phase = Phase::Described(Described {
+        info,
+        origin,
+        delay,
+        identity: None,
+    });
+    Ok(())
+}
+
+/// `ident`: names a source, once.
+pub(crate) fn identify(phase: &mut Phase, identity: Identity) -> Result<(), Stop>
+    ensures { (version : ℕ) (own : List Step) → PhaseIs own phase.old
+        → Becomes version own (IdentStep identity.address_type identity.address identity.sid identity.broadcast_id) phase.new result }
+{
+    let Phase::Described(described) = phase else {
+        return Err(Stop::Refused(Refusal::Order));
+    };
+    if described.identity.is_some() {
+        return Err(Stop::Refused(Refusal::Order));
+    }
+    described.identity = Some(identity);
+    Ok(())
+}
+
+/// Whether a source may be started, but for its identity.
+pub(crate) fn check_start(phase: &Phase, limits: Limits) -> Result<Ready, Stop>
+    requires { limits.horizon ≤ 31 }
+    ensures { (version first : ℕ) (own : List Step) → limits.horizon ≡ horizon_in version → PhaseIs own phase.now → IsReady version first own result }
+{
+    let Phase::Described(described) = phase else {
+        return Err(Stop::Refused(Refusal::Order));
+    };
+    match check_group_within(&described.info, limits) {
+        Ok(group) => Ok(Ready {
+            described: *described,
+            group,
+        }),
+        Err(fault) => Err(Stop::Refused(Refusal::BadGroup { fault })),
+    }
+}
+
+/// Whether a source was started with an identity like this one.
+pub(crate) fn is_twice(own: Identity, phase: &Phase) -> bool
+    ensures { (steps : List Step) → PhaseIs steps phase.now
+        → result ≡ (is_started steps && is_same_identity (identity_in own) (identity_of steps)) }
+{
+    match phase {
+        Phase::Sending(started) => is_same(own, identity_or(started.identity)),
+        Phase::Stopped(started) => is_same(own, identity_or(started.identity)),
+        _ => false,
+    }
+}
+
+/// `start`: starts a source.
+pub(crate) fn begin(alloc: Global, ready: &Ready, first: u64) -> Result<Phase, Stop>
+    requires { first < 2 ^ 39 }
+    ensures { (own : List Step) → PhaseIs own (DescribedPhase ready.now.described) → Begins first own result }
+{
+    let described = &ready.described;
+    match Broadcast::new(
+        alloc,
+        &ready.group,
+        described.origin,
+        described.delay,
+        first,
+    ) {
+        Ok(source) => Ok(Phase::Sending(Started {
+            identity: described.identity,
+            source,
+        })),
+        Err(_) => Err(Stop::Memory),
+    }
+}

@@ -1,0 +1,16 @@
+//! The sources of a scenario: what each is described by, where it stands between its start and its stop, and what is on
+//! its air. Lines mean the source that was chosen last.
+#![tactic(auto)]
+
+mod describing;
+mod identity;
+mod phase;
+mod place;
+mod sending;
+mod sources;
+mod standpoint;
+
+pub use identity::Identity;
+pub use place::Place;
+pub use sources::Sources;
+pub use standpoint::Standpoint;

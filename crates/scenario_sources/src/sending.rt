@@ -1,0 +1,116 @@
+//! A source between its start and its stop.
+ghost use Rattle.std.specs.Prelude.{◌≡◌, ◌≤◌, ◌<◌, ◌^◌, ℕ, List, Option, false, IfOk};
+ghost use Rattle.std.specs.Option.{ForSome};
+ghost use Rattle.scenario_text.specs.declared.step.Step.{Step};
+ghost use Rattle.scenario_text.specs.declared.step.Step.TheVariants.{Unit as UnitStep, Event as EventStep, Stop as StopStep};
+ghost use Rattle.scenario_history.specs.Steps.{is_over};
+ghost use Rattle.scenario_history.specs.Source.{open_event};
+ghost use Rattle.scenario_sources.specs.State.Phases.{Becomes, Closes, PhaseIs};
+ghost use Rattle.scenario_sources.specs.Answers.{StandsAt};
+ghost use Rattle.scenario_sources.specs.State.Stops.{GiveStops, GivesTo};
+
+use crate::phase::{Phase, Started};
+use crate::standpoint::Standpoint;
+use bcast_base::Bis;
+use source_machine::{EventFault, GiveFault};
+use std::mem::replace;
+use transcript_text::{Refusal, Stop};
+
+/// `unit`: gives a source a unit of a stream.
+pub(crate) fn give(
+    phase: &mut Phase,
+    bis: Bis,
+    time: Option<u64>,
+    octets: &[u8],
+) -> Result<(), Stop>
+    ensures { (version : ℕ) (own : List Step) → PhaseIs own phase.old → Becomes version own (UnitStep bis time octets.now) phase.new result }
+{
+    let Phase::Sending(started) = phase else {
+        return Err(Stop::Refused(Refusal::Order));
+    };
+    give_to(started, bis, time, octets)
+}
+
+/// Gives a source that was started a unit of a stream.
+fn give_to(started: &mut Started, bis: Bis, time: Option<u64>, octets: &[u8]) -> Result<(), Stop>
+    ensures identity { started.new.identity ≡ started.old.identity }
+    ensures source { GivesTo started.old.source bis time octets.now started.new.source result }
+{
+    match started.source.give(bis, time, octets) {
+        Ok(()) => Ok(()),
+        Err(fault) => Err(give_stop(fault)),
+    }
+}
+
+/// What the refusal of a unit means to a scenario.
+fn give_stop(fault: GiveFault) -> Stop
+    ensures { GiveStops fault result }
+{
+    match fault {
+        GiveFault::NoSuchBis => Stop::Refused(Refusal::NoSuchBis),
+        GiveFault::UnitTooLong => Stop::Refused(Refusal::UnitTooLong),
+        GiveFault::TimeOrder => Stop::Refused(Refusal::TimeOrder),
+        GiveFault::Backlog => Stop::Refused(Refusal::Backlog),
+        GiveFault::Memory => Stop::Memory,
+    }
+}
+
+/// `event`: performs the next event of a source, and answers the one that it closes.
+pub(crate) fn perform(phase: &mut Phase) -> Result<Option<u64>, Stop>
+    ensures closes { (version : ℕ) (own : List Step) → PhaseIs own phase.old → Closes version own EventStep phase.new result }
+    ensures within { IfOk result (λ closed. ForSome closed (λ event. event < 2 ^ 39)) }
+{
+    let Phase::Sending(started) = phase else {
+        return Err(Stop::Refused(Refusal::Order));
+    };
+    let closed = started.source.last_event();
+    match started.source.event() {
+        Ok(()) => Ok(closed),
+        Err(EventFault::CounterEnds) => Err(Stop::Refused(Refusal::CounterEnds)),
+        Err(EventFault::Memory) => Err(Stop::Memory),
+    }
+}
+
+/// `stop`: stops a source, and answers the event that it closes.
+pub(crate) fn stop(phase: &mut Phase) -> Result<Option<u64>, Stop>
+    ensures closes { (version : ℕ) (own : List Step) → PhaseIs own phase.old → Closes version own StopStep phase.new result }
+    ensures within { IfOk result (λ closed. ForSome closed (λ event. event < 2 ^ 39)) }
+{
+    match replace(phase, Phase::Absent) {
+        Phase::Sending(started) => {
+            let closed = started.source.last_event();
+            *phase = Phase::Stopped(started);
+            Ok(closed)
+        }
+        other => {
+            *phase = other;
+            Err(Stop::Refused(Refusal::Order))
+        }
+    }
+}
+
+/// The event of a source that is open.
+pub(crate) fn open(phase: &Phase) -> Option<u64>
+    ensures event { (own : List Step) → PhaseIs own phase.now → is_over own ≡ false → result ≡ open_event own }
+    ensures within { ForSome result (λ event. event < 2 ^ 39) }
+{
+    match phase {
+        Phase::Sending(started) => started.source.last_event(),
+        _ => None,
+    }
+}
+
+/// Where a source stands that is between its start and its stop.
+pub(crate) fn standpoint_in(phase: &Phase) -> Option<Standpoint>
+    ensures { (own : List Step) → PhaseIs own phase.now → StandsAt own result }
+{
+    let Phase::Sending(started) = phase else {
+        return None;
+    };
+    Some(Standpoint {
+        group: *started.source.group(),
+        event: started.source.next_event(),
+        anchor: started.source.next_anchor(),
+        delay: started.source.delay(),
+    })
+}

@@ -1,0 +1,199 @@
+ghost use Rattle.std.specs.Prelude.{◌≡◌, ◌≤◌, ◌<◌, ◌^◌, ◌∷◌, ℕ, vec_len, IfOk, IfErr, List, [], None, true, false};
+ghost use Rattle.std.specs.Option.{ForSome};
+ghost use Rattle.big_info.specs.Widths.{FitsWidths};
+
+use crate::describing::{begin, check_start, describe, identify, is_twice};
+use crate::identity::{Identity, identity_or};
+use crate::phase::Phase;
+use crate::place::{Place, event_in, group_in, heard_in, last_in};
+use crate::sending::{give, open, perform, standpoint_in, stop};
+use crate::standpoint::Standpoint;
+use bcast_base::{Bis, Memory};
+use big_info::{BigInfo, Group, Limits};
+use std::alloc::Global;
+use transcript_text::{Refusal, Stop};
+
+/// The two sources of a scenario, 0 and 1, and the one that was chosen last.
+#[derive(Drop)]
+pub struct Sources {
+    alloc: Global,
+    chosen: u8,
+    phases: Vec<Phase>,
+    ghost two: { vec_len phases ≡ 2 },
+    ghost is_one: { chosen < 2 },
+}
+
+impl Sources {
+    ghost use Rattle.source_machine.specs.Airs.{airs_of};
+    ghost use Rattle.scenario_text.specs.declared.step.Step.{Step};
+    ghost use Rattle.scenario_text.specs.declared.step.Step.TheVariants.{Ident as IdentStep, Start as StartStep, Unit as UnitStep, Event as EventStep, Stop as StopStep, Source as SourceStep};
+    ghost use Rattle.scenario_history.specs.Refusals.{horizon_in, no_place};
+    ghost use Rattle.scenario_history.specs.Source.{event_back, is_started, open_event, pdu_in};
+    ghost use Rattle.scenario_history.specs.Steps.{chosen_of, chosen_steps, is_over, steps_of_source};
+    ghost use Rattle.scenario_sources.specs.Answers.{Answers, Closes, GroupIs, LastIs, NoPlace, StandsAt};
+    ghost use Rattle.scenario_sources.specs.Described.{IsPlain, group_step};
+    ghost use Rattle.scenario_sources.specs.State.Standing.{SourcesStand};
+
+    /// Two sources of which nothing was said; 0 is chosen.
+    pub fn new(alloc: Global) -> Result<Sources, Memory>
+        ensures { IfOk result (λ sources. SourcesStand [] sources) }
+    {
+        let mut phases = Vec::with_capacity(alloc, 2)?;
+        phases.push(Phase::Absent)?;
+        phases.push(Phase::Absent)?;
+        Ok(Sources {
+            alloc,
+            chosen: 0,
+            phases,
+        })
+    }
+
+    /// The source that was chosen last.
+    pub fn chosen(&self) -> u8
+        ensures source { (steps : List Step) → SourcesStand steps self.now → result ≡ chosen_of steps }
+        ensures within { result < 2 }
+    {
+        self.chosen
+    }
+
+    /// `source`: chooses the source that later lines mean.
+    pub fn choose(&mut self, source: u8)
+        requires { source < 2 }
+        ensures { (steps : List Step) → SourcesStand steps self.old → SourcesStand (SourceStep source ∷ steps) self.new }
+    {
+        self.chosen = source;
+    }
+
+    /// `group`: describes the chosen source, once; else it is refused with Order, and a framed group with NotBuilt. The
+    /// anchor of the first event and the presentation delay are in µs. It takes no memory.
+    pub fn describe(&mut self, info: BigInfo, origin: u64, delay: u32) -> Result<(), Stop>
+        requires widths { FitsWidths info }
+        requires origin { origin ≤ 2 ^ 48 }
+        requires delay { delay < 2 ^ 24 }
+        ensures { (version : ℕ) (steps : List Step) → IsPlain info → SourcesStand steps self.old → Answers version steps (group_step info origin delay) self.new result }
+    {
+        describe(
+            &mut self.phases[usize::from(self.chosen)],
+            info,
+            origin,
+            delay,
+        )
+    }
+
+    /// `ident`: names the chosen source, once, between `group` and `start`; else it is refused with Order. It takes no
+    /// memory.
+    pub fn identify(&mut self, identity: Identity) -> Result<(), Stop>
+        ensures { (version : ℕ) (steps : List Step) → SourcesStand steps self.old
+            → Answers version steps (IdentStep identity.address_type identity.address identity.sid identity.broadcast_id) self.new result }
+    {
+        identify(&mut self.phases[usize::from(self.chosen)], identity)
+    }
+
+    /// `start`: starts the chosen source, once, with this first event. The first refusal that holds is answered: Order
+    /// without a group, BadGroup where the group check fails within the limits, IdentTwice where the other source was started
+    /// with the same address type, SID and Broadcast_ID.
+    pub fn start(&mut self, limits: Limits, first: u64) -> Result<(), Stop>
+        requires limits { limits.horizon ≤ 31 }
+        requires first { first < 2 ^ 39 }
+        ensures { (version : ℕ) (steps : List Step) → limits.horizon ≡ horizon_in version → SourcesStand steps self.old
+            → Answers version steps (StartStep first) self.new result }
+    {
+        let ready = match check_start(&self.phases[usize::from(self.chosen)], limits) {
+            Ok(ready) => ready,
+            Err(stop) => return Err(stop),
+        };
+        let own = identity_or(ready.described.identity);
+        if is_twice(own, &self.phases[usize::from(1 - self.chosen)]) {
+            return Err(Stop::Refused(Refusal::IdentTwice));
+        }
+        match begin(self.alloc, &ready, first) {
+            Ok(phase) => self.phases[usize::from(self.chosen)] = phase,
+            Err(stop) => return Err(stop),
+        }
+        Ok(())
+    }
+
+    /// `unit`: gives the chosen source a unit of a stream. The first refusal that holds is answered: Order outside its start
+    /// and its stop, NoSuchBis, UnitTooLong, TimeOrder, Backlog.
+    pub fn give(&mut self, bis: Bis, time: Option<u64>, octets: &[u8]) -> Result<(), Stop>
+        ensures { (version : ℕ) (steps : List Step) → SourcesStand steps self.old → Answers version steps (UnitStep bis time octets.now) self.new result }
+    {
+        give(
+            &mut self.phases[usize::from(self.chosen)],
+            bis,
+            time,
+            octets,
+        )
+    }
+
+    /// `event`: performs the next event of the chosen source, and answers the one that it closes. The first refusal that
+    /// holds is answered: Order outside its start and its stop, CounterEnds. After want of memory the source has failed.
+    pub fn perform(&mut self) -> Result<Option<u64>, Stop>
+        ensures closes { (version : ℕ) (steps : List Step) → SourcesStand steps self.old → Closes version steps EventStep self.new result }
+        ensures within { IfOk result (λ closed. ForSome closed (λ event. event < 2 ^ 39)) }
+    {
+        perform(&mut self.phases[usize::from(self.chosen)])
+    }
+
+    /// `stop`: stops the chosen source, and answers the event that it closes. It is refused with Order outside its start and
+    /// its stop. It takes no memory.
+    pub fn stop(&mut self) -> Result<Option<u64>, Stop>
+        ensures closes { (version : ℕ) (steps : List Step) → SourcesStand steps self.old → Closes version steps StopStep self.new result }
+        ensures within { IfOk result (λ closed. ForSome closed (λ event. event < 2 ^ 39)) }
+    {
+        stop(&mut self.phases[usize::from(self.chosen)])
+    }
+
+    /// The open event of a source, before `end`.
+    pub fn open(&self, source: u8) -> Option<u64>
+        requires { source < 2 }
+        ensures event { (steps : List Step) → SourcesStand steps self.now → is_over (steps_of_source source steps) ≡ false
+            → result ≡ open_event (steps_of_source source steps) }
+        ensures within { ForSome result (λ event. event < 2 ^ 39) }
+    {
+        open(&self.phases[usize::from(source)])
+    }
+
+    /// Where the chosen source stands before its next event; `None` exactly outside its start and its stop.
+    pub fn standpoint(&self) -> Option<Standpoint>
+        ensures { (steps : List Step) → SourcesStand steps self.now → StandsAt (chosen_steps steps) result }
+    {
+        standpoint_in(&self.phases[usize::from(self.chosen)])
+    }
+
+    /// The group of the chosen source; `None` exactly before its start.
+    pub fn group(&self) -> Option<Group>
+        ensures { (steps : List Step) → SourcesStand steps self.now → GroupIs (chosen_steps steps) result }
+    {
+        group_in(&self.phases[usize::from(self.chosen)])
+    }
+
+    /// The last event of the chosen source, where it performed one.
+    pub fn last_event(&self) -> Option<u64>
+        ensures last { (steps : List Step) → SourcesStand steps self.now → is_started (chosen_steps steps) ≡ true → LastIs (chosen_steps steps) result }
+        ensures within { ForSome result (λ event. event < 2 ^ 39) }
+    {
+        last_in(&self.phases[usize::from(self.chosen)])
+    }
+
+    /// The event `back` events before the last one of the chosen source; 0 before its start.
+    pub fn event_back(&self, back: u8) -> u64
+        ensures event { (steps : List Step) → SourcesStand steps self.now → is_started (chosen_steps steps) ≡ true → result ≡ event_back (chosen_steps steps) back }
+        ensures within { result ≤ 2 ^ 39 }
+    {
+        event_in(&self.phases[usize::from(self.chosen)], back)
+    }
+
+    /// The PDU at a place on the air of the chosen source. The first refusal that holds is answered: Order before its start,
+    /// NoSuchBis, NoSuchSubevent, NotOnAir.
+    pub fn heard_at(&self, place: Place) -> Result<&[u8], Stop>
+        requires { place.back ≤ 31 }
+        ensures ok { IfOk result (λ pdu. (steps : List Step) → SourcesStand steps self.now
+            → (no_place (chosen_steps steps) place.back place.bis place.subevent ≡ None)
+            × (pdu.now ≡ pdu_in airs_of (chosen_steps steps) (event_back (chosen_steps steps) place.back) place.bis place.subevent)) }
+        ensures err { IfErr result (λ stop. (steps : List Step) → SourcesStand steps self.now → is_started (chosen_steps steps) ≡ true
+            → NoPlace (chosen_steps steps) place.back place.bis place.subevent stop) }
+    {
+        heard_in(&self.phases[usize::from(self.chosen)], place)
+    }
+}
