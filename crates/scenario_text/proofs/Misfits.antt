@@ -67,12 +67,12 @@ word_halts place places build read k word words (Some value) small is e rest =
       },
     )
 
-word_ends : (place : WordPlace) (places : List Place) (build : WordValue place → Build places) (read : ℕ) (word : List ℕ) (words : List (List ℕ)) (found : Option (WordValue place)) (step : Step) (left : Left)
-    → word_in place word ≡ found → (taken read words found >>= go_on place places build) ≡ Ok (step, left)
-    → ((value : WordValue place) → built_at places (build value) (left_of words (read + 1)) ≡ Ok (step, left) → Halts places words (read + 1) left.read)
+word_ends : (place : WordPlace) (places : List Place) (build : WordValue place → Build places) (read : ℕ) (word : List ℕ) (words : List (List ℕ)) (found : Option (WordValue place)) (made : Step) (left : Left)
+    → word_in place word ≡ found → (taken read words found >>= go_on place places build) ≡ Ok (made, left)
+    → ((value : WordValue place) → built_at places (build value) (left_of words (read + 1)) ≡ Ok (made, left) → Halts places words (read + 1) left.read)
     → Halts (one place ∷ places) (word ∷ words) read left.read
-word_ends place places build read word words None step left is e rest = absurd cc
-word_ends place places build read word words (Some value) step left is e rest =
+word_ends place places build read word words None made left is e rest = absurd cc
+word_ends place places build read word words (Some value) made left is e rest =
     let it = rest value e in (
       suc it.0,
       omega (arith, it.1),
@@ -228,40 +228,40 @@ built_halts (wishes most ∷ place ∷ places) build words read k small last e =
 end_here : (words : List (List ℕ)) (read : ℕ) (left : Left) → read ≡ left.read → Halts [] words read left.read
 end_here words read left e = (0, omega arith, record { within = omega arith; front = tt; no_more = λ inside fits. no_place words inside fits })
 
-built_ok : {A : Type 0} (r : Result (A × Left) LineFault) (build : A → Step) (step : Step) (left : Left) → (r >>= λ value. Ok (build value.0, value.1)) ≡ Ok (step, left) → (value : A) × (r ≡ Ok (value, left))
-built_ok (Ok x) build step left e =
-    let both = ok_is (build x.0, x.1) (step, left) e in
+built_ok : {A : Type 0} (r : Result (A × Left) LineFault) (build : A → Step) (made : Step) (left : Left) → (r >>= λ value. Ok (build value.0, value.1)) ≡ Ok (made, left) → (value : A) × (r ≡ Ok (value, left))
+built_ok (Ok x) build made left e =
+    let both = ok_is (build x.0, x.1) (made, left) e in
     (x.0, ap (λ (l : Left). done (x.0, l)) (ap (λ (p : Step × Left). p.1) both))
-built_ok (Err f) build step left e = absurd cc
+built_ok (Err f) build made left e = absurd cc
 
-built_ends : (places : List Place) (build : Build places) (words : List (List ℕ)) (read : ℕ) (step : Step) (left : Left) → takes_all_last places ≡ true
-    → built_at places build (left_of words read) ≡ Ok (step, left) → Halts places words read left.read
-built_ends [] build words read step left last e =
-    let both = ok_is (build, left_of words read) (step, left) e in
+built_ends : (places : List Place) (build : Build places) (words : List (List ℕ)) (read : ℕ) (made : Step) (left : Left) → takes_all_last places ≡ true
+    → built_at places build (left_of words read) ≡ Ok (made, left) → Halts places words read left.read
+built_ends [] build words read made left last e =
+    let both = ok_is (build, left_of words read) (made, left) e in
     end_here words read left (ap (λ (p : Step × Left). p.1.read) both)
-built_ends (one place ∷ places) build [] read step left last e = absurd cc
-built_ends (one place ∷ places) build (word ∷ words) read step left last e =
+built_ends (one place ∷ places) build [] read made left last e = absurd cc
+built_ends (one place ∷ places) build (word ∷ words) read made left last e =
     let lasts = and_parts (none_more places || true) (takes_all_last places) last in
-    word_ends place places build read word words (word_in place word) step left refl e (λ value next. built_ends places (build value) words (read + 1) step left lasts.1 next)
-built_ends (perhaps least greatest ∷ []) build [] read step left last e =
-    let both = ok_is (build None, left_of [] read) (step, left) e in
+    word_ends place places build read word words (word_in place word) made left refl e (λ value next. built_ends places (build value) words (read + 1) made left lasts.1 next)
+built_ends (perhaps least greatest ∷ []) build [] read made left last e =
+    let both = ok_is (build None, left_of [] read) (made, left) e in
     none_fit (perhaps least greatest ∷ []) read left.read (ap (λ (p : Step × Left). p.1.read) both)
-built_ends (perhaps least greatest ∷ []) build (word ∷ words) read step left last e =
-    let t = built_ok (perhaps_of least greatest read (word ∷ words)) build step left e in
+built_ends (perhaps least greatest ∷ []) build (word ∷ words) read made left last e =
+    let t = built_ok (perhaps_of least greatest read (word ∷ words)) build made left e in
     perhaps_ends least greatest read word words (decimal_in least greatest word) t.0 left refl t.1
-built_ends (rising ∷ []) build [] read step left last e = absurd cc
-built_ends (rising ∷ []) build (word ∷ words) read step left last e =
-    let t = built_ok (rising_of (left_of (word ∷ words) read)) build step left e in
+built_ends (rising ∷ []) build [] read made left last e = absurd cc
+built_ends (rising ∷ []) build (word ∷ words) read made left last e =
+    let t = built_ok (rising_of (left_of (word ∷ words) read)) build made left e in
     from_indices (word ∷ words) read left.read (rising_ends read word words (decimal_in 1 31 word) t.0 left refl t.1)
-built_ends (wishes most ∷ []) build words read step left last e =
-    let t = built_ok (all_wishes_of most (left_of words read)) build step left e in
+built_ends (wishes most ∷ []) build words read made left last e =
+    let t = built_ok (all_wishes_of most (left_of words read)) build made left e in
     let a = bind_ok (wishes_of [] 31 read words) (bounded most) (t.0, left) t.1 in
     let both = bounded_is most a.0 (t.0, left) a.2 in
     let it = pairs_end 31 [] read words a.0.0 a.0.1 a.1 in
     from_pairs most words read left.read (it.0, sym (ap (λ (p : List Wish × Left). p.1.read) both.1) ∙ it.1, it.2)
-built_ends (perhaps least greatest ∷ place ∷ places) build words read step left last e = absurd cc
-built_ends (rising ∷ place ∷ places) build words read step left last e = absurd cc
-built_ends (wishes most ∷ place ∷ places) build words read step left last e = absurd cc
+built_ends (perhaps least greatest ∷ place ∷ places) build words read made left last e = absurd cc
+built_ends (rising ∷ place ∷ places) build words read made left last e = absurd cc
+built_ends (wishes most ∷ place ∷ places) build words read made left last e = absurd cc
 
 -- ---- a line
 
@@ -295,9 +295,9 @@ step_failed fault = Err fault
 step_err_is : (f g : LineFault) → step_failed f ≡ step_failed g → f ≡ g
 step_err_is f g e = cc
 
-ended_bad : (read : ℕ) (words : List (List ℕ)) (step : Step) (k : ℕ) → (ended read words >>= λ none. Ok step) ≡ Err (BadLine k) → read ≡ k
-ended_bad read [] step k e = absurd cc
-ended_bad read (word ∷ words) step k e = step_bad_is read k e
+ended_bad : (read : ℕ) (words : List (List ℕ)) (made : Step) (k : ℕ) → (ended read words >>= λ none. Ok made) ≡ Err (BadLine k) → read ≡ k
+ended_bad read [] made k e = absurd cc
+ended_bad read (word ∷ words) made k e = step_bad_is read k e
 
 row_halts : (version k : ℕ) (first : List ℕ) (words : List (List ℕ)) (row : Row) → row_of version first ≡ Some row → all_small row.places ≡ true → takes_all_last row.places ≡ true
     → (r : Result (Step × Left) LineFault) → built_at row.places row.build (left_of words 1) ≡ r → (r >>= whole) ≡ step_bad k → LineHalts version (first ∷ words) k
@@ -352,7 +352,7 @@ is_misfit version k line e =
     let halts = line_halts version k line e in
     record {
       not_blank = λ blank. let none = sym (blank_is_none version line blank) ∙ e in absurd (cc none);
-      no_step = λ step is. let some = sym (says_so version line step is) ∙ e in absurd (cc some);
+      no_step = λ made is. let some = sym (says_so version line made is) ∙ e in absurd (cc some);
       within = halts.within;
       fits = halts.fits;
       no_more = halts.no_more;

@@ -28,35 +28,35 @@ some_is x y e = cc
 
 -- ---- the words at the places of a row
 
-built_again : (places : List Place) (build : Build places) (step : Step) (words : List (List ℕ)) (read : ℕ) → all_small places ≡ true → Says places build step words
-    → (k : ℕ) × (built_at places build (left_of words read) ≡ Ok (step, left_of [] k))
-built_again [] built step words read small e = (read, rw (e.0, e.1) refl)
-built_again (place ∷ places) build step words read small e =
+built_again : (places : List Place) (build : Build places) (made : Step) (words : List (List ℕ)) (read : ℕ) → all_small places ≡ true → Says places build made words
+    → (k : ℕ) × (built_at places build (left_of words read) ≡ Ok (made, left_of [] k))
+built_again [] built made words read small e = (read, rw (e.0, e.1) refl)
+built_again (place ∷ places) build made words read small e =
     let parts = and_parts _ (all_small places) small in
     let first = place_again place e.0 words e.1 read parts.0 e.2 in
-    let others = built_again places (build e.0) step e.1 first.0 parts.1 e.3 in
+    let others = built_again places (build e.0) made e.1 first.0 parts.1 e.3 in
     (others.0, rw first.1 others.1)
 
-last_place : (place : Place) (places : List Place) (built : Build places) (step : Step) (words : List (List ℕ)) (read : ℕ) (left : Left) → (none_more places || not (takes_all place)) ≡ true
-    → built_at places built (left_of words read) ≡ Ok (step, left) → left.words ≡ [] → IsLast place words
-last_place (one place) places built step words read left last e none = tt
-last_place (perhaps least greatest) places built step words read left last e none = tt
-last_place rising places built step words read left last e none = tt
-last_place (wishes most) [] built step words read left last e none =
-    let both = ok_is (built, left_of words read) (step, left) e in
+last_place : (place : Place) (places : List Place) (built : Build places) (made : Step) (words : List (List ℕ)) (read : ℕ) (left : Left) → (none_more places || not (takes_all place)) ≡ true
+    → built_at places built (left_of words read) ≡ Ok (made, left) → left.words ≡ [] → IsLast place words
+last_place (one place) places built made words read left last e none = tt
+last_place (perhaps least greatest) places built made words read left last e none = tt
+last_place rising places built made words read left last e none = tt
+last_place (wishes most) [] built made words read left last e none =
+    let both = ok_is (built, left_of words read) (made, left) e in
     ap (λ (p : Step × Left). p.1.words) both ∙ none
-last_place (wishes most) (place ∷ places) built step words read left last e none = absurd cc
+last_place (wishes most) (place ∷ places) built made words read left last e none = absurd cc
 
-built_says : (places : List Place) (build : Build places) (step : Step) (words : List (List ℕ)) (read : ℕ) (left : Left) → takes_all_last places ≡ true
-    → built_at places build (left_of words read) ≡ Ok (step, left) → left.words ≡ [] → Says places build step words
-built_says [] built step words read left last e none =
-    let both = ok_is (built, left_of words read) (step, left) e in
+built_says : (places : List Place) (build : Build places) (made : Step) (words : List (List ℕ)) (read : ℕ) (left : Left) → takes_all_last places ≡ true
+    → built_at places build (left_of words read) ≡ Ok (made, left) → left.words ≡ [] → Says places build made words
+built_says [] built made words read left last e none =
+    let both = ok_is (built, left_of words read) (made, left) e in
     (ap (λ (p : Step × Left). p.0) both, ap (λ (p : Step × Left). p.1.words) both ∙ none)
-built_says (place ∷ places) build step words read left last e none =
+built_says (place ∷ places) build made words read left last e none =
     let parts = and_parts (none_more places || not (takes_all place)) (takes_all_last places) last in
-    let a = bind_ok (at_place place (left_of words read)) (λ value. built_at places (build value.0) value.1) (step, left) e in
-    let here = last_place place places (build a.0.0) step a.0.1.words a.0.1.read left parts.0 a.2 none in
-    (a.0.0, a.0.1.words, place_spelled place words read a.0.0 a.0.1 a.1 here, built_says places (build a.0.0) step a.0.1.words a.0.1.read left parts.1 a.2 none)
+    let a = bind_ok (at_place place (left_of words read)) (λ value. built_at places (build value.0) value.1) (made, left) e in
+    let here = last_place place places (build a.0.0) made a.0.1.words a.0.1.read left parts.0 a.2 none in
+    (a.0.0, a.0.1.words, place_spelled place words read a.0.0 a.0.1 a.1 here, built_says places (build a.0.0) made a.0.1.words a.0.1.read left parts.1 a.2 none)
 
 -- ---- a line
 
@@ -65,41 +65,41 @@ ended_is read [] u e = refl
 ended_is read (word ∷ words) u e = absurd cc
 
 -- a line that was read has a row, and its words spell the values of the step
-record Found (version : ℕ) (step : Step) (words : List (List ℕ)) : Type 0 where
+record Found (version : ℕ) (made : Step) (words : List (List ℕ)) : Type 0 where
   pub first : List ℕ
   pub others : List (List ℕ)
   pub split : words ≡ first ∷ others
   pub row : Row
   pub known : row_of version first ≡ Some row
-  pub said : Says row.places row.build step others
+  pub said : Says row.places row.build made others
 
-found_at : (version : ℕ) (first : List ℕ) (words : List (List ℕ)) (read : ℕ) (known : Option Row) (step : Step) (left : Left) → row_of version first ≡ known
-    → at_known known (left_of words read) ≡ Ok (step, left) → left.words ≡ [] → Found version step (first ∷ words)
-found_at version first words read None step left is e none = absurd cc
-found_at version first words read (Some row) step left is e none =
+found_at : (version : ℕ) (first : List ℕ) (words : List (List ℕ)) (read : ℕ) (known : Option Row) (made : Step) (left : Left) → row_of version first ≡ known
+    → at_known known (left_of words read) ≡ Ok (made, left) → left.words ≡ [] → Found version made (first ∷ words)
+found_at version first words read None made left is e none = absurd cc
+found_at version first words read (Some row) made left is e none =
     let fine = of_table version first row is in
     let parts = and_parts (is_word row.first) _ fine.fine in
     let places = and_parts (all_small row.places) (takes_all_last row.places) parts.1 in
-    record { first = first; others = words; split = refl; row = row; known = is; said = built_says row.places row.build step words read left places.1 e none }
+    record { first = first; others = words; split = refl; row = row; known = is; said = built_says row.places row.build made words read left places.1 e none }
 
 abbrev stepped : ℕ → ℕ → List (List ℕ) → Result Step LineFault
 stepped version read words = next_of any_word read words >>= line_after version
 
-found_by : (version read : ℕ) (words : List (List ℕ)) (step : Step) → stepped version read words ≡ Ok step → Found version step words
-found_by version read [] step e = absurd cc
-found_by version read (first ∷ words) step e =
-    let a = bind_ok (at_known (row_of version first) (left_of words (read + 1))) whole step e in
-    let b = bind_ok (ended a.0.1.read a.0.1.words) (λ none. Ok a.0.0) step a.2 in
-    let same : a.0.0 ≡ step = ok_is a.0.0 step b.2 in
+found_by : (version read : ℕ) (words : List (List ℕ)) (made : Step) → stepped version read words ≡ Ok made → Found version made words
+found_by version read [] made e = absurd cc
+found_by version read (first ∷ words) made e =
+    let a = bind_ok (at_known (row_of version first) (left_of words (read + 1))) whole made e in
+    let b = bind_ok (ended a.0.1.read a.0.1.words) (λ none. Ok a.0.0) made a.2 in
+    let same : a.0.0 ≡ made = ok_is a.0.0 made b.2 in
     let found = found_at version first words (read + 1) (row_of version first) a.0.0 a.0.1 refl a.1 (ended_is a.0.1.read a.0.1.words b.0 b.1) in
     subst (λ (s : Step). Found version s (first ∷ words)) same found
 
-found_again : (version read : ℕ) (words : List (List ℕ)) (step : Step) → Found version step words → stepped version read words ≡ Ok step
-found_again version read words step found =
+found_again : (version read : ℕ) (words : List (List ℕ)) (made : Step) → Found version made words → stepped version read words ≡ Ok made
+found_again version read words made found =
     let fine = of_table version found.first found.row found.known in
     let parts = and_parts (is_word found.row.first) _ fine.fine in
     let places = and_parts (all_small found.row.places) (takes_all_last found.row.places) parts.1 in
-    let again = built_again found.row.places found.row.build step found.others (read + 1) places.0 found.said in
+    let again = built_again found.row.places found.row.build made found.others (read + 1) places.0 found.said in
     rw (found.split, found.known, again.1) refl
 
 -- ---- no step's line is blank
@@ -134,58 +134,58 @@ no_comment : (octet : ℕ) (line : List ℕ) → is_word (head_word (words_of (o
 unfolding head_word
 no_comment octet line e = not_other (nat_eq octet 35) (nat_eq octet 32) octet line refl refl e
 
-line_again : (version : ℕ) (line : List ℕ) (step : Step) → LineIs version step line → read_of version line ≡ Ok (Some step)
+line_again : (version : ℕ) (line : List ℕ) (made : Step) → LineIs version made line → read_of version line ≡ Ok (Some made)
 unfolding read_of step_of head_word
-line_again version [] step is =
+line_again version [] made is =
     let word = first_word version is.first is.row is.known in
     let empty : [] ≡ is.first = ap head_word is.split in
     absurd (cc (rw (← empty) at word))
-line_again version (octet ∷ line) step is =
+line_again version (octet ∷ line) made is =
     let word = first_word version is.first is.row is.known in
     let head : is_word (head_word (words_of (octet ∷ line))) ≡ true = ap (λ (ws : List (List ℕ)). is_word (head_word ws)) is.split ∙ word in
     let other = no_comment octet line head in
-    let read = found_again version 0 (words_of (octet ∷ line)) step (record { first = is.first; others = is.words; split = is.split; row = is.row; known = is.known; said = is.spelled }) in
+    let read = found_again version 0 (words_of (octet ∷ line)) made (record { first = is.first; others = is.words; split = is.split; row = is.row; known = is.known; said = is.spelled }) in
     rw (other, read) refl
 
-step_in : (r : Result Step LineFault) (step : Step) → (r >>= λ s. Ok (Some s)) ≡ Ok (Some step) → r ≡ Ok step
-step_in (Ok x) step e = ap done (some_is x step (ok_is (Some x) (Some step) e))
-step_in (Err f) step e = absurd cc
+step_in : (r : Result Step LineFault) (made : Step) → (r >>= λ s. Ok (Some s)) ≡ Ok (Some made) → r ≡ Ok made
+step_in (Ok x) made e = ap done (some_is x made (ok_is (Some x) (Some made) e))
+step_in (Err f) made e = absurd cc
 
-chosen_in : (b : Bool) (r : Result Step LineFault) (step : Step) → cond b (Ok None) (r >>= λ s. Ok (Some s)) ≡ Ok (Some step) → r ≡ Ok step
-chosen_in true r step e = absurd cc
-chosen_in false r step e = step_in r step e
+chosen_in : (b : Bool) (r : Result Step LineFault) (made : Step) → cond b (Ok None) (r >>= λ s. Ok (Some s)) ≡ Ok (Some made) → r ≡ Ok made
+chosen_in true r made e = absurd cc
+chosen_in false r made e = step_in r made e
 
-line_says : (version : ℕ) (line : List ℕ) (step : Step) → read_of version line ≡ Ok (Some step) → LineIs version step line
+line_says : (version : ℕ) (line : List ℕ) (made : Step) → read_of version line ≡ Ok (Some made) → LineIs version made line
 unfolding read_of step_of
-line_says version [] step e = absurd cc
-line_says version (octet ∷ line) step e =
-    let found = found_by version 0 (words_of (octet ∷ line)) step (chosen_in _ (stepped version 0 (words_of (octet ∷ line))) step e) in
+line_says version [] made e = absurd cc
+line_says version (octet ∷ line) made e =
+    let found = found_by version 0 (words_of (octet ∷ line)) made (chosen_in _ (stepped version 0 (words_of (octet ∷ line))) made e) in
     record { first = found.first; words = found.others; split = found.split; row = found.row; known = found.known; spelled = found.said }
 
 -- ---- the clauses
 
-pub says_so : (version : ℕ) (line : List ℕ) (step : Step) → LineIs version step line → read_of version line ≡ Ok (Some step)
-says_so version line step is = line_again version line step is
+pub says_so : (version : ℕ) (line : List ℕ) (made : Step) → LineIs version made line → read_of version line ≡ Ok (Some made)
+says_so version line made is = line_again version line made is
 
-pub so_says : (version : ℕ) (line : List ℕ) (step : Step) → read_of version line ≡ Ok (Some step) → LineIs version step line
-so_says version line step e = line_says version line step e
+pub so_says : (version : ℕ) (line : List ℕ) (made : Step) → read_of version line ≡ Ok (Some made) → LineIs version made line
+so_says version line made e = line_says version line made e
 
 pub one_said : (version : ℕ) (line : List ℕ) (this that : Step) → LineIs version this line → LineIs version that line → this ≡ that
 one_said version line this that is other =
     some_is this that (ok_is (Some this) (Some that) (sym (says_so version line this is) ∙ says_so version line that other))
 
-pub said_in_range : (version : ℕ) (line : List ℕ) (step : Step) → read_of version line ≡ Ok (Some step) → IsInRange step
-said_in_range version line step e =
-    let is = so_says version line step e in
-    says_within is.row.places is.row.build step is.words is.spelled (row_within version is.first is.row is.known)
+pub said_in_range : (version : ℕ) (line : List ℕ) (made : Step) → read_of version line ≡ Ok (Some made) → IsInRange made
+said_in_range version line made e =
+    let is = so_says version line made e in
+    says_within is.row.places is.row.build made is.words is.spelled (row_within version is.first is.row is.known)
 
-pub is_found : (version : ℕ) (line : List ℕ) (r : Result (Option Step) LineFault) → Gives (λ read. read) r (read_of version line) → IfOk r (λ read. IfSome read (λ step. LineIs version step line))
-is_found version line (Ok (Some step)) given = line_says version line step given
+pub is_found : (version : ℕ) (line : List ℕ) (r : Result (Option Step) LineFault) → Gives (λ read. read) r (read_of version line) → IfOk r (λ read. IfSome read (λ made. LineIs version made line))
+is_found version line (Ok (Some made)) given = line_says version line made given
 is_found version line (Ok None) given = tt
 is_found version line (Err e) given = tt
 
-pub is_read : (version : ℕ) (line : List ℕ) (r : Result (Option Step) LineFault) → Gives (λ read. read) r (read_of version line) → (step : Step) → LineIs version step line → Gives (λ read. read) r (Ok (Some step))
-is_read version line r given step is = subst (λ (read : Result (Option Step) LineFault). Gives (λ x. x) r read) (says_so version line step is) given
+pub is_read : (version : ℕ) (line : List ℕ) (r : Result (Option Step) LineFault) → Gives (λ read. read) r (read_of version line) → (made : Step) → LineIs version made line → Gives (λ read. read) r (Ok (Some made))
+is_read version line r given made is = subst (λ (read : Result (Option Step) LineFault). Gives (λ x. x) r read) (says_so version line made is) given
 
 none_chosen : (b : Bool) (r : Result Step LineFault) → cond b (Ok None) (r >>= λ s. Ok (Some s)) ≡ Ok None → b ≡ true
 none_chosen true r e = refl
@@ -203,6 +203,6 @@ blank_is_none version [] blank = refl
 blank_is_none version (octet ∷ line) blank = rw blank refl
 
 pub is_blank : (version : ℕ) (line : List ℕ) (r : Result (Option Step) LineFault) → Gives (λ read. read) r (read_of version line) → IfOk r (λ read. IfNone read (IsBlank line))
-is_blank version line (Ok (Some step)) given = tt
+is_blank version line (Ok (Some made)) given = tt
 is_blank version line (Ok None) given = none_is_blank version line given
 is_blank version line (Err e) given = tt

@@ -27,7 +27,7 @@ InPlace (wishes most) value = ⊤
 
 -- each step that values in these places make is in its range
 abbrev pub Within : (places : List Place) → Build places → Type 0
-Within [] step = IsInRange step
+Within [] made = IsInRange made
 Within (place ∷ places) build = (value : PlaceValue place) → InPlace place value → Within places (build value)
 
 few_octets : (most : ℕ) (octets word : List ℕ) → SpellsOctets most octets word → length octets ≤ most
@@ -54,10 +54,10 @@ in_place (perhaps least greatest) value words rest h = tt
 in_place rising value words rest h = tt
 in_place (wishes most) value words rest h = tt
 
-pub says_within : (places : List Place) (build : Build places) (step : Step) (words : List (List ℕ)) → Says places build step words → Within places build → IsInRange step
-says_within [] built step words h within = subst IsInRange h.0 within
-says_within (place ∷ places) build step words h within =
-    says_within places (build h.0) step h.1 h.3 (within h.0 (in_place place h.0 words h.1 h.2))
+pub says_within : (places : List Place) (build : Build places) (made : Step) (words : List (List ℕ)) → Says places build made words → Within places build → IsInRange made
+says_within [] built made words h within = subst IsInRange h.0 within
+says_within (place ∷ places) build made words h within =
+    says_within places (build h.0) made h.1 h.3 (within h.0 (in_place place h.0 words h.1 h.2))
 
 -- ---- each row
 
