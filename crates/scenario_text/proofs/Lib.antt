@@ -1,4 +1,5 @@
 pub mod Rows
 pub mod Within
+pub mod Operations
 pub mod Steps
 pub mod Misfits

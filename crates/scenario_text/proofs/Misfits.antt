@@ -93,19 +93,25 @@ no_place (word ∷ words) inside fits = fits
 err_is : (A : Type 0) (f g : LineFault) → failed (A × Left) f ≡ failed (A × Left) g → f ≡ g
 err_is A f g e = cc
 
-build_bad : {A : Type 0} (r : Result (A × Left) LineFault) (build : A → Step) (k : ℕ) → (r >>= λ value. Ok (build value.0, value.1)) ≡ Err (BadLine k) → r ≡ Err (BadLine k)
+abbrev with_built : {A : Type 0} → (A → Step) → A × Left → Result (Step × Left) LineFault
+with_built build value = Ok (build value.0, value.1)
+
+abbrev as_some : ℕ × Left → Result (Option ℕ × Left) LineFault
+as_some n = Ok (Some n.0, n.1)
+
+build_bad : {A : Type 0} (r : Result (A × Left) LineFault) (build : A → Step) (k : ℕ) → (r >>= with_built build) ≡ Err (BadLine k) → r ≡ Err (BadLine k)
 build_bad (Ok x) build k e = absurd cc
 build_bad {A = A} (Err f) build k e = ap (failed (A × Left)) (err_is Step f (BadLine k) e)
 
 perhaps_halts : (least greatest read k : ℕ) (word : List ℕ) (words : List (List ℕ)) (found : Option ℕ) → is_small (one (between least greatest)) ≡ true → decimal_in least greatest word ≡ found
-    → (taken read words found >>= λ n. Ok (Some n.0, n.1)) ≡ perhaps_bad k → Halts (perhaps least greatest ∷ []) (word ∷ words) read k
+    → (taken read words found >>= as_some) ≡ perhaps_bad k → Halts (perhaps least greatest ∷ []) (word ∷ words) read k
 perhaps_halts least greatest read k word words None small is e =
     let same : read ≡ k = bad_is (Option ℕ × Left) read k e in
     (0, omega arith, record { within = omega arith; front = tt; no_more = λ inside fits. misfit (between least greatest) word small is fits.0 })
 perhaps_halts least greatest read k word words (Some n) small is e = absurd cc
 
 perhaps_ends : (least greatest read : ℕ) (word : List ℕ) (words : List (List ℕ)) (found : Option ℕ) (value : Option ℕ) (left : Left) → decimal_in least greatest word ≡ found
-    → (taken read words found >>= λ n. Ok (Some n.0, n.1)) ≡ done (value, left) → Halts (perhaps least greatest ∷ []) (word ∷ words) read left.read
+    → (taken read words found >>= as_some) ≡ done (value, left) → Halts (perhaps least greatest ∷ []) (word ∷ words) read left.read
 perhaps_ends least greatest read word words None value left is e = absurd cc
 perhaps_ends least greatest read word words (Some n) value left is e =
     let both = ok_is (Some n, left_of words (read + 1)) (value, left) e in
@@ -181,7 +187,7 @@ rising_ends read word words (Some n) set left is e =
       omega (arith, all.0),
       record {
         within = omega arith;
-        front = (n, word_spelled (between 1 31) n word is, subst (λ (ws : List (List ℕ)). FitsIndices (n + 1) ws) (sym (take_all words (length words) (omega arith))) all.1);
+        front = (n, word_spelled (between 1 31) n word is, subst (λ (ws : List (List ℕ)). FitsIndices (n + 1) ws) (sym (take_all (length words) words (omega arith))) all.1);
         no_more = λ inside fits. absurd (omega (arith, inside));
       },
     )
@@ -228,7 +234,7 @@ built_halts (wishes most ∷ place ∷ places) build words read k small last e =
 end_here : (words : List (List ℕ)) (read : ℕ) (left : Left) → read ≡ left.read → Halts [] words read left.read
 end_here words read left e = (0, omega arith, record { within = omega arith; front = tt; no_more = λ inside fits. no_place words inside fits })
 
-built_ok : {A : Type 0} (r : Result (A × Left) LineFault) (build : A → Step) (made : Step) (left : Left) → (r >>= λ value. Ok (build value.0, value.1)) ≡ Ok (made, left) → (value : A) × (r ≡ Ok (value, left))
+built_ok : {A : Type 0} (r : Result (A × Left) LineFault) (build : A → Step) (made : Step) (left : Left) → (r >>= with_built build) ≡ Ok (made, left) → (value : A) × (r ≡ Ok (value, left))
 built_ok (Ok x) build made left e =
     let both = ok_is (build x.0, x.1) (made, left) e in
     (x.0, ap (λ (l : Left). done (x.0, l)) (ap (λ (p : Step × Left). p.1) both))

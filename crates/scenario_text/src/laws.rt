@@ -1,5 +1,11 @@
 //! What holds of every line, whatever reads it.
-ghost use Rattle.std.specs.Prelude.{◌≡◌, ◌↔◌, ℕ, List, Some, None, Ok, Err};
+ghost use Rattle.std.specs.Prelude.{◌≡◌, ◌+◌, ◌↔◌, ℕ, List, length, Some, None, Ok, Err};
+ghost use Rattle.bass_operations.specs.Layout.{spelling};
+ghost use Rattle.bass_operations.specs.declared.operation.AddSource.{AddSource};
+ghost use Rattle.bass_operations.specs.declared.operation.ModifySource.{ModifySource};
+ghost use Rattle.bass_operations.specs.declared.operation.Operation.TheVariants.{Add, Modify};
+ghost use Rattle.scenario_words.specs.Places.{wishes_octets};
+ghost use Rattle.scenario_text.specs.Table.{before_add, before_modify};
 ghost use Rattle.scenario_words.specs.declared.fault.LineFault.TheVariants.{BadLine};
 ghost use Rattle.scenario_text.specs.Ranges.{IsInRange};
 ghost use Rattle.scenario_text.specs.Lines.{LineIs, IsBlank};
@@ -16,4 +22,11 @@ pub fn a_line_says_one_step()
     ensures misfit { (version k : ℕ) (line : List ℕ) → read_of version line ≡ Err (BadLine k) → IsMisfit version line k }
     ensures number { (version j k : ℕ) (line : List ℕ) → IsMisfit version line j → IsMisfit version line k → j ≡ k }
     ensures blank { (version : ℕ) (line : List ℕ) → (read_of version line ≡ Ok None) ↔ IsBlank line }
+{}
+
+/// An operation has the octets before its subgroups and those of the subgroups, so that an `add` or a `modify` passes its
+/// place exactly where its operation passes 512 octets.
+pub fn an_operation_has_so_many_octets()
+    ensures add { (op : AddSource) → length op.address ≡ 6 → length op.broadcast_id ≡ 3 → length (spelling (Add op)) ≡ before_add + wishes_octets op.wishes }
+    ensures modify { (op : ModifySource) → length (spelling (Modify op)) ≡ before_modify + wishes_octets op.wishes }
 {}

@@ -9,7 +9,7 @@ mod sink_lines;
 mod source_lines;
 mod step;
 
-pub use laws::a_line_says_one_step;
+pub use laws::{a_line_says_one_step, an_operation_has_so_many_octets};
 pub use line::{read_line, read_line_in};
 pub use scenario_words::LineFault;
 pub use step::Step;

@@ -1,10 +1,10 @@
 -- How many words fit: those before the word that a fault names, or all that were read. Upper crates may cite `misfit`,
 -- `indices_stop`, `indices_all`, `pairs_stop` and `pairs_end`.
-use Rattle.std.proofs.Common.{◌≡◌, ◌≢◌, ◌≤◌, ◌<◌, ℕ, zero, suc, ◌+◌, ◌^◌, Bool, true, List, [], ◌∷◌, ◌++◌, length, take, Option, None, Some, Result, Ok, Err, refl, ap, sym, subst, ◌∙◌, arith}
+use Rattle.std.proofs.Common.{◌≡◌, ◌≤◌, ◌<◌, ℕ, zero, suc, ◌+◌, true, List, [], ◌∷◌, ◌++◌, length, take, Option, None, Some, Result, Ok, Err, refl, ap, sym, subst, ◌∙◌, arith}
 use Rattle.bass_operations.specs.declared.wishes.Wish.{Wish}
 use Rattle.scenario_words.specs.declared.fault.LineFault.{LineFault}
-use Rattle.scenario_words.specs.declared.fault.LineFault.TheVariants.{BadLine, Memory}
-use Rattle.scenario_words.specs.Places.{WordPlace, between, octets_up_to, number_in_octets, Place, one, WordValue}
+use Rattle.scenario_words.specs.declared.fault.LineFault.TheVariants.{BadLine}
+use Rattle.scenario_words.specs.Places.{WordPlace, between, octets_up_to, number_in_octets, one}
 use Rattle.scenario_words.specs.Reading.{Left, ◌>>=◌, next_of, taken, decimal_in, octets_in, number_in, word_in, with_stream, streams_of, wish_of, wishes_of}
 use Rattle.scenario_words.specs.Spelling.{SpellsWord}
 use Rattle.scenario_words.specs.Fitting.{FitsWord, FitsIndices, FitsPairs}
@@ -130,15 +130,15 @@ pair_stops : (before : List Wish) (more read k : ℕ) (word : List ℕ) (words :
     → ((metadata : List ℕ) (rest : List (List ℕ)) (wish : Wish) → words ≡ metadata ∷ rest → go_on before more (wish, left_of rest (read + 1 + 1)) ≡ Err (BadLine k)
       → (j : ℕ) × (k ≡ read + 1 + 1 + j) × Stops (FitsPairs more) rest j)
     → (j : ℕ) × (k ≡ read + j) × Stops (FitsPairs (suc more)) (word ∷ words) j
-pair_stops before more read k word words r (first_misfits no) e rest =
+pair_stops before more read k word words r (first_misfits misfits) e rest =
     let same : read ≡ k = bad_is (List Wish × Left) read k e in
-    (0, omega arith, record { within = omega arith; front = tt; no_more = λ inside fits. no fits })
+    (0, omega arith, record { within = omega arith; front = tt; no_more = λ inside fits. misfits fits })
 pair_stops before more read k word words r (second_lacks fits none) e rest =
     let same : read + 1 ≡ k = bad_is (List Wish × Left) (read + 1) k e in
     rw none (1, omega arith, record { within = omega arith; front = fits; no_more = λ inside more_fits. absurd (omega (arith, inside)) })
-pair_stops before more read k word words r (second_misfits metadata others is fits no) e rest =
+pair_stops before more read k word words r (second_misfits metadata others is fits misfits) e rest =
     let same : read + 1 ≡ k = bad_is (List Wish × Left) (read + 1) k e in
-    rw is (1, omega arith, record { within = omega arith; front = fits; no_more = λ inside both. no both.1 })
+    rw is (1, omega arith, record { within = omega arith; front = fits; no_more = λ inside both. misfits both.1 })
 pair_stops before more read k word words r (both_fit metadata others wish is fits also) e rest =
     let it = rest metadata others wish is e in
     rw is (suc (suc it.0), omega (arith, it.1), record { within = omega (arith, it.2.within); front = (fits, also, it.2.front); no_more = λ inside all. it.2.no_more (omega (arith, inside)) all.2 })
@@ -157,9 +157,9 @@ pair_ends : (before all : List Wish) (more read : ℕ) (word : List ℕ) (words 
     → ((metadata : List ℕ) (rest : List (List ℕ)) (wish : Wish) → words ≡ metadata ∷ rest → go_on before more (wish, left_of rest (read + 1 + 1)) ≡ Ok (all, left)
       → (j : ℕ) × (left.read ≡ read + 1 + 1 + j) × Stops (FitsPairs more) rest j)
     → (j : ℕ) × (left.read ≡ read + j) × Stops (FitsPairs (suc more)) (word ∷ words) j
-pair_ends before all more read word words left r (first_misfits no) e rest = absurd cc
+pair_ends before all more read word words left r (first_misfits misfits) e rest = absurd cc
 pair_ends before all more read word words left r (second_lacks fits none) e rest = absurd cc
-pair_ends before all more read word words left r (second_misfits metadata others is fits no) e rest = absurd cc
+pair_ends before all more read word words left r (second_misfits metadata others is fits misfits) e rest = absurd cc
 pair_ends before all more read word words left r (both_fit metadata others wish is fits also) e rest =
     let it = rest metadata others wish is e in
     rw is (suc (suc it.0), omega (arith, it.1), record { within = omega (arith, it.2.within); front = (fits, also, it.2.front); no_more = λ inside all. it.2.no_more (omega (arith, inside)) all.2 })

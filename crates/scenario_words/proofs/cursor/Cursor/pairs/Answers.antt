@@ -1,7 +1,5 @@
-use Rattle.std.proofs.Common.{◌≡◌, ◌≢◌, ◌<◌, ◌-◌, length, [], true, false, arith, sym, ◌∙◌, eqb-true}
-use Rattle.std.proofs.lemmas.Bool.{eqb-false}
+use Rattle.std.proofs.Common.{◌≡◌, ◌≢◌, ◌<◌, length, [], true, false, arith}
 use Rattle.std.proofs.lemmas.Result.{err_from_is_err_and}
-use Rattle.std.proofs.lemmas.List.{length-append}
 use Rattle.scenario_words.specs.Reading.{wishes_of}
 use Rattle.scenario_words.proofs.Streams.{no_words}
 use Rattle.scenario_words.proofs.WishWords.{wish_read, wish_fails, no_wish, all_wishes, one_longer, metadata_more}
