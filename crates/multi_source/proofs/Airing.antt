@@ -14,7 +14,10 @@ use Rattle.source_machine.specs.Airs.{AreAirs, Sends, airs_of, pdu_of}
 use Rattle.source_machine.specs.Calls.{Setup, Call, give, event, events, next_of}
 use Rattle.source_machine.specs.Faults.{air_fault}
 use Rattle.source_machine.proofs.AirLaws.{airs_exist, sends_stay}
-use Rattle.multi_source.specs.State.Broadcasts.{IsOfGroup, IsOnAir}
+use Rattle.source_machine.specs.State.Sources.{Source, AfterFault as SourceFault}
+use Rattle.source_machine.specs.declared.fault.EventFault.{EventFault}
+use Rattle.source_machine.specs.declared.fault.EventFault.TheVariants.{CounterEnds, Memory}
+use Rattle.multi_source.specs.State.Broadcasts.{AfterFault, Broadcasting, IsOfGroup, IsOnAir}
 
 -- the list that is kept behind a new item
 kept_length : {A : Type 0} (xs : List A) (x : A) → length (keep_last 32 (xs ++ x ∷ [])) ≡ min 32 (length xs + 1)
@@ -131,3 +134,9 @@ heard_is setup calls airs air back bis subevent pdu least on are fine is =
     sym (sends.each bis subevent least has_stream has_subevent)
     ∙ ap (λ n. slice_get (get_or air.events (length air.events - 1 - back) []) ((bis - 1) * n + subevent)) (sym on.group.subevents)
     ∙ sym (ap (option_and_then (λ pdus. slice_get pdus ((bis - 1) * air.nse + subevent))) stands) ∙ is
+
+-- a refused event
+pub refused : (old new : Source) (air : OnAir) (fault : EventFault) → SourceFault fault old new
+    → (let before : Broadcasting = record { source = old; air = air } in let after : Broadcasting = record { source = new; air = air } in AfterFault fault before after)
+refused old new air CounterEnds is = ap (λ (s : Source). record { source = s; air = air }) is
+refused old new air Memory is = (is, refl)

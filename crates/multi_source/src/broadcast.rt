@@ -1,18 +1,16 @@
 ghost use Rattle.std.specs.Prelude.{◌≡◌, ◌≤◌, ◌<◌, ◌+◌, ◌-◌, ◌^◌, ◌∷◌, [], List, Some, None, true, IfOk, IfErr, IfSome, OnOk, OnErr};
-ghost use Rattle.big_info.specs.Widths.{FitsWidths};
-ghost use Rattle.big_info.specs.Rows.{first_fault};
 ghost use Rattle.isoal_base.specs.Air.{Air as StreamAir};
 ghost use Rattle.source_machine.specs.Airs.{AreAirs, pdu_of};
 ghost use Rattle.source_machine.specs.Calls.{Call, give as gives, event as performs, last_of, next_anchor_of, next_of};
-ghost use Rattle.source_machine.specs.Faults.{ConfigureFails, air_fault, event_fault, give_fault, refused_event, refused_unit};
+ghost use Rattle.source_machine.specs.Faults.{air_fault, event_fault, give_fault, refused_event, refused_unit};
 ghost use Rattle.source_machine.specs.Setups.{started};
-ghost use Rattle.multi_source.specs.State.Broadcasts.{StandsFor};
+ghost use Rattle.multi_source.specs.State.Broadcasts.{AfterFault, StandsFor};
 
-use bcast_base::Bis;
-use big_info::{Group, Limits};
+use bcast_base::{Bis, Memory};
+use big_info::Group;
 use radio_schedule::{Air, AirFault};
 use source_machine::{
-    ConfigureFault, EventFault, GiveFault, Identity, Setup, SourceIdle, SourceStreaming, StaleList,
+    EventFault, GiveFault, Identity, SourceConfigured, SourceStreaming, StaleList,
 };
 use std::alloc::Global;
 use std::marker::Model;
@@ -37,35 +35,22 @@ impl Model for Broadcast {
 }
 
 impl Broadcast {
-    /// Starts a source of an unframed group, whose next event is `first`, by these limits. Nothing is on the air.
-    ///
-    /// BadGroup comes exactly where a row of the group check holds, with the first that does.
+    /// Starts a source, whose next event is `first`. Nothing is on the air.
     pub fn start(
         alloc: Global,
-        setup: Setup,
-        limits: Limits,
+        configured: SourceConfigured,
         first: u64,
-    ) -> Result<Broadcast, ConfigureFault>
-        requires widths { FitsWidths setup.info }
-        requires horizon { limits.horizon ≤ 31 }
-        requires unframed { setup.info.framing ≡ 0 }
-        requires origin { setup.origin ≤ 2 ^ 48 }
-        requires delay { setup.delay < 2 ^ 24 }
-        requires first { first < 2 ^ 39 }
-        ensures ok { IfOk result (λ broadcast. (broadcast.source.identity ≡ setup.identity) × (broadcast.source.setup ≡ started setup first) × StandsFor [] broadcast) }
-        ensures checked { OnOk result (first_fault limits.horizon setup.info ≡ None) }
-        ensures err { IfErr result (λ fault. ConfigureFails limits.horizon setup.info fault) }
+    ) -> Result<Broadcast, Memory>
+        requires { first < 2 ^ 39 }
+        ensures { IfOk result (λ broadcast. (broadcast.source.identity ≡ configured.identity)
+            × (broadcast.source.setup ≡ started configured first) × StandsFor [] broadcast) }
     {
-        let configured = match SourceIdle::new(alloc).configure_within(setup, limits) {
-            Ok(configured) => configured,
-            Err(kept) => return Err(kept.fault),
-        };
         match configured.start(first) {
-            Ok(source) => match Air::new(alloc, source.group()) {
-                Ok(air) => Ok(Broadcast { source, first, air }),
-                Err(_) => Err(ConfigureFault::Memory),
-            },
-            Err(_) => Err(ConfigureFault::Memory),
+            Ok(source) => {
+                let air = Air::new(alloc, source.group())?;
+                Ok(Broadcast { source, first, air })
+            }
+            Err(kept) => Err(kept.fault),
         }
     }
 
@@ -92,6 +77,7 @@ impl Broadcast {
         ensures stale { IfOk result (λ stale. stale ≡ []) }
         ensures cause { IfErr result (λ fault. (calls : List Call) → StandsFor calls self.old
             → event_fault self.old.source.setup calls ≡ refused_event fault) }
+        ensures err { IfErr result (λ fault. AfterFault fault self.old self.new) }
         ensures next { OnOk result (self.new.source.next ≡ self.old.source.next + 1) }
         ensures same { OnErr result (self.new.source.next ≡ self.old.source.next) }
     {

@@ -1,4 +1,4 @@
-//! Two sources side by side, and the air that each is heard through.
+//! Sources with the air that each is heard through: one of a scenario, and two side by side.
 #![tactic(auto)]
 
 mod broadcast;

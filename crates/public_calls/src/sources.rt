@@ -1,8 +1,9 @@
 ghost use Rattle.std.specs.Prelude.{◌≡◌};
 
 use bcast_base::Bis;
-use big_info::{BigInfo, check_group};
-use source_machine::{Broadcast, EventFault, GiveFault};
+use big_info::{BigInfo, Limits};
+use multi_source::Broadcast;
+use source_machine::{EventFault, GiveFault, Identity, Setup, SourceIdle};
 use std::test::Fail;
 
 /// One stream of a unit every 10 ms in PDUs of at most 4 octets on LE 2M.
@@ -33,11 +34,59 @@ fn info(max_sdu: u16, bn: u8, nse: u8, irc: u8, pto: u8) -> BigInfo
     }
 }
 
+/// The source of a group: no name, the first event at 20 ms, presented 40 ms later.
+fn setup(info: BigInfo) -> Setup
+    ensures info { result.info ≡ info }
+    ensures origin { result.origin ≡ 20000 }
+    ensures delay { result.delay ≡ 40000 }
+{
+    Setup {
+        identity: Identity {
+            address_type: 0,
+            address: [0; 6],
+            sid: 0,
+            broadcast_id: [0; 3],
+        },
+        info,
+        origin: 20000,
+        delay: 40000,
+    }
+}
+
+#[test]
+fn a_source_sends_each_pdu_at_its_place(rt: HostRuntime) -> Result<(), Fail> {
+    let info = info(4, 1, 2, 2, 0);
+    assert!(rt; info.fits());
+    let Ok(configured) = SourceIdle::new(rt.alloc()).configure(setup(info)) else {
+        return Err("no group".into());
+    };
+    let Ok(mut source) = configured.start(3) else {
+        return Err("no memory".into());
+    };
+    let one = Bis::new(1).ok_or("no stream")?;
+    source.give(one, None, &[0xC0])?;
+    let sent = source.event()?;
+    assert_eq!(rt; sent.event, 3);
+    let pdu = [0x00, 0x01, 0xC0];
+    match sent.pdus.as_slice() {
+        [first, copy] => {
+            assert_eq!(rt; first.as_slice(), pdu.as_slice());
+            assert_eq!(rt; copy.as_slice(), pdu.as_slice());
+        }
+        _ => return Err("an event of two PDUs".into()),
+    }
+    assert_eq!(rt; sent.stale.count(), 0);
+    assert_eq!(rt; source.next_event(), 4);
+    assert_eq!(rt; source.next_anchor(), 30000);
+    let _ = source.stop().release();
+    Ok(())
+}
+
 #[test]
 fn a_long_unit_begins_with_a_full_fragment(rt: HostRuntime) -> Result<(), Fail> {
     let info = info(8, 2, 2, 1, 0);
     assert!(rt; info.fits());
-    let mut source = Broadcast::new(rt.alloc(), &check_group(&info)?, 20000, 40000, 0)?;
+    let mut source = Broadcast::start(rt.alloc(), setup(info), Limits::VERSION_1, 0)?;
     let one = Bis::new(1).ok_or("no stream")?;
     source.give(one, None, &[1, 2, 3, 4])?;
     source.event()?;
@@ -52,7 +101,7 @@ fn a_long_unit_begins_with_a_full_fragment(rt: HostRuntime) -> Result<(), Fail> 
 fn a_later_copy_carries_a_later_unit(rt: HostRuntime) -> Result<(), Fail> {
     let info = info(4, 1, 4, 2, 1);
     assert!(rt; info.fits());
-    let mut source = Broadcast::new(rt.alloc(), &check_group(&info)?, 20000, 40000, 0)?;
+    let mut source = Broadcast::start(rt.alloc(), setup(info), Limits::VERSION_1, 0)?;
     let one = Bis::new(1).ok_or("no stream")?;
     source.give(one, None, &[0xC0])?;
     source.give(one, None, &[0xC1])?;
@@ -70,9 +119,9 @@ fn the_payload_counter_ends(rt: HostRuntime) -> Result<(), Fail> {
     let info = info(4, 1, 1, 1, 0);
     assert!(rt; info.fits());
     let last = 549_755_813_887;
-    let mut source = Broadcast::new(rt.alloc(), &check_group(&info)?, 20000, 40000, last)?;
+    let mut source = Broadcast::start(rt.alloc(), setup(info), Limits::VERSION_1, last)?;
     source.event()?;
-    assert_eq!(rt; source.event(), Err(EventFault::CounterEnds));
+    assert!(rt; matches!(source.event(), Err(EventFault::CounterEnds)));
     assert_eq!(rt; source.last_event(), Some(last));
     Ok(())
 }
@@ -81,7 +130,7 @@ fn the_payload_counter_ends(rt: HostRuntime) -> Result<(), Fail> {
 fn no_more_than_16_units_wait(rt: HostRuntime) -> Result<(), Fail> {
     let info = info(4, 1, 1, 1, 0);
     assert!(rt; info.fits());
-    let mut source = Broadcast::new(rt.alloc(), &check_group(&info)?, 20000, 40000, 0)?;
+    let mut source = Broadcast::start(rt.alloc(), setup(info), Limits::VERSION_1, 0)?;
     let one = Bis::new(1).ok_or("no stream")?;
     for _ in 0..16 {
         source.give(one, None, &[0xAA])?;

@@ -13,7 +13,7 @@ use crate::machine::Machine;
 use crate::version::Version;
 use bcast_base::Bis;
 use big_info::BigInfo;
-use scenario_sources::Identity;
+use source_machine::Identity;
 use transcript_text::Stop;
 
 impl Machine {

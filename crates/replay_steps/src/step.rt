@@ -12,8 +12,9 @@ use crate::machine::Machine;
 use crate::version::{Stage, Version};
 use bcast_base::Octets;
 use big_info::BigInfo;
-use scenario_sources::{Identity, Place};
+use scenario_sources::Place;
 use scenario_text::Step;
+use source_machine::Identity;
 use transcript_text::{Refusal, Stop};
 use unit_outlets::Outlet;
 

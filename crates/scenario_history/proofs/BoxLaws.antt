@@ -1,5 +1,6 @@
 -- What boxes took, unit by unit and all together.
-use Rattle.std.proofs.Common.{◌≡◌, ◌≢◌, ℕ, ◌+◌, ◌-◌, zero, suc, Bool, true, false, eqb, List, [], ◌∷◌, ◌++◌, length, map, drop, refl, sym, ap, ◌∙◌, append_assoc, arith, slice_get, slice_set, Option, None, Some, length-append, length-drop, inl, inr}
+use Rattle.std.proofs.Common.{◌≡◌, ◌≢◌, ℕ, ◌+◌, ◌-◌, zero, suc, Bool, true, false, eqb, List, [], ◌∷◌, ◌++◌, length}
+use Rattle.std.proofs.Common.{map, drop, refl, sym, ap, ◌∙◌, append_assoc, arith, slice_get, slice_set, Option, None, Some, length-append, length-drop, inl, inr}
 use Rattle.std.specs.Prelude.{slice_index_or, option_map, sum}
 use Rattle.std.proofs.lemmas.List.{drop-drop, drop-append-le}
 use Rattle.std.proofs.lemmas.Bool.Decides.{eqb_tells}

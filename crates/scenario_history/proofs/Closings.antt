@@ -52,7 +52,8 @@ housed_after airs boxes n (steps.Drop sink) earlier calls permits before none = 
 housed_after airs boxes n (steps.Tuned sink which) earlier calls permits before none =
     put_housed n sink (tuning_of (chosen_steps earlier) which) earlier calls (has_box sink earlier permits.by_sinks) before none (sink == n) refl
 housed_after airs boxes n (steps.Hear sink back bis subevent) earlier calls permits before none =
-    same_place (reaches sink n earlier) (hear (event_back (chosen_steps earlier) back) bis subevent (pdu_in airs (chosen_steps earlier) (event_back (chosen_steps earlier) back) bis subevent) ∷ calls) calls refl ∙ before none
+    same_place (reaches sink n earlier)
+    (hear (event_back (chosen_steps earlier) back) bis subevent (pdu_in airs (chosen_steps earlier) (event_back (chosen_steps earlier) back) bis subevent) ∷ calls) calls refl ∙ before none
 housed_after airs boxes n (steps.Air sink lose) earlier calls permits before none =
     same_place (reaches sink n earlier) (heard_on_air airs (chosen_steps earlier) lose (spots_of (chosen_steps earlier)) calls) calls
     (air_place airs (chosen_steps earlier) lose (spots_of (chosen_steps earlier)) calls) ∙ before none

@@ -1,5 +1,6 @@
 -- Each PDU that a sink hears on a stream of its group is the source's own at its payload number, where none is injected.
-use Rattle.std.proofs.Common.{ℕ, zero, suc, ◌≡◌, ◌≢◌, ◌<◌, ◌≤◌, ◌+◌, ◌*◌, ◌/◌, ◌%◌, ◌^◌, ◌&&◌, ◌||◌, ◌==◌, cond, ltb, leb, Bool, true, false, List, [], ◌∷◌, ◌++◌, Option, None, Some, refl, sym, ◌∙◌, ap, subst, arith, inl, inr}
+use Rattle.std.proofs.Common.{ℕ, zero, suc, ◌≡◌, ◌≢◌, ◌<◌, ◌≤◌, ◌+◌, ◌*◌, ◌/◌, ◌%◌, ◌^◌, ◌&&◌, ◌||◌, ◌==◌, cond, ltb, leb}
+use Rattle.std.proofs.Common.{Bool, true, false, List, [], ◌∷◌, ◌++◌, Option, None, Some, refl, sym, ◌∙◌, ap, subst, arith, inl, inr}
 use Rattle.std.specs.Prelude.{unwrap_or}
 use Rattle.std.specs.List.{AllByRecursion}
 use Rattle.std.proofs.Math.Nat.{div-lt_iff_lt-mul}
@@ -56,7 +57,8 @@ air_same : (setup : Setup) (whole : List SourceCall) (tuning : Tuning) (bis : �
     → content_at setup whole bis (payload_number setup.info event subevent)
     ≡ air_at (stay_on tuning bis) (slots_of setup whole bis) (payload_number tuning.info event subevent)
 air_same setup whole tuning bis event subevent same =
-    ap (λ (i : BigInfo). laid i.max_pdu (slots_of setup whole bis (payload_number i event subevent / i.bn) (payload_number i event subevent % i.bn / per_unit_of i)) (payload_number i event subevent % i.bn % per_unit_of i)) (sym same)
+    ap (λ (i : BigInfo). laid i.max_pdu (slots_of setup whole bis (payload_number i event subevent / i.bn) (payload_number i event subevent % i.bn / per_unit_of i))
+    (payload_number i event subevent % i.bn % per_unit_of i)) (sym same)
 
 -- each PDU that these steps of a source sent is the source's own in the stay
 abbrev pub SendsOwn : Airs → Setup → List SourceCall → Tuning → List Step → Type 0
@@ -237,7 +239,8 @@ own_after airs setup whole tuning boxes s n bis steps.Event earlier calls inject
 own_after airs setup whole tuning boxes s n bis steps.Stop earlier calls injected permits least there clean ready =
     tick_if_own setup whole tuning bis (is_of (chosen_of earlier) (source_of n earlier)) (open_event (chosen_steps earlier)) calls (ready clean).all
 own_after airs setup whole tuning boxes s n bis steps.End earlier calls injected permits least there clean ready =
-    tick_if_own setup whole tuning bis (is_of 1 (source_of n earlier)) (open_event (steps_of_source 1 earlier)) (ticked_if (is_of 0 (source_of n earlier)) (open_event (steps_of_source 0 earlier)) calls)
+    tick_if_own setup whole tuning bis (is_of 1 (source_of n earlier)) (open_event (steps_of_source 1 earlier))
+    (ticked_if (is_of 0 (source_of n earlier)) (open_event (steps_of_source 0 earlier)) calls)
     (tick_if_own setup whole tuning bis (is_of 0 (source_of n earlier)) (open_event (steps_of_source 0 earlier)) calls (ready clean).all)
 own_after airs setup whole tuning boxes s n bis _ earlier calls injected permits least there clean ready = (ready clean).all
 

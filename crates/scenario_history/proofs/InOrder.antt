@@ -118,7 +118,8 @@ cond_true_more first count false is = absurd (false≢true is)
 closed_orders : Below → (airs : Airs) → MeetAirs airs → (boxes s n bis : ℕ) (setup : Setup) (whole : List SourceCall) (made : List Step) → Ready airs boxes s n bis setup whole made
     → (event : ℕ) → event < next_in (steps_of_source s made) → (tuning : Tuning) → IsOn airs s n made tuning → (later : ℕ) → tuning.first + closes tuning (sink_calls airs n made) < later
     → tuning.first + closes tuning (sink_calls airs n made) ≤ event → (units : List Handed) → Ordered setup whole bis (tuning.first + closes tuning (sink_calls airs n made)) units
-    → of_stream bis (handed_at (sink_calls airs n made) event) ≡ units_of (stay_on tuning bis) (stream_calls (stay_on tuning bis) (sink_calls airs n made)) (tuning.first + closes tuning (sink_calls airs n made))
+    → of_stream bis (handed_at (sink_calls airs n made) event)
+    ≡ units_of (stay_on tuning bis) (stream_calls (stay_on tuning bis) (sink_calls airs n made)) (tuning.first + closes tuning (sink_calls airs n made))
     → Ordered setup whole bis later (units ++ valid_in (of_stream bis (handed_at (sink_calls airs n made) event)))
 closed_orders below airs meets boxes s n bis setup whole made ready event before tuning is later past over units order shown =
     let own : List Step = steps_of_source s made in
@@ -152,14 +153,17 @@ event_orders below airs meets boxes s n bis setup whole made ready event before 
           (tick_others below event (sink_calls airs n made) tuning bis is (λ taken. true_not_false (is_in tuning.which bis) (member_is tuning.which bis taken).0 free)) order
       | inl taken ↦
           let shown : of_stream bis (handed_at (sink_calls airs n made) event)
-          ≡ cond (leb (tuning.first + closes tuning (sink_calls airs n made)) event) (units_of (stay_on tuning bis) (stream_calls (stay_on tuning bis) (sink_calls airs n made)) (tuning.first + closes tuning (sink_calls airs n made))) [] =
+          ≡ cond (leb (tuning.first + closes tuning (sink_calls airs n made)) event)
+          (units_of (stay_on tuning bis) (stream_calls (stay_on tuning bis) (sink_calls airs n made)) (tuning.first + closes tuning (sink_calls airs n made))) [] =
           tick_hands below event (sink_calls airs n made) tuning bis is (is_member tuning.which bis ready.least ready.greatest taken)
           ∙ ap (λ o. cond (leb o event) (units_of (stay_on tuning bis) (stream_calls (stay_on tuning bis) (sink_calls airs n made)) o) []) (below.one_open tuning (sink_calls airs n made) bis) in
           elim (cases_Bool (leb (tuning.first + closes tuning (sink_calls airs n made)) event)) [
             | inr not_over ↦ ordered_same setup whole bis (tuning.first + closes tuning (sink_calls airs n made)) later units (of_stream bis (handed_at (sink_calls airs n made) event)) front_is
-                (shown ∙ ap (λ over. cond over (units_of (stay_on tuning bis) (stream_calls (stay_on tuning bis) (sink_calls airs n made)) (tuning.first + closes tuning (sink_calls airs n made))) []) not_over) order
+                (shown ∙ ap (λ over. cond over (units_of (stay_on tuning bis) (stream_calls (stay_on tuning bis) (sink_calls airs n made))
+                (tuning.first + closes tuning (sink_calls airs n made))) []) not_over) order
             | inl over ↦ closed_orders below airs meets boxes s n bis setup whole made ready event before tuning (record { place_is = is; source_is = its }) later
-                (omega (arith, past, cond_true_more tuning.first (closes tuning (sink_calls airs n made)) (leb (tuning.first + closes tuning (sink_calls airs n made)) event) over)) (leb-true _ _ over) units order
+                (omega (arith, past, cond_true_more tuning.first (closes tuning (sink_calls airs n made)) (leb (tuning.first + closes tuning (sink_calls airs n made)) event) over))
+                (leb-true _ _ over) units order
                 (shown ∙ ap (λ b. cond b (units_of (stay_on tuning bis) (stream_calls (stay_on tuning bis) (sink_calls airs n made)) (tuning.first + closes tuning (sink_calls airs n made))) []) over)
           ]
     ]
@@ -198,11 +202,13 @@ by_step : Below → (airs : Airs) → MeetAirs airs → (boxes s n bis : ℕ) (s
     → Ordered setup whole bis (front (is_of s (source_after n step earlier (source_of n earlier))) (with_sink_call airs n step earlier (sink_calls airs n earlier)) next)
     (units ++ valid_in (of_stream bis (shown_by airs s n earlier step)))
 by_step below airs meets boxes s n bis setup whole steps.Event earlier ready next more units order past =
-    close_orders below airs meets boxes s n bis setup whole earlier ready (open_event (steps_of_source s earlier)) (open_before (steps_of_source s earlier)) (mine_in s n earlier) (chosen_of earlier == s) refl _
+    close_orders below airs meets boxes s n bis setup whole earlier ready (open_event (steps_of_source s earlier)) (open_before (steps_of_source s earlier)) (mine_in s n earlier)
+    (chosen_of earlier == s) refl _
     (λ mine. event_ticks (chosen_of earlier) s (λ t. open_event (steps_of_source t earlier)) (sink_calls airs n earlier) (source_of n earlier) (is_its s (source_of n earlier) mine))
     next more units order past
 by_step below airs meets boxes s n bis setup whole steps.Stop earlier ready next more units order past =
-    close_orders below airs meets boxes s n bis setup whole earlier ready (open_event (steps_of_source s earlier)) (open_before (steps_of_source s earlier)) (mine_in s n earlier) (chosen_of earlier == s) refl _
+    close_orders below airs meets boxes s n bis setup whole earlier ready (open_event (steps_of_source s earlier)) (open_before (steps_of_source s earlier)) (mine_in s n earlier)
+    (chosen_of earlier == s) refl _
     (λ mine. event_ticks (chosen_of earlier) s (λ t. open_event (steps_of_source t earlier)) (sink_calls airs n earlier) (source_of n earlier) (is_its s (source_of n earlier) mine))
     next more units order past
 by_step below airs meets boxes s n bis setup whole steps.End earlier ready next more units order past =

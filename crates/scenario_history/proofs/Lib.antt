@@ -15,3 +15,4 @@ pub mod Shown
 pub mod Numbers
 pub mod InOrder
 pub mod MetAirs
+pub mod OneTranscript

@@ -1,5 +1,6 @@
 -- The units of an event by their numbers, and what a close hands of them.
-use Rattle.std.proofs.Common.{ℕ, zero, suc, ◌≡◌, ◌<◌, ◌≤◌, ◌+◌, ◌-◌, ◌==◌, min, cond, Bool, true, false, List, [], ◌∷◌, ◌++◌, length, map, Some, refl, sym, ◌∙◌, ap, subst, arith, inl, inr, append_assoc}
+use Rattle.std.proofs.Common.{ℕ, zero, suc, ◌≡◌, ◌<◌, ◌≤◌, ◌+◌, ◌-◌, ◌==◌, min, cond, Bool, true, false, List}
+use Rattle.std.proofs.Common.{[], ◌∷◌, ◌++◌, length, map, Some, refl, sym, ◌∙◌, ap, subst, arith, inl, inr, append_assoc}
 use Rattle.std.specs.Prelude.{slice_get}
 use Rattle.std.specs.List.{AllZip, AllByRecursion, range_with_len}
 use Rattle.std.proofs.lemmas.Bool.{cases_eq, eq-eqb, ne_eqb, false≢true}
@@ -167,7 +168,8 @@ batch_one setup whole bis event slot low (lost stream time) rest from_first perf
 batch_one setup whole bis event slot low (valid stream time octets) rest from_first performed_then inside least most is more =
     let here = is stream time octets refl in
     let count : first_in setup.info (source_stream setup.info bis whole) (event - setup.first) + slot < length (accepted (before_event (source_stream setup.info bis whole) (event - setup.first))) =
-    slice_get_within (accepted (before_event (source_stream setup.info bis whole) (event - setup.first))) (first_in setup.info (source_stream setup.info bis whole) (event - setup.first) + slot) octets here.2 in
+    slice_get_within (accepted (before_event (source_stream setup.info bis whole) (event - setup.first)))
+    (first_in setup.info (source_stream setup.info bis whole) (event - setup.first) + slot) octets here.2 in
     let next = more (first_in setup.info (source_stream setup.info bis whole) (event - setup.first) + slot + 1) (omega arith) (omega (arith, count, inside)) in
     let front_of_all = accepted_more (source_stream setup.info bis whole) (event - setup.first) in
     let found : slice_get (given bis whole) (place_of setup whole bis event slot) ≡ Some octets =
@@ -265,9 +267,11 @@ last_batch setup whole tuning bis event sc on is past from_first performed_then 
     (handed (stay_on tuning bis) sc) (map (unit_at (stay_on tuning bis) sc (opened (stay_on tuning bis) sc)) (range_with_len 0 (per_event_of tuning.info)))
     (AllZip-long _ _ _ before) now in
     let count : per_event_of tuning.info ≡ per_event_of setup.info = ap per_event_of on.info in
-    let begun_least : begun setup.info (before_event (source_stream setup.info bis whole) (event - setup.first)) ≤ length (accepted (before_event (source_stream setup.info bis whole) (event - setup.first))) =
+    let begun_least : begun setup.info (before_event (source_stream setup.info bis whole) (event - setup.first)) ≤ length
+    (accepted (before_event (source_stream setup.info bis whole) (event - setup.first))) =
     begun_within setup.info (before_event (source_stream setup.info bis whole) (event - setup.first)) in
-    batch setup whole bis event (unit_at (stay_on tuning bis) sc event) 0 (per_event_of tuning.info) (first_in setup.info (source_stream setup.info bis whole) (event - setup.first)) from_first performed_then
+    batch setup whole bis event (unit_at (stay_on tuning bis) sc event) 0 (per_event_of tuning.info)
+    (first_in setup.info (source_stream setup.info bis whole) (event - setup.first)) from_first performed_then
     (omega (arith, count)) (omega arith) (omega (arith, begun_least))
     (λ slot least below. struck_slots setup whole tuning bis event slot (stays.close ∷ sc) (unit_at (stay_on tuning bis) sc event slot) on past
     (subst (λ e. IsStruck (stay_on tuning bis) (slots_of setup whole bis) (stays.close ∷ sc) e slot (unit_at (stay_on tuning bis) sc e slot)) is

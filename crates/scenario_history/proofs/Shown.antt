@@ -1,5 +1,6 @@
 -- What a sink hands up on a stream of a source is one entry for each slot of each event of it that the sink closed.
-use Rattle.std.proofs.Common.{ℕ, zero, suc, ◌≡◌, ◌<◌, ◌≤◌, ◌+◌, ◌-◌, ◌*◌, ◌==◌, cond, leb, eqb, Bool, true, false, List, [], ◌∷◌, ◌++◌, map, Option, None, Some, refl, sym, ◌∙◌, ap, subst, arith, inl, inr}
+use Rattle.std.proofs.Common.{ℕ, zero, suc, ◌≡◌, ◌<◌, ◌≤◌, ◌+◌, ◌-◌, ◌*◌, ◌==◌, cond, leb, eqb, Bool, true, false}
+use Rattle.std.proofs.Common.{List, [], ◌∷◌, ◌++◌, map, Option, None, Some, refl, sym, ◌∙◌, ap, subst, arith, inl, inr}
 use Rattle.std.specs.List.{AllZip, Contains, range_with_len}
 use Rattle.std.proofs.Math.Nat.{add-mul}
 use Rattle.std.proofs.lemmas.Bool.{cases_Bool, cond-true}
@@ -27,7 +28,8 @@ use Rattle.scenario_history.specs.Steps.{chosen_of, steps_of_source}
 use Rattle.scenario_history.specs.Source.{Airs, open_event, setup_of, source_calls}
 use Rattle.scenario_history.specs.Sinks.{is_of, sink_calls, source_of}
 use Rattle.scenario_history.specs.Boxes.{SinkUnit, handed_by}
-use Rattle.scenario_history.specs.Laws.{Closed, IsOfSlot, closed_at, closed_by, closed_if, closed_in, closed_since, handed_since, is_made, of_sink, shown_since, slots_closed, slots_in, time_in, whole_stay}
+use Rattle.scenario_history.specs.Laws.{Closed, IsOfSlot, closed_at, closed_by, closed_if, closed_in, closed_since}
+use Rattle.scenario_history.specs.Laws.{handed_since, is_made, of_sink, shown_since, slots_closed, slots_in, time_in, whole_stay}
 use Rattle.scenario_history.proofs.Below.{Below}
 use Rattle.scenario_history.proofs.Legals.{Legal}
 use Rattle.scenario_history.proofs.Sources.{true_not_false}
@@ -126,7 +128,8 @@ event_zip : Below → (setup : Setup) (bis event : ℕ) (calls : List Call) (p :
 event_zip below setup bis event calls None is on least within = subst (λ q. AllZip (IsOfSlot setup bis) [] (of_stream bis (ticked_by event calls q))) (sym is) tt
 event_zip below setup bis event calls (Some tuning) is on least within = elim (cases_Bool (is_in tuning.which bis)) [
   | inl taken ↦
-      let units : of_stream bis (handed_at calls event) ≡ cond (leb (tuning.first + closes tuning calls) event) (units_of (stay_on tuning bis) (stream_calls (stay_on tuning bis) calls) (tuning.first + closes tuning calls)) [] =
+      let units : of_stream bis (handed_at calls event)
+      ≡ cond (leb (tuning.first + closes tuning calls) event) (units_of (stay_on tuning bis) (stream_calls (stay_on tuning bis) calls) (tuning.first + closes tuning calls)) [] =
       tick_hands below event calls tuning bis is (is_member tuning.which bis least within taken)
       ∙ ap (λ o. cond (leb o event) (units_of (stay_on tuning bis) (stream_calls (stay_on tuning bis) calls) o) []) (below.one_open tuning calls bis) in
       subst (λ shown. AllZip (IsOfSlot setup bis) (slots_closed setup bis (closed_in (Some tuning) calls event)) shown) (sym units)
@@ -135,7 +138,8 @@ event_zip below setup bis event calls (Some tuning) is on least within = elim (c
       let none : of_stream bis (handed_at calls event) ≡ [] =
       tick_others below event calls tuning bis is (λ at. true_not_false (is_in tuning.which bis) (member_is tuning.which bis at).0 free) in
       subst (λ shown. AllZip (IsOfSlot setup bis) (slots_closed setup bis (closed_in (Some tuning) calls event)) shown) (sym none)
-      (subst (λ places. AllZip (IsOfSlot setup bis) places []) (sym (not_in_slots setup bis (leb (tuning.first + closes tuning calls) event) (record { event = tuning.first + closes tuning calls; which = tuning.which }) free)) tt)
+      (subst (λ places. AllZip (IsOfSlot setup bis) places [])
+      (sym (not_in_slots setup bis (leb (tuning.first + closes tuning calls) event) (record { event = tuning.first + closes tuning calls; which = tuning.which }) free)) tt)
 ]
 
 -- ---- step by step
@@ -198,7 +202,8 @@ slots_zip below airs boxes s n bis setup whole (step ∷ earlier) legal within s
     let before : Within setup whole (steps_of_source s earlier) = within_before airs boxes s setup whole earlier step legal within in
     again_zip s n bis setup (is_made n step) (closed_since airs s n earlier) (closed_by airs s n earlier step) (handed_since (is_made n) airs earlier) (handed_by airs earlier step)
     (slots_zip below airs boxes s n bis setup whole earlier legal.0 before s_within n_within least upper)
-    (subst (λ units. AllZip (IsOfSlot setup bis) (slots_closed setup bis (closed_by airs s n earlier step)) (of_stream bis units)) (sym (step_shown airs boxes s n step earlier legal.0 s_within n_within))
+    (subst (λ units. AllZip (IsOfSlot setup bis) (slots_closed setup bis (closed_by airs s n earlier step)) (of_stream bis units))
+    (sym (step_shown airs boxes s n step earlier legal.0 s_within n_within))
     (step_zip below airs s n bis setup step earlier (on_whole airs boxes s n setup whole earlier legal.0 before) least upper))
 
 pub slots_are_shown : Below → (airs : Airs) (boxes s n bis : ℕ) (made : List Step) → Legal airs boxes made → s ≤ 1 → n ≤ 7 → 1 ≤ bis → bis ≤ 31

@@ -22,7 +22,8 @@ use Rattle.scenario_text.specs.declared.step.Step.TheVariants as steps
 use Rattle.scenario_text.specs.Ranges.{IsInRange, GroupRanges}
 use Rattle.transcript_text.specs.declared.refusal.Refusal.TheVariants.{BadGroup}
 use Rattle.scenario_history.specs.Steps.{chosen_of, is_common, is_of_source, is_source_line, steps_of_source, version_of}
-use Rattle.scenario_history.specs.Source.{Airs, Phase, absent, described, sending, stopped, group_of, info_with, is_absent_at, is_described_at, is_sending, is_sending_at, is_started, no_group, phase_of, setup_of, source_calls, start_of, was_started_at}
+use Rattle.scenario_history.specs.Source.{Airs, Phase, absent, described, sending, stopped, group_of, info_with, is_absent_at}
+use Rattle.scenario_history.specs.Source.{is_described_at, is_sending, is_sending_at, is_started, no_group, phase_of, setup_of, source_calls, start_of, was_started_at}
 use Rattle.scenario_history.specs.Airs.{AreAccepted}
 use Rattle.scenario_history.specs.Refusals.{counter_ends, give_refusal, horizon_in, is_out_of_phase, is_unbuilt, source_refusal}
 use Rattle.scenario_history.proofs.Legals.{Legal, Permitted, maps_none, permitted}

@@ -79,7 +79,8 @@ there_before airs s n (steps.Tuned sink which) earlier tuning calls source is =
     put_there s tuning (sink == n) (tuning_of (chosen_steps earlier) which) (chosen_of earlier) calls source is
 there_before airs s n (steps.Hear sink back bis subevent) earlier tuning calls source is =
     inl (there_still s tuning _ calls source
-    (same_place (reaches sink n earlier) (hear (event_back (chosen_steps earlier) back) bis subevent (pdu_in airs (chosen_steps earlier) (event_back (chosen_steps earlier) back) bis subevent) ∷ calls) calls refl) is)
+    (same_place (reaches sink n earlier)
+    (hear (event_back (chosen_steps earlier) back) bis subevent (pdu_in airs (chosen_steps earlier) (event_back (chosen_steps earlier) back) bis subevent) ∷ calls) calls refl) is)
 there_before airs s n (steps.Air sink lose) earlier tuning calls source is =
     inl (there_still s tuning _ calls source
     (same_place (reaches sink n earlier) (heard_on_air airs (chosen_steps earlier) lose (spots_of (chosen_steps earlier)) calls) calls

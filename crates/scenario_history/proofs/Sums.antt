@@ -1,5 +1,6 @@
 -- The sums of the boxes grow by the number and the octets of the valid units that went to each.
-use Rattle.std.proofs.Common.{ℕ, ◌≡◌, ◌<◌, ◌+◌, ◌==◌, ◌∙◌, Bool, true, false, List, [], ◌∷◌, length, map, sum, Option, None, Some, arith, refl, sym, ap, inl, inr, eq-eqb, if◌then◌else◌, get_or-set_other, length-set}
+use Rattle.std.proofs.Common.{ℕ, ◌≡◌, ◌<◌, ◌+◌, ◌==◌, ◌∙◌, Bool, true, false, List, [], ◌∷◌, length, map}
+use Rattle.std.proofs.Common.{sum, Option, None, Some, arith, refl, sym, ap, inl, inr, eq-eqb, if◌then◌else◌, get_or-set_other, length-set}
 use Rattle.std.proofs.lemmas.Bool.{ne_eqb, cases_eq}
 use Rattle.std.proofs.lemmas.Grind.{get_or-set_at}
 use Rattle.std.proofs.lemmas.List.Sums.{sum-map, sum_by-cons}
@@ -31,7 +32,8 @@ one_counted accounts to box (valid bis time octets) rest within = elim (cases_eq
       let count : (account_at accounts to).units ≡ (account_at accounts box).units = ap (λ b. (account_at accounts b).units) (sym same) in
       rw (eq-eqb to box (sym same), is) (omega (arith, count))
   | inr other ↦
-      let is : account_at (with_handed accounts to (valid bis time octets)) box ≡ account_at accounts box = get_or-set_other accounts to box (with_unit octets (account_at accounts to)) no_account other in
+      let is : account_at (with_handed accounts to (valid bis time octets)) box ≡ account_at accounts box =
+      get_or-set_other accounts to box (with_unit octets (account_at accounts to)) no_account other in
       rw (ne_eqb to box (λ e. other (sym e)), is) refl
 ]
 
@@ -48,7 +50,8 @@ one_summed accounts to box (valid bis time octets) rest within = elim (cases_eq 
       let count : (account_at accounts to).octets ≡ (account_at accounts box).octets = ap (λ b. (account_at accounts b).octets) (sym same) in
       rw (eq-eqb to box (sym same), is) (omega (arith, count, one_more octets rest))
   | inr other ↦
-      let is : account_at (with_handed accounts to (valid bis time octets)) box ≡ account_at accounts box = get_or-set_other accounts to box (with_unit octets (account_at accounts to)) no_account other in
+      let is : account_at (with_handed accounts to (valid bis time octets)) box ≡ account_at accounts box =
+      get_or-set_other accounts to box (with_unit octets (account_at accounts to)) no_account other in
       rw (ne_eqb to box (λ e. other (sym e)), is) refl
 ]
 

@@ -13,11 +13,13 @@ use Rattle.source_machine.specs.declared.fault.EventFault.{EventFault}
 use Rattle.source_machine.specs.Faults.{give_fault, event_fault, air_fault}
 use Rattle.delegator_machine.specs.Streams.{streams_of}
 use Rattle.transcript_text.specs.declared.refusal.Refusal.{Refusal}
-use Rattle.transcript_text.specs.declared.refusal.Refusal.TheVariants.{NotBuilt, AfterEnd, Order, BadGroup, IdentTwice, NoSuchSink, SinkTwice, NoOutlet, NoSuchBis, UnitTooLong, TimeOrder, Backlog, NoSuchSubevent, NotOnAir, CounterEnds}
+use Rattle.transcript_text.specs.declared.refusal.Refusal.TheVariants.{NotBuilt, AfterEnd, Order, BadGroup, IdentTwice, NoSuchSink, SinkTwice}
+use Rattle.transcript_text.specs.declared.refusal.Refusal.TheVariants.{NoOutlet, NoSuchBis, UnitTooLong, TimeOrder, Backlog, NoSuchSubevent, NotOnAir, CounterEnds}
 use Rattle.scenario_text.specs.declared.step.Step.{Step}
 use Rattle.scenario_text.specs.declared.step.Step.TheVariants.{Scenario, Group, Ident, Start, Sink, Tuned, Unit, Event, Hear, Air, Inject, Sniff, Drop, Stop, End, Source}
 use Rattle.scenario_history.specs.Steps.{Stage, chosen_of, chosen_steps, is_over, is_unbegun_at, other_of, sinks_made, stage_of, steps_of_source, version_of}
-use Rattle.scenario_history.specs.Source.{Airs, Identity, group_of, ident_of, identity_of, is_absent_at, is_described_at, is_sending, is_started, no_group, performed, phase_of, setup_of, source_calls}
+use Rattle.scenario_history.specs.Source.{Airs, Identity, group_of, ident_of, identity_of, is_absent_at, is_described_at}
+use Rattle.scenario_history.specs.Source.{is_sending, is_started, no_group, performed, phase_of, setup_of, source_calls}
 use Rattle.scenario_history.specs.Boxes.{box_of}
 
 abbrev pub refuse_if : Bool → Refusal → Option Refusal

@@ -1,8 +1,11 @@
 //! What holds of every scenario of which no line was refused.
-ghost use Rattle.std.specs.Prelude.{List};
+ghost use Rattle.std.specs.Prelude.{◌≡◌, List};
+ghost use Rattle.bcast_io.specs.TextLines.{TextLine};
 ghost use Rattle.unit_outlets.specs.Account.{Account};
 ghost use Rattle.source_machine.specs.Airs.{airs_of};
 ghost use Rattle.scenario_history.specs.Airs.{MeetAirs};
+ghost use Rattle.scenario_history.specs.Source.{Airs};
+ghost use Rattle.scenario_history.specs.Transcript.{out_of, transcript_end, transcript_of, units_of};
 ghost use Rattle.scenario_history.specs.Boxes.{SinkUnit, accounts_after, Took};
 ghost use Rattle.scenario_history.specs.Laws.{OrderLaw, UnitsLaw};
 
@@ -16,6 +19,22 @@ use source_machine::{air_is_by_division, one_air, what_was_sent_stays};
 pub fn some_airs_meet()
     ensures { MeetAirs airs_of }
 {}
+
+/// At most one list of octets is the transcript of a text: any two airs that meet the relation of their framing give the
+/// same, and the same end, the same units and the same output of its lines.
+pub fn one_transcript()
+    ensures octets { (airs others : Airs) (starts : List Account) (lines : List TextLine) → MeetAirs airs → MeetAirs others
+        → transcript_of airs starts lines ≡ transcript_of others starts lines }
+    ensures end { (airs others : Airs) (starts : List Account) (lines : List TextLine) → MeetAirs airs → MeetAirs others
+        → transcript_end airs starts lines ≡ transcript_end others starts lines }
+    ensures units { (airs others : Airs) (starts : List Account) (lines : List TextLine) → MeetAirs airs → MeetAirs others
+        → units_of airs starts lines ≡ units_of others starts lines }
+    ensures out { (airs others : Airs) (starts : List Account) (lines : List TextLine) → MeetAirs airs → MeetAirs others
+        → out_of airs starts lines ≡ out_of others starts lines }
+{
+    a_line_says_one_step();
+    one_air();
+}
 
 /// The units law of a stay (Core 5.2, volume 6 part G, section 2.1): where no PDU was injected into a sink since it was put
 /// on its group, what it handed up since on a stream that it takes is one entry for each slot of each event closed in the

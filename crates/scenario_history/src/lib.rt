@@ -3,4 +3,4 @@
 
 mod laws;
 
-pub use laws::{boxes_take_their_units, order_law, some_airs_meet, units_law};
+pub use laws::{boxes_take_their_units, one_transcript, order_law, some_airs_meet, units_law};

@@ -1,7 +1,7 @@
 -- What upper crates may cite: a step that says nothing of the sources leaves them.
 use Rattle.std.proofs.Common.{◌≡◌, ℕ, ◌<◌, Bool, true, false, List, ◌∷◌, if◌then◌else◌, refl, sym, ◌∙◌, ap, subst, slice_get, Option, None, Some}
 use Rattle.source_machine.specs.Calls.{Call, Setup}
-use Rattle.source_machine.specs.Sources.{StandsFor}
+use Rattle.multi_source.specs.State.Broadcasts.{StandsFor}
 use Rattle.scenario_text.specs.declared.step.Step.{Step}
 use Rattle.scenario_text.specs.declared.step.Step.TheVariants.{Scenario, Sink, Tuned, Hear, Air, Inject, Sniff, Drop, End}
 use Rattle.scenario_history.specs.Steps.{chosen_given, chosen_of, is_of_source, steps_of_source}

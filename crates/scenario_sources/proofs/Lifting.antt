@@ -12,7 +12,7 @@ use Rattle.scenario_history.specs.Steps.{chosen_given, chosen_of, chosen_steps, 
 use Rattle.scenario_history.specs.Source as history
 use Rattle.scenario_history.specs.Source.{ident_of, identity_of, is_started, no_identity}
 use Rattle.scenario_history.specs.Refusals.{is_ident_twice, is_same_identity, refuse_if, twin_refusal}
-use Rattle.scenario_sources.specs.declared.identity.Identity.{Identity}
+use Rattle.source_machine.specs.declared.setup.Identity.{Identity}
 use Rattle.scenario_sources.specs.declared.phase.Phase.{Phase}
 use Rattle.scenario_sources.specs.declared.sources.Sources.{Sources}
 use Rattle.scenario_sources.specs.Answers.{Answers, Closes}

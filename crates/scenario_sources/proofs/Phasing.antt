@@ -1,30 +1,32 @@
 -- One source after a step that means it.
-use Rattle.std.proofs.Common.{◌≡◌, ℕ, ◌==◌, Bool, true, false, List, [], ◌∷◌, refl, sym, ◌∙◌, ap, subst, is_some, unwrap_or, option_map, eq-eqb, Option, None, Some, Result, Ok, Err}
+use Rattle.std.proofs.Common.{◌≡◌, ◌-◌, ℕ, ◌==◌, Bool, true, false, List, [], ◌∷◌, refl, sym, ◌∙◌, ap, subst, is_some, unwrap_or, option_map, eq-eqb, Option, None, Some, Result, Ok, Err}
 use Rattle.std.specs.Option.{option_or}
 use Rattle.big_info.specs.declared.fault.GroupFault.{GroupFault}
 use Rattle.big_info.specs.declared.info.BigInfo.{BigInfo}
 use Rattle.big_info.specs.Rows.{first_fault}
-use Rattle.source_machine.specs.Airs.{airs_of}
-use Rattle.source_machine.specs.Calls.{Call, Setup, give}
+use Rattle.source_machine.specs.Airs.{airs_of, pdu_of}
+use Rattle.source_machine.specs.Calls.{Call, Setup, give, next_of}
+use Rattle.source_machine.specs.declared.fault.ConfigureFault.{ConfigureFault}
+use Rattle.source_machine.specs.declared.fault.ConfigureFault.TheVariants.{BadGroup as Misfit, Memory as NoMemory}
 use Rattle.source_machine.specs.declared.fault.GiveFault.{GiveFault}
-use Rattle.source_machine.specs.Faults.{give_fault, refused_unit}
-use Rattle.source_machine.specs.Sources.{Source, StandsFor}
+use Rattle.source_machine.specs.Faults.{ConfigureFails, air_fault, give_fault, refused_unit}
+use Rattle.multi_source.specs.State.Broadcasts.{Broadcasting, StandsFor}
 use Rattle.transcript_text.specs.declared.refusal.Refusal.{Refusal}
 use Rattle.transcript_text.specs.declared.refusal.Refusal.TheVariants.{BadGroup}
 use Rattle.transcript_text.specs.declared.stop.Stop.{Stop}
 use Rattle.transcript_text.specs.declared.stop.Stop.TheVariants.{Refused, OutletFault, Memory}
 use Rattle.scenario_text.specs.declared.step.Step.{Step}
 use Rattle.scenario_text.specs.declared.step.Step.TheVariants.{Ident, Start, Unit as UnitStep}
-use Rattle.scenario_history.specs.Source.{GroupLine, absent, described, sending, phase_of, ident_of, group_of, setup_of, setup_from, source_calls}
-use Rattle.scenario_history.specs.Refusals.{give_refusal, horizon_in}
-use Rattle.scenario_sources.specs.declared.identity.Identity.{Identity}
+use Rattle.scenario_history.specs.Source.{GroupLine, event_back, pdu_in, absent, described, sending, phase_of, ident_of, group_of, setup_of, setup_from, source_calls}
+use Rattle.scenario_history.specs.Refusals.{air_refusal, give_refusal, horizon_in, no_place}
+use Rattle.source_machine.specs.declared.setup.Identity.{Identity}
 use Rattle.scenario_sources.specs.declared.phase.Described.{Described}
 use Rattle.scenario_sources.specs.declared.phase.Phase.TheVariants as phases
 use Rattle.scenario_sources.specs.declared.phase.Started.{Started}
 use Rattle.scenario_sources.specs.Described.{IsPlain, group_step, identity_in}
 use Rattle.scenario_sources.specs.Faults.{fault_in}
-use Rattle.scenario_sources.specs.State.Phases.{AbsentIs, Becomes, DescribedIs, PhaseIs, StartedIs, line_of}
-use Rattle.scenario_sources.specs.State.Stops.{GivesTo, GiveStops}
+use Rattle.scenario_sources.specs.State.Phases.{AbsentIs, Becomes, DescribedIs, IsReady, PhaseIs, StartedIs, line_of}
+use Rattle.scenario_sources.specs.State.Stops.{GivesTo, GiveStops, StartStops}
 
 same_line : (i j : BigInfo) (o p d e : ℕ) → i ≡ j → o ≡ p → d ≡ e
     → let one : GroupLine = record { info = i; origin = o; delay = d } in let other : GroupLine = record { info = j; origin = p; delay = e } in one ≡ other
@@ -73,19 +75,43 @@ pub may_start : (version first horizon : ℕ) (own : List Step) (said : Describe
     → (phase_of own ≡ described) × DescribedIs own said → first_fault horizon said.info ≡ fault → fault_in version own (Start first) ≡ option_map BadGroup fault
 may_start version first horizon own said fault h is e = rw (is.0, is.1.group, ← h, e) refl
 
-pub starts : (first : ℕ) (own : List Step) (said : Described) (source : Source) (info : BigInfo) → (phase_of own ≡ described) × DescribedIs own said → info ≡ said.info
-    → (let setup : Setup = record { info = info; origin = said.origin; delay = said.delay; first = first } in source.setup ≡ setup) → StandsFor [] source
+pub may_not_start : (version first horizon : ℕ) (own : List Step) (said : Described) (fault : ConfigureFault) (stop : Stop) → horizon ≡ horizon_in version
+    → (phase_of own ≡ described) × DescribedIs own said → ConfigureFails horizon said.info fault → StartStops fault stop → IsReady version first own (Err stop)
+may_not_start version first horizon own said (Misfit fault) (Refused reason) h is fails g = may_start version first horizon own said (Some fault) h is fails ∙ ap Some g
+may_not_start version first horizon own said NoMemory (Refused reason) h is fails g = absurd g
+may_not_start version first horizon own said fault OutletFault h is fails g = g
+may_not_start version first horizon own said fault Memory h is fails g = tt
+
+pub starts : (first : ℕ) (own : List Step) (said : Described) (source : Broadcasting) → (phase_of own ≡ described) × DescribedIs own said
+    → (let setup : Setup = record { info = said.info; origin = said.origin; delay = said.delay; first = first } in source.source.setup ≡ setup) → StandsFor [] source
     → (let new : Started = record { identity = said.identity; source = source } in StartedIs (Start first ∷ own) new)
-starts first own said source info is same setup stands = record {
+starts first own said source is setup stands = record {
   ident = is.1.ident;
-  setup = setup ∙ rw (same, is.1.group) refl;
+  setup = setup ∙ rw is.1.group refl;
   calls = let P : List Call → Type 0 = λ calls. StandsFor calls source in subst P (sym is.1.calls) stands;
 }
 
+pub setup_same : (i j : BigInfo) (o p d e first : ℕ) → i ≡ j → o ≡ p → d ≡ e
+    → let one : Setup = record { info = i; origin = o; delay = d; first = first } in let other : Setup = record { info = j; origin = p; delay = e; first = first } in one ≡ other
+setup_same i j o p d e first a b c = rw (a, b, c) refl
+
+-- ---- the air
+
+pub heard : (own : List Step) (setup : Setup) (back bis subevent : ℕ) (pdu : List ℕ) → setup ≡ setup_of own
+    → (air_fault setup (source_calls own) back bis subevent ≡ None)
+    × (pdu_of setup (airs_of setup (source_calls own)) (next_of setup (source_calls own) - 1 - back) bis subevent ≡ Some pdu)
+    → (no_place own back bis subevent ≡ None) × (pdu ≡ pdu_in airs_of own (event_back own back) bis subevent)
+heard own setup back bis subevent pdu same both =
+    let fault : air_fault (setup_of own) (source_calls own) back bis subevent ≡ None =
+    subst (λ s. air_fault s (source_calls own) back bis subevent ≡ None) same both.0 in
+    let sent : pdu_of (setup_of own) (airs_of (setup_of own) (source_calls own)) (next_of (setup_of own) (source_calls own) - 1 - back) bis subevent ≡ Some pdu =
+    subst (λ s. pdu_of s (airs_of s (source_calls own)) (next_of s (source_calls own) - 1 - back) bis subevent ≡ Some pdu) same both.1 in
+    (ap (option_map air_refusal) fault, sym (ap (λ o. unwrap_or o []) sent))
+
 -- ---- unit
 
-pub gives_not : (old new : Source) (bis : ℕ) (time : Option ℕ) (octets : List ℕ) (fault : GiveFault) (stop : Stop) → new ≡ old
-    → ((calls : List Call) → StandsFor calls old → give_fault old.setup calls (airs_of old.setup calls) bis time octets ≡ refused_unit fault)
+pub gives_not : (old new : Broadcasting) (bis : ℕ) (time : Option ℕ) (octets : List ℕ) (fault : GiveFault) (stop : Stop) → new ≡ old
+    → ((calls : List Call) → StandsFor calls old → give_fault old.source.setup calls (airs_of old.source.setup calls) bis time octets ≡ refused_unit fault)
     → GiveStops fault stop → GivesTo old bis time octets new (Err stop)
 gives_not old new bis time octets fault (Refused reason) same cause g =
     (same, λ calls stands. ap (option_map give_refusal) (cause calls stands) ∙ g)
@@ -108,8 +134,8 @@ gives version own old new bis time octets (Err (Refused reason)) is identity g =
     is.0,
     record {
       ident = ap (option_map identity_in) identity ∙ is.1.ident;
-      setup = ap (λ (s : Source). s.setup) g.0 ∙ is.1.setup;
-      calls = let P : Source → Type 0 = λ s. StandsFor (source_calls own) s in subst P (sym g.0) is.1.calls;
+      setup = ap (λ (s : Broadcasting). s.source.setup) g.0 ∙ is.1.setup;
+      calls = let P : Broadcasting → Type 0 = λ s. StandsFor (source_calls own) s in subst P (sym g.0) is.1.calls;
     },
   ),
 )

@@ -6,7 +6,7 @@ use Rattle.scenario_text.specs.declared.step.Step.{Step}
 use Rattle.scenario_text.specs.declared.step.Step.TheVariants.{Group}
 use Rattle.scenario_history.specs.Source as history
 use Rattle.scenario_history.specs.Source.{info_with, no_identity}
-use Rattle.scenario_sources.specs.declared.identity.Identity.{Identity}
+use Rattle.source_machine.specs.declared.setup.Identity.{Identity}
 
 abbrev pub group_step : BigInfo → ℕ → ℕ → Step
 group_step info origin delay =

@@ -7,12 +7,14 @@ ghost use Rattle.scenario_history.specs.Refusals.{horizon_in, is_same_identity};
 ghost use Rattle.scenario_history.specs.Source.{identity_of, is_started};
 ghost use Rattle.scenario_sources.specs.Described.{IsPlain, group_step, identity_in};
 ghost use Rattle.scenario_sources.specs.State.Phases.{Becomes, Begins, IsReady, PhaseIs};
+ghost use Rattle.scenario_sources.specs.State.Stops.{StartStops};
 ghost use Rattle.scenario_sources.specs.declared.phase.Phase.TheVariants.{Described as DescribedPhase};
 
-use crate::identity::{Identity, identity_or, is_same};
+use crate::identity::{identity_or, is_same};
 use crate::phase::{Described, Phase, Ready, Started};
-use big_info::{BigInfo, Limits, check_group_within};
-use source_machine::Broadcast;
+use big_info::{BigInfo, Limits};
+use multi_source::Broadcast;
+use source_machine::{ConfigureFault, Identity, Setup, SourceIdle};
 use std::alloc::Global;
 use transcript_text::{Refusal, Stop};
 
@@ -59,19 +61,35 @@ pub(crate) fn identify(phase: &mut Phase, identity: Identity) -> Result<(), Stop
 }
 
 /// Whether a source may be started, but for its identity.
-pub(crate) fn check_start(phase: &Phase, limits: Limits) -> Result<Ready, Stop>
+pub(crate) fn check_start(alloc: Global, phase: &Phase, limits: Limits) -> Result<Ready, Stop>
     requires { limits.horizon ≤ 31 }
     ensures { (version first : ℕ) (own : List Step) → limits.horizon ≡ horizon_in version → PhaseIs own phase.now → IsReady version first own result }
 {
     let Phase::Described(described) = phase else {
         return Err(Stop::Refused(Refusal::Order));
     };
-    match check_group_within(&described.info, limits) {
-        Ok(group) => Ok(Ready {
+    let setup = Setup {
+        identity: identity_or(described.identity),
+        info: described.info,
+        origin: described.origin,
+        delay: described.delay,
+    };
+    match SourceIdle::new(alloc).configure_within(setup, limits) {
+        Ok(configured) => Ok(Ready {
             described: *described,
-            group,
+            configured,
         }),
-        Err(fault) => Err(Stop::Refused(Refusal::BadGroup { fault })),
+        Err(kept) => Err(start_stop(kept.fault)),
+    }
+}
+
+/// What the refusal of a group means to a scenario.
+fn start_stop(fault: ConfigureFault) -> Stop
+    ensures { StartStops fault result }
+{
+    match fault {
+        ConfigureFault::BadGroup(fault) => Stop::Refused(Refusal::BadGroup { fault }),
+        ConfigureFault::Memory => Stop::Memory,
     }
 }
 
@@ -88,22 +106,13 @@ pub(crate) fn is_twice(own: Identity, phase: &Phase) -> bool
 }
 
 /// `start`: starts a source.
-pub(crate) fn begin(alloc: Global, ready: &Ready, first: u64) -> Result<Phase, Stop>
+pub(crate) fn begin(alloc: Global, ready: Ready, first: u64) -> Result<Phase, Stop>
     requires { first < 2 ^ 39 }
-    ensures { (own : List Step) → PhaseIs own (DescribedPhase ready.now.described) → Begins first own result }
+    ensures { (own : List Step) → PhaseIs own (DescribedPhase ready.described) → Begins first own result }
 {
-    let described = &ready.described;
-    match Broadcast::new(
-        alloc,
-        &ready.group,
-        described.origin,
-        described.delay,
-        first,
-    ) {
-        Ok(source) => Ok(Phase::Sending(Started {
-            identity: described.identity,
-            source,
-        })),
+    let identity = ready.described.identity;
+    match Broadcast::start(alloc, ready.configured, first) {
+        Ok(source) => Ok(Phase::Sending(Started { identity, source })),
         Err(_) => Err(Stop::Memory),
     }
 }

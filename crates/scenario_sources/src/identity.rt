@@ -2,16 +2,7 @@ ghost use Rattle.std.specs.Prelude.{◌≡◌};
 ghost use Rattle.scenario_history.specs.Refusals.{is_same_identity};
 ghost use Rattle.scenario_sources.specs.Described.{identity_in, identity_or_none};
 
-/// Who sends (Basic Audio Profile 1.0, section 3.7.2).
-#[derive(Clone, Copy, Debug, PartialEq, Eq)]
-pub struct Identity {
-    /// 0 for a public address, 1 for a random one.
-    pub address_type: u8,
-    pub address: [u8; 6],
-    /// The advertising SID.
-    pub sid: u8,
-    pub broadcast_id: [u8; 3],
-}
+use source_machine::Identity;
 
 /// The identity of a source, all 0 where none was said.
 pub(crate) fn identity_or(said: Option<Identity>) -> Identity

@@ -10,7 +10,7 @@ mod sending;
 mod sources;
 mod standpoint;
 
-pub use identity::Identity;
 pub use place::Place;
+pub use source_machine::Identity;
 pub use sources::Sources;
 pub use standpoint::Standpoint;

@@ -1,9 +1,9 @@
 ghost use Rattle.std.specs.Prelude.{◌≡◌, ◌≤◌, ◌<◌, ◌^◌};
 ghost use Rattle.big_info.specs.Widths.{FitsWidths};
 
-use crate::identity::Identity;
-use big_info::{BigInfo, Group};
-use source_machine::Broadcast;
+use big_info::BigInfo;
+use multi_source::Broadcast;
+use source_machine::{Identity, SourceConfigured};
 
 /// What the lines before `start` say of a source.
 #[derive(Clone, Copy)]
@@ -21,11 +21,13 @@ pub(crate) struct Described {
 }
 
 /// What is known of a source that may be started.
-#[derive(Clone, Copy)]
+#[derive(Drop)]
 pub(crate) struct Ready {
     pub(crate) described: Described,
-    pub(crate) group: Group,
-    pub(crate) ghost same: { group.info ≡ described.info },
+    pub(crate) configured: SourceConfigured,
+    pub(crate) ghost info_is: { configured.info ≡ described.info },
+    pub(crate) ghost origin_is: { configured.origin ≡ described.origin },
+    pub(crate) ghost delay_is: { configured.delay ≡ described.delay },
 }
 
 /// A source that was started.

@@ -65,9 +65,9 @@ pub(crate) fn perform(phase: &mut Phase) -> Result<Option<u64>, Stop>
     };
     let closed = started.source.last_event();
     match started.source.event() {
-        Ok(()) => Ok(closed),
-        Err(EventFault::CounterEnds) => Err(Stop::Refused(Refusal::CounterEnds)),
-        Err(EventFault::Memory) => Err(Stop::Memory),
+        Ok(_) => return Ok(closed),
+        Err(EventFault::CounterEnds) => return Err(Stop::Refused(Refusal::CounterEnds)),
+        Err(EventFault::Memory) => return Err(Stop::Memory),
     }
 }
 

@@ -3,13 +3,14 @@ ghost use Rattle.std.specs.Option.{ForSome};
 ghost use Rattle.big_info.specs.Widths.{FitsWidths};
 
 use crate::describing::{begin, check_start, describe, identify, is_twice};
-use crate::identity::{Identity, identity_or};
+use crate::identity::identity_or;
 use crate::phase::Phase;
 use crate::place::{Place, event_in, group_in, heard_in, last_in};
 use crate::sending::{give, open, perform, standpoint_in, stop};
 use crate::standpoint::Standpoint;
 use bcast_base::{Bis, Memory};
 use big_info::{BigInfo, Group, Limits};
+use source_machine::Identity;
 use std::alloc::Global;
 use transcript_text::{Refusal, Stop};
 
@@ -98,7 +99,7 @@ impl Sources {
         ensures { (version : ℕ) (steps : List Step) → limits.horizon ≡ horizon_in version → SourcesStand steps self.old
             → Answers version steps (StartStep first) self.new result }
     {
-        let ready = match check_start(&self.phases[usize::from(self.chosen)], limits) {
+        let ready = match check_start(self.alloc, &self.phases[usize::from(self.chosen)], limits) {
             Ok(ready) => ready,
             Err(stop) => return Err(stop),
         };
@@ -106,7 +107,7 @@ impl Sources {
         if is_twice(own, &self.phases[usize::from(1 - self.chosen)]) {
             return Err(Stop::Refused(Refusal::IdentTwice));
         }
-        match begin(self.alloc, &ready, first) {
+        match begin(self.alloc, ready, first) {
             Ok(phase) => self.phases[usize::from(self.chosen)] = phase,
             Err(stop) => return Err(stop),
         }

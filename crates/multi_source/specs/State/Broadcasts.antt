@@ -4,7 +4,9 @@ use Rattle.isoal_base.specs.Air.{Air}
 use Rattle.radio_schedule.specs.OnAir.{OnAir}
 use Rattle.source_machine.specs.Airs.{AreAirs, Sends}
 use Rattle.source_machine.specs.Calls.{Setup, Call, events, next_of}
-use Rattle.source_machine.specs.State.Sources.{Source, StandsFor as SourceStands}
+use Rattle.source_machine.specs.State.Sources.{Fails, Source, StandsFor as SourceStands}
+use Rattle.source_machine.specs.declared.fault.EventFault.{EventFault}
+use Rattle.source_machine.specs.declared.fault.EventFault.TheVariants.{CounterEnds, Memory}
 
 -- the source, and the events that it performed last
 pub record Broadcasting : Type 0 where
@@ -27,3 +29,8 @@ pub record IsOnAir (setup : Setup) (calls : List Call) (air : OnAir) : Type 0 wh
 pub record StandsFor (calls : List Call) (broadcast : Broadcasting) : Type 0 where
   pub source : SourceStands calls broadcast.source
   pub air : IsOnAir broadcast.source.setup calls broadcast.air
+
+-- what a refused event leaves: all as it was, or a source that has failed
+abbrev pub AfterFault : EventFault → Broadcasting → Broadcasting → Type 0
+AfterFault CounterEnds old new = new ≡ old
+AfterFault Memory old new = Fails old.source new.source × (new.air ≡ old.air)

@@ -1,7 +1,7 @@
 -- Where a source stands, and the steps of this source that it stands for, the newest first.
 use Rattle.std.specs.Prelude.{ℕ, ◌≡◌, ◌<◌, ◌^◌, ◌∷◌, false, List, [], Option, None, Some, option_map, Result, Ok, Err}
 use Rattle.source_machine.specs.Airs.{airs_of}
-use Rattle.source_machine.specs.Sources.{StandsFor}
+use Rattle.multi_source.specs.State.Broadcasts.{StandsFor}
 use Rattle.transcript_text.specs.declared.refusal.Refusal.{Refusal}
 use Rattle.transcript_text.specs.declared.stop.Stop.{Stop}
 use Rattle.transcript_text.specs.declared.stop.Stop.TheVariants.{Refused, OutletFault, Memory}
@@ -23,7 +23,7 @@ line_of said = record { info = said.info; origin = said.origin; delay = said.del
 -- a source that was started is as its steps leave it
 pub record StartedIs (own : List Step) (started : Started) : Type 0 where
   pub ident : option_map identity_in started.identity ≡ ident_of own
-  pub setup : started.source.setup ≡ setup_of own
+  pub setup : started.source.source.setup ≡ setup_of own
   pub calls : StandsFor (source_calls own) started.source
 
 -- a source that was not is described by its steps

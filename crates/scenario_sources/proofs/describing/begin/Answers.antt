@@ -1,7 +1,11 @@
-use Rattle.std.proofs.Common.{refl}
-use Rattle.scenario_sources.proofs.Phasing.{starts}
+use Rattle.std.proofs.Common.{refl, ◌∙◌}
+use Rattle.scenario_sources.proofs.Phasing.{setup_same, starts}
 use Rattle.scenario_sources.proofs.describing.begin.Goals as goal
 
 pub returns-in-Ok : goal.returns-in-Ok
 returns-in-Ok c own is =
-    (refl, starts c.args.first own c.args.ready.now.described c.in-Ok.source c.args.ready.now.group.info is c.args.ready.now.same c.in-Ok.ensures.setup c.in-Ok.ensures.stands)
+    let ready = c.args.ready in (
+      refl,
+      starts c.args.first own ready.described c.in-Ok.source is
+          (c.in-Ok.ensures.1 ∙ setup_same _ _ _ _ _ _ c.args.first ready.info_is ready.origin_is ready.delay_is) c.in-Ok.ensures.2,
+    )

@@ -1,5 +1,5 @@
-use Rattle.std.proofs.Common.{None, Some}
-use Rattle.scenario_sources.proofs.Phasing.{may_start}
+use Rattle.std.proofs.Common.{None}
+use Rattle.scenario_sources.proofs.Phasing.{may_not_start, may_start}
 use Rattle.scenario_sources.proofs.describing.check_start.Goals as goal
 
 pub returns-in-Ok : goal.returns-in-Ok
@@ -9,4 +9,5 @@ returns-in-Ok c version first own h is =
 
 pub returns-in-Err : goal.returns-in-Err
 returns-in-Err c version first own h is =
-    may_start version first c.args.limits.horizon own c.in-Described.described (Some c.in-Err.fault) h (rw c.in-Described.is at is) c.in-Err.ensures.err
+    may_not_start version first c.args.limits.horizon own c.in-Described.described c.in-Err.kept.fault c.start_stop.result h (rw c.in-Described.is at is)
+    c.in-Err.ensures.err c.start_stop.ensures

@@ -2,7 +2,7 @@ use Rattle.std.proofs.Common.{◌∷◌, ◌∙◌, sym, subst, ap}
 use Rattle.source_machine.specs.Airs.{Sends}
 use Rattle.source_machine.specs.Calls.{event}
 use Rattle.multi_source.specs.State.Broadcasts.{IsOnAir}
-use Rattle.multi_source.proofs.Airing.{event_on_air}
+use Rattle.multi_source.proofs.Airing.{event_on_air, refused}
 use Rattle.multi_source.proofs.broadcast.Broadcast.event.Goals as goal
 
 pub returns-in-Ok-clause-ok : goal.returns-in-Ok-clause-ok
@@ -17,3 +17,6 @@ returns-in-Ok-clause-ok c = rw (← c.self.view_is) (λ calls broadcast. (
         (c.in-Ok.ensures.pdus calls airs broadcast.source are))));
   },
 ))
+
+pub returns-in-Err-clause-err : goal.returns-in-Err-clause-err
+returns-in-Err-clause-err c = rw (← c.self.view_is) (refused c.self.inside.source c.event.new.self c.self.inside.air c.in-Err.fault c.in-Err.ensures.err)

@@ -1,0 +1,18 @@
+use Rattle.scenario_history.proofs.OneTranscript.{out_of_same, transcript_end_same, transcript_same, units_same}
+use Rattle.scenario_history.proofs.laws.one_transcript.Goals as goal
+
+pub returns-clause-octets : goal.returns-clause-octets
+returns-clause-octets c = λ airs others starts lines meets meet_too.
+    transcript_same airs others (record { both = record { one = c.one_air.ensures.same; meets = meets; meet_too = meet_too }; ranged = c.a_line_says_one_step.ensures.in_range }) starts lines
+
+pub returns-clause-end : goal.returns-clause-end
+returns-clause-end c = λ airs others starts lines meets meet_too.
+    transcript_end_same airs others (record { both = record { one = c.one_air.ensures.same; meets = meets; meet_too = meet_too }; ranged = c.a_line_says_one_step.ensures.in_range }) starts lines
+
+pub returns-clause-units : goal.returns-clause-units
+returns-clause-units c = λ airs others starts lines meets meet_too.
+    units_same airs others (record { both = record { one = c.one_air.ensures.same; meets = meets; meet_too = meet_too }; ranged = c.a_line_says_one_step.ensures.in_range }) starts lines
+
+pub returns-clause-out : goal.returns-clause-out
+returns-clause-out c = λ airs others starts lines meets meet_too.
+    out_of_same airs others (record { both = record { one = c.one_air.ensures.same; meets = meets; meet_too = meet_too }; ranged = c.a_line_says_one_step.ensures.in_range }) starts lines
