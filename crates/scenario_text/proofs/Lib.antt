@@ -3,3 +3,4 @@ pub mod Within
 pub mod Operations
 pub mod Steps
 pub mod Misfits
+pub mod MisfitNumbers

@@ -1,5 +1,6 @@
 -- The number of a fault is the number of the words that fit, and no other number is.
-use Rattle.std.proofs.Common.{◌≡◌, ◌≤◌, ◌<◌, ◌+◌, ℕ, zero, suc, Bool, true, false, cond, nat_eq, ◌||◌, not, List, [], ◌∷◌, length, take, Option, None, Some, Result, Ok, Err, refl, ap, sym, subst, ◌∙◌, arith, inl, inr}
+use Rattle.std.proofs.Common.{◌≡◌, ◌≤◌, ◌<◌, ◌+◌, ℕ, zero, suc, Bool, true, false, cond, nat_eq, ◌||◌, not, List, [], ◌∷◌, length, take, Option, None, Some}
+use Rattle.std.proofs.Common.{Result, Ok, Err, refl, ap, sym, subst, ◌∙◌, arith, inl, inr}
 use Rattle.std.proofs.lemmas.List.{take_all, take-take}
 use Rattle.std.proofs.lemmas.Bool.{cases_lt}
 use Rattle.bass_operations.specs.declared.wishes.Wish.{Wish}
@@ -7,7 +8,8 @@ use Rattle.scenario_words.specs.declared.fault.LineFault.{LineFault}
 use Rattle.scenario_words.specs.declared.fault.LineFault.TheVariants.{BadLine, Memory}
 use Rattle.scenario_words.specs.Words.{words_of}
 use Rattle.scenario_words.specs.Places.{WordPlace, between, Place, one, perhaps, rising, wishes, WordValue, PlaceValue}
-use Rattle.scenario_words.specs.Reading.{Left, Gives, ◌>>=◌, any_word, next_of, taken, word_in, decimal_in, with_stream, streams_of, rising_of, perhaps_of, wishes_of, bounded, all_wishes_of, at_place, ended}
+use Rattle.scenario_words.specs.Reading.{Left, Gives, ◌>>=◌, any_word, next_of, taken, word_in, decimal_in, with_stream, streams_of, rising_of, perhaps_of}
+use Rattle.scenario_words.specs.Reading.{wishes_of, bounded, all_wishes_of, at_place, ended}
 use Rattle.scenario_words.specs.Fitting.{FitsWord, FitsIndices, FitsPairs, FitsFront}
 use Rattle.scenario_words.proofs.Spelling.{word_spelled, bind_ok, is_small, bounded_is}
 use Rattle.scenario_words.proofs.Fitting.{Stops, misfit, bad_is, indices_first, indices_stop, indices_all, pairs_stop, pairs_end}
@@ -67,7 +69,8 @@ word_halts place places build read k word words (Some value) small is e rest =
       },
     )
 
-word_ends : (place : WordPlace) (places : List Place) (build : WordValue place → Build places) (read : ℕ) (word : List ℕ) (words : List (List ℕ)) (found : Option (WordValue place)) (made : Step) (left : Left)
+word_ends : (place : WordPlace) (places : List Place) (build : WordValue place → Build places) (read : ℕ) (word : List ℕ) (words : List (List ℕ))
+    (found : Option (WordValue place)) (made : Step) (left : Left)
     → word_in place word ≡ found → (taken read words found >>= go_on place places build) ≡ Ok (made, left)
     → ((value : WordValue place) → built_at places (build value) (left_of words (read + 1)) ≡ Ok (made, left) → Halts places words (read + 1) left.read)
     → Halts (one place ∷ places) (word ∷ words) read left.read
@@ -175,10 +178,12 @@ rising_halts read k word words None is e =
     indices_first 1 read k word words None is (λ n some. absurd cc) (λ none. sym (bad_is (ℕ × Left) read k e))
 rising_halts read k word words (Some n) is e =
     indices_first 1 read k word words (Some n) is
-    (λ m some. let same : n ≡ m = some_is n m some in indices_stop words (with_stream 0 m) (m + 1) (read + 1) k (subst (λ (x : ℕ). streams_of (with_stream 0 x) (x + 1) (read + 1) words ≡ Err (BadLine k)) same e))
+    (λ m some. let same : n ≡ m = some_is n m some in
+    indices_stop words (with_stream 0 m) (m + 1) (read + 1) k (subst (λ (x : ℕ). streams_of (with_stream 0 x) (x + 1) (read + 1) words ≡ Err (BadLine k)) same e))
     (λ none. absurd cc)
 
-rising_ends : (read : ℕ) (word : List ℕ) (words : List (List ℕ)) (found : Option ℕ) (set : ℕ) (left : Left) → decimal_in 1 31 word ≡ found → (taken read words found >>= streams_on words) ≡ Ok (set, left)
+rising_ends : (read : ℕ) (word : List ℕ) (words : List (List ℕ)) (found : Option ℕ) (set : ℕ) (left : Left)
+    → decimal_in 1 31 word ≡ found → (taken read words found >>= streams_on words) ≡ Ok (set, left)
     → (j : ℕ) × (left.read ≡ read + j) × Stops (FitsIndices 1) (word ∷ words) j
 rising_ends read word words None set left is e = absurd cc
 rising_ends read word words (Some n) set left is e =
@@ -363,51 +368,6 @@ is_misfit version k line e =
       fits = halts.fits;
       no_more = halts.no_more;
     }
-
--- ---- and no other number is
-
-indices_front : (least : ℕ) (words : List (List ℕ)) (j : ℕ) → FitsIndices least words → FitsIndices least (take j words)
-indices_front least [] zero fits = tt
-indices_front least [] (suc j) fits = tt
-indices_front least (word ∷ words) zero fits = tt
-indices_front least (word ∷ words) (suc j) fits = (fits.0, fits.1, indices_front (fits.0 + 1) words j fits.2)
-
-pairs_front : (more : ℕ) (words : List (List ℕ)) (j : ℕ) → FitsPairs more words → FitsPairs more (take j words)
-pairs_front more [] zero fits = tt
-pairs_front more [] (suc j) fits = tt
-pairs_front more (word ∷ words) zero fits = tt
-pairs_front zero (word ∷ words) (suc j) fits = absurd fits
-pairs_front (suc more) (bits ∷ []) (suc zero) fits = fits
-pairs_front (suc more) (bits ∷ []) (suc (suc j)) fits = fits
-pairs_front (suc more) (bits ∷ metadata ∷ words) (suc zero) fits = fits.0
-pairs_front (suc more) (bits ∷ metadata ∷ words) (suc (suc j)) fits = (fits.0, fits.1, pairs_front more words j fits.2)
-
-fits_front : (places : List Place) (words : List (List ℕ)) (j : ℕ) → FitsFront places words → FitsFront places (take j words)
-fits_front places [] zero fits = tt
-fits_front places [] (suc j) fits = tt
-fits_front places (word ∷ words) zero fits = tt
-fits_front [] (word ∷ words) (suc j) fits = absurd fits
-fits_front (one place ∷ places) (word ∷ words) (suc j) fits = (fits.0, fits_front places words j fits.1)
-fits_front (perhaps least greatest ∷ places) (word ∷ words) (suc j) fits = (fits.0, fits_front places words j fits.1)
-fits_front (rising ∷ places) (word ∷ words) (suc j) fits = indices_front 1 (word ∷ words) (suc j) fits
-fits_front (wishes most ∷ places) (word ∷ words) (suc j) fits = pairs_front 31 (word ∷ words) (suc j) fits
-
-line_front : (version : ℕ) (words : List (List ℕ)) (j : ℕ) → FitsLine version words → FitsLine version (take j words)
-line_front version [] zero fits = tt
-line_front version [] (suc j) fits = tt
-line_front version (word ∷ words) zero fits = tt
-line_front version (word ∷ words) (suc j) fits = (fits.0, fits.1, fits_front fits.0.places words j fits.2)
-
-not_less : (version j k : ℕ) (line : List ℕ) → IsMisfit version line j → IsMisfit version line k → j < k → ⊥
-not_less version j k line first second less =
-    let front = line_front version (take k (words_of line)) (suc j) second.fits in
-    first.no_more (omega (arith, second.within)) (subst (FitsLine version) (take-take (suc j) k (words_of line) (omega arith)) front)
-
-pub one_number : (version j k : ℕ) (line : List ℕ) → IsMisfit version line j → IsMisfit version line k → j ≡ k
-one_number version j k line first second = elim (cases_lt j k) [
-  | inl less ↦ absurd (not_less version j k line first second less)
-  | inr other ↦ elim (cases_lt k j) [ inl more ↦ absurd (not_less version k j line second first more) | inr same ↦ omega arith ]
-]
 
 pub result_misfit : (version k : ℕ) (line : List ℕ) (r : Result (Option Step) LineFault) → Gives (λ read. read) r (read_of version line) → r ≡ Err (BadLine k) → IsMisfit version line k
 result_misfit version k line r given e = is_misfit version k line (subst (λ (x : Result (Option Step) LineFault). Gives (λ read. read) x (read_of version line)) e given)

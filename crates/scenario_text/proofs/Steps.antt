@@ -184,7 +184,8 @@ is_found version line (Ok (Some made)) given = line_says version line made given
 is_found version line (Ok None) given = tt
 is_found version line (Err e) given = tt
 
-pub is_read : (version : ℕ) (line : List ℕ) (r : Result (Option Step) LineFault) → Gives (λ read. read) r (read_of version line) → (made : Step) → LineIs version made line → Gives (λ read. read) r (Ok (Some made))
+pub is_read : (version : ℕ) (line : List ℕ) (r : Result (Option Step) LineFault) → Gives (λ read. read) r (read_of version line)
+    → (made : Step) → LineIs version made line → Gives (λ read. read) r (Ok (Some made))
 is_read version line r given made is = subst (λ (read : Result (Option Step) LineFault). Gives (λ x. x) r read) (says_so version line made is) given
 
 none_chosen : (b : Bool) (r : Result Step LineFault) → cond b (Ok None) (r >>= λ s. Ok (Some s)) ≡ Ok None → b ≡ true

@@ -2,7 +2,8 @@
 use Rattle.std.proofs.Common.{◌≡◌, ◌≤◌, ◌<◌, ◌^◌, ℕ, Bool, true, false, cond, nat_eq, List, [], ◌∷◌, length, Option, None, Some, refl, sym, subst, arith, inl, inr}
 use Rattle.std.specs.Prelude.{⊤}
 use Rattle.std.specs.Str.{bytes_eq}
-use Rattle.scenario_words.specs.Places.{WordPlace, between, framing_word, time_up_to, octets_up_to, octets_exactly, number_in_octets, list_up_to, Place, one, perhaps, rising, wishes, WordValue, PlaceValue}
+use Rattle.scenario_words.specs.Places.{WordPlace, between, framing_word, time_up_to, octets_up_to, octets_exactly, number_in_octets, list_up_to, Place, one}
+use Rattle.scenario_words.specs.Places.{perhaps, rising, wishes, WordValue, PlaceValue}
 use Rattle.scenario_words.specs.Spelling.{SpellsOctets, Spells, SpellsWord}
 use Rattle.scenario_text.specs.declared.step.Step.{Step}
 use Rattle.scenario_text.specs.Ranges.{IsInRange, GroupRanges}
@@ -231,13 +232,58 @@ AllWithin [] = ⊤
 AllWithin (row ∷ rows) = RowWithin row × AllWithin rows
 
 first_within : (version : ℕ) → AllWithin (first_rows version)
-first_within version = (unit_within, (event_within, (hear_within, (tuned_within, (scenario_within, (group_within, (start_within, (sink_within version, (air_within, (inject_within, (sniff_within, (drop_within, (stop_within, (end_within, tt))))))))))))))
+first_within version = (
+  unit_within,
+  (
+    event_within,
+    (
+      hear_within,
+      (
+        tuned_within,
+        (
+          scenario_within,
+          (
+            group_within,
+            (
+              start_within,
+              (sink_within version, (air_within, (inject_within, (sniff_within, (drop_within, (stop_within, (end_within, tt))))))),
+            ),
+          ),
+        ),
+      ),
+    ),
+  ),
+)
 
 sources_within : AllWithin source_rows
 sources_within = (ident_within, (subgroup_within, (meta_within, (bis_within, (cipher_within, (announce_within, (train_within, (terminate_within, tt))))))))
 
 sinks_within : AllWithin sink_rows
-sinks_within = (pac_within, (locate_within, (context_within, (write_within, (add_within, (modify_within, (remove_within, (code_within, (serve_within, (tell_within, (read_within, (drain_within, (show_within, (lose_within, (control_within, (forge_within, tt))))))))))))))))
+sinks_within = (
+  pac_within,
+  (
+    locate_within,
+    (
+      context_within,
+      (
+        write_within,
+        (
+          add_within,
+          (
+            modify_within,
+            (
+              remove_within,
+              (
+                code_within,
+                (serve_within, (tell_within, (read_within, (drain_within, (show_within, (lose_within, (control_within, (forge_within, tt)))))))),
+              ),
+            ),
+          ),
+        ),
+      ),
+    ),
+  ),
+)
 
 later_within : AllWithin rows_of_2
 later_within = (assist_within, (apart_within, (awrite_within, (aserve_within, (atell_within, (aread_within, (adrain_within, (ashow_within, (source_within, (relay_within, tt))))))))))

@@ -3,7 +3,8 @@ ghost use Rattle.std.specs.Prelude.{IfOk};
 ghost use Rattle.scenario_words.specs.Reading.{GivesNext};
 ghost use Rattle.scenario_text.specs.Ranges.{IsInRange};
 ghost use Rattle.scenario_text.specs.Steps.{at_row};
-ghost use Rattle.scenario_text.specs.Table.{pac_row, locate_row, context_row, write_row, add_row, modify_row, remove_row, code_row, serve_row, tell_row, read_row, drain_row, show_row, lose_row, control_row, forge_row};
+ghost use Rattle.scenario_text.specs.Table.{pac_row, locate_row, context_row, write_row, add_row, modify_row, remove_row, code_row, serve_row, tell_row};
+ghost use Rattle.scenario_text.specs.Table.{read_row, drain_row, show_row, lose_row, control_row, forge_row};
 
 use crate::step::Step;
 use bass_operations::{AddSource, ModifySource};

@@ -52,18 +52,22 @@ indices_first least read k word words None is rest none =
     (0, omega (arith, none refl), record { within = omega arith; front = tt; no_more = λ more fits. misfit (between least 31) word refl is (fits.0, fits.1) })
 indices_first least read k word words (Some n) is rest none =
     let it = rest n refl in
-    let spelled = word_spelled (between least 31) n word is in
-    (suc it.0, omega (arith, it.1), record {
-      within = omega (arith, it.2.within);
-      front = (n, spelled, it.2.front);
-      no_more = λ more fits. it.2.no_more (omega (arith, more)) (subst (λ (m : ℕ). FitsIndices (m + 1) (take (suc it.0) words)) (decimal_once least n fits.0 word is fits.1) fits.2);
-    })
+    let spelled = word_spelled (between least 31) n word is in (
+      suc it.0,
+      omega (arith, it.1),
+      record {
+        within = omega (arith, it.2.within);
+        front = (n, spelled, it.2.front);
+        no_more = λ more fits. it.2.no_more (omega (arith, more)) (subst (λ (m : ℕ). FitsIndices (m + 1) (take (suc it.0) words)) (decimal_once least n fits.0 word is fits.1) fits.2);
+      },
+    )
 
 taken_none : {X Y : Type 0} (read k : ℕ) (words : List (List ℕ)) (found : Option X) (f : X × Left → Result Y LineFault) → (taken read words found >>= f) ≡ Err (BadLine k) → found ≡ None → k ≡ read
 taken_none read k words None f e none = cc
 taken_none read k words (Some x) f e none = absurd cc
 
-taken_some : {X Y : Type 0} (read : ℕ) (words : List (List ℕ)) (found : Option X) (f : X × Left → Result Y LineFault) (r : Result Y LineFault) (x : X) → (taken read words found >>= f) ≡ r → found ≡ Some x
+taken_some : {X Y : Type 0} (read : ℕ) (words : List (List ℕ)) (found : Option X) (f : X × Left → Result Y LineFault) (r : Result Y LineFault) (x : X)
+    → (taken read words found >>= f) ≡ r → found ≡ Some x
     → f (x, left_of words (read + 1)) ≡ r
 taken_some read words None f r x e some = absurd cc
 taken_some read words (Some y) f r x e some = let same : y ≡ x = some_is y x some in ap (λ (z : _). f (z, left_of words (read + 1))) (sym same) ∙ e
@@ -77,7 +81,8 @@ unfolding streams_of
 indices_stop [] set least read k e = absurd cc
 indices_stop (word ∷ words) set least read k e =
     indices_first least read k word words (decimal_in least 31 word) refl
-    (λ n some. indices_stop words (with_stream set n) (n + 1) (read + 1) k (taken_some read words (decimal_in least 31 word) (λ m. streams_of (with_stream set m.0) (m.0 + 1) (read + 1) words) (Err (BadLine k)) n e some))
+    (λ n some. indices_stop words (with_stream set n) (n + 1) (read + 1) k
+    (taken_some read words (decimal_in least 31 word) (λ m. streams_of (with_stream set m.0) (m.0 + 1) (read + 1) words) (Err (BadLine k)) n e some))
     (taken_none read k words (decimal_in least 31 word) (λ m. streams_of (with_stream set m.0) (m.0 + 1) (read + 1) words) e)
 
 -- all words that are left are indices
@@ -126,9 +131,10 @@ abbrev go_on : List Wish → ℕ → Wish × Left → Result (List Wish × Left)
 go_on before more wish = wishes_of (before ++ wish.0 ∷ []) more wish.1.read wish.1.words
 
 -- a fault has the number of the words that fit
-pair_stops : (before : List Wish) (more read k : ℕ) (word : List ℕ) (words : List (List ℕ)) (r : Result (Wish × Left) LineFault) → OnePair read word words r → (r >>= go_on before more) ≡ Err (BadLine k)
+pair_stops : (before : List Wish) (more read k : ℕ) (word : List ℕ) (words : List (List ℕ)) (r : Result (Wish × Left) LineFault)
+    → OnePair read word words r → (r >>= go_on before more) ≡ Err (BadLine k)
     → ((metadata : List ℕ) (rest : List (List ℕ)) (wish : Wish) → words ≡ metadata ∷ rest → go_on before more (wish, left_of rest (read + 1 + 1)) ≡ Err (BadLine k)
-      → (j : ℕ) × (k ≡ read + 1 + 1 + j) × Stops (FitsPairs more) rest j)
+    → (j : ℕ) × (k ≡ read + 1 + 1 + j) × Stops (FitsPairs more) rest j)
     → (j : ℕ) × (k ≡ read + j) × Stops (FitsPairs (suc more)) (word ∷ words) j
 pair_stops before more read k word words r (first_misfits misfits) e rest =
     let same : read ≡ k = bad_is (List Wish × Left) read k e in
@@ -155,7 +161,7 @@ pairs_stop (suc more) before read k (word ∷ words) e =
 pair_ends : (before all : List Wish) (more read : ℕ) (word : List ℕ) (words : List (List ℕ)) (left : Left) (r : Result (Wish × Left) LineFault) → OnePair read word words r
     → (r >>= go_on before more) ≡ Ok (all, left)
     → ((metadata : List ℕ) (rest : List (List ℕ)) (wish : Wish) → words ≡ metadata ∷ rest → go_on before more (wish, left_of rest (read + 1 + 1)) ≡ Ok (all, left)
-      → (j : ℕ) × (left.read ≡ read + 1 + 1 + j) × Stops (FitsPairs more) rest j)
+    → (j : ℕ) × (left.read ≡ read + 1 + 1 + j) × Stops (FitsPairs more) rest j)
     → (j : ℕ) × (left.read ≡ read + j) × Stops (FitsPairs (suc more)) (word ∷ words) j
 pair_ends before all more read word words left r (first_misfits misfits) e rest = absurd cc
 pair_ends before all more read word words left r (second_lacks fits none) e rest = absurd cc

@@ -14,7 +14,8 @@ abbrev after : List (List ℕ) → ℕ → Left
 after words read = record { words = words; read = read + 1 }
 
 -- a word that fits is read
-fits_of : {X : Type 0} (f : List ℕ → Option X) (read : ℕ) (words : List (List ℕ)) (w : List ℕ) (new : Left) (x : X) → next_of any_word read words ≡ Ok (w, new) → f w ≡ Some x → next_of f read words ≡ Ok (x, new)
+fits_of : {X : Type 0} (f : List ℕ → Option X) (read : ℕ) (words : List (List ℕ)) (w : List ℕ) (new : Left) (x : X)
+    → next_of any_word read words ≡ Ok (w, new) → f w ≡ Some x → next_of f read words ≡ Ok (x, new)
 fits_of f read [] w new x e h = absurd cc
 fits_of f read (word ∷ words) w new x e h =
     let both : (word, after words read) ≡ (w, new) = ok_is (word, after words read) (w, new) e in
@@ -29,7 +30,8 @@ less_one : (n : ℕ) → n ≡ n + 1 - 1
 less_one n = omega arith
 
 -- one that doesn't has the number of the words before it
-misfits_of : {X : Type 0} (f : List ℕ → Option X) (read : ℕ) (words : List (List ℕ)) (w : List ℕ) (new : Left) → next_of any_word read words ≡ Ok (w, new) → f w ≡ None → next_of f read words ≡ Err (BadLine (new.read - 1))
+misfits_of : {X : Type 0} (f : List ℕ → Option X) (read : ℕ) (words : List (List ℕ)) (w : List ℕ) (new : Left) → next_of any_word read words ≡ Ok (w, new)
+    → f w ≡ None → next_of f read words ≡ Err (BadLine (new.read - 1))
 misfits_of f read [] w new e h = absurd cc
 misfits_of f read (word ∷ words) w new e h =
     let both : (word, after words read) ≡ (w, new) = ok_is (word, after words read) (w, new) e in
@@ -38,7 +40,8 @@ misfits_of f read (word ∷ words) w new e h =
     let number : read ≡ new.read - 1 = less_one read ∙ ap (λ (l : Left). l.read - 1) rest in
     rw (this, h, ← number) refl
 
-pub misfits : {X : Type 0} (f : List ℕ → Option X) (old new : Left) (w : List ℕ) (fault : LineFault) → next any_word old ≡ Ok (w, new) → f w ≡ None → fault ≡ BadLine (new.read - 1) → Fails fault (next f old)
+pub misfits : {X : Type 0} (f : List ℕ → Option X) (old new : Left) (w : List ℕ) (fault : LineFault) → next any_word old ≡ Ok (w, new)
+    → f w ≡ None → fault ≡ BadLine (new.read - 1) → Fails fault (next f old)
 misfits f old new w fault e h is = rw is (misfits_of f old.read old.words w new e h)
 
 -- and where none is left, each place has that fault

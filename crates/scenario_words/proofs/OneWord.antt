@@ -1,5 +1,6 @@
 -- What one word spells, and the ranges that follow.
-use Rattle.std.proofs.Common.{leb, nat_eq, eqb-true, ◌≡◌, ◌≤◌, ◌<◌, ℕ, ◌*◌, ◌/◌, ◌^◌, Bool, true, false, cond, List, [], ◌∷◌, ◌++◌, take, length, Option, None, Some, Result, Ok, Err, refl, ap, sym, ◌∙◌, arith, decimal, ◌&&◌}
+use Rattle.std.proofs.Common.{leb, nat_eq, eqb-true, ◌≡◌, ◌≤◌, ◌<◌, ℕ, ◌*◌, ◌/◌, ◌^◌, Bool, true, false, cond, List, [], ◌∷◌, ◌++◌, take, length, Option, None}
+use Rattle.std.proofs.Common.{Some, Result, Ok, Err, refl, ap, sym, ◌∙◌, arith, decimal, ◌&&◌}
 use Rattle.std.specs.Prelude.{IsErr, is_none}
 use Rattle.std.specs.Str.{bytes_eq}
 use Rattle.std.specs.Str.Parse.{digits_value}

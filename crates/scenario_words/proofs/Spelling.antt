@@ -1,6 +1,7 @@
 -- One place of a line: what is read is spelled so, and what is spelled so is read. Upper crates may cite `place_spelled`,
 -- `place_again`, `word_spelled`, `word_again` and `is_small`.
-use Rattle.std.proofs.Common.{◌≡◌, ◌≤◌, ◌<◌, ℕ, zero, suc, ◌+◌, ◌^◌, Bool, true, false, cond, nat_lt, nat_le, List, [], ◌∷◌, ◌++◌, length, map, Option, None, Some, Result, Ok, Err, refl, ap, sym, subst, ◌∙◌, arith, decimal, ◌⊎◌, inl, inr, codes, get_or, ◌/◌}
+use Rattle.std.proofs.Common.{◌≡◌, ◌≤◌, ◌<◌, ℕ, zero, suc, ◌+◌, ◌^◌, Bool, true, false, cond, nat_lt, nat_le, List, [], ◌∷◌, ◌++◌, length, map, Option, None}
+use Rattle.std.proofs.Common.{Some, Result, Ok, Err, refl, ap, sym, subst, ◌∙◌, arith, decimal, ◌⊎◌, inl, inr, codes, get_or, ◌/◌}
 use Rattle.std.specs.Str.{bytes_eq}
 use Rattle.std.proofs.lemmas.Slice.Eq.{bytes_eq-Decides}
 use Rattle.std.proofs.lemmas.Bool.{ltb-true, leb-true}
@@ -13,8 +14,10 @@ use Rattle.bass_operations.specs.declared.wishes.Wish.{Wish}
 use Rattle.ltv_codec.specs.Reading.{bad_of}
 use Rattle.scenario_words.specs.declared.fault.LineFault.{LineFault}
 use Rattle.scenario_words.specs.declared.fault.LineFault.TheVariants.{BadLine}
-use Rattle.scenario_words.specs.Places.{WordPlace, between, framing_word, time_up_to, octets_up_to, octets_exactly, number_in_octets, list_up_to, Place, one, perhaps, rising, wishes, WordValue, PlaceValue, wishes_octets}
-use Rattle.scenario_words.specs.Reading.{Left, ◌>>=◌, next_of, taken, decimal_in, framing_in, time_in, timed, octets_in, within, exact_in, number_in, numbered, list_in, word_in, perhaps_of, with_stream, streams_of, rising_of, wish_of, wishes_of, bounded, all_wishes_of, at_place}
+use Rattle.scenario_words.specs.Places.{WordPlace, between, framing_word, time_up_to, octets_up_to, octets_exactly, number_in_octets, list_up_to, Place, one}
+use Rattle.scenario_words.specs.Places.{perhaps, rising, wishes, WordValue, PlaceValue, wishes_octets}
+use Rattle.scenario_words.specs.Reading.{Left, ◌>>=◌, next_of, taken, decimal_in, framing_in, time_in, timed, octets_in, within, exact_in, number_in, numbered}
+use Rattle.scenario_words.specs.Reading.{list_in, word_in, perhaps_of, with_stream, streams_of, rising_of, wish_of, wishes_of, bounded, all_wishes_of, at_place}
 use Rattle.scenario_words.specs.Spelling.{SpellsOctets, SpellsWord, Rising, with_streams, SpellsWishes, Spells}
 use Rattle.scenario_words.proofs.Decimals.{own}
 use Rattle.scenario_words.proofs.OneWord.{decimal_range, decimal_is, decimal_fits, within_is, array_is, exactly_is, list_is}
@@ -265,7 +268,8 @@ rising_spelled words read set left e =
     let all : words ≡ map decimal (n ∷ rest.0) = one.split ∙ front one.word n t.0.1.words (decimal_is 1 31 n one.word one.fits) ∙ ap (λ (ws : List (List ℕ)). decimal n ∷ ws) rest.2 in
     (n, rest.0, sym rest.3, all, rest.4, (range.0, range.1, rest.1))
 
-perhaps_spelled : (least greatest : ℕ) (words : List (List ℕ)) (read : ℕ) (value : Option ℕ) (left : Left) → perhaps_of least greatest read words ≡ Ok (value, left) → Spells (perhaps least greatest) value words left.words
+perhaps_spelled : (least greatest : ℕ) (words : List (List ℕ)) (read : ℕ) (value : Option ℕ) (left : Left)
+    → perhaps_of least greatest read words ≡ Ok (value, left) → Spells (perhaps least greatest) value words left.words
 perhaps_spelled least greatest [] read value left e =
     let both = ok_is (None, left_of [] read) (value, left) e in
     inl (sym (ap (λ (p : Option ℕ × Left). p.0) both), refl, sym (ap (λ (p : Option ℕ × Left). p.1.words) both))
@@ -298,13 +302,15 @@ none_more before all more read words left e =
       all_spelled = λ none. ap (λ (p : List Wish × Left). p.1.words) both ∙ none;
     }
 
-wishes_back : (more : ℕ) (before : List Wish) (read : ℕ) (words : List (List ℕ)) (all : List Wish) (left : Left) → wishes_of before more read words ≡ Ok (all, left) → WishesRead before all more words left
+wishes_back : (more : ℕ) (before : List Wish) (read : ℕ) (words : List (List ℕ)) (all : List Wish) (left : Left)
+    → wishes_of before more read words ≡ Ok (all, left) → WishesRead before all more words left
 unfolding wishes_of
 wishes_back zero before read words all left e = none_more before all zero read words left e
 wishes_back (suc more) before read [] all left e = none_more before all (suc more) read [] left e
 wishes_back (suc more) before read (word ∷ words) all left e =
     let t = bind_ok (wish_of (left_of (word ∷ words) read)) (λ wish. wishes_of (before ++ wish.0 ∷ []) more wish.1.read wish.1.words) (all, left) e in
-    let a = bind_ok (next_of (number_in 4) read (word ∷ words)) (λ bits. next_of (octets_in 255) bits.1.read bits.1.words >>= λ metadata. Ok (record { bis_sync = bits.0; metadata = metadata.0 }, metadata.1)) t.0 t.1 in
+    let a = bind_ok (next_of (number_in 4) read (word ∷ words))
+    (λ bits. next_of (octets_in 255) bits.1.read bits.1.words >>= λ metadata. Ok (record { bis_sync = bits.0; metadata = metadata.0 }, metadata.1)) t.0 t.1 in
     let b = bind_ok (next_of (octets_in 255) a.0.1.read a.0.1.words) (λ metadata. Ok (record { bis_sync = a.0.0; metadata = metadata.0 }, metadata.1)) t.0 a.2 in
     let bits = one_read (number_in 4) (word ∷ words) read a.0.0 a.0.1 a.1 in
     let metadata = one_read (octets_in 255) a.0.1.words a.0.1.read b.0.0 b.0.1 b.1 in

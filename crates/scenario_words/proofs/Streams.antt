@@ -37,7 +37,8 @@ one_more_stream set bis r least has others = same_from_bits r (with_stream set b
 abbrev go_on : ℕ → ℕ × Left → Result (ℕ × Left) LineFault
 go_on set n = streams_of (with_stream set n.0) (n.0 + 1) n.1.read n.1.words
 
-one_word : (set read : ℕ) (words : List (List ℕ)) (found : Option ℕ) → (taken read words found >>= λ n. streams_of (with_stream set n.0) (n.0 + 1) (read + 1) words) ≡ (taken read words found >>= go_on set)
+one_word : (set read : ℕ) (words : List (List ℕ)) (found : Option ℕ)
+    → (taken read words found >>= λ n. streams_of (with_stream set n.0) (n.0 + 1) (read + 1) words) ≡ (taken read words found >>= go_on set)
 one_word set read words None = refl
 one_word set read words (Some n) = refl
 

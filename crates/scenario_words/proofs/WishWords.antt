@@ -91,7 +91,8 @@ bounded_fails most wishes new many = rw (lt-leb (wishes_octets wishes) most many
 pub wishes_fit : (most : ℕ) (wishes : List Wish) (old new : Left) → wishes_of [] 31 old.read old.words ≡ Ok (wishes, new) → wishes_octets wishes ≤ most → all_wishes_of most old ≡ Ok (wishes, new)
 wishes_fit most wishes old new e few = rw e (bounded_fits most wishes new few)
 
-pub wishes_pass : (most : ℕ) (wishes : List Wish) (old new : Left) → wishes_of [] 31 old.read old.words ≡ Ok (wishes, new) → most < wishes_octets wishes → all_wishes_of most old ≡ Err (BadLine new.read)
+pub wishes_pass : (most : ℕ) (wishes : List Wish) (old new : Left) → wishes_of [] 31 old.read old.words ≡ Ok (wishes, new)
+    → most < wishes_octets wishes → all_wishes_of most old ≡ Err (BadLine new.read)
 wishes_pass most wishes old new e many = rw e (bounded_fails most wishes new many)
 
 pub wishes_fail : (most : ℕ) (old : Left) (fault : LineFault) → Fails fault (wishes_of [] 31 old.read old.words) → Fails fault (all_wishes_of most old)

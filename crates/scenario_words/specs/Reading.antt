@@ -9,7 +9,8 @@ use Rattle.bass_operations.specs.declared.wishes.Wish.{Wish}
 use Rattle.ltv_codec.specs.Reading.{bad_of}
 use Rattle.scenario_words.specs.declared.fault.LineFault.{LineFault}
 use Rattle.scenario_words.specs.declared.fault.LineFault.TheVariants.{BadLine, Memory}
-use Rattle.scenario_words.specs.Places.{WordPlace, between, framing_word, time_up_to, octets_up_to, octets_exactly, number_in_octets, list_up_to, Place, one, perhaps, rising, wishes, WordValue, PlaceValue, most_wishes, wishes_octets}
+use Rattle.scenario_words.specs.Places.{WordPlace, between, framing_word, time_up_to, octets_up_to, octets_exactly, number_in_octets, list_up_to, Place, one}
+use Rattle.scenario_words.specs.Places.{perhaps, rising, wishes, WordValue, PlaceValue, most_wishes, wishes_octets}
 
 -- the words that are left of a line, and how many were read before
 pub record Left : Type 0 where

@@ -4,7 +4,8 @@ use Rattle.hex.specs.Hex.{decode_of}
 use Rattle.bcast_base.specs.Numbers.{Le}
 use Rattle.bass_operations.specs.declared.wishes.Wish.{Wish}
 use Rattle.ltv_codec.specs.Reading.{AreLtvs}
-use Rattle.scenario_words.specs.Places.{WordPlace, between, framing_word, time_up_to, octets_up_to, octets_exactly, number_in_octets, list_up_to, Place, one, perhaps, rising, wishes, WordValue, PlaceValue, most_wishes, wishes_octets}
+use Rattle.scenario_words.specs.Places.{WordPlace, between, framing_word, time_up_to, octets_up_to, octets_exactly, number_in_octets, list_up_to, Place, one}
+use Rattle.scenario_words.specs.Places.{perhaps, rising, wishes, WordValue, PlaceValue, most_wishes, wishes_octets}
 use Rattle.scenario_words.specs.Reading.{with_stream}
 
 -- octets as digits of either case, or `-` for none

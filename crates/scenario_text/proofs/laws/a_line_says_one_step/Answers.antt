@@ -1,5 +1,6 @@
 use Rattle.scenario_text.proofs.Steps.{says_so, so_says, one_said, said_in_range, none_is_blank, blank_is_none}
-use Rattle.scenario_text.proofs.Misfits.{is_misfit, one_number}
+use Rattle.scenario_text.proofs.Misfits.{is_misfit}
+use Rattle.scenario_text.proofs.MisfitNumbers.{one_number}
 use Rattle.scenario_text.proofs.laws.a_line_says_one_step.Goals as goal
 
 pub returns-clause-says : goal.returns-clause-says
