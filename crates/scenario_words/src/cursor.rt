@@ -53,6 +53,9 @@ fn octets_of_wishes(wishes: &Wishes) -> usize
 }
 
 /// The words of a line that are still to be read, and how many were read before.
+///
+/// Each call that reads a word answers BadLine with the number of that word, from 0, where it doesn't fit, and with the
+/// number of words of the line where none is left. After a fault the cursor may stand behind the word or before it.
 #[derive(Drop)]
 pub struct Cursor<'a> {
     rest: Option<&'a [u8]>,
