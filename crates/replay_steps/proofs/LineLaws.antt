@@ -69,6 +69,7 @@ said_meets starts lines line made new text told before after (Ok x) boxes is m =
         (boxes_go_on starts before after (steps_of lines) made boxes m.0 m.3));
   },
   m.2 ∙ ap (λ s. text ++ output_said airs_of starts (steps_of lines) s) (sym is),
+  m.3 ∙ ap (λ s. accounts_after before (handed_said airs_of (steps_of lines) s)) (sym is),
 )
 said_meets starts lines line made new text told before after (Err (Refused reason)) boxes is m =
     (ap (refusal_said airs_of (length starts) (steps_of lines)) is ∙ m.0, m.1, m.2)

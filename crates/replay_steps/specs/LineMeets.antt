@@ -1,5 +1,5 @@
 -- What a line of a scenario does, by the definitions of its transcript.
-use Rattle.std.specs.Prelude.{ℕ, ◌≡◌, ◌⊎◌, List, ◌∷◌, ◌++◌, Option, None, Some, Result, Ok, Err}
+use Rattle.std.specs.Prelude.{ℕ, List, ◌∷◌, Option, Result}
 use Rattle.bcast_io.specs.TextLines.{TextLine}
 use Rattle.unit_outlets.specs.Account.{Account}
 use Rattle.source_machine.specs.Airs.{airs_of}
@@ -7,10 +7,8 @@ use Rattle.transcript_text.specs.declared.refusal.Refusal.{Refusal}
 use Rattle.scenario_history.specs.Lines.{rules_of, steps_of, handed_on}
 use Rattle.replay_steps.specs.declared.machine.Machine.{Machine}
 use Rattle.transcript_text.specs.declared.stop.Stop.{Stop}
-use Rattle.transcript_text.specs.declared.stop.Stop.TheVariants.{Refused, OutletFault, Memory}
 use Rattle.replay_steps.specs.Machines.{Stands}
-use Rattle.replay_steps.specs.Meets.{BoxesStand}
-use Rattle.scenario_sinks.specs.Handing.{BoxFails, CutShort}
+use Rattle.replay_steps.specs.Meets.{Becomes, BoxesStand}
 
 -- the machine and the accounts of the boxes are as these lines leave them, by what the accounts were at the start
 pub record LinesStand (starts : List Account) (lines : List TextLine) (machine : Machine) (accounts : List Account) : Type 0 where
@@ -25,11 +23,6 @@ output_at starts lines line = (rules_of airs_of starts).output lines line
 
 -- a line after these, where a text ended in `text` and ends in `told`, and the accounts were `before` and are `after`
 abbrev pub LineMeets : List Account → List TextLine → TextLine → Machine → List ℕ → List ℕ → List Account → List Account → Result (Unit {0}) Stop → Type 0
-LineMeets starts lines line new text told before after (Ok _) =
-    (refusal_at starts lines line ≡ None) × LinesStand starts (line ∷ lines) new after × (told ≡ text ++ output_at starts lines line)
-LineMeets starts lines line new text told before after (Err (Refused reason)) =
-    (refusal_at starts lines line ≡ Some reason) × (told ≡ text) × (after ≡ before)
-LineMeets starts lines line new text told before after (Err OutletFault) =
-    (refusal_at starts lines line ≡ None) × BoxFails (handed_on airs_of lines line) text told before after
-LineMeets starts lines line new text told before after (Err Memory) =
-    (after ≡ before) ⊎ ((refusal_at starts lines line ≡ None) × CutShort (handed_on airs_of lines line) before after)
+LineMeets starts lines line new text told before after result =
+    Becomes (refusal_at starts lines line) (output_at starts lines line) (handed_on airs_of lines line)
+    (LinesStand starts (line ∷ lines) new after) text told before after result

@@ -1,11 +1,12 @@
 -- What a step does, by the definitions of a scenario.
-use Rattle.std.specs.Prelude.{ℕ, ◌≡◌, ◌≤◌, ◌⊎◌, List, ◌∷◌, ◌++◌, length, None, Some, Result, Ok, Err}
+use Rattle.std.specs.Prelude.{ℕ, ◌≡◌, ◌≤◌, ◌⊎◌, List, ◌∷◌, ◌++◌, length, Option, None, Some, Result, Ok, Err}
 use Rattle.unit_outlets.specs.Account.{Account}
 use Rattle.source_machine.specs.Airs.{airs_of}
+use Rattle.transcript_text.specs.declared.refusal.Refusal.{Refusal}
 use Rattle.scenario_text.specs.declared.step.Step.{Step}
 use Rattle.scenario_text.specs.declared.step.Step.TheVariants.{Scenario}
 use Rattle.scenario_history.specs.Steps.{sinks_made}
-use Rattle.scenario_history.specs.Boxes.{accounts_after, handed_up, handed_by}
+use Rattle.scenario_history.specs.Boxes.{SinkUnit, accounts_after, handed_up, handed_by}
 use Rattle.scenario_history.specs.Output.{output_of}
 use Rattle.scenario_history.specs.Refusals.{phase_refusal, refusal_of}
 use Rattle.replay_steps.specs.declared.machine.Machine.{Machine}
@@ -47,26 +48,26 @@ Tells starts steps next new text told (Err (Refused reason)) =
 Tells starts steps next new text told (Err OutletFault) = ⊥
 Tells starts steps next new text told (Err Memory) = Unit {0}
 
--- a step, where the accounts of the boxes were `before` and are `after`
+-- What became of a step or a line that is refused for this reason, or else prints this output and hands up these units,
+-- after which `stands` holds: a text that ended in `text` ends in `told`, and the accounts of the boxes were `before` and
+-- are `after`.
+abbrev pub Becomes : Option Refusal → List ℕ → List SinkUnit → Type 0 → List ℕ → List ℕ → List Account → List Account → Result (Unit {0}) Stop → Type 0
+Becomes refusal output units stands text told before after (Ok _) =
+    (refusal ≡ None) × stands × (told ≡ text ++ output) × (after ≡ accounts_after before units)
+Becomes refusal output units stands text told before after (Err (Refused reason)) =
+    (refusal ≡ Some reason) × (told ≡ text) × (after ≡ before)
+Becomes refusal output units stands text told before after (Err OutletFault) = (refusal ≡ None) × BoxFails units text told before after
+Becomes refusal output units stands text told before after (Err Memory) =
+    (after ≡ before) ⊎ ((refusal ≡ None) × CutShort units before after)
+
+-- a step that follows no `end`
 abbrev pub Meets : List Account → List Step → Step → Machine → List ℕ → List ℕ → List Account → List Account → Result (Unit {0}) Stop → Type 0
-Meets starts steps next new text told before after (Ok _) =
-    (phase_refusal airs_of (length starts) steps next ≡ None) × Stands (next ∷ steps) new
-    × (told ≡ text ++ output_of airs_of starts steps next) × (after ≡ accounts_after before (handed_by airs_of steps next))
-Meets starts steps next new text told before after (Err (Refused reason)) =
-    (phase_refusal airs_of (length starts) steps next ≡ Some reason) × (told ≡ text) × (after ≡ before)
-Meets starts steps next new text told before after (Err OutletFault) =
-    (phase_refusal airs_of (length starts) steps next ≡ None) × BoxFails (handed_by airs_of steps next) text told before after
-Meets starts steps next new text told before after (Err Memory) =
-    (after ≡ before) ⊎ ((phase_refusal airs_of (length starts) steps next ≡ None) × CutShort (handed_by airs_of steps next) before after)
+Meets starts steps next new text told before after result =
+    Becomes (phase_refusal airs_of (length starts) steps next) (output_of airs_of starts steps next) (handed_by airs_of steps next)
+    (Stands (next ∷ steps) new) text told before after result
 
 -- a step, with the refusal of one that follows `end` beside the others
 abbrev pub StepMeets : List Account → List Step → Step → Machine → List ℕ → List ℕ → List Account → List Account → Result (Unit {0}) Stop → Type 0
-StepMeets starts steps next new text told before after (Ok _) =
-    (refusal_of airs_of (length starts) steps next ≡ None) × Stands (next ∷ steps) new
-    × (told ≡ text ++ output_of airs_of starts steps next) × (after ≡ accounts_after before (handed_by airs_of steps next))
-StepMeets starts steps next new text told before after (Err (Refused reason)) =
-    (refusal_of airs_of (length starts) steps next ≡ Some reason) × (told ≡ text) × (after ≡ before)
-StepMeets starts steps next new text told before after (Err OutletFault) =
-    (refusal_of airs_of (length starts) steps next ≡ None) × BoxFails (handed_by airs_of steps next) text told before after
-StepMeets starts steps next new text told before after (Err Memory) =
-    (after ≡ before) ⊎ ((refusal_of airs_of (length starts) steps next ≡ None) × CutShort (handed_by airs_of steps next) before after)
+StepMeets starts steps next new text told before after result =
+    Becomes (refusal_of airs_of (length starts) steps next) (output_of airs_of starts steps next) (handed_by airs_of steps next)
+    (Stands (next ∷ steps) new) text told before after result

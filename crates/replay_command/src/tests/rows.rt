@@ -10,7 +10,7 @@ pub struct Row {
     pub exit_code: u8,
 }
 
-pub const ROWS: [Row; 30] = [
+pub const ROWS: [Row; 32] = [
     Row {
         name: "least-path",
         boxes: 2,
@@ -220,5 +220,19 @@ pub const ROWS: [Row; 30] = [
         text: "scenario 1\ngroup unframed 20000 40000 8 10000 4 4 1 1 4 2 1 400 0 1\nstart 0\nsink 0 1 1\nsink 1 1 1\nsink 2 1 1\nsink 3 1 1\nsink 4 1 1\nsink 5 1 1\nsink 6 1 1\nsink 7 1 1\ntuned 0 1\ntuned 1 1\ntuned 2 1\ntuned 3 1\ntuned 4 1\ntuned 5 1\ntuned 6 1\nunit 1 - 0a0b0c\nunit 1 - 0d\nevent\nair 0 0\nair 1 1\nair 2 2\nair 3 3\nair 4 4\nhear 5 0 1 2\nhear 6 0 1 3\ntuned 7 1\nevent\nair 0 0\nair 5 2\nair 7 2\ndrop 4\nevent\nair 7 0\nend\n",
         transcript: "unit 0 1 at 61260 valid 3 0a0b0c\nunit 1 1 at 61260 lost\nunit 2 1 at 61260 valid 3 0a0b0c\nunit 3 1 at 61260 valid 3 0a0b0c\nunit 4 1 at 61260 valid 3 0a0b0c\nunit 5 1 at 61260 lost\nunit 6 1 at 61260 lost\nsum 4 1 3\nunit 0 1 at 71260 valid 1 0d\nunit 1 1 at 71260 lost\nunit 2 1 at 71260 valid 1 0d\nunit 3 1 at 71260 lost\nunit 5 1 at 71260 valid 1 0d\nunit 6 1 at 71260 lost\nunit 7 1 at 71260 valid 1 0d\nunit 0 1 at 81260 lost\nunit 1 1 at 81260 lost\nunit 2 1 at 81260 lost\nunit 3 1 at 81260 lost\nunit 5 1 at 81260 lost\nunit 6 1 at 81260 lost\nunit 7 1 at 81260 lost\nsum 0 2 4\nsum 1 0 0\nsum 2 2 4\nsum 3 1 3\nsum 5 1 1\nsum 6 0 0\nsum 7 1 1\n",
         exit_code: 0,
+    },
+    Row {
+        name: "two-sources",
+        boxes: 2,
+        text: "scenario 2\ngroup unframed 20000 40000 8 10000 4 4 1 1 1 1 0 0 0 1\nsource 1\ngroup unframed 25000 40000 8 10000 4 4 1 1 1 1 0 0 0 1\nident 0 000000000000 1 000000\nsource 0\nsink 0 1 1\nsink 1 1 1\nstart 0\ntuned 0 1\nunit 1 - aa\nevent\nsource 1\nstart 0\ntuned 1 1\nunit 1 - bb\nevent\nhear 0 0 1 0\nhear 1 0 1 0\nsource 0\nair 0 0\nend\n",
+        transcript: "unit 0 1 at 60060 valid 1 aa\nunit 1 1 at 65060 valid 1 bb\nsum 0 1 1\nsum 1 1 1\n",
+        exit_code: 0,
+    },
+    Row {
+        name: "two-sources-one-identity",
+        boxes: 2,
+        text: "scenario 2\ngroup unframed 20000 40000 8 10000 4 4 1 1 1 1 0 0 0 1\nsource 1\ngroup unframed 25000 40000 8 10000 4 4 1 1 1 1 0 0 0 1\nsource 0\nsink 0 1 1\nsink 1 1 1\nstart 0\ntuned 0 1\nunit 1 - aa\nevent\nsource 1\nstart 0\ntuned 1 1\nunit 1 - bb\nevent\nhear 0 0 1 0\nhear 1 0 1 0\nsource 0\nair 0 0\nend\n",
+        transcript: "line 13: IdentTwice\n",
+        exit_code: 1,
     },
 ];

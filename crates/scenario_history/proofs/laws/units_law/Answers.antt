@@ -6,7 +6,7 @@ pub returns : goal.returns
 returns c = λ starts.
     let below : Below = record {
       in_range = c.a_line_says_one_step.ensures.in_range;
-      some_airs = λ setup calls plain. c.one_air.ensures.some setup calls;
+      some_airs = λ setup calls plain. c.one_air.ensures.some setup calls plain;
       counted = c.air_is_by_division.ensures.counted;
       sent_stays = c.what_was_sent_stays.ensures;
       struck = c.units_are_struck.ensures;
