@@ -1,5 +1,6 @@
 -- The PDUs of the air that a sink hears.
-use Rattle.std.proofs.Common.{◌≡◌, ℕ, zero, suc, ◌+◌, ◌-◌, ◌*◌, ◌/◌, ◌%◌, ◌<◌, ◌≤◌, ◌==◌, ◌&&◌, ◌++◌, ◌∷◌, Bool, true, false, not, is_some, nat_le, if◌then◌else◌, List, length, Option, None, Some, option_map, Result, Ok, Err, refl, sym, ◌∙◌, ap, subst, add-one, ne_eqb, arith}
+use Rattle.std.proofs.Common.{◌≡◌, ℕ, zero, suc, ◌+◌, ◌-◌, ◌*◌, ◌/◌, ◌%◌, ◌<◌, ◌≤◌, ◌==◌, ◌&&◌, ◌++◌, ◌∷◌, Bool, true, false, not, is_some, nat_le, if◌then◌else◌, List, length, Option}
+use Rattle.std.proofs.Common.{None, Some, option_map, Result, Ok, Err, refl, sym, ◌∙◌, ap, subst, add-one, ne_eqb, arith}
 use Rattle.std.proofs.lemmas.Bool.{le-ltb}
 use Rattle.std.proofs.lemmas.Nat.{div_below, mod_below}
 use Rattle.std.specs.Option.{option_or}
@@ -231,7 +232,8 @@ heard_next steps n lose i source event bis subevent pdu sinks o kept lives chose
     let heard = heard_as (past_on_air steps n lose i) n source (chosen_of steps) event (event_back own 0) bis subevent pdu (pdu_in airs_of own (event_back own 0) bis subevent) sinks chosen is p
     (some_heard (past_on_air steps n lose i) n source event bis subevent pdu sinks o lives h) in
     let B : ℕ → Type 0 = λ x. SinksStand (with_hearing n (chosen_of steps) (event_back own 0) x subevent (pdu_in airs_of own (event_back own 0) x subevent) (past_on_air steps n lose i)) sinks in
-    let S : ℕ → Type 0 = λ x. SinksStand (with_hearing n (chosen_of steps) (event_back own 0) (i / nse + 1) x (pdu_in airs_of own (event_back own 0) (i / nse + 1) x) (past_on_air steps n lose i)) sinks in
+    let S : ℕ → Type 0 = λ x. SinksStand (with_hearing n (chosen_of steps) (event_back own 0) (i / nse + 1) x (pdu_in airs_of own (event_back own 0) (i / nse + 1) x) (past_on_air steps
+    n lose i)) sinks in
     let P : ℕ → Type 0 = λ k. SinksStand (past_on_air steps n lose k) sinks in
     subst P (sym (add-one i)) (stands_same
     (with_hearing n (chosen_of steps) (event_back own 0) (i / nse + 1) (i % nse) (pdu_in airs_of own (event_back own 0) (i / nse + 1) (i % nse)) (past_on_air steps n lose i))

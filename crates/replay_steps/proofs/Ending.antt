@@ -1,5 +1,6 @@
 -- The sums of the boxes, and the end of a scenario.
-use Rattle.std.proofs.Common.{◌≡◌, ℕ, zero, suc, ◌+◌, ◌<◌, ◌≤◌, List, [], ◌∷◌, ◌++◌, length, Bool, true, false, inl, inr, is_some, not, ne_eqb, refl, sym, ◌∙◌, ap, subst, append-nil, append_assoc, if◌then◌else◌, arith, Option, None, Some, Result, Ok, Err}
+use Rattle.std.proofs.Common.{◌≡◌, ℕ, zero, suc, ◌+◌, ◌<◌, ◌≤◌, List, [], ◌∷◌, ◌++◌, length, Bool, true, false, inl, inr, is_some, not, ne_eqb, refl, sym, ◌∙◌, ap, subst, append-nil}
+use Rattle.std.proofs.Common.{append_assoc, if◌then◌else◌, arith, Option, None, Some, Result, Ok, Err}
 use Rattle.std.specs.Option.{option_or}
 use Rattle.std.specs.List.{flat_map}
 use Rattle.unit_outlets.specs.Account.{Account}
@@ -129,7 +130,8 @@ first_stops starts version steps first second sinks new text told before after s
     (hands_front (closings_at 0 first (past_of steps)) (closings_at 1 second (with_close 0 first (past_of steps))) text told before after stop c.hands))
 
 -- the same at the close of source 1
-pub second_stops : (starts : List Account) (version : ℕ) (steps : List Step) (first second : Option ℕ) (one two : Sinks) (new : Machine) (text mid told : List ℕ) (before between after : List Account) (stop : Stop)
+pub second_stops : (starts : List Account) (version : ℕ) (steps : List Step) (first second : Option ℕ) (one two : Sinks) (new : Machine) (text mid told : List ℕ) (before between after
+    : List Account) (stop : Stop)
     → stage_of steps ≡ running version → first ≡ open_event (steps_of_source 0 steps) → second ≡ open_event (steps_of_source 1 steps)
     → Closes (past_of steps) 0 first one text mid before between (Ok tt)
     → Closes (with_close 0 first (past_of steps)) 1 second two mid told between after (Err stop) → Meets starts steps End new text told before after (Err stop)
@@ -140,7 +142,8 @@ second_stops starts version steps first second one two new text mid told before 
     (hands_then (closings_at 0 first (past_of steps)) (closings_at 1 second (with_close 0 first (past_of steps))) text mid told before between after (Err stop) c.hands.0 c.hands.1 d.hands))
 
 -- memory ran out as the sums were put
-pub sums_stop : (starts : List Account) (version : ℕ) (steps : List Step) (first second : Option ℕ) (one two : Sinks) (new : Machine) (text mid told more : List ℕ) (before between after : List Account)
+pub sums_stop : (starts : List Account) (version : ℕ) (steps : List Step) (first second : Option ℕ) (one two : Sinks) (new : Machine) (text mid told more : List ℕ) (before between
+    after : List Account)
     → stage_of steps ≡ running version → first ≡ open_event (steps_of_source 0 steps) → second ≡ open_event (steps_of_source 1 steps)
     → Closes (past_of steps) 0 first one text mid before between (Ok tt)
     → Closes (with_close 0 first (past_of steps)) 1 second two mid told between after (Ok tt) → Meets starts steps End new text more before after (Err Memory)

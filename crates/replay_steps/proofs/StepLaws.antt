@@ -91,6 +91,11 @@ pub first_meets : (starts : List Account) (steps : List Step) (made : Step) (new
     → stage_of steps ≡ unbegun → First (length starts) steps made new r → StepMeets starts steps made new text text accounts accounts r
 first_meets starts steps (Scenario version) new text accounts (Ok x) e f = (rw e refl, f.1, sym (append-nil text), refl)
 first_meets starts steps made new text accounts (Ok x) e f = absurd f.0
-first_meets starts steps made new text accounts (Err (Refused reason)) e f = (ap (λ b. option_or (refuse_if b AfterEnd) (phase_refusal airs_of (length starts) steps made)) (not_begun steps e) ∙ f, refl, refl)
+first_meets starts steps made new text accounts (Err (Refused reason)) e f = (
+  ap (λ b. option_or (refuse_if b AfterEnd) (phase_refusal airs_of (length starts) steps made)) (not_begun
+      steps e) ∙ f,
+  refl,
+  refl,
+)
 first_meets starts steps made new text accounts (Err OutletFault) e f = absurd f
 first_meets starts steps made new text accounts (Err Memory) e f = inl refl

@@ -1,5 +1,6 @@
 -- Closing an event for one sink after the other.
-use Rattle.std.proofs.Common.{◌≡◌, ◌≢◌, ℕ, ◌+◌, ◌<◌, ◌≤◌, List, [], ◌∷◌, ◌++◌, length, map, OnOk, refl, sym, ◌∙◌, ap, subst, slice_get, slice_set, get_or, arith, Bool, true, false, Option, Result, Ok, Err, None, Some, ◌⊎◌, inl, inr}
+use Rattle.std.proofs.Common.{◌≡◌, ◌≢◌, ℕ, ◌+◌, ◌<◌, ◌≤◌, List, [], ◌∷◌, ◌++◌, length, map, OnOk, refl, sym, ◌∙◌, ap, subst, slice_get, slice_set, get_or, arith, Bool, true, false, Option}
+use Rattle.std.proofs.Common.{Result, Ok, Err, None, Some, ◌⊎◌, inl, inr}
 use Rattle.std.specs.List.{flat_map, range_with_len}
 use Rattle.std.proofs.lemmas.Grind.{flat_map-append}
 use Rattle.std.proofs.lemmas.List.{append-nil}
@@ -71,7 +72,8 @@ pub between_next : (past : Past) (source event number : ℕ) (sinks : List (Opti
     → Between past source event (number + 1) (slice_set sinks number entry) next text told2 before after
 between_next past source event number sinks entry gathered next text told told2 before mid after eight within b s =
     let inside : number < length sinks = omega arith in
-    let h = hands_then (closings source event past (range_with_len 0 number)) (closing_by source event number (past.calls number) (past.sources number) (past.boxes number)) text told told2 before mid after (Ok tt) b.lines b.boxes_are s.hands in
+    let h = hands_then (closings source event past (range_with_len 0 number)) (closing_by source event number (past.calls number) (past.sources number) (past.boxes number)) text told
+    told2 before mid after (Ok tt) b.lines b.boxes_are s.hands in
     record {
       done = λ n below. entry_after past source event number sinks entry n inside s.is_ticked.entry_is b.done below (nat_same n number);
       left = λ n least below.

@@ -1,5 +1,6 @@
 -- The sinks after a call for one of them.
-use Rattle.std.proofs.Common.{◌≡◌, ℕ, ◌+◌, ◌<◌, ◌≤◌, ◌==◌, ◌&&◌, ◌∷◌, [], true, false, nat_le, not, List, length, refl, sym, ◌∙◌, ap, subst, is_some, slice_set, get_or, eq-eqb, cond, Bool, if◌then◌else◌, arith, Option, None, Some, Result, Ok, Err}
+use Rattle.std.proofs.Common.{◌≡◌, ℕ, ◌+◌, ◌<◌, ◌≤◌, ◌==◌, ◌&&◌, ◌∷◌, [], true, false, nat_le, not, List, length, refl, sym, ◌∙◌, ap, subst, is_some, slice_set, get_or, eq-eqb, cond, Bool}
+use Rattle.std.proofs.Common.{if◌then◌else◌, arith, Option, None, Some, Result, Ok, Err}
 use Rattle.std.proofs.lemmas.Bool.{le-leb, lt-leb}
 use Rattle.delegator_machine.specs.Calls.{Tuning, Call, hear, tune}
 use Rattle.delegator_machine.specs.Sinks.{StandsFor}
@@ -55,7 +56,8 @@ pub taken : (boxes n at : ℕ) (past : Past) (old : Sinks) (entry : Option Sink)
     → length old.entries.items ≡ most_sinks → entry ≡ get_or old.entries.items at entry → is_some entry ≡ true
     → Answers (not_made (past.boxes n) past.made boxes) past (with_sink n past) old (Err (Refused SinkTwice))
 taken boxes n at past old entry stands same within eight is some =
-    let lives : is_some (past.boxes n) ≡ true = sym (lives_in (past.boxes n) (past.sources n) (past.calls n) entry (entry_read past n at old.entries.items entry same eight within is stands.entries)) ∙ some in
+    let lives : is_some (past.boxes n) ≡ true = sym (lives_in (past.boxes n) (past.sources n) (past.calls n) entry (entry_read past n at old.entries.items entry same eight within is
+    stands.entries)) ∙ some in
     (rw lives refl, stands)
 
 -- no box is left

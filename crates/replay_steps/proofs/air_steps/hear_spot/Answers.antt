@@ -9,7 +9,8 @@ use Rattle.replay_steps.proofs.air_steps.hear_spot.Goals as goal
 pub returns-then-is_lost : goal.returns-then-is_lost
 returns-then-is_lost c steps on sources sinks =
     lost_next steps c.args.sink c.args.lose c.args.spot c.args.sinks.now
-    (lost_as steps c.args.sink c.args.event c.args.lose c.args.spot c.from.result c.from-2.result c.is_lost.result true c.args.group.now on c.from.ensures c.from-2.ensures c.is_lost.ensures c.if-is_lost.true) sinks
+    (lost_as steps c.args.sink c.args.event c.args.lose c.args.spot c.from.result c.from-2.result c.is_lost.result true c.args.group.now on c.from.ensures c.from-2.ensures
+    c.is_lost.ensures c.if-is_lost.true) sinks
 
 pub returns-in_default : goal.returns-in_default
 returns-in_default c steps on sources sinks =
@@ -35,7 +36,8 @@ returns-in-Ok c steps on sources sinks =
     let nse : c.from.result ≡ (setup_of (chosen_steps steps)).info.nse = c.from.ensures ∙ ap (λ (i : BigInfo). i.nse) info in
     let nse2 : c.from-2.result ≡ (setup_of (chosen_steps steps)).info.nse = c.from-2.ensures ∙ ap (λ (i : BigInfo). i.nse) info in
     heard_next steps c.args.sink c.args.lose c.args.spot c.chosen.result c.args.event c.in-Some.bis (c.args.spot % c.from-2.result) c.in-Ok.pdu.now c.hear.new.self c.hear.result
-    (lost_as steps c.args.sink c.args.event c.args.lose c.args.spot c.from.result c.from-2.result c.is_lost.result false c.args.group.now on c.from.ensures c.from-2.ensures c.is_lost.ensures c.if-is_lost.false)
+    (lost_as steps c.args.sink c.args.event c.args.lose c.args.spot c.from.result c.from-2.result c.is_lost.result false c.args.group.now on c.from.ensures c.from-2.ensures
+    c.is_lost.ensures c.if-is_lost.false)
     on.lives (c.chosen.ensures.source steps sources) on.event_is
     (c.in-Some.ensures.1 ∙ ap (λ k. c.args.spot / k + 1) nse) (ap (λ k. c.args.spot % k) nse2) (c.in-Ok.ensures.ok steps sources).1
     (c.hear.ensures _ sinks)

@@ -6,7 +6,12 @@ use Rattle.replay_steps.proofs.machine.Machine.event.Goals as goal
 
 pub returns-in-Err : goal.returns-in-Err
 returns-in-Err g c starts version steps stands e =
-    close_refused starts version steps EventStep (record c.args.self.now { sources = c.perform.new.self }) c.args.text.now _ c.in-Err.stop (record { stage = λ stage. refl; placed = λ v. refl; refusal = λ boxes steps. refl }) e
+    close_refused starts version steps EventStep (record c.args.self.now { sources = c.perform.new.self }) c.args.text.now _ c.in-Err.stop (record {
+      stage = λ stage. refl;
+      placed = λ
+          v. refl;
+      refusal = λ boxes steps. refl;
+    }) e
     (c.in-Err.ensures.closes version steps stands.sources)
 
 pub returns : goal.returns

@@ -7,5 +7,9 @@ use Rattle.replay_steps.proofs.machine.Machine.group.Goals as goal
 
 pub returns : goal.returns
 returns c boxes version steps plain stands e =
-    sources_meet boxes version steps (group_step c.args.info c.args.origin c.args.delay) c.args.self.now _ c.describe.result (record { stage = λ stage. refl; placed = λ v. refl; refusal = λ boxes steps. refl }) refl stands e refl refl
+    sources_meet boxes version steps (group_step c.args.info c.args.origin c.args.delay) c.args.self.now _ c.describe.result (record {
+      stage = λ stage. refl;
+      placed = λ v. refl;
+      refusal = λ boxes steps. refl;
+    }) refl stands e refl refl
     (c.describe.ensures version steps plain stands.sources)

@@ -12,12 +12,14 @@ returns-in-Err c boxes version steps stands e =
 pub returns-in-Ok-heard_at : goal.returns-in-Ok-heard_at
 returns-in-Ok-heard_at c boxes version steps stands e =
     let reach = c.in-Ok.ensures steps stands in
-    hear_meets boxes version c.args.sink c.chosen-source.result c.event_back-event.result c.args.place.back c.args.place.bis c.args.place.subevent c.in-Ok-heard_at.pdu.now steps c.args.self.now _ c.hear.result
+    hear_meets boxes version c.args.sink c.chosen-source.result c.event_back-event.result c.args.place.back c.args.place.bis c.args.place.subevent c.in-Ok-heard_at.pdu.now steps
+    c.args.self.now _ c.hear.result
     c.in-Ok.field-0 stands e reach (c.in-Ok-heard_at.ensures.ok steps stands.sources) (c.chosen-source.ensures.source steps stands.sources)
     (c.event_back-event.ensures.event steps stands.sources reach.0) refl refl (c.hear.ensures (past_of steps) stands.sinks)
 
 pub returns-in-Err-heard_at : goal.returns-in-Err-heard_at
 returns-in-Err-heard_at c boxes version steps stands e =
     let reach = c.in-Ok.ensures steps stands in
-    place_fails boxes version c.args.sink c.args.place.back c.args.place.bis c.args.place.subevent steps (HearStep c.args.sink c.args.place.back c.args.place.bis c.args.place.subevent) c.args.self.now c.in-Ok.field-0 c.in-Err-heard_at.stop
+    place_fails boxes version c.args.sink c.args.place.back c.args.place.bis c.args.place.subevent steps (HearStep c.args.sink c.args.place.back c.args.place.bis c.args.place.subevent)
+    c.args.self.now c.in-Ok.field-0 c.in-Err-heard_at.stop
     (hear_brings c.args.sink c.args.place.back c.args.place.bis c.args.place.subevent) refl e reach (c.in-Err-heard_at.ensures.err steps stands.sources reach.0)

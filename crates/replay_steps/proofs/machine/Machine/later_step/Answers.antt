@@ -6,7 +6,8 @@ use Rattle.replay_steps.proofs.machine.Machine.later_step.Goals as goal
 
 pub returns-in-Group : goal.returns-in-Group
 returns-in-Group g c starts steps stands e boxes =
-    quiet_as starts (length starts) steps c.args.step _ c.group.new.self c.args.text.now _ c.group.result c.in-Group.is refl refl refl (c.group.ensures (length starts) (number_of c.args.version) steps refl stands e)
+    quiet_as starts (length starts) steps c.args.step _ c.group.new.self c.args.text.now _ c.group.result c.in-Group.is refl refl refl (c.group.ensures (length starts) (number_of
+    c.args.version) steps refl stands e)
 
 pub returns-in-Start : goal.returns-in-Start
 returns-in-Start g c starts steps stands e boxes =
@@ -14,23 +15,28 @@ returns-in-Start g c starts steps stands e boxes =
 
 pub returns-in-Sink : goal.returns-in-Sink
 returns-in-Sink g c starts steps stands e boxes =
-    quiet_as starts c.len.result steps c.args.step _ c.sink.new.self c.args.text.now _ c.sink.result c.in-Sink.is (boxes_counted _ c.args.outlets.now.items starts steps c.len.result (c.len.ensures ∙ c.args.outlets.now.ok.0) boxes) refl refl (c.sink.ensures (number_of c.args.version) steps c.in-Sink.streams c.in-Sink.slots c.in-Sink.mtu stands e)
+    quiet_as starts c.len.result steps c.args.step _ c.sink.new.self c.args.text.now _ c.sink.result c.in-Sink.is (boxes_counted _ c.args.outlets.now.items starts steps c.len.result
+    (c.len.ensures ∙ c.args.outlets.now.ok.0) boxes) refl refl (c.sink.ensures (number_of c.args.version) steps c.in-Sink.streams c.in-Sink.slots c.in-Sink.mtu stands e)
 
 pub returns-in-Tuned : goal.returns-in-Tuned
 returns-in-Tuned g c starts steps stands e boxes =
-    quiet_as starts (length starts) steps c.args.step _ c.tuned.new.self c.args.text.now _ c.tuned.result c.in-Tuned.is refl refl refl (c.tuned.ensures (length starts) (number_of c.args.version) steps stands e)
+    quiet_as starts (length starts) steps c.args.step _ c.tuned.new.self c.args.text.now _ c.tuned.result c.in-Tuned.is refl refl refl (c.tuned.ensures (length starts) (number_of
+    c.args.version) steps stands e)
 
 pub returns-in-Unit : goal.returns-in-Unit
 returns-in-Unit g c starts steps stands e boxes =
-    quiet_as starts (length starts) steps c.args.step _ c.unit.new.self c.args.text.now _ c.unit.result (c.in-Unit.is ∙ ap (λ octets. UnitStep c.in-Unit.bis c.in-Unit.time octets) (sym c.as_slice.ensures)) refl refl refl (c.unit.ensures (length starts) (number_of c.args.version) steps stands e)
+    quiet_as starts (length starts) steps c.args.step _ c.unit.new.self c.args.text.now _ c.unit.result (c.in-Unit.is ∙ ap (λ octets. UnitStep c.in-Unit.bis c.in-Unit.time octets) (sym
+    c.as_slice.ensures)) refl refl refl (c.unit.ensures (length starts) (number_of c.args.version) steps stands e)
 
 pub returns-in-Hear : goal.returns-in-Hear
 returns-in-Hear g c starts steps stands e boxes =
-    quiet_as starts (length starts) steps c.args.step _ c.hear.new.self c.args.text.now _ c.hear.result c.in-Hear.is refl refl refl (c.hear.ensures (length starts) (number_of c.args.version) steps stands e)
+    quiet_as starts (length starts) steps c.args.step _ c.hear.new.self c.args.text.now _ c.hear.result c.in-Hear.is refl refl refl (c.hear.ensures (length starts) (number_of
+    c.args.version) steps stands e)
 
 pub returns-in-Air : goal.returns-in-Air
 returns-in-Air g c starts steps stands e boxes =
-    quiet_as starts (length starts) steps c.args.step _ c.air.new.self c.args.text.now _ c.air.result c.in-Air.is refl refl refl (c.air.ensures (length starts) (number_of c.args.version) steps stands e)
+    quiet_as starts (length starts) steps c.args.step _ c.air.new.self c.args.text.now _ c.air.result c.in-Air.is refl refl refl (c.air.ensures (length starts) (number_of
+    c.args.version) steps stands e)
 
 pub returns-in-Event : goal.returns-in-Event
 returns-in-Event g c starts steps stands e boxes =
@@ -42,7 +48,8 @@ returns-in-Stop g c starts steps stands e boxes =
 
 pub returns-in-Inject : goal.returns-in-Inject
 returns-in-Inject g c starts steps stands e boxes =
-    tells_as starts steps c.args.step _ c.inject.new.self c.args.text.now c.inject.new.text _ c.inject.result (c.in-Inject.is ∙ ap (λ octets. InjectStep c.in-Inject.sink c.in-Inject.back c.in-Inject.bis c.in-Inject.subevent octets) (sym c.as_slice-in-Inject.ensures)) refl (c.inject.ensures starts (number_of c.args.version) steps stands e)
+    tells_as starts steps c.args.step _ c.inject.new.self c.args.text.now c.inject.new.text _ c.inject.result (c.in-Inject.is ∙ ap (λ octets. InjectStep c.in-Inject.sink
+    c.in-Inject.back c.in-Inject.bis c.in-Inject.subevent octets) (sym c.as_slice-in-Inject.ensures)) refl (c.inject.ensures starts (number_of c.args.version) steps stands e)
 
 pub returns-in-Sniff : goal.returns-in-Sniff
 returns-in-Sniff g c starts steps stands e boxes =
@@ -50,8 +57,10 @@ returns-in-Sniff g c starts steps stands e boxes =
 
 pub returns-in-Ident : goal.returns-in-Ident
 returns-in-Ident g c starts steps stands e boxes =
-    quiet_as starts (length starts) steps c.args.step _ c.ident.new.self c.args.text.now _ c.ident.result c.in-Ident.is refl refl refl (c.ident.ensures (length starts) (number_of c.args.version) steps stands e)
+    quiet_as starts (length starts) steps c.args.step _ c.ident.new.self c.args.text.now _ c.ident.result c.in-Ident.is refl refl refl (c.ident.ensures (length starts) (number_of
+    c.args.version) steps stands e)
 
 pub returns-in-Source : goal.returns-in-Source
 returns-in-Source g c starts steps stands e boxes =
-    quiet_as starts (length starts) steps c.args.step _ c.choose.new.self c.args.text.now _ c.choose.result c.in-Source.is refl refl refl (c.choose.ensures (length starts) (number_of c.args.version) steps stands e)
+    quiet_as starts (length starts) steps c.args.step _ c.choose.new.self c.args.text.now _ c.choose.result c.in-Source.is refl refl refl (c.choose.ensures (length starts) (number_of
+    c.args.version) steps stands e)

@@ -10,7 +10,8 @@ returns-in_default c starts version steps stands e =
 pub returns-in-Ok-put_pdu : goal.returns-in-Ok-put_pdu
 returns-in-Ok-put_pdu c starts version steps stands e =
     let group = c.in-Some.ensures steps stands.sources in
-    sniff_meets starts version c.event_back-event.result c.args.place.back c.args.place.bis c.args.place.subevent c.in-Ok.pdu.now steps c.args.self.now c.args.text.now c.put_pdu.new.text stands e group.0
+    sniff_meets starts version c.event_back-event.result c.args.place.back c.args.place.bis c.args.place.subevent c.in-Ok.pdu.now steps c.args.self.now c.args.text.now
+    c.put_pdu.new.text stands e group.0
     (c.in-Ok.ensures.ok steps stands.sources) (c.event_back-event.ensures.event steps stands.sources group.0)
     (c.in-Ok-put_pdu.ensures.ok ∙ ap (λ b. c.args.text.now ++ pdu_line c.event_back-event.result b c.args.place.subevent c.in-Ok.pdu.now) c.get.ensures.same)
 

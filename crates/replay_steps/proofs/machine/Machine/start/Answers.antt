@@ -7,5 +7,10 @@ use Rattle.replay_steps.proofs.machine.Machine.start.Goals as goal
 
 pub returns : goal.returns
 returns c boxes steps stands e =
-    sources_meet boxes (number_of c.args.version) steps (StartStep c.args.first) c.args.self.now _ c.start.result (record { stage = λ stage. refl; placed = λ v. refl; refusal = λ boxes steps. refl }) refl stands e refl refl
+    sources_meet boxes (number_of c.args.version) steps (StartStep c.args.first) c.args.self.now _ c.start.result (record {
+      stage = λ stage. refl;
+      placed = λ v. refl;
+      refusal = λ boxes
+          steps. refl;
+    }) refl stands e refl refl
     (c.start.ensures (number_of c.args.version) steps c.limits.ensures.horizon stands.sources)

@@ -9,5 +9,8 @@ pub returns : goal.returns
 returns c version steps plain stands =
     let two = sym c.args.self.now.phases.ok.0 ∙ c.args.self.now.two in
     let here = chosen_read steps c.from.result c.args.self.now c.index_mut.result.now c.from.ensures c.args.self.now.is_one two c.index_mut.ensures.value stands in
-    answers version (group_step c.args.info c.args.origin c.args.delay) steps c.from.result c.args.self.now _ c.describe.new.phase c.describe.result (record { line = λ s steps. refl; chooses = refl }) refl
+    answers version (group_step c.args.info c.args.origin c.args.delay) steps c.from.result c.args.self.now _ c.describe.new.phase c.describe.result (record {
+      line = λ s steps. refl;
+      chooses = refl;
+    }) refl
     c.from.ensures c.args.self.now.is_one two stands (c.describe.ensures version (chosen_steps steps) plain here) refl refl

@@ -9,5 +9,6 @@ pub returns : goal.returns
 returns c version steps stands =
     let two = sym c.args.self.now.phases.ok.0 ∙ c.args.self.now.two in
     let here = chosen_read steps c.from.result c.args.self.now c.index_mut.result.now c.from.ensures c.args.self.now.is_one two c.index_mut.ensures.value stands in
-    answers version (IdentStep c.args.identity.address_type c.args.identity.address c.args.identity.sid c.args.identity.broadcast_id) steps c.from.result c.args.self.now _ c.identify.new.phase c.identify.result (record { line = λ s steps. refl; chooses = refl }) refl
+    answers version (IdentStep c.args.identity.address_type c.args.identity.address c.args.identity.sid c.args.identity.broadcast_id) steps c.from.result c.args.self.now _
+    c.identify.new.phase c.identify.result (record { line = λ s steps. refl; chooses = refl }) refl
     c.from.ensures c.args.self.now.is_one two stands (c.identify.ensures version (chosen_steps steps) here) refl refl
