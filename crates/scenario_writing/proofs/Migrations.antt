@@ -1,7 +1,9 @@
 -- What a text becomes, line by line.
-use Rattle.std.proofs.Common.{◌≡◌, ◌≢◌, ℕ, Bool, true, false, cond, nat_eq, List, [], ◌∷◌, ◌++◌, refl, ap, sym, ◌∙◌, eqb-true}
+use Rattle.std.proofs.Common.{◌≡◌, ◌≢◌, ℕ, Bool, true, false, cond, nat_eq, List, [], ◌∷◌, ◌++◌, Option, None, Some, refl, ap, sym, ◌∙◌, eqb-true}
 use Rattle.std.proofs.lemmas.List.{append_assoc}
 use Rattle.scenario_words.specs.Words.{onto_first}
+use Rattle.std.specs.Borrow.{Bor}
+use Rattle.scenario_writing.specs.Rests.{lines_after, text_of}
 use Rattle.scenario_writing.specs.Migration.{lines_of, joined, is_blank, migrated_line, migrated_lines, migrated}
 
 -- ---- the lines of a text are the text
@@ -62,6 +64,10 @@ pub first_of_more : (text line rest : List ℕ) → lines_of text ≡ line ∷ l
 first_of_more text line rest e step =
     first_step text line (lines_of rest) e step ∙ joined_more (migrated_line line) (lines_of rest) (some_lines rest)
     ∙ ap (λ (t : List ℕ). migrated_line line ++ 10 ∷ t) (joined_lines rest)
+
+pub first_is : (text line : List ℕ) (after : Option (Bor (List ℕ))) → lines_of text ≡ line ∷ lines_after after → is_blank line ≡ false → migrated text ≡ text_of (migrated_line line) after
+first_is text line None e step = first_alone text line e step
+first_is text line (Some rest) e step = first_of_more text line rest.now e step
 
 pub blank_alone : (text line : List ℕ) → lines_of text ≡ line ∷ [] → is_blank line ≡ true → migrated text ≡ line
 blank_alone text line e blank = blank_line text line [] e blank

@@ -1,6 +1,6 @@
-ghost use Rattle.std.specs.Prelude.{◌≡◌, ◌<◌, ◌∷◌, IfOk, IfSome, length};
+ghost use Rattle.std.specs.Prelude.{◌≡◌, ◌<◌, ◌∷◌, ◌++◌, IfOk, IfSome, OnOk, length};
 ghost use Rattle.scenario_writing.specs.Migration.{is_blank as blank, lines_of, migrated, migrated_line as line_migrated};
-ghost use Rattle.scenario_writing.specs.Rests.{lines_after};
+ghost use Rattle.scenario_writing.specs.Rests.{lines_after, text_of};
 
 use bcast_base::{Memory, Octets};
 use memchr::memchr;
@@ -38,9 +38,22 @@ fn migrated_line(line: &[u8]) -> &[u8]
     }
 }
 
+/// Puts a line and what stands behind it at the end of a text.
+fn put_rest(out: &mut Octets, line: &[u8], after: Option<&[u8]>) -> Result<(), Memory>
+    ensures { OnOk result (out.new ≡ out.old ++ text_of line.now after) }
+{
+    out.append(line)?;
+    match after {
+        None => Ok(()),
+        Some(rest) => {
+            out.push(b'\n')?;
+            out.append(rest)
+        }
+    }
+}
+
 /// The text of a scenario of version 1 as one of version 2: the first line that is neither empty nor a comment has the digit
 /// 2 where it is `scenario 1`. Every other text stays as it is.
-#[tactic(auto, using(crate::proofs::Migrations::first_alone, crate::proofs::Migrations::first_of_more, crate::proofs::Migrations::blank_alone))]
 pub fn migrate(alloc: Global, text: &[u8]) -> Result<Octets, Memory>
     ensures { IfOk result (λ octets. octets ≡ migrated text.now) }
 {
@@ -48,20 +61,15 @@ pub fn migrate(alloc: Global, text: &[u8]) -> Result<Octets, Memory>
     let mut rest = text;
     'lines: loop {
         let (line, after) = split_line(rest);
-        let is_step = !is_blank(line);
-        if is_step {
-            out.append(migrated_line(line))?;
-        } else {
-            out.append(line)?;
+        if !is_blank(line) {
+            put_rest(&mut out, migrated_line(line), after)?;
+            return Ok(out);
         }
+        out.append(line)?;
         let Some(others) = after else {
             return Ok(out);
         };
         out.push(b'\n')?;
-        if is_step {
-            out.append(others)?;
-            return Ok(out);
-        }
         rest = others;
     }
 }
