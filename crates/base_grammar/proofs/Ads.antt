@@ -7,8 +7,8 @@ use Rattle.ltv_codec.specs.declared.fault.LtvBad.{LtvBad}
 use Rattle.ltv_codec.specs.declared.fault.LtvBad.TheVariants.{ZeroLength, Short}
 use Rattle.ltv_codec.specs.declared.ltvs.Ltv.{Ltv}
 use Rattle.ltv_codec.specs.Faults.{IsBad, StandsZero}
-use Rattle.ltv_codec.specs.Layout.{IsLtvList}
-use Rattle.ltv_codec.specs.Reading.{ltvs_of, ltvs_in, AreLtvs}
+use Rattle.ltv_codec.specs.Layout.{IsLtvList, AreLtvs}
+use Rattle.ltv_codec.specs.Reading.{ltvs_of, ltvs_in}
 use Rattle.ltv_codec.proofs.Lists.{list_read, read_list, read_bad, bad_read}
 use Rattle.base_grammar.specs.Ad.{IsEnd, IsAdList, IsAdShort}
 use Rattle.base_grammar.specs.AdReading.{ads_read, ads_of, ads_in}
@@ -48,7 +48,7 @@ listed_within place octets (ltvs, front, rest, l, there, stands, parts) = omega 
 pub listed_read : (place : ℕ) (octets : List ℕ) → IsBad (ZeroLength place) octets → AreLtvs (take place octets)
 listed_read place octets h =
     let l = listed_at place octets h in
-    ap result_err (list_read l.ltvs (take place octets) l.list)
+    record { ltvs = l.ltvs; list = l.list }
 
 pub listed_list : (place : ℕ) (octets : List ℕ) → IsBad (ZeroLength place) octets → IsAdList (ltvs_in (take place octets)) octets
 listed_list place octets h =

@@ -13,7 +13,7 @@ use Rattle.base_grammar.specs.declared.fault.BaseFault.TheVariants.{TooLong}
 use Rattle.base_grammar.specs.declared.subgroup.BaseEntry.{BaseEntry}
 use Rattle.base_grammar.specs.declared.subgroup.Subgroup.{Subgroup}
 use Rattle.base_grammar.specs.Layout.{Endpoint, is_lc3, entry, subgroup, spelling, bis_of, indices, stands_in, AreNew, IsConfig, EntryFits, SubgroupFits, HasEntry, IsBase, BaseIs}
-use Rattle.base_grammar.specs.Reading.{run_at, index_at, entry_at, entries_at, streams_at, subgroup_at, subgroups_at, count_at, fields_of, base_of, Gives}
+use Rattle.base_grammar.specs.Reading.{run_at, index_at, entry_at, entries_at, streams_at, subgroup_at, subgroups_at, count_at, fields_of, base_of, Answers}
 use Rattle.base_grammar.proofs.Steps.{none_run, none_index, none_streams, none_subgroups}
 use Rattle.base_grammar.proofs.Taken.{fields_take}
 
@@ -44,7 +44,8 @@ entries_again : (whole : List ℕ) (is_list : Bool) (before : List ℕ) (es : Li
 unfolding entries_at
 entries_again whole is_list before [] rest fit are_new = refl
 entries_again whole is_list before (e ∷ es) rest fit are_new =
-    let regrouped : flat_map entry (e ∷ es) ++ rest ≡ entry e ++ (flat_map entry es ++ rest) = ap (λ (x : List ℕ). x ++ rest) (flat_map-cons entry e es) ∙ append_assoc (entry e) (flat_map entry es) rest in
+    let regrouped : flat_map entry (e ∷ es) ++ rest ≡ entry e ++ (flat_map entry es ++ rest) = ap (λ (x : List ℕ). x ++ rest) (flat_map-cons entry e es)
+    ∙ append_assoc (entry e) (flat_map entry es) rest in
     ap (entries_at whole is_list before (suc (length es))) regrouped
     ∙ rw (entry_again whole is_list before e (flat_map entry es ++ rest) fit.0 are_new.0, entries_again whole is_list (before ++ e.bis ∷ []) es rest fit.1 are_new.1) refl
 
@@ -84,7 +85,8 @@ subgroups_again : (whole before : List ℕ) (ss : List Subgroup) (rest : List �
 unfolding subgroups_at
 subgroups_again whole before [] rest fit streams are_new = refl
 subgroups_again whole before (s ∷ ss) rest fit streams are_new =
-    let regrouped : flat_map subgroup (s ∷ ss) ++ rest ≡ subgroup s ++ (flat_map subgroup ss ++ rest) = ap (λ (x : List ℕ). x ++ rest) (flat_map-cons subgroup s ss) ∙ append_assoc (subgroup s) (flat_map subgroup ss) rest in
+    let regrouped : flat_map subgroup (s ∷ ss) ++ rest ≡ subgroup s ++ (flat_map subgroup ss ++ rest) = ap (λ (x : List ℕ). x ++ rest) (flat_map-cons subgroup s ss)
+    ∙ append_assoc (subgroup s) (flat_map subgroup ss) rest in
     let all : AreNew before (map bis_of s.entries ++ indices ss) = subst (AreNew before) (flat_map-cons (λ (x : Subgroup). map bis_of x.entries) s ss) are_new in
     ap (subgroups_at whole before (suc (length ss))) regrouped
     ∙ rw (
@@ -124,6 +126,6 @@ base_takes octets v fits e =
       spelled = t.spelled;
     }
 
-pub found_base : (octets : List ℕ) (result : Result Endpoint BaseFault) → IsOctets octets → Gives (λ base. base) result (base_of octets) → IfOk result (λ base. BaseIs base octets)
+pub found_base : (octets : List ℕ) (result : Result Endpoint BaseFault) → IsOctets octets → Answers result (base_of octets) → IfOk result (λ base. BaseIs base octets)
 found_base octets (Ok v) fits given = base_takes octets v fits given
 found_base octets (Err fault) fits given = tt

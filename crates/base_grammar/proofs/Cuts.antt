@@ -8,19 +8,22 @@ use Rattle.base_grammar.specs.declared.subgroup.Subgroup.{Subgroup}
 use Rattle.base_grammar.specs.Layout.{endpoint, is_lc3, bis_of}
 use Rattle.base_grammar.specs.Rows.{subgroups_fault, streams_fault, index_fault}
 use Rattle.base_grammar.specs.Reading.{◌>>=◌, needed, run_at, index_at, entry_at, entries_at, streams_at, subgroup_at, subgroups_at, count_at, ended, fields_of}
-use Rattle.base_grammar.specs.Faults.{Row, num_subgroups, num_bis, codec_id, config_length, config, metadata_length, metadata, bis_index, bis_config_length, bis_config, nothing, Due, first_due, behind_entry, behind_subgroup, AtCut}
+use Rattle.base_grammar.specs.Faults.{Row, num_subgroups, num_bis, codec_id, config_length, config, metadata_length, metadata, bis_index, bis_config_length, bis_config, nothing}
+use Rattle.base_grammar.specs.Faults.{Due, first_due, behind_entry, behind_subgroup, AtCut}
 use Rattle.base_grammar.proofs.Taken.{streams_take, count_takes}
 use Rattle.base_grammar.proofs.Walk.{At, at_first, at_stop, Comes, comes_then, ruled_octet_comes, octets_come, run_comes, number_comes}
 
 abbrev due_at : Row → Bool → ℕ → ℕ → List ℕ → Due
 due_at row is_list streams subgroups before = record { row = row; is_lc3 = is_list; streams = streams; subgroups = subgroups; before = before }
 
-behind_subgroup_row : (row other : Row) (is_list : Bool) (streams subgroups left : ℕ) (before : List ℕ) → behind_subgroup left (due_at row is_list streams subgroups before) ≡ behind_subgroup left (due_at other is_list streams subgroups before)
+behind_subgroup_row : (row other : Row) (is_list : Bool) (streams subgroups left : ℕ) (before : List ℕ)
+    → behind_subgroup left (due_at row is_list streams subgroups before) ≡ behind_subgroup left (due_at other is_list streams subgroups before)
 behind_subgroup_row row other is_list streams subgroups zero before = refl
 behind_subgroup_row row other is_list streams subgroups (suc zero) before = refl
 behind_subgroup_row row other is_list streams subgroups (suc (suc left)) before = refl
 
-behind_entry_row : (row other : Row) (is_list : Bool) (streams subgroups left : ℕ) (before : List ℕ) → behind_entry left (due_at row is_list streams subgroups before) ≡ behind_entry left (due_at other is_list streams subgroups before)
+behind_entry_row : (row other : Row) (is_list : Bool) (streams subgroups left : ℕ) (before : List ℕ)
+    → behind_entry left (due_at row is_list streams subgroups before) ≡ behind_entry left (due_at other is_list streams subgroups before)
 behind_entry_row row other is_list streams subgroups zero before = behind_subgroup_row row other is_list streams subgroups subgroups before
 behind_entry_row row other is_list streams subgroups (suc zero) before = behind_subgroup_row row other is_list streams subgroups subgroups before
 behind_entry_row row other is_list streams subgroups (suc (suc left)) before = refl
@@ -87,21 +90,27 @@ subgroup_comes : (whole : List ℕ) (is_list : Bool) (streams subgroups : ℕ) (
 unfolding subgroup_at streams_at
 subgroup_comes whole is_list streams subgroups before rest a =
     comes_then whole (λ n. due_at codec_id is_list n subgroups before) (subgrouped subgroups before) (streams_at whole rest)
-    (λ count. needed whole count.1 (octets_in 5 count.1) >>= λ codec. run_at whole (is_lc3 codec.0) codec.1 >>= λ config. run_at whole true config.1 >>= λ metadata. entries_at whole (is_lc3 codec.0) before count.0 metadata.1 >>= λ entries. Ok (record { codec = codec.0; config = config.0; metadata = metadata.0; entries = entries.0 }, entries.1))
+    (λ count. needed whole count.1 (octets_in 5 count.1) >>= λ codec. run_at whole (is_lc3 codec.0) codec.1 >>= λ config. run_at whole true config.1
+    >>= λ metadata. entries_at whole (is_lc3 codec.0) before count.0 metadata.1
+    >>= λ entries. Ok (record { codec = codec.0; config = config.0; metadata = metadata.0; entries = entries.0 }, entries.1))
     (ruled_octet_comes whole (due_at num_bis is_list streams subgroups before) rest (streams_fault (place_in whole rest)) a tt refl (λ x. refl))
     (λ count read a1.
     comes_then whole (λ codec. due_at config_length (is_lc3 codec) count.0 subgroups before) (subgrouped subgroups before) (needed whole count.1 (octets_in 5 count.1))
-    (λ codec. run_at whole (is_lc3 codec.0) codec.1 >>= λ config. run_at whole true config.1 >>= λ metadata. entries_at whole (is_lc3 codec.0) before count.0 metadata.1 >>= λ entries. Ok (record { codec = codec.0; config = config.0; metadata = metadata.0; entries = entries.0 }, entries.1))
+    (λ codec. run_at whole (is_lc3 codec.0) codec.1 >>= λ config. run_at whole true config.1 >>= λ metadata. entries_at whole (is_lc3 codec.0) before count.0 metadata.1
+    >>= λ entries. Ok (record { codec = codec.0; config = config.0; metadata = metadata.0; entries = entries.0 }, entries.1))
     (octets_come whole (due_at codec_id is_list count.0 subgroups before) 5 count.1 a1 tt refl (λ field. refl))
     (λ codec _ a2.
     comes_then whole (λ (_ : List ℕ). due_at metadata_length (is_lc3 codec.0) count.0 subgroups before) (subgrouped subgroups before) (run_at whole (is_lc3 codec.0) codec.1)
-    (λ config. run_at whole true config.1 >>= λ metadata. entries_at whole (is_lc3 codec.0) before count.0 metadata.1 >>= λ entries. Ok (record { codec = codec.0; config = config.0; metadata = metadata.0; entries = entries.0 }, entries.1))
-    (run_comes whole (due_at config_length (is_lc3 codec.0) count.0 subgroups before) (λ x. due_at (config x) (is_lc3 codec.0) count.0 subgroups before) (due_at metadata_length (is_lc3 codec.0) count.0 subgroups before) (is_lc3 codec.0) codec.1
+    (λ config. run_at whole true config.1 >>= λ metadata. entries_at whole (is_lc3 codec.0) before count.0 metadata.1
+    >>= λ entries. Ok (record { codec = codec.0; config = config.0; metadata = metadata.0; entries = entries.0 }, entries.1))
+    (run_comes whole (due_at config_length (is_lc3 codec.0) count.0 subgroups before) (λ x. due_at (config x) (is_lc3 codec.0) count.0 subgroups before)
+    (due_at metadata_length (is_lc3 codec.0) count.0 subgroups before) (is_lc3 codec.0) codec.1
     (record { is_due = tt; one = refl; sound = λ p x. refl; counted = λ x. refl; run_due = λ x. tt; long = λ x. refl; rule = λ x p field. refl; behind = λ x field. refl }) a2)
     (λ level2 _ a3.
     comes_then whole (λ (_ : List ℕ). due_at bis_index (is_lc3 codec.0) count.0 subgroups before) (subgrouped subgroups before) (run_at whole true level2.1)
     (λ metadata. entries_at whole (is_lc3 codec.0) before count.0 metadata.1 >>= λ entries. Ok (record { codec = codec.0; config = level2.0; metadata = metadata.0; entries = entries.0 }, entries.1))
-    (run_comes whole (due_at metadata_length (is_lc3 codec.0) count.0 subgroups before) (λ x. due_at (metadata x) (is_lc3 codec.0) count.0 subgroups before) (due_at bis_index (is_lc3 codec.0) count.0 subgroups before) true level2.1
+    (run_comes whole (due_at metadata_length (is_lc3 codec.0) count.0 subgroups before) (λ x. due_at (metadata x) (is_lc3 codec.0) count.0 subgroups before)
+    (due_at bis_index (is_lc3 codec.0) count.0 subgroups before) true level2.1
     (record { is_due = tt; one = refl; sound = λ p x. refl; counted = λ x. refl; run_due = λ x. tt; long = λ x. refl; rule = λ x p field. refl; behind = λ x field. refl }) a3)
     (λ told _ a4.
     let n : count.0 ≡ suc (count.0 - 1) = more_than count.0 (streams_take whole rest count.0 count.1 read).1 in
@@ -125,13 +134,16 @@ finishes_more : {A B : Type 0} (whole : List ℕ) (read : Result (A × List ℕ)
 finishes_more whole (Ok x) others f = f
 finishes_more whole (Err fault) others f = f
 
-subgroups_finish : (whole : List ℕ) (is_list : Bool) (streams n : ℕ) (before rest : List ℕ) → At whole (due_at num_bis is_list streams (suc n) before) rest → Finishes whole (subgroups_at whole before (suc n) rest)
+subgroups_finish : (whole : List ℕ) (is_list : Bool) (streams n : ℕ) (before rest : List ℕ) → At whole (due_at num_bis is_list streams (suc n) before) rest
+    → Finishes whole (subgroups_at whole before (suc n) rest)
 unfolding subgroups_at
 subgroups_finish whole is_list streams zero before rest a =
-    finishes_then whole (subgrouped 1 before) (subgroup_at whole before rest) (λ first. subgroups_at whole (before ++ map bis_of first.0.entries) zero first.1 >>= λ others. Ok (first.0 ∷ others.0, others.1))
+    finishes_then whole (subgrouped 1 before) (subgroup_at whole before rest)
+    (λ first. subgroups_at whole (before ++ map bis_of first.0.entries) zero first.1 >>= λ others. Ok (first.0 ∷ others.0, others.1))
     (subgroup_comes whole is_list streams 1 before rest a) (λ first a1. (subgrouped 1 before first.0, refl, a1))
 subgroups_finish whole is_list streams (suc n) before rest a =
-    finishes_then whole (subgrouped (suc (suc n)) before) (subgroup_at whole before rest) (λ first. subgroups_at whole (before ++ map bis_of first.0.entries) (suc n) first.1 >>= λ others. Ok (first.0 ∷ others.0, others.1))
+    finishes_then whole (subgrouped (suc (suc n)) before) (subgroup_at whole before rest)
+    (λ first. subgroups_at whole (before ++ map bis_of first.0.entries) (suc n) first.1 >>= λ others. Ok (first.0 ∷ others.0, others.1))
     (subgroup_comes whole is_list streams (suc (suc n)) before rest a)
     (λ first a1.
     finishes_more whole (subgroups_at whole (before ++ map bis_of first.0.entries) (suc n) first.1) (λ (ss : List Subgroup). first.0 ∷ ss)
@@ -149,13 +161,15 @@ ends_then : {A B : Type 0} (whole : List ℕ) (due : A → Due) (read : Result (
 ends_then whole due (Ok x) others c f = f x refl c
 ends_then whole due (Err fault) others c f = c
 
-trailing : {A : Type 0} (whole : List ℕ) (row : Row) (is_list : Bool) (streams subgroups : ℕ) (before rest : List ℕ) (v : A) → row ≡ nothing → At whole (due_at row is_list streams subgroups before) rest → Ends whole (ended whole rest v)
+trailing : {A : Type 0} (whole : List ℕ) (row : Row) (is_list : Bool) (streams subgroups : ℕ) (before rest : List ℕ) (v : A) → row ≡ nothing
+    → At whole (due_at row is_list streams subgroups before) rest → Ends whole (ended whole rest v)
 trailing whole row is_list streams subgroups before [] v e a = (due_at row is_list streams subgroups before, e, a)
 trailing whole row is_list streams subgroups before (octet ∷ rest) v e a =
     at_stop whole (due_at nothing is_list streams subgroups before) (octet ∷ rest) (Trailing (place_in whole (octet ∷ rest)))
     (subst (λ (r : Row). At whole (due_at r is_list streams subgroups before) (octet ∷ rest)) e a) refl
 
-all_ended : (whole : List ℕ) (delay : ℕ) (read : Result (List Subgroup × List ℕ) BaseFault) → Finishes whole read → Ends whole (read >>= λ subgroups. ended whole subgroups.1 (endpoint delay subgroups.0))
+all_ended : (whole : List ℕ) (delay : ℕ) (read : Result (List Subgroup × List ℕ) BaseFault) → Finishes whole read
+    → Ends whole (read >>= λ subgroups. ended whole subgroups.1 (endpoint delay subgroups.0))
 all_ended whole delay (Ok x) f = trailing whole f.0.row f.0.is_lc3 f.0.streams f.0.subgroups f.0.before x.1 (endpoint delay x.0) f.1 f.2
 all_ended whole delay (Err fault) f = f
 

@@ -1,5 +1,6 @@
 -- The steps of a draft: its last subgroup, and what the draft keeps.
-use Rattle.std.proofs.Common.{◌≡◌, ℕ, suc, ◌+◌, ◌-◌, ◌≤◌, Bool, true, false, cond, ltb, eqb, List, [], ◌∷◌, ◌++◌, length, get_or, map, Some, None, Result, Ok, Err, refl, sym, ap, ◌∙◌, append_assoc, arith}
+use Rattle.std.proofs.Common.{◌≡◌, ℕ, suc, ◌+◌, ◌-◌, ◌≤◌, Bool, true, false, cond, ltb, eqb, List, [], ◌∷◌, ◌++◌, length, get_or, map, Some, None, Result, Ok, Err, refl, sym, ap}
+use Rattle.std.proofs.Common.{◌∙◌, append_assoc, arith}
 use Rattle.std.specs.Prelude.{OnOk, OnErr}
 use Rattle.std.specs.List.{flat_map, AllByRecursion}
 use Rattle.std.specs.Option.{ForSome}
@@ -7,7 +8,7 @@ use Rattle.std.proofs.Math.ListN.{set}
 use Rattle.std.proofs.lemmas.Bool.{ltb-false}
 use Rattle.std.proofs.lemmas.List.{append-nil, map_push}
 use Rattle.std.proofs.lemmas.List.Concat.{flat_map-cons}
-use Rattle.ltv_codec.specs.Reading.{AreLtvs, ltvs_from}
+use Rattle.ltv_codec.specs.Layout.{AreLtvs}
 use Rattle.base_grammar.specs.declared.fault.DraftFault.{DraftFault}
 use Rattle.base_grammar.specs.declared.fault.DraftFault.TheVariants as faults
 use Rattle.base_grammar.specs.declared.subgroup.BaseEntry.{BaseEntry}
@@ -41,7 +42,8 @@ last_set change ss n s long some e =
     let h : 1 ≤ length ss = omega (arith, positive n some, long) in
     ap (λ (k : ℕ). set ss (k - 1) (change s)) long ∙ set_last change ss s h (e ∙ ap (λ (k : ℕ). get_or ss (k - 1) s) long)
 
-closed-first : (s : Subgroup) (change : Subgroup → Subgroup) (other : Subgroup) (others : List Subgroup) → closed (s ∷ with_last change (other ∷ others)) ≡ s ∷ closed (with_last change (other ∷ others))
+closed-first : (s : Subgroup) (change : Subgroup → Subgroup) (other : Subgroup) (others : List Subgroup)
+    → closed (s ∷ with_last change (other ∷ others)) ≡ s ∷ closed (with_last change (other ∷ others))
 closed-first s change other [] = refl
 closed-first s change other (x ∷ xs) = refl
 
@@ -63,7 +65,8 @@ all_streams [] h e = tt
 all_streams (s ∷ []) h e = (some_entry s e, tt)
 all_streams (s ∷ other ∷ others) h e = (h.0, all_streams (other ∷ others) h.1 e)
 
-fits_with_last : (change : Subgroup → Subgroup) (ss : List Subgroup) → ((s : Subgroup) → last_of ss ≡ Some s → SubgroupFits s → SubgroupFits (change s)) → AllByRecursion SubgroupFits ss → AllByRecursion SubgroupFits (with_last change ss)
+fits_with_last : (change : Subgroup → Subgroup) (ss : List Subgroup) → ((s : Subgroup) → last_of ss ≡ Some s → SubgroupFits s → SubgroupFits (change s)) → AllByRecursion SubgroupFits ss
+    → AllByRecursion SubgroupFits (with_last change ss)
 fits_with_last change [] keeps h = tt
 fits_with_last change (s ∷ []) keeps h = (keeps s refl h.0, tt)
 fits_with_last change (s ∷ other ∷ others) keeps h = (h.0, fits_with_last change (other ∷ others) keeps h.1)
@@ -88,14 +91,14 @@ indices-with_last change extra (s ∷ other ∷ others) more h =
 -- ---- what a draft keeps
 
 nothing_read : AreLtvs []
-unfolding ltvs_from
-nothing_read = refl
+nothing_read = record { ltvs = []; list = record { fit = tt; spelled = refl } }
 
 not_refused : (b : Bool) (fault : DraftFault) (x : Unit {0}) → Refuses (cond b (Some fault) None) (Ok x) → b ≡ false
 not_refused true fault x h = absurd cc
 not_refused false fault x h = refl
 
-pub with_subgroup_keeps : (delay : ℕ) (codec config : List ℕ) (old new : List Subgroup) (result : Result (Unit {0}) DraftFault) → IsDraft (endpoint delay old) → length codec ≡ 5 → IsConfig (is_lc3 codec) config
+pub with_subgroup_keeps : (delay : ℕ) (codec config : List ℕ) (old new : List Subgroup) (result : Result (Unit {0}) DraftFault) → IsDraft (endpoint delay old) → length codec ≡ 5
+    → IsConfig (is_lc3 codec) config
     → OnOk result (new ≡ old ++ opened codec config ∷ []) → OnErr result (new ≡ old) → Refuses (subgroup_fault old) result → IsDraft (endpoint delay new)
 with_subgroup_keeps delay codec config old new (Ok x) d five list ok err refuses =
     let fits : SubgroupFits (opened codec config) = record { codec = five; config = list; metadata = nothing_read; entries = tt } in
@@ -130,7 +133,8 @@ new_index (s ∷ ss) bis x h = (omega arith, not_refused (stands_in (indices (s 
 AreNew-one : (before : List ℕ) (bis : ℕ) → stands_in before bis ≡ false → AreNew before (bis ∷ [])
 AreNew-one before bis e = (e, tt)
 
-pub with_entry_keeps : (delay : ℕ) (e : BaseEntry) (old new : List Subgroup) (result : Result (Unit {0}) DraftFault) → IsDraft (endpoint delay old) → ForSome (last_of old) (λ s. IsConfig (is_lc3 s.codec) e.config)
+pub with_entry_keeps : (delay : ℕ) (e : BaseEntry) (old new : List Subgroup) (result : Result (Unit {0}) DraftFault) → IsDraft (endpoint delay old)
+    → ForSome (last_of old) (λ s. IsConfig (is_lc3 s.codec) e.config)
     → OnOk result ((1 ≤ e.bis) × (e.bis ≤ 31)) → OnOk result (new ≡ with_last (λ s. record s { entries = s.entries ++ e ∷ [] }) old) → OnErr result (new ≡ old) → Refuses (entry_fault old e.bis) result
     → IsDraft (endpoint delay new)
 with_entry_keeps delay e old new (Ok x) d list range ok err refuses =
@@ -139,7 +143,13 @@ with_entry_keeps delay e old new (Ok x) d list range ok err refuses =
       delay = d.delay;
       streams = rw (closed-with_last (λ s. record s { entries = s.entries ++ e ∷ [] }) old) d.streams;
       fits = fits_with_last (λ s. record s { entries = s.entries ++ e ∷ [] }) old
-          (λ s is f. record { codec = f.codec; config = f.config; metadata = f.metadata; entries = all_push (EntryFits (is_lc3 s.codec)) s.entries e f.entries (record { least = range.0; greatest = range.1; config = list s is }) }) d.fits;
+          (λ s is f. record {
+            codec = f.codec;
+            config = f.config;
+            metadata = f.metadata;
+            entries =
+                all_push (EntryFits (is_lc3 s.codec)) s.entries e f.entries (record { least = range.0; greatest = range.1; config = list s is });
+          }) d.fits;
       once = rw (indices-with_last (λ s. record s { entries = s.entries ++ e ∷ [] }) (e.bis ∷ []) old (λ s. map_push bis_of s.entries e) is_new.0)
           (AreNew-then [] (indices old) (e.bis ∷ []) d.once (AreNew-one (indices old) e.bis is_new.1));
     })

@@ -1,6 +1,7 @@
 -- There is one cut, so octets that are refused have one fault, and reading finds it.
-use Rattle.std.proofs.Common.{◌≡◌, ℕ, ◌+◌, ◌<◌, ◌≤◌, Bool, true, false, cond, ltb, List, [], ◌∷◌, ◌++◌, length, take, Option, Some, None, Result, Ok, Err, refl, sym, ap, subst, ◌∙◌, append_assoc, arith, add-zero, zero-add}
-use Rattle.std.specs.Prelude.{IfErr}
+use Rattle.std.proofs.Common.{◌≡◌, ℕ, ◌+◌, ◌<◌, ◌≤◌, Bool, true, false, cond, ltb, List, [], ◌∷◌, ◌++◌, length, take, Option, Some, None, Result, Ok, Err, refl, sym, ap, subst}
+use Rattle.std.proofs.Common.{◌∙◌, append_assoc, arith, add-zero, zero-add}
+use Rattle.std.specs.Prelude.{IfErr, IsOk}
 use Rattle.std.specs.List.{concat}
 use Rattle.std.specs.Option.{option_map}
 use Rattle.std.proofs.lemmas.Bool.{lt-ltb, ltb-true, ltb-false, le-ltb}
@@ -10,10 +11,14 @@ use Rattle.ltv_codec.specs.Reading.{bad_of}
 use Rattle.ltv_codec.specs.declared.fault.LtvBad.{LtvBad}
 use Rattle.base_grammar.specs.declared.fault.BaseFault.{BaseFault}
 use Rattle.base_grammar.specs.declared.fault.BaseFault.TheVariants as faults
-use Rattle.base_grammar.specs.Layout.{Endpoint, stands_in}
+use Rattle.octet_fields.specs.Spelling.{IsOctets}
+use Rattle.base_grammar.specs.Layout.{Endpoint, stands_in, BaseIs}
 use Rattle.base_grammar.specs.Rows.{run_fault}
-use Rattle.base_grammar.specs.Reading.{Gives, fields_of, base_of}
-use Rattle.base_grammar.specs.Faults.{Row, presentation_delay, num_subgroups, num_bis, codec_id, config_length, config, metadata_length, metadata, bis_index, bis_config_length, bis_config, nothing, Due, first_due, width, number_of, row_fault, next_due, IsDue, due_behind, Meets, AllMeet, field_fault, ending_fault, cut_fault, AtCut, IsBad, IsFault}
+use Rattle.base_grammar.specs.Reading.{Answers, fields_of, base_of}
+use Rattle.base_grammar.specs.Faults.{Row, presentation_delay, num_subgroups, num_bis, codec_id, config_length, config, metadata_length, metadata, bis_index, bis_config_length}
+use Rattle.base_grammar.specs.Faults.{bis_config, nothing, Due, first_due, width, number_of, row_fault, next_due, IsDue, due_behind, Meets, AllMeet, field_fault, ending_fault}
+use Rattle.base_grammar.specs.Faults.{cut_fault, AtCut, IsBad, IsFault}
+use Rattle.base_grammar.proofs.Again.{base_takes}
 use Rattle.base_grammar.proofs.Walk.{At, due_cut}
 use Rattle.base_grammar.proofs.Cuts.{Ends, fields_end}
 
@@ -52,7 +57,8 @@ same_halt place due (x ∷ xs) (y ∷ ys) r s f g mx my e hx hy =
     let there_y : place + length (concat (y ∷ ys)) ≡ place + length x + length (concat ys) = omega (arith, length-append y (concat ys), long) in
     let hx' : Halts (place + length x + length (concat xs)) (due_behind (next_due due.row due x) xs) r f = subst (λ (p : ℕ). Halts p (due_behind (next_due due.row due x) xs) r f) there_x hx in
     let hy' : Halts (place + length x + length (concat ys)) (due_behind (next_due due.row due x) ys) s g =
-    subst (λ (p : ℕ). Halts p (due_behind (next_due due.row due x) ys) s g) there_y (subst (λ (z : List ℕ). Halts (place + length (concat (y ∷ ys))) (due_behind (next_due due.row due z) ys) s g) (sym same) hy) in
+    subst (λ (p : ℕ). Halts p (due_behind (next_due due.row due x) ys) s g) there_y
+    (subst (λ (z : List ℕ). Halts (place + length (concat (y ∷ ys))) (due_behind (next_due due.row due z) ys) s g) (sym same) hy) in
     same_halt (place + length x) (next_due due.row due x) xs ys r s f g mx.1 my_xs others hx' hy'
 
 cut_halts : (whole : List ℕ) (fault : BaseFault) (c : AtCut fault whole) → Halts (0 + length (concat c.fields)) (due_behind first_due c.fields) c.rest (Some fault)
@@ -90,7 +96,8 @@ StandsThere fault = Unit {0}
 given : (fault other : BaseFault) → StandsThere fault → Some fault ≡ Some other → StandsThere other
 given fault other h e = subst StandsThere (same_Some fault other e) h
 
-tested : (b : Bool) (fault : BaseFault) (others : Option BaseFault) (other : BaseFault) → StandsThere fault → (others ≡ Some other → StandsThere other) → cond b (Some fault) others ≡ Some other → StandsThere other
+tested : (b : Bool) (fault : BaseFault) (others : Option BaseFault) (other : BaseFault) → StandsThere fault → (others ≡ Some other → StandsThere other)
+    → cond b (Some fault) others ≡ Some other → StandsThere other
 tested true fault others other h g e = given fault other h e
 tested false fault others other h g e = g e
 
@@ -116,7 +123,8 @@ row_stands metadata_length place due field other e = absurd cc
 row_stands (metadata count) place due field other e = run_stands place true field other e
 row_stands bis_index place due field other e =
     tested _ (faults.BadIndex place) (cond (ltb 31 (number_of field)) (Some (faults.BadIndex place)) (cond (stands_in due.before (number_of field)) (Some (faults.IndexTwice place)) None)) other tt
-    (tested _ (faults.BadIndex place) (cond (stands_in due.before (number_of field)) (Some (faults.IndexTwice place)) None) other tt (tested _ (faults.IndexTwice place) None other tt (no_more other))) e
+    (tested _ (faults.BadIndex place) (cond (stands_in due.before (number_of field)) (Some (faults.IndexTwice place)) None) other tt
+    (tested _ (faults.IndexTwice place) None other tt (no_more other))) e
 row_stands bis_config_length place due field other e = absurd cc
 row_stands (bis_config count) place due field other e = run_stands place due.is_lc3 field other e
 row_stands nothing place due field other e = absurd cc
@@ -162,9 +170,11 @@ bad_end : (octets : List ℕ) (fault : BaseFault) (read : Result Endpoint BaseFa
 bad_end octets fault (Ok v) short ends e = absurd cc
 bad_end octets fault (Err other) short ends e =
     let same : other ≡ fault = err_is other fault e in
-    subst (λ (f : BaseFault). IsBad f octets) same (is_bad other octets (cut_stands (due_behind first_due ends.fields).row (length (concat ends.fields)) (due_behind first_due ends.fields) ends.rest other ends.stands) short ends)
+    subst (λ (f : BaseFault). IsBad f octets) same
+    (is_bad other octets (cut_stands (due_behind first_due ends.fields).row (length (concat ends.fields)) (due_behind first_due ends.fields) ends.rest other ends.stands) short ends)
 
-bad_cases : (b : Bool) (octets : List ℕ) (fault : BaseFault) (read : Result Endpoint BaseFault) → ltb 252 (length octets) ≡ b → Ends octets read → cond b (Err faults.TooLong) read ≡ Err fault → IsBad fault octets
+bad_cases : (b : Bool) (octets : List ℕ) (fault : BaseFault) (read : Result Endpoint BaseFault) → ltb 252 (length octets) ≡ b → Ends octets read
+    → cond b (Err faults.TooLong) read ≡ Err fault → IsBad fault octets
 bad_cases true octets fault read e ends r = subst (λ (f : BaseFault). IsBad f octets) (err_is faults.TooLong fault r) (ltb-true _ _ e)
 bad_cases false octets fault read e ends r = bad_end octets fault read (ltb-false _ _ e) ends r
 
@@ -193,25 +203,18 @@ bad_read (faults.Trailing place) octets h = cut_of (faults.Trailing place) octet
 
 -- ---- what the decoder promises
 
-is_fault : (fault : BaseFault) (octets : List ℕ) → IsBad fault octets → IsFault fault octets
-is_fault faults.Memory octets h = tt
-is_fault faults.TooLong octets h = h
-is_fault (faults.Short place) octets h = h
-is_fault faults.NoSubgroup octets h = h
-is_fault (faults.NoBis place) octets h = h
-is_fault (faults.BadIndex place) octets h = h
-is_fault (faults.IndexTwice place) octets h = h
-is_fault (faults.Ltv place bad) octets h = h
-is_fault (faults.Trailing place) octets h = h
+a_base : (octets : List ℕ) (read : Result Endpoint BaseFault) → IsOctets octets → base_of octets ≡ read → IsOk read → (v : Endpoint) × BaseIs v octets
+a_base octets (Ok v) fits e ok = (v, base_takes octets v fits e)
+a_base octets (Err fault) fits e ok = absurd cc
 
-pub found_fault : (octets : List ℕ) (result : Result Endpoint BaseFault) → Gives (λ base. base) result (base_of octets) → IfErr result (λ fault. IsFault fault octets)
-found_fault octets (Ok v) h = tt
-found_fault octets (Err faults.Memory) h = tt
-found_fault octets (Err faults.TooLong) h = read_bad faults.TooLong octets h
-found_fault octets (Err (faults.Short place)) h = read_bad (faults.Short place) octets h
-found_fault octets (Err faults.NoSubgroup) h = read_bad faults.NoSubgroup octets h
-found_fault octets (Err (faults.NoBis place)) h = read_bad (faults.NoBis place) octets h
-found_fault octets (Err (faults.BadIndex place)) h = read_bad (faults.BadIndex place) octets h
-found_fault octets (Err (faults.IndexTwice place)) h = read_bad (faults.IndexTwice place) octets h
-found_fault octets (Err (faults.Ltv place bad)) h = read_bad (faults.Ltv place bad) octets h
-found_fault octets (Err (faults.Trailing place)) h = read_bad (faults.Trailing place) octets h
+pub found_fault : (octets : List ℕ) (result : Result Endpoint BaseFault) → IsOctets octets → Answers result (base_of octets) → IfErr result (λ fault. IsFault fault octets)
+found_fault octets (Ok v) fits h = tt
+found_fault octets (Err faults.Memory) fits h = a_base octets (base_of octets) fits refl h
+found_fault octets (Err faults.TooLong) fits h = read_bad faults.TooLong octets h
+found_fault octets (Err (faults.Short place)) fits h = read_bad (faults.Short place) octets h
+found_fault octets (Err faults.NoSubgroup) fits h = read_bad faults.NoSubgroup octets h
+found_fault octets (Err (faults.NoBis place)) fits h = read_bad (faults.NoBis place) octets h
+found_fault octets (Err (faults.BadIndex place)) fits h = read_bad (faults.BadIndex place) octets h
+found_fault octets (Err (faults.IndexTwice place)) fits h = read_bad (faults.IndexTwice place) octets h
+found_fault octets (Err (faults.Ltv place bad)) fits h = read_bad (faults.Ltv place bad) octets h
+found_fault octets (Err (faults.Trailing place)) fits h = read_bad (faults.Trailing place) octets h

@@ -1,5 +1,6 @@
 pub mod Ads
 pub mod Again
+pub mod Checks
 pub mod Cuts
 pub mod Drafts
 pub mod Firsts

@@ -69,14 +69,21 @@ entering_next whole is_list before count from entries i rest e after lt read h s
       same = ap (λ (bs : List ℕ). with_front (entries ++ e ∷ []) (entries_at whole is_list bs (count - (i + 1)) after)) (sym there) ∙ sym one ∙ s.same;
     }
 
+pub entering_err : (f : BaseFault) (whole : List ℕ) (is_list : Bool) (before : List ℕ) (count : ℕ) (from : List ℕ) (entries : List BaseEntry) (i : ℕ) (rest : List ℕ)
+    → i < count → entry_at whole is_list (before ++ map bis_of entries) rest ≡ Err f → Entering whole is_list before count from entries i rest
+    → entries_at whole is_list before count from ≡ Err f
+unfolding entries_at
+entering_err f whole is_list before count from entries i rest lt e s =
+    let k : count - i ≡ suc (count - (i + 1)) = omega arith in
+    let one : with_front entries (entries_at whole is_list (before ++ map bis_of entries) (count - i) rest) ≡ Err f = rw (k, e) refl in
+    sym s.same ∙ one
+
 pub entering_failed : (fault : BaseFault) (whole : List ℕ) (is_list : Bool) (before : List ℕ) (count : ℕ) (from : List ℕ) (entries : List BaseEntry) (i : ℕ) (rest : List ℕ)
     → i < count → Fails fault (entry_at whole is_list (before ++ map bis_of entries) rest) → Entering whole is_list before count from entries i rest
     → Fails fault (entries_at whole is_list before count from)
-unfolding entries_at
 entering_failed fault whole is_list before count from entries i rest lt read s =
-    let k : count - i ≡ suc (count - (i + 1)) = omega arith in
     failed fault (entry_at whole is_list (before ++ map bis_of entries) rest) (entries_at whole is_list before count from)
-    (λ f e. let one : with_front entries (entries_at whole is_list (before ++ map bis_of entries) (count - i) rest) ≡ Err f = rw (k, e) refl in sym s.same ∙ one) read
+    (λ f e. entering_err f whole is_list before count from entries i rest lt e s) read
 
 pub entering_done : (whole : List ℕ) (is_list : Bool) (before : List ℕ) (count : ℕ) (from : List ℕ) (entries : List BaseEntry) (i : ℕ) (rest : List ℕ)
     → count ≤ i → Entering whole is_list before count from entries i rest → entries_at whole is_list before count from ≡ Ok (entries, rest)
@@ -119,13 +126,19 @@ grouping_next whole count from subgroups i rest s after lt read h g =
       same = ap (λ (bs : List ℕ). with_front (subgroups ++ s ∷ []) (subgroups_at whole bs (count - (i + 1)) after)) (indices-push subgroups s) ∙ sym one ∙ g.same;
     }
 
+pub grouping_err : (f : BaseFault) (whole : List ℕ) (count : ℕ) (from : List ℕ) (subgroups : List Subgroup) (i : ℕ) (rest : List ℕ)
+    → i < count → subgroup_at whole (indices subgroups) rest ≡ Err f → Grouping whole count from subgroups i rest → subgroups_at whole [] count from ≡ Err f
+unfolding subgroups_at
+grouping_err f whole count from subgroups i rest lt e g =
+    let k : count - i ≡ suc (count - (i + 1)) = omega arith in
+    let one : with_front subgroups (subgroups_at whole (indices subgroups) (count - i) rest) ≡ Err f = rw (k, e) refl in
+    sym g.same ∙ one
+
 pub grouping_failed : (fault : BaseFault) (whole : List ℕ) (count : ℕ) (from : List ℕ) (subgroups : List Subgroup) (i : ℕ) (rest : List ℕ)
     → i < count → Fails fault (subgroup_at whole (indices subgroups) rest) → Grouping whole count from subgroups i rest → Fails fault (subgroups_at whole [] count from)
-unfolding subgroups_at
 grouping_failed fault whole count from subgroups i rest lt read g =
-    let k : count - i ≡ suc (count - (i + 1)) = omega arith in
     failed fault (subgroup_at whole (indices subgroups) rest) (subgroups_at whole [] count from)
-    (λ f e. let one : with_front subgroups (subgroups_at whole (indices subgroups) (count - i) rest) ≡ Err f = rw (k, e) refl in sym g.same ∙ one) read
+    (λ f e. grouping_err f whole count from subgroups i rest lt e g) read
 
 pub grouping_done : (whole : List ℕ) (count : ℕ) (from : List ℕ) (subgroups : List Subgroup) (i : ℕ) (rest : List ℕ)
     → count ≤ i → Grouping whole count from subgroups i rest → subgroups_at whole [] count from ≡ Ok (subgroups, rest)

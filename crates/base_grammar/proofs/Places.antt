@@ -1,5 +1,6 @@
 -- What holds for an index, as a loop over the subgroups finds it.
-use Rattle.std.proofs.Common.{◌≡◌, ℕ, zero, suc, ◌+◌, ◌<◌, ◌==◌, ◌⊎◌, inl, inr, Bool, true, false, cond, eqb, List, [], ◌∷◌, ◌++◌, length, get_or, drop, drop-cons, add-one, add-zero, ◌||◌, map, Option, Some, None, refl, sym, ap, subst, ◌∙◌, arith}
+use Rattle.std.proofs.Common.{◌≡◌, ℕ, zero, suc, ◌+◌, ◌<◌, ◌==◌, ◌⊎◌, inl, inr, Bool, true, false, cond, eqb, List, [], ◌∷◌, ◌++◌, length, get_or, drop, drop-cons, add-one}
+use Rattle.std.proofs.Common.{add-zero, ◌||◌, map, Option, Some, None, refl, sym, ap, subst, ◌∙◌, arith}
 use Rattle.std.specs.Prelude.{slice_get, is_some, IfSome}
 use Rattle.std.specs.List.{find, AllByRecursion}
 use Rattle.std.proofs.lemmas.Bool.{eqb-true, eq-eqb}
@@ -31,7 +32,8 @@ found_fits P test (first ∷ xs) x h e =
       | inr behind ↦ found_fits P test xs x h.1 behind
     ]
 
-pub opened_at : (bis : ℕ) (ss : List Subgroup) (i : ℕ) (s : Subgroup) → i < length ss → s ≡ get_or ss i s → effective_from i bis (drop i ss) ≡ or_behind i s (entry_of bis s.entries) (effective_from (i + 1) bis (drop (i + 1) ss))
+pub opened_at : (bis : ℕ) (ss : List Subgroup) (i : ℕ) (s : Subgroup) → i < length ss → s ≡ get_or ss i s
+    → effective_from i bis (drop i ss) ≡ or_behind i s (entry_of bis s.entries) (effective_from (i + 1) bis (drop (i + 1) ss))
 opened_at bis ss i s lt e =
     let front : drop i ss ≡ s ∷ drop (i + 1) ss = drop-cons ss i s lt ∙ ap (λ (x : Subgroup). x ∷ drop (suc i) ss) (sym e) ∙ ap (λ (n : ℕ). s ∷ drop n ss) (sym (add-one i)) in
     ap (effective_from i bis) front
@@ -64,7 +66,8 @@ found_by place bis s ss None e h r behind =
     record { subgroup = f.subgroup; entry = f.entry; at = suc f.at; k = f.k; there = omega (arith, f.there); stands = f.stands; has = f.has; index = f.index; values = f.values }
 found_by place bis s ss (Some x) e h r behind =
     let f = found_entry bis s.entries x h in
-    let made : FoundAt place bis (s ∷ ss) (values_of place s x) = record { subgroup = s; entry = x; at = 0; k = f.0; there = sym (add-zero place); stands = refl; has = f.1; index = f.2; values = refl } in
+    let made : FoundAt place bis (s ∷ ss) (values_of place s x) =
+    record { subgroup = s; entry = x; at = 0; k = f.0; there = sym (add-zero place); stands = refl; has = f.1; index = f.2; values = refl } in
     subst (FoundAt place bis (s ∷ ss)) (same_Some (values_of place s x) e r) made
 
 found_from : (place bis : ℕ) (ss : List Subgroup) (e : Effective) → effective_from place bis ss ≡ Some e → FoundAt place bis ss e
@@ -76,7 +79,16 @@ effective_found v bis None h = tt
 effective_found v bis (Some e) h =
     let f = found_from 0 bis v.subgroups e (sym h) in
     let there : f.at ≡ e.subgroup = omega (arith, f.there) in
-    record { subgroup = f.subgroup; entry = f.entry; place = f.k; stands = subst (λ (n : ℕ). slice_get v.subgroups n ≡ Some f.subgroup) there f.stands; has = f.has; index = f.index; values = f.values }
+    record {
+      subgroup = f.subgroup;
+      entry = f.entry;
+      place = f.k;
+      stands = subst (λ (n : ℕ). slice_get v.subgroups n ≡ Some f.subgroup) there f.stands;
+      has = f.has;
+      index = f.index;
+      values =
+          f.values;
+    }
 
 -- ---- something is found where the index stands
 

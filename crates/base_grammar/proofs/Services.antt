@@ -8,9 +8,9 @@ use Rattle.octet_fields.specs.Spelling.{IsOctets}
 use Rattle.octet_fields.specs.Reading.{counted_in}
 use Rattle.octet_fields.proofs.Fields.{counted_again}
 use Rattle.ltv_codec.specs.declared.ltvs.Ltv.{Ltv}
-use Rattle.ltv_codec.specs.Layout.{structure, spelling, IsLtvList}
-use Rattle.ltv_codec.specs.Reading.{ltvs_in, AreLtvs}
-use Rattle.ltv_codec.proofs.Loops.{list_in}
+use Rattle.ltv_codec.specs.Layout.{structure, spelling, IsLtvList, AreLtvs}
+use Rattle.ltv_codec.specs.Reading.{ltvs_in}
+use Rattle.ltv_codec.proofs.Loops.{list_in, reads}
 use Rattle.base_grammar.specs.Ad.{service_in, first_service}
 use Rattle.base_grammar.specs.AdReading.{service_of}
 
@@ -21,7 +21,7 @@ pub record Unfound (uuid : ℕ) (list rest : List ℕ) : Type 0 where
   pub same : first_service uuid ads ≡ first_service uuid (ltvs_in list)
 
 pub unfound_first : (uuid : ℕ) (list : List ℕ) → IsOctets list → AreLtvs list → Unfound uuid list list
-unfound_first uuid list fits good = record { ads = ltvs_in list; is = list_in list fits good; same = refl }
+unfound_first uuid list fits good = record { ads = ltvs_in list; is = list_in list fits (reads list good); same = refl }
 
 -- the structure at the front, and the list behind it
 record Front (ads : List Ltv) (body after : List ℕ) : Type 0 where

@@ -2,7 +2,9 @@
 use Rattle.std.proofs.Common.{◌≡◌, ℕ, zero, suc, ◌≤◌, Bool, true, false, cond, ltb, eqb, List, Option, Some, None, Result, Ok, Err, refl, ap, arith}
 use Rattle.std.specs.Option.{option_map}
 use Rattle.std.proofs.lemmas.Bool.{ltb-false, le-ltb, ne_eqb}
+use Rattle.octet_fields.specs.Spelling.{IsOctets}
 use Rattle.ltv_codec.specs.Reading.{bad_of}
+use Rattle.ltv_codec.proofs.Loops.{are_read, reads}
 use Rattle.ltv_codec.specs.declared.fault.LtvBad.{LtvBad}
 use Rattle.base_grammar.specs.declared.fault.BaseFault.{BaseFault}
 use Rattle.base_grammar.specs.declared.fault.BaseFault.TheVariants.{NoSubgroup, NoBis, BadIndex, IndexTwice, Ltv}
@@ -57,12 +59,12 @@ option_map_none : (f : LtvBad → BaseFault) (o : Option LtvBad) → option_map 
 option_map_none f None e = refl
 option_map_none f (Some bad) e = absurd cc
 
-pub run_none : (place : ℕ) (is_list : Bool) (octets : List ℕ) → run_fault place is_list octets ≡ None → IsConfig is_list octets
-run_none place true octets e = λ _. option_map_none (λ bad. Ltv place bad) (bad_of octets) e
-run_none place false octets e = λ h. absurd cc
+pub run_none : (place : ℕ) (is_list : Bool) (octets : List ℕ) → IsOctets octets → run_fault place is_list octets ≡ None → IsConfig is_list octets
+run_none place true octets fits e = λ _. are_read octets fits (option_map_none (λ bad. Ltv place bad) (bad_of octets) e)
+run_none place false octets fits e = λ h. absurd cc
 
 pub none_run : (place : ℕ) (is_list : Bool) (octets : List ℕ) → IsConfig is_list octets → run_fault place is_list octets ≡ None
-none_run place true octets h = ap (option_map (λ bad. Ltv place bad)) (h refl)
+none_run place true octets h = ap (option_map (λ bad. Ltv place bad)) (reads octets (h refl))
 none_run place false octets h = refl
 
 three_none : (a b c : Bool) (x y z : BaseFault) → cond a (Some x) (cond b (Some y) (cond c (Some z) None)) ≡ None → (a ≡ false) × (b ≡ false) × (c ≡ false)

@@ -5,7 +5,7 @@ use Rattle.std.proofs.lemmas.List.{append-nil}
 use Rattle.std.proofs.lemmas.List.Concat.{flat_map-cons}
 use Rattle.octet_fields.specs.Reading.{octet_in, octets_in, number_in, place_in, Takes}
 use Rattle.octet_fields.specs.Spelling.{IsOctets, octet, number, counted}
-use Rattle.octet_fields.proofs.Fields.{Takes-then, octet_takes, octets_take, number_takes}
+use Rattle.octet_fields.proofs.Fields.{IsOctets-front, Takes-then, octet_takes, octets_take, number_takes}
 use Rattle.base_grammar.specs.declared.subgroup.BaseEntry.{BaseEntry}
 use Rattle.base_grammar.specs.declared.subgroup.Subgroup.{Subgroup}
 use Rattle.base_grammar.specs.Layout.{Endpoint, endpoint, is_lc3, entry, subgroup, spelling, bis_of, indices, stands_in, AreNew, IsConfig, EntryFits, SubgroupFits, HasEntry}
@@ -15,17 +15,21 @@ use Rattle.base_grammar.proofs.Steps.{bind_ok, ok_is, needed_ok, unless_ok, subg
 
 -- ---- fields
 
-pub run_takes : (whole : List ℕ) (is_list : Bool) (from value rest : List ℕ) → run_at whole is_list from ≡ Ok (value, rest) → Takes from (counted value) rest × IsConfig is_list value
+pub run_takes : (whole : List ℕ) (is_list : Bool) (from value rest : List ℕ) → IsOctets from → run_at whole is_list from ≡ Ok (value, rest)
+    → Takes from (counted value) rest × IsConfig is_list value
 unfolding run_at
-run_takes whole is_list from value rest e =
-    let a = bind_ok (needed whole from (octet_in from)) (λ count. needed whole count.1 (octets_in count.0 count.1) >>= λ run. unless (run_fault (place_in whole count.1) is_list run.0) run) (value, rest) e in
+run_takes whole is_list from value rest fits e =
+    let a = bind_ok (needed whole from (octet_in from)) (λ count. needed whole count.1 (octets_in count.0 count.1) >>= λ run. unless (run_fault (place_in whole count.1) is_list run.0) run)
+    (value, rest) e in
     let b = bind_ok (needed whole a.0.1 (octets_in a.0.0 a.0.1)) (λ run. unless (run_fault (place_in whole a.0.1) is_list run.0) run) (value, rest) a.2 in
     let g = unless_ok (run_fault (place_in whole a.0.1) is_list b.0.0) b.0 (value, rest) b.2 in
     let count = octet_takes from a.0.0 a.0.1 (needed_ok whole from (octet_in from) a.0 a.1) in
     let run = octets_take a.0.0 a.0.1 b.0.0 b.0.1 (needed_ok whole a.0.1 (octets_in a.0.0 a.0.1) b.0 b.1) in
     let both = Takes-then from (octet a.0.0) a.0.1 b.0.0 b.0.1 count run.0 in
     let spelled : Takes from (counted b.0.0) b.0.1 = subst (λ (n : ℕ). Takes from (n ∷ b.0.0) b.0.1) (sym run.1) both in
-    subst (λ (x : List ℕ × List ℕ). Takes from (counted x.0) x.1 × IsConfig is_list x.0) g.1 (spelled, run_none (place_in whole a.0.1) is_list b.0.0 g.0)
+    let run_fits : IsOctets b.0.0 = IsOctets-front b.0.0 b.0.1 (subst IsOctets run.0.parts (count.fits fits)) in
+    subst (λ (x : List ℕ × List ℕ). Takes from (counted x.0) x.1 × IsConfig is_list x.0) g.1
+    (spelled, run_none (place_in whole a.0.1) is_list b.0.0 run_fits g.0)
 
 pub index_takes : (whole before from : List ℕ) (bis : ℕ) (rest : List ℕ) → index_at whole before from ≡ Ok (bis, rest)
     → Takes from (octet bis) rest × ((1 ≤ bis) × (bis ≤ 31) × (stands_in before bis ≡ false))
@@ -60,13 +64,14 @@ pub record EntryTaken (is_list : Bool) (before from : List ℕ) (e : BaseEntry) 
   pub fits : EntryFits is_list e
   pub is_new : stands_in before e.bis ≡ false
 
-entry_takes : (whole : List ℕ) (is_list : Bool) (before from : List ℕ) (x : BaseEntry × List ℕ) → entry_at whole is_list before from ≡ Ok x → EntryTaken is_list before from x.0 x.1
+entry_takes : (whole : List ℕ) (is_list : Bool) (before from : List ℕ) (x : BaseEntry × List ℕ) → IsOctets from → entry_at whole is_list before from ≡ Ok x
+    → EntryTaken is_list before from x.0 x.1
 unfolding entry_at
-entry_takes whole is_list before from x e =
+entry_takes whole is_list before from x octets e =
     let a = bind_ok (index_at whole before from) (λ bis. run_at whole is_list bis.1 >>= λ config. Ok (record { bis = bis.0; config = config.0 }, config.1)) x e in
     let b = bind_ok (run_at whole is_list a.0.1) (λ config. Ok (record { bis = a.0.0; config = config.0 }, config.1)) x a.2 in
     let t0 = index_takes whole before from a.0.0 a.0.1 a.1 in
-    let t1 = run_takes whole is_list a.0.1 b.0.0 b.0.1 b.1 in
+    let t1 = run_takes whole is_list a.0.1 b.0.0 b.0.1 (t0.0.fits octets) b.1 in
     let made : BaseEntry × List ℕ = (record { bis = a.0.0; config = b.0.0 }, b.0.1) in
     let found : EntryTaken is_list before from made.0 made.1 = record {
       taken = Takes-then from (octet a.0.0) a.0.1 (counted b.0.0) b.0.1 t0.0 t1.0;
@@ -81,17 +86,17 @@ pub record EntriesTaken (is_list : Bool) (before : List ℕ) (count : ℕ) (from
   pub many : length es ≡ count
   pub are_new : AreNew before (map bis_of es)
 
-entries_take : (whole : List ℕ) (is_list : Bool) (before : List ℕ) (count : ℕ) (from : List ℕ) (x : List BaseEntry × List ℕ) → entries_at whole is_list before count from ≡ Ok x
-    → EntriesTaken is_list before count from x.0 x.1
+entries_take : (whole : List ℕ) (is_list : Bool) (before : List ℕ) (count : ℕ) (from : List ℕ) (x : List BaseEntry × List ℕ)
+    → IsOctets from → entries_at whole is_list before count from ≡ Ok x → EntriesTaken is_list before count from x.0 x.1
 unfolding entries_at
-entries_take whole is_list before zero from x e =
+entries_take whole is_list before zero from x octets e =
     let found : EntriesTaken is_list before 0 from [] from = record { taken = record { parts = refl; fits = λ h. h }; fit = tt; many = refl; are_new = tt } in
     subst (λ (y : List BaseEntry × List ℕ). EntriesTaken is_list before 0 from y.0 y.1) (ok_is ([], from) x e) found
-entries_take whole is_list before (suc n) from x e =
+entries_take whole is_list before (suc n) from x octets e =
     let a = bind_ok (entry_at whole is_list before from) (λ first. entries_at whole is_list (before ++ first.0.bis ∷ []) n first.1 >>= λ others. Ok (first.0 ∷ others.0, others.1)) x e in
     let b = bind_ok (entries_at whole is_list (before ++ a.0.0.bis ∷ []) n a.0.1) (λ others. Ok (a.0.0 ∷ others.0, others.1)) x a.2 in
-    let first = entry_takes whole is_list before from a.0 a.1 in
-    let others = entries_take whole is_list (before ++ a.0.0.bis ∷ []) n a.0.1 b.0 b.1 in
+    let first = entry_takes whole is_list before from a.0 octets a.1 in
+    let others = entries_take whole is_list (before ++ a.0.0.bis ∷ []) n a.0.1 b.0 (first.taken.fits octets) b.1 in
     let both = Takes-then from (entry a.0.0) a.0.1 (flat_map entry b.0.0) b.0.1 first.taken others.taken in
     let made : List BaseEntry × List ℕ = (a.0.0 ∷ b.0.0, b.0.1) in
     let found : EntriesTaken is_list before (suc n) from made.0 made.1 = record {
@@ -110,19 +115,28 @@ pub record SubgroupTaken (before from : List ℕ) (s : Subgroup) (rest : List �
   pub some : HasEntry s
   pub are_new : AreNew before (map bis_of s.entries)
 
-subgroup_takes : (whole before from : List ℕ) (x : Subgroup × List ℕ) → subgroup_at whole before from ≡ Ok x → SubgroupTaken before from x.0 x.1
+subgroup_takes : (whole before from : List ℕ) (x : Subgroup × List ℕ) → IsOctets from → subgroup_at whole before from ≡ Ok x → SubgroupTaken before from x.0 x.1
 unfolding subgroup_at
-subgroup_takes whole before from x e =
-    let a = bind_ok (streams_at whole from) (λ count. needed whole count.1 (octets_in 5 count.1) >>= λ codec. run_at whole (is_lc3 codec.0) codec.1 >>= λ config. run_at whole true config.1 >>= λ metadata. entries_at whole (is_lc3 codec.0) before count.0 metadata.1 >>= λ entries. Ok (record { codec = codec.0; config = config.0; metadata = metadata.0; entries = entries.0 }, entries.1)) x e in
-    let b = bind_ok (needed whole a.0.1 (octets_in 5 a.0.1)) (λ codec. run_at whole (is_lc3 codec.0) codec.1 >>= λ config. run_at whole true config.1 >>= λ metadata. entries_at whole (is_lc3 codec.0) before a.0.0 metadata.1 >>= λ entries. Ok (record { codec = codec.0; config = config.0; metadata = metadata.0; entries = entries.0 }, entries.1)) x a.2 in
-    let c = bind_ok (run_at whole (is_lc3 b.0.0) b.0.1) (λ config. run_at whole true config.1 >>= λ metadata. entries_at whole (is_lc3 b.0.0) before a.0.0 metadata.1 >>= λ entries. Ok (record { codec = b.0.0; config = config.0; metadata = metadata.0; entries = entries.0 }, entries.1)) x b.2 in
-    let d = bind_ok (run_at whole true c.0.1) (λ metadata. entries_at whole (is_lc3 b.0.0) before a.0.0 metadata.1 >>= λ entries. Ok (record { codec = b.0.0; config = c.0.0; metadata = metadata.0; entries = entries.0 }, entries.1)) x c.2 in
+subgroup_takes whole before from x octets e =
+    let a = bind_ok (streams_at whole from)
+    (λ count. needed whole count.1 (octets_in 5 count.1) >>= λ codec. run_at whole (is_lc3 codec.0) codec.1 >>= λ config. run_at whole true config.1
+    >>= λ metadata. entries_at whole (is_lc3 codec.0) before count.0 metadata.1
+    >>= λ entries. Ok (record { codec = codec.0; config = config.0; metadata = metadata.0; entries = entries.0 }, entries.1)) x e in
+    let b = bind_ok (needed whole a.0.1 (octets_in 5 a.0.1))
+    (λ codec. run_at whole (is_lc3 codec.0) codec.1 >>= λ config. run_at whole true config.1 >>= λ metadata. entries_at whole (is_lc3 codec.0) before a.0.0 metadata.1
+    >>= λ entries. Ok (record { codec = codec.0; config = config.0; metadata = metadata.0; entries = entries.0 }, entries.1)) x a.2 in
+    let c = bind_ok (run_at whole (is_lc3 b.0.0) b.0.1)
+    (λ config. run_at whole true config.1 >>= λ metadata. entries_at whole (is_lc3 b.0.0) before a.0.0 metadata.1
+    >>= λ entries. Ok (record { codec = b.0.0; config = config.0; metadata = metadata.0; entries = entries.0 }, entries.1)) x b.2 in
+    let d = bind_ok (run_at whole true c.0.1)
+    (λ metadata. entries_at whole (is_lc3 b.0.0) before a.0.0 metadata.1
+    >>= λ entries. Ok (record { codec = b.0.0; config = c.0.0; metadata = metadata.0; entries = entries.0 }, entries.1)) x c.2 in
     let f = bind_ok (entries_at whole (is_lc3 b.0.0) before a.0.0 d.0.1) (λ entries. Ok (record { codec = b.0.0; config = c.0.0; metadata = d.0.0; entries = entries.0 }, entries.1)) x d.2 in
     let t0 = streams_take whole from a.0.0 a.0.1 a.1 in
     let t1 = octets_take 5 a.0.1 b.0.0 b.0.1 (needed_ok whole a.0.1 (octets_in 5 a.0.1) b.0 b.1) in
-    let t2 = run_takes whole (is_lc3 b.0.0) b.0.1 c.0.0 c.0.1 c.1 in
-    let t3 = run_takes whole true c.0.1 d.0.0 d.0.1 d.1 in
-    let t4 = entries_take whole (is_lc3 b.0.0) before a.0.0 d.0.1 f.0 f.1 in
+    let t2 = run_takes whole (is_lc3 b.0.0) b.0.1 c.0.0 c.0.1 (t1.0.fits (t0.0.fits octets)) c.1 in
+    let t3 = run_takes whole true c.0.1 d.0.0 d.0.1 (t2.0.fits (t1.0.fits (t0.0.fits octets))) d.1 in
+    let t4 = entries_take whole (is_lc3 b.0.0) before a.0.0 d.0.1 f.0 (t3.0.fits (t2.0.fits (t1.0.fits (t0.0.fits octets)))) f.1 in
     let e34 = Takes-then c.0.1 (counted d.0.0) d.0.1 (flat_map entry f.0.0) f.0.1 t3.0 t4.taken in
     let e24 = Takes-then b.0.1 (counted c.0.0) c.0.1 (counted d.0.0 ++ flat_map entry f.0.0) f.0.1 t2.0 e34 in
     let e14 = Takes-then a.0.1 b.0.0 b.0.1 (counted c.0.0 ++ (counted d.0.0 ++ flat_map entry f.0.0)) f.0.1 t1.0 e24 in
@@ -147,16 +161,17 @@ pub record SubgroupsTaken (before : List ℕ) (count : ℕ) (from : List ℕ) (s
   pub many : length ss ≡ count
   pub are_new : AreNew before (indices ss)
 
-subgroups_take : (whole before : List ℕ) (count : ℕ) (from : List ℕ) (x : List Subgroup × List ℕ) → subgroups_at whole before count from ≡ Ok x → SubgroupsTaken before count from x.0 x.1
+subgroups_take : (whole before : List ℕ) (count : ℕ) (from : List ℕ) (x : List Subgroup × List ℕ) → IsOctets from → subgroups_at whole before count from ≡ Ok x
+    → SubgroupsTaken before count from x.0 x.1
 unfolding subgroups_at
-subgroups_take whole before zero from x e =
+subgroups_take whole before zero from x octets e =
     let found : SubgroupsTaken before 0 from [] from = record { taken = record { parts = refl; fits = λ h. h }; fit = tt; streams = tt; many = refl; are_new = tt } in
     subst (λ (y : List Subgroup × List ℕ). SubgroupsTaken before 0 from y.0 y.1) (ok_is ([], from) x e) found
-subgroups_take whole before (suc n) from x e =
+subgroups_take whole before (suc n) from x octets e =
     let a = bind_ok (subgroup_at whole before from) (λ first. subgroups_at whole (before ++ map bis_of first.0.entries) n first.1 >>= λ others. Ok (first.0 ∷ others.0, others.1)) x e in
     let b = bind_ok (subgroups_at whole (before ++ map bis_of a.0.0.entries) n a.0.1) (λ others. Ok (a.0.0 ∷ others.0, others.1)) x a.2 in
-    let first = subgroup_takes whole before from a.0 a.1 in
-    let others = subgroups_take whole (before ++ map bis_of a.0.0.entries) n a.0.1 b.0 b.1 in
+    let first = subgroup_takes whole before from a.0 octets a.1 in
+    let others = subgroups_take whole (before ++ map bis_of a.0.0.entries) n a.0.1 b.0 (first.taken.fits octets) b.1 in
     let both = Takes-then from (subgroup a.0.0) a.0.1 (flat_map subgroup b.0.0) b.0.1 first.taken others.taken in
     let made : List Subgroup × List ℕ = (a.0.0 ∷ b.0.0, b.0.1) in
     let found : SubgroupsTaken before (suc n) from made.0 made.1 = record {
@@ -185,14 +200,15 @@ pub record FieldsTaken (from : List ℕ) (v : Endpoint) : Type 0 where
 pub fields_take : (whole : List ℕ) (v : Endpoint) → IsOctets whole → fields_of whole ≡ Ok v → FieldsTaken whole v
 unfolding fields_of
 fields_take whole v fits e =
-    let a = bind_ok (needed whole whole (number_in 3 whole)) (λ delay. count_at whole delay.1 >>= λ count. subgroups_at whole [] count.0 count.1 >>= λ subgroups. ended whole subgroups.1 (endpoint delay.0 subgroups.0)) v e in
+    let a = bind_ok (needed whole whole (number_in 3 whole))
+    (λ delay. count_at whole delay.1 >>= λ count. subgroups_at whole [] count.0 count.1 >>= λ subgroups. ended whole subgroups.1 (endpoint delay.0 subgroups.0)) v e in
     let b = bind_ok (count_at whole a.0.1) (λ count. subgroups_at whole [] count.0 count.1 >>= λ subgroups. ended whole subgroups.1 (endpoint a.0.0 subgroups.0)) v a.2 in
     let c = bind_ok (subgroups_at whole [] b.0.0 b.0.1) (λ subgroups. ended whole subgroups.1 (endpoint a.0.0 subgroups.0)) v b.2 in
     let made : Endpoint = record { delay = a.0.0; subgroups = c.0.0 } in
     let last = ended_ok whole c.0.1 made v c.2 in
     let t0 = number_takes 3 whole a.0.0 a.0.1 fits (needed_ok whole whole (number_in 3 whole) a.0 a.1) in
     let t1 = count_takes whole a.0.1 b.0.0 b.0.1 b.1 in
-    let t2 = subgroups_take whole [] b.0.0 b.0.1 c.0 c.1 in
+    let t2 = subgroups_take whole [] b.0.0 b.0.1 c.0 (t1.0.fits (t0.0.fits fits)) c.1 in
     let e12 = Takes-then a.0.1 (octet b.0.0) b.0.1 (flat_map subgroup c.0.0) c.0.1 t1.0 t2.taken in
     let e02 = (Takes-then whole (number 3 a.0.0) a.0.1 (b.0.0 ∷ flat_map subgroup c.0.0) c.0.1 t0.0 e12).parts in
     let all : whole ≡ number 3 a.0.0 ++ (b.0.0 ∷ flat_map subgroup c.0.0) =

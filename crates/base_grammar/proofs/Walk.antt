@@ -1,5 +1,6 @@
 -- Fields that were taken, and what reading the next ones comes to.
-use Rattle.std.proofs.Common.{◌≡◌, ℕ, ◌+◌, ◌<◌, ◌⊎◌, Bool, false, ltb, List, [], ◌∷◌, ◌++◌, length, take, drop, Option, Some, None, Result, Ok, Err, refl, sym, ap, subst, ◌∙◌, append_assoc, arith, inl, inr, add-zero, zero-add}
+use Rattle.std.proofs.Common.{◌≡◌, ℕ, ◌+◌, ◌<◌, ◌⊎◌, Bool, false, ltb, List, [], ◌∷◌, ◌++◌, length, take, drop, Option, Some, None, Result, Ok, Err, refl, sym, ap, subst, ◌∙◌}
+use Rattle.std.proofs.Common.{append_assoc, arith, inl, inr, add-zero, zero-add}
 use Rattle.std.specs.List.{concat}
 use Rattle.std.proofs.lemmas.Bool.{cases_lt, lt-ltb, le-ltb}
 use Rattle.std.proofs.lemmas.List.{append-nil, length-append, length-take, take-append-drop, take_at}
@@ -8,7 +9,8 @@ use Rattle.bcast_base.specs.Numbers.{sum_from}
 use Rattle.octet_fields.specs.Reading.{octet_in, octets_in, number_in, place_in}
 use Rattle.base_grammar.specs.declared.fault.BaseFault.{BaseFault}
 use Rattle.base_grammar.specs.declared.fault.BaseFault.TheVariants.{Short}
-use Rattle.base_grammar.specs.Faults.{Row, presentation_delay, num_subgroups, num_bis, codec_id, config_length, config, metadata_length, metadata, bis_index, bis_config_length, bis_config, nothing, Due, first_due, width, row_fault, next_due, IsDue, due_behind, Meets, AllMeet, field_fault, cut_fault, AtCut}
+use Rattle.base_grammar.specs.Faults.{Row, presentation_delay, num_subgroups, num_bis, codec_id, config_length, config, metadata_length, metadata, bis_index, bis_config_length}
+use Rattle.base_grammar.specs.Faults.{bis_config, nothing, Due, first_due, width, row_fault, next_due, IsDue, due_behind, Meets, AllMeet, field_fault, cut_fault, AtCut}
 use Rattle.base_grammar.specs.Rows.{run_fault}
 use Rattle.base_grammar.specs.Reading.{◌>>=◌, needed, unless, run_at}
 
@@ -19,7 +21,8 @@ unfolding due_behind
 due_behind-more due [] field = refl
 due_behind-more due (first ∷ fields) field = due_behind-more (next_due due.row due first) fields field
 
-AllMeet-more : (place : ℕ) (due : Due) (fields : List (List ℕ)) (field : List ℕ) → AllMeet place due fields → Meets (place + length (concat fields)) (due_behind due fields) field → AllMeet place due (fields ++ field ∷ [])
+AllMeet-more : (place : ℕ) (due : Due) (fields : List (List ℕ)) (field : List ℕ) → AllMeet place due fields → Meets (place + length (concat fields)) (due_behind due fields) field
+    → AllMeet place due (fields ++ field ∷ [])
 unfolding due_behind AllMeet
 AllMeet-more place due [] field h m = (subst (λ (p : ℕ). Meets p due field) (add-zero place) m, tt)
 AllMeet-more place due (first ∷ fields) field h m =
@@ -109,7 +112,8 @@ pub comes_then : {A B : Type 0} (whole : List ℕ) (due : A → Due) (then_due :
 comes_then whole due then_due (Ok x) others c f = f x refl c
 comes_then whole due then_due (Err fault) others c f = c
 
-ruled : {A : Type 0} (whole : List ℕ) (due : A → Due) (fault : Option BaseFault) (x : A × List ℕ) → (fault ≡ None → At whole (due x.0) x.1) → ((f : BaseFault) → fault ≡ Some f → AtCut f whole) → Comes whole due (unless fault x)
+ruled : {A : Type 0} (whole : List ℕ) (due : A → Due) (fault : Option BaseFault) (x : A × List ℕ) → (fault ≡ None → At whole (due x.0) x.1)
+    → ((f : BaseFault) → fault ≡ Some f → AtCut f whole) → Comes whole due (unless fault x)
 ruled whole due None x ok err = ok refl
 ruled whole due (Some f) x ok err = err f refl
 
@@ -175,7 +179,8 @@ pub record RunRows (due : Due) (middle : ℕ → Due) (last : Due) (is_list : Bo
   pub rule : (x p : ℕ) (field : List ℕ) → row_fault (middle x).row p (middle x) field ≡ run_fault p is_list field
   pub behind : (x : ℕ) (field : List ℕ) → next_due (middle x).row (middle x) field ≡ last
 
-pub run_comes : (whole : List ℕ) (due : Due) (middle : ℕ → Due) (last : Due) (is_list : Bool) (rest : List ℕ) → RunRows due middle last is_list → At whole due rest → Comes whole (λ _. last) (run_at whole is_list rest)
+pub run_comes : (whole : List ℕ) (due : Due) (middle : ℕ → Due) (last : Due) (is_list : Bool) (rest : List ℕ) → RunRows due middle last is_list → At whole due rest
+    → Comes whole (λ _. last) (run_at whole is_list rest)
 unfolding run_at
 run_comes whole due middle last is_list rest r a =
     comes_then whole (λ x. next_due due.row due (x ∷ [])) (λ _. last) (needed whole rest (octet_in rest))

@@ -5,7 +5,7 @@ use Rattle.std.specs.Prelude.{ℕ, zero, suc, ◌+◌, ◌<◌, ◌≤◌, ◌�
 use Rattle.std.specs.List.{concat}
 use Rattle.base_grammar.specs.declared.fault.BaseFault.{BaseFault}
 use Rattle.base_grammar.specs.declared.fault.BaseFault.TheVariants.{Short, Trailing, TooLong, Memory}
-use Rattle.base_grammar.specs.Layout.{is_lc3}
+use Rattle.base_grammar.specs.Layout.{Endpoint, is_lc3, BaseIs}
 use Rattle.base_grammar.specs.Rows.{subgroups_fault, streams_fault, index_fault, run_fault}
 
 -- the row of a field; a run has as many octets as the length before it says
@@ -144,7 +144,7 @@ IsBad TooLong octets = 252 < length octets
 IsBad Memory octets = ⊥
 IsBad fault octets = (length octets ≤ 252) × AtCut fault octets
 
--- why they were not decoded: want of memory is free
+-- why they were not decoded; only a BASE is refused for want of memory
 abbrev pub IsFault : BaseFault → List ℕ → Type 0
-IsFault Memory octets = Unit {0}
+IsFault Memory octets = (v : Endpoint) × BaseIs v octets
 IsFault fault octets = IsBad fault octets

@@ -1,5 +1,6 @@
 pub mod Ad
 pub mod AdReading
+pub mod Checking
 pub mod Draft
 pub mod Effective
 pub mod Faults

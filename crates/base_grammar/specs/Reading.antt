@@ -1,6 +1,6 @@
 -- Reading a BASE (Basic Audio Profile 1.0, section 3.7.2.2) from left to right, field by field, with the first fault that
 -- is met. `whole` is all that is read, and `rest` its last octets, which are still to be read.
-use Rattle.std.specs.Prelude.{◌≡◌, ℕ, zero, suc, Bool, true, List, [], ◌∷◌, ◌++◌, length, map, Option, Some, None, Result, Ok, Err, nat_lt, if◌then◌else◌}
+use Rattle.std.specs.Prelude.{◌≡◌, ℕ, zero, suc, Bool, true, List, [], ◌∷◌, ◌++◌, length, map, Option, Some, None, Result, Ok, Err, IsOk, nat_lt, if◌then◌else◌}
 use Rattle.octet_fields.specs.Reading.{octet_in, octets_in, number_in, place_in}
 use Rattle.base_grammar.specs.declared.fault.BaseFault.{BaseFault}
 use Rattle.base_grammar.specs.declared.fault.BaseFault.TheVariants.{Short, Trailing, TooLong, Memory}
@@ -18,6 +18,11 @@ abbrev pub ◌>>=◌ : {A B : Type 0} → Result A BaseFault → (A → Result B
 abbrev pub Fails : {Y : Type 0} → BaseFault → Result Y BaseFault → Type 0
 Fails Memory read = Unit {0}
 Fails fault read = read ≡ Err fault
+
+-- the same of a part that takes no memory
+abbrev pub Reads : {X Y : Type 0} → (X → Y) → Result X BaseFault → Result Y BaseFault → Type 0
+Reads view (Ok x) read = read ≡ Ok (view x)
+Reads view (Err fault) read = read ≡ Err fault
 
 abbrev pub Gives : {X Y : Type 0} → (X → Y) → Result X BaseFault → Result Y BaseFault → Type 0
 Gives view (Ok x) read = read ≡ Ok (view x)
@@ -85,6 +90,11 @@ subgroups_at whole before (suc n) rest = do
   others ← subgroups_at whole (before ++ map bis_of first.0.entries) n first.1
   Ok (first.0 ∷ others.0, others.1)
 
+-- the octets behind the subgroups
+abbrev pub rest_of : Result (List Subgroup × List ℕ) BaseFault → Result (List ℕ) BaseFault
+rest_of (Ok read) = Ok read.1
+rest_of (Err fault) = Err fault
+
 -- the number of subgroups
 unfoldable pub count_at : List ℕ → List ℕ → Result (ℕ × List ℕ) BaseFault
 count_at whole rest = do
@@ -102,6 +112,15 @@ fields_of whole = do
   count ← count_at whole delay.1
   subgroups ← subgroups_at whole [] count.0 count.1
   ended whole subgroups.1 (endpoint delay.0 subgroups.0)
+
+-- a BASE, or what is wrong with the octets, or memory ran out for a BASE
+abbrev pub Refuses : BaseFault → Result Endpoint BaseFault → Type 0
+Refuses Memory read = IsOk read
+Refuses fault read = read ≡ Err fault
+
+abbrev pub Answers : Result Endpoint BaseFault → Result Endpoint BaseFault → Type 0
+Answers (Ok base) read = read ≡ Ok base
+Answers (Err fault) read = Refuses fault read
 
 -- what octets are read as
 unfoldable pub base_of : List ℕ → Result Endpoint BaseFault

@@ -2,7 +2,8 @@ ghost use Rattle.std.specs.Prelude.{◌≡◌, ◌≤◌, ◌++◌, length, take
 ghost use Rattle.base_grammar.specs.Ad.{IsAdList, IsAdShort, first_service, broadcast_audio_announcement};
 ghost use Rattle.base_grammar.specs.AdReading.{ads_of, ads_in, id_in, service_of, broadcast_id_of};
 ghost use Rattle.ltv_codec.specs.Layout as ltv;
-ghost use Rattle.ltv_codec.specs.Reading.{AreLtvs, ltvs_in};
+ghost use Rattle.ltv_codec.specs.Layout.{AreLtvs};
+ghost use Rattle.ltv_codec.specs.Reading.{ltvs_in};
 ghost use Rattle.ltv_codec.specs.Values.{first_of};
 ghost use Rattle.octet_fields.specs.Reading.{Gives};
 

@@ -1,6 +1,6 @@
 ghost use Rattle.std.specs.Prelude.{◌≡◌, ◌<◌, ◌^◌, [], OnOk, OnErr, IfOk, MatchResult, None, Some};
 ghost use Rattle.std.specs.Option.{ForSome};
-ghost use Rattle.ltv_codec.specs.Reading.{AreLtvs};
+ghost use Rattle.ltv_codec.specs.Layout.{AreLtvs};
 ghost use Rattle.base_grammar.specs.Draft.{last_of, opened, with_subgroup, with_metadata, with_entry, subgroup_fault, metadata_fault, entry_fault, finish_fault, Refuses};
 ghost use Rattle.base_grammar.specs.Layout.{endpoint, is_lc3, IsBase, IsConfig};
 

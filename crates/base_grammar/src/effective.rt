@@ -1,7 +1,7 @@
 ghost use Rattle.std.specs.Prelude.{◌≡◌, ◌+◌, map};
 ghost use Rattle.std.specs.List.{AllByRecursion};
 ghost use Rattle.std.specs.Option.{option_copied};
-ghost use Rattle.ltv_codec.specs.Reading.{AreLtvs};
+ghost use Rattle.ltv_codec.specs.Layout.{AreLtvs};
 ghost use Rattle.base_grammar.specs.Effective.{config_of, values_of, entry_of, effective_from};
 ghost use Rattle.base_grammar.specs.Layout.{IsConfig, SubgroupFits, is_lc3};
 

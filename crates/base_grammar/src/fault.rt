@@ -24,6 +24,7 @@ pub enum BaseFault {
     Trailing { place: usize },
     /// There are more than 252 octets.
     TooLong,
+    /// They are a BASE, but there is no memory for it.
     Memory,
 }
 

@@ -1,15 +1,15 @@
 //! Reading one field of a BASE. `whole` is all that is read, and `rest` its last octets.
 ghost use Rattle.std.specs.Prelude.{◌≡◌, ◌≤◌, ◌++◌, length, map, IfOk};
-ghost use Rattle.octet_fields.specs.Reading.{place_in, octet_in, octets_in};
+ghost use Rattle.octet_fields.specs.Reading.{place_in, octet_in, octets_in, number_in};
 ghost use Rattle.base_grammar.specs.Layout.{indices, bis_of};
-ghost use Rattle.base_grammar.specs.Reading.{Gives, needed, run_at, index_at, streams_at, count_at};
+ghost use Rattle.base_grammar.specs.Reading.{Reads, needed, run_at, index_at, streams_at, count_at};
 ghost use Rattle.base_grammar.specs.declared.fault.BaseFault.TheVariants as faults;
 
 use crate::fault::BaseFault;
 use crate::subgroup::{BaseEntry, Subgroup, stands_before};
 use bcast_base::Bis;
 use ltv_codec::check_ltvs;
-use octet_fields::{octet_at, octets_at, place_of};
+use octet_fields::{number_at, octet_at, octets_at, place_of};
 
 // The next field is not whole.
 fn short(whole: &[u8], rest: &[u8]) -> BaseFault
@@ -22,9 +22,9 @@ fn short(whole: &[u8], rest: &[u8]) -> BaseFault
 }
 
 // One octet.
-fn octet_field<'a>(whole: &[u8], rest: &'a [u8]) -> Result<(u8, &'a [u8]), BaseFault>
+pub(crate) fn octet_field<'a>(whole: &[u8], rest: &'a [u8]) -> Result<(u8, &'a [u8]), BaseFault>
     requires { length rest.now ≤ length whole.now }
-    ensures gives { Gives (λ x. (x.0, x.1.now)) result (needed whole.now rest.now (octet_in rest.now)) }
+    ensures reads { Reads (λ x. (x.0, x.1.now)) result (needed whole.now rest.now (octet_in rest.now)) }
     ensures shorter { IfOk result (λ x. length x.1.now ≤ length rest.now) }
 {
     match octet_at(rest) {
@@ -40,7 +40,7 @@ pub(crate) fn octets_field<'a>(
     k: usize,
 ) -> Result<(&'a [u8], &'a [u8]), BaseFault>
     requires { length rest.now ≤ length whole.now }
-    ensures gives { Gives (λ x. (x.0.now, x.1.now)) result (needed whole.now rest.now (octets_in k rest.now)) }
+    ensures reads { Reads (λ x. (x.0.now, x.1.now)) result (needed whole.now rest.now (octets_in k rest.now)) }
     ensures long { IfOk result (λ x. length x.0.now ≡ k) }
     ensures shorter { IfOk result (λ x. length x.1.now ≤ length rest.now) }
 {
@@ -56,7 +56,7 @@ pub(crate) fn codec_field<'a>(
     rest: &'a [u8],
 ) -> Result<([u8; 5], &'a [u8]), BaseFault>
     requires { length rest.now ≤ length whole.now }
-    ensures gives { Gives (λ x. (x.0, x.1.now)) result (needed whole.now rest.now (octets_in 5 rest.now)) }
+    ensures reads { Reads (λ x. (x.0, x.1.now)) result (needed whole.now rest.now (octets_in 5 rest.now)) }
     ensures shorter { IfOk result (λ x. length x.1.now ≤ length rest.now) }
 {
     let (codec, after) = octets_field(whole, rest, 5)?;
@@ -79,7 +79,7 @@ pub(crate) fn run_field<'a>(
     is_list: bool,
 ) -> Result<(&'a [u8], &'a [u8]), BaseFault>
     requires { length rest.now ≤ length whole.now }
-    ensures gives { Gives (λ x. (x.0.now, x.1.now)) result (run_at whole.now is_list rest.now) }
+    ensures reads { Reads (λ x. (x.0.now, x.1.now)) result (run_at whole.now is_list rest.now) }
     ensures shorter { IfOk result (λ x. length x.1.now ≤ length rest.now) }
 {
     let (count, behind) = octet_field(whole, rest)?;
@@ -100,7 +100,7 @@ pub(crate) fn index_field<'a>(
     entries: &[BaseEntry],
 ) -> Result<(Bis, &'a [u8]), BaseFault>
     requires { length rest.now ≤ length whole.now }
-    ensures gives { Gives (λ x. (x.0, x.1.now)) result (index_at whole.now (indices subgroups.now ++ map bis_of entries.now) rest.now) }
+    ensures reads { Reads (λ x. (x.0, x.1.now)) result (index_at whole.now (indices subgroups.now ++ map bis_of entries.now) rest.now) }
     ensures shorter { IfOk result (λ x. length x.1.now ≤ length rest.now) }
 {
     let place = place_of(whole, rest);
@@ -118,7 +118,7 @@ pub(crate) fn index_field<'a>(
 #[tactic(auto, unfolding(crate::specs::Reading::streams_at))]
 pub(crate) fn streams_field<'a>(whole: &[u8], rest: &'a [u8]) -> Result<(u8, &'a [u8]), BaseFault>
     requires { length rest.now ≤ length whole.now }
-    ensures gives { Gives (λ x. (x.0, x.1.now)) result (streams_at whole.now rest.now) }
+    ensures reads { Reads (λ x. (x.0, x.1.now)) result (streams_at whole.now rest.now) }
     ensures shorter { IfOk result (λ x. length x.1.now ≤ length rest.now) }
 {
     let (count, after) = octet_field(whole, rest)?;
@@ -133,7 +133,7 @@ pub(crate) fn streams_field<'a>(whole: &[u8], rest: &'a [u8]) -> Result<(u8, &'a
 #[tactic(auto, unfolding(crate::specs::Reading::count_at))]
 pub(crate) fn count_field<'a>(whole: &[u8], rest: &'a [u8]) -> Result<(u8, &'a [u8]), BaseFault>
     requires { length rest.now ≤ length whole.now }
-    ensures gives { Gives (λ x. (x.0, x.1.now)) result (count_at whole.now rest.now) }
+    ensures reads { Reads (λ x. (x.0, x.1.now)) result (count_at whole.now rest.now) }
     ensures shorter { IfOk result (λ x. length x.1.now ≤ length rest.now) }
 {
     let (count, after) = octet_field(whole, rest)?;
@@ -141,4 +141,15 @@ pub(crate) fn count_field<'a>(whole: &[u8], rest: &'a [u8]) -> Result<(u8, &'a [
         return Err(BaseFault::NoSubgroup);
     }
     Ok((count, after))
+}
+
+// The presentation delay.
+pub(crate) fn delay_field(whole: &[u8]) -> Result<(u32, &[u8]), BaseFault>
+    ensures reads { Reads (λ x. (x.0, x.1.now)) result (needed whole.now whole.now (number_in 3 whole.now)) }
+    ensures shorter { IfOk result (λ x. length x.1.now ≤ length whole.now) }
+{
+    match number_at(whole, 3) {
+        Some((delay, rest)) => Ok((delay as u32, rest)),
+        None => Err(BaseFault::Short { place: 0 }),
+    }
 }

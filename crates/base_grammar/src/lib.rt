@@ -4,6 +4,7 @@
 mod ad;
 mod ad_laws;
 mod base;
+mod checking;
 mod draft;
 mod draft_steps;
 mod effective;

@@ -1,19 +1,19 @@
 ghost use Rattle.std.specs.Prelude.{◌≡◌, ◌≤◌, [], ◌++◌, length, map, IfOk, IfErr, Ok};
 ghost use Rattle.base_grammar.specs.Faults.{IsFault};
 ghost use Rattle.base_grammar.specs.Layout.{Endpoint, endpoint, indices, bis_of, BaseIs};
-ghost use Rattle.base_grammar.specs.Reading.{Gives, entry_at, entries_at, needed, subgroup_at, subgroups_at, fields_of, base_of};
-ghost use Rattle.octet_fields.specs.Reading.{number_in};
+ghost use Rattle.base_grammar.specs.Reading.{Answers, Refuses, Gives, entry_at, entries_at, subgroup_at, subgroups_at, fields_of, base_of};
 
 use crate::base::Base;
+use crate::checking::check_base;
 use crate::fault::BaseFault;
-use crate::fields::{codec_field, count_field, index_field, run_field, streams_field};
+use crate::fields::{codec_field, count_field, delay_field, index_field, run_field, streams_field};
 use crate::subgroup::{BaseEntry, Entries, Subgroup, is_lc3_codec};
 use bcast_base::Octets;
-use octet_fields::{number_at, place_of};
+use octet_fields::place_of;
 use std::alloc::Global;
 
 // The most octets of a BASE.
-const MAX_OCTETS: usize = 252;
+pub(crate) const MAX_OCTETS: usize = 252;
 
 // An entry, behind these subgroups and these entries of its own.
 #[tactic(auto, unfolding(crate::specs::Reading::entry_at))]
@@ -120,17 +120,6 @@ fn subgroups_of<'a>(
     Ok((subgroups, rest))
 }
 
-// The presentation delay.
-fn delay_field(whole: &[u8]) -> Result<(u32, &[u8]), BaseFault>
-    ensures gives { Gives (λ x. (x.0, x.1.now)) result (needed whole.now whole.now (number_in 3 whole.now)) }
-    ensures shorter { IfOk result (λ x. length x.1.now ≤ length whole.now) }
-{
-    match number_at(whole, 3) {
-        Some((delay, rest)) => Ok((delay as u32, rest)),
-        None => Err(BaseFault::Short { place: 0 }),
-    }
-}
-
 // All fields, from the delay on.
 #[tactic(auto, unfolding(crate::specs::Reading::fields_of))]
 fn read_fields(alloc: Global, whole: &[u8]) -> Result<(u32, Vec<Subgroup>), BaseFault>
@@ -168,13 +157,35 @@ fn read_whole(alloc: Global, from: &[u8]) -> Result<Base, BaseFault>
     Ok(Base::new(delay, subgroups))
 }
 
+// Where memory ran out, a fault of the octets comes before it.
+fn read_or_check(alloc: Global, from: &[u8]) -> Result<Base, BaseFault>
+    ensures { Answers result (base_of from.now) }
+{
+    match read_whole(alloc, from) {
+        Ok(base) => Ok(base),
+        Err(BaseFault::Memory) => Err(wanting(from)),
+        Err(fault) => Err(fault),
+    }
+}
+
+// Why octets are refused for which there is no memory: what is wrong with them, if they are no BASE.
+fn wanting(from: &[u8]) -> BaseFault
+    ensures { Refuses result (base_of from.now) }
+{
+    match check_base(from) {
+        Ok(()) => BaseFault::Memory,
+        Err(fault) => fault,
+    }
+}
+
 /// The BASE that the octets are, all of them. A BASE has at most 252 octets, which is tested first. Then the first fault
-/// from the left counts: a field that is not whole, or one that breaks its row.
+/// from the left counts: a field that is not whole, or one that breaks its row. Want of memory comes only for octets that
+/// are a BASE.
 pub fn decode_base(alloc: Global, from: &[u8]) -> Result<Base, BaseFault>
-    ensures exact { Gives (λ base. base) result (base_of from.now) }
+    ensures exact { Answers result (base_of from.now) }
     ensures base { IfOk result (λ base. BaseIs base from.now) }
-    ensures only { (v : Endpoint) → BaseIs v from.now → Gives (λ base. base) result (Ok v) }
+    ensures only { (v : Endpoint) → BaseIs v from.now → Answers result (Ok v) }
     ensures fault { IfErr result (λ fault. IsFault fault from.now) }
 {
-    read_whole(alloc, from)
+    read_or_check(alloc, from)
 }

@@ -28,7 +28,8 @@ not_laid code rest e op l =
     let read : op_in code rest ≡ Some op = ap (λ (n : ℕ). op_in n rest) first ∙ (ap (op_in r.opcode) others ∙ r.read) in
     cc
 
-value_fault : (op : Operation) (octets : List ℕ) (fault : OpFault) (place twice : Option ℕ) → IsLaid op octets → reserved_from 0 (fields op) ≡ place → twice_of (wishes_of op) ≡ twice → first_fault place twice ≡ Some fault → IsFault fault octets
+value_fault : (op : Operation) (octets : List ℕ) (fault : OpFault) (place twice : Option ℕ) → IsLaid op octets → reserved_from 0 (fields op) ≡ place → twice_of (wishes_of op) ≡ twice
+    → first_fault place twice ≡ Some fault → IsFault fault octets
 value_fault op octets fault (Some place) twice l p t e =
     let same : Rfu place ≡ fault = cc in
     subst (λ (f : OpFault). IsFault f octets) same (op, l, reserved_first place (fields op) p)

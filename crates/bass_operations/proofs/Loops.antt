@@ -1,5 +1,6 @@
 -- Subgroups looked through one after the other, as a loop does.
-use Rattle.std.proofs.Common.{◌≡◌, ℕ, zero, suc, ◌+◌, ◌-◌, ◌<◌, ◌≤◌, Bool, true, false, cond, eqb, ltb, List, [], ◌∷◌, ◌++◌, length, map, Option, Some, None, is_some, refl, sym, ap, subst, ◌∙◌, append_assoc, arith}
+use Rattle.std.proofs.Common.{◌≡◌, ℕ, zero, suc, ◌+◌, ◌-◌, ◌<◌, ◌≤◌, Bool, true, false, cond, eqb, ltb, List, [], ◌∷◌, ◌++◌, length, map, Option, Some, None, is_some, refl, sym}
+use Rattle.std.proofs.Common.{ap, subst, ◌∙◌, append_assoc, arith}
 use Rattle.std.proofs.lemmas.Bool.{lt-ltb, le-ltb}
 use Rattle.std.proofs.lemmas.List.{append-nil}
 use Rattle.std.proofs.Math.Dec.{eqb-suc-zero}
@@ -25,7 +26,8 @@ joined group None = refl
 joined group (Some (groups, [])) = refl
 joined group (Some (groups, octet ∷ rest)) = refl
 
-subgroups_suc : (n : ℕ) (from : List ℕ) (group : Subgroup) (after : List ℕ) → subgroup_in from ≡ Some (group, after) → subgroups_in (suc n) from ≡ (subgroups_in n after >>= λ others. Some (group ∷ others.0, others.1))
+subgroups_suc : (n : ℕ) (from : List ℕ) (group : Subgroup) (after : List ℕ) → subgroup_in from ≡ Some (group, after)
+    → subgroups_in (suc n) from ≡ (subgroups_in n after >>= λ others. Some (group ∷ others.0, others.1))
 unfolding subgroups_in
 subgroups_suc n from group after e = rw e refl
 
@@ -33,7 +35,8 @@ subgroups_none : (n : ℕ) (from : List ℕ) → subgroup_in from ≡ None → s
 unfolding subgroups_in
 subgroups_none n from e = rw e refl
 
-pub wishes_suc : (n : ℕ) (from : List ℕ) (group : Subgroup) (after : List ℕ) → subgroup_in from ≡ Some (group, after) → wishes_in (suc n) from ≡ (wishes_in n after >>= λ wishes. Some (wish_of group ∷ wishes))
+pub wishes_suc : (n : ℕ) (from : List ℕ) (group : Subgroup) (after : List ℕ) → subgroup_in from ≡ Some (group, after)
+    → wishes_in (suc n) from ≡ (wishes_in n after >>= λ wishes. Some (wish_of group ∷ wishes))
 unfolding wishes_in
 wishes_suc n from group after e =
     ap (λ (r : Option (List Subgroup × List ℕ)). whole r >>= λ groups. Some (map wish_of groups)) (subgroups_suc n from group after e) ∙ joined group (subgroups_in n after)
@@ -49,10 +52,12 @@ some_behind : (wish : Wish) (read : Option (List Wish)) → is_some (read >>= λ
 some_behind wish None = refl
 some_behind wish (Some wishes) = refl
 
-pub are_next : (count i : ℕ) (from : List ℕ) (group : Subgroup) (after : List ℕ) (total : Bool) → i < count → subgroup_in from ≡ Some (group, after) → is_some (wishes_in (count - i) from) ≡ total → is_some (wishes_in (count - (i + 1)) after) ≡ total
+pub are_next : (count i : ℕ) (from : List ℕ) (group : Subgroup) (after : List ℕ) (total : Bool) → i < count → subgroup_in from ≡ Some (group, after)
+    → is_some (wishes_in (count - i) from) ≡ total → is_some (wishes_in (count - (i + 1)) after) ≡ total
 are_next count i from group after total lt e so_far =
     let one : is_some (wishes_in (count - i) from) ≡ is_some (wishes_in (count - (i + 1)) after) =
-    ap (λ (n : ℕ). is_some (wishes_in n from)) (one_left count i lt) ∙ (ap (λ (r : Option (List Wish)). is_some r) (wishes_suc (count - (i + 1)) from group after e) ∙ some_behind (wish_of group) (wishes_in (count - (i + 1)) after)) in
+    ap (λ (n : ℕ). is_some (wishes_in n from)) (one_left count i lt)
+    ∙ (ap (λ (r : Option (List Wish)). is_some r) (wishes_suc (count - (i + 1)) from group after e) ∙ some_behind (wish_of group) (wishes_in (count - (i + 1)) after)) in
     sym one ∙ so_far
 
 pub are_short : (count i : ℕ) (from : List ℕ) (total : Bool) → i < count → subgroup_in from ≡ None → is_some (wishes_in (count - i) from) ≡ total → false ≡ total
@@ -82,7 +87,8 @@ pub read_next : (front : List Wish) (count i : ℕ) (from : List ℕ) (group : S
     → with_front front (wishes_in (count - i) from) ≡ total → with_front (front ++ wish_of group ∷ []) (wishes_in (count - (i + 1)) after) ≡ total
 read_next front count i from group after total lt e so_far =
     let one : with_front front (wishes_in (count - i) from) ≡ with_front (front ++ wish_of group ∷ []) (wishes_in (count - (i + 1)) after) =
-    ap (λ (n : ℕ). with_front front (wishes_in n from)) (one_left count i lt) ∙ (ap (with_front front) (wishes_suc (count - (i + 1)) from group after e) ∙ regroup front (wish_of group) (wishes_in (count - (i + 1)) after)) in
+    ap (λ (n : ℕ). with_front front (wishes_in n from)) (one_left count i lt)
+    ∙ (ap (with_front front) (wishes_suc (count - (i + 1)) from group after e) ∙ regroup front (wish_of group) (wishes_in (count - (i + 1)) after)) in
     sym one ∙ so_far
 
 pub read_never : (front : List Wish) (count i : ℕ) (from : List ℕ) (total : Option (List Wish)) → i < count → subgroup_in from ≡ None
@@ -94,7 +100,8 @@ read_never front count i from total lt e so_far some =
     let no : is_some total ≡ false = ap (λ (r : Option (List Wish)). is_some r) none in
     cc
 
-nothing_left : (front : List Wish) (read total : Option (List Wish)) (rest : List ℕ) → is_some read ≡ eqb (length rest) 0 → with_front front read ≡ total → is_some total ≡ true → read ≡ wishes_in 0 rest → total ≡ Some front
+nothing_left : (front : List Wish) (read total : Option (List Wish)) (rest : List ℕ) → is_some read ≡ eqb (length rest) 0 → with_front front read ≡ total → is_some total ≡ true
+    → read ≡ wishes_in 0 rest → total ≡ Some front
 unfolding wishes_in subgroups_in
 nothing_left front read total [] e so_far some same =
     let done : read ≡ Some [] = same in
@@ -106,14 +113,16 @@ nothing_left front read total (octet ∷ rest) e so_far some same =
     let no : is_some total ≡ false = ap (λ (r : Option (List Wish)). is_some r) none in
     absurd cc
 
-pub read_end : (front : List Wish) (count i : ℕ) (rest : List ℕ) (total : Option (List Wish)) → count ≤ i → with_front front (wishes_in (count - i) rest) ≡ total → is_some total ≡ true → total ≡ Some front
+pub read_end : (front : List Wish) (count i : ℕ) (rest : List ℕ) (total : Option (List Wish)) → count ≤ i → with_front front (wishes_in (count - i) rest) ≡ total → is_some total ≡ true
+    → total ≡ Some front
 read_end front count i rest total le so_far some =
     let none_left : count - i ≡ 0 = omega arith in
     nothing_left front (wishes_in (count - i) rest) total rest (ends_empty (count - i) rest none_left) so_far some (ap (λ (n : ℕ). wishes_in n rest) none_left)
 
 -- ---- streams
 
-named_suc : (bis n : ℕ) (from : List ℕ) (group : Subgroup) (after : List ℕ) → subgroup_in from ≡ Some (group, after) → named_in bis (suc n) from ≡ cond (has_bit bis group.bits) 1 0 + named_in bis n after
+named_suc : (bis n : ℕ) (from : List ℕ) (group : Subgroup) (after : List ℕ) → subgroup_in from ≡ Some (group, after)
+    → named_in bis (suc n) from ≡ cond (has_bit bis group.bits) 1 0 + named_in bis n after
 unfolding named_in
 named_suc bis n from group after e = rw e refl
 
@@ -149,7 +158,8 @@ twice_here (suc others) bis count octets total some more so_far =
     let yes : ltb 1 (named_in bis count octets) ≡ true = lt-ltb 1 (named_in bis count octets) more in
     sym (rw yes refl) ∙ so_far
 
-pub twice_next : (others left bis count : ℕ) (octets : List ℕ) (total : Option ℕ) → left + 1 ≡ others → named_in bis count octets ≤ 1 → twice_in others bis count octets ≡ total → twice_in left (bis + 1) count octets ≡ total
+pub twice_next : (others left bis count : ℕ) (octets : List ℕ) (total : Option ℕ) → left + 1 ≡ others → named_in bis count octets ≤ 1 → twice_in others bis count octets ≡ total
+    → twice_in left (bis + 1) count octets ≡ total
 unfolding twice_in
 twice_next zero left bis count octets total one few so_far = absurd (omega arith)
 twice_next (suc others) left bis count octets total one few so_far =

@@ -54,7 +54,8 @@ faultless : (read : Option Operation) (given : Result Operation OpFault) → ((o
 faultless None given none e = subst (λ (g : Result Operation OpFault). Gives g (judged None)) (sym e) refl
 faultless (Some op) given none e = subst (λ (g : Result Operation OpFault). Gives g (judged (Some op))) (sym e) (ap (answered op) (none op refl))
 
-pub code_given : (from : List ℕ) (read : Option Operation) (given : Result Operation OpFault) → 1 ≤ length from → get_or from 0 0 ≡ 4 → read ≡ code_in (behind from) → given ≡ ok_or read Length → Gives given (op_of from)
+pub code_given : (from : List ℕ) (read : Option Operation) (given : Result Operation OpFault) → 1 ≤ length from → get_or from 0 0 ≡ 4 → read ≡ code_in (behind from)
+    → given ≡ ok_or read Length → Gives given (op_of from)
 unfolding op_in
 code_given [] read given h a e g = absurd (omega (arith, h))
 code_given (code ∷ rest) read given h a e g =
@@ -62,7 +63,8 @@ code_given (code ∷ rest) read given h a e g =
     let judged_so : op_of (code ∷ rest) ≡ judged read = ap (λ (n : ℕ). op_of (n ∷ rest)) a ∙ ap judged same in
     subst (Gives given) (sym judged_so) (faultless read given (λ op some. code_faultless rest op (same ∙ some)) g)
 
-pub remove_given : (from : List ℕ) (read : Option Operation) (given : Result Operation OpFault) → 1 ≤ length from → get_or from 0 0 ≡ 5 → read ≡ remove_in (behind from) → given ≡ ok_or read Length → Gives given (op_of from)
+pub remove_given : (from : List ℕ) (read : Option Operation) (given : Result Operation OpFault) → 1 ≤ length from → get_or from 0 0 ≡ 5 → read ≡ remove_in (behind from)
+    → given ≡ ok_or read Length → Gives given (op_of from)
 unfolding op_in
 remove_given [] read given h a e g = absurd (omega (arith, h))
 remove_given (code ∷ rest) read given h a e g =

@@ -40,10 +40,12 @@ no_wishes None e = refl
 
 -- ---- what follows of the first fault
 
-pub head_fault : (read : Result Operation OpFault) (op : Operation) (head others twice : Option ℕ) (place : ℕ) → read ≡ answered op (first_fault (or_place head others) twice) → head ≡ Some place → read ≡ Err (Rfu place)
+pub head_fault : (read : Result Operation OpFault) (op : Operation) (head others twice : Option ℕ) (place : ℕ) → read ≡ answered op (first_fault (or_place head others) twice)
+    → head ≡ Some place → read ≡ Err (Rfu place)
 head_fault read op head others twice place e h = e ∙ ap (λ (p : Option ℕ). answered op (first_fault (or_place p others) twice)) h
 
-fails : (read : Result Operation OpFault) (op : Operation) (others twice : Option ℕ) (fault : OpFault) → read ≡ answered op (first_fault others twice) → Some fault ≡ first_fault others twice → Fails fault read
+fails : (read : Result Operation OpFault) (op : Operation) (others twice : Option ℕ) (fault : OpFault) → read ≡ answered op (first_fault others twice) → Some fault ≡ first_fault others twice
+    → Fails fault read
 fails read op (Some place) twice fault e f =
     let same : Rfu place ≡ fault = cc in
     subst (λ (x : OpFault). Fails x read) same e
@@ -52,21 +54,24 @@ fails read op None (Some bis) fault e f =
     subst (λ (x : OpFault). Fails x read) same e
 fails read op None None fault e f = absurd cc
 
-behind_head : (read : Result Operation OpFault) (op : Operation) (head others twice : Option ℕ) → read ≡ answered op (first_fault (or_place head others) twice) → head ≡ None → read ≡ answered op (first_fault others twice)
+behind_head : (read : Result Operation OpFault) (op : Operation) (head others twice : Option ℕ) → read ≡ answered op (first_fault (or_place head others) twice) → head ≡ None
+    → read ≡ answered op (first_fault others twice)
 behind_head read op head others twice e h = e ∙ ap (λ (p : Option ℕ). answered op (first_fault (or_place p others) twice)) h
 
 wishes_fault : (read : Result Operation OpFault) (op : Operation) (head others twice : Option ℕ) (fault : OpFault) → read ≡ answered op (first_fault (or_place head others) twice) → head ≡ None
     → Some fault ≡ first_fault others twice → Fails fault read
 wishes_fault read op head others twice fault e h f = fails read op others twice fault (behind_head read op head others twice e h) f
 
-no_fault_left : (read : Result Operation OpFault) (op : Operation) (head others twice : Option ℕ) → read ≡ answered op (first_fault (or_place head others) twice) → head ≡ None → None ≡ first_fault others twice → read ≡ Ok op
+no_fault_left : (read : Result Operation OpFault) (op : Operation) (head others twice : Option ℕ) → read ≡ answered op (first_fault (or_place head others) twice) → head ≡ None
+    → None ≡ first_fault others twice → read ≡ Ok op
 no_fault_left read op head others twice e h f = behind_head read op head others twice e h ∙ ap (answered op) (sym f)
 
 is_ok : (read : Result Operation OpFault) (op : Operation) → read ≡ Ok op → IsOk read
 is_ok (Ok read) op e = refl
 is_ok (Err fault) op e = absurd cc
 
-an_operation : (read : Result Operation OpFault) (op : Operation) (head others twice : Option ℕ) → read ≡ answered op (first_fault (or_place head others) twice) → head ≡ None → None ≡ first_fault others twice → IsOk read
+an_operation : (read : Result Operation OpFault) (op : Operation) (head others twice : Option ℕ) → read ≡ answered op (first_fault (or_place head others) twice) → head ≡ None
+    → None ≡ first_fault others twice → IsOk read
 an_operation read op head others twice e h f = is_ok read op (no_fault_left read op head others twice e h f)
 
 -- the fields of the wishes are the subgroups that were looked through
@@ -76,7 +81,8 @@ wishes_place from place count tail wishes h len e =
     let g = groups_of_wishes count tail wishes e in
     let there : place_in from tail ≡ place = omega arith in
     let found = reserved_found from count tail (g.0, []) h (omega arith) g.1 in
-    sym (found ∙ (ap (λ (p : ℕ). reserved_from p (flat_map subgroup_fields g.0)) there ∙ (ap (reserved_from place) (sym (fields_same g.0)) ∙ ap (λ (ws : List Wish). reserved_from place (flat_map wish_fields ws)) g.2)))
+    sym (found ∙ (ap (λ (p : ℕ). reserved_from p (flat_map subgroup_fields g.0)) there
+    ∙ (ap (reserved_from place) (sym (fields_same g.0)) ∙ ap (λ (ws : List Wish). reserved_from place (flat_map wish_fields ws)) g.2)))
 
 wishes_twice : (count : ℕ) (tail : List ℕ) (wishes : List Wish) → wishes_in count tail ≡ Some wishes → twice_of wishes ≡ twice_in 31 1 count tail
 wishes_twice count tail wishes e =
@@ -103,15 +109,18 @@ pub add_no_head : (rest : List ℕ) → add_head_in rest ≡ None → judged (ad
 unfolding add_in
 add_no_head rest e = rw e refl
 
-pub add_no_wishes : (rest : List ℕ) (add : AddSource) (count : ℕ) (tail : List ℕ) → add_head_in rest ≡ Some (add, count, tail) → is_some (wishes_in count tail) ≡ false → judged (add_in rest) ≡ Err Length
+pub add_no_wishes : (rest : List ℕ) (add : AddSource) (count : ℕ) (tail : List ℕ) → add_head_in rest ≡ Some (add, count, tail) → is_some (wishes_in count tail) ≡ false
+    → judged (add_in rest) ≡ Err Length
 unfolding add_in
 add_no_wishes rest add count tail e none = let short = no_wishes (wishes_in count tail) none in rw (e, short) refl
 
-add_read : (rest : List ℕ) (add : AddSource) (count : ℕ) (tail : List ℕ) (wishes : List Wish) → add_head_in rest ≡ Some (add, count, tail) → wishes_in count tail ≡ Some wishes → add_in rest ≡ Some (added add wishes)
+add_read : (rest : List ℕ) (add : AddSource) (count : ℕ) (tail : List ℕ) (wishes : List Wish) → add_head_in rest ≡ Some (add, count, tail) → wishes_in count tail ≡ Some wishes
+    → add_in rest ≡ Some (added add wishes)
 unfolding add_in
 add_read rest add count tail wishes e w = rw (e, w) refl
 
-pub add_judged : (from rest : List ℕ) (add : AddSource) (count : ℕ) (tail : List ℕ) (wishes : List Wish) → IsOctets from → from ≡ 2 ∷ rest → add_head_in rest ≡ Some (add, count, tail) → wishes_in count tail ≡ Some wishes
+pub add_judged : (from rest : List ℕ) (add : AddSource) (count : ℕ) (tail : List ℕ) (wishes : List Wish) → IsOctets from → from ≡ 2 ∷ rest → add_head_in rest ≡ Some (add, count, tail)
+    → wishes_in count tail ≡ Some wishes
     → judged (add_in rest) ≡ answered (added add wishes) (first_fault (or_place (add_reserved add) (reserved_in from count tail)) (twice_in 31 1 count tail))
 add_judged from rest add count tail wishes h parts e w =
     let t = add_head_takes rest (add, count, tail) (IsOctets-rest 2 rest (subst IsOctets parts h)) e in
@@ -122,30 +131,36 @@ add_judged from rest add count tail wishes h parts e w =
     ∙ judged_by (added add wishes) (first_fault (or_place (add_reserved add) (reserved_in from count tail)) (twice_in 31 1 count tail))
     (ap (λ (p : Option ℕ). first_fault p (twice_of wishes)) places ∙ ap (first_fault (or_place (add_reserved add) (reserved_in from count tail))) twice)
 
-add_judged_some : (from rest : List ℕ) (add : AddSource) (count : ℕ) (tail : List ℕ) → IsOctets from → from ≡ 2 ∷ rest → add_head_in rest ≡ Some (add, count, tail) → is_some (wishes_in count tail) ≡ true
+add_judged_some : (from rest : List ℕ) (add : AddSource) (count : ℕ) (tail : List ℕ) → IsOctets from → from ≡ 2 ∷ rest → add_head_in rest ≡ Some (add, count, tail)
+    → is_some (wishes_in count tail) ≡ true
     → (wishes : List Wish) × (judged (add_in rest) ≡ answered (added add wishes) (first_fault (or_place (add_reserved add) (reserved_in from count tail)) (twice_in 31 1 count tail)))
 add_judged_some from rest add count tail h parts e some =
     let w = some_wishes (wishes_in count tail) some in
     (w.0, add_judged from rest add count tail w.0 h parts e w.1)
 
-pub add_head_fault : (from rest : List ℕ) (add : AddSource) (count : ℕ) (tail : List ℕ) (place : ℕ) → IsOctets from → from ≡ 2 ∷ rest → add_head_in rest ≡ Some (add, count, tail) → is_some (wishes_in count tail) ≡ true → Some place ≡ add_reserved add → judged (add_in rest) ≡ Err (Rfu place)
+pub add_head_fault : (from rest : List ℕ) (add : AddSource) (count : ℕ) (tail : List ℕ) (place : ℕ) → IsOctets from → from ≡ 2 ∷ rest → add_head_in rest ≡ Some (add, count, tail)
+    → is_some (wishes_in count tail) ≡ true → Some place ≡ add_reserved add → judged (add_in rest) ≡ Err (Rfu place)
 add_head_fault from rest add count tail place h parts e some r =
     let j = add_judged_some from rest add count tail h parts e some in
     head_fault (judged (add_in rest)) (added add j.0) (add_reserved add) (reserved_in from count tail) (twice_in 31 1 count tail) place j.1 (sym r)
 
-pub add_wishes_fault : (from rest : List ℕ) (add : AddSource) (count : ℕ) (tail : List ℕ) (fault : OpFault) → IsOctets from → from ≡ 2 ∷ rest → add_head_in rest ≡ Some (add, count, tail) → is_some (wishes_in count tail) ≡ true → None ≡ add_reserved add → Some fault ≡ first_fault (reserved_in from count tail) (twice_in 31 1 count tail) → Fails fault (judged (add_in rest))
+pub add_wishes_fault : (from rest : List ℕ) (add : AddSource) (count : ℕ) (tail : List ℕ) (fault : OpFault) → IsOctets from → from ≡ 2 ∷ rest → add_head_in rest ≡ Some (add, count, tail)
+    → is_some (wishes_in count tail) ≡ true → None ≡ add_reserved add → Some fault ≡ first_fault (reserved_in from count tail) (twice_in 31 1 count tail) → Fails fault (judged (add_in rest))
 add_wishes_fault from rest add count tail fault h parts e some r f =
     let j = add_judged_some from rest add count tail h parts e some in
     wishes_fault (judged (add_in rest)) (added add j.0) (add_reserved add) (reserved_in from count tail) (twice_in 31 1 count tail) fault j.1 (sym r) f
 
-pub add_is_operation : (from rest : List ℕ) (add : AddSource) (count : ℕ) (tail : List ℕ) → IsOctets from → from ≡ 2 ∷ rest → add_head_in rest ≡ Some (add, count, tail) → is_some (wishes_in count tail) ≡ true → None ≡ add_reserved add → None ≡ first_fault (reserved_in from count tail) (twice_in 31 1 count tail) → IsOk (judged (add_in rest))
+pub add_is_operation : (from rest : List ℕ) (add : AddSource) (count : ℕ) (tail : List ℕ) → IsOctets from → from ≡ 2 ∷ rest → add_head_in rest ≡ Some (add, count, tail)
+    → is_some (wishes_in count tail) ≡ true → None ≡ add_reserved add → None ≡ first_fault (reserved_in from count tail) (twice_in 31 1 count tail) → IsOk (judged (add_in rest))
 add_is_operation from rest add count tail h parts e some r f =
     let j = add_judged_some from rest add count tail h parts e some in
     an_operation (judged (add_in rest)) (added add j.0) (add_reserved add) (reserved_in from count tail) (twice_in 31 1 count tail) j.1 (sym r) f
 
-pub add_done : (from rest : List ℕ) (add : AddSource) (count : ℕ) (tail : List ℕ) (wishes : List Wish) → IsOctets from → from ≡ 2 ∷ rest → add_head_in rest ≡ Some (add, count, tail) → wishes_in count tail ≡ Some wishes → None ≡ add_reserved add → None ≡ first_fault (reserved_in from count tail) (twice_in 31 1 count tail) → judged (add_in rest) ≡ Ok (added add wishes)
+pub add_done : (from rest : List ℕ) (add : AddSource) (count : ℕ) (tail : List ℕ) (wishes : List Wish) → IsOctets from → from ≡ 2 ∷ rest → add_head_in rest ≡ Some (add, count, tail)
+    → wishes_in count tail ≡ Some wishes → None ≡ add_reserved add → None ≡ first_fault (reserved_in from count tail) (twice_in 31 1 count tail) → judged (add_in rest) ≡ Ok (added add wishes)
 add_done from rest add count tail wishes h parts e w r f =
-    no_fault_left (judged (add_in rest)) (added add wishes) (add_reserved add) (reserved_in from count tail) (twice_in 31 1 count tail) (add_judged from rest add count tail wishes h parts e w) (sym r) f
+    no_fault_left (judged (add_in rest)) (added add wishes) (add_reserved add) (reserved_in from count tail) (twice_in 31 1 count tail)
+    (add_judged from rest add count tail wishes h parts e w) (sym r) f
 
 pub add_tail : (from rest : List ℕ) (add : AddSource) (count : ℕ) (tail : List ℕ) → IsOctets from → from ≡ 2 ∷ rest → add_head_in rest ≡ Some (add, count, tail) → length tail ≤ length from
 add_tail from rest add count tail h parts e =
@@ -171,15 +186,18 @@ pub modify_no_head : (rest : List ℕ) → modify_head_in rest ≡ None → judg
 unfolding modify_in
 modify_no_head rest e = rw e refl
 
-pub modify_no_wishes : (rest : List ℕ) (modify : ModifySource) (count : ℕ) (tail : List ℕ) → modify_head_in rest ≡ Some (modify, count, tail) → is_some (wishes_in count tail) ≡ false → judged (modify_in rest) ≡ Err Length
+pub modify_no_wishes : (rest : List ℕ) (modify : ModifySource) (count : ℕ) (tail : List ℕ) → modify_head_in rest ≡ Some (modify, count, tail) → is_some (wishes_in count tail) ≡ false
+    → judged (modify_in rest) ≡ Err Length
 unfolding modify_in
 modify_no_wishes rest modify count tail e none = let short = no_wishes (wishes_in count tail) none in rw (e, short) refl
 
-modify_read : (rest : List ℕ) (modify : ModifySource) (count : ℕ) (tail : List ℕ) (wishes : List Wish) → modify_head_in rest ≡ Some (modify, count, tail) → wishes_in count tail ≡ Some wishes → modify_in rest ≡ Some (modified modify wishes)
+modify_read : (rest : List ℕ) (modify : ModifySource) (count : ℕ) (tail : List ℕ) (wishes : List Wish) → modify_head_in rest ≡ Some (modify, count, tail) → wishes_in count tail ≡ Some wishes
+    → modify_in rest ≡ Some (modified modify wishes)
 unfolding modify_in
 modify_read rest modify count tail wishes e w = rw (e, w) refl
 
-pub modify_judged : (from rest : List ℕ) (modify : ModifySource) (count : ℕ) (tail : List ℕ) (wishes : List Wish) → IsOctets from → from ≡ 3 ∷ rest → modify_head_in rest ≡ Some (modify, count, tail) → wishes_in count tail ≡ Some wishes
+pub modify_judged : (from rest : List ℕ) (modify : ModifySource) (count : ℕ) (tail : List ℕ) (wishes : List Wish) → IsOctets from → from ≡ 3 ∷ rest
+    → modify_head_in rest ≡ Some (modify, count, tail) → wishes_in count tail ≡ Some wishes
     → judged (modify_in rest) ≡ answered (modified modify wishes) (first_fault (or_place (modify_reserved modify) (reserved_in from count tail)) (twice_in 31 1 count tail))
 modify_judged from rest modify count tail wishes h parts e w =
     let t = modify_head_takes rest (modify, count, tail) (IsOctets-rest 3 rest (subst IsOctets parts h)) e in
@@ -190,32 +208,41 @@ modify_judged from rest modify count tail wishes h parts e w =
     ∙ judged_by (modified modify wishes) (first_fault (or_place (modify_reserved modify) (reserved_in from count tail)) (twice_in 31 1 count tail))
     (ap (λ (p : Option ℕ). first_fault p (twice_of wishes)) places ∙ ap (first_fault (or_place (modify_reserved modify) (reserved_in from count tail))) twice)
 
-modify_judged_some : (from rest : List ℕ) (modify : ModifySource) (count : ℕ) (tail : List ℕ) → IsOctets from → from ≡ 3 ∷ rest → modify_head_in rest ≡ Some (modify, count, tail) → is_some (wishes_in count tail) ≡ true
+modify_judged_some : (from rest : List ℕ) (modify : ModifySource) (count : ℕ) (tail : List ℕ) → IsOctets from → from ≡ 3 ∷ rest → modify_head_in rest ≡ Some (modify, count, tail)
+    → is_some (wishes_in count tail) ≡ true
     → (wishes : List Wish) × (judged (modify_in rest) ≡ answered (modified modify wishes) (first_fault (or_place (modify_reserved modify) (reserved_in from count tail)) (twice_in 31 1 count tail)))
 modify_judged_some from rest modify count tail h parts e some =
     let w = some_wishes (wishes_in count tail) some in
     (w.0, modify_judged from rest modify count tail w.0 h parts e w.1)
 
-pub modify_head_fault : (from rest : List ℕ) (modify : ModifySource) (count : ℕ) (tail : List ℕ) (place : ℕ) → IsOctets from → from ≡ 3 ∷ rest → modify_head_in rest ≡ Some (modify, count, tail) → is_some (wishes_in count tail) ≡ true → Some place ≡ modify_reserved modify → judged (modify_in rest) ≡ Err (Rfu place)
+pub modify_head_fault : (from rest : List ℕ) (modify : ModifySource) (count : ℕ) (tail : List ℕ) (place : ℕ) → IsOctets from → from ≡ 3 ∷ rest
+    → modify_head_in rest ≡ Some (modify, count, tail) → is_some (wishes_in count tail) ≡ true → Some place ≡ modify_reserved modify → judged (modify_in rest) ≡ Err (Rfu place)
 modify_head_fault from rest modify count tail place h parts e some r =
     let j = modify_judged_some from rest modify count tail h parts e some in
     head_fault (judged (modify_in rest)) (modified modify j.0) (modify_reserved modify) (reserved_in from count tail) (twice_in 31 1 count tail) place j.1 (sym r)
 
-pub modify_wishes_fault : (from rest : List ℕ) (modify : ModifySource) (count : ℕ) (tail : List ℕ) (fault : OpFault) → IsOctets from → from ≡ 3 ∷ rest → modify_head_in rest ≡ Some (modify, count, tail) → is_some (wishes_in count tail) ≡ true → None ≡ modify_reserved modify → Some fault ≡ first_fault (reserved_in from count tail) (twice_in 31 1 count tail) → Fails fault (judged (modify_in rest))
+pub modify_wishes_fault : (from rest : List ℕ) (modify : ModifySource) (count : ℕ) (tail : List ℕ) (fault : OpFault) → IsOctets from → from ≡ 3 ∷ rest
+    → modify_head_in rest ≡ Some (modify, count, tail) → is_some (wishes_in count tail) ≡ true → None ≡ modify_reserved modify
+    → Some fault ≡ first_fault (reserved_in from count tail) (twice_in 31 1 count tail) → Fails fault (judged (modify_in rest))
 modify_wishes_fault from rest modify count tail fault h parts e some r f =
     let j = modify_judged_some from rest modify count tail h parts e some in
     wishes_fault (judged (modify_in rest)) (modified modify j.0) (modify_reserved modify) (reserved_in from count tail) (twice_in 31 1 count tail) fault j.1 (sym r) f
 
-pub modify_is_operation : (from rest : List ℕ) (modify : ModifySource) (count : ℕ) (tail : List ℕ) → IsOctets from → from ≡ 3 ∷ rest → modify_head_in rest ≡ Some (modify, count, tail) → is_some (wishes_in count tail) ≡ true → None ≡ modify_reserved modify → None ≡ first_fault (reserved_in from count tail) (twice_in 31 1 count tail) → IsOk (judged (modify_in rest))
+pub modify_is_operation : (from rest : List ℕ) (modify : ModifySource) (count : ℕ) (tail : List ℕ) → IsOctets from → from ≡ 3 ∷ rest → modify_head_in rest ≡ Some (modify, count, tail)
+    → is_some (wishes_in count tail) ≡ true → None ≡ modify_reserved modify → None ≡ first_fault (reserved_in from count tail) (twice_in 31 1 count tail) → IsOk (judged (modify_in rest))
 modify_is_operation from rest modify count tail h parts e some r f =
     let j = modify_judged_some from rest modify count tail h parts e some in
     an_operation (judged (modify_in rest)) (modified modify j.0) (modify_reserved modify) (reserved_in from count tail) (twice_in 31 1 count tail) j.1 (sym r) f
 
-pub modify_done : (from rest : List ℕ) (modify : ModifySource) (count : ℕ) (tail : List ℕ) (wishes : List Wish) → IsOctets from → from ≡ 3 ∷ rest → modify_head_in rest ≡ Some (modify, count, tail) → wishes_in count tail ≡ Some wishes → None ≡ modify_reserved modify → None ≡ first_fault (reserved_in from count tail) (twice_in 31 1 count tail) → judged (modify_in rest) ≡ Ok (modified modify wishes)
+pub modify_done : (from rest : List ℕ) (modify : ModifySource) (count : ℕ) (tail : List ℕ) (wishes : List Wish) → IsOctets from → from ≡ 3 ∷ rest
+    → modify_head_in rest ≡ Some (modify, count, tail) → wishes_in count tail ≡ Some wishes → None ≡ modify_reserved modify
+    → None ≡ first_fault (reserved_in from count tail) (twice_in 31 1 count tail) → judged (modify_in rest) ≡ Ok (modified modify wishes)
 modify_done from rest modify count tail wishes h parts e w r f =
-    no_fault_left (judged (modify_in rest)) (modified modify wishes) (modify_reserved modify) (reserved_in from count tail) (twice_in 31 1 count tail) (modify_judged from rest modify count tail wishes h parts e w) (sym r) f
+    no_fault_left (judged (modify_in rest)) (modified modify wishes) (modify_reserved modify) (reserved_in from count tail) (twice_in 31 1 count tail)
+    (modify_judged from rest modify count tail wishes h parts e w) (sym r) f
 
-pub modify_tail : (from rest : List ℕ) (modify : ModifySource) (count : ℕ) (tail : List ℕ) → IsOctets from → from ≡ 3 ∷ rest → modify_head_in rest ≡ Some (modify, count, tail) → length tail ≤ length from
+pub modify_tail : (from rest : List ℕ) (modify : ModifySource) (count : ℕ) (tail : List ℕ) → IsOctets from → from ≡ 3 ∷ rest → modify_head_in rest ≡ Some (modify, count, tail)
+    → length tail ≤ length from
 modify_tail from rest modify count tail h parts e =
     let t = modify_head_takes rest (modify, count, tail) (IsOctets-rest 3 rest (subst IsOctets parts h)) e in
     omega (arith, ap length parts, ap length t.parts, modify_before-length modify count tail)

@@ -55,7 +55,8 @@ whole_some (Some (y, [])) x e = let same : y ≡ x = cc in ap (λ z. Some (z, []
 whole_some (Some (y, octet ∷ rest)) x e = absurd cc
 
 -- the subgroups that wishes were read of
-pub groups_of_wishes : (count : ℕ) (from : List ℕ) (wishes : List Wish) → wishes_in count from ≡ Some wishes → (groups : List Subgroup) × (subgroups_in count from ≡ Some (groups, [])) × (map wish_of groups ≡ wishes)
+pub groups_of_wishes : (count : ℕ) (from : List ℕ) (wishes : List Wish) → wishes_in count from ≡ Some wishes → (groups : List Subgroup) × (subgroups_in count from ≡ Some (groups, []))
+    × (map wish_of groups ≡ wishes)
 unfolding wishes_in
 groups_of_wishes count from wishes e =
     let a = bind_some (whole (subgroups_in count from)) (λ groups. Some (map wish_of groups)) wishes e in
@@ -77,7 +78,8 @@ wishes_take count from wishes h e =
 pub wishes_again : (wishes : List Wish) → AllByRecursion WishFits wishes → wishes_in (length wishes) (laid (flat_map wish_fields wishes)) ≡ Some wishes
 unfolding wishes_in
 wishes_again wishes h =
-    let read : subgroups_in (length (map group_of wishes)) (flat_map subgroup (map group_of wishes) ++ []) ≡ Some (map group_of wishes, []) = subgroups_again (map group_of wishes) [] (groups_fit wishes h) in
+    let read : subgroups_in (length (map group_of wishes)) (flat_map subgroup (map group_of wishes) ++ []) ≡ Some (map group_of wishes, []) =
+    subgroups_again (map group_of wishes) [] (groups_fit wishes h) in
     let octets : flat_map subgroup (map group_of wishes) ++ [] ≡ laid (flat_map wish_fields wishes) = append-nil (flat_map subgroup (map group_of wishes)) ∙ sym (wishes_laid wishes) in
     let there : subgroups_in (length wishes) (laid (flat_map wish_fields wishes)) ≡ Some (map group_of wishes, []) =
     ap (λ (n : ℕ). subgroups_in n (laid (flat_map wish_fields wishes))) (sym (length-groups wishes)) ∙ (ap (subgroups_in (length (map group_of wishes))) (sym octets) ∙ read) in

@@ -1,5 +1,6 @@
 -- The sum of octets by their places, and by what comes last.
-use Rattle.std.proofs.Common.{◌≡◌, ◌≤◌, ◌<◌, ℕ, ◌+◌, ◌*◌, ◌/◌, ◌%◌, ◌^◌, List, [], ◌∷◌, ◌++◌, length, sym, ◌∙◌, ap, refl, arith, add-zero, zero-add, zero, suc, ◌-◌, get_or, drop, drop-cons, take, bit_and, subst, length-take-le}
+use Rattle.std.proofs.Common.{◌≡◌, ◌≤◌, ◌<◌, ℕ, ◌+◌, ◌*◌, ◌/◌, ◌%◌, ◌^◌, List, [], ◌∷◌, ◌++◌, length, sym, ◌∙◌, ap, refl, arith, add-zero, zero-add, zero, suc, ◌-◌, get_or, drop}
+use Rattle.std.proofs.Common.{drop-cons, take, bit_and, subst, length-take-le}
 use Rattle.std.proofs.lemmas.Nat.{pow-add, pow_pos, mul-le, and_mask, div-add-mod', shr_below}
 use Rattle.std.proofs.lemmas.List.{take_more_set}
 use Rattle.std.proofs.Math.Nat.{pow-suc, le_refl}
@@ -34,7 +35,8 @@ octets_as_bits zero = refl
 octets_as_bits (suc k) = pow-suc 256 k ∙ ap (λ n. n * 256) (octets_as_bits k) ∙ (sym (pow-add 2 (8 * k) 8) ∙ ap (λ n. 2 ^ n) (sym (add_one_octet k)))
 
 -- what is read so far, with one octet more before it
-pub one_more_read : (from : List ℕ) (place value : ℕ) → place < length from → value ≡ sum_from 0 (drop (length from - place) from) → value * 256 + get_or from (length from - 1 - place) 0 ≡ sum_from 0 (drop (length from - (place + 1)) from)
+pub one_more_read : (from : List ℕ) (place value : ℕ) → place < length from → value ≡ sum_from 0 (drop (length from - place) from)
+    → value * 256 + get_or from (length from - 1 - place) 0 ≡ sum_from 0 (drop (length from - (place + 1)) from)
 one_more_read from place value inside so_far =
     let at : suc (length from - (place + 1)) ≡ length from - place = omega arith in
     let i : length from - 1 - place ≡ length from - (place + 1) = omega arith in
@@ -69,16 +71,20 @@ spread : (s p q m : ℕ) → s + p * (q * 256 + m) ≡ s + m * p + p * 256 * q
 spread s p q m = omega arith
 
 -- the octet that is written next stands above those written, and what is left above it
-pub one_more_written : (value place rest : ℕ) (into : List ℕ) → place < length into → value ≡ sum_from 0 (take place into) + 2 ^ (8 * place) * rest → value ≡ sum_from 0 (take (place + 1) (set into place (bit_and rest 255))) + 2 ^ (8 * (place + 1)) * (rest / 256)
+pub one_more_written : (value place rest : ℕ) (into : List ℕ) → place < length into → value ≡ sum_from 0 (take place into) + 2 ^ (8 * place) * rest
+    → value ≡ sum_from 0 (take (place + 1) (set into place (bit_and rest 255))) + 2 ^ (8 * (place + 1)) * (rest / 256)
 one_more_written value place rest into inside so_far =
     let low : bit_and rest 255 ≡ rest % 256 = and_mask rest 8 in
     let whole : rest / 256 * 256 + rest % 256 ≡ rest = div-add-mod' rest 256 in
     let counted : length (take place into) ≡ place = length-take-le place into (omega arith) in
     let last : sum_from (0 + length (take place into)) (bit_and rest 255 ∷ []) ≡ rest % 256 * 2 ^ (8 * place) =
-    ap (λ n. sum_from n (bit_and rest 255 ∷ [])) (zero-add (length (take place into)) ∙ counted) ∙ (add-zero (bit_and rest 255 * 256 ^ place) ∙ (ap (λ n. n * 256 ^ place) low ∙ ap (λ n. rest % 256 * n) (octets_as_bits place))) in
+    ap (λ n. sum_from n (bit_and rest 255 ∷ [])) (zero-add (length (take place into)) ∙ counted)
+    ∙ (add-zero (bit_and rest 255 * 256 ^ place) ∙ (ap (λ n. n * 256 ^ place) low ∙ ap (λ n. rest % 256 * n) (octets_as_bits place))) in
     let taken : sum_from 0 (take (place + 1) (set into place (bit_and rest 255))) ≡ sum_from 0 (take place into) + rest % 256 * 2 ^ (8 * place) =
     ap (sum_from 0) (take_more_set into place (bit_and rest 255) inside) ∙ (sum_from-append 0 (take place into) (bit_and rest 255 ∷ []) ∙ ap (λ n. sum_from 0 (take place into) + n) last) in
-    so_far ∙ (ap (λ n. sum_from 0 (take place into) + 2 ^ (8 * place) * n) (sym whole) ∙ (spread (sum_from 0 (take place into)) (2 ^ (8 * place)) (rest / 256) (rest % 256) ∙ sym (ap (λ n. n + 2 ^ (8 * (place + 1)) * (rest / 256)) taken ∙ ap (λ n. sum_from 0 (take place into) + rest % 256 * 2 ^ (8 * place) + n * (rest / 256)) (eight_more place))))
+    so_far ∙ (ap (λ n. sum_from 0 (take place into) + 2 ^ (8 * place) * n) (sym whole)
+    ∙ (spread (sum_from 0 (take place into)) (2 ^ (8 * place)) (rest / 256) (rest % 256)
+    ∙ sym (ap (λ n. n + 2 ^ (8 * (place + 1)) * (rest / 256)) taken ∙ ap (λ n. sum_from 0 (take place into) + rest % 256 * 2 ^ (8 * place) + n * (rest / 256)) (eight_more place))))
 
 -- the bits that are left are 8 fewer
 pub small_rest : (place total rest : ℕ) → place < total → rest < 2 ^ (8 * (total - place)) → rest / 256 < 2 ^ (8 * (total - (place + 1)))

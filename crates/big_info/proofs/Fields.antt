@@ -19,12 +19,12 @@ above_digit m a x b y p q e =
     sym (div-mul-add x m a p) ∙ ap (λ (n : ℕ). n / m) turned ∙ div-mul-add y m b q
 
 -- fields of these bits, one above the other
-abbrev stacked : List ℕ → List ℕ → ℕ
+abbrev pub stacked : List ℕ → List ℕ → ℕ
 stacked [] values = 0
 stacked (bits ∷ others) [] = 0
 stacked (bits ∷ others) (value ∷ values) = value + 2 ^ bits * stacked others values
 
-abbrev AllFit : List ℕ → List ℕ → Type 0
+abbrev pub AllFit : List ℕ → List ℕ → Type 0
 AllFit [] [] = Unit {0}
 AllFit [] (value ∷ values) = ⊥
 AllFit (bits ∷ others) [] = ⊥
@@ -42,16 +42,16 @@ stacked_once (b ∷ bs) (x ∷ xs) (y ∷ ys) h k e =
     ap (λ (n : ℕ). n ∷ xs) low ∙ ap (λ (ns : List ℕ). y ∷ ns) rest
 
 -- the table of the BIGInfo, RFU among it
-abbrev widths : List ℕ
+abbrev pub widths : List ℕ
 widths = 14 ∷ 1 ∷ 12 ∷ 5 ∷ 5 ∷ 3 ∷ 20 ∷ 4 ∷ 20 ∷ 4 ∷ 8 ∷ 8 ∷ 32 ∷ 20 ∷ 12 ∷ 16 ∷ 37 ∷ 3 ∷ 39 ∷ 1 ∷ []
 
-abbrev values : BigInfo → ℕ → List ℕ
+abbrev pub values : BigInfo → ℕ → List ℕ
 values info rfu =
     info.big_offset ∷ info.big_offset_units ∷ info.iso_interval ∷ info.num_bis ∷ info.nse ∷ info.bn ∷ info.sub_interval ∷ info.pto ∷
     info.bis_spacing ∷ info.irc ∷ info.max_pdu ∷ rfu ∷ info.seed_access_address ∷ info.sdu_interval ∷ info.max_sdu ∷
     info.base_crc_init ∷ info.chm ∷ info.phy ∷ info.bis_payload_count ∷ info.framing ∷ []
 
-abbrev rebuilt : List ℕ → Option Cipher → BigInfo
+abbrev pub rebuilt : List ℕ → Option Cipher → BigInfo
 rebuilt xs cipher = record {
   big_offset = get_or xs 0 0;
   big_offset_units = get_or xs 1 0;
@@ -75,12 +75,32 @@ rebuilt xs cipher = record {
   cipher = cipher;
 }
 
-number-stacked : (info : BigInfo) (rfu : ℕ) → number_of info rfu ≡ stacked widths (values info rfu)
+pub number-stacked : (info : BigInfo) (rfu : ℕ) → number_of info rfu ≡ stacked widths (values info rfu)
 number-stacked info rfu = omega arith
 
-all_fit : (info : BigInfo) (rfu : ℕ) → FitsWidths info → rfu < 2 ^ 8 → AllFit widths (values info rfu)
-all_fit info rfu h k =
-    (h.big_offset, (h.big_offset_units, (h.iso_interval, (h.num_bis, (h.nse, (h.bn, (h.sub_interval, (h.pto, (h.bis_spacing, (h.irc, (h.max_pdu, (k, (h.seed_access_address, (h.sdu_interval, (h.max_sdu, (h.base_crc_init, (h.chm, (h.phy, (h.bis_payload_count, (h.framing, tt))))))))))))))))))))
+pub all_fit : (info : BigInfo) (rfu : ℕ) → FitsWidths info → rfu < 2 ^ 8 → AllFit widths (values info rfu)
+all_fit info rfu h k = (
+  h.big_offset,
+  (
+    h.big_offset_units,
+    (
+      h.iso_interval,
+      (
+        h.num_bis,
+        (
+          h.nse,
+          (
+            h.bn,
+            (
+              h.sub_interval,
+              (h.pto, (h.bis_spacing, (h.irc, (h.max_pdu, (k, (h.seed_access_address, (h.sdu_interval, (h.max_sdu, (h.base_crc_init, (h.chm, (h.phy, (h.bis_payload_count, (h.framing, tt))))))))))))),
+            ),
+          ),
+        ),
+      ),
+    ),
+  ),
+)
 
 -- octets are of one info alone
 pub one_info : (one other : BigInfo) (r s : ℕ) (octets : List ℕ) → Spells one r octets → Spells other s octets → one ≡ other

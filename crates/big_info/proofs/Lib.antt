@@ -4,4 +4,5 @@ pub mod Sums
 pub mod Words
 pub mod Ciphers
 pub mod Fields
+pub mod Cuts
 pub mod Spellings

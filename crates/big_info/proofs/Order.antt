@@ -4,7 +4,8 @@ use Rattle.std.specs.List.{find}
 use Rattle.std.proofs.lemmas.Bool.Decides.{nat_tests}
 use Rattle.big_info.specs.declared.info.BigInfo.{BigInfo}
 use Rattle.big_info.specs.declared.fault.GroupFault.{GroupFault}
-use Rattle.big_info.specs.declared.fault.GroupFault.TheVariants.{RangeIso, RangeSdu, RangePdu, Bn, NseNotMultiple, Irc, PhyNotSupported, FramedPduSmall, UnframedMultiple, UnframedBn, Horizon, SubInterval, SyncDelay, Encrypted}
+use Rattle.big_info.specs.declared.fault.GroupFault.TheVariants.{RangeIso, RangeSdu, RangePdu, Bn, NseNotMultiple, Irc, PhyNotSupported, FramedPduSmall, UnframedMultiple}
+use Rattle.big_info.specs.declared.fault.GroupFault.TheVariants.{UnframedBn, Horizon, SubInterval, SyncDelay, Encrypted}
 use Rattle.big_info.specs.Faults.{faults, number_of}
 use Rattle.big_info.specs.Rows.{has_fault, first_fault, NoFault, IsFirstFault}
 
@@ -57,17 +58,124 @@ find_first test RangePdu this before = rw (before RangeIso (lit< tt), before Ran
 find_first test Bn this before = rw (before RangeIso (lit< tt), before RangeSdu (lit< tt), before RangePdu (lit< tt), this) refl
 find_first test NseNotMultiple this before = rw (before RangeIso (lit< tt), before RangeSdu (lit< tt), before RangePdu (lit< tt), before Bn (lit< tt), this) refl
 find_first test Irc this before = rw (before RangeIso (lit< tt), before RangeSdu (lit< tt), before RangePdu (lit< tt), before Bn (lit< tt), before NseNotMultiple (lit< tt), this) refl
-find_first test PhyNotSupported this before = rw (before RangeIso (lit< tt), before RangeSdu (lit< tt), before RangePdu (lit< tt), before Bn (lit< tt), before NseNotMultiple (lit< tt), before Irc (lit< tt), this) refl
-find_first test FramedPduSmall this before = rw (before RangeIso (lit< tt), before RangeSdu (lit< tt), before RangePdu (lit< tt), before Bn (lit< tt), before NseNotMultiple (lit< tt), before Irc (lit< tt), before PhyNotSupported (lit< tt), this) refl
-find_first test UnframedMultiple this before = rw (before RangeIso (lit< tt), before RangeSdu (lit< tt), before RangePdu (lit< tt), before Bn (lit< tt), before NseNotMultiple (lit< tt), before Irc (lit< tt), before PhyNotSupported (lit< tt), before FramedPduSmall (lit< tt), this) refl
-find_first test UnframedBn this before = rw (before RangeIso (lit< tt), before RangeSdu (lit< tt), before RangePdu (lit< tt), before Bn (lit< tt), before NseNotMultiple (lit< tt), before Irc (lit< tt), before PhyNotSupported (lit< tt), before FramedPduSmall (lit< tt), before UnframedMultiple (lit< tt), this) refl
-find_first test Horizon this before = rw (before RangeIso (lit< tt), before RangeSdu (lit< tt), before RangePdu (lit< tt), before Bn (lit< tt), before NseNotMultiple (lit< tt), before Irc (lit< tt), before PhyNotSupported (lit< tt), before FramedPduSmall (lit< tt), before UnframedMultiple (lit< tt), before UnframedBn (lit< tt), this) refl
-find_first test SubInterval this before = rw (before RangeIso (lit< tt), before RangeSdu (lit< tt), before RangePdu (lit< tt), before Bn (lit< tt), before NseNotMultiple (lit< tt), before Irc (lit< tt), before PhyNotSupported (lit< tt), before FramedPduSmall (lit< tt), before UnframedMultiple (lit< tt), before UnframedBn (lit< tt), before Horizon (lit< tt), this) refl
-find_first test SyncDelay this before = rw (before RangeIso (lit< tt), before RangeSdu (lit< tt), before RangePdu (lit< tt), before Bn (lit< tt), before NseNotMultiple (lit< tt), before Irc (lit< tt), before PhyNotSupported (lit< tt), before FramedPduSmall (lit< tt), before UnframedMultiple (lit< tt), before UnframedBn (lit< tt), before Horizon (lit< tt), before SubInterval (lit< tt), this) refl
-find_first test Encrypted this before = rw (before RangeIso (lit< tt), before RangeSdu (lit< tt), before RangePdu (lit< tt), before Bn (lit< tt), before NseNotMultiple (lit< tt), before Irc (lit< tt), before PhyNotSupported (lit< tt), before FramedPduSmall (lit< tt), before UnframedMultiple (lit< tt), before UnframedBn (lit< tt), before Horizon (lit< tt), before SubInterval (lit< tt), before SyncDelay (lit< tt), this) refl
+find_first test PhyNotSupported this before =
+    rw (before RangeIso (lit< tt), before RangeSdu (lit< tt), before RangePdu (lit< tt), before Bn (lit< tt), before NseNotMultiple (lit< tt), before Irc (lit< tt), this) refl
+find_first test FramedPduSmall this before =
+    rw (
+      before RangeIso (lit< tt),
+      before RangeSdu (lit< tt),
+      before RangePdu (lit< tt),
+      before Bn (lit< tt),
+      before NseNotMultiple (lit< tt),
+      before Irc (lit< tt),
+      before PhyNotSupported (lit< tt),
+      this,
+    ) refl
+find_first test UnframedMultiple this before =
+    rw (
+      before RangeIso (lit< tt),
+      before RangeSdu (lit< tt),
+      before RangePdu (lit< tt),
+      before Bn (lit< tt),
+      before NseNotMultiple (lit< tt),
+      before Irc (lit< tt),
+      before PhyNotSupported (lit< tt),
+      before FramedPduSmall (lit< tt),
+      this,
+    ) refl
+find_first test UnframedBn this before =
+    rw (
+      before RangeIso (lit< tt),
+      before RangeSdu (lit< tt),
+      before RangePdu (lit< tt),
+      before Bn (lit< tt),
+      before NseNotMultiple (lit< tt),
+      before Irc (lit< tt),
+      before PhyNotSupported (lit< tt),
+      before FramedPduSmall (lit< tt),
+      before UnframedMultiple (lit< tt),
+      this,
+    ) refl
+find_first test Horizon this before =
+    rw (
+      before RangeIso (lit< tt),
+      before RangeSdu (lit< tt),
+      before RangePdu (lit< tt),
+      before Bn (lit< tt),
+      before NseNotMultiple (lit< tt),
+      before Irc (lit< tt),
+      before PhyNotSupported (lit< tt),
+      before FramedPduSmall (lit< tt),
+      before UnframedMultiple (lit< tt),
+      before UnframedBn (lit< tt),
+      this,
+    ) refl
+find_first test SubInterval this before =
+    rw (
+      before RangeIso (lit< tt),
+      before RangeSdu (lit< tt),
+      before RangePdu (lit< tt),
+      before Bn (lit< tt),
+      before NseNotMultiple (lit< tt),
+      before Irc (lit< tt),
+      before PhyNotSupported (lit< tt),
+      before FramedPduSmall (lit< tt),
+      before UnframedMultiple (lit< tt),
+      before UnframedBn (lit< tt),
+      before Horizon (lit< tt),
+      this,
+    ) refl
+find_first test SyncDelay this before =
+    rw (
+      before RangeIso (lit< tt),
+      before RangeSdu (lit< tt),
+      before RangePdu (lit< tt),
+      before Bn (lit< tt),
+      before NseNotMultiple (lit< tt),
+      before Irc (lit< tt),
+      before PhyNotSupported (lit< tt),
+      before FramedPduSmall (lit< tt),
+      before UnframedMultiple (lit< tt),
+      before UnframedBn (lit< tt),
+      before Horizon (lit< tt),
+      before SubInterval (lit< tt),
+      this,
+    ) refl
+find_first test Encrypted this before =
+    rw (
+      before RangeIso (lit< tt),
+      before RangeSdu (lit< tt),
+      before RangePdu (lit< tt),
+      before Bn (lit< tt),
+      before NseNotMultiple (lit< tt),
+      before Irc (lit< tt),
+      before PhyNotSupported (lit< tt),
+      before FramedPduSmall (lit< tt),
+      before UnframedMultiple (lit< tt),
+      before UnframedBn (lit< tt),
+      before Horizon (lit< tt),
+      before SubInterval (lit< tt),
+      before SyncDelay (lit< tt),
+      this,
+    ) refl
 
 find_none : (test : GroupFault → Bool) → ((fault : GroupFault) → IsFalse (test fault)) → find test faults ≡ None
-find_none test none = rw (none RangeIso, none RangeSdu, none RangePdu, none Bn, none NseNotMultiple, none Irc, none PhyNotSupported, none FramedPduSmall, none UnframedMultiple, none UnframedBn, none Horizon, none SubInterval, none SyncDelay, none Encrypted) refl
+find_none test none = rw (
+  none RangeIso,
+  none RangeSdu,
+  none RangePdu,
+  none Bn,
+  none NseNotMultiple,
+  none Irc,
+  none PhyNotSupported,
+  none FramedPduSmall,
+  none UnframedMultiple,
+  none UnframedBn,
+  none Horizon,
+  none SubInterval,
+  none SyncDelay,
+  none Encrypted,
+) refl
 
 -- the first fault is the one that is found
 pub first_found : (greatest : ℕ) (info : BigInfo) (fault : GroupFault) → IsFirstFault greatest info fault → first_fault greatest info ≡ Some fault

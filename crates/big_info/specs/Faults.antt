@@ -1,7 +1,8 @@
 -- The faults of a group in the order of test, numbered from 1.
 use Rattle.std.specs.Prelude.{ℕ, List, [], ◌∷◌}
 use Rattle.big_info.specs.declared.fault.GroupFault.{GroupFault}
-use Rattle.big_info.specs.declared.fault.GroupFault.TheVariants.{RangeIso, RangeSdu, RangePdu, Bn, NseNotMultiple, Irc, PhyNotSupported, FramedPduSmall, UnframedMultiple, UnframedBn, Horizon, SubInterval, SyncDelay, Encrypted}
+use Rattle.big_info.specs.declared.fault.GroupFault.TheVariants.{RangeIso, RangeSdu, RangePdu, Bn, NseNotMultiple, Irc, PhyNotSupported, FramedPduSmall, UnframedMultiple}
+use Rattle.big_info.specs.declared.fault.GroupFault.TheVariants.{UnframedBn, Horizon, SubInterval, SyncDelay, Encrypted}
 
 abbrev pub faults : List GroupFault
 faults =

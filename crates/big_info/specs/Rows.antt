@@ -4,7 +4,8 @@ use Rattle.std.specs.Prelude.{ℕ, ◌+◌, ◌*◌, ◌%◌, ◌<◌, Bool, not
 use Rattle.std.specs.List.{find}
 use Rattle.big_info.specs.declared.info.BigInfo.{BigInfo}
 use Rattle.big_info.specs.declared.fault.GroupFault.{GroupFault}
-use Rattle.big_info.specs.declared.fault.GroupFault.TheVariants.{RangeIso, RangeSdu, RangePdu, Bn, NseNotMultiple, Irc, PhyNotSupported, FramedPduSmall, UnframedMultiple, UnframedBn, Horizon, SubInterval, SyncDelay, Encrypted}
+use Rattle.big_info.specs.declared.fault.GroupFault.TheVariants.{RangeIso, RangeSdu, RangePdu, Bn, NseNotMultiple, Irc, PhyNotSupported, FramedPduSmall, UnframedMultiple}
+use Rattle.big_info.specs.declared.fault.GroupFault.TheVariants.{UnframedBn, Horizon, SubInterval, SyncDelay, Encrypted}
 use Rattle.big_info.specs.Faults.{faults, number_of}
 use Rattle.big_info.specs.Schedule.{group_count, horizon_of, per_event_of, per_unit_of}
 use Rattle.big_info.specs.Time.{iso_us_of, mpt_of, sync_delay_of}

@@ -1,7 +1,9 @@
-ghost use Rattle.std.specs.Prelude.{◌≡◌, ◌≢◌, ◌≤◌, length, take, slice_index, IfOk, OnErr, Some};
+ghost use Rattle.std.specs.Prelude.{◌≡◌, ◌≢◌, ◌≤◌, length, take, slice_index, IfOk, OnErr, Ok, Some};
 ghost use Rattle.bcast_base.specs.Numbers.{Le};
 ghost use Rattle.big_info.specs.Layout.{BigIs, CipherIs, number_of};
+ghost use Rattle.big_info.specs.Reading.{info_of};
 ghost use Rattle.big_info.specs.Widths.{FitsWidths};
+ghost use Rattle.big_info.specs.declared.info.BigInfo.{BigInfo};
 
 use crate::big_fault::BigFault;
 use crate::info::{BigInfo, Cipher};
@@ -10,6 +12,16 @@ use crate::word::{bits, word};
 /// Reads a BIGInfo of 33 octets, or of 57 where the group is encrypted (Core 5.2, volume 6 part B, section 4.4.6.11). The
 /// RFU octet is free. It is refused for its length alone.
 pub fn decode_big_info(from: &[u8]) -> Result<BigInfo, BigFault>
+    ensures exact { result ≡ info_of from.now }
+    ensures layout { IfOk result (λ info. BigIs info from.now) }
+    ensures only { (info : BigInfo) → BigIs info from.now → result ≡ Ok info }
+    ensures length { OnErr result ((length from.now ≢ 33) × (length from.now ≢ 57)) }
+{
+    read_info(from)
+}
+
+// By the length.
+fn read_info(from: &[u8]) -> Result<BigInfo, BigFault>
     ensures layout { IfOk result (λ info. BigIs info from.now) }
     ensures length { OnErr result ((length from.now ≢ 33) × (length from.now ≢ 57)) }
 {

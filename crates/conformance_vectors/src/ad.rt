@@ -1,5 +1,7 @@
 //! AD lists of public test programs (BlueZ 5.82, unit tests of extended inquiry responses) and of announcements.
-use base_grammar::{AdShort, broadcast_id, service_data, structure};
+use base_grammar::{AdShort, broadcast_id, service_data, structure, write_ad};
+use bcast_base::Octets;
+use std::test::Fail;
 
 const GIGASET: [u8; 240] = [
     0x0b, 0x03, 0x01, 0x11, 0x05, 0x11, 0x12, 0x11, 0x03, 0x12, 0x1f, 0x11, 0x0f, 0x09, 0x4d, 0x61,
@@ -145,11 +147,33 @@ fn a_beacon_cut_short_is_no_list(rt: HostRuntime) {
 }
 
 #[test]
-fn an_announcement_has_its_broadcast_id(rt: HostRuntime) {
-    assert_eq!(rt;
-        broadcast_id(&[0x06, 0x16, 0x52, 0x18, 0x56, 0x34, 0x12]),
-        Some([0x56, 0x34, 0x12])
+fn a_length_of_0_ends_a_list(rt: HostRuntime) {
+    let Ok(Some(flags)) = structure(&[0x02, 0x01, 0x06, 0x00, 0xff], 0x01) else {
+        return assert!(rt; false);
+    };
+    assert_eq!(rt; flags, [0x06].as_slice());
+    assert!(rt;
+        matches!(
+            structure(&[0x02, 0x01, 0x06, 0x02], 0x01),
+            Err(AdShort { place: 3 })
+        )
     );
+}
+
+// The Broadcast_ID 0x123456 as Service Data of UUID 0x1852.
+const ANNOUNCEMENT: [u8; 7] = [0x06, 0x16, 0x52, 0x18, 0x56, 0x34, 0x12];
+
+#[test]
+fn a_structure_is_written(rt: HostRuntime) -> Result<(), Fail> {
+    let mut ext = Octets::new(rt.alloc());
+    write_ad(&mut ext, 0x16, &[0x52, 0x18, 0x56, 0x34, 0x12])?;
+    assert_eq!(rt; ext.as_slice(), ANNOUNCEMENT.as_slice());
+    Ok(())
+}
+
+#[test]
+fn an_announcement_has_its_broadcast_id(rt: HostRuntime) {
+    assert_eq!(rt; broadcast_id(&ANNOUNCEMENT), Some([0x56, 0x34, 0x12]));
     assert_eq!(rt; broadcast_id(&[]), None);
     assert_eq!(rt; broadcast_id(&[0x06, 0x16, 0x52, 0x18]), None);
 }

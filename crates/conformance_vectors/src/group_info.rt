@@ -1,6 +1,5 @@
-//! Fields of a BIGInfo at their greatest, and control payloads.
+//! Fields of a BIGInfo at their greatest.
 use big_info::decode_big_info;
-use iso_pdu::{Control, ControlFault, read_control};
 use std::test::Fail;
 
 #[test]
@@ -32,18 +31,4 @@ fn every_field_is_read_at_its_greatest(rt: HostRuntime) -> Result<(), Fail> {
         (1048575, 4095, 7)
     );
     Ok(())
-}
-
-#[test]
-fn control_payloads_are_read(rt: HostRuntime) {
-    let terminate = Control::Terminate {
-        reason: 19,
-        instant: 1,
-    };
-    assert_eq!(rt; read_control(&[1, 19, 1, 0]), Ok(terminate));
-    assert_eq!(rt; read_control(&[0; 8]), Ok(Control::ChannelMap));
-    assert_eq!(rt; read_control(&[]), Err(ControlFault::Opcode));
-    assert_eq!(rt; read_control(&[2]), Err(ControlFault::Opcode));
-    assert_eq!(rt; read_control(&[1, 19, 1]), Err(ControlFault::ControlLength));
-    assert_eq!(rt; read_control(&[0; 9]), Err(ControlFault::ControlLength));
 }

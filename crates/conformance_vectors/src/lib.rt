@@ -1,4 +1,4 @@
-//! Octets and their meanings from outside, as tests of the codecs.
+//! Octets and their meanings from outside, as tests of the codecs, and their calls that take memory.
 #![tactic(auto)]
 
 #[cfg(test)]
@@ -7,6 +7,8 @@ mod ad;
 mod base;
 #[cfg(test)]
 mod bluez;
+#[cfg(test)]
+mod calls;
 #[cfg(test)]
 mod group_info;
 #[cfg(test)]

@@ -1,5 +1,6 @@
 -- Control payloads: reading and layout agree.
-use Rattle.std.proofs.Common.{◌≡◌, ℕ, zero, suc, ◌+◌, ◌*◌, ◌/◌, ◌%◌, List, [], ◌∷◌, ◌++◌, length, take, drop, eqb, true, refl, arith, sym, ap, subst, inl, inr, length-append, length-take, length-drop, take-append-drop, Result, Ok, Err}
+use Rattle.std.proofs.Common.{◌≡◌, ℕ, zero, suc, ◌+◌, ◌*◌, ◌/◌, ◌%◌, List, [], ◌∷◌, ◌++◌, length, take, drop, eqb, true, refl, arith, sym, ap, subst, inl, inr, length-append}
+use Rattle.std.proofs.Common.{length-take, length-drop, take-append-drop, Result, Ok, Err}
 use Rattle.std.specs.Prelude.{IfOk, IfErr}
 use Rattle.std.proofs.lemmas.Bool.{cases_Bool, eqb-true, eqb-false, eq-eqb, ne_eqb}
 use Rattle.bcast_base.specs.Numbers.{Le}

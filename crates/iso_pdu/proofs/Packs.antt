@@ -49,9 +49,11 @@ put_spelled : (max_pdu len : ℕ) (octets : List ℕ) (len' : ℕ) (octets' : Li
 put_spelled max_pdu len octets len' octets' part header offset body packed seen whole sound spelled room len'_is put =
     let long : length (segment part) ≡ 2 + length offset + length body = rw spelled (omega (arith, length-append offset body)) in
     let room_is : room_in (packed_in max_pdu len octets) ≡ room_in packed = ap room_in seen in
-    put_packed max_pdu len octets len' octets' part whole sound (omega (arith, long, room_is, room)) (omega (arith, long)) (omega (arith, long, len'_is)) (put ∙ ap (λ (os : List ℕ). take len octets ++ os) (sym spelled))
+    put_packed max_pdu len octets len' octets' part whole sound (omega (arith, long, room_is, room)) (omega (arith, long)) (omega (arith, long, len'_is))
+    (put ∙ ap (λ (os : List ℕ). take len octets ++ os) (sym spelled))
 
-pub put_start_packed : (max_pdu len : ℕ) (octets : List ℕ) (len' : ℕ) (octets' : List ℕ) (time header : ℕ) (complete : Bool) (offset body : List ℕ) (packed : Packed) → packed_in max_pdu len octets ≡ packed
+pub put_start_packed : (max_pdu len : ℕ) (octets : List ℕ) (len' : ℕ) (octets' : List ℕ) (time header : ℕ) (complete : Bool) (offset body : List ℕ) (packed : Packed)
+    → packed_in max_pdu len octets ≡ packed
     → length octets ≡ 251 → IsPacked max_pdu len octets → offset ≡ offset_octets time → header ≡ 0 + 2 * bit complete → 5 + length body ≤ room_in packed
     → len' ≡ len + 2 + length offset + length body → take len' octets' ≡ take len octets ++ header ∷ (length offset + length body) ∷ (offset ++ body)
     → Puts max_pdu len octets len' octets' (start time complete body)
@@ -81,7 +83,14 @@ written octets len header count offset part k n m room k_is n_is m_is =
     let first_len : length first ≡ length octets = simp length-set in
     let second_len : length second ≡ length octets = simp length-set in
     let third_len : length (put_mid (len + 2) n second offset) ≡ length octets =
-    omega (arith, length-append (take (len + 2) second) (offset ++ drop n (drop (len + 2) second)), length-append offset (drop n (drop (len + 2) second)), length-take (len + 2) second, length-drop n (drop (len + 2) second), length-drop (len + 2) second) in
+    omega (
+      arith,
+      length-append (take (len + 2) second) (offset ++ drop n (drop (len + 2) second)),
+      length-append offset (drop n (drop (len + 2) second)),
+      length-take (len + 2) second,
+      length-drop n (drop (len + 2) second),
+      length-drop (len + 2) second,
+    ) in
     let one : take (len + 1) first ≡ take len octets ++ header ∷ [] = take_more_set octets len header (omega arith) in
     let two : take (len + 1 + 1) second ≡ take (len + 1) first ++ count ∷ [] = take_more_set first (len + 1) count (omega arith) in
     let sum : len + 1 + 1 ≡ len + 2 = omega arith in

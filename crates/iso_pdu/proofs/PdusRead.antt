@@ -1,5 +1,6 @@
 -- A PDU is read as the layout says, its fault is the one at the cut, and what is written is read.
-use Rattle.std.proofs.Common.{◌≡◌, ℕ, zero, suc, ◌+◌, ◌*◌, ◌%◌, ◌<◌, ◌≤◌, ◌⊎◌, ◌&&◌, Bool, true, false, cond, eqb, ltb, List, [], ◌∷◌, ◌++◌, length, take, drop, Option, Some, None, Result, Ok, Err, refl, sym, ap, ◌∙◌, subst, inl, inr, arith, append_assoc, length-append, length-take, length-drop, take-append-drop}
+use Rattle.std.proofs.Common.{◌≡◌, ℕ, zero, suc, ◌+◌, ◌*◌, ◌%◌, ◌<◌, ◌≤◌, ◌⊎◌, ◌&&◌, Bool, true, false, cond, eqb, ltb, List, [], ◌∷◌, ◌++◌, length, take, drop, Option, Some}
+use Rattle.std.proofs.Common.{None, Result, Ok, Err, refl, sym, ap, ◌∙◌, subst, inl, inr, arith, append_assoc, length-append, length-take, length-drop, take-append-drop}
 use Rattle.std.proofs.lemmas.Bool.{and_parts, cases_Bool, ltb-true, ltb-false, le-ltb, lt-ltb, eqb-true, eqb-false, eq-eqb, ne_eqb}
 use Rattle.std.specs.List.{AllByRecursion}
 use Rattle.bcast_base.specs.Numbers.{Le}
@@ -135,14 +136,16 @@ FaultFrom from TooLong octets = ⊥
 FaultFrom from (SegmentShort place) octets = CutFrom StandsShort from place octets
 FaultFrom from (SegmentNoOffset place) octets = CutFrom StandsNoOffset from place octets
 
-cut_later : (P : List ℕ → Type 0) (from place : ℕ) (part : Part) (first others octets : List ℕ) → SegmentIs part first → octets ≡ first ++ others → CutFrom P (from + length first) place others → CutFrom P from place octets
+cut_later : (P : List ℕ → Type 0) (from place : ℕ) (part : Part) (first others octets : List ℕ) → SegmentIs part first → octets ≡ first ++ others
+    → CutFrom P (from + length first) place others → CutFrom P from place octets
 cut_later P from place part first others octets is whole cut =
     let front = cut.1 in
     let there : from + length (first ++ front) ≡ place = omega (arith, length-append first front, cut.4) in
     let joined : octets ≡ (first ++ front) ++ cut.2 = whole ∙ ap (λ (os : List ℕ). first ++ os) cut.6 ∙ sym (append_assoc first front cut.2) in
     (part ∷ cut.0, first ++ front, cut.2, (first, front, is, cut.3, refl), there, cut.5, joined)
 
-fault_later : (fault : PduFault) (from : ℕ) (part : Part) (first others octets : List ℕ) → SegmentIs part first → octets ≡ first ++ others → FaultFrom (from + length first) fault others → FaultFrom from fault octets
+fault_later : (fault : PduFault) (from : ℕ) (part : Part) (first others octets : List ℕ) → SegmentIs part first → octets ≡ first ++ others → FaultFrom (from + length first) fault others
+    → FaultFrom from fault octets
 fault_later Short from part first others octets is whole h = absurd h
 fault_later LengthDiffers from part first others octets is whole h = absurd h
 fault_later TooLong from part first others octets is whole h = absurd h
@@ -209,7 +212,8 @@ fault_within (suc n) from (header ∷ count ∷ octets) fault h e =
           let long : length body ≡ count = omega (arith, length-take count octets, fits.0) in
           let read : before (part_at header body) (parts_from (from + (count + 2)) zero (drop count octets)) ≡ Err fault = sym (parts_from-whole from header count octets none) ∙ e in
           let there : from + (count + 2) ≡ from + length (header ∷ count ∷ body) = omega arith in
-          let behind : parts_from (from + length (header ∷ count ∷ body)) zero (drop count octets) ≡ Err fault = rw (← there) (before_err (part_at header body) (parts_from (from + (count + 2)) zero (drop count octets)) fault read) in
+          let behind : parts_from (from + length (header ∷ count ∷ body)) zero (drop count octets) ≡ Err fault =
+          rw (← there) (before_err (part_at header body) (parts_from (from + (count + 2)) zero (drop count octets)) fault read) in
           let is : SegmentIs (part_at header body) (header ∷ count ∷ body) = (header, body, part_at-is header body (λ even. rw long (fits.1 even)), ap (λ (k : ℕ). header ∷ k ∷ body) (sym long)) in
           let whole : header ∷ count ∷ octets ≡ (header ∷ count ∷ body) ++ drop count octets = ap (λ (os : List ℕ). header ∷ count ∷ os) (sym (take-append-drop count octets)) in
           fault_later fault from (part_at header body) (header ∷ count ∷ body) (drop count octets) (header ∷ count ∷ octets) is whole
@@ -219,7 +223,8 @@ fault_within (suc n) from (header ∷ count ∷ octets) fault h e =
 cut_from_start : (P : List ℕ → Type 0) (place : ℕ) (payload : List ℕ) → CutFrom P 0 place payload → AtCut P place payload
 cut_from_start P place payload cut = (cut.0, cut.1, cut.2, cut.3, omega (arith, cut.4), cut.5, cut.6)
 
-framed_fault : (max_pdu header : ℕ) (payload : List ℕ) (fault : PduFault) → length payload ≤ max_pdu → header % 4 ≡ 2 → FaultFrom 0 fault payload → FaultIs max_pdu fault (header ∷ length payload ∷ payload)
+framed_fault : (max_pdu header : ℕ) (payload : List ℕ) (fault : PduFault) → length payload ≤ max_pdu → header % 4 ≡ 2 → FaultFrom 0 fault payload
+    → FaultIs max_pdu fault (header ∷ length payload ∷ payload)
 framed_fault max_pdu header payload Short within kind h = absurd h
 framed_fault max_pdu header payload LengthDiffers within kind h = absurd h
 framed_fault max_pdu header payload TooLong within kind h = absurd h
@@ -271,7 +276,8 @@ stands_no_offset place (header ∷ count ∷ octets) h =
     let lacks : ltb count 3 ≡ true = lt-ltb _ _ h.2 in
     rw (long, even, lacks) refl
 
-at_cut_read : (P : List ℕ → Type 0) (fault : ℕ → PduFault) (place : ℕ) (payload : List ℕ) → ((at : ℕ) (rest : List ℕ) → P rest → parts_from at zero rest ≡ Err (fault at)) → AtCut P place payload → parts_of payload ≡ Err (fault place)
+at_cut_read : (P : List ℕ → Type 0) (fault : ℕ → PduFault) (place : ℕ) (payload : List ℕ) → ((at : ℕ) (rest : List ℕ) → P rest → parts_from at zero rest ≡ Err (fault at))
+    → AtCut P place payload → parts_of payload ≡ Err (fault place)
 at_cut_read P fault place payload stands cut =
     let rest_read : parts_from (0 + length cut.1) zero cut.2 ≡ Err (fault (0 + length cut.1)) = stands (0 + length cut.1) cut.2 cut.5 in
     let there : 0 + length cut.1 ≡ place = omega (arith, cut.4) in
@@ -281,7 +287,8 @@ at_cut_read P fault place payload stands cut =
     ∙ befores-err cut.0 (fault (0 + length cut.1))
     ∙ ap (λ (p : ℕ). bad_parts (fault p)) there)
 
-in_framed_read : (P : List ℕ → Type 0) (fault : PduFault) (max_pdu : ℕ) (octets : List ℕ) → ((payload : List ℕ) → P payload → parts_of payload ≡ Err fault) → InFramed max_pdu P octets → read_of max_pdu octets ≡ Err fault
+in_framed_read : (P : List ℕ → Type 0) (fault : PduFault) (max_pdu : ℕ) (octets : List ℕ) → ((payload : List ℕ) → P payload → parts_of payload ≡ Err fault) → InFramed max_pdu P octets
+    → read_of max_pdu octets ≡ Err fault
 in_framed_read P fault max_pdu octets read is =
     let payload = is.1 in
     let faulty : parts_of payload ≡ Err fault = read payload is.4 in

@@ -1,7 +1,9 @@
 -- What a ring keeps, and how it changes.
-use Rattle.std.proofs.Common.{ℕ, zero, suc, ◌≡◌, ◌+◌, ◌-◌, ◌*◌, ◌<◌, ◌≤◌, true, cond, leb, ltb, List, [], ◌∷◌, ◌++◌, length, take, drop, set, replicate, get_or, Option, Some, None, is_some, refl, sym, ap, ◌∙◌, subst, inl, inr, arith}
+use Rattle.std.proofs.Common.{ℕ, zero, suc, ◌≡◌, ◌+◌, ◌-◌, ◌*◌, ◌<◌, ◌≤◌, true, cond, leb, ltb, List, [], ◌∷◌, ◌++◌, length, take, drop, set, replicate, get_or, Option, Some}
+use Rattle.std.proofs.Common.{None, is_some, refl, sym, ap, ◌∙◌, subst, inl, inr, arith}
 use Rattle.std.specs.List.{All, copy_within}
-use Rattle.std.proofs.lemmas.List.{take-take, take_at, drop_at, drop-drop, take-append-le, drop-append-le, length-take-le, length-append, drop_more, drop_all, length-drop, drop-take, append_assoc, length-take, length-replicate, get_or-take, get_or-drop}
+use Rattle.std.proofs.lemmas.List.{take-take, take_at, drop_at, drop-drop, take-append-le, drop-append-le, length-take-le, length-append, drop_more, drop_all, length-drop}
+use Rattle.std.proofs.lemmas.List.{drop-take, append_assoc, length-take, length-replicate, get_or-take, get_or-drop}
 use Rattle.std.specs.Option.{IfSome, option_map}
 use Rattle.std.proofs.Math.Nat.{add-mul}
 use Rattle.std.proofs.lemmas.Nat.{mul-le}

@@ -1,5 +1,6 @@
 -- What is read is spelled so, what is spelled so is read, and a fault is the one at the cut.
-use Rattle.std.proofs.Common.{◌≡◌, ℕ, zero, suc, ◌+◌, ◌<◌, ◌≤◌, ◌⊎◌, Bool, true, false, cond, ltb, List, [], ◌∷◌, ◌++◌, length, get_or, take, drop, Option, Some, None, Result, Ok, Err, refl, sym, ap, subst, ◌∙◌, append_assoc, arith, inl, inr, add-zero}
+use Rattle.std.proofs.Common.{◌≡◌, ℕ, zero, suc, ◌+◌, ◌<◌, ◌≤◌, ◌⊎◌, Bool, true, false, cond, ltb, List, [], ◌∷◌, ◌++◌, length, get_or, take, drop, Option, Some, None, Result, Ok}
+use Rattle.std.proofs.Common.{Err, refl, sym, ap, subst, ◌∙◌, append_assoc, arith, inl, inr, add-zero}
 use Rattle.std.specs.List.{AllByRecursion}
 use Rattle.std.proofs.lemmas.Bool.{cases_lt, lt-ltb, le-ltb, ltb-true}
 use Rattle.std.proofs.lemmas.List.{take_at, drop_at, take-append-drop, length-append, length-take, append-nil}
@@ -59,7 +60,8 @@ short_read place (suc count ∷ octets) h = rw (lt-ltb (length octets) (suc coun
 pub is_zero : (place : ℕ) (octets rest : List ℕ) → counted_in octets ≡ Some ([], rest) → IsBadAt place octets (ZeroLength place)
 is_zero place octets rest e = rw ((counted_takes octets [] rest e).parts) (zero_read place (0 ∷ rest) refl)
 
-not_counted : (count : ℕ) (octets : List ℕ) (b : Bool) → ltb (length octets) count ≡ b → cond {A = Option (List ℕ × List ℕ)} b None (Some (take count octets, drop count octets)) ≡ None → length octets < count
+not_counted : (count : ℕ) (octets : List ℕ) (b : Bool) → ltb (length octets) count ≡ b → cond {A = Option (List ℕ × List ℕ)} b None (Some (take count octets, drop count octets)) ≡ None
+    → length octets < count
 not_counted count octets true e n = ltb-true _ _ e
 not_counted count octets false e n = absurd cc
 
@@ -120,7 +122,8 @@ behind-more front ltv (Err bad) = refl
 spelled : (ltv : Ltv) (ltvs : List Ltv) (rest : List ℕ) → spelling (ltv ∷ ltvs) ++ rest ≡ (1 + length ltv.value) ∷ ltv.kind ∷ (ltv.value ++ (spelling ltvs ++ rest))
 spelled ltv ltvs rest = ap (λ (os : List ℕ). os ++ rest) (flat_map-cons structure ltv ltvs) ∙ append_assoc (structure ltv) (spelling ltvs) rest
 
-pub spelled_read : (place : ℕ) (ltvs : List Ltv) (rest : List ℕ) → AllByRecursion Fits ltvs → ltvs_from place zero (spelling ltvs ++ rest) ≡ behind ltvs (ltvs_from (place + length (spelling ltvs)) zero rest)
+pub spelled_read : (place : ℕ) (ltvs : List Ltv) (rest : List ℕ) → AllByRecursion Fits ltvs
+    → ltvs_from place zero (spelling ltvs ++ rest) ≡ behind ltvs (ltvs_from (place + length (spelling ltvs)) zero rest)
 spelled_read place [] rest h = ap (λ (p : ℕ). ltvs_from p zero rest) (sym (add-zero place)) ∙ sym (behind-none (ltvs_from (place + 0) zero rest))
 spelled_read place (ltv ∷ ltvs) rest h =
     let first = structure_read place (spelling (ltv ∷ ltvs) ++ rest) ltv.kind ltv.value (spelling ltvs ++ rest) (record { parts = spelled ltv ltvs rest; fits = h.0 }) in

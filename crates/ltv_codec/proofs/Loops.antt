@@ -1,7 +1,8 @@
 -- Reading structures one after the other, as a loop does.
-use Rattle.std.proofs.Common.{◌≡◌, ℕ, zero, suc, ◌+◌, ◌-◌, ◌<◌, ◌≤◌, Bool, true, false, cond, eqb, List, [], ◌∷◌, ◌++◌, length, get_or, take, drop, Some, None, Result, Ok, Err, refl, sym, ap, subst, ◌∙◌, arith}
+use Rattle.std.proofs.Common.{◌≡◌, ℕ, zero, suc, ◌+◌, ◌-◌, ◌<◌, ◌≤◌, Bool, true, false, cond, eqb, List, [], ◌∷◌, ◌++◌, length, get_or, take, drop, Some, None, Result, Ok, Err}
+use Rattle.std.proofs.Common.{refl, sym, ap, subst, ◌∙◌, arith}
 use Rattle.std.specs.Result.{result_err, result_unwrap_or}
-use Rattle.std.specs.Prelude.{OnOk, IfOk, IfErr}
+use Rattle.std.specs.Prelude.{OnOk, IfOk, IfErr, IsOk}
 use Rattle.std.proofs.lemmas.List.{length-append, append-nil, take_at}
 use Rattle.std.proofs.lemmas.Bool.{eqb-true}
 use Rattle.std.proofs.lemmas.Option.{same_Some}
@@ -10,14 +11,14 @@ use Rattle.ltv_codec.specs.declared.fault.LtvBad.TheVariants.{ZeroLength}
 use Rattle.ltv_codec.specs.declared.fault.LtvFault.{LtvFault}
 use Rattle.ltv_codec.specs.declared.fault.LtvFault.TheVariants as faults
 use Rattle.ltv_codec.specs.Faults.{IsBad, IsFault}
-use Rattle.ltv_codec.specs.Layout.{Fits, spelling, IsLtvList}
+use Rattle.ltv_codec.specs.Layout.{Fits, spelling, IsLtvList, AreLtvs}
 use Rattle.std.specs.List.{AllByRecursion}
 use Rattle.octet_fields.specs.Reading.{place_in, counted_in}
 use Rattle.ltv_codec.specs.declared.fault.LtvBad.{LtvBad}
 use Rattle.ltv_codec.specs.declared.ltvs.Ltv.{Ltv}
 use Rattle.ltv_codec.specs.Reading.{before, ltvs_from, ltvs_of, ltvs_in, bad_of, IsStructure, IsBadAt, Gives}
 use Rattle.ltv_codec.specs.Values.{first_of, first_in}
-use Rattle.ltv_codec.proofs.Lists.{made, behind, behind-more, structure_read, is_zero, is_structure, read_list, read_bad}
+use Rattle.ltv_codec.proofs.Lists.{made, behind, behind-more, structure_read, is_zero, is_structure, list_read, read_list, read_bad}
 
 -- ---- the rest of octets that are read
 
@@ -100,6 +101,13 @@ undecoded_next from list rest kind value others s u =
 pub undecoded_bad : (from : List ℕ) (list : List Ltv) (rest : List ℕ) (bad : LtvBad) → Undecoded from list rest → ltvs_from (place_in from rest) 0 rest ≡ Err bad → ltvs_of from ≡ Err bad
 undecoded_bad from list rest bad u e = sym u.same ∙ ap (behind list) e
 
+-- a list has no such rest
+pub undecoded_good : (from : List ℕ) (list : List Ltv) (rest : List ℕ) (bad : LtvBad) → bad_of from ≡ None → Undecoded from list rest
+    → ltvs_from (place_in from rest) 0 rest ≡ Err bad → ⊥
+undecoded_good from list rest bad good u e =
+    let found : Some bad ≡ None = sym (ap result_err (undecoded_bad from list rest bad u e)) ∙ good in
+    cc
+
 pub undecoded_none : (from : List ℕ) (list : List Ltv) (rest : List ℕ) → Undecoded from list rest → length rest ≡ 0 → ltvs_of from ≡ Ok list
 undecoded_none from list rest u h = sym u.same ∙ ap (behind list) (nothing_is_read (place_in from rest) rest h) ∙ ap (λ (ls : List Ltv). Ok ls) (append-nil list)
 
@@ -125,7 +133,8 @@ opened from kind rest found value others good s u =
     ∙ before-in (made found value) (ltvs_from (place_in from others) 0 others) (next.same ∙ good) in
     sym (ap (first_of kind) read) ∙ u.same
 
-pub unfound_next : (from : List ℕ) (kind : ℕ) (rest : List ℕ) (found : ℕ) (value others : List ℕ) → bad_of from ≡ None → eqb found kind ≡ false → IsStructure rest found value others → Unfound from kind rest
+pub unfound_next : (from : List ℕ) (kind : ℕ) (rest : List ℕ) (found : ℕ) (value others : List ℕ) → bad_of from ≡ None → eqb found kind ≡ false → IsStructure rest found value others
+    → Unfound from kind rest
     → Unfound from kind others
 unfound_next from kind rest found value others good e s u =
     record {
@@ -133,7 +142,8 @@ unfound_next from kind rest found value others good e s u =
       same = sym (ap (λ (b : Bool). cond b (Some value) (first_of kind (result_unwrap_or (ltvs_from (place_in from others) 0 others) []))) e) ∙ opened from kind rest found value others good s u;
     }
 
-pub unfound_found : (from : List ℕ) (kind : ℕ) (rest : List ℕ) (found : ℕ) (value others : List ℕ) → bad_of from ≡ None → eqb found kind ≡ true → IsStructure rest found value others → Unfound from kind rest
+pub unfound_found : (from : List ℕ) (kind : ℕ) (rest : List ℕ) (found : ℕ) (value others : List ℕ) → bad_of from ≡ None → eqb found kind ≡ true → IsStructure rest found value others
+    → Unfound from kind rest
     → first_in kind from ≡ Some value
 unfound_found from kind rest found value others good e s u =
     sym (opened from kind rest found value others good s u) ∙ ap (λ (b : Bool). cond b (Some value) (first_of kind (result_unwrap_or (ltvs_from (place_in from others) 0 others) []))) e
@@ -173,6 +183,17 @@ err_in (Err other) bad e = ap (λ (b : LtvBad). Err b) (same_Some other bad e)
 pub list_in : (octets : List ℕ) → IsOctets octets → bad_of octets ≡ None → IsLtvList (ltvs_in octets) octets
 list_in octets fits e = read_list (ltvs_in octets) octets fits (ok_in (ltvs_of octets) e)
 
+-- a list is read as one, and what is read as one is a list
+pub reads : (octets : List ℕ) → AreLtvs octets → bad_of octets ≡ None
+reads octets l = ap result_err (list_read l.ltvs octets l.list)
+
+pub are_read : (octets : List ℕ) → IsOctets octets → bad_of octets ≡ None → AreLtvs octets
+are_read octets fits e = record { ltvs = ltvs_in octets; list = list_in octets fits e }
+
+pub checked_are : (octets : List ℕ) (result : Result (Unit {0}) LtvBad) → IsOctets octets → result_err result ≡ bad_of octets → OnOk result (AreLtvs octets)
+checked_are octets (Ok _) fits e = are_read octets fits (sym e)
+checked_are octets (Err bad) fits e = tt
+
 pub checked_list : (octets : List ℕ) (result : Result (Unit {0}) LtvBad) → IsOctets octets → result_err result ≡ bad_of octets → OnOk result (IsLtvList (ltvs_in octets) octets)
 checked_list octets (Ok _) fits e = list_in octets fits (sym e)
 checked_list octets (Err bad) fits e = tt
@@ -181,13 +202,27 @@ pub checked_cut : (octets : List ℕ) (result : Result (Unit {0}) LtvBad) → Is
 checked_cut octets (Ok _) fits e = tt
 checked_cut octets (Err bad) fits e = read_bad bad octets fits (err_in (ltvs_of octets) bad (sym e))
 
+pub refused_given : (octets : List ℕ) (bad : LtvBad) → Some bad ≡ bad_of octets → ltvs_of octets ≡ Err bad
+refused_given octets bad e = err_in (ltvs_of octets) bad (sym e)
+
+is_ok : (read : Result (List Ltv) LtvBad) → result_err read ≡ None → IsOk read
+is_ok (Ok ltvs) e = refl
+is_ok (Err bad) e = absurd cc
+
+pub memory_given : (octets : List ℕ) → bad_of octets ≡ None → IsOk (ltvs_of octets)
+memory_given octets e = is_ok (ltvs_of octets) e
+
 pub decoded_list : (octets : List ℕ) (result : Result (List Ltv) LtvFault) → IsOctets octets → Gives result (ltvs_of octets) → IfOk result (λ ltvs. IsLtvList ltvs octets)
 decoded_list octets (Ok ltvs) fits given = read_list ltvs octets fits given
 decoded_list octets (Err fault) fits given = tt
 
+are_given : (octets : List ℕ) (read : Result (List Ltv) LtvBad) → IsOctets octets → ltvs_of octets ≡ read → IsOk read → AreLtvs octets
+are_given octets (Ok ltvs) fits e given = record { ltvs = ltvs; list = read_list ltvs octets fits e }
+are_given octets (Err bad) fits e given = absurd cc
+
 pub decoded_cut : (octets : List ℕ) (result : Result (List Ltv) LtvFault) → IsOctets octets → Gives result (ltvs_of octets) → IfErr result (λ fault. IsFault fault octets)
 decoded_cut octets (Ok ltvs) fits given = tt
-decoded_cut octets (Err faults.Memory) fits given = tt
+decoded_cut octets (Err faults.Memory) fits given = are_given octets (ltvs_of octets) fits refl given
 decoded_cut octets (Err (faults.Bad bad)) fits given = read_bad bad octets fits given
 
 -- ---- encoding

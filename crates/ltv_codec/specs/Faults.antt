@@ -6,7 +6,7 @@ use Rattle.ltv_codec.specs.declared.fault.LtvBad.TheVariants.{ZeroLength, Short}
 use Rattle.ltv_codec.specs.declared.fault.LtvFault.{LtvFault}
 use Rattle.ltv_codec.specs.declared.fault.LtvFault.TheVariants.{Bad, Memory}
 use Rattle.ltv_codec.specs.declared.ltvs.Ltv.{Ltv}
-use Rattle.ltv_codec.specs.Layout.{IsLtvList}
+use Rattle.ltv_codec.specs.Layout.{IsLtvList, AreLtvs}
 
 -- a Length of 0
 abbrev pub StandsZero : List ℕ → Type 0
@@ -28,7 +28,7 @@ abbrev pub IsBad : LtvBad → List ℕ → Type 0
 IsBad (ZeroLength place) octets = AtCut StandsZero place octets
 IsBad (Short place) octets = AtCut StandsShort place octets
 
--- why they were not decoded: want of memory is free
+-- why they were not decoded; only a list is refused for want of memory
 abbrev pub IsFault : LtvFault → List ℕ → Type 0
 IsFault (Bad bad) octets = IsBad bad octets
-IsFault Memory octets = Unit {0}
+IsFault Memory octets = AreLtvs octets

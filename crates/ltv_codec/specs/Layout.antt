@@ -19,3 +19,8 @@ spelling ltvs = flat_map structure ltvs
 pub record IsLtvList (ltvs : List Ltv) (octets : List ℕ) : Type 0 where
   pub fit : AllByRecursion Fits ltvs
   pub spelled : octets ≡ spelling ltvs
+
+-- the octets are some list
+pub record AreLtvs (octets : List ℕ) : Type 0 where
+  pub ltvs : List Ltv
+  pub list : IsLtvList ltvs octets

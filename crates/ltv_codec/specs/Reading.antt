@@ -1,5 +1,5 @@
 -- Reading an LTV list (Basic Audio Profile 1.0, section 4.3) from left to right, with the first fault that is met.
-use Rattle.std.specs.Prelude.{ℕ, zero, suc, ◌≡◌, ◌+◌, ◌≤◌, List, [], ◌∷◌, ◌++◌, length, get_or, take, drop, Option, None, Result, Ok, Err, nat_lt, if◌then◌else◌}
+use Rattle.std.specs.Prelude.{ℕ, zero, suc, ◌≡◌, ◌+◌, ◌≤◌, List, [], ◌∷◌, ◌++◌, length, get_or, take, drop, Option, Result, Ok, Err, IsOk, nat_lt, if◌then◌else◌}
 use Rattle.std.specs.Result.{result_unwrap_or, result_err}
 use Rattle.ltv_codec.specs.declared.fault.LtvBad.{LtvBad}
 use Rattle.ltv_codec.specs.declared.fault.LtvBad.TheVariants.{ZeroLength, Short}
@@ -38,13 +38,9 @@ ltvs_in octets = result_unwrap_or (ltvs_of octets) []
 abbrev pub bad_of : List ℕ → Option LtvBad
 bad_of octets = result_err (ltvs_of octets)
 
--- the octets are an LTV list
-abbrev pub AreLtvs : List ℕ → Type 0
-AreLtvs octets = bad_of octets ≡ None
-
--- a function gave what reading gives, unless memory ran out
+-- a function gave what reading gives, unless memory ran out for a list
 abbrev pub Fails : LtvFault → Result (List Ltv) LtvBad → Type 0
-Fails faults.Memory read = Unit {0}
+Fails faults.Memory read = IsOk read
 Fails (faults.Bad bad) read = read ≡ Err bad
 
 abbrev pub Gives : Result (List Ltv) LtvFault → Result (List Ltv) LtvBad → Type 0

@@ -1,5 +1,5 @@
 ghost use Rattle.std.specs.Prelude.{◌≡◌};
-ghost use Rattle.ltv_codec.specs.Reading.{AreLtvs};
+ghost use Rattle.ltv_codec.specs.Layout.{AreLtvs};
 ghost use Rattle.ltv_codec.specs.Values.{configured, sampling_frequency, frame_duration, audio_channel_allocation, octets_per_codec_frame, codec_frame_blocks_per_sdu};
 
 use crate::values::{long_of, octet_of, short_of};

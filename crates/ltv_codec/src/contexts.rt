@@ -1,5 +1,5 @@
 ghost use Rattle.std.specs.Prelude.{◌≡◌};
-ghost use Rattle.ltv_codec.specs.Reading.{AreLtvs};
+ghost use Rattle.ltv_codec.specs.Layout.{AreLtvs};
 ghost use Rattle.ltv_codec.specs.Values.{number_in, streaming_audio_contexts};
 
 use crate::values::short_of;

@@ -15,6 +15,7 @@ pub enum LtvBad {
 pub enum LtvFault {
     /// They are no LTV list.
     Bad(LtvBad),
+    /// They are one, but there is no memory for it.
     Memory,
 }
 

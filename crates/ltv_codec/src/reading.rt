@@ -1,8 +1,8 @@
-ghost use Rattle.std.specs.Prelude.{◌≡◌, ◌<◌, ◌≤◌, List, length, IfOk, IfErr, OnOk, Ok};
+ghost use Rattle.std.specs.Prelude.{◌≡◌, ◌<◌, ◌≤◌, List, length, IfOk, IfErr, OnOk, Ok, None};
 ghost use Rattle.std.specs.Result.{result_err};
 ghost use Rattle.ltv_codec.specs.Faults.{IsBad, IsFault};
-ghost use Rattle.ltv_codec.specs.Layout.{IsLtvList};
-ghost use Rattle.ltv_codec.specs.Reading.{ltvs_of, ltvs_in, bad_of, AreLtvs, Gives, IsStructure, IsBadAt};
+ghost use Rattle.ltv_codec.specs.Layout.{IsLtvList, AreLtvs};
+ghost use Rattle.ltv_codec.specs.Reading.{ltvs_of, ltvs_in, bad_of, Gives, IsStructure, IsBadAt};
 ghost use Rattle.ltv_codec.specs.Values.{first_in};
 ghost use Rattle.ltv_codec.specs.declared.ltvs.Ltv.{Ltv};
 ghost use Rattle.octet_fields.specs.Reading.{place_in};
@@ -10,6 +10,7 @@ ghost use Rattle.octet_fields.specs.Reading as fields;
 
 use crate::fault::{LtvBad, LtvFault};
 use crate::ltvs::Ltvs;
+use bcast_base::Memory;
 use octet_fields::{counted_at, place_of};
 use std::alloc::Global;
 
@@ -17,12 +18,14 @@ use std::alloc::Global;
 pub fn check_ltvs(from: &[u8]) -> Result<(), LtvBad>
     ensures exact { result_err result ≡ bad_of from.now }
     ensures list { OnOk result (IsLtvList (ltvs_in from.now) from.now) }
+    ensures ltvs { OnOk result (AreLtvs from.now) }
     ensures cut { IfErr result (λ bad. IsBad bad from.now) }
 {
     check_structures(from)
 }
 
-/// The LTV list that the octets are. Else it is the first bad length octet, or want of memory.
+/// The LTV list that the octets are. Else it is the first bad length octet. Want of memory comes only for octets that are
+/// a list.
 pub fn decode_ltvs(alloc: Global, from: &[u8]) -> Result<Ltvs, LtvFault>
     ensures exact { Gives result (ltvs_of from.now) }
     ensures list { IfOk result (λ ltvs. IsLtvList ltvs from.now) }
@@ -62,14 +65,26 @@ fn check_structures(from: &[u8]) -> Result<(), LtvBad>
     Ok(())
 }
 
-// The structures in new memory.
+// The structures, looked through where they lie before any memory is taken.
 fn decode_structures(alloc: Global, from: &[u8]) -> Result<Ltvs, LtvFault>
     ensures { Gives result (ltvs_of from.now) }
+{
+    check_structures(from)?;
+    let list = own_structures(alloc, from)?;
+    Ok(list)
+}
+
+// The structures of octets that are a list, in memory of their own.
+fn own_structures(alloc: Global, from: &[u8]) -> Result<Ltvs, Memory>
+    requires { bad_of from.now ≡ None }
+    ensures { IfOk result (λ ltvs. ltvs_of from.now ≡ Ok ltvs) }
 {
     let mut list = Ltvs::new(alloc);
     let mut rest = from;
     'structures: while !rest.is_empty() {
-        let (kind, value, after) = structure_at(from, rest)?;
+        let Ok((kind, value, after)) = structure_at(from, rest) else {
+            unreachable!()
+        };
         list.push(kind, value)?;
         rest = after;
     }

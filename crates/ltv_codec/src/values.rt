@@ -1,6 +1,6 @@
 //! Values of known types, which are absent where their length is wrong.
 ghost use Rattle.std.specs.Prelude.{◌≡◌};
-ghost use Rattle.ltv_codec.specs.Reading.{AreLtvs};
+ghost use Rattle.ltv_codec.specs.Layout.{AreLtvs};
 ghost use Rattle.ltv_codec.specs.Values.{number_in};
 
 use crate::reading::first_value;

@@ -1,5 +1,6 @@
 -- A subgroup that is read is the one that is spelled, and so are many.
-use Rattle.std.proofs.Common.{◌≡◌, ℕ, zero, suc, ◌+◌, ◌-◌, ◌<◌, ◌≤◌, Bool, true, false, cond, ltb, List, [], ◌∷◌, ◌++◌, length, take, drop, Option, Some, None, refl, sym, ap, subst, ◌∙◌, append_assoc, arith}
+use Rattle.std.proofs.Common.{◌≡◌, ℕ, zero, suc, ◌+◌, ◌-◌, ◌<◌, ◌≤◌, Bool, true, false, cond, ltb, List, [], ◌∷◌, ◌++◌, length, take, drop, Option, Some, None, refl, sym, ap}
+use Rattle.std.proofs.Common.{subst, ◌∙◌, append_assoc, arith}
 use Rattle.std.proofs.lemmas.List.{append-nil, length-append, length-drop}
 use Rattle.std.specs.List.{flat_map, AllByRecursion}
 use Rattle.bcast_base.specs.Numbers.{sum_from}
@@ -47,7 +48,8 @@ subgroup_again group rest fits =
     let regrouped : subgroup group ++ rest ≡ number 4 group.bits ++ (counted group.metadata ++ rest) = append_assoc (number 4 group.bits) (counted group.metadata) rest in
     ap subgroup_in regrouped ∙ rw (number_again 4 group.bits (counted group.metadata ++ rest) fits.bits, counted_again group.metadata rest) refl
 
-pub subgroups_take : (count : ℕ) (from : List ℕ) (x : List Subgroup × List ℕ) → IsOctets from → subgroups_in count from ≡ Some x → Takes from (flat_map subgroup x.0) x.1 × AllByRecursion Fits x.0 × (length x.0 ≡ count)
+pub subgroups_take : (count : ℕ) (from : List ℕ) (x : List Subgroup × List ℕ) → IsOctets from → subgroups_in count from ≡ Some x → Takes from (flat_map subgroup x.0) x.1
+    × AllByRecursion Fits x.0 × (length x.0 ≡ count)
 unfolding subgroups_in
 subgroups_take zero from x h e =
     let start : List Subgroup × List ℕ = ([], from) in
@@ -95,7 +97,8 @@ subgroup-length group = omega (arith, length-append (number 4 group.bits) (count
 
 -- ---- the first reserved bit field
 
-pub unreserved_next : (whole : List ℕ) (count i : ℕ) (from : List ℕ) (group : Subgroup) (after : List ℕ) (total : Option ℕ) → i < count → subgroup_in from ≡ Some (group, after) → is_reserved group.bits ≡ false
+pub unreserved_next : (whole : List ℕ) (count i : ℕ) (from : List ℕ) (group : Subgroup) (after : List ℕ) (total : Option ℕ) → i < count → subgroup_in from ≡ Some (group, after)
+    → is_reserved group.bits ≡ false
     → reserved_in whole (count - i) from ≡ total → reserved_in whole (count - (i + 1)) after ≡ total
 unfolding reserved_in
 unreserved_next whole count i from group after total lt h r so_far =
@@ -103,7 +106,8 @@ unreserved_next whole count i from group after total lt h r so_far =
     let one : reserved_in whole (count - i) from ≡ reserved_in whole (count - (i + 1)) after = rw (k, h, r) refl in
     sym one ∙ so_far
 
-pub reserved_here : (whole : List ℕ) (count i : ℕ) (from : List ℕ) (group : Subgroup) (after : List ℕ) (total : Option ℕ) → i < count → subgroup_in from ≡ Some (group, after) → is_reserved group.bits ≡ true
+pub reserved_here : (whole : List ℕ) (count i : ℕ) (from : List ℕ) (group : Subgroup) (after : List ℕ) (total : Option ℕ) → i < count → subgroup_in from ≡ Some (group, after)
+    → is_reserved group.bits ≡ true
     → reserved_in whole (count - i) from ≡ total → Some (place_in whole from) ≡ total
 unfolding reserved_in
 reserved_here whole count i from group after total lt h r so_far =
@@ -134,7 +138,9 @@ reserved_suc : (whole : List ℕ) (count : ℕ) (from : List ℕ) (group : Subgr
 unfolding reserved_in
 reserved_suc whole count from group after e = rw e refl
 
-reserved_cons : (place : ℕ) (group : Subgroup) (groups : List Subgroup) → reserved_from place (flat_map subgroup_fields (group ∷ groups)) ≡ cond (is_reserved group.bits) (Some place) (reserved_from (place + 4 + 1 + length group.metadata) (flat_map subgroup_fields groups))
+reserved_cons : (place : ℕ) (group : Subgroup) (groups : List Subgroup)
+    → reserved_from place (flat_map subgroup_fields (group ∷ groups))
+    ≡ cond (is_reserved group.bits) (Some place) (reserved_from (place + 4 + 1 + length group.metadata) (flat_map subgroup_fields groups))
 reserved_cons place group groups = rw (number-length 4 group.bits) refl
 
 -- the place that reading finds is that of the first reserved field
@@ -155,4 +161,6 @@ reserved_found whole (suc count) from x h le e =
     rest ∙ ap (λ (p : ℕ). reserved_from p (flat_map subgroup_fields b.0.0)) there in
     let read : List Subgroup × List ℕ = (a.0.0 ∷ b.0.0, b.0.1) in
     subst (λ (y : List Subgroup × List ℕ). reserved_in whole (suc count) from ≡ reserved_from (place_in whole from) (flat_map subgroup_fields y.0)) (some_is read x b.2)
-    (reserved_suc whole count from a.0.0 a.0.1 a.1 ∙ choice (is_reserved a.0.0.bits) (place_in whole from) (reserved_in whole count a.0.1) (reserved_from (place_in whole from + 4 + 1 + length a.0.0.metadata) (flat_map subgroup_fields b.0.0)) tail ∙ sym (reserved_cons (place_in whole from) a.0.0 b.0.0))
+    (reserved_suc whole count from a.0.0 a.0.1 a.1
+    ∙ choice (is_reserved a.0.0.bits) (place_in whole from) (reserved_in whole count a.0.1)
+    (reserved_from (place_in whole from + 4 + 1 + length a.0.0.metadata) (flat_map subgroup_fields b.0.0)) tail ∙ sym (reserved_cons (place_in whole from) a.0.0 b.0.0))

@@ -38,7 +38,8 @@ none_only : (start : ℕ) (fields : List Field) → NoneReserved fields → rese
 none_only start [] h = refl
 none_only start (field ∷ fields) h = rw h.0 (none_only (start + length field.octets) fields h.1)
 
-first_only : (start : ℕ) (front : List Field) (field : Field) (back : List Field) → NoneReserved front → field.reserved ≡ true → reserved_from start (front ++ field ∷ back) ≡ Some (start + length (laid front))
+first_only : (start : ℕ) (front : List Field) (field : Field) (back : List Field) → NoneReserved front → field.reserved ≡ true
+    → reserved_from start (front ++ field ∷ back) ≡ Some (start + length (laid front))
 first_only start [] field back h t = rw t (ap (λ (n : ℕ). Some n) (sym (add-zero start)))
 first_only start (first ∷ front) field back h t =
     let there : start + length first.octets + length (laid front) ≡ start + length (laid (first ∷ front)) = omega (arith, length-append first.octets (laid front)) in
@@ -60,5 +61,6 @@ pub none_reserved : (start : ℕ) (fields : List Field) → NoneReserved fields 
 none_reserved start fields h = none_only start fields h
 
 -- behind fields with no reserved value
-pub reserved_behind : (start : ℕ) (field : Field) (fields : List Field) (k : ℕ) → field.reserved ≡ false → length field.octets ≡ k → reserved_from start (field ∷ fields) ≡ reserved_from (start + k) fields
+pub reserved_behind : (start : ℕ) (field : Field) (fields : List Field) (k : ℕ) → field.reserved ≡ false → length field.octets ≡ k
+    → reserved_from start (field ∷ fields) ≡ reserved_from (start + k) fields
 reserved_behind start field fields k h len = rw (h, len) refl

@@ -1,4 +1,4 @@
-ghost use Rattle.std.specs.Prelude.{◌≡◌, ◌≤◌, ◌<◌, ◌++◌, length, IsTrue, OnOk, OnErr};
+ghost use Rattle.std.specs.Prelude.{◌≡◌, ◌≤◌, ◌<◌, ◌++◌, length, take, IsTrue, OnOk, OnErr};
 ghost use Rattle.octet_fields.specs.Reading.{Gives};
 ghost use Rattle.octet_fields.specs.Subgroups.{Subgroup, subgroup, subgroup_in, reserved_in, is_reserved};
 
@@ -52,10 +52,25 @@ pub fn reserved_subgroup(whole: &[u8], count: u8, octets: &[u8]) -> Option<usize
     None
 }
 
-/// Puts a subgroup at the end. The metadata has at most 255 octets.
+/// Puts a subgroup at the end. The metadata has at most 255 octets. `out` stays as it was where memory runs out.
 pub fn put_subgroup(out: &mut Octets, bits: u32, metadata: &[u8]) -> Result<(), Memory>
     requires { length metadata.now < 256 }
-    ensures { OnOk result (out.new ≡ out.old ++ subgroup (record { bits = bits; metadata = metadata.now })) }
+    ensures ok { OnOk result (out.new ≡ out.old ++ subgroup (record { bits = bits; metadata = metadata.now })) }
+    ensures err { OnErr result (out.new ≡ out.old) }
+{
+    let before = out.as_slice().len();
+    let put = put_fields(out, bits, metadata);
+    if put.is_err() {
+        out.truncate(before);
+    }
+    put
+}
+
+// Puts the fields of a subgroup at the end, or a front of them where memory runs out.
+fn put_fields(out: &mut Octets, bits: u32, metadata: &[u8]) -> Result<(), Memory>
+    requires { length metadata.now < 256 }
+    ensures ok { OnOk result (out.new ≡ out.old ++ subgroup (record { bits = bits; metadata = metadata.now })) }
+    ensures err { OnErr result (take (length out.old) out.new ≡ out.old) }
 {
     put_number(out, u64::from(bits), 4)?;
     put_counted(out, metadata)

@@ -1,5 +1,6 @@
 -- What stands at the cut is the fault that is met.
-use Rattle.std.proofs.Common.{◌≡◌, ℕ, zero, suc, ◌+◌, ◌-◌, ◌<◌, ◌≤◌, ◌⊎◌, Bool, true, false, cond, eqb, ltb, List, [], ◌∷◌, ◌++◌, length, take, drop, Option, Some, None, Result, Ok, Err, refl, sym, ap, subst, ◌∙◌, append_assoc, arith, inl, inr}
+use Rattle.std.proofs.Common.{◌≡◌, ℕ, zero, suc, ◌+◌, ◌-◌, ◌<◌, ◌≤◌, ◌⊎◌, Bool, true, false, cond, eqb, ltb, List, [], ◌∷◌, ◌++◌, length, take, drop, Option, Some, None, Result}
+use Rattle.std.proofs.Common.{Ok, Err, refl, sym, ap, subst, ◌∙◌, append_assoc, arith, inl, inr}
 use Rattle.std.specs.List.{flat_map, AllByRecursion}
 use Rattle.std.specs.Result.{result_err}
 use Rattle.std.proofs.lemmas.Bool.{lt-ltb, le-ltb, ne_eqb}
@@ -10,12 +11,14 @@ use Rattle.octet_fields.specs.Reading.{octet_in, octets_in, place_in}
 use Rattle.octet_fields.proofs.Fields.{octets_again}
 use Rattle.ltv_codec.specs.declared.fault.LtvBad.{LtvBad}
 use Rattle.ltv_codec.specs.Faults.{IsBad}
-use Rattle.ltv_codec.specs.Reading.{bad_of, AreLtvs}
+use Rattle.ltv_codec.specs.Layout.{AreLtvs}
+use Rattle.ltv_codec.specs.Reading.{bad_of}
 use Rattle.ltv_codec.proofs.Lists.{bad_read}
 use Rattle.pacs_records.specs.declared.fault.PacFault.{PacFault}
 use Rattle.pacs_records.specs.declared.fault.PacFault.TheVariants.{TooLong, Short, Ltv, Trailing, Memory}
 use Rattle.pacs_records.specs.declared.record.PacRecord.{PacRecord}
-use Rattle.pacs_records.specs.Faults.{Fields, to_codec, to_caps_length, to_caps, to_metadata_length, to_metadata, octets_of, next_length, MeetRows, IsNextList, Cut, IsShort, IsNoList, IsTrailing, IsFault}
+use Rattle.pacs_records.specs.Faults.{Fields, to_codec, to_caps_length, to_caps, to_metadata_length, to_metadata, octets_of, next_length, MeetRows, IsNextList, Cut, IsShort}
+use Rattle.pacs_records.specs.Faults.{IsNoList, IsTrailing, IsFault}
 use Rattle.base_grammar.specs.Layout.{lc3, is_lc3}
 use Rattle.pacs_records.specs.Layout.{greatest_value, spelled, value, Fits}
 use Rattle.pacs_records.specs.Reading.{◌>>=◌, field_at, codec_in, checked, run_in, record_in, records_in, value_in}
@@ -56,7 +59,8 @@ unfolding record_in
 caps_fail whole codec rest fault five e = rw (codec_is codec rest five, e) refl
 
 -- behind the capabilities the metadata fails
-metadata_fails : (whole codec caps rest : List ℕ) (fault : PacFault) → length codec ≡ 5 → (codec ≡ lc3 → AreLtvs caps) → run_in true whole rest ≡ Err fault → record_in whole ((codec ++ counted caps) ++ rest) ≡ Err fault
+metadata_fails : (whole codec caps rest : List ℕ) (fault : PacFault) → length codec ≡ 5 → (codec ≡ lc3 → AreLtvs caps) → run_in true whole rest ≡ Err fault
+    → record_in whole ((codec ++ counted caps) ++ rest) ≡ Err fault
 unfolding record_in
 metadata_fails whole codec caps rest fault five listed e =
     let read = run_again (is_lc3 codec) whole caps rest (λ h. listed (is_lc3-true codec h)) in
@@ -72,7 +76,8 @@ codec_fails whole rest lt = rw (few_octets 5 rest lt) refl
 record_fails : (whole : List ℕ) (fields : Fields) (rest : List ℕ) (fault : PacFault) → Stop whole fields rest fault → record_in whole (octets_of fields ++ rest) ≡ Err fault
 record_fails whole fields rest fault s = by_fields fields s.meet s.why
   where
-    by_fields : (f : Fields) → MeetRows f → ((Short (place_in whole rest) ≡ fault) × (length rest < next_length f)) ⊎ (IsNextList f × NoList whole (next_length f) rest fault) → record_in whole (octets_of f ++ rest) ≡ Err fault
+    by_fields : (f : Fields) → MeetRows f → ((Short (place_in whole rest) ≡ fault) × (length rest < next_length f)) ⊎ (IsNextList f × NoList whole (next_length f) rest fault)
+        → record_in whole (octets_of f ++ rest) ≡ Err fault
     by_fields to_codec meet (inl (same, short)) = short_same (Short (place_in whole rest)) fault (record_in whole rest) same (codec_fails whole rest short)
     by_fields to_codec meet (inr (list, none)) = absurd list
     by_fields (to_caps_length codec) meet (inl (same, short)) =
@@ -80,16 +85,19 @@ record_fails whole fields rest fault s = by_fields fields s.meet s.why
     by_fields (to_caps_length codec) meet (inr (list, none)) = absurd list
     by_fields (to_caps codec count) meet (inl (same, short)) =
         ap (record_in whole) (append_assoc codec (count ∷ []) rest)
-        ∙ short_same (Short (place_in whole rest)) fault (record_in whole (codec ++ count ∷ rest)) same (caps_fail whole codec (count ∷ rest) (Short (place_in whole rest)) meet (short_run (is_lc3 codec) whole count rest short))
+        ∙ short_same (Short (place_in whole rest)) fault (record_in whole (codec ++ count ∷ rest)) same
+        (caps_fail whole codec (count ∷ rest) (Short (place_in whole rest)) meet (short_run (is_lc3 codec) whole count rest short))
     by_fields (to_caps codec count) meet (inr (list, none)) =
         ap (record_in whole) (append_assoc codec (count ∷ []) rest)
         ∙ caps_fail whole codec (count ∷ rest) fault meet (ap (λ (b : Bool). run_in b whole (count ∷ rest)) (lc3-is codec list) ∙ bad_run whole count rest fault none)
     by_fields (to_metadata_length codec caps) meet (inl (same, short)) =
-        short_same (Short (place_in whole rest)) fault (record_in whole ((codec ++ counted caps) ++ rest)) same (metadata_fails whole codec caps rest (Short (place_in whole rest)) meet.0 meet.1 (no_run true whole rest short))
+        short_same (Short (place_in whole rest)) fault (record_in whole ((codec ++ counted caps) ++ rest)) same
+        (metadata_fails whole codec caps rest (Short (place_in whole rest)) meet.0 meet.1 (no_run true whole rest short))
     by_fields (to_metadata_length codec caps) meet (inr (list, none)) = absurd list
     by_fields (to_metadata codec caps count) meet (inl (same, short)) =
         ap (record_in whole) (append_assoc (codec ++ counted caps) (count ∷ []) rest)
-        ∙ short_same (Short (place_in whole rest)) fault (record_in whole ((codec ++ counted caps) ++ count ∷ rest)) same (metadata_fails whole codec caps (count ∷ rest) (Short (place_in whole rest)) meet.0 meet.1 (short_run true whole count rest short))
+        ∙ short_same (Short (place_in whole rest)) fault (record_in whole ((codec ++ counted caps) ++ count ∷ rest)) same
+        (metadata_fails whole codec caps (count ∷ rest) (Short (place_in whole rest)) meet.0 meet.1 (short_run true whole count rest short))
     by_fields (to_metadata codec caps count) meet (inr (list, none)) =
         ap (record_in whole) (append_assoc (codec ++ counted caps) (count ∷ []) rest)
         ∙ metadata_fails whole codec caps (count ∷ rest) fault meet.0 meet.1 (bad_run whole count rest fault none)
@@ -100,7 +108,8 @@ record_first : (whole : List ℕ) (count : ℕ) (from : List ℕ) (fault : PacFa
 unfolding records_in
 record_first whole count from fault e = rw e refl
 
-records_behind : (whole : List ℕ) (count : ℕ) (entry : PacRecord) (rest : List ℕ) (fault : PacFault) → Fits entry → records_in whole count rest ≡ Err fault → records_in whole (suc count) (spelled entry ++ rest) ≡ Err fault
+records_behind : (whole : List ℕ) (count : ℕ) (entry : PacRecord) (rest : List ℕ) (fault : PacFault) → Fits entry → records_in whole count rest ≡ Err fault
+    → records_in whole (suc count) (spelled entry ++ rest) ≡ Err fault
 unfolding records_in
 records_behind whole count entry rest fault fits e = rw (record_again whole entry rest fits, e) refl
 
@@ -109,8 +118,10 @@ records_fail : (whole : List ℕ) (records : List PacRecord) (count : ℕ) (from
 records_fail whole records zero from fault due fit e = absurd (omega (arith, due))
 records_fail whole [] (suc count) from fault due fit e = record_first whole count from fault e
 records_fail whole (entry ∷ records) (suc count) from fault due fit e =
-    let regrouped : flat_map spelled (entry ∷ records) ++ from ≡ spelled entry ++ (flat_map spelled records ++ from) = ap (λ (x : List ℕ). x ++ from) (flat_map-cons spelled entry records) ∙ append_assoc (spelled entry) (flat_map spelled records) from in
-    ap (records_in whole (suc count)) regrouped ∙ records_behind whole count entry (flat_map spelled records ++ from) fault fit.0 (records_fail whole records count from fault (omega (arith, due)) fit.1 e)
+    let regrouped : flat_map spelled (entry ∷ records) ++ from ≡ spelled entry ++ (flat_map spelled records ++ from) = ap (λ (x : List ℕ). x ++ from) (flat_map-cons spelled entry records)
+    ∙ append_assoc (spelled entry) (flat_map spelled records) from in
+    ap (records_in whole (suc count)) regrouped
+    ∙ records_behind whole count entry (flat_map spelled records ++ from) fault fit.0 (records_fail whole records count from fault (omega (arith, due)) fit.1 e)
 
 -- ---- the whole value
 
@@ -118,13 +129,15 @@ value_fails : (count : ℕ) (from : List ℕ) (fault : PacFault) → length (cou
 unfolding value_in
 value_fails count from fault small e = rw (le-ltb greatest_value (length (count ∷ from)) small, e) refl
 
-cut_fails : (count : ℕ) (records : List PacRecord) (fields : Fields) (rest : List ℕ) (octets : List ℕ) (fault : PacFault) → length octets ≤ greatest_value → length records < count → AllByRecursion Fits records
+cut_fails : (count : ℕ) (records : List PacRecord) (fields : Fields) (rest : List ℕ) (octets : List ℕ) (fault : PacFault) → length octets ≤ greatest_value → length records < count
+    → AllByRecursion Fits records
     → octets ≡ count ∷ (flat_map spelled records ++ octets_of fields ++ rest) → Stop octets fields rest fault → value_in octets ≡ Err fault
 cut_fails count records fields rest octets fault small due fit parts stop =
     let whole : List ℕ = count ∷ (flat_map spelled records ++ octets_of fields ++ rest) in
     let s : Stop whole fields rest fault = subst (λ (os : List ℕ). Stop os fields rest fault) parts stop in
     let read : records_in whole count (flat_map spelled records ++ octets_of fields ++ rest) ≡ Err fault =
-    ap (records_in whole count) (append_assoc (flat_map spelled records) (octets_of fields) rest) ∙ records_fail whole records count (octets_of fields ++ rest) fault due fit (record_fails whole fields rest fault s) in
+    ap (records_in whole count) (append_assoc (flat_map spelled records) (octets_of fields) rest)
+    ∙ records_fail whole records count (octets_of fields ++ rest) fault due fit (record_fails whole fields rest fault s) in
     ap value_in parts ∙ value_fails count (flat_map spelled records ++ octets_of fields ++ rest) fault (subst (λ (os : List ℕ). length os ≤ greatest_value) parts small) read
 
 -- the place of the cut
@@ -149,7 +162,8 @@ list_fails place bad octets small n =
       why = inr (n.list, record { bad = bad; run = n.run; behind = n.behind; long = n.whole; parts = n.parts; what = n.what; same = ap (λ (p : ℕ). Ltv p bad) (at_cut place octets n.cut) });
     })
 
-trailing_read : (octets rest : List ℕ) (records : List PacRecord) (count : ℕ) (from : List ℕ) → octets ≡ count ∷ from → length octets ≤ greatest_value → records_in octets count from ≡ Ok (records, rest) → 0 < length rest → value_in octets ≡ Err (Trailing (place_in octets rest))
+trailing_read : (octets rest : List ℕ) (records : List PacRecord) (count : ℕ) (from : List ℕ) → octets ≡ count ∷ from → length octets ≤ greatest_value
+    → records_in octets count from ≡ Ok (records, rest) → 0 < length rest → value_in octets ≡ Err (Trailing (place_in octets rest))
 unfolding value_in
 trailing_read octets rest records count from is small read more =
     let first : octet_in octets ≡ Some (count, from) = ap octet_in is in

@@ -1,5 +1,6 @@
 -- What is read is spelled so, and what is spelled so is read: runs, records and values.
-use Rattle.std.proofs.Common.{◌≡◌, ℕ, zero, suc, ◌+◌, ◌*◌, ◌<◌, ◌≤◌, Bool, true, false, cond, eqb, ltb, List, [], ◌∷◌, ◌++◌, length, Option, Some, None, Result, Ok, Err, refl, sym, ap, subst, ◌∙◌, append_assoc, arith}
+use Rattle.std.proofs.Common.{◌≡◌, ℕ, zero, suc, ◌+◌, ◌*◌, ◌<◌, ◌≤◌, Bool, true, false, cond, eqb, ltb, List, [], ◌∷◌, ◌++◌, length, Option, Some, None, Result, Ok, Err, refl}
+use Rattle.std.proofs.Common.{sym, ap, subst, ◌∙◌, append_assoc, arith}
 use Rattle.std.specs.List.{flat_map, AllByRecursion}
 use Rattle.std.specs.Prelude.{IfOk}
 use Rattle.std.specs.Str.{bytes_eq}
@@ -9,9 +10,11 @@ use Rattle.std.proofs.lemmas.List.{append-nil, nil_from_length, length-append}
 use Rattle.std.proofs.lemmas.List.Concat.{flat_map-cons}
 use Rattle.octet_fields.specs.Spelling.{IsOctets, octet, counted}
 use Rattle.octet_fields.specs.Reading.{octet_in, octets_in, place_in, Takes}
-use Rattle.octet_fields.proofs.Fields.{octet_takes, octets_take, octets_again, Takes-then}
+use Rattle.octet_fields.proofs.Fields.{octet_takes, octets_take, octets_again, IsOctets-front, Takes-then}
 use Rattle.ltv_codec.specs.declared.fault.LtvBad.{LtvBad}
-use Rattle.ltv_codec.specs.Reading.{bad_of, AreLtvs}
+use Rattle.ltv_codec.specs.Layout.{AreLtvs}
+use Rattle.ltv_codec.specs.Reading.{bad_of}
+use Rattle.ltv_codec.proofs.Loops.{reads, are_read}
 use Rattle.pacs_records.specs.declared.fault.PacFault.{PacFault}
 use Rattle.pacs_records.specs.declared.fault.PacFault.TheVariants.{TooLong, Short, Ltv, Trailing, Memory}
 use Rattle.pacs_records.specs.declared.record.PacRecord.{PacRecord}
@@ -53,7 +56,8 @@ pub run_takes : (listed : Bool) (whole from : List ℕ) (x : List ℕ × List �
     → Takes from (counted x.0) x.1 × (length x.0 < 256) × (listed ≡ true → AreLtvs x.0)
 unfolding run_in
 run_takes listed whole from x fits e =
-    let a = bind_ok (field_at (place_in whole from) (octet_in from)) (λ count. field_at (place_in whole count.1) (octets_in count.0 count.1) >>= λ run. checked (place_in whole count.1) listed (bad_of run.0) run) x e in
+    let a = bind_ok (field_at (place_in whole from) (octet_in from))
+    (λ count. field_at (place_in whole count.1) (octets_in count.0 count.1) >>= λ run. checked (place_in whole count.1) listed (bad_of run.0) run) x e in
     let b = bind_ok (field_at (place_in whole a.0.1) (octets_in a.0.0 a.0.1)) (λ run. checked (place_in whole a.0.1) listed (bad_of run.0) run) x a.2 in
     let t0 = octet_takes from a.0.0 a.0.1 (field_ok (place_in whole from) (octet_in from) a.0 a.1) in
     let t1 = octets_take a.0.0 a.0.1 b.0.0 b.0.1 (field_ok (place_in whole a.0.1) (octets_in a.0.0 a.0.1) b.0 b.1) in
@@ -61,19 +65,22 @@ run_takes listed whole from x fits e =
     let all : Takes from (a.0.0 ∷ b.0.0) b.0.1 = Takes-then from (octet a.0.0) a.0.1 b.0.0 b.0.1 t0 t1.0 in
     let small : a.0.0 < 256 = subst IsOctets t0.parts fits 0 in
     let run : Takes from (counted b.0.0) b.0.1 = rw t1.1 all in
-    subst (λ (y : List ℕ × List ℕ). Takes from (counted y.0) y.1 × (length y.0 < 256) × (listed ≡ true → AreLtvs y.0)) g.0 (run, omega (arith, t1.1, small), g.1)
+    let run_fits : IsOctets b.0.0 = IsOctets-front b.0.0 b.0.1 (subst IsOctets t1.0.parts (t0.fits fits)) in
+    subst (λ (y : List ℕ × List ℕ). Takes from (counted y.0) y.1 × (length y.0 < 256) × (listed ≡ true → AreLtvs y.0)) g.0
+    (run, omega (arith, t1.1, small), λ h. are_read b.0.0 run_fits (g.1 h))
 
 pub run_again : (listed : Bool) (whole run rest : List ℕ) → (listed ≡ true → AreLtvs run) → run_in listed whole (counted run ++ rest) ≡ Ok (run, rest)
 unfolding run_in
 run_again listed whole run rest h =
-    rw (octets_again run rest) (checked_again (place_in whole (run ++ rest)) listed (bad_of run) (run, rest) h)
+    rw (octets_again run rest) (checked_again (place_in whole (run ++ rest)) listed (bad_of run) (run, rest) (λ e. reads run (h e)))
 
 -- ---- a record
 
 pub record_takes : (whole from : List ℕ) (x : PacRecord × List ℕ) → IsOctets from → record_in whole from ≡ Ok x → Takes from (spelled x.0) x.1 × Fits x.0
 unfolding record_in
 record_takes whole from x fits e =
-    let a = bind_ok (codec_in whole from) (λ codec. run_in (is_lc3 codec.0) whole codec.1 >>= λ caps. run_in true whole caps.1 >>= λ metadata. Ok (record { codec = codec.0; caps = caps.0; metadata = metadata.0 }, metadata.1)) x e in
+    let a = bind_ok (codec_in whole from)
+    (λ codec. run_in (is_lc3 codec.0) whole codec.1 >>= λ caps. run_in true whole caps.1 >>= λ metadata. Ok (record { codec = codec.0; caps = caps.0; metadata = metadata.0 }, metadata.1)) x e in
     let b = bind_ok (run_in (is_lc3 a.0.0) whole a.0.1) (λ caps. run_in true whole caps.1 >>= λ metadata. Ok (record { codec = a.0.0; caps = caps.0; metadata = metadata.0 }, metadata.1)) x a.2 in
     let c = bind_ok (run_in true whole b.0.1) (λ metadata. Ok (record { codec = a.0.0; caps = b.0.0; metadata = metadata.0 }, metadata.1)) x b.2 in
     let t0 = octets_take 5 from a.0.0 a.0.1 (field_ok (place_in whole from) (octets_in 5 from) a.0 a.1) in
@@ -103,7 +110,8 @@ pub records_take : (whole : List ℕ) (count : ℕ) (from : List ℕ) (x : List 
     → Takes from (flat_map spelled x.0) x.1 × (length x.0 ≡ count) × AllByRecursion Fits x.0
 unfolding records_in
 records_take whole zero from x fits e =
-    subst (λ (y : List PacRecord × List ℕ). Takes from (flat_map spelled y.0) y.1 × (length y.0 ≡ 0) × AllByRecursion Fits y.0) (ok_is ([], from) x e) (record { parts = refl; fits = λ h. h }, refl, tt)
+    subst (λ (y : List PacRecord × List ℕ). Takes from (flat_map spelled y.0) y.1 × (length y.0 ≡ 0) × AllByRecursion Fits y.0) (ok_is ([], from) x e)
+    (record { parts = refl; fits = λ h. h }, refl, tt)
 records_take whole (suc count) from x fits e =
     let a = bind_ok (record_in whole from) (λ first. records_in whole count first.1 >>= λ others. Ok (first.0 ∷ others.0, others.1)) x e in
     let b = bind_ok (records_in whole count a.0.1) (λ others. Ok (a.0.0 ∷ others.0, others.1)) x a.2 in
@@ -111,13 +119,16 @@ records_take whole (suc count) from x fits e =
     let second = records_take whole count a.0.1 b.0 (first.0.fits fits) b.1 in
     let both = Takes-then from (spelled a.0.0) a.0.1 (flat_map spelled b.0.0) b.0.1 first.0 second.0 in
     let made : List PacRecord × List ℕ = (a.0.0 ∷ b.0.0, b.0.1) in
-    subst (λ (y : List PacRecord × List ℕ). Takes from (flat_map spelled y.0) y.1 × (length y.0 ≡ suc count) × AllByRecursion Fits y.0) (ok_is made x b.2) (rw flat_map-cons both, ap suc second.1, (first.1, second.2))
+    subst (λ (y : List PacRecord × List ℕ). Takes from (flat_map spelled y.0) y.1 × (length y.0 ≡ suc count) × AllByRecursion Fits y.0) (ok_is made x b.2)
+    (rw flat_map-cons both, ap suc second.1, (first.1, second.2))
 
-pub records_again : (whole : List ℕ) (records : List PacRecord) (rest : List ℕ) → AllByRecursion Fits records → records_in whole (length records) (flat_map spelled records ++ rest) ≡ Ok (records, rest)
+pub records_again : (whole : List ℕ) (records : List PacRecord) (rest : List ℕ) → AllByRecursion Fits records
+    → records_in whole (length records) (flat_map spelled records ++ rest) ≡ Ok (records, rest)
 unfolding records_in
 records_again whole [] rest fits = refl
 records_again whole (entry ∷ records) rest fits =
-    let regrouped : flat_map spelled (entry ∷ records) ++ rest ≡ spelled entry ++ (flat_map spelled records ++ rest) = ap (λ (x : List ℕ). x ++ rest) (flat_map-cons spelled entry records) ∙ append_assoc (spelled entry) (flat_map spelled records) rest in
+    let regrouped : flat_map spelled (entry ∷ records) ++ rest ≡ spelled entry ++ (flat_map spelled records ++ rest) = ap (λ (x : List ℕ). x ++ rest) (flat_map-cons spelled entry records)
+    ∙ append_assoc (spelled entry) (flat_map spelled records) rest in
     ap (records_in whole (suc (length records))) regrouped ∙ rw (record_again whole entry (flat_map spelled records ++ rest) fits.0, records_again whole records rest fits.1) refl
 
 -- ---- the whole value
@@ -133,7 +144,8 @@ guard_ended false fault x y e = absurd cc
 pub value_takes : (octets : List ℕ) (records : List PacRecord) → IsOctets octets → value_in octets ≡ Ok records → PacIs records octets
 unfolding value_in
 value_takes octets records fits e =
-    let s = guard_ok (ltb greatest_value (length octets)) TooLong (field_at 0 (octet_in octets) >>= λ count. records_in octets count.0 count.1 >>= λ x. cond (eqb (length x.1) 0) (Ok x.0) (Err (Trailing (place_in octets x.1)))) records e in
+    let s = guard_ok (ltb greatest_value (length octets)) TooLong
+    (field_at 0 (octet_in octets) >>= λ count. records_in octets count.0 count.1 >>= λ x. cond (eqb (length x.1) 0) (Ok x.0) (Err (Trailing (place_in octets x.1)))) records e in
     let a = bind_ok (field_at 0 (octet_in octets)) (λ count. records_in octets count.0 count.1 >>= λ x. cond (eqb (length x.1) 0) (Ok x.0) (Err (Trailing (place_in octets x.1)))) records s.1 in
     let b = bind_ok (records_in octets a.0.0 a.0.1) (λ x. cond (eqb (length x.1) 0) (Ok x.0) (Err (Trailing (place_in octets x.1)))) records a.2 in
     let g = guard_ended (eqb (length b.0.1) 0) (Trailing (place_in octets b.0.1)) b.0.0 records b.2 in
@@ -161,7 +173,8 @@ value_again octets records p = ap value_in p.is ∙ value_read records p.are
 pub longer : (records : List PacRecord) → AllByRecursion Fits records → 7 * length records ≤ length (flat_map spelled records)
 longer [] fit = omega arith
 longer (entry ∷ records) fit =
-    let long : length (flat_map spelled (entry ∷ records)) ≡ length (spelled entry) + length (flat_map spelled records) = ap length (flat_map-cons spelled entry records) ∙ length-append (spelled entry) (flat_map spelled records) in
+    let long : length (flat_map spelled (entry ∷ records)) ≡ length (spelled entry) + length (flat_map spelled records) = ap length (flat_map-cons spelled entry records)
+    ∙ length-append (spelled entry) (flat_map spelled records) in
     let one = length-append (entry.codec ++ counted entry.caps) (counted entry.metadata) in
     let two = length-append entry.codec (counted entry.caps) in
     omega (arith, long, one, two, fit.0.codec, longer records fit.1)
@@ -171,9 +184,9 @@ few records are = omega (arith, longer records are.fit, are.size)
 
 -- ---- what the calls promise
 
-pub is_value : (octets : List ℕ) (result : Result (List PacRecord) PacFault) → IsOctets octets → Gives (λ records. records) result (value_in octets) → IfOk result (λ records. PacIs records octets)
+pub is_value : (octets : List ℕ) (result : Result (List PacRecord) PacFault) → IsOctets octets → Gives result (value_in octets) → IfOk result (λ records. PacIs records octets)
 is_value octets (Ok records) fits given = value_takes octets records fits given
 is_value octets (Err fault) fits given = tt
 
-pub only_value : (octets : List ℕ) (result : Result (List PacRecord) PacFault) (records : List PacRecord) → Gives (λ x. x) result (value_in octets) → PacIs records octets → Gives (λ x. x) result (Ok records)
-only_value octets result records given p = subst (Gives (λ x. x) result) (value_again octets records p) given
+pub only_value : (octets : List ℕ) (result : Result (List PacRecord) PacFault) (records : List PacRecord) → Gives result (value_in octets) → PacIs records octets → Gives result (Ok records)
+only_value octets result records given p = subst (Gives result) (value_again octets records p) given

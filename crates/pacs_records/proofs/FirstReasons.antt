@@ -70,7 +70,8 @@ first_fails n test (first ∷ reasons) reason r e = by_test (test first) refl e 
       ];
     }
 
-    by_test : (b : Bool) → test first ≡ b → cond (not b) (Some first) (failing test reasons) ≡ Some reason → (failing test reasons ≡ Some reason → First test reasons reason) → First test (first ∷ reasons) reason
+    by_test : (b : Bool) → test first ≡ b → cond (not b) (Some first) (failing test reasons) ≡ Some reason → (failing test reasons ≡ Some reason → First test reasons reason)
+        → First test (first ∷ reasons) reason
     by_test true t rest others = go_on t (others rest)
     by_test false t rest others = here t (same_Some first reason rest)
 
@@ -125,7 +126,8 @@ pub none_is_fit : (entry : PacRecord) (capability : Capability) (effective : Eff
 none_is_fit entry capability effective e reason =
     (met_means entry capability effective reason).0 (none_fails (met entry capability effective) all (sym (reason_is entry capability effective) ∙ e) reason (stands reason))
 
-pub some_is_reason : (entry : PacRecord) (capability : Capability) (effective : Effective) (reason : NotTaken) → reason_of entry capability effective ≡ Some reason → IsReason reason entry capability effective
+pub some_is_reason : (entry : PacRecord) (capability : Capability) (effective : Effective) (reason : NotTaken) → reason_of entry capability effective ≡ Some reason
+    → IsReason reason entry capability effective
 some_is_reason entry capability effective reason e =
     let f = first_fails 0 (met entry capability effective) all reason all_rise (sym (reason_is entry capability effective) ∙ e) in
     record {
@@ -164,7 +166,8 @@ same_reason a b e = sym (back a) ∙ ap reason_at e ∙ back b
     back Location = refl
     back Context = refl
 
-pub reason_is_some : (entry : PacRecord) (capability : Capability) (effective : Effective) (reason : NotTaken) → IsReason reason entry capability effective → reason_of entry capability effective ≡ Some reason
+pub reason_is_some : (entry : PacRecord) (capability : Capability) (effective : Effective) (reason : NotTaken) → IsReason reason entry capability effective
+    → reason_of entry capability effective ≡ Some reason
 reason_is_some entry capability effective reason is = by_reason (reason_of entry capability effective) refl
   where
     one : (other : NotTaken) → IsReason other entry capability effective → other ≡ reason

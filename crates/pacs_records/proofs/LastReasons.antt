@@ -1,5 +1,6 @@
 -- The records one after the other, up to the first that fits.
-use Rattle.std.proofs.Common.{◌≡◌, ◌↔◌, ℕ, zero, suc, ◌+◌, ◌<◌, ◌≤◌, ◌⊎◌, Bool, true, false, List, [], ◌∷◌, ◌++◌, length, get_or, drop, drop-cons, add-one, Option, Some, None, Result, Ok, Err, refl, sym, ap, subst, ◌∙◌, arith, inl, inr}
+use Rattle.std.proofs.Common.{◌≡◌, ◌↔◌, ℕ, zero, suc, ◌+◌, ◌<◌, ◌≤◌, ◌⊎◌, Bool, true, false, List, [], ◌∷◌, ◌++◌, length, get_or, drop, drop-cons, add-one, Option, Some, None}
+use Rattle.std.proofs.Common.{Result, Ok, Err, refl, sym, ap, subst, ◌∙◌, arith, inl, inr}
 use Rattle.std.specs.Prelude.{option_and_then, Any, OnOk, IfErr, is_none}
 use Rattle.std.specs.Result.{result_err}
 use Rattle.std.specs.List.{list_any, AllByRecursion}
@@ -24,12 +25,14 @@ opened told entries i entry capability effective lt is =
     drop-cons entries i entry lt ∙ ap (λ (e : PacRecord). e ∷ drop (suc i) entries) (sym is) ∙ ap (λ (n : ℕ). entry ∷ drop n entries) (sym (add-one i)) in
     ap (λ (es : List PacRecord). last_reason told es capability effective) front
 
-pub goes_on : (told : NotTaken) (entries : List PacRecord) (i : ℕ) (entry : PacRecord) (reason : NotTaken) (capability : Capability) (effective : Effective) (total : Option NotTaken) → i < length entries → entry ≡ get_or entries i entry
+pub goes_on : (told : NotTaken) (entries : List PacRecord) (i : ℕ) (entry : PacRecord) (reason : NotTaken) (capability : Capability) (effective : Effective) (total : Option NotTaken)
+    → i < length entries → entry ≡ get_or entries i entry
     → Some reason ≡ reason_of entry capability effective → last_reason told (drop i entries) capability effective ≡ total → last_reason reason (drop (i + 1) entries) capability effective ≡ total
 goes_on told entries i entry reason capability effective total lt is e so_far =
     ap (option_and_then (λ r. last_reason r (drop (i + 1) entries) capability effective)) e ∙ sym (opened told entries i entry capability effective lt is) ∙ so_far
 
-pub fits_here : (told : NotTaken) (entries : List PacRecord) (i : ℕ) (entry : PacRecord) (capability : Capability) (effective : Effective) (total : Option NotTaken) → i < length entries → entry ≡ get_or entries i entry
+pub fits_here : (told : NotTaken) (entries : List PacRecord) (i : ℕ) (entry : PacRecord) (capability : Capability) (effective : Effective) (total : Option NotTaken) → i < length entries
+    → entry ≡ get_or entries i entry
     → None ≡ reason_of entry capability effective → last_reason told (drop i entries) capability effective ≡ total → None ≡ total
 fits_here told entries i entry capability effective total lt is e so_far =
     ap (option_and_then (λ r. last_reason r (drop (i + 1) entries) capability effective)) e ∙ sym (opened told entries i entry capability effective lt is) ∙ so_far
@@ -40,7 +43,8 @@ drop_all (suc i) [] le = refl
 drop_all zero (entry ∷ entries) le = absurd (omega arith)
 drop_all (suc i) (entry ∷ entries) le = drop_all i entries (omega arith)
 
-pub is_done : (told : NotTaken) (entries : List PacRecord) (i : ℕ) (capability : Capability) (effective : Effective) (total : Option NotTaken) → length entries ≤ i → last_reason told (drop i entries) capability effective ≡ total → Some told ≡ total
+pub is_done : (told : NotTaken) (entries : List PacRecord) (i : ℕ) (capability : Capability) (effective : Effective) (total : Option NotTaken) → length entries ≤ i
+    → last_reason told (drop i entries) capability effective ≡ total → Some told ≡ total
 is_done told entries i capability effective total le so_far =
     sym (ap (λ (es : List PacRecord). last_reason told es capability effective) (drop_all i entries le)) ∙ so_far
 
@@ -59,31 +63,37 @@ none_is : (found : Option NotTaken) → is_none found ≡ true → found ≡ Non
 none_is None e = refl
 none_is (Some reason) e = absurd cc
 
-any_fits : (capability : Capability) (effective : Effective) (entries : List PacRecord) → list_any (fits_test capability effective) entries ≡ true → Any (λ entry. FitsStream entry capability effective) entries
+any_fits : (capability : Capability) (effective : Effective) (entries : List PacRecord) → list_any (fits_test capability effective) entries ≡ true
+    → Any (λ entry. FitsStream entry capability effective) entries
 any_fits capability effective entries h =
     let (k, entry, lt, at, fits) = Any-from_list_any (fits_test capability effective) entries h in
     (k, entry, lt, at, none_is_fit entry capability effective (none_is (reason_of entry capability effective) fits))
 
-fits_any : (capability : Capability) (effective : Effective) (entries : List PacRecord) → Any (λ entry. FitsStream entry capability effective) entries → list_any (fits_test capability effective) entries ≡ true
+fits_any : (capability : Capability) (effective : Effective) (entries : List PacRecord) → Any (λ entry. FitsStream entry capability effective) entries
+    → list_any (fits_test capability effective) entries ≡ true
 fits_any capability effective entries (k, entry, lt, at, fits) =
     list_any-from_Any (fits_test capability effective) entries (k, entry, lt, at, ap is_none (fit_is_none entry capability effective fits))
 
 -- none is told exactly where the test finds a record
-told_none : (told : NotTaken) (capability : Capability) (effective : Effective) (entries : List PacRecord) → last_reason told entries capability effective ≡ None → list_any (fits_test capability effective) entries ≡ true
+told_none : (told : NotTaken) (capability : Capability) (effective : Effective) (entries : List PacRecord) → last_reason told entries capability effective ≡ None
+    → list_any (fits_test capability effective) entries ≡ true
 told_none told capability effective [] e = absurd cc
 told_none told capability effective (entry ∷ entries) e = by_reason (reason_of entry capability effective) refl e (λ reason rest. told_none reason capability effective entries rest)
   where
     by_reason : (found : Option NotTaken) → reason_of entry capability effective ≡ found → option_and_then (λ r. last_reason r entries capability effective) found ≡ None
-        → ((reason : NotTaken) → last_reason reason entries capability effective ≡ None → list_any (fits_test capability effective) entries ≡ true) → list_any (fits_test capability effective) (entry ∷ entries) ≡ true
+        → ((reason : NotTaken) → last_reason reason entries capability effective ≡ None → list_any (fits_test capability effective) entries ≡ true)
+        → list_any (fits_test capability effective) (entry ∷ entries) ≡ true
     by_reason None e rest others = rw e refl
     by_reason (Some reason) e rest others = rw e (others reason rest)
 
-none_told : (told : NotTaken) (capability : Capability) (effective : Effective) (entries : List PacRecord) → list_any (fits_test capability effective) entries ≡ true → last_reason told entries capability effective ≡ None
+none_told : (told : NotTaken) (capability : Capability) (effective : Effective) (entries : List PacRecord) → list_any (fits_test capability effective) entries ≡ true
+    → last_reason told entries capability effective ≡ None
 none_told told capability effective [] e = absurd cc
 none_told told capability effective (entry ∷ entries) e = by_reason (reason_of entry capability effective) refl (λ reason rest. none_told reason capability effective entries rest)
   where
     by_reason : (found : Option NotTaken) → reason_of entry capability effective ≡ found
-        → ((reason : NotTaken) → list_any (fits_test capability effective) entries ≡ true → last_reason reason entries capability effective ≡ None) → option_and_then (λ r. last_reason r entries capability effective) found ≡ None
+        → ((reason : NotTaken) → list_any (fits_test capability effective) entries ≡ true → last_reason reason entries capability effective ≡ None)
+        → option_and_then (λ r. last_reason r entries capability effective) found ≡ None
     by_reason None f others = refl
     by_reason (Some reason) f others = others reason (rw f at e)
 
@@ -98,7 +108,8 @@ abbrev Told : NotTaken → NotTaken → List PacRecord → Capability → Effect
 Told before told entries capability effective =
     ((entries ≡ []) × (told ≡ before)) ⊎ ((front : List PacRecord) × (last : PacRecord) × (entries ≡ front ++ last ∷ []) × IsReason told last capability effective)
 
-told_last : (before told : NotTaken) (capability : Capability) (effective : Effective) (entries : List PacRecord) → last_reason before entries capability effective ≡ Some told → Told before told entries capability effective
+told_last : (before told : NotTaken) (capability : Capability) (effective : Effective) (entries : List PacRecord) → last_reason before entries capability effective ≡ Some told
+    → Told before told entries capability effective
 told_last before told capability effective [] e = inl (refl, sym (same_Some before told e))
 told_last before told capability effective (entry ∷ entries) e = by_reason (reason_of entry capability effective) refl e (λ reason rest. told_last reason told capability effective entries rest)
   where
@@ -142,9 +153,11 @@ one_told a b capability effective (inl (none, x)) (inr (front, last, parts, is))
 one_told a b capability effective (inr (front, last, parts, is)) (inl (none, y)) = absurd (nothing front last (sym none ∙ parts))
 one_told a b capability effective (inr (front, last, parts, is)) (inr (others, end, ends, also)) =
     let same : last ≡ end = last_same front others last end (sym parts ∙ ends) in
-    same_Some a b (sym (reason_is_some last capability effective a is) ∙ reason_is_some last capability effective b (subst (λ (entry : PacRecord). IsReason b entry capability effective) (sym same) also))
+    same_Some a b (sym (reason_is_some last capability effective a is)
+    ∙ reason_is_some last capability effective b (subst (λ (entry : PacRecord). IsReason b entry capability effective) (sym same) also))
 
-pub some-not_taken : (capability : Capability) (effective : Effective) (reason : NotTaken) → (Takes capability effective → ⊥) → IsToldReason reason capability effective → not_taken capability effective ≡ Some reason
+pub some-not_taken : (capability : Capability) (effective : Effective) (reason : NotTaken) → (Takes capability effective → ⊥) → IsToldReason reason capability effective
+    → not_taken capability effective ≡ Some reason
 some-not_taken capability effective reason never told = by_found (not_taken capability effective) refl
   where
     by_found : (found : Option NotTaken) → not_taken capability effective ≡ found → found ≡ Some reason

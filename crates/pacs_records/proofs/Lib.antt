@@ -1,5 +1,6 @@
 pub mod Fields
 pub mod Loop
+pub mod Whole
 pub mod Stops
 pub mod Cuts
 pub mod Bits

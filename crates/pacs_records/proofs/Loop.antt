@@ -1,10 +1,10 @@
 -- Reading records one after the other, as a loop does.
-use Rattle.std.proofs.Common.{◌≡◌, ℕ, suc, ◌-◌, ◌+◌, ◌≤◌, ◌<◌, List, [], ◌∷◌, ◌++◌, length, Result, Ok, Err, refl, sym, ap, ◌∙◌, append_assoc, arith}
+use Rattle.std.proofs.Common.{◌≡◌, ℕ, suc, ◌-◌, ◌+◌, ◌≤◌, ◌<◌, List, [], ◌∷◌, ◌++◌, length, Result, Ok, Err, refl, sym, ap, subst, ◌∙◌, append_assoc, arith}
+use Rattle.std.specs.Prelude.{IsOk}
 use Rattle.std.proofs.lemmas.List.{append-nil}
 use Rattle.pacs_records.specs.declared.fault.PacFault.{PacFault}
-use Rattle.pacs_records.specs.declared.fault.PacFault.TheVariants.{TooLong, Short, Ltv, Trailing, Memory}
 use Rattle.pacs_records.specs.declared.record.PacRecord.{PacRecord}
-use Rattle.pacs_records.specs.Reading.{◌>>=◌, Fails, record_in, records_in}
+use Rattle.pacs_records.specs.Reading.{◌>>=◌, record_in, records_in, list_of, rest_of}
 
 -- what was read before, and what is still read
 abbrev pub with_front : List PacRecord → Result (List PacRecord × List ℕ) PacFault → Result (List PacRecord × List ℕ) PacFault
@@ -15,7 +15,8 @@ pub record SoFar (whole : List ℕ) (front : List PacRecord) (left : ℕ) (rest 
   pub same : with_front front (records_in whole left rest) ≡ total
   pub within : length rest ≤ length whole
 
-regroup : (front : List PacRecord) (entry : PacRecord) (read : Result (List PacRecord × List ℕ) PacFault) → with_front front (read >>= λ x. Ok (entry ∷ x.0, x.1)) ≡ with_front (front ++ entry ∷ []) read
+regroup : (front : List PacRecord) (entry : PacRecord) (read : Result (List PacRecord × List ℕ) PacFault)
+    → with_front front (read >>= λ x. Ok (entry ∷ x.0, x.1)) ≡ with_front (front ++ entry ∷ []) read
 regroup front entry (Ok x) = ap (λ (records : List PacRecord). Ok (records, x.1)) (simp append_assoc)
 regroup front entry (Err fault) = refl
 
@@ -28,31 +29,79 @@ begins whole count from h =
     one (Ok x) = refl
     one (Err fault) = refl
 
-pub goes_on : (whole : List ℕ) (front : List PacRecord) (count i : ℕ) (rest : List ℕ) (entry : PacRecord) (after : List ℕ) (total : Result (List PacRecord × List ℕ) PacFault) → i < count → record_in whole rest ≡ Ok (entry, after) → length after ≤ length whole
+pub goes_on : (whole : List ℕ) (front : List PacRecord) (count i : ℕ) (rest : List ℕ) (entry : PacRecord) (after : List ℕ) (total : Result (List PacRecord × List ℕ) PacFault) → i < count
+    → record_in whole rest ≡ Ok (entry, after) → length after ≤ length whole
     → SoFar whole front (count - i) rest total → SoFar whole (front ++ entry ∷ []) (count - (i + 1)) after total
 unfolding records_in
 goes_on whole front count i rest entry after total lt h within so_far =
     let k : count - i ≡ suc (count - (i + 1)) = omega arith in
-    let one : with_front front (records_in whole (count - i) rest) ≡ with_front (front ++ entry ∷ []) (records_in whole (count - (i + 1)) after) = rw (k, h) (regroup front entry (records_in whole (count - (i + 1)) after)) in
+    let one : with_front front (records_in whole (count - i) rest) ≡ with_front (front ++ entry ∷ []) (records_in whole (count - (i + 1)) after) =
+    rw (k, h) (regroup front entry (records_in whole (count - (i + 1)) after)) in
     record { same = sym one ∙ so_far.same; within = within }
 
-err_read : (whole : List ℕ) (front : List PacRecord) (count i : ℕ) (rest : List ℕ) (fault : PacFault) (total : Result (List PacRecord × List ℕ) PacFault) → i < count → record_in whole rest ≡ Err fault → SoFar whole front (count - i) rest total → total ≡ Err fault
+pub err_read : (whole : List ℕ) (front : List PacRecord) (count i : ℕ) (rest : List ℕ) (fault : PacFault) (total : Result (List PacRecord × List ℕ) PacFault) → i < count
+    → record_in whole rest ≡ Err fault → SoFar whole front (count - i) rest total → total ≡ Err fault
 unfolding records_in
 err_read whole front count i rest fault total lt h so_far =
     let k : count - i ≡ suc (count - (i + 1)) = omega arith in
     let one : with_front front (records_in whole (count - i) rest) ≡ Err fault = rw (k, h) refl in
     sym so_far.same ∙ one
 
-pub ends : (fault : PacFault) (whole : List ℕ) (front : List PacRecord) (count i : ℕ) (rest : List ℕ) (total : Result (List PacRecord × List ℕ) PacFault) → i < count → Fails fault (record_in whole rest) → SoFar whole front (count - i) rest total → Fails fault total
-ends Memory whole front count i rest total lt h so_far = tt
-ends TooLong whole front count i rest total lt h so_far = err_read whole front count i rest TooLong total lt h so_far
-ends (Short place) whole front count i rest total lt h so_far = err_read whole front count i rest (Short place) total lt h so_far
-ends (Ltv place bad) whole front count i rest total lt h so_far = err_read whole front count i rest (Ltv place bad) total lt h so_far
-ends (Trailing place) whole front count i rest total lt h so_far = err_read whole front count i rest (Trailing place) total lt h so_far
+-- where all are read, no record fails
+pub never_fails : (whole : List ℕ) (front : List PacRecord) (count i : ℕ) (rest : List ℕ) (fault : PacFault) (total : Result (List PacRecord × List ℕ) PacFault)
+    → i < count → record_in whole rest ≡ Err fault → SoFar whole front (count - i) rest total → IsOk total → ⊥
+never_fails whole front count i rest fault total lt h so_far ok =
+    let failed : total ≡ Err fault = err_read whole front count i rest fault total lt h so_far in
+    let no : IsOk {T = List PacRecord × List ℕ} {E = PacFault} (Err fault) = subst (λ (r : Result (List PacRecord × List ℕ) PacFault). IsOk r) failed ok in
+    cc
 
-pub is_done : (whole : List ℕ) (front : List PacRecord) (count i : ℕ) (rest : List ℕ) (total : Result (List PacRecord × List ℕ) PacFault) → count ≤ i → SoFar whole front (count - i) rest total → total ≡ Ok (front, rest)
+pub is_done : (whole : List ℕ) (front : List PacRecord) (count i : ℕ) (rest : List ℕ) (total : Result (List PacRecord × List ℕ) PacFault) → count ≤ i
+    → SoFar whole front (count - i) rest total → total ≡ Ok (front, rest)
 unfolding records_in
 is_done whole front count i rest total le so_far =
     let k : count - i ≡ 0 = omega arith in
     let one : with_front front (records_in whole (count - i) rest) ≡ Ok (front, rest) = rw k (ap (λ (records : List PacRecord). Ok (records, rest)) (append-nil front)) in
     sym so_far.same ∙ one
+
+pub list_done : (whole : List ℕ) (front : List PacRecord) (count i : ℕ) (rest : List ℕ) (total : Result (List PacRecord × List ℕ) PacFault)
+    → count ≤ i → SoFar whole front (count - i) rest total → list_of total ≡ Ok front
+list_done whole front count i rest total le so_far = ap list_of (is_done whole front count i rest total le so_far)
+
+-- ---- looking through the records
+
+-- what is left behind the rest is left behind all, and the rest is within the octets
+pub record Left (whole : List ℕ) (left : ℕ) (rest : List ℕ) (total : Result (List ℕ) PacFault) : Type 0 where
+  pub same : rest_of (records_in whole left rest) ≡ total
+  pub within : length rest ≤ length whole
+
+pub left_first : (whole : List ℕ) (count : ℕ) (from : List ℕ) → length from ≤ length whole → Left whole (count - 0) from (rest_of (records_in whole count from))
+left_first whole count from h =
+    let k : count - 0 ≡ count = omega arith in
+    record { same = ap (λ (n : ℕ). rest_of (records_in whole n from)) k; within = h }
+
+one_of : (entry : PacRecord) (read : Result (List PacRecord × List ℕ) PacFault) → rest_of (read >>= λ x. Ok (entry ∷ x.0, x.1)) ≡ rest_of read
+one_of entry (Ok x) = refl
+one_of entry (Err fault) = refl
+
+pub left_next : (whole : List ℕ) (count i : ℕ) (rest : List ℕ) (entry : PacRecord) (after : List ℕ) (total : Result (List ℕ) PacFault)
+    → i < count → record_in whole rest ≡ Ok (entry, after) → length after ≤ length whole → Left whole (count - i) rest total → Left whole (count - (i + 1)) after total
+unfolding records_in
+left_next whole count i rest entry after total lt h within l =
+    let k : count - i ≡ suc (count - (i + 1)) = omega arith in
+    let one : rest_of (records_in whole (count - i) rest) ≡ rest_of (records_in whole (count - (i + 1)) after) = rw (k, h) (one_of entry (records_in whole (count - (i + 1)) after)) in
+    record { same = sym one ∙ l.same; within = within }
+
+pub left_failed : (whole : List ℕ) (count i : ℕ) (rest : List ℕ) (fault : PacFault) (total : Result (List ℕ) PacFault)
+    → i < count → record_in whole rest ≡ Err fault → Left whole (count - i) rest total → total ≡ Err fault
+unfolding records_in
+left_failed whole count i rest fault total lt h l =
+    let k : count - i ≡ suc (count - (i + 1)) = omega arith in
+    let one : rest_of (records_in whole (count - i) rest) ≡ Err fault = rw (k, h) refl in
+    sym l.same ∙ one
+
+pub left_done : (whole : List ℕ) (count i : ℕ) (rest : List ℕ) (total : Result (List ℕ) PacFault) → count ≤ i → Left whole (count - i) rest total → total ≡ Ok rest
+unfolding records_in
+left_done whole count i rest total le l =
+    let k : count - i ≡ 0 = omega arith in
+    let one : rest_of (records_in whole (count - i) rest) ≡ Ok rest = rw k refl in
+    sym l.same ∙ one

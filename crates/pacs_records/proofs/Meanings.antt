@@ -40,7 +40,8 @@ three_mean false b c P Q R p q r = (λ h. absurd cc, λ (x, y, z). p.1 x)
 
 frequency_means : (config : Config) (caps : Caps) → (frequency_met config caps ≡ true) ↔ HasFrequency config caps
 frequency_means config caps =
-    present_means config.frequency (λ code. present caps.frequencies (λ set. nat_le 1 code && (nat_le code 16 && has set (code - 1)))) (λ code. IsSomeAnd caps.frequencies (λ set. (1 ≤ code) × (code ≤ 16) × Has set (code - 1)))
+    present_means config.frequency (λ code. present caps.frequencies (λ set. nat_le 1 code && (nat_le code 16 && has set (code - 1))))
+    (λ code. IsSomeAnd caps.frequencies (λ set. (1 ≤ code) × (code ≤ 16) × Has set (code - 1)))
     (λ code. present_means caps.frequencies (λ set. nat_le 1 code && (nat_le code 16 && has set (code - 1))) (λ set. (1 ≤ code) × (code ≤ 16) × Has set (code - 1))
     (λ set. three_mean (nat_le 1 code) (nat_le code 16) (has set (code - 1)) (1 ≤ code) (code ≤ 16) (Has set (code - 1)) (at_most 1 code) (at_most code 16) (has_means set (code - 1))))
 
@@ -54,13 +55,15 @@ frame_octets_mean : (config : Config) (caps : Caps) → (frame_octets_met config
 frame_octets_mean config caps =
     present_means config.frame_octets (λ octets. present caps.least (λ least. present caps.greatest (λ greatest. nat_le least octets && nat_le octets greatest)))
     (λ octets. IsSomeAnd caps.least (λ least. IsSomeAnd caps.greatest (λ greatest. (least ≤ octets) × (octets ≤ greatest))))
-    (λ octets. present_means caps.least (λ least. present caps.greatest (λ greatest. nat_le least octets && nat_le octets greatest)) (λ least. IsSomeAnd caps.greatest (λ greatest. (least ≤ octets) × (octets ≤ greatest)))
+    (λ octets. present_means caps.least (λ least. present caps.greatest (λ greatest. nat_le least octets && nat_le octets greatest))
+    (λ least. IsSomeAnd caps.greatest (λ greatest. (least ≤ octets) × (octets ≤ greatest)))
     (λ least. present_means caps.greatest (λ greatest. nat_le least octets && nat_le octets greatest) (λ greatest. (least ≤ octets) × (octets ≤ greatest))
     (λ greatest. both_mean (nat_le least octets) (nat_le octets greatest) (least ≤ octets) (octets ≤ greatest) (at_most least octets) (at_most octets greatest))))
 
 channels_mean : (config : Config) (caps : Caps) → (channels_met config caps ≡ true) ↔ HasChannels config caps
 channels_mean config caps =
-    both_mean (nat_le (channel_count config.allocation) 8) (has (unwrap_or caps.counts 1) (channel_count config.allocation - 1)) (channel_count config.allocation ≤ 8) (Has (unwrap_or caps.counts 1) (channel_count config.allocation - 1))
+    both_mean (nat_le (channel_count config.allocation) 8) (has (unwrap_or caps.counts 1) (channel_count config.allocation - 1)) (channel_count config.allocation ≤ 8)
+    (Has (unwrap_or caps.counts 1) (channel_count config.allocation - 1))
     (at_most (channel_count config.allocation) 8) (has_means (unwrap_or caps.counts 1) (channel_count config.allocation - 1))
 
 frames_mean : (config : Config) (caps : Caps) → (frames_met config caps ≡ true) ↔ HasFrames config caps
@@ -74,8 +77,10 @@ unless_means (suc n) b P h =
 
 location_means : (config : Config) (locations : ℕ) → (location_met config locations ≡ true) ↔ IsPlaced config locations
 location_means config locations =
-    unless_means (unwrap_or config.allocation 0) (eqb locations 0 || not (eqb (bit_and (unwrap_or config.allocation 0) locations) 0)) (0 < locations → ShareBit (unwrap_or config.allocation 0) locations)
-    (unless_means locations (not (eqb (bit_and (unwrap_or config.allocation 0) locations) 0)) (ShareBit (unwrap_or config.allocation 0) locations) (share_means (unwrap_or config.allocation 0) locations))
+    unless_means (unwrap_or config.allocation 0) (eqb locations 0 || not (eqb (bit_and (unwrap_or config.allocation 0) locations) 0))
+    (0 < locations → ShareBit (unwrap_or config.allocation 0) locations)
+    (unless_means locations (not (eqb (bit_and (unwrap_or config.allocation 0) locations) 0)) (ShareBit (unwrap_or config.allocation 0) locations)
+    (share_means (unwrap_or config.allocation 0) locations))
 
 context_means : (contexts : Option ℕ) (available : ℕ) → (context_met contexts available ≡ true) ↔ HasContext contexts available
 context_means contexts available = share_means (unwrap_or contexts 1) available
@@ -107,10 +112,17 @@ for_lc3 codec b P h = by_test (is_lc3 codec) refl
 
 pub met_means : (entry : PacRecord) (capability : Capability) (effective : Effective) (reason : NotTaken) → (met entry capability effective reason ≡ true) ↔ Meets reason entry capability effective
 met_means entry capability effective Codec = bytes_eq-Decides entry.codec effective.codec
-met_means entry capability effective Frequency = for_lc3 effective.codec (frequency_met effective.config (caps_in entry.caps)) (HasFrequency effective.config (caps_in entry.caps)) (frequency_means effective.config (caps_in entry.caps))
-met_means entry capability effective Duration = for_lc3 effective.codec (duration_met effective.config (caps_in entry.caps)) (HasDuration effective.config (caps_in entry.caps)) (duration_means effective.config (caps_in entry.caps))
-met_means entry capability effective FrameOctets = for_lc3 effective.codec (frame_octets_met effective.config (caps_in entry.caps)) (HasFrameOctets effective.config (caps_in entry.caps)) (frame_octets_mean effective.config (caps_in entry.caps))
-met_means entry capability effective Channels = for_lc3 effective.codec (channels_met effective.config (caps_in entry.caps)) (HasChannels effective.config (caps_in entry.caps)) (channels_mean effective.config (caps_in entry.caps))
-met_means entry capability effective FramesPerSdu = for_lc3 effective.codec (frames_met effective.config (caps_in entry.caps)) (HasFrames effective.config (caps_in entry.caps)) (frames_mean effective.config (caps_in entry.caps))
-met_means entry capability effective Location = for_lc3 effective.codec (location_met effective.config capability.locations) (IsPlaced effective.config capability.locations) (location_means effective.config capability.locations)
-met_means entry capability effective Context = for_lc3 effective.codec (context_met effective.contexts capability.contexts) (HasContext effective.contexts capability.contexts) (context_means effective.contexts capability.contexts)
+met_means entry capability effective Frequency =
+    for_lc3 effective.codec (frequency_met effective.config (caps_in entry.caps)) (HasFrequency effective.config (caps_in entry.caps)) (frequency_means effective.config (caps_in entry.caps))
+met_means entry capability effective Duration =
+    for_lc3 effective.codec (duration_met effective.config (caps_in entry.caps)) (HasDuration effective.config (caps_in entry.caps)) (duration_means effective.config (caps_in entry.caps))
+met_means entry capability effective FrameOctets =
+    for_lc3 effective.codec (frame_octets_met effective.config (caps_in entry.caps)) (HasFrameOctets effective.config (caps_in entry.caps)) (frame_octets_mean effective.config (caps_in entry.caps))
+met_means entry capability effective Channels =
+    for_lc3 effective.codec (channels_met effective.config (caps_in entry.caps)) (HasChannels effective.config (caps_in entry.caps)) (channels_mean effective.config (caps_in entry.caps))
+met_means entry capability effective FramesPerSdu =
+    for_lc3 effective.codec (frames_met effective.config (caps_in entry.caps)) (HasFrames effective.config (caps_in entry.caps)) (frames_mean effective.config (caps_in entry.caps))
+met_means entry capability effective Location =
+    for_lc3 effective.codec (location_met effective.config capability.locations) (IsPlaced effective.config capability.locations) (location_means effective.config capability.locations)
+met_means entry capability effective Context =
+    for_lc3 effective.codec (context_met effective.contexts capability.contexts) (HasContext effective.contexts capability.contexts) (context_means effective.contexts capability.contexts)

@@ -1,6 +1,7 @@
 -- A fault is the one at the cut.
-use Rattle.std.proofs.Common.{◌≡◌, ℕ, zero, suc, ◌+◌, ◌-◌, ◌<◌, ◌≤◌, ◌⊎◌, Bool, true, false, cond, eqb, ltb, List, [], ◌∷◌, ◌++◌, length, take, drop, Option, Some, None, Result, Ok, Err, refl, sym, ap, subst, ◌∙◌, append_assoc, arith, inl, inr}
-use Rattle.std.specs.Prelude.{IfErr}
+use Rattle.std.proofs.Common.{◌≡◌, ℕ, zero, suc, ◌+◌, ◌-◌, ◌<◌, ◌≤◌, ◌⊎◌, Bool, true, false, cond, eqb, ltb, List, [], ◌∷◌, ◌++◌, length, take, drop, Option, Some, None, Result}
+use Rattle.std.proofs.Common.{Ok, Err, refl, sym, ap, subst, ◌∙◌, append_assoc, arith, inl, inr}
+use Rattle.std.specs.Prelude.{IfErr, IsOk}
 use Rattle.std.specs.List.{flat_map, AllByRecursion}
 use Rattle.std.specs.Result.{result_err}
 use Rattle.std.proofs.lemmas.Bool.{eqb-true, ltb-true, ltb-false, ne_eqb}
@@ -13,16 +14,18 @@ use Rattle.octet_fields.proofs.Fields.{octet_takes, octets_take, IsOctets-front,
 use Rattle.ltv_codec.specs.declared.fault.LtvBad.{LtvBad}
 use Rattle.ltv_codec.specs.declared.ltvs.Ltv.{Ltv as Structure}
 use Rattle.ltv_codec.specs.Faults.{IsBad}
-use Rattle.ltv_codec.specs.Reading.{ltvs_of, bad_of, AreLtvs}
+use Rattle.ltv_codec.specs.Layout.{AreLtvs}
+use Rattle.ltv_codec.specs.Reading.{ltvs_of, bad_of}
 use Rattle.ltv_codec.proofs.Lists.{read_bad}
 use Rattle.pacs_records.specs.declared.fault.PacFault.{PacFault}
 use Rattle.pacs_records.specs.declared.fault.PacFault.TheVariants.{TooLong, Short, Ltv, Trailing, Memory}
 use Rattle.pacs_records.specs.declared.record.PacRecord.{PacRecord}
-use Rattle.pacs_records.specs.Faults.{Fields, to_codec, to_caps_length, to_caps, to_metadata_length, to_metadata, octets_of, next_length, MeetRows, IsNextList, Cut, IsShort, IsNoList, IsTrailing, IsFault}
+use Rattle.pacs_records.specs.Faults.{Fields, to_codec, to_caps_length, to_caps, to_metadata_length, to_metadata, octets_of, next_length, MeetRows, IsNextList, Cut, IsShort}
+use Rattle.pacs_records.specs.Faults.{IsNoList, IsTrailing, IsFault}
 use Rattle.base_grammar.specs.Layout.{lc3, is_lc3}
-use Rattle.pacs_records.specs.Layout.{greatest_value, spelled, value, Fits}
+use Rattle.pacs_records.specs.Layout.{greatest_value, spelled, value, Fits, PacIs}
 use Rattle.pacs_records.specs.Reading.{◌>>=◌, Fails, Gives, field_at, codec_in, checked, run_in, record_in, records_in, value_in}
-use Rattle.pacs_records.proofs.Fields.{field_ok, is_lc3-true, lc3-is, run_takes, record_takes, records_take}
+use Rattle.pacs_records.proofs.Fields.{field_ok, is_lc3-true, lc3-is, run_takes, record_takes, records_take, value_takes}
 
 -- ---- steps that fail
 
@@ -82,10 +85,12 @@ record RunCut (listed : Bool) (whole from : List ℕ) (fault : PacFault) : Type 
   parts : from ≡ count ∷ rest
   why : ((Short (place_in whole rest) ≡ fault) × (length rest < count)) ⊎ ((listed ≡ true) × NoList whole count rest fault)
 
-run_stops : (listed : Bool) (whole from : List ℕ) (fault : PacFault) → IsOctets from → run_in listed whole from ≡ Err fault → ((from ≡ []) × (Short (place_in whole from) ≡ fault)) ⊎ RunCut listed whole from fault
+run_stops : (listed : Bool) (whole from : List ℕ) (fault : PacFault) → IsOctets from → run_in listed whole from ≡ Err fault → ((from ≡ []) × (Short (place_in whole from) ≡ fault))
+    ⊎ RunCut listed whole from fault
 unfolding run_in
 run_stops listed whole from fault fits e =
-    elim (bind_err (field_at (place_in whole from) (octet_in from)) (λ count. field_at (place_in whole count.1) (octets_in count.0 count.1) >>= λ run. checked (place_in whole count.1) listed (bad_of run.0) run) fault e) [
+    elim (bind_err (field_at (place_in whole from) (octet_in from))
+    (λ count. field_at (place_in whole count.1) (octets_in count.0 count.1) >>= λ run. checked (place_in whole count.1) listed (bad_of run.0) run) fault e) [
       | inl none ↦
           let f = field_err (place_in whole from) (octet_in from) fault none in
           inl (no_octet from f.0, f.1)
@@ -99,7 +104,13 @@ run_stops listed whole from fault fits e =
                 let t1 = octets_take a.0.0 a.0.1 b.0.0 b.0.1 (field_ok (place_in whole a.0.1) (octets_in a.0.0 a.0.1) b.0 b.1) in
                 let c = checked_err (place_in whole a.0.1) listed (bad_of b.0.0) b.0 fault b.2 in
                 let run_fits : IsOctets b.0.0 = IsOctets-front b.0.0 b.0.1 (subst IsOctets t1.0.parts (t0.fits fits)) in
-                record { count = a.0.0; rest = a.0.1; parts = t0.parts; why = inr (c.1, record { bad = c.0; run = b.0.0; behind = b.0.1; long = t1.1; parts = t1.0.parts; what = bad_is b.0.0 c.0 run_fits c.2; same = c.3 }) }
+                record {
+                  count = a.0.0;
+                  rest = a.0.1;
+                  parts = t0.parts;
+                  why =
+                      inr (c.1, record { bad = c.0; run = b.0.0; behind = b.0.1; long = t1.1; parts = t1.0.parts; what = bad_is b.0.0 c.0 run_fits c.2; same = c.3 });
+                }
           ])
     ]
 
@@ -116,7 +127,8 @@ record RecordStop (whole from : List ℕ) (fault : PacFault) : Type 0 where
   stop : Stop whole fields rest fault
   parts : from ≡ octets_of fields ++ rest
 
-caps_stop : (whole codec from : List ℕ) (fault : PacFault) → length codec ≡ 5 → ((from ≡ []) × (Short (place_in whole from) ≡ fault)) ⊎ RunCut (is_lc3 codec) whole from fault → RecordStop whole (codec ++ from) fault
+caps_stop : (whole codec from : List ℕ) (fault : PacFault) → length codec ≡ 5 → ((from ≡ []) × (Short (place_in whole from) ≡ fault)) ⊎ RunCut (is_lc3 codec) whole from fault
+    → RecordStop whole (codec ++ from) fault
 caps_stop whole codec from fault five (inl (none, same)) =
     record { fields = to_caps_length codec; rest = from; stop = record { meet = five; why = inl (same, omega (arith, ap length none)) }; parts = refl }
 caps_stop whole codec from fault five (inr cut) =
@@ -126,12 +138,14 @@ caps_stop whole codec from fault five (inr cut) =
       | inr (listed, none) ↦ record { fields = to_caps codec cut.count; rest = cut.rest; stop = record { meet = five; why = inr (is_lc3-true codec listed, none) }; parts = parts }
     ]
 
-metadata_stop : (whole codec caps from : List ℕ) (fault : PacFault) → length codec ≡ 5 → (codec ≡ lc3 → AreLtvs caps) → ((from ≡ []) × (Short (place_in whole from) ≡ fault)) ⊎ RunCut true whole from fault
+metadata_stop : (whole codec caps from : List ℕ) (fault : PacFault) → length codec ≡ 5 → (codec ≡ lc3 → AreLtvs caps) → ((from ≡ []) × (Short (place_in whole from) ≡ fault))
+    ⊎ RunCut true whole from fault
     → RecordStop whole ((codec ++ counted caps) ++ from) fault
 metadata_stop whole codec caps from fault five listed (inl (none, same)) =
     record { fields = to_metadata_length codec caps; rest = from; stop = record { meet = (five, listed); why = inl (same, omega (arith, ap length none)) }; parts = refl }
 metadata_stop whole codec caps from fault five listed (inr cut) =
-    let parts : (codec ++ counted caps) ++ from ≡ ((codec ++ counted caps) ++ cut.count ∷ []) ++ cut.rest = ap (λ (os : List ℕ). (codec ++ counted caps) ++ os) cut.parts ∙ sym (append_assoc (codec ++ counted caps) (cut.count ∷ []) cut.rest) in
+    let parts : (codec ++ counted caps) ++ from ≡ ((codec ++ counted caps) ++ cut.count ∷ []) ++ cut.rest = ap (λ (os : List ℕ). (codec ++ counted caps) ++ os) cut.parts
+    ∙ sym (append_assoc (codec ++ counted caps) (cut.count ∷ []) cut.rest) in
     elim cut.why [
       | inl short ↦ record { fields = to_metadata codec caps cut.count; rest = cut.rest; stop = record { meet = (five, listed); why = inl short }; parts = parts }
       | inr (so, none) ↦ record { fields = to_metadata codec caps cut.count; rest = cut.rest; stop = record { meet = (five, listed); why = inr (tt, none) }; parts = parts }
@@ -140,13 +154,16 @@ metadata_stop whole codec caps from fault five listed (inr cut) =
 record_stops : (whole from : List ℕ) (fault : PacFault) → IsOctets from → record_in whole from ≡ Err fault → RecordStop whole from fault
 unfolding record_in
 record_stops whole from fault fits e =
-    elim (bind_err (codec_in whole from) (λ codec. run_in (is_lc3 codec.0) whole codec.1 >>= λ caps. run_in true whole caps.1 >>= λ metadata. Ok (record { codec = codec.0; caps = caps.0; metadata = metadata.0 }, metadata.1)) fault e) [
+    elim (bind_err (codec_in whole from)
+    (λ codec. run_in (is_lc3 codec.0) whole codec.1 >>= λ caps. run_in true whole caps.1
+    >>= λ metadata. Ok (record { codec = codec.0; caps = caps.0; metadata = metadata.0 }, metadata.1)) fault e) [
       | inl none ↦
           let f = field_err (place_in whole from) (octets_in 5 from) fault none in
           record { fields = to_codec; rest = from; stop = record { meet = tt; why = inl (f.1, too_few 5 from f.0) }; parts = refl }
       | inr a ↦
           let t0 = octets_take 5 from a.0.0 a.0.1 (field_ok (place_in whole from) (octets_in 5 from) a.0 a.1) in
-          elim (bind_err (run_in (is_lc3 a.0.0) whole a.0.1) (λ caps. run_in true whole caps.1 >>= λ metadata. Ok (record { codec = a.0.0; caps = caps.0; metadata = metadata.0 }, metadata.1)) fault a.2) [
+          elim (bind_err (run_in (is_lc3 a.0.0) whole a.0.1)
+          (λ caps. run_in true whole caps.1 >>= λ metadata. Ok (record { codec = a.0.0; caps = caps.0; metadata = metadata.0 }, metadata.1)) fault a.2) [
             | inl none ↦ rw t0.0.parts (caps_stop whole a.0.0 a.0.1 fault t0.1 (run_stops (is_lc3 a.0.0) whole a.0.1 fault (t0.0.fits fits) none))
             | inr b ↦
                 let t1 = run_takes (is_lc3 a.0.0) whole a.0.1 b.0 (t0.0.fits fits) b.1 in
@@ -169,7 +186,8 @@ record RecordsStop (whole : List ℕ) (count : ℕ) (from : List ℕ) (fault : P
   stop : Stop whole fields rest fault
   parts : from ≡ flat_map spelled records ++ octets_of fields ++ rest
 
-one_more : (whole : List ℕ) (count : ℕ) (from : List ℕ) (fault : PacFault) (entry : PacRecord) (after : List ℕ) → Takes from (spelled entry) after → Fits entry → RecordsStop whole count after fault → RecordsStop whole (suc count) from fault
+one_more : (whole : List ℕ) (count : ℕ) (from : List ℕ) (fault : PacFault) (entry : PacRecord) (after : List ℕ) → Takes from (spelled entry) after → Fits entry
+    → RecordsStop whole count after fault → RecordsStop whole (suc count) from fault
 one_more whole count from fault entry after t fits s =
     let parts : from ≡ flat_map spelled (entry ∷ s.records) ++ octets_of s.fields ++ s.rest =
     t.parts ∙ ap (λ (os : List ℕ). spelled entry ++ os) (s.parts ∙ append_assoc (flat_map spelled s.records) (octets_of s.fields) s.rest)
@@ -200,7 +218,18 @@ abbrev cut_of : (count : ℕ) (from : List ℕ) (fault : PacFault) (s : RecordsS
 cut_of count from fault s =
     let long : length from ≡ length (flat_map spelled s.records) + length (octets_of s.fields) + length s.rest =
     ap length s.parts ∙ length-append (flat_map spelled s.records ++ octets_of s.fields) s.rest ∙ ap (λ (n : ℕ). n + length s.rest) (length-append (flat_map spelled s.records) (octets_of s.fields)) in
-    record { count = count; records = s.records; fields = s.fields; rest = s.rest; due = s.due; fit = s.fit; meet = s.stop.meet; parts = ap (λ (os : List ℕ). count ∷ os) s.parts; at = omega (arith, long) }
+    record {
+      count = count;
+      records = s.records;
+      fields = s.fields;
+      rest = s.rest;
+      due = s.due;
+      fit = s.fit;
+      meet = s.stop.meet;
+      parts = ap (λ (os : List ℕ). count ∷ os) s.parts;
+      at =
+          omega (arith, long);
+    }
 
 records_fault : (count : ℕ) (from : List ℕ) (fault : PacFault) → length (count ∷ from) ≤ greatest_value → RecordsStop (count ∷ from) count from fault → IsFault fault (count ∷ from)
 records_fault count from fault small s =
@@ -210,22 +239,26 @@ records_fault count from fault small s =
       | inr (list, none) ↦ rw (← none.same) (small, record { cut = cut; list = list; run = none.run; behind = none.behind; whole = none.long; parts = none.parts; what = none.what })
     ]
 
-trailing_fault : (octets : List ℕ) (count : ℕ) (from rest : List ℕ) (records : List PacRecord) → length octets ≤ greatest_value → octets ≡ count ∷ from → Takes from (flat_map spelled records) rest → length records ≡ count → AllByRecursion Fits records → 0 < length rest
+trailing_fault : (octets : List ℕ) (count : ℕ) (from rest : List ℕ) (records : List PacRecord) → length octets ≤ greatest_value → octets ≡ count ∷ from
+    → Takes from (flat_map spelled records) rest → length records ≡ count → AllByRecursion Fits records → 0 < length rest
     → IsFault (Trailing (place_in octets rest)) octets
 trailing_fault octets count from rest records small is t all fit more =
     let parts : octets ≡ value records ++ rest = is ∙ ap (λ (os : List ℕ). count ∷ os) t.parts ∙ ap (λ (n : ℕ). n ∷ (flat_map spelled records ++ rest)) (sym all) in
     let long : length octets ≡ length (value records) + length rest = ap length parts ∙ length-append (value records) rest in
     (small, record { records = records; rest = rest; fit = fit; more = more; parts = parts; at = omega (arith, long) })
 
-not_ended : (octets rest : List ℕ) (records : List PacRecord) (fault : PacFault) → cond (eqb (length rest) 0) (Ok records) (Err (Trailing (place_in octets rest))) ≡ Err fault → (0 < length rest) × (Trailing (place_in octets rest) ≡ fault)
+not_ended : (octets rest : List ℕ) (records : List PacRecord) (fault : PacFault) → cond (eqb (length rest) 0) (Ok records) (Err (Trailing (place_in octets rest))) ≡ Err fault
+    → (0 < length rest) × (Trailing (place_in octets rest) ≡ fault)
 not_ended octets rest records fault e = by_test rest (Trailing (place_in octets rest)) (eqb (length rest) 0) refl e
   where
-    by_test : (left : List ℕ) (other : PacFault) (b : Bool) → eqb (length left) 0 ≡ b → cond {A = Result (List PacRecord) PacFault} b (Ok records) (Err other) ≡ Err fault → (0 < length left) × (other ≡ fault)
+    by_test : (left : List ℕ) (other : PacFault) (b : Bool) → eqb (length left) 0 ≡ b → cond {A = Result (List PacRecord) PacFault} b (Ok records) (Err other) ≡ Err fault → (0 < length left)
+        × (other ≡ fault)
     by_test left other true t e = absurd (ok_no records fault e)
     by_test [] other false t e = absurd cc
     by_test (first ∷ left) other false t e = (omega arith, err_is {A = List PacRecord} other fault e)
 
-guard_err : {A : Type 0} (b : Bool) (other : PacFault) (read : Result A PacFault) (fault : PacFault) → cond b (Err other) read ≡ Err fault → ((b ≡ true) × (other ≡ fault)) ⊎ ((b ≡ false) × (read ≡ Err fault))
+guard_err : {A : Type 0} (b : Bool) (other : PacFault) (read : Result A PacFault) (fault : PacFault) → cond b (Err other) read ≡ Err fault → ((b ≡ true) × (other ≡ fault))
+    ⊎ ((b ≡ false) × (read ≡ Err fault))
 guard_err {A = A} true other read fault e = inl (refl, err_is {A = A} other fault e)
 guard_err false other read fault e = inr (refl, e)
 
@@ -251,7 +284,8 @@ no_count (first ∷ octets) small none = absurd cc
 pub value_stops : (fault : PacFault) (octets : List ℕ) → IsOctets octets → value_in octets ≡ Err fault → IsFault fault octets
 unfolding value_in
 value_stops fault octets fits e =
-    elim (guard_err (ltb greatest_value (length octets)) TooLong (field_at 0 (octet_in octets) >>= λ count. records_in octets count.0 count.1 >>= λ x. cond (eqb (length x.1) 0) (Ok x.0) (Err (Trailing (place_in octets x.1)))) fault e) [
+    elim (guard_err (ltb greatest_value (length octets)) TooLong
+    (field_at 0 (octet_in octets) >>= λ count. records_in octets count.0 count.1 >>= λ x. cond (eqb (length x.1) 0) (Ok x.0) (Err (Trailing (place_in octets x.1)))) fault e) [
       | inl (long, same) ↦ rw (← same) (ltb-true _ _ long)
       | inr (short, read) ↦
           let small : length octets ≤ greatest_value = ltb-false _ _ short in
@@ -263,9 +297,14 @@ value_stops fault octets fits e =
           ]
     ]
 
-pub is_fault : (octets : List ℕ) (result : Result (List PacRecord) PacFault) → IsOctets octets → Gives (λ records. records) result (value_in octets) → IfErr result (λ fault. IsFault fault octets)
+a_value : (octets : List ℕ) (read : Result (List PacRecord) PacFault) → IsOctets octets → value_in octets ≡ read → IsOk read
+    → (records : List PacRecord) × PacIs records octets
+a_value octets (Ok records) fits e ok = (records, value_takes octets records fits e)
+a_value octets (Err fault) fits e ok = absurd cc
+
+pub is_fault : (octets : List ℕ) (result : Result (List PacRecord) PacFault) → IsOctets octets → Gives result (value_in octets) → IfErr result (λ fault. IsFault fault octets)
 is_fault octets (Ok records) fits given = tt
-is_fault octets (Err Memory) fits given = tt
+is_fault octets (Err Memory) fits given = a_value octets (value_in octets) fits refl given
 is_fault octets (Err TooLong) fits given = value_stops TooLong octets fits given
 is_fault octets (Err (Short place)) fits given = value_stops (Short place) octets fits given
 is_fault octets (Err (Ltv place bad)) fits given = value_stops (Ltv place bad) octets fits given

@@ -6,12 +6,12 @@ use Rattle.std.specs.List.{flat_map, AllByRecursion}
 use Rattle.octet_fields.specs.Spelling.{counted}
 use Rattle.ltv_codec.specs.declared.fault.LtvBad.{LtvBad}
 use Rattle.ltv_codec.specs.Faults.{IsBad}
-use Rattle.ltv_codec.specs.Reading.{AreLtvs}
+use Rattle.ltv_codec.specs.Layout.{AreLtvs}
 use Rattle.pacs_records.specs.declared.fault.PacFault.{PacFault}
 use Rattle.pacs_records.specs.declared.fault.PacFault.TheVariants.{TooLong, Short, Ltv, Trailing, Memory}
 use Rattle.pacs_records.specs.declared.record.PacRecord.{PacRecord}
 use Rattle.base_grammar.specs.Layout.{lc3}
-use Rattle.pacs_records.specs.Layout.{greatest_value, spelled, value, Fits}
+use Rattle.pacs_records.specs.Layout.{greatest_value, spelled, value, Fits, PacIs}
 
 -- The whole fields of a record that isn't read to its end. Each names the field that comes next.
 pub data Fields : Type 0 where
@@ -94,10 +94,10 @@ pub record IsTrailing (place : ℕ) (octets : List ℕ) : Type 0 where
   pub parts : octets ≡ value records ++ rest
   pub at : place ≡ length (value records)
 
--- this is what is wrong with the octets; want of memory is free
+-- this is what is wrong with the octets; only a value is refused for want of memory
 abbrev pub IsFault : PacFault → List ℕ → Type 0
 IsFault TooLong octets = greatest_value < length octets
 IsFault (Short place) octets = (length octets ≤ greatest_value) × IsShort place octets
 IsFault (Ltv place bad) octets = (length octets ≤ greatest_value) × IsNoList place bad octets
 IsFault (Trailing place) octets = (length octets ≤ greatest_value) × IsTrailing place octets
-IsFault Memory octets = Unit {0}
+IsFault Memory octets = (records : List PacRecord) × PacIs records octets

@@ -5,7 +5,7 @@ use Rattle.std.specs.Prelude.{ℕ, ◌<◌, ◌≤◌, ◌≡◌, List, [], ◌�
 use Rattle.std.specs.List.{flat_map, AllByRecursion}
 use Rattle.base_grammar.specs.Layout.{lc3}
 use Rattle.octet_fields.specs.Spelling.{counted}
-use Rattle.ltv_codec.specs.Reading.{AreLtvs}
+use Rattle.ltv_codec.specs.Layout.{AreLtvs}
 use Rattle.pacs_records.specs.declared.record.PacRecord.{PacRecord}
 
 -- the most octets of a value

@@ -9,7 +9,8 @@ use Rattle.base_grammar.specs.Effective.{effective_of}
 use Rattle.base_grammar.specs.declared.effective.Effective.{Effective}
 use Rattle.ltv_codec.specs.declared.caps.Caps.{Caps}
 use Rattle.ltv_codec.specs.declared.config.Config.{Config}
-use Rattle.ltv_codec.specs.Values.{number_in, value_in, least_of, greatest_of, supported_sampling_frequencies, supported_frame_durations, supported_audio_channel_counts, supported_octets_per_codec_frame, supported_max_codec_frames_per_sdu}
+use Rattle.ltv_codec.specs.Values.{number_in, value_in, least_of, greatest_of, supported_sampling_frequencies, supported_frame_durations, supported_audio_channel_counts}
+use Rattle.ltv_codec.specs.Values.{supported_octets_per_codec_frame, supported_max_codec_frames_per_sdu}
 use Rattle.pacs_records.specs.declared.capability.Capability.{Capability}
 use Rattle.pacs_records.specs.declared.not_taken.NotTaken.{NotTaken}
 use Rattle.pacs_records.specs.declared.not_taken.NotTaken.TheVariants.{Codec, Frequency, Duration, FrameOctets, Channels, FramesPerSdu, Location, Context}

@@ -1,6 +1,6 @@
 -- Reading a Sink PAC value (Published Audio Capabilities Service 1.0, section 3.1) field by field, with the first fault
 -- that is met.
-use Rattle.std.specs.Prelude.{ℕ, zero, suc, ◌≡◌, Bool, true, false, List, [], ◌∷◌, length, Option, Some, None, Result, Ok, Err, nat_lt, ◌==◌, if◌then◌else◌}
+use Rattle.std.specs.Prelude.{ℕ, zero, suc, ◌≡◌, Bool, true, false, List, [], ◌∷◌, length, Option, Some, None, Result, Ok, Err, IsOk, nat_lt, ◌==◌, if◌then◌else◌}
 use Rattle.octet_fields.specs.Reading.{octet_in, octets_in, place_in}
 use Rattle.ltv_codec.specs.declared.fault.LtvBad.{LtvBad}
 use Rattle.ltv_codec.specs.Reading.{bad_of}
@@ -15,17 +15,22 @@ abbrev pub ◌>>=◌ : {A B : Type 0} → Result A PacFault → (A → Result B 
 (Ok x) >>= f = f x
 (Err e) >>= f = Err e
 
--- what a function returned, seen by view, is what reading gives, unless memory ran out
+-- what a function returned, seen by view, is what reading gives
+abbrev pub Reads : {X Y : Type 0} → (X → Y) → Result X PacFault → Result Y PacFault → Type 0
+Reads view (Ok x) read = read ≡ Ok (view x)
+Reads view (Err fault) read = read ≡ Err fault
+
+-- the same, unless memory ran out for what is read
 abbrev pub Fails : {Y : Type 0} → PacFault → Result Y PacFault → Type 0
-Fails Memory read = Unit {0}
+Fails Memory read = IsOk read
 Fails TooLong read = read ≡ Err TooLong
 Fails (Short place) read = read ≡ Err (Short place)
 Fails (Ltv place fault) read = read ≡ Err (Ltv place fault)
 Fails (Trailing place) read = read ≡ Err (Trailing place)
 
-abbrev pub Gives : {X Y : Type 0} → (X → Y) → Result X PacFault → Result Y PacFault → Type 0
-Gives view (Ok x) read = read ≡ Ok (view x)
-Gives view (Err fault) read = Fails fault read
+abbrev pub Gives : Result (List PacRecord) PacFault → Result (List PacRecord) PacFault → Type 0
+Gives (Ok records) read = read ≡ Ok records
+Gives (Err fault) read = Fails fault read
 
 -- a whole field, or the place at which it begins
 abbrev pub field_at : {A : Type 0} → ℕ → Option A → Result A PacFault
@@ -62,6 +67,15 @@ records_in whole (suc count) from = do
   first ← record_in whole from
   others ← records_in whole count first.1
   Ok (first.0 ∷ others.0, others.1)
+
+-- the records, and the octets behind them
+abbrev pub list_of : Result (List PacRecord × List ℕ) PacFault → Result (List PacRecord) PacFault
+list_of (Ok read) = Ok read.0
+list_of (Err fault) = Err fault
+
+abbrev pub rest_of : Result (List PacRecord × List ℕ) PacFault → Result (List ℕ) PacFault
+rest_of (Ok read) = Ok read.1
+rest_of (Err fault) = Err fault
 
 -- all of the octets
 unfoldable pub value_in : List ℕ → Result (List PacRecord) PacFault

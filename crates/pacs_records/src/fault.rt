@@ -16,6 +16,7 @@ pub enum PacFault {
     Ltv { place: usize, fault: LtvBad },
     /// The octets go on behind the last record, at this place.
     Trailing { place: usize },
+    /// They are a value, but there is no memory for it.
     Memory,
 }
 
@@ -32,6 +33,7 @@ impl From<Memory> for PacFault {
 pub enum PushFault {
     /// The value would have more than 512 octets.
     TooLong,
+    /// The value has room for the record, but there is no memory for it.
     Memory,
 }
 

@@ -2,7 +2,7 @@ ghost use Rattle.std.specs.Prelude.{◌≡◌, OnOk, IfErr, IsTrue};
 ghost use Rattle.std.specs.Result.{result_err};
 ghost use Rattle.pacs_records.specs.Layout.{Fits};
 ghost use Rattle.std.specs.Str.{bytes_eq};
-ghost use Rattle.ltv_codec.specs.Reading.{AreLtvs};
+ghost use Rattle.ltv_codec.specs.Layout.{AreLtvs};
 ghost use Rattle.pacs_records.specs.Match.{caps_in, Takes, TakesStream, RefusesStream, IsToldReason};
 ghost use Rattle.pacs_records.specs.Reasons.{reason_of, not_taken, stream_not_taken, lc3_reason};
 ghost use Rattle.base_grammar.specs.Layout.{indices, stands_in};

@@ -1,6 +1,6 @@
 ghost use Rattle.std.specs.Prelude.{◌≡◌, ◌<◌, ◌≤◌, ◌+◌, ◌++◌, ◌∷◌, [], length, slice_get, Some, OnOk, OnErr, IfErr};
 ghost use Rattle.std.specs.List.{AllByRecursion};
-ghost use Rattle.ltv_codec.specs.Reading.{AreLtvs};
+ghost use Rattle.ltv_codec.specs.Layout.{AreLtvs};
 ghost use Rattle.base_grammar.specs.Layout.{lc3};
 ghost use Rattle.pacs_records.specs.Layout.{Fits, AreRecords, value, greatest_value};
 ghost use Rattle.pacs_records.specs.Pushes.{RefusesPush};
@@ -54,7 +54,8 @@ impl Records {
         Records { list, size }
     }
 
-    /// Puts a record at the end. TooLong comes exactly where the value would then have more than 512 octets.
+    /// Puts a record at the end. TooLong comes exactly where the value would then have more than 512 octets. A refusal
+    /// changes nothing.
     pub fn push(&mut self, entry: PacRecord) -> Result<(), PushFault>
         requires caps_count { length entry.caps < 256 }
         requires metadata_count { length entry.metadata < 256 }

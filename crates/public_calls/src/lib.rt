@@ -7,6 +7,10 @@ mod air;
 #[cfg(test)]
 mod boxes;
 #[cfg(test)]
+mod framed_receivers;
+#[cfg(test)]
+mod framed_senders;
+#[cfg(test)]
 mod groups;
 #[cfg(test)]
 mod lines;
@@ -18,6 +22,8 @@ mod receivers;
 mod senders;
 #[cfg(test)]
 mod sources;
+#[cfg(test)]
+mod taken;
 #[cfg(test)]
 mod times;
 #[cfg(test)]

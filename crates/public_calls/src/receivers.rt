@@ -1,15 +1,10 @@
-ghost use Rattle.std.specs.Prelude.{◌≡◌, ◌++◌, ◌∷◌, [], map, OnOk, OnErr, IsErr};
-ghost use Rattle.unit_outlets.specs.Handed.{Caused};
-ghost use Rattle.isoal_unframed.specs.Windows.{handed_of};
-
-use bcast_base::{Bis, Memory, Octets};
+use crate::taken::Taken;
+use bcast_base::Bis;
 use big_info::{BigInfo, check_group};
 use iso_pdu::PduFault;
 use isoal_base::Heard;
 use isoal_unframed::UnframedIn;
-use std::alloc::Global;
 use std::test::Fail;
-use unit_outlets::{TakerFault, UnitTaker};
 
 /// Units of at most 8 octets every 10 ms, in two PDUs of at most 4 octets, sent once.
 const FRAGMENTS: BigInfo = BigInfo {
@@ -35,76 +30,13 @@ const FRAGMENTS: BigInfo = BigInfo {
     cipher: None,
 };
 
-/// A unit that was handed: its octets, or none where it is lost.
-#[derive(Drop)]
-struct TakenUnit {
-    bis: Bis,
-    time: u64,
-    octets: Option<Octets>,
-}
-
-/// A taker that keeps all units.
-#[derive(Drop)]
-struct Taken {
-    alloc: Global,
-    units: Vec<TakenUnit>,
-    wants: u64,
-}
-
-impl Taken {
-    fn put(&mut self, bis: Bis, time: u64, octets: Option<Octets>) -> Result<(), Memory>
-        ensures ok { OnOk result (map (λ u. handed_of u.bis u.time u.octets) self.new.units.items ≡ map (λ u. handed_of u.bis u.time u.octets) self.old.units.items ++ handed_of bis time octets ∷ []) }
-        ensures err { OnErr result (self.new.units.items ≡ self.old.units.items) }
-        ensures wants { self.new.wants ≡ self.old.wants }
-    {
-        self.units.push(TakenUnit { bis, time, octets })?;
-        Ok(())
-    }
-
-    fn want(&mut self) -> Result<(), TakerFault>
-        ensures refused { IsErr result }
-        ensures cause { Caused (record { faults = 0; wants = self.old.wants }) (record { faults = 0; wants = self.new.wants }) result }
-        ensures units { self.new.units.items ≡ self.old.units.items }
-    {
-        self.wants = self.wants.saturating_add(1);
-        Err(TakerFault::Memory)
-    }
-}
-
-impl UnitTaker for Taken {
-    ghost calls = { λ t. map (λ u. handed_of u.bis u.time u.octets) t.units.items };
-
-    ghost counts = { λ t. record { faults = 0; wants = t.wants } };
-
-    fn valid(&mut self, bis: Bis, time: u64, octets: &[u8]) -> Result<(), TakerFault> {
-        let Ok(octets) = Octets::copy(self.alloc, octets) else {
-            return self.want();
-        };
-        match self.put(bis, time, Some(octets)) {
-            Ok(()) => Ok(()),
-            Err(_) => self.want(),
-        }
-    }
-
-    fn lost(&mut self, bis: Bis, time: u64) -> Result<(), TakerFault> {
-        match self.put(bis, time, None) {
-            Ok(()) => Ok(()),
-            Err(_) => self.want(),
-        }
-    }
-}
-
 #[test]
 fn what_is_held_is_handed_at_the_close(rt: HostRuntime) -> Result<(), Fail> {
     assert!(rt; FRAGMENTS.fits());
     let group = check_group(&FRAGMENTS)?;
     let bis = Bis::new(1).ok_or("no stream")?;
     let mut receiver = UnframedIn::new(rt.alloc(), &group, bis, 0, 20000, 40000)?;
-    let mut taken = Taken {
-        alloc: rt.alloc(),
-        units: Vec::new(rt.alloc()),
-        wants: 0,
-    };
+    let mut taken = Taken::new(rt.alloc());
     assert_eq!(rt; receiver.hear(1, &[0, 0]), Heard::Kept);
     assert_eq!(rt; receiver.held(), 0);
     assert_eq!(rt; receiver.hear(0, &[1, 4, 1, 2, 3, 4]), Heard::Kept);
@@ -129,11 +61,7 @@ fn each_pdu_gets_the_first_answer_that_holds(rt: HostRuntime) -> Result<(), Fail
     let group = check_group(&FRAGMENTS)?;
     let bis = Bis::new(1).ok_or("no stream")?;
     let mut receiver = UnframedIn::new(rt.alloc(), &group, bis, 0, 20000, 40000)?;
-    let mut taken = Taken {
-        alloc: rt.alloc(),
-        units: Vec::new(rt.alloc()),
-        wants: 0,
-    };
+    let mut taken = Taken::new(rt.alloc());
     assert_eq!(rt; receiver.hear(0, &[0]), Heard::Malformed(PduFault::Short));
     assert_eq!(rt;
         receiver.hear(0, &[0, 2, 0xee]),

@@ -26,16 +26,24 @@ answered_err : (state : ReceiveState) (found : Option StateFault) (fault : State
 answered_err state None fault e = absurd cc
 answered_err state (Some found) fault e = let same : found ≡ fault = cc in ap (λ (f : StateFault). Some f) same
 
-end_cases : (whole : List ℕ) (s : StateFields) (count : ℕ) (tail : List ℕ) (fault : StateFault) (read : Result (List ℕ) ℕ) → IsOctets whole → ((place : ℕ) → fault ≡ Short place → ⊥) → head_in whole ≡ Ok (s, count, tail) → end_in whole count tail ≡ read
+end_cases : (whole : List ℕ) (s : StateFields) (count : ℕ) (tail : List ℕ) (fault : StateFault) (read : Result (List ℕ) ℕ) → IsOctets whole → ((place : ℕ) → fault ≡ Short place → ⊥)
+    → head_in whole ≡ Ok (s, count, tail) → end_in whole count tail ≡ read
     → behind whole (record s { groups = subgroups_of (subgroups_in count tail) }) read ≡ Err fault → HasFault whole fault
 end_cases whole s count tail fault (Err place) h later e r j = absurd (later place (let same : fault ≡ Short place = cc in same))
 end_cases whole s count tail fault (Ok rest) h later e r j =
     let g = groups_read whole count tail rest r in
     let all : StateFields = record s { groups = g.0 } in
     let j' : behind whole all (Ok rest) ≡ Err fault = sym (ap (λ (o : Option (List Subgroup × List ℕ)). behind whole (record s { groups = subgroups_of o }) (Ok rest)) g.1) ∙ j in
-    record { s = all; rest = rest; followed = whole_of whole s count tail g.0 rest h e g.1; first = answered_err (state_from all) (first_fault (reserved_from 0 (fields all)) (place_in whole rest) rest) fault j' }
+    record {
+      s = all;
+      rest = rest;
+      followed = whole_of whole s count tail g.0 rest h e g.1;
+      first =
+          answered_err (state_from all) (first_fault (reserved_from 0 (fields all)) (place_in whole rest) rest) fault j';
+    }
 
-head_cases : (whole : List ℕ) (fault : StateFault) (read : Result (StateFields × ℕ × List ℕ) ℕ) → IsOctets whole → ((place : ℕ) → fault ≡ Short place → ⊥) → head_in whole ≡ read → judged whole read ≡ Err fault → HasFault whole fault
+head_cases : (whole : List ℕ) (fault : StateFault) (read : Result (StateFields × ℕ × List ℕ) ℕ) → IsOctets whole → ((place : ℕ) → fault ≡ Short place → ⊥) → head_in whole ≡ read
+    → judged whole read ≡ Err fault → HasFault whole fault
 head_cases whole fault (Err place) h later e j = absurd (later place (let same : fault ≡ Short place = cc in same))
 head_cases whole fault (Ok x) h later e j = end_cases whole x.0 x.1 x.2 fault (end_in whole x.1 x.2) h later e refl j
 
@@ -71,7 +79,8 @@ trailing_found place octets h e =
     let t = trailing_place (reserved_from 0 (fields f.s)) (place_in octets f.rest) f.rest place f.first in
     (f.s, f.rest, f.followed, reserved_none (fields f.s) t.0, t.1, sym t.2 ∙ place_left f.s octets f.rest f.followed)
 
-told : (s : StateFields) (octets rest : List ℕ) (fault : StateFault) → IsFollowed s octets rest → first_fault (reserved_from 0 (fields s)) (place_in octets rest) rest ≡ Some fault → state_of octets ≡ Err fault
+told : (s : StateFields) (octets rest : List ℕ) (fault : StateFault) → IsFollowed s octets rest → first_fault (reserved_from 0 (fields s)) (place_in octets rest) rest ≡ Some fault
+    → state_of octets ≡ Err fault
 told s [] rest fault f e = absurd (let parts = f.parts in cc)
 told s (octet ∷ octets) rest fault f e =
     ap lifted (whole_judged (octet ∷ octets) s rest f ∙ ap (answered (state_from s)) e)

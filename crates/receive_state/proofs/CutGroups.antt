@@ -25,14 +25,16 @@ end_count whole n rest = field_in whole octet_in rest >>= λ x. end_metadata who
 abbrev end_bits : List ℕ → ℕ → List ℕ → Result (List ℕ) ℕ
 end_bits whole n rest = field_in whole (octets_in 4) rest >>= λ x. end_count whole n x.1
 
-assoc_by : {A B D : Type 0} (place : ℕ) (read : Option A) (f : A → Result B ℕ) (g : B → Result D ℕ) (h : A → Result D ℕ) → ((x : A) → (f x >>= g) ≡ h x) → ((needed place read >>= f) >>= g) ≡ (needed place read >>= h)
+assoc_by : {A B D : Type 0} (place : ℕ) (read : Option A) (f : A → Result B ℕ) (g : B → Result D ℕ) (h : A → Result D ℕ) → ((x : A) → (f x >>= g) ≡ h x)
+    → ((needed place read >>= f) >>= g) ≡ (needed place read >>= h)
 assoc_by place None f g h e = refl
 assoc_by place (Some x) f g h e = e x
 
 end_is : (whole : List ℕ) (n : ℕ) (rest : List ℕ) → end_in whole (suc n) rest ≡ end_bits whole n rest
 unfolding end_in
 end_is whole n rest =
-    assoc_by (place_in whole rest) (octets_in 4 rest) (λ bits. field_in whole octet_in bits.1 >>= λ count. field_in whole (octets_in count.0) count.1 >>= λ metadata. Ok metadata.1) (λ r. end_in whole n r) (λ x. end_count whole n x.1)
+    assoc_by (place_in whole rest) (octets_in 4 rest) (λ bits. field_in whole octet_in bits.1 >>= λ count. field_in whole (octets_in count.0) count.1 >>= λ metadata. Ok metadata.1)
+    (λ r. end_in whole n r) (λ x. end_count whole n x.1)
     (λ x. assoc_by (place_in whole x.1) (octet_in x.1) (λ count. field_in whole (octets_in count.0) count.1 >>= λ metadata. Ok metadata.1) (λ r. end_in whole n r) (λ y. end_metadata whole n y.0 y.1)
     (λ y. assoc_by (place_in whole y.1) (octets_in y.0 y.1) (λ metadata. Ok metadata.1) (λ r. end_in whole n r) (λ z. end_in whole n z.1) (λ z. refl)))
 
@@ -45,9 +47,11 @@ told_groups whole (group ∷ groups) rest p q le at ends =
     end_is whole (length groups) rest
     ∙ told_octets (λ (r : Result (List ℕ) ℕ). r ≡ Err p) whole rest 4 (number 4 group.bits) (unless (is_reserved group.bits) (number 4 group.bits))
     (free (octet (length group.metadata)) ∷ free group.metadata ∷ flat_map subgroup_fields groups) p q (λ x. end_count whole (length groups) x.1) (number-length 4 group.bits) refl le at ends refl
-    (λ after n within there more. told_octet (λ (r : Result (List ℕ) ℕ). r ≡ Err p) whole after (length group.metadata) (free (octet (length group.metadata))) (free group.metadata ∷ flat_map subgroup_fields groups) p n
+    (λ after n within there more. told_octet (λ (r : Result (List ℕ) ℕ). r ≡ Err p) whole after (length group.metadata) (free (octet (length group.metadata)))
+    (free group.metadata ∷ flat_map subgroup_fields groups) p n
     (λ x. end_metadata whole (length groups) x.0 x.1) refl within there more refl
-    (λ after' n' within' there' more'. told_octets (λ (r : Result (List ℕ) ℕ). r ≡ Err p) whole after' (length group.metadata) group.metadata (free group.metadata) (flat_map subgroup_fields groups) p n'
+    (λ after' n' within' there' more'. told_octets (λ (r : Result (List ℕ) ℕ). r ≡ Err p) whole after' (length group.metadata) group.metadata (free group.metadata)
+    (flat_map subgroup_fields groups) p n'
     (λ x. end_in whole (length groups) x.1) refl refl within' there' more' refl
     (λ tail m inside at' last. told_groups whole groups tail p m inside at' last)))
 
@@ -99,7 +103,8 @@ bits_end whole n rest p h lt there =
       count = ap (λ m. suc m) (length-blanks n);
       q = 0;
       at = there ∙ sym (add-zero (place_in whole rest));
-      ends = ends_here (unless (is_reserved group.bits) (number 4 group.bits)) (free (octet 0) ∷ free [] ∷ flat_map subgroup_fields (blanks n)) rest (zeros (4 - length rest)) (sym (four_octets bits octets len)) (more-zeros 4 rest lt);
+      ends = ends_here (unless (is_reserved group.bits) (number 4 group.bits)) (free (octet 0) ∷ free [] ∷ flat_map subgroup_fields (blanks n)) rest (zeros (4 - length rest))
+          (sym (four_octets bits octets len)) (more-zeros 4 rest lt);
     }
 
 -- the octets of the bits, and those behind them
@@ -117,7 +122,8 @@ behind_count count rest after q others parts ends = subst (EndsIn (1 + q) (free 
 behind_metadata : (metadata rest after : List ℕ) (q : ℕ) (others : List Field) → rest ≡ metadata ++ after → EndsIn q others after → EndsIn (length metadata + q) (free metadata ∷ others) rest
 behind_metadata metadata rest after q others parts ends = subst (EndsIn (length metadata + q) (free metadata ∷ others)) (sym parts) (ends_more (free metadata) others q after ends)
 
-count_end : (whole : List ℕ) (n : ℕ) (rest bits after : List ℕ) (p : ℕ) → IsOctets rest → length rest ≤ length whole → rest ≡ bits ++ after → length bits ≡ 4 → after ≡ [] → p ≡ place_in whole after → GroupsEnd whole (suc n) rest p
+count_end : (whole : List ℕ) (n : ℕ) (rest bits after : List ℕ) (p : ℕ) → IsOctets rest → length rest ≤ length whole → rest ≡ bits ++ after → length bits ≡ 4 → after ≡ []
+    → p ≡ place_in whole after → GroupsEnd whole (suc n) rest p
 count_end whole n rest bits after p h le parts len empty there =
     let octets : IsOctets bits = IsOctets-front bits after (subst IsOctets parts h) in
     let size : length rest ≡ length bits + length after = ap length parts ∙ length-append bits after in
@@ -132,7 +138,8 @@ count_end whole n rest bits after p h le parts len empty there =
       ends = behind_bits bits rest after 0 (free (octet 0) ∷ others) octets len parts here;
     }
 
-metadata_end : (whole : List ℕ) (n : ℕ) (rest bits after : List ℕ) (count : ℕ) (tail : List ℕ) (p : ℕ) → IsOctets rest → length rest ≤ length whole → rest ≡ bits ++ after → length bits ≡ 4 → after ≡ octet count ++ tail
+metadata_end : (whole : List ℕ) (n : ℕ) (rest bits after : List ℕ) (count : ℕ) (tail : List ℕ) (p : ℕ) → IsOctets rest → length rest ≤ length whole → rest ≡ bits ++ after → length bits ≡ 4
+    → after ≡ octet count ++ tail
     → count < 256 → length tail < count → p ≡ place_in whole tail → GroupsEnd whole (suc n) rest p
 metadata_end whole n rest bits after count tail p h le parts len parts' small lt there =
     let octets : IsOctets bits = IsOctets-front bits after (subst IsOctets parts h) in
@@ -153,7 +160,8 @@ metadata_end whole n rest bits after count tail p h le parts len parts' small lt
       ends = behind_bits bits rest after (1 + 0) (free (octet (length metadata)) ∷ free metadata ∷ others) octets len parts counted;
     }
 
-others_end : (whole : List ℕ) (n : ℕ) (rest bits after : List ℕ) (count : ℕ) (tail metadata last : List ℕ) (p : ℕ) → IsOctets rest → length rest ≤ length whole → rest ≡ bits ++ after → length bits ≡ 4 → after ≡ octet count ++ tail
+others_end : (whole : List ℕ) (n : ℕ) (rest bits after : List ℕ) (count : ℕ) (tail metadata last : List ℕ) (p : ℕ) → IsOctets rest → length rest ≤ length whole → rest ≡ bits ++ after
+    → length bits ≡ 4 → after ≡ octet count ++ tail
     → count < 256 → tail ≡ metadata ++ last → length metadata ≡ count → GroupsEnd whole n last p → GroupsEnd whole (suc n) rest p
 others_end whole n rest bits after count tail metadata last p h le parts len parts' small parts'' wide g =
     let octets : IsOctets bits = IsOctets-front bits after (subst IsOctets parts h) in
@@ -164,7 +172,8 @@ others_end whole n rest bits after count tail metadata last p h le parts len par
     let there = g.at in
     let inner = behind_metadata metadata tail last g.q others parts'' g.ends in
     let counted : EndsIn (1 + (length metadata + g.q)) (free (octet (length metadata)) ∷ free metadata ∷ others) after =
-    subst (λ (c : ℕ). EndsIn (1 + (length metadata + g.q)) (free (octet c) ∷ free metadata ∷ others) after) (sym wide) (behind_count count after tail (length metadata + g.q) (free metadata ∷ others) parts' inner) in
+    subst (λ (c : ℕ). EndsIn (1 + (length metadata + g.q)) (free (octet c) ∷ free metadata ∷ others) after) (sym wide)
+    (behind_count count after tail (length metadata + g.q) (free metadata ∷ others) parts' inner) in
     record {
       groups = made bits metadata ∷ g.groups;
       fit = (record { bits = four_fit bits octets len; metadata = subst (λ (c : ℕ). c < 256) (sym wide) small }, g.fit);
@@ -202,4 +211,5 @@ found_groups whole (suc n) rest p h le e =
     let size : length rest ≡ length bits + length after = ap length parts ∙ length-append bits after in
     let size' : length after ≡ 1 + length tail = omega (arith, ap length parts') in
     let size'' : length tail ≡ length metadata + length last = ap length parts'' ∙ length-append metadata last in
-    others_end whole n rest bits after count tail metadata last p h le parts len parts' (small_count after count tail octets1 parts') parts'' wide (found_groups whole n last p octets3 (omega arith) e3))))
+    others_end whole n rest bits after count tail metadata last p h le parts len parts' (small_count after count tail octets1 parts') parts'' wide
+    (found_groups whole n last p octets3 (omega arith) e3))))

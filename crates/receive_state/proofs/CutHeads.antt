@@ -48,7 +48,8 @@ told_octet C whole rest value first others p q f o le at ends short next =
           subst C (sym (step_some (place_in whole rest) (octet_in rest) f (value, more.1) read)) (next more.1 more.0 (omega arith) (omega (arith, more.2)) more.4)
     ]
 
-pub told_octets : {B : Type 0} (C : Result B ℕ → Type 0) (whole rest : List ℕ) (k : ℕ) (value : List ℕ) (first : Field) (others : List Field) (p q : ℕ) (f : List ℕ × List ℕ → Result B ℕ) → length value ≡ k → first.octets ≡ value
+pub told_octets : {B : Type 0} (C : Result B ℕ → Type 0) (whole rest : List ℕ) (k : ℕ) (value : List ℕ) (first : Field) (others : List Field) (p q : ℕ) (f : List ℕ × List ℕ → Result B ℕ)
+    → length value ≡ k → first.octets ≡ value
     → length rest ≤ length whole → p ≡ place_in whole rest + q → EndsIn q (first ∷ others) rest → C (Err p)
     → ((after : List ℕ) (n : ℕ) → length after ≤ length whole → p ≡ place_in whole after + n → EndsIn n others after → C (f (value, after))) → C (field_in whole (octets_in k) rest >>= f)
 told_octets C whole rest k value first others p q f width o le at ends short next =
@@ -89,7 +90,9 @@ abbrev sourced : StateFields → List ℕ → Result (StateFields × List ℕ) �
 sourced s rest = Ok (s, rest)
 
 abbrev from_id : List ℕ → ℕ → ℕ → List ℕ → ℕ → List ℕ → Result (StateFields × List ℕ) ℕ
-from_id whole source kind address sid rest = field_in whole (octets_in 3) rest >>= λ x. sourced (record { source_id = source; address_type = kind; address = address; sid = sid; broadcast_id = x.0; pa_sync_state = 0; encryption = 0; bad_code = []; groups = [] }) x.1
+from_id whole source kind address sid rest =
+    field_in whole (octets_in 3) rest
+    >>= λ x. sourced (record { source_id = source; address_type = kind; address = address; sid = sid; broadcast_id = x.0; pa_sync_state = 0; encryption = 0; bad_code = []; groups = [] }) x.1
 
 abbrev from_sid : List ℕ → ℕ → ℕ → List ℕ → List ℕ → Result (StateFields × List ℕ) ℕ
 from_sid whole source kind address rest = field_in whole octet_in rest >>= λ x. from_id whole source kind address x.0 x.1
@@ -131,46 +134,156 @@ assoc : {A B D : Type 0} (place : ℕ) (read : Option A) (f : A → Result B ℕ
 assoc place None f g = refl
 assoc place (Some x) f g = refl
 
-found_count : (whole : List ℕ) (p : ℕ) (v0 : ℕ) (v1 : ℕ) (v2 : List ℕ) (v3 : ℕ) (v4 : List ℕ) (v5 : ℕ) (v6 : ℕ) (v7 : List ℕ) (r8 : List ℕ) (n8 : ℕ) → length v2 ≡ 6 → length v4 ≡ 3 → length v7 ≡ (code_width v6) → n8 + length r8 ≡ length whole
-    → ((q : ℕ) (fs : List Field) → EndsIn q fs r8 → EndsIn (n8 + q) (free (octet v0) ∷ unless (nat_lt 1 v1) (octet v1) ∷ free v2 ∷ unless (nat_lt 15 v3) (octet v3) ∷ free v4 ∷ unless (nat_lt 4 v5) (octet v5) ∷ unless (nat_lt 3 v6) (octet v6) ∷ free v7 ∷ fs) whole)
-    → from_count whole (record { source_id = v0; address_type = v1; address = v2; sid = v3; broadcast_id = v4; pa_sync_state = 0; encryption = 0; bad_code = []; groups = [] }) v5 v6 v7 r8 ≡ Err p → EndsInHead whole p
+found_count : (whole : List ℕ) (p : ℕ) (v0 : ℕ) (v1 : ℕ) (v2 : List ℕ) (v3 : ℕ) (v4 : List ℕ) (v5 : ℕ) (v6 : ℕ) (v7 : List ℕ) (r8 : List ℕ) (n8 : ℕ) → length v2 ≡ 6 → length v4 ≡ 3
+    → length v7 ≡ (code_width v6) → n8 + length r8 ≡ length whole
+    → ((q : ℕ) (fs : List Field) → EndsIn q fs r8
+    → EndsIn (n8 + q) (free (octet v0) ∷ unless (nat_lt 1 v1) (octet v1) ∷ free v2 ∷ unless (nat_lt 15 v3) (octet v3) ∷ free v4 ∷ unless (nat_lt 4 v5) (octet v5)
+    ∷ unless (nat_lt 3 v6) (octet v6) ∷ free v7 ∷ fs) whole)
+    → from_count whole (record { source_id = v0; address_type = v1; address = v2; sid = v3; broadcast_id = v4; pa_sync_state = 0; encryption = 0; bad_code = []; groups = [] }) v5 v6 v7 r8
+    ≡ Err p → EndsInHead whole p
 found_count whole p v0 v1 v2 v3 v4 v5 v6 v7 r8 n8 w2 w4 w7 len lift e =
-    find_octet whole r8 p (λ x. Ok (record (record { source_id = v0; address_type = v1; address = v2; sid = v3; broadcast_id = v4; pa_sync_state = 0; encryption = 0; bad_code = []; groups = [] }) { pa_sync_state = v5; encryption = v6; bad_code = v7 }, x.0, x.1)) e
-    (λ empty there. record { s = record { source_id = v0; address_type = v1; address = v2; sid = v3; broadcast_id = v4; pa_sync_state = v5; encryption = v6; bad_code = v7; groups = [] }; widths = record { address = w2; broadcast_id = w4; bad_code = w7; few = omega arith; groups = tt }; ends = ends_at p n8 (free (octet v0) ∷ unless (nat_lt 1 v1) (octet v1) ∷ free v2 ∷ unless (nat_lt 15 v3) (octet v3) ∷ free v4 ∷ unless (nat_lt 4 v5) (octet v5) ∷ unless (nat_lt 3 v6) (octet v6) ∷ free v7 ∷ free (octet 0) ∷ []) whole r8 len there (lift 0 (free (octet 0) ∷ []) (ends_here (free (octet 0)) ([]) r8 (octet 0) (ap (λ (x : List ℕ). x ++ octet 0) (sym empty)) (omega arith))) })
+    find_octet whole r8 p (λ x. Ok (
+      record (record {
+        source_id = v0;
+        address_type = v1;
+        address = v2;
+        sid = v3;
+        broadcast_id = v4;
+        pa_sync_state = 0;
+        encryption = 0;
+        bad_code = [];
+        groups =
+            [];
+      }) { pa_sync_state = v5; encryption = v6; bad_code = v7 },
+      x.0,
+      x.1,
+    )) e
+    (λ empty there. record {
+      s = record { source_id = v0; address_type = v1; address = v2; sid = v3; broadcast_id = v4; pa_sync_state = v5; encryption = v6; bad_code = v7; groups = [] };
+      widths = record { address = w2; broadcast_id = w4; bad_code = w7; few = omega arith; groups = tt };
+      ends =
+          ends_at p n8 (free (octet v0) ∷ unless (nat_lt 1 v1) (octet v1) ∷ free v2 ∷ unless (nat_lt 15 v3) (octet v3) ∷ free v4 ∷ unless (nat_lt 4 v5) (octet v5)
+          ∷ unless (nat_lt 3 v6) (octet v6) ∷ free v7 ∷ free (octet 0) ∷ []) whole r8 len there
+          (lift 0 (free (octet 0) ∷ []) (ends_here (free (octet 0)) ([]) r8 (octet 0) (ap (λ (x : List ℕ). x ++ octet 0) (sym empty)) (omega arith)));
+    })
     (λ value after parts e'. absurd cc)
 
 found_code : (whole : List ℕ) (p : ℕ) (v0 : ℕ) (v1 : ℕ) (v2 : List ℕ) (v3 : ℕ) (v4 : List ℕ) (v5 : ℕ) (v6 : ℕ) (r7 : List ℕ) (n7 : ℕ) → length v2 ≡ 6 → length v4 ≡ 3 → n7 + length r7 ≡ length whole
-    → ((q : ℕ) (fs : List Field) → EndsIn q fs r7 → EndsIn (n7 + q) (free (octet v0) ∷ unless (nat_lt 1 v1) (octet v1) ∷ free v2 ∷ unless (nat_lt 15 v3) (octet v3) ∷ free v4 ∷ unless (nat_lt 4 v5) (octet v5) ∷ unless (nat_lt 3 v6) (octet v6) ∷ fs) whole)
-    → from_code whole (record { source_id = v0; address_type = v1; address = v2; sid = v3; broadcast_id = v4; pa_sync_state = 0; encryption = 0; bad_code = []; groups = [] }) v5 v6 r7 ≡ Err p → EndsInHead whole p
+    → ((q : ℕ) (fs : List Field) → EndsIn q fs r7
+    → EndsIn (n7 + q) (free (octet v0) ∷ unless (nat_lt 1 v1) (octet v1) ∷ free v2 ∷ unless (nat_lt 15 v3) (octet v3) ∷ free v4 ∷ unless (nat_lt 4 v5) (octet v5)
+    ∷ unless (nat_lt 3 v6) (octet v6) ∷ fs) whole)
+    → from_code whole (record { source_id = v0; address_type = v1; address = v2; sid = v3; broadcast_id = v4; pa_sync_state = 0; encryption = 0; bad_code = []; groups = [] }) v5 v6 r7
+    ≡ Err p → EndsInHead whole p
 found_code whole p v0 v1 v2 v3 v4 v5 v6 r7 n7 w2 w4 len lift e =
-    find_octets whole r7 (code_width v6) p (λ x. from_count whole (record { source_id = v0; address_type = v1; address = v2; sid = v3; broadcast_id = v4; pa_sync_state = 0; encryption = 0; bad_code = []; groups = [] }) v5 v6 x.0 x.1) e
-    (λ few there. record { s = record { source_id = v0; address_type = v1; address = v2; sid = v3; broadcast_id = v4; pa_sync_state = v5; encryption = v6; bad_code = (filled (code_width v6) r7); groups = [] }; widths = record { address = w2; broadcast_id = w4; bad_code = length-filled (code_width v6) r7 few; few = omega arith; groups = tt }; ends = ends_at p n7 (free (octet v0) ∷ unless (nat_lt 1 v1) (octet v1) ∷ free v2 ∷ unless (nat_lt 15 v3) (octet v3) ∷ free v4 ∷ unless (nat_lt 4 v5) (octet v5) ∷ unless (nat_lt 3 v6) (octet v6) ∷ free (filled (code_width v6) r7) ∷ free (octet 0) ∷ []) whole r7 len there (lift 0 (free (filled (code_width v6) r7) ∷ free (octet 0) ∷ []) (ends_here (free (filled (code_width v6) r7)) (free (octet 0) ∷ []) r7 (zeros ((code_width v6) - length r7)) refl (more-zeros (code_width v6) r7 few))) })
-    (λ value after parts width e'. found_count whole p v0 v1 v2 v3 v4 v5 v6 value after (n7 + length (value)) w2 w4 width (omega (arith, ap length parts, length-append (value) after)) (λ q fs ends. subst (λ (m : ℕ). EndsIn m (free (octet v0) ∷ unless (nat_lt 1 v1) (octet v1) ∷ free v2 ∷ unless (nat_lt 15 v3) (octet v3) ∷ free v4 ∷ unless (nat_lt 4 v5) (octet v5) ∷ unless (nat_lt 3 v6) (octet v6) ∷ free value ∷ fs) whole) (let a : n7 + (length (value) + q) ≡ n7 + length (value) + q = omega arith in a) (lift (length (value) + q) (free value ∷ fs) (subst (EndsIn (length (value) + q) (free value ∷ fs)) (sym parts) (ends_more (free value) fs q after ends)))) e')
+    find_octets whole r7 (code_width v6) p
+    (λ x. from_count whole (record { source_id = v0; address_type = v1; address = v2; sid = v3; broadcast_id = v4; pa_sync_state = 0; encryption = 0; bad_code = []; groups = [] }) v5 v6 x.0 x.1) e
+    (λ few there. record {
+      s = record {
+        source_id = v0;
+        address_type = v1;
+        address = v2;
+        sid = v3;
+        broadcast_id = v4;
+        pa_sync_state = v5;
+        encryption = v6;
+        bad_code =
+            (filled (code_width v6) r7);
+        groups = [];
+      };
+      widths = record { address = w2; broadcast_id = w4; bad_code = length-filled (code_width v6) r7 few; few = omega arith; groups = tt };
+      ends = ends_at p n7 (free (octet v0) ∷ unless (nat_lt 1 v1) (octet v1) ∷ free v2 ∷ unless (nat_lt 15 v3) (octet v3) ∷ free v4 ∷ unless (nat_lt 4 v5) (octet v5)
+          ∷ unless (nat_lt 3 v6) (octet v6) ∷ free (filled (code_width v6) r7) ∷ free (octet 0) ∷ []) whole r7 len there
+          (lift 0 (free (filled (code_width v6) r7) ∷ free (octet 0) ∷ [])
+          (ends_here (free (filled (code_width v6) r7)) (free (octet 0) ∷ []) r7 (zeros ((code_width v6) - length r7)) refl (more-zeros (code_width v6) r7 few)));
+    })
+    (λ value after parts width e'. found_count whole p v0 v1 v2 v3 v4 v5 v6 value after (n7 + length (value)) w2 w4 width (omega (arith, ap length parts, length-append (value) after))
+    (λ q fs ends. subst (λ (m : ℕ). EndsIn m
+    (free (octet v0) ∷ unless (nat_lt 1 v1) (octet v1) ∷ free v2 ∷ unless (nat_lt 15 v3) (octet v3) ∷ free v4 ∷ unless (nat_lt 4 v5) (octet v5) ∷ unless (nat_lt 3 v6) (octet v6)
+    ∷ free value ∷ fs) whole) (let a : n7 + (length (value) + q) ≡ n7 + length (value) + q = omega arith in a)
+    (lift (length (value) + q) (free value ∷ fs) (subst (EndsIn (length (value) + q) (free value ∷ fs)) (sym parts) (ends_more (free value) fs q after ends)))) e')
 
 found_enc : (whole : List ℕ) (p : ℕ) (v0 : ℕ) (v1 : ℕ) (v2 : List ℕ) (v3 : ℕ) (v4 : List ℕ) (v5 : ℕ) (r6 : List ℕ) (n6 : ℕ) → length v2 ≡ 6 → length v4 ≡ 3 → n6 + length r6 ≡ length whole
-    → ((q : ℕ) (fs : List Field) → EndsIn q fs r6 → EndsIn (n6 + q) (free (octet v0) ∷ unless (nat_lt 1 v1) (octet v1) ∷ free v2 ∷ unless (nat_lt 15 v3) (octet v3) ∷ free v4 ∷ unless (nat_lt 4 v5) (octet v5) ∷ fs) whole)
-    → from_enc whole (record { source_id = v0; address_type = v1; address = v2; sid = v3; broadcast_id = v4; pa_sync_state = 0; encryption = 0; bad_code = []; groups = [] }) v5 r6 ≡ Err p → EndsInHead whole p
+    → ((q : ℕ) (fs : List Field) → EndsIn q fs r6
+    → EndsIn (n6 + q) (free (octet v0) ∷ unless (nat_lt 1 v1) (octet v1) ∷ free v2 ∷ unless (nat_lt 15 v3) (octet v3) ∷ free v4 ∷ unless (nat_lt 4 v5) (octet v5) ∷ fs) whole)
+    → from_enc whole (record { source_id = v0; address_type = v1; address = v2; sid = v3; broadcast_id = v4; pa_sync_state = 0; encryption = 0; bad_code = []; groups = [] }) v5 r6 ≡ Err p
+    → EndsInHead whole p
 found_enc whole p v0 v1 v2 v3 v4 v5 r6 n6 w2 w4 len lift e =
-    find_octet whole r6 p (λ x. from_code whole (record { source_id = v0; address_type = v1; address = v2; sid = v3; broadcast_id = v4; pa_sync_state = 0; encryption = 0; bad_code = []; groups = [] }) v5 x.0 x.1) e
-    (λ empty there. record { s = record { source_id = v0; address_type = v1; address = v2; sid = v3; broadcast_id = v4; pa_sync_state = v5; encryption = 0; bad_code = []; groups = [] }; widths = record { address = w2; broadcast_id = w4; bad_code = refl; few = omega arith; groups = tt }; ends = ends_at p n6 (free (octet v0) ∷ unless (nat_lt 1 v1) (octet v1) ∷ free v2 ∷ unless (nat_lt 15 v3) (octet v3) ∷ free v4 ∷ unless (nat_lt 4 v5) (octet v5) ∷ unless (nat_lt 3 0) (octet 0) ∷ free [] ∷ free (octet 0) ∷ []) whole r6 len there (lift 0 (unless (nat_lt 3 0) (octet 0) ∷ free [] ∷ free (octet 0) ∷ []) (ends_here (unless (nat_lt 3 0) (octet 0)) (free [] ∷ free (octet 0) ∷ []) r6 (octet 0) (ap (λ (x : List ℕ). x ++ octet 0) (sym empty)) (omega arith))) })
-    (λ value after parts e'. found_code whole p v0 v1 v2 v3 v4 v5 value after (n6 + length (octet value)) w2 w4 (omega (arith, ap length parts, length-append (octet value) after)) (λ q fs ends. subst (λ (m : ℕ). EndsIn m (free (octet v0) ∷ unless (nat_lt 1 v1) (octet v1) ∷ free v2 ∷ unless (nat_lt 15 v3) (octet v3) ∷ free v4 ∷ unless (nat_lt 4 v5) (octet v5) ∷ unless (nat_lt 3 value) (octet value) ∷ fs) whole) (let a : n6 + (length (octet value) + q) ≡ n6 + length (octet value) + q = omega arith in a) (lift (length (octet value) + q) (unless (nat_lt 3 value) (octet value) ∷ fs) (subst (EndsIn (length (octet value) + q) (unless (nat_lt 3 value) (octet value) ∷ fs)) (sym parts) (ends_more (unless (nat_lt 3 value) (octet value)) fs q after ends)))) e')
+    find_octet whole r6 p (λ x. from_code whole
+    (record { source_id = v0; address_type = v1; address = v2; sid = v3; broadcast_id = v4; pa_sync_state = 0; encryption = 0; bad_code = []; groups = [] }) v5 x.0 x.1) e
+    (λ empty there. record {
+      s = record { source_id = v0; address_type = v1; address = v2; sid = v3; broadcast_id = v4; pa_sync_state = v5; encryption = 0; bad_code = []; groups = [] };
+      widths = record { address = w2; broadcast_id = w4; bad_code = refl; few = omega arith; groups = tt };
+      ends =
+          ends_at p n6 (free (octet v0) ∷ unless (nat_lt 1 v1) (octet v1) ∷ free v2 ∷ unless (nat_lt 15 v3) (octet v3) ∷ free v4 ∷ unless (nat_lt 4 v5) (octet v5)
+          ∷ unless (nat_lt 3 0) (octet 0) ∷ free [] ∷ free (octet 0) ∷ []) whole r6 len there
+          (lift 0 (unless (nat_lt 3 0) (octet 0) ∷ free [] ∷ free (octet 0) ∷ [])
+          (ends_here (unless (nat_lt 3 0) (octet 0)) (free [] ∷ free (octet 0) ∷ []) r6 (octet 0) (ap (λ (x : List ℕ). x ++ octet 0) (sym empty)) (omega arith)));
+    })
+    (λ value after parts e'. found_code whole p v0 v1 v2 v3 v4 v5 value after (n6 + length (octet value)) w2 w4 (omega (arith, ap length parts, length-append (octet value) after))
+    (λ q fs ends. subst (λ (m : ℕ). EndsIn m
+    (free (octet v0) ∷ unless (nat_lt 1 v1) (octet v1) ∷ free v2 ∷ unless (nat_lt 15 v3) (octet v3) ∷ free v4 ∷ unless (nat_lt 4 v5) (octet v5) ∷ unless (nat_lt 3 value) (octet value)
+    ∷ fs) whole) (let a : n6 + (length (octet value) + q) ≡ n6 + length (octet value) + q = omega arith in a)
+    (lift (length (octet value) + q) (unless (nat_lt 3 value) (octet value) ∷ fs)
+    (subst (EndsIn (length (octet value) + q) (unless (nat_lt 3 value) (octet value) ∷ fs)) (sym parts) (ends_more (unless (nat_lt 3 value) (octet value)) fs q after ends)))) e')
 
 found_sync : (whole : List ℕ) (p : ℕ) (v0 : ℕ) (v1 : ℕ) (v2 : List ℕ) (v3 : ℕ) (v4 : List ℕ) (r5 : List ℕ) (n5 : ℕ) → length v2 ≡ 6 → length v4 ≡ 3 → n5 + length r5 ≡ length whole
     → ((q : ℕ) (fs : List Field) → EndsIn q fs r5 → EndsIn (n5 + q) (free (octet v0) ∷ unless (nat_lt 1 v1) (octet v1) ∷ free v2 ∷ unless (nat_lt 15 v3) (octet v3) ∷ free v4 ∷ fs) whole)
-    → from_sync whole (record { source_id = v0; address_type = v1; address = v2; sid = v3; broadcast_id = v4; pa_sync_state = 0; encryption = 0; bad_code = []; groups = [] }) r5 ≡ Err p → EndsInHead whole p
+    → from_sync whole (record { source_id = v0; address_type = v1; address = v2; sid = v3; broadcast_id = v4; pa_sync_state = 0; encryption = 0; bad_code = []; groups = [] }) r5 ≡ Err p
+    → EndsInHead whole p
 found_sync whole p v0 v1 v2 v3 v4 r5 n5 w2 w4 len lift e =
-    find_octet whole r5 p (λ x. from_enc whole (record { source_id = v0; address_type = v1; address = v2; sid = v3; broadcast_id = v4; pa_sync_state = 0; encryption = 0; bad_code = []; groups = [] }) x.0 x.1) e
-    (λ empty there. record { s = record { source_id = v0; address_type = v1; address = v2; sid = v3; broadcast_id = v4; pa_sync_state = 0; encryption = 0; bad_code = []; groups = [] }; widths = record { address = w2; broadcast_id = w4; bad_code = refl; few = omega arith; groups = tt }; ends = ends_at p n5 (free (octet v0) ∷ unless (nat_lt 1 v1) (octet v1) ∷ free v2 ∷ unless (nat_lt 15 v3) (octet v3) ∷ free v4 ∷ unless (nat_lt 4 0) (octet 0) ∷ unless (nat_lt 3 0) (octet 0) ∷ free [] ∷ free (octet 0) ∷ []) whole r5 len there (lift 0 (unless (nat_lt 4 0) (octet 0) ∷ unless (nat_lt 3 0) (octet 0) ∷ free [] ∷ free (octet 0) ∷ []) (ends_here (unless (nat_lt 4 0) (octet 0)) (unless (nat_lt 3 0) (octet 0) ∷ free [] ∷ free (octet 0) ∷ []) r5 (octet 0) (ap (λ (x : List ℕ). x ++ octet 0) (sym empty)) (omega arith))) })
-    (λ value after parts e'. found_enc whole p v0 v1 v2 v3 v4 value after (n5 + length (octet value)) w2 w4 (omega (arith, ap length parts, length-append (octet value) after)) (λ q fs ends. subst (λ (m : ℕ). EndsIn m (free (octet v0) ∷ unless (nat_lt 1 v1) (octet v1) ∷ free v2 ∷ unless (nat_lt 15 v3) (octet v3) ∷ free v4 ∷ unless (nat_lt 4 value) (octet value) ∷ fs) whole) (let a : n5 + (length (octet value) + q) ≡ n5 + length (octet value) + q = omega arith in a) (lift (length (octet value) + q) (unless (nat_lt 4 value) (octet value) ∷ fs) (subst (EndsIn (length (octet value) + q) (unless (nat_lt 4 value) (octet value) ∷ fs)) (sym parts) (ends_more (unless (nat_lt 4 value) (octet value)) fs q after ends)))) e')
+    find_octet whole r5 p (λ x. from_enc whole
+    (record { source_id = v0; address_type = v1; address = v2; sid = v3; broadcast_id = v4; pa_sync_state = 0; encryption = 0; bad_code = []; groups = [] }) x.0 x.1) e
+    (λ empty there. record {
+      s = record { source_id = v0; address_type = v1; address = v2; sid = v3; broadcast_id = v4; pa_sync_state = 0; encryption = 0; bad_code = []; groups = [] };
+      widths = record { address = w2; broadcast_id = w4; bad_code = refl; few = omega arith; groups = tt };
+      ends =
+          ends_at p n5 (free (octet v0) ∷ unless (nat_lt 1 v1) (octet v1) ∷ free v2 ∷ unless (nat_lt 15 v3) (octet v3) ∷ free v4 ∷ unless (nat_lt 4 0) (octet 0) ∷ unless (nat_lt 3 0) (octet 0)
+          ∷ free [] ∷ free (octet 0) ∷ []) whole r5 len there
+          (lift 0 (unless (nat_lt 4 0) (octet 0) ∷ unless (nat_lt 3 0) (octet 0) ∷ free [] ∷ free (octet 0) ∷ [])
+          (ends_here (unless (nat_lt 4 0) (octet 0)) (unless (nat_lt 3 0) (octet 0) ∷ free [] ∷ free (octet 0) ∷ []) r5 (octet 0) (ap (λ (x : List ℕ). x ++ octet 0) (sym empty)) (omega arith)));
+    })
+    (λ value after parts e'. found_enc whole p v0 v1 v2 v3 v4 value after (n5 + length (octet value)) w2 w4 (omega (arith, ap length parts, length-append (octet value) after))
+    (λ q fs ends. subst (λ (m : ℕ). EndsIn m
+    (free (octet v0) ∷ unless (nat_lt 1 v1) (octet v1) ∷ free v2 ∷ unless (nat_lt 15 v3) (octet v3) ∷ free v4 ∷ unless (nat_lt 4 value) (octet value) ∷ fs) whole)
+    (let a : n5 + (length (octet value) + q) ≡ n5 + length (octet value) + q = omega arith in a)
+    (lift (length (octet value) + q) (unless (nat_lt 4 value) (octet value) ∷ fs)
+    (subst (EndsIn (length (octet value) + q) (unless (nat_lt 4 value) (octet value) ∷ fs)) (sym parts) (ends_more (unless (nat_lt 4 value) (octet value)) fs q after ends)))) e')
 
 found_id : (whole : List ℕ) (p : ℕ) (v0 : ℕ) (v1 : ℕ) (v2 : List ℕ) (v3 : ℕ) (r4 : List ℕ) (n4 : ℕ) → length v2 ≡ 6 → n4 + length r4 ≡ length whole
     → ((q : ℕ) (fs : List Field) → EndsIn q fs r4 → EndsIn (n4 + q) (free (octet v0) ∷ unless (nat_lt 1 v1) (octet v1) ∷ free v2 ∷ unless (nat_lt 15 v3) (octet v3) ∷ fs) whole)
     → (from_id whole v0 v1 v2 v3 r4 >>= λ who. from_sync whole who.0 who.1) ≡ Err p → EndsInHead whole p
 found_id whole p v0 v1 v2 v3 r4 n4 w2 len lift e =
-    let e'' = sym (assoc (place_in whole r4) (octets_in 3 r4) (λ (x : List ℕ × List ℕ). sourced (record { source_id = v0; address_type = v1; address = v2; sid = v3; broadcast_id = x.0; pa_sync_state = 0; encryption = 0; bad_code = []; groups = [] }) x.1) (λ (who : StateFields × List ℕ). from_sync whole who.0 who.1)) ∙ e in
-    find_octets whole r4 3 p (λ x. sourced (record { source_id = v0; address_type = v1; address = v2; sid = v3; broadcast_id = x.0; pa_sync_state = 0; encryption = 0; bad_code = []; groups = [] }) x.1 >>= λ who. from_sync whole who.0 who.1) e''
-    (λ few there. record { s = record { source_id = v0; address_type = v1; address = v2; sid = v3; broadcast_id = (filled 3 r4); pa_sync_state = 0; encryption = 0; bad_code = []; groups = [] }; widths = record { address = w2; broadcast_id = length-filled 3 r4 few; bad_code = refl; few = omega arith; groups = tt }; ends = ends_at p n4 (free (octet v0) ∷ unless (nat_lt 1 v1) (octet v1) ∷ free v2 ∷ unless (nat_lt 15 v3) (octet v3) ∷ free (filled 3 r4) ∷ unless (nat_lt 4 0) (octet 0) ∷ unless (nat_lt 3 0) (octet 0) ∷ free [] ∷ free (octet 0) ∷ []) whole r4 len there (lift 0 (free (filled 3 r4) ∷ unless (nat_lt 4 0) (octet 0) ∷ unless (nat_lt 3 0) (octet 0) ∷ free [] ∷ free (octet 0) ∷ []) (ends_here (free (filled 3 r4)) (unless (nat_lt 4 0) (octet 0) ∷ unless (nat_lt 3 0) (octet 0) ∷ free [] ∷ free (octet 0) ∷ []) r4 (zeros (3 - length r4)) refl (more-zeros 3 r4 few))) })
-    (λ value after parts width e'. found_sync whole p v0 v1 v2 v3 value after (n4 + length (value)) w2 width (omega (arith, ap length parts, length-append (value) after)) (λ q fs ends. subst (λ (m : ℕ). EndsIn m (free (octet v0) ∷ unless (nat_lt 1 v1) (octet v1) ∷ free v2 ∷ unless (nat_lt 15 v3) (octet v3) ∷ free value ∷ fs) whole) (let a : n4 + (length (value) + q) ≡ n4 + length (value) + q = omega arith in a) (lift (length (value) + q) (free value ∷ fs) (subst (EndsIn (length (value) + q) (free value ∷ fs)) (sym parts) (ends_more (free value) fs q after ends)))) e')
+    let e'' = sym (assoc (place_in whole r4) (octets_in 3 r4)
+    (λ (x : List ℕ × List ℕ). sourced
+    (record { source_id = v0; address_type = v1; address = v2; sid = v3; broadcast_id = x.0; pa_sync_state = 0; encryption = 0; bad_code = []; groups = [] }) x.1)
+    (λ (who : StateFields × List ℕ). from_sync whole who.0 who.1)) ∙ e in
+    find_octets whole r4 3 p (λ x. sourced
+    (record { source_id = v0; address_type = v1; address = v2; sid = v3; broadcast_id = x.0; pa_sync_state = 0; encryption = 0; bad_code = []; groups = [] }) x.1
+    >>= λ who. from_sync whole who.0 who.1) e''
+    (λ few there. record {
+      s = record {
+        source_id = v0;
+        address_type = v1;
+        address = v2;
+        sid = v3;
+        broadcast_id = (filled 3 r4);
+        pa_sync_state = 0;
+        encryption = 0;
+        bad_code = [];
+        groups =
+            [];
+      };
+      widths = record { address = w2; broadcast_id = length-filled 3 r4 few; bad_code = refl; few = omega arith; groups = tt };
+      ends =
+          ends_at p n4 (free (octet v0) ∷ unless (nat_lt 1 v1) (octet v1) ∷ free v2 ∷ unless (nat_lt 15 v3) (octet v3) ∷ free (filled 3 r4) ∷ unless (nat_lt 4 0) (octet 0)
+          ∷ unless (nat_lt 3 0) (octet 0) ∷ free [] ∷ free (octet 0) ∷ []) whole r4 len there
+          (lift 0 (free (filled 3 r4) ∷ unless (nat_lt 4 0) (octet 0) ∷ unless (nat_lt 3 0) (octet 0) ∷ free [] ∷ free (octet 0) ∷ [])
+          (ends_here (free (filled 3 r4)) (unless (nat_lt 4 0) (octet 0) ∷ unless (nat_lt 3 0) (octet 0) ∷ free [] ∷ free (octet 0) ∷ []) r4 (zeros (3 - length r4)) refl (more-zeros 3 r4 few)));
+    })
+    (λ value after parts width e'. found_sync whole p v0 v1 v2 v3 value after (n4 + length (value)) w2 width (omega (arith, ap length parts, length-append (value) after))
+    (λ q fs ends. subst (λ (m : ℕ). EndsIn m (free (octet v0) ∷ unless (nat_lt 1 v1) (octet v1) ∷ free v2 ∷ unless (nat_lt 15 v3) (octet v3) ∷ free value ∷ fs) whole)
+    (let a : n4 + (length (value) + q) ≡ n4 + length (value) + q = omega arith in a)
+    (lift (length (value) + q) (free value ∷ fs) (subst (EndsIn (length (value) + q) (free value ∷ fs)) (sym parts) (ends_more (free value) fs q after ends)))) e')
 
 found_sid : (whole : List ℕ) (p : ℕ) (v0 : ℕ) (v1 : ℕ) (v2 : List ℕ) (r3 : List ℕ) (n3 : ℕ) → length v2 ≡ 6 → n3 + length r3 ≡ length whole
     → ((q : ℕ) (fs : List Field) → EndsIn q fs r3 → EndsIn (n3 + q) (free (octet v0) ∷ unless (nat_lt 1 v1) (octet v1) ∷ free v2 ∷ fs) whole)
@@ -178,8 +291,21 @@ found_sid : (whole : List ℕ) (p : ℕ) (v0 : ℕ) (v1 : ℕ) (v2 : List ℕ) (
 found_sid whole p v0 v1 v2 r3 n3 w2 len lift e =
     let e'' = sym (assoc (place_in whole r3) (octet_in r3) (λ (x : ℕ × List ℕ). from_id whole v0 v1 v2 x.0 x.1) (λ (who : StateFields × List ℕ). from_sync whole who.0 who.1)) ∙ e in
     find_octet whole r3 p (λ x. from_id whole v0 v1 v2 x.0 x.1 >>= λ who. from_sync whole who.0 who.1) e''
-    (λ empty there. record { s = record { source_id = v0; address_type = v1; address = v2; sid = 0; broadcast_id = (zeros 3); pa_sync_state = 0; encryption = 0; bad_code = []; groups = [] }; widths = record { address = w2; broadcast_id = length-zeros 3; bad_code = refl; few = omega arith; groups = tt }; ends = ends_at p n3 (free (octet v0) ∷ unless (nat_lt 1 v1) (octet v1) ∷ free v2 ∷ unless (nat_lt 15 0) (octet 0) ∷ free (zeros 3) ∷ unless (nat_lt 4 0) (octet 0) ∷ unless (nat_lt 3 0) (octet 0) ∷ free [] ∷ free (octet 0) ∷ []) whole r3 len there (lift 0 (unless (nat_lt 15 0) (octet 0) ∷ free (zeros 3) ∷ unless (nat_lt 4 0) (octet 0) ∷ unless (nat_lt 3 0) (octet 0) ∷ free [] ∷ free (octet 0) ∷ []) (ends_here (unless (nat_lt 15 0) (octet 0)) (free (zeros 3) ∷ unless (nat_lt 4 0) (octet 0) ∷ unless (nat_lt 3 0) (octet 0) ∷ free [] ∷ free (octet 0) ∷ []) r3 (octet 0) (ap (λ (x : List ℕ). x ++ octet 0) (sym empty)) (omega arith))) })
-    (λ value after parts e'. found_id whole p v0 v1 v2 value after (n3 + length (octet value)) w2 (omega (arith, ap length parts, length-append (octet value) after)) (λ q fs ends. subst (λ (m : ℕ). EndsIn m (free (octet v0) ∷ unless (nat_lt 1 v1) (octet v1) ∷ free v2 ∷ unless (nat_lt 15 value) (octet value) ∷ fs) whole) (let a : n3 + (length (octet value) + q) ≡ n3 + length (octet value) + q = omega arith in a) (lift (length (octet value) + q) (unless (nat_lt 15 value) (octet value) ∷ fs) (subst (EndsIn (length (octet value) + q) (unless (nat_lt 15 value) (octet value) ∷ fs)) (sym parts) (ends_more (unless (nat_lt 15 value) (octet value)) fs q after ends)))) e')
+    (λ empty there. record {
+      s = record { source_id = v0; address_type = v1; address = v2; sid = 0; broadcast_id = (zeros 3); pa_sync_state = 0; encryption = 0; bad_code = []; groups = [] };
+      widths = record { address = w2; broadcast_id = length-zeros 3; bad_code = refl; few = omega arith; groups = tt };
+      ends =
+          ends_at p n3 (free (octet v0) ∷ unless (nat_lt 1 v1) (octet v1) ∷ free v2 ∷ unless (nat_lt 15 0) (octet 0) ∷ free (zeros 3) ∷ unless (nat_lt 4 0) (octet 0)
+          ∷ unless (nat_lt 3 0) (octet 0) ∷ free [] ∷ free (octet 0) ∷ []) whole r3 len there
+          (lift 0 (unless (nat_lt 15 0) (octet 0) ∷ free (zeros 3) ∷ unless (nat_lt 4 0) (octet 0) ∷ unless (nat_lt 3 0) (octet 0) ∷ free [] ∷ free (octet 0) ∷ [])
+          (ends_here (unless (nat_lt 15 0) (octet 0)) (free (zeros 3) ∷ unless (nat_lt 4 0) (octet 0) ∷ unless (nat_lt 3 0) (octet 0) ∷ free [] ∷ free (octet 0) ∷ []) r3 (octet 0)
+          (ap (λ (x : List ℕ). x ++ octet 0) (sym empty)) (omega arith)));
+    })
+    (λ value after parts e'. found_id whole p v0 v1 v2 value after (n3 + length (octet value)) w2 (omega (arith, ap length parts, length-append (octet value) after))
+    (λ q fs ends. subst (λ (m : ℕ). EndsIn m (free (octet v0) ∷ unless (nat_lt 1 v1) (octet v1) ∷ free v2 ∷ unless (nat_lt 15 value) (octet value) ∷ fs) whole)
+    (let a : n3 + (length (octet value) + q) ≡ n3 + length (octet value) + q = omega arith in a)
+    (lift (length (octet value) + q) (unless (nat_lt 15 value) (octet value) ∷ fs)
+    (subst (EndsIn (length (octet value) + q) (unless (nat_lt 15 value) (octet value) ∷ fs)) (sym parts) (ends_more (unless (nat_lt 15 value) (octet value)) fs q after ends)))) e')
 
 found_address : (whole : List ℕ) (p : ℕ) (v0 : ℕ) (v1 : ℕ) (r2 : List ℕ) (n2 : ℕ) → n2 + length r2 ≡ length whole
     → ((q : ℕ) (fs : List Field) → EndsIn q fs r2 → EndsIn (n2 + q) (free (octet v0) ∷ unless (nat_lt 1 v1) (octet v1) ∷ fs) whole)
@@ -187,8 +313,30 @@ found_address : (whole : List ℕ) (p : ℕ) (v0 : ℕ) (v1 : ℕ) (r2 : List �
 found_address whole p v0 v1 r2 n2 len lift e =
     let e'' = sym (assoc (place_in whole r2) (octets_in 6 r2) (λ (x : List ℕ × List ℕ). from_sid whole v0 v1 x.0 x.1) (λ (who : StateFields × List ℕ). from_sync whole who.0 who.1)) ∙ e in
     find_octets whole r2 6 p (λ x. from_sid whole v0 v1 x.0 x.1 >>= λ who. from_sync whole who.0 who.1) e''
-    (λ few there. record { s = record { source_id = v0; address_type = v1; address = (filled 6 r2); sid = 0; broadcast_id = (zeros 3); pa_sync_state = 0; encryption = 0; bad_code = []; groups = [] }; widths = record { address = length-filled 6 r2 few; broadcast_id = length-zeros 3; bad_code = refl; few = omega arith; groups = tt }; ends = ends_at p n2 (free (octet v0) ∷ unless (nat_lt 1 v1) (octet v1) ∷ free (filled 6 r2) ∷ unless (nat_lt 15 0) (octet 0) ∷ free (zeros 3) ∷ unless (nat_lt 4 0) (octet 0) ∷ unless (nat_lt 3 0) (octet 0) ∷ free [] ∷ free (octet 0) ∷ []) whole r2 len there (lift 0 (free (filled 6 r2) ∷ unless (nat_lt 15 0) (octet 0) ∷ free (zeros 3) ∷ unless (nat_lt 4 0) (octet 0) ∷ unless (nat_lt 3 0) (octet 0) ∷ free [] ∷ free (octet 0) ∷ []) (ends_here (free (filled 6 r2)) (unless (nat_lt 15 0) (octet 0) ∷ free (zeros 3) ∷ unless (nat_lt 4 0) (octet 0) ∷ unless (nat_lt 3 0) (octet 0) ∷ free [] ∷ free (octet 0) ∷ []) r2 (zeros (6 - length r2)) refl (more-zeros 6 r2 few))) })
-    (λ value after parts width e'. found_sid whole p v0 v1 value after (n2 + length (value)) width (omega (arith, ap length parts, length-append (value) after)) (λ q fs ends. subst (λ (m : ℕ). EndsIn m (free (octet v0) ∷ unless (nat_lt 1 v1) (octet v1) ∷ free value ∷ fs) whole) (let a : n2 + (length (value) + q) ≡ n2 + length (value) + q = omega arith in a) (lift (length (value) + q) (free value ∷ fs) (subst (EndsIn (length (value) + q) (free value ∷ fs)) (sym parts) (ends_more (free value) fs q after ends)))) e')
+    (λ few there. record {
+      s = record {
+        source_id = v0;
+        address_type = v1;
+        address = (filled 6 r2);
+        sid = 0;
+        broadcast_id = (zeros 3);
+        pa_sync_state = 0;
+        encryption = 0;
+        bad_code = [];
+        groups = [];
+      };
+      widths = record { address = length-filled 6 r2 few; broadcast_id = length-zeros 3; bad_code = refl; few = omega arith; groups = tt };
+      ends =
+          ends_at p n2 (free (octet v0) ∷ unless (nat_lt 1 v1) (octet v1) ∷ free (filled 6 r2) ∷ unless (nat_lt 15 0) (octet 0) ∷ free (zeros 3) ∷ unless (nat_lt 4 0) (octet 0)
+          ∷ unless (nat_lt 3 0) (octet 0) ∷ free [] ∷ free (octet 0) ∷ []) whole r2 len there
+          (lift 0 (free (filled 6 r2) ∷ unless (nat_lt 15 0) (octet 0) ∷ free (zeros 3) ∷ unless (nat_lt 4 0) (octet 0) ∷ unless (nat_lt 3 0) (octet 0) ∷ free [] ∷ free (octet 0) ∷ [])
+          (ends_here (free (filled 6 r2)) (unless (nat_lt 15 0) (octet 0) ∷ free (zeros 3) ∷ unless (nat_lt 4 0) (octet 0) ∷ unless (nat_lt 3 0) (octet 0) ∷ free [] ∷ free (octet 0) ∷ []) r2
+          (zeros (6 - length r2)) refl (more-zeros 6 r2 few)));
+    })
+    (λ value after parts width e'. found_sid whole p v0 v1 value after (n2 + length (value)) width (omega (arith, ap length parts, length-append (value) after))
+    (λ q fs ends. subst (λ (m : ℕ). EndsIn m (free (octet v0) ∷ unless (nat_lt 1 v1) (octet v1) ∷ free value ∷ fs) whole)
+    (let a : n2 + (length (value) + q) ≡ n2 + length (value) + q = omega arith in a)
+    (lift (length (value) + q) (free value ∷ fs) (subst (EndsIn (length (value) + q) (free value ∷ fs)) (sym parts) (ends_more (free value) fs q after ends)))) e')
 
 found_kind : (whole : List ℕ) (p : ℕ) (v0 : ℕ) (r1 : List ℕ) (n1 : ℕ) → n1 + length r1 ≡ length whole
     → ((q : ℕ) (fs : List Field) → EndsIn q fs r1 → EndsIn (n1 + q) (free (octet v0) ∷ fs) whole)
@@ -196,8 +344,33 @@ found_kind : (whole : List ℕ) (p : ℕ) (v0 : ℕ) (r1 : List ℕ) (n1 : ℕ) 
 found_kind whole p v0 r1 n1 len lift e =
     let e'' = sym (assoc (place_in whole r1) (octet_in r1) (λ (x : ℕ × List ℕ). from_address whole v0 x.0 x.1) (λ (who : StateFields × List ℕ). from_sync whole who.0 who.1)) ∙ e in
     find_octet whole r1 p (λ x. from_address whole v0 x.0 x.1 >>= λ who. from_sync whole who.0 who.1) e''
-    (λ empty there. record { s = record { source_id = v0; address_type = 0; address = (zeros 6); sid = 0; broadcast_id = (zeros 3); pa_sync_state = 0; encryption = 0; bad_code = []; groups = [] }; widths = record { address = length-zeros 6; broadcast_id = length-zeros 3; bad_code = refl; few = omega arith; groups = tt }; ends = ends_at p n1 (free (octet v0) ∷ unless (nat_lt 1 0) (octet 0) ∷ free (zeros 6) ∷ unless (nat_lt 15 0) (octet 0) ∷ free (zeros 3) ∷ unless (nat_lt 4 0) (octet 0) ∷ unless (nat_lt 3 0) (octet 0) ∷ free [] ∷ free (octet 0) ∷ []) whole r1 len there (lift 0 (unless (nat_lt 1 0) (octet 0) ∷ free (zeros 6) ∷ unless (nat_lt 15 0) (octet 0) ∷ free (zeros 3) ∷ unless (nat_lt 4 0) (octet 0) ∷ unless (nat_lt 3 0) (octet 0) ∷ free [] ∷ free (octet 0) ∷ []) (ends_here (unless (nat_lt 1 0) (octet 0)) (free (zeros 6) ∷ unless (nat_lt 15 0) (octet 0) ∷ free (zeros 3) ∷ unless (nat_lt 4 0) (octet 0) ∷ unless (nat_lt 3 0) (octet 0) ∷ free [] ∷ free (octet 0) ∷ []) r1 (octet 0) (ap (λ (x : List ℕ). x ++ octet 0) (sym empty)) (omega arith))) })
-    (λ value after parts e'. found_address whole p v0 value after (n1 + length (octet value)) (omega (arith, ap length parts, length-append (octet value) after)) (λ q fs ends. subst (λ (m : ℕ). EndsIn m (free (octet v0) ∷ unless (nat_lt 1 value) (octet value) ∷ fs) whole) (let a : n1 + (length (octet value) + q) ≡ n1 + length (octet value) + q = omega arith in a) (lift (length (octet value) + q) (unless (nat_lt 1 value) (octet value) ∷ fs) (subst (EndsIn (length (octet value) + q) (unless (nat_lt 1 value) (octet value) ∷ fs)) (sym parts) (ends_more (unless (nat_lt 1 value) (octet value)) fs q after ends)))) e')
+    (λ empty there. record {
+      s = record {
+        source_id = v0;
+        address_type = 0;
+        address = (zeros 6);
+        sid = 0;
+        broadcast_id = (zeros 3);
+        pa_sync_state = 0;
+        encryption = 0;
+        bad_code = [];
+        groups =
+            [];
+      };
+      widths = record { address = length-zeros 6; broadcast_id = length-zeros 3; bad_code = refl; few = omega arith; groups = tt };
+      ends =
+          ends_at p n1 (free (octet v0) ∷ unless (nat_lt 1 0) (octet 0) ∷ free (zeros 6) ∷ unless (nat_lt 15 0) (octet 0) ∷ free (zeros 3) ∷ unless (nat_lt 4 0) (octet 0)
+          ∷ unless (nat_lt 3 0) (octet 0) ∷ free [] ∷ free (octet 0) ∷ []) whole r1 len there
+          (lift 0 (unless (nat_lt 1 0) (octet 0) ∷ free (zeros 6) ∷ unless (nat_lt 15 0) (octet 0) ∷ free (zeros 3) ∷ unless (nat_lt 4 0) (octet 0) ∷ unless (nat_lt 3 0) (octet 0) ∷ free []
+          ∷ free (octet 0) ∷ []) (ends_here (unless (nat_lt 1 0) (octet 0))
+          (free (zeros 6) ∷ unless (nat_lt 15 0) (octet 0) ∷ free (zeros 3) ∷ unless (nat_lt 4 0) (octet 0) ∷ unless (nat_lt 3 0) (octet 0) ∷ free [] ∷ free (octet 0) ∷ []) r1 (octet 0)
+          (ap (λ (x : List ℕ). x ++ octet 0) (sym empty)) (omega arith)));
+    })
+    (λ value after parts e'. found_address whole p v0 value after (n1 + length (octet value)) (omega (arith, ap length parts, length-append (octet value) after))
+    (λ q fs ends. subst (λ (m : ℕ). EndsIn m (free (octet v0) ∷ unless (nat_lt 1 value) (octet value) ∷ fs) whole)
+    (let a : n1 + (length (octet value) + q) ≡ n1 + length (octet value) + q = omega arith in a)
+    (lift (length (octet value) + q) (unless (nat_lt 1 value) (octet value) ∷ fs)
+    (subst (EndsIn (length (octet value) + q) (unless (nat_lt 1 value) (octet value) ∷ fs)) (sym parts) (ends_more (unless (nat_lt 1 value) (octet value)) fs q after ends)))) e')
 
 found_source : (whole : List ℕ) (p : ℕ) (r0 : List ℕ) (n0 : ℕ) → n0 + length r0 ≡ length whole
     → ((q : ℕ) (fs : List Field) → EndsIn q fs r0 → EndsIn (n0 + q) (fs) whole)
@@ -205,8 +378,33 @@ found_source : (whole : List ℕ) (p : ℕ) (r0 : List ℕ) (n0 : ℕ) → n0 + 
 found_source whole p r0 n0 len lift e =
     let e'' = sym (assoc (place_in whole r0) (octet_in r0) (λ (x : ℕ × List ℕ). from_kind whole x.0 x.1) (λ (who : StateFields × List ℕ). from_sync whole who.0 who.1)) ∙ e in
     find_octet whole r0 p (λ x. from_kind whole x.0 x.1 >>= λ who. from_sync whole who.0 who.1) e''
-    (λ empty there. record { s = record { source_id = 0; address_type = 0; address = (zeros 6); sid = 0; broadcast_id = (zeros 3); pa_sync_state = 0; encryption = 0; bad_code = []; groups = [] }; widths = record { address = length-zeros 6; broadcast_id = length-zeros 3; bad_code = refl; few = omega arith; groups = tt }; ends = ends_at p n0 (free (octet 0) ∷ unless (nat_lt 1 0) (octet 0) ∷ free (zeros 6) ∷ unless (nat_lt 15 0) (octet 0) ∷ free (zeros 3) ∷ unless (nat_lt 4 0) (octet 0) ∷ unless (nat_lt 3 0) (octet 0) ∷ free [] ∷ free (octet 0) ∷ []) whole r0 len there (lift 0 (free (octet 0) ∷ unless (nat_lt 1 0) (octet 0) ∷ free (zeros 6) ∷ unless (nat_lt 15 0) (octet 0) ∷ free (zeros 3) ∷ unless (nat_lt 4 0) (octet 0) ∷ unless (nat_lt 3 0) (octet 0) ∷ free [] ∷ free (octet 0) ∷ []) (ends_here (free (octet 0)) (unless (nat_lt 1 0) (octet 0) ∷ free (zeros 6) ∷ unless (nat_lt 15 0) (octet 0) ∷ free (zeros 3) ∷ unless (nat_lt 4 0) (octet 0) ∷ unless (nat_lt 3 0) (octet 0) ∷ free [] ∷ free (octet 0) ∷ []) r0 (octet 0) (ap (λ (x : List ℕ). x ++ octet 0) (sym empty)) (omega arith))) })
-    (λ value after parts e'. found_kind whole p value after (n0 + length (octet value)) (omega (arith, ap length parts, length-append (octet value) after)) (λ q fs ends. subst (λ (m : ℕ). EndsIn m (free (octet value) ∷ fs) whole) (let a : n0 + (length (octet value) + q) ≡ n0 + length (octet value) + q = omega arith in a) (lift (length (octet value) + q) (free (octet value) ∷ fs) (subst (EndsIn (length (octet value) + q) (free (octet value) ∷ fs)) (sym parts) (ends_more (free (octet value)) fs q after ends)))) e')
+    (λ empty there. record {
+      s = record {
+        source_id = 0;
+        address_type = 0;
+        address = (zeros 6);
+        sid = 0;
+        broadcast_id = (zeros 3);
+        pa_sync_state = 0;
+        encryption = 0;
+        bad_code = [];
+        groups =
+            [];
+      };
+      widths = record { address = length-zeros 6; broadcast_id = length-zeros 3; bad_code = refl; few = omega arith; groups = tt };
+      ends =
+          ends_at p n0 (free (octet 0) ∷ unless (nat_lt 1 0) (octet 0) ∷ free (zeros 6) ∷ unless (nat_lt 15 0) (octet 0) ∷ free (zeros 3) ∷ unless (nat_lt 4 0) (octet 0)
+          ∷ unless (nat_lt 3 0) (octet 0) ∷ free [] ∷ free (octet 0) ∷ []) whole r0 len there
+          (lift 0 (free (octet 0) ∷ unless (nat_lt 1 0) (octet 0) ∷ free (zeros 6) ∷ unless (nat_lt 15 0) (octet 0) ∷ free (zeros 3) ∷ unless (nat_lt 4 0) (octet 0)
+          ∷ unless (nat_lt 3 0) (octet 0) ∷ free [] ∷ free (octet 0) ∷ [])
+          (ends_here (free (octet 0))
+          (unless (nat_lt 1 0) (octet 0) ∷ free (zeros 6) ∷ unless (nat_lt 15 0) (octet 0) ∷ free (zeros 3) ∷ unless (nat_lt 4 0) (octet 0) ∷ unless (nat_lt 3 0) (octet 0) ∷ free []
+          ∷ free (octet 0) ∷ []) r0 (octet 0) (ap (λ (x : List ℕ). x ++ octet 0) (sym empty)) (omega arith)));
+    })
+    (λ value after parts e'. found_kind whole p value after (n0 + length (octet value)) (omega (arith, ap length parts, length-append (octet value) after))
+    (λ q fs ends. subst (λ (m : ℕ). EndsIn m (free (octet value) ∷ fs) whole) (let a : n0 + (length (octet value) + q) ≡ n0 + length (octet value) + q = omega arith in a)
+    (lift (length (octet value) + q) (free (octet value) ∷ fs)
+    (subst (EndsIn (length (octet value) + q) (free (octet value) ∷ fs)) (sym parts) (ends_more (free (octet value)) fs q after ends)))) e')
 
 pub found_head : (whole : List ℕ) (p : ℕ) → head_in whole ≡ Err p → EndsInHead whole p
 found_head whole p e = found_source whole p whole 0 (zero-add (length whole)) (λ q fs ends. subst (λ (m : ℕ). EndsIn m fs whole) (sym (zero-add q)) ends) (sym (head_is whole) ∙ e)
@@ -223,46 +421,205 @@ pub record EndsBehind (whole : List ℕ) (p : ℕ) (s : StateFields) (r : Result
 abbrev pub IsCut : List ℕ → ℕ → StateFields → Result (StateFields × ℕ × List ℕ) ℕ → Type 0
 IsCut whole p s r = (r ≡ Err p) ⊎ EndsBehind whole p s r
 
-told_count : (whole : List ℕ) (s : StateFields) (p : ℕ) → FieldsFit s → (r : List ℕ) (q : ℕ) → length r ≤ length whole → p ≡ place_in whole r + q → EndsIn q (free (octet (length s.groups)) ∷ flat_map subgroup_fields s.groups) r → IsCut whole p s (from_count whole (record { source_id = s.source_id; address_type = s.address_type; address = s.address; sid = s.sid; broadcast_id = s.broadcast_id; pa_sync_state = 0; encryption = 0; bad_code = []; groups = [] }) s.pa_sync_state s.encryption s.bad_code r)
+told_count : (whole : List ℕ) (s : StateFields) (p : ℕ) → FieldsFit s → (r : List ℕ) (q : ℕ) → length r ≤ length whole → p ≡ place_in whole r + q
+    → EndsIn q (free (octet (length s.groups)) ∷ flat_map subgroup_fields s.groups) r
+    → IsCut whole p s (from_count whole
+    (record {
+      source_id = s.source_id;
+      address_type = s.address_type;
+      address = s.address;
+      sid = s.sid;
+      broadcast_id = s.broadcast_id;
+      pa_sync_state = 0;
+      encryption = 0;
+      bad_code = [];
+      groups = [];
+    }) s.pa_sync_state s.encryption s.bad_code r)
 told_count whole s p w r q le at ends =
-    (told_octet (IsCut whole p s) whole r (length s.groups) (free (octet (length s.groups))) (flat_map subgroup_fields s.groups) p q (λ x. Ok (record (record { source_id = s.source_id; address_type = s.address_type; address = s.address; sid = s.sid; broadcast_id = s.broadcast_id; pa_sync_state = 0; encryption = 0; bad_code = []; groups = [] }) { pa_sync_state = s.pa_sync_state; encryption = s.encryption; bad_code = s.bad_code }, x.0, x.1)) refl le at ends (inl refl) (λ after n within there more. inr (record { tail = after; n = n; read = refl; within = within; at = there; ends = more })))
+    (told_octet (IsCut whole p s) whole r (length s.groups) (free (octet (length s.groups))) (flat_map subgroup_fields s.groups) p q
+    (λ x. Ok (
+      record (record {
+        source_id = s.source_id;
+        address_type = s.address_type;
+        address = s.address;
+        sid = s.sid;
+        broadcast_id = s.broadcast_id;
+        pa_sync_state = 0;
+        encryption = 0;
+        bad_code = [];
+        groups = [];
+      }) { pa_sync_state = s.pa_sync_state; encryption = s.encryption; bad_code = s.bad_code },
+      x.0,
+      x.1,
+    )) refl le at ends (inl refl)
+    (λ after n within there more. inr (record { tail = after; n = n; read = refl; within = within; at = there; ends = more })))
 
-told_code : (whole : List ℕ) (s : StateFields) (p : ℕ) → FieldsFit s → (r : List ℕ) (q : ℕ) → length r ≤ length whole → p ≡ place_in whole r + q → EndsIn q (free s.bad_code ∷ free (octet (length s.groups)) ∷ flat_map subgroup_fields s.groups) r → IsCut whole p s (from_code whole (record { source_id = s.source_id; address_type = s.address_type; address = s.address; sid = s.sid; broadcast_id = s.broadcast_id; pa_sync_state = 0; encryption = 0; bad_code = []; groups = [] }) s.pa_sync_state s.encryption r)
+told_code : (whole : List ℕ) (s : StateFields) (p : ℕ) → FieldsFit s → (r : List ℕ) (q : ℕ) → length r ≤ length whole → p ≡ place_in whole r + q
+    → EndsIn q (free s.bad_code ∷ free (octet (length s.groups)) ∷ flat_map subgroup_fields s.groups) r
+    → IsCut whole p s (from_code whole
+    (record {
+      source_id = s.source_id;
+      address_type = s.address_type;
+      address = s.address;
+      sid = s.sid;
+      broadcast_id = s.broadcast_id;
+      pa_sync_state = 0;
+      encryption = 0;
+      bad_code = [];
+      groups = [];
+    }) s.pa_sync_state s.encryption r)
 told_code whole s p w r q le at ends =
-    (told_octets (IsCut whole p s) whole r (code_width s.encryption) s.bad_code (free s.bad_code) (free (octet (length s.groups)) ∷ flat_map subgroup_fields s.groups) p q (λ x. from_count whole (record { source_id = s.source_id; address_type = s.address_type; address = s.address; sid = s.sid; broadcast_id = s.broadcast_id; pa_sync_state = 0; encryption = 0; bad_code = []; groups = [] }) s.pa_sync_state s.encryption x.0 x.1) w.bad_code refl le at ends (inl refl) (told_count whole s p w))
+    (told_octets (IsCut whole p s) whole r (code_width s.encryption) s.bad_code (free s.bad_code) (free (octet (length s.groups)) ∷ flat_map subgroup_fields s.groups) p q
+    (λ x. from_count whole (record {
+      source_id = s.source_id;
+      address_type = s.address_type;
+      address = s.address;
+      sid = s.sid;
+      broadcast_id = s.broadcast_id;
+      pa_sync_state = 0;
+      encryption = 0;
+      bad_code = [];
+      groups = [];
+    }) s.pa_sync_state s.encryption x.0 x.1) w.bad_code refl le at ends (inl refl) (told_count whole s p w))
 
-told_enc : (whole : List ℕ) (s : StateFields) (p : ℕ) → FieldsFit s → (r : List ℕ) (q : ℕ) → length r ≤ length whole → p ≡ place_in whole r + q → EndsIn q (unless (nat_lt 3 s.encryption) (octet s.encryption) ∷ free s.bad_code ∷ free (octet (length s.groups)) ∷ flat_map subgroup_fields s.groups) r → IsCut whole p s (from_enc whole (record { source_id = s.source_id; address_type = s.address_type; address = s.address; sid = s.sid; broadcast_id = s.broadcast_id; pa_sync_state = 0; encryption = 0; bad_code = []; groups = [] }) s.pa_sync_state r)
+told_enc : (whole : List ℕ) (s : StateFields) (p : ℕ) → FieldsFit s → (r : List ℕ) (q : ℕ) → length r ≤ length whole → p ≡ place_in whole r + q
+    → EndsIn q (unless (nat_lt 3 s.encryption) (octet s.encryption) ∷ free s.bad_code ∷ free (octet (length s.groups)) ∷ flat_map subgroup_fields s.groups) r
+    → IsCut whole p s (from_enc whole
+    (record {
+      source_id = s.source_id;
+      address_type = s.address_type;
+      address = s.address;
+      sid = s.sid;
+      broadcast_id = s.broadcast_id;
+      pa_sync_state = 0;
+      encryption = 0;
+      bad_code = [];
+      groups = [];
+    }) s.pa_sync_state r)
 told_enc whole s p w r q le at ends =
-    (told_octet (IsCut whole p s) whole r s.encryption (unless (nat_lt 3 s.encryption) (octet s.encryption)) (free s.bad_code ∷ free (octet (length s.groups)) ∷ flat_map subgroup_fields s.groups) p q (λ x. from_code whole (record { source_id = s.source_id; address_type = s.address_type; address = s.address; sid = s.sid; broadcast_id = s.broadcast_id; pa_sync_state = 0; encryption = 0; bad_code = []; groups = [] }) s.pa_sync_state x.0 x.1) refl le at ends (inl refl) (told_code whole s p w))
+    (told_octet (IsCut whole p s) whole r s.encryption (unless (nat_lt 3 s.encryption) (octet s.encryption))
+    (free s.bad_code ∷ free (octet (length s.groups)) ∷ flat_map subgroup_fields s.groups) p q
+    (λ x. from_code whole (record {
+      source_id = s.source_id;
+      address_type = s.address_type;
+      address = s.address;
+      sid = s.sid;
+      broadcast_id = s.broadcast_id;
+      pa_sync_state = 0;
+      encryption = 0;
+      bad_code = [];
+      groups = [];
+    }) s.pa_sync_state x.0 x.1) refl le at ends (inl refl) (told_code whole s p w))
 
-told_sync : (whole : List ℕ) (s : StateFields) (p : ℕ) → FieldsFit s → (r : List ℕ) (q : ℕ) → length r ≤ length whole → p ≡ place_in whole r + q → EndsIn q (unless (nat_lt 4 s.pa_sync_state) (octet s.pa_sync_state) ∷ unless (nat_lt 3 s.encryption) (octet s.encryption) ∷ free s.bad_code ∷ free (octet (length s.groups)) ∷ flat_map subgroup_fields s.groups) r → IsCut whole p s (from_sync whole (record { source_id = s.source_id; address_type = s.address_type; address = s.address; sid = s.sid; broadcast_id = s.broadcast_id; pa_sync_state = 0; encryption = 0; bad_code = []; groups = [] }) r)
+told_sync : (whole : List ℕ) (s : StateFields) (p : ℕ) → FieldsFit s → (r : List ℕ) (q : ℕ) → length r ≤ length whole → p ≡ place_in whole r + q
+    → EndsIn q (unless (nat_lt 4 s.pa_sync_state) (octet s.pa_sync_state) ∷ unless (nat_lt 3 s.encryption) (octet s.encryption) ∷ free s.bad_code ∷ free (octet (length s.groups))
+    ∷ flat_map subgroup_fields s.groups) r
+    → IsCut whole p s (from_sync whole
+    (record {
+      source_id = s.source_id;
+      address_type = s.address_type;
+      address = s.address;
+      sid = s.sid;
+      broadcast_id = s.broadcast_id;
+      pa_sync_state = 0;
+      encryption = 0;
+      bad_code = [];
+      groups = [];
+    }) r)
 told_sync whole s p w r q le at ends =
-    (told_octet (IsCut whole p s) whole r s.pa_sync_state (unless (nat_lt 4 s.pa_sync_state) (octet s.pa_sync_state)) (unless (nat_lt 3 s.encryption) (octet s.encryption) ∷ free s.bad_code ∷ free (octet (length s.groups)) ∷ flat_map subgroup_fields s.groups) p q (λ x. from_enc whole (record { source_id = s.source_id; address_type = s.address_type; address = s.address; sid = s.sid; broadcast_id = s.broadcast_id; pa_sync_state = 0; encryption = 0; bad_code = []; groups = [] }) x.0 x.1) refl le at ends (inl refl) (told_enc whole s p w))
+    (told_octet (IsCut whole p s) whole r s.pa_sync_state (unless (nat_lt 4 s.pa_sync_state) (octet s.pa_sync_state))
+    (unless (nat_lt 3 s.encryption) (octet s.encryption) ∷ free s.bad_code ∷ free (octet (length s.groups)) ∷ flat_map subgroup_fields s.groups) p q
+    (λ x. from_enc whole (record {
+      source_id = s.source_id;
+      address_type = s.address_type;
+      address = s.address;
+      sid = s.sid;
+      broadcast_id = s.broadcast_id;
+      pa_sync_state = 0;
+      encryption = 0;
+      bad_code = [];
+      groups = [];
+    }) x.0 x.1) refl le at ends (inl refl) (told_enc whole s p w))
 
-told_id : (whole : List ℕ) (s : StateFields) (p : ℕ) → FieldsFit s → (r : List ℕ) (q : ℕ) → length r ≤ length whole → p ≡ place_in whole r + q → EndsIn q (free s.broadcast_id ∷ unless (nat_lt 4 s.pa_sync_state) (octet s.pa_sync_state) ∷ unless (nat_lt 3 s.encryption) (octet s.encryption) ∷ free s.bad_code ∷ free (octet (length s.groups)) ∷ flat_map subgroup_fields s.groups) r → IsCut whole p s (from_id whole s.source_id s.address_type s.address s.sid r >>= λ who. from_sync whole who.0 who.1)
+told_id : (whole : List ℕ) (s : StateFields) (p : ℕ) → FieldsFit s → (r : List ℕ) (q : ℕ) → length r ≤ length whole → p ≡ place_in whole r + q
+    → EndsIn q (free s.broadcast_id ∷ unless (nat_lt 4 s.pa_sync_state) (octet s.pa_sync_state) ∷ unless (nat_lt 3 s.encryption) (octet s.encryption) ∷ free s.bad_code
+    ∷ free (octet (length s.groups)) ∷ flat_map subgroup_fields s.groups) r → IsCut whole p s (from_id whole s.source_id s.address_type s.address s.sid r >>= λ who. from_sync whole who.0 who.1)
 told_id whole s p w r q le at ends =
-    subst (IsCut whole p s) (sym (assoc (place_in whole r) (octets_in 3 r) (λ (x : List ℕ × List ℕ). sourced (record { source_id = s.source_id; address_type = s.address_type; address = s.address; sid = s.sid; broadcast_id = x.0; pa_sync_state = 0; encryption = 0; bad_code = []; groups = [] }) x.1) (λ (y : StateFields × List ℕ). from_sync whole y.0 y.1)))
-    (told_octets (IsCut whole p s) whole r 3 s.broadcast_id (free s.broadcast_id) (unless (nat_lt 4 s.pa_sync_state) (octet s.pa_sync_state) ∷ unless (nat_lt 3 s.encryption) (octet s.encryption) ∷ free s.bad_code ∷ free (octet (length s.groups)) ∷ flat_map subgroup_fields s.groups) p q (λ x. sourced (record { source_id = s.source_id; address_type = s.address_type; address = s.address; sid = s.sid; broadcast_id = x.0; pa_sync_state = 0; encryption = 0; bad_code = []; groups = [] }) x.1 >>= λ y. from_sync whole y.0 y.1) w.broadcast_id refl le at ends (inl refl) (told_sync whole s p w))
+    subst (IsCut whole p s) (sym (assoc (place_in whole r) (octets_in 3 r)
+    (λ (x : List ℕ × List ℕ). sourced
+    (record {
+      source_id = s.source_id;
+      address_type = s.address_type;
+      address = s.address;
+      sid = s.sid;
+      broadcast_id = x.0;
+      pa_sync_state = 0;
+      encryption = 0;
+      bad_code = [];
+      groups =
+          [];
+    }) x.1) (λ (y : StateFields × List ℕ). from_sync whole y.0 y.1)))
+    (told_octets (IsCut whole p s) whole r 3 s.broadcast_id (free s.broadcast_id)
+    (unless (nat_lt 4 s.pa_sync_state) (octet s.pa_sync_state) ∷ unless (nat_lt 3 s.encryption) (octet s.encryption) ∷ free s.bad_code ∷ free (octet (length s.groups))
+    ∷ flat_map subgroup_fields s.groups) p q
+    (λ x. sourced (record {
+      source_id = s.source_id;
+      address_type = s.address_type;
+      address = s.address;
+      sid = s.sid;
+      broadcast_id = x.0;
+      pa_sync_state = 0;
+      encryption = 0;
+      bad_code =
+          [];
+      groups = [];
+    }) x.1 >>= λ y. from_sync whole y.0 y.1) w.broadcast_id refl le at ends (inl refl) (told_sync whole s p w))
 
-told_sid : (whole : List ℕ) (s : StateFields) (p : ℕ) → FieldsFit s → (r : List ℕ) (q : ℕ) → length r ≤ length whole → p ≡ place_in whole r + q → EndsIn q (unless (nat_lt 15 s.sid) (octet s.sid) ∷ free s.broadcast_id ∷ unless (nat_lt 4 s.pa_sync_state) (octet s.pa_sync_state) ∷ unless (nat_lt 3 s.encryption) (octet s.encryption) ∷ free s.bad_code ∷ free (octet (length s.groups)) ∷ flat_map subgroup_fields s.groups) r → IsCut whole p s (from_sid whole s.source_id s.address_type s.address r >>= λ who. from_sync whole who.0 who.1)
+told_sid : (whole : List ℕ) (s : StateFields) (p : ℕ) → FieldsFit s → (r : List ℕ) (q : ℕ) → length r ≤ length whole → p ≡ place_in whole r + q
+    → EndsIn q (unless (nat_lt 15 s.sid) (octet s.sid) ∷ free s.broadcast_id ∷ unless (nat_lt 4 s.pa_sync_state) (octet s.pa_sync_state) ∷ unless (nat_lt 3 s.encryption) (octet s.encryption)
+    ∷ free s.bad_code ∷ free (octet (length s.groups)) ∷ flat_map subgroup_fields s.groups) r
+    → IsCut whole p s (from_sid whole s.source_id s.address_type s.address r >>= λ who. from_sync whole who.0 who.1)
 told_sid whole s p w r q le at ends =
-    subst (IsCut whole p s) (sym (assoc (place_in whole r) (octet_in r) (λ (x : ℕ × List ℕ). from_id whole s.source_id s.address_type s.address x.0 x.1) (λ (y : StateFields × List ℕ). from_sync whole y.0 y.1)))
-    (told_octet (IsCut whole p s) whole r s.sid (unless (nat_lt 15 s.sid) (octet s.sid)) (free s.broadcast_id ∷ unless (nat_lt 4 s.pa_sync_state) (octet s.pa_sync_state) ∷ unless (nat_lt 3 s.encryption) (octet s.encryption) ∷ free s.bad_code ∷ free (octet (length s.groups)) ∷ flat_map subgroup_fields s.groups) p q (λ x. from_id whole s.source_id s.address_type s.address x.0 x.1 >>= λ y. from_sync whole y.0 y.1) refl le at ends (inl refl) (told_id whole s p w))
+    subst (IsCut whole p s) (sym (assoc (place_in whole r) (octet_in r) (λ (x : ℕ × List ℕ). from_id whole s.source_id s.address_type s.address x.0 x.1)
+    (λ (y : StateFields × List ℕ). from_sync whole y.0 y.1)))
+    (told_octet (IsCut whole p s) whole r s.sid (unless (nat_lt 15 s.sid) (octet s.sid))
+    (free s.broadcast_id ∷ unless (nat_lt 4 s.pa_sync_state) (octet s.pa_sync_state) ∷ unless (nat_lt 3 s.encryption) (octet s.encryption) ∷ free s.bad_code
+    ∷ free (octet (length s.groups)) ∷ flat_map subgroup_fields s.groups) p q (λ x. from_id whole s.source_id s.address_type s.address x.0 x.1 >>= λ y. from_sync whole y.0 y.1) refl le
+    at ends (inl refl) (told_id whole s p w))
 
-told_address : (whole : List ℕ) (s : StateFields) (p : ℕ) → FieldsFit s → (r : List ℕ) (q : ℕ) → length r ≤ length whole → p ≡ place_in whole r + q → EndsIn q (free s.address ∷ unless (nat_lt 15 s.sid) (octet s.sid) ∷ free s.broadcast_id ∷ unless (nat_lt 4 s.pa_sync_state) (octet s.pa_sync_state) ∷ unless (nat_lt 3 s.encryption) (octet s.encryption) ∷ free s.bad_code ∷ free (octet (length s.groups)) ∷ flat_map subgroup_fields s.groups) r → IsCut whole p s (from_address whole s.source_id s.address_type r >>= λ who. from_sync whole who.0 who.1)
+told_address : (whole : List ℕ) (s : StateFields) (p : ℕ) → FieldsFit s → (r : List ℕ) (q : ℕ) → length r ≤ length whole → p ≡ place_in whole r + q
+    → EndsIn q (free s.address ∷ unless (nat_lt 15 s.sid) (octet s.sid) ∷ free s.broadcast_id ∷ unless (nat_lt 4 s.pa_sync_state) (octet s.pa_sync_state)
+    ∷ unless (nat_lt 3 s.encryption) (octet s.encryption) ∷ free s.bad_code ∷ free (octet (length s.groups)) ∷ flat_map subgroup_fields s.groups) r
+    → IsCut whole p s (from_address whole s.source_id s.address_type r >>= λ who. from_sync whole who.0 who.1)
 told_address whole s p w r q le at ends =
-    subst (IsCut whole p s) (sym (assoc (place_in whole r) (octets_in 6 r) (λ (x : List ℕ × List ℕ). from_sid whole s.source_id s.address_type x.0 x.1) (λ (y : StateFields × List ℕ). from_sync whole y.0 y.1)))
-    (told_octets (IsCut whole p s) whole r 6 s.address (free s.address) (unless (nat_lt 15 s.sid) (octet s.sid) ∷ free s.broadcast_id ∷ unless (nat_lt 4 s.pa_sync_state) (octet s.pa_sync_state) ∷ unless (nat_lt 3 s.encryption) (octet s.encryption) ∷ free s.bad_code ∷ free (octet (length s.groups)) ∷ flat_map subgroup_fields s.groups) p q (λ x. from_sid whole s.source_id s.address_type x.0 x.1 >>= λ y. from_sync whole y.0 y.1) w.address refl le at ends (inl refl) (told_sid whole s p w))
+    subst (IsCut whole p s) (sym (assoc (place_in whole r) (octets_in 6 r) (λ (x : List ℕ × List ℕ). from_sid whole s.source_id s.address_type x.0 x.1)
+    (λ (y : StateFields × List ℕ). from_sync whole y.0 y.1)))
+    (told_octets (IsCut whole p s) whole r 6 s.address (free s.address)
+    (unless (nat_lt 15 s.sid) (octet s.sid) ∷ free s.broadcast_id ∷ unless (nat_lt 4 s.pa_sync_state) (octet s.pa_sync_state) ∷ unless (nat_lt 3 s.encryption) (octet s.encryption)
+    ∷ free s.bad_code ∷ free (octet (length s.groups)) ∷ flat_map subgroup_fields s.groups) p q (λ x. from_sid whole s.source_id s.address_type x.0 x.1 >>= λ y. from_sync whole y.0 y.1)
+    w.address refl le at ends (inl refl) (told_sid whole s p w))
 
-told_kind : (whole : List ℕ) (s : StateFields) (p : ℕ) → FieldsFit s → (r : List ℕ) (q : ℕ) → length r ≤ length whole → p ≡ place_in whole r + q → EndsIn q (unless (nat_lt 1 s.address_type) (octet s.address_type) ∷ free s.address ∷ unless (nat_lt 15 s.sid) (octet s.sid) ∷ free s.broadcast_id ∷ unless (nat_lt 4 s.pa_sync_state) (octet s.pa_sync_state) ∷ unless (nat_lt 3 s.encryption) (octet s.encryption) ∷ free s.bad_code ∷ free (octet (length s.groups)) ∷ flat_map subgroup_fields s.groups) r → IsCut whole p s (from_kind whole s.source_id r >>= λ who. from_sync whole who.0 who.1)
+told_kind : (whole : List ℕ) (s : StateFields) (p : ℕ) → FieldsFit s → (r : List ℕ) (q : ℕ) → length r ≤ length whole → p ≡ place_in whole r + q
+    → EndsIn q (unless (nat_lt 1 s.address_type) (octet s.address_type) ∷ free s.address ∷ unless (nat_lt 15 s.sid) (octet s.sid) ∷ free s.broadcast_id
+    ∷ unless (nat_lt 4 s.pa_sync_state) (octet s.pa_sync_state) ∷ unless (nat_lt 3 s.encryption) (octet s.encryption) ∷ free s.bad_code ∷ free (octet (length s.groups))
+    ∷ flat_map subgroup_fields s.groups) r → IsCut whole p s (from_kind whole s.source_id r >>= λ who. from_sync whole who.0 who.1)
 told_kind whole s p w r q le at ends =
     subst (IsCut whole p s) (sym (assoc (place_in whole r) (octet_in r) (λ (x : ℕ × List ℕ). from_address whole s.source_id x.0 x.1) (λ (y : StateFields × List ℕ). from_sync whole y.0 y.1)))
-    (told_octet (IsCut whole p s) whole r s.address_type (unless (nat_lt 1 s.address_type) (octet s.address_type)) (free s.address ∷ unless (nat_lt 15 s.sid) (octet s.sid) ∷ free s.broadcast_id ∷ unless (nat_lt 4 s.pa_sync_state) (octet s.pa_sync_state) ∷ unless (nat_lt 3 s.encryption) (octet s.encryption) ∷ free s.bad_code ∷ free (octet (length s.groups)) ∷ flat_map subgroup_fields s.groups) p q (λ x. from_address whole s.source_id x.0 x.1 >>= λ y. from_sync whole y.0 y.1) refl le at ends (inl refl) (told_address whole s p w))
+    (told_octet (IsCut whole p s) whole r s.address_type (unless (nat_lt 1 s.address_type) (octet s.address_type))
+    (free s.address ∷ unless (nat_lt 15 s.sid) (octet s.sid) ∷ free s.broadcast_id ∷ unless (nat_lt 4 s.pa_sync_state) (octet s.pa_sync_state)
+    ∷ unless (nat_lt 3 s.encryption) (octet s.encryption) ∷ free s.bad_code ∷ free (octet (length s.groups)) ∷ flat_map subgroup_fields s.groups) p q
+    (λ x. from_address whole s.source_id x.0 x.1 >>= λ y. from_sync whole y.0 y.1) refl le at ends (inl refl) (told_address whole s p w))
 
-told_source : (whole : List ℕ) (s : StateFields) (p : ℕ) → FieldsFit s → (r : List ℕ) (q : ℕ) → length r ≤ length whole → p ≡ place_in whole r + q → EndsIn q (free (octet s.source_id) ∷ unless (nat_lt 1 s.address_type) (octet s.address_type) ∷ free s.address ∷ unless (nat_lt 15 s.sid) (octet s.sid) ∷ free s.broadcast_id ∷ unless (nat_lt 4 s.pa_sync_state) (octet s.pa_sync_state) ∷ unless (nat_lt 3 s.encryption) (octet s.encryption) ∷ free s.bad_code ∷ free (octet (length s.groups)) ∷ flat_map subgroup_fields s.groups) r → IsCut whole p s (from_source whole r >>= λ who. from_sync whole who.0 who.1)
+told_source : (whole : List ℕ) (s : StateFields) (p : ℕ) → FieldsFit s → (r : List ℕ) (q : ℕ) → length r ≤ length whole → p ≡ place_in whole r + q
+    → EndsIn q (free (octet s.source_id) ∷ unless (nat_lt 1 s.address_type) (octet s.address_type) ∷ free s.address ∷ unless (nat_lt 15 s.sid) (octet s.sid) ∷ free s.broadcast_id
+    ∷ unless (nat_lt 4 s.pa_sync_state) (octet s.pa_sync_state) ∷ unless (nat_lt 3 s.encryption) (octet s.encryption) ∷ free s.bad_code ∷ free (octet (length s.groups))
+    ∷ flat_map subgroup_fields s.groups) r → IsCut whole p s (from_source whole r >>= λ who. from_sync whole who.0 who.1)
 told_source whole s p w r q le at ends =
     subst (IsCut whole p s) (sym (assoc (place_in whole r) (octet_in r) (λ (x : ℕ × List ℕ). from_kind whole x.0 x.1) (λ (y : StateFields × List ℕ). from_sync whole y.0 y.1)))
-    (told_octet (IsCut whole p s) whole r s.source_id (free (octet s.source_id)) (unless (nat_lt 1 s.address_type) (octet s.address_type) ∷ free s.address ∷ unless (nat_lt 15 s.sid) (octet s.sid) ∷ free s.broadcast_id ∷ unless (nat_lt 4 s.pa_sync_state) (octet s.pa_sync_state) ∷ unless (nat_lt 3 s.encryption) (octet s.encryption) ∷ free s.bad_code ∷ free (octet (length s.groups)) ∷ flat_map subgroup_fields s.groups) p q (λ x. from_kind whole x.0 x.1 >>= λ y. from_sync whole y.0 y.1) refl le at ends (inl refl) (told_kind whole s p w))
+    (told_octet (IsCut whole p s) whole r s.source_id (free (octet s.source_id))
+    (unless (nat_lt 1 s.address_type) (octet s.address_type) ∷ free s.address ∷ unless (nat_lt 15 s.sid) (octet s.sid) ∷ free s.broadcast_id
+    ∷ unless (nat_lt 4 s.pa_sync_state) (octet s.pa_sync_state) ∷ unless (nat_lt 3 s.encryption) (octet s.encryption) ∷ free s.bad_code ∷ free (octet (length s.groups))
+    ∷ flat_map subgroup_fields s.groups) p q (λ x. from_kind whole x.0 x.1 >>= λ y. from_sync whole y.0 y.1) refl le at ends (inl refl) (told_kind whole s p w))
 
 pub told_head : (whole : List ℕ) (s : StateFields) (p : ℕ) → FieldsFit s → EndsIn p (fields s) whole → IsCut whole p s (head_in whole)
 told_head whole s p w ends =

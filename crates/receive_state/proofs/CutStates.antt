@@ -20,20 +20,73 @@ use Rattle.receive_state.proofs.Judged.{read_is}
 use Rattle.receive_state.proofs.Heads.{before, before-length, head_takes}
 
 -- the fields before the subgroups lead to them
-behind_head : (s : StateFields) (q : ℕ) (tail : List ℕ) → EndsIn q (flat_map subgroup_fields s.groups) tail → EndsIn (1 + (1 + (length s.address + (1 + (length s.broadcast_id + (1 + (1 + (length s.bad_code + (1 + (q)))))))))) (fields s) (before s (length s.groups) tail)
+behind_head : (s : StateFields) (q : ℕ) (tail : List ℕ) → EndsIn q (flat_map subgroup_fields s.groups) tail
+    → EndsIn (1 + (1 + (length s.address + (1 + (length s.broadcast_id + (1 + (1 + (length s.bad_code + (1 + (q)))))))))) (fields s) (before s (length s.groups) tail)
 behind_head s q tail ends =
-    let e8 : EndsIn (1 + (q)) (free (octet (length s.groups)) ∷ flat_map subgroup_fields s.groups) (octet (length s.groups) ++ (tail)) = ends_more (free (octet (length s.groups))) (flat_map subgroup_fields s.groups) (q) (tail) ends in
-    let e7 : EndsIn (length s.bad_code + (1 + (q))) (free s.bad_code ∷ free (octet (length s.groups)) ∷ flat_map subgroup_fields s.groups) (s.bad_code ++ (octet (length s.groups) ++ (tail))) = ends_more (free s.bad_code) (free (octet (length s.groups)) ∷ flat_map subgroup_fields s.groups) (1 + (q)) (octet (length s.groups) ++ (tail)) e8 in
-    let e6 : EndsIn (1 + (length s.bad_code + (1 + (q)))) (unless (nat_lt 3 s.encryption) (octet s.encryption) ∷ free s.bad_code ∷ free (octet (length s.groups)) ∷ flat_map subgroup_fields s.groups) (octet s.encryption ++ (s.bad_code ++ (octet (length s.groups) ++ (tail)))) = ends_more (unless (nat_lt 3 s.encryption) (octet s.encryption)) (free s.bad_code ∷ free (octet (length s.groups)) ∷ flat_map subgroup_fields s.groups) (length s.bad_code + (1 + (q))) (s.bad_code ++ (octet (length s.groups) ++ (tail))) e7 in
-    let e5 : EndsIn (1 + (1 + (length s.bad_code + (1 + (q))))) (unless (nat_lt 4 s.pa_sync_state) (octet s.pa_sync_state) ∷ unless (nat_lt 3 s.encryption) (octet s.encryption) ∷ free s.bad_code ∷ free (octet (length s.groups)) ∷ flat_map subgroup_fields s.groups) (octet s.pa_sync_state ++ (octet s.encryption ++ (s.bad_code ++ (octet (length s.groups) ++ (tail))))) = ends_more (unless (nat_lt 4 s.pa_sync_state) (octet s.pa_sync_state)) (unless (nat_lt 3 s.encryption) (octet s.encryption) ∷ free s.bad_code ∷ free (octet (length s.groups)) ∷ flat_map subgroup_fields s.groups) (1 + (length s.bad_code + (1 + (q)))) (octet s.encryption ++ (s.bad_code ++ (octet (length s.groups) ++ (tail)))) e6 in
-    let e4 : EndsIn (length s.broadcast_id + (1 + (1 + (length s.bad_code + (1 + (q)))))) (free s.broadcast_id ∷ unless (nat_lt 4 s.pa_sync_state) (octet s.pa_sync_state) ∷ unless (nat_lt 3 s.encryption) (octet s.encryption) ∷ free s.bad_code ∷ free (octet (length s.groups)) ∷ flat_map subgroup_fields s.groups) (s.broadcast_id ++ (octet s.pa_sync_state ++ (octet s.encryption ++ (s.bad_code ++ (octet (length s.groups) ++ (tail)))))) = ends_more (free s.broadcast_id) (unless (nat_lt 4 s.pa_sync_state) (octet s.pa_sync_state) ∷ unless (nat_lt 3 s.encryption) (octet s.encryption) ∷ free s.bad_code ∷ free (octet (length s.groups)) ∷ flat_map subgroup_fields s.groups) (1 + (1 + (length s.bad_code + (1 + (q))))) (octet s.pa_sync_state ++ (octet s.encryption ++ (s.bad_code ++ (octet (length s.groups) ++ (tail))))) e5 in
-    let e3 : EndsIn (1 + (length s.broadcast_id + (1 + (1 + (length s.bad_code + (1 + (q))))))) (unless (nat_lt 15 s.sid) (octet s.sid) ∷ free s.broadcast_id ∷ unless (nat_lt 4 s.pa_sync_state) (octet s.pa_sync_state) ∷ unless (nat_lt 3 s.encryption) (octet s.encryption) ∷ free s.bad_code ∷ free (octet (length s.groups)) ∷ flat_map subgroup_fields s.groups) (octet s.sid ++ (s.broadcast_id ++ (octet s.pa_sync_state ++ (octet s.encryption ++ (s.bad_code ++ (octet (length s.groups) ++ (tail))))))) = ends_more (unless (nat_lt 15 s.sid) (octet s.sid)) (free s.broadcast_id ∷ unless (nat_lt 4 s.pa_sync_state) (octet s.pa_sync_state) ∷ unless (nat_lt 3 s.encryption) (octet s.encryption) ∷ free s.bad_code ∷ free (octet (length s.groups)) ∷ flat_map subgroup_fields s.groups) (length s.broadcast_id + (1 + (1 + (length s.bad_code + (1 + (q)))))) (s.broadcast_id ++ (octet s.pa_sync_state ++ (octet s.encryption ++ (s.bad_code ++ (octet (length s.groups) ++ (tail)))))) e4 in
-    let e2 : EndsIn (length s.address + (1 + (length s.broadcast_id + (1 + (1 + (length s.bad_code + (1 + (q)))))))) (free s.address ∷ unless (nat_lt 15 s.sid) (octet s.sid) ∷ free s.broadcast_id ∷ unless (nat_lt 4 s.pa_sync_state) (octet s.pa_sync_state) ∷ unless (nat_lt 3 s.encryption) (octet s.encryption) ∷ free s.bad_code ∷ free (octet (length s.groups)) ∷ flat_map subgroup_fields s.groups) (s.address ++ (octet s.sid ++ (s.broadcast_id ++ (octet s.pa_sync_state ++ (octet s.encryption ++ (s.bad_code ++ (octet (length s.groups) ++ (tail)))))))) = ends_more (free s.address) (unless (nat_lt 15 s.sid) (octet s.sid) ∷ free s.broadcast_id ∷ unless (nat_lt 4 s.pa_sync_state) (octet s.pa_sync_state) ∷ unless (nat_lt 3 s.encryption) (octet s.encryption) ∷ free s.bad_code ∷ free (octet (length s.groups)) ∷ flat_map subgroup_fields s.groups) (1 + (length s.broadcast_id + (1 + (1 + (length s.bad_code + (1 + (q))))))) (octet s.sid ++ (s.broadcast_id ++ (octet s.pa_sync_state ++ (octet s.encryption ++ (s.bad_code ++ (octet (length s.groups) ++ (tail))))))) e3 in
-    let e1 : EndsIn (1 + (length s.address + (1 + (length s.broadcast_id + (1 + (1 + (length s.bad_code + (1 + (q))))))))) (unless (nat_lt 1 s.address_type) (octet s.address_type) ∷ free s.address ∷ unless (nat_lt 15 s.sid) (octet s.sid) ∷ free s.broadcast_id ∷ unless (nat_lt 4 s.pa_sync_state) (octet s.pa_sync_state) ∷ unless (nat_lt 3 s.encryption) (octet s.encryption) ∷ free s.bad_code ∷ free (octet (length s.groups)) ∷ flat_map subgroup_fields s.groups) (octet s.address_type ++ (s.address ++ (octet s.sid ++ (s.broadcast_id ++ (octet s.pa_sync_state ++ (octet s.encryption ++ (s.bad_code ++ (octet (length s.groups) ++ (tail))))))))) = ends_more (unless (nat_lt 1 s.address_type) (octet s.address_type)) (free s.address ∷ unless (nat_lt 15 s.sid) (octet s.sid) ∷ free s.broadcast_id ∷ unless (nat_lt 4 s.pa_sync_state) (octet s.pa_sync_state) ∷ unless (nat_lt 3 s.encryption) (octet s.encryption) ∷ free s.bad_code ∷ free (octet (length s.groups)) ∷ flat_map subgroup_fields s.groups) (length s.address + (1 + (length s.broadcast_id + (1 + (1 + (length s.bad_code + (1 + (q)))))))) (s.address ++ (octet s.sid ++ (s.broadcast_id ++ (octet s.pa_sync_state ++ (octet s.encryption ++ (s.bad_code ++ (octet (length s.groups) ++ (tail)))))))) e2 in
-    let e0 : EndsIn (1 + (1 + (length s.address + (1 + (length s.broadcast_id + (1 + (1 + (length s.bad_code + (1 + (q)))))))))) (free (octet s.source_id) ∷ unless (nat_lt 1 s.address_type) (octet s.address_type) ∷ free s.address ∷ unless (nat_lt 15 s.sid) (octet s.sid) ∷ free s.broadcast_id ∷ unless (nat_lt 4 s.pa_sync_state) (octet s.pa_sync_state) ∷ unless (nat_lt 3 s.encryption) (octet s.encryption) ∷ free s.bad_code ∷ free (octet (length s.groups)) ∷ flat_map subgroup_fields s.groups) (octet s.source_id ++ (octet s.address_type ++ (s.address ++ (octet s.sid ++ (s.broadcast_id ++ (octet s.pa_sync_state ++ (octet s.encryption ++ (s.bad_code ++ (octet (length s.groups) ++ (tail)))))))))) = ends_more (free (octet s.source_id)) (unless (nat_lt 1 s.address_type) (octet s.address_type) ∷ free s.address ∷ unless (nat_lt 15 s.sid) (octet s.sid) ∷ free s.broadcast_id ∷ unless (nat_lt 4 s.pa_sync_state) (octet s.pa_sync_state) ∷ unless (nat_lt 3 s.encryption) (octet s.encryption) ∷ free s.bad_code ∷ free (octet (length s.groups)) ∷ flat_map subgroup_fields s.groups) (1 + (length s.address + (1 + (length s.broadcast_id + (1 + (1 + (length s.bad_code + (1 + (q))))))))) (octet s.address_type ++ (s.address ++ (octet s.sid ++ (s.broadcast_id ++ (octet s.pa_sync_state ++ (octet s.encryption ++ (s.bad_code ++ (octet (length s.groups) ++ (tail))))))))) e1 in
+    let e8 : EndsIn (1 + (q)) (free (octet (length s.groups)) ∷ flat_map subgroup_fields s.groups) (octet (length s.groups) ++ (tail)) =
+    ends_more (free (octet (length s.groups))) (flat_map subgroup_fields s.groups) (q) (tail) ends in
+    let e7 : EndsIn (length s.bad_code + (1 + (q))) (free s.bad_code ∷ free (octet (length s.groups)) ∷ flat_map subgroup_fields s.groups)
+    (s.bad_code ++ (octet (length s.groups) ++ (tail))) =
+    ends_more (free s.bad_code) (free (octet (length s.groups)) ∷ flat_map subgroup_fields s.groups) (1 + (q)) (octet (length s.groups) ++ (tail)) e8 in
+    let e6 : EndsIn (1 + (length s.bad_code + (1 + (q))))
+    (unless (nat_lt 3 s.encryption) (octet s.encryption) ∷ free s.bad_code ∷ free (octet (length s.groups)) ∷ flat_map subgroup_fields s.groups)
+    (octet s.encryption ++ (s.bad_code ++ (octet (length s.groups) ++ (tail)))) =
+    ends_more (unless (nat_lt 3 s.encryption) (octet s.encryption)) (free s.bad_code ∷ free (octet (length s.groups)) ∷ flat_map subgroup_fields s.groups) (length s.bad_code + (1 + (q)))
+    (s.bad_code ++ (octet (length s.groups) ++ (tail))) e7 in
+    let e5 : EndsIn (1 + (1 + (length s.bad_code + (1 + (q)))))
+    (unless (nat_lt 4 s.pa_sync_state) (octet s.pa_sync_state) ∷ unless (nat_lt 3 s.encryption) (octet s.encryption) ∷ free s.bad_code ∷ free (octet (length s.groups))
+    ∷ flat_map subgroup_fields s.groups) (octet s.pa_sync_state ++ (octet s.encryption ++ (s.bad_code ++ (octet (length s.groups) ++ (tail))))) =
+    ends_more (unless (nat_lt 4 s.pa_sync_state) (octet s.pa_sync_state))
+    (unless (nat_lt 3 s.encryption) (octet s.encryption) ∷ free s.bad_code ∷ free (octet (length s.groups)) ∷ flat_map subgroup_fields s.groups) (1 + (length s.bad_code + (1 + (q))))
+    (octet s.encryption ++ (s.bad_code ++ (octet (length s.groups) ++ (tail)))) e6 in
+    let e4 : EndsIn (length s.broadcast_id + (1 + (1 + (length s.bad_code + (1 + (q))))))
+    (free s.broadcast_id ∷ unless (nat_lt 4 s.pa_sync_state) (octet s.pa_sync_state) ∷ unless (nat_lt 3 s.encryption) (octet s.encryption) ∷ free s.bad_code
+    ∷ free (octet (length s.groups)) ∷ flat_map subgroup_fields s.groups)
+    (s.broadcast_id ++ (octet s.pa_sync_state ++ (octet s.encryption ++ (s.bad_code ++ (octet (length s.groups) ++ (tail)))))) =
+    ends_more (free s.broadcast_id)
+    (unless (nat_lt 4 s.pa_sync_state) (octet s.pa_sync_state) ∷ unless (nat_lt 3 s.encryption) (octet s.encryption) ∷ free s.bad_code ∷ free (octet (length s.groups))
+    ∷ flat_map subgroup_fields s.groups) (1 + (1 + (length s.bad_code + (1 + (q))))) (octet s.pa_sync_state ++ (octet s.encryption ++ (s.bad_code ++ (octet (length s.groups) ++ (tail))))) e5 in
+    let e3 : EndsIn (1 + (length s.broadcast_id + (1 + (1 + (length s.bad_code + (1 + (q)))))))
+    (unless (nat_lt 15 s.sid) (octet s.sid) ∷ free s.broadcast_id ∷ unless (nat_lt 4 s.pa_sync_state) (octet s.pa_sync_state) ∷ unless (nat_lt 3 s.encryption) (octet s.encryption)
+    ∷ free s.bad_code ∷ free (octet (length s.groups)) ∷ flat_map subgroup_fields s.groups)
+    (octet s.sid ++ (s.broadcast_id ++ (octet s.pa_sync_state ++ (octet s.encryption ++ (s.bad_code ++ (octet (length s.groups) ++ (tail))))))) =
+    ends_more (unless (nat_lt 15 s.sid) (octet s.sid))
+    (free s.broadcast_id ∷ unless (nat_lt 4 s.pa_sync_state) (octet s.pa_sync_state) ∷ unless (nat_lt 3 s.encryption) (octet s.encryption) ∷ free s.bad_code
+    ∷ free (octet (length s.groups)) ∷ flat_map subgroup_fields s.groups) (length s.broadcast_id + (1 + (1 + (length s.bad_code + (1 + (q))))))
+    (s.broadcast_id ++ (octet s.pa_sync_state ++ (octet s.encryption ++ (s.bad_code ++ (octet (length s.groups) ++ (tail)))))) e4 in
+    let e2 : EndsIn (length s.address + (1 + (length s.broadcast_id + (1 + (1 + (length s.bad_code + (1 + (q))))))))
+    (free s.address ∷ unless (nat_lt 15 s.sid) (octet s.sid) ∷ free s.broadcast_id ∷ unless (nat_lt 4 s.pa_sync_state) (octet s.pa_sync_state)
+    ∷ unless (nat_lt 3 s.encryption) (octet s.encryption) ∷ free s.bad_code ∷ free (octet (length s.groups)) ∷ flat_map subgroup_fields s.groups)
+    (s.address ++ (octet s.sid ++ (s.broadcast_id ++ (octet s.pa_sync_state ++ (octet s.encryption ++ (s.bad_code ++ (octet (length s.groups) ++ (tail)))))))) =
+    ends_more (free s.address) (unless (nat_lt 15 s.sid) (octet s.sid) ∷ free s.broadcast_id ∷ unless (nat_lt 4 s.pa_sync_state) (octet s.pa_sync_state)
+    ∷ unless (nat_lt 3 s.encryption) (octet s.encryption) ∷ free s.bad_code ∷ free (octet (length s.groups)) ∷ flat_map subgroup_fields s.groups)
+    (1 + (length s.broadcast_id + (1 + (1 + (length s.bad_code + (1 + (q)))))))
+    (octet s.sid ++ (s.broadcast_id ++ (octet s.pa_sync_state ++ (octet s.encryption ++ (s.bad_code ++ (octet (length s.groups) ++ (tail))))))) e3 in
+    let e1 : EndsIn (1 + (length s.address + (1 + (length s.broadcast_id + (1 + (1 + (length s.bad_code + (1 + (q)))))))))
+    (unless (nat_lt 1 s.address_type) (octet s.address_type) ∷ free s.address ∷ unless (nat_lt 15 s.sid) (octet s.sid) ∷ free s.broadcast_id
+    ∷ unless (nat_lt 4 s.pa_sync_state) (octet s.pa_sync_state) ∷ unless (nat_lt 3 s.encryption) (octet s.encryption) ∷ free s.bad_code ∷ free (octet (length s.groups))
+    ∷ flat_map subgroup_fields s.groups)
+    (octet s.address_type ++ (s.address ++ (octet s.sid ++ (s.broadcast_id ++ (octet s.pa_sync_state ++ (octet s.encryption ++ (s.bad_code ++ (octet (length s.groups) ++ (tail))))))))) =
+    ends_more (unless (nat_lt 1 s.address_type) (octet s.address_type))
+    (free s.address ∷ unless (nat_lt 15 s.sid) (octet s.sid) ∷ free s.broadcast_id ∷ unless (nat_lt 4 s.pa_sync_state) (octet s.pa_sync_state)
+    ∷ unless (nat_lt 3 s.encryption) (octet s.encryption) ∷ free s.bad_code ∷ free (octet (length s.groups)) ∷ flat_map subgroup_fields s.groups)
+    (length s.address + (1 + (length s.broadcast_id + (1 + (1 + (length s.bad_code + (1 + (q))))))))
+    (s.address ++ (octet s.sid ++ (s.broadcast_id ++ (octet s.pa_sync_state ++ (octet s.encryption ++ (s.bad_code ++ (octet (length s.groups) ++ (tail)))))))) e2 in
+    let e0 : EndsIn (1 + (1 + (length s.address + (1 + (length s.broadcast_id + (1 + (1 + (length s.bad_code + (1 + (q))))))))))
+    (free (octet s.source_id) ∷ unless (nat_lt 1 s.address_type) (octet s.address_type) ∷ free s.address ∷ unless (nat_lt 15 s.sid) (octet s.sid) ∷ free s.broadcast_id
+    ∷ unless (nat_lt 4 s.pa_sync_state) (octet s.pa_sync_state) ∷ unless (nat_lt 3 s.encryption) (octet s.encryption) ∷ free s.bad_code ∷ free (octet (length s.groups))
+    ∷ flat_map subgroup_fields s.groups)
+    (octet s.source_id ++ (octet s.address_type
+    ++ (s.address ++ (octet s.sid ++ (s.broadcast_id ++ (octet s.pa_sync_state ++ (octet s.encryption ++ (s.bad_code ++ (octet (length s.groups) ++ (tail)))))))))) =
+    ends_more (free (octet s.source_id))
+    (unless (nat_lt 1 s.address_type) (octet s.address_type) ∷ free s.address ∷ unless (nat_lt 15 s.sid) (octet s.sid) ∷ free s.broadcast_id
+    ∷ unless (nat_lt 4 s.pa_sync_state) (octet s.pa_sync_state) ∷ unless (nat_lt 3 s.encryption) (octet s.encryption) ∷ free s.bad_code ∷ free (octet (length s.groups))
+    ∷ flat_map subgroup_fields s.groups) (1 + (length s.address + (1 + (length s.broadcast_id + (1 + (1 + (length s.bad_code + (1 + (q)))))))))
+    (octet s.address_type ++ (s.address ++ (octet s.sid ++ (s.broadcast_id ++ (octet s.pa_sync_state ++ (octet s.encryption ++ (s.bad_code ++ (octet (length s.groups) ++ (tail))))))))) e1 in
     e0
 
-in_groups : (whole : List ℕ) (s : StateFields) (count : ℕ) (tail : List ℕ) (p : ℕ) → IsOctets whole → 0 < length whole → head_in whole ≡ Ok (s, count, tail) → end_in whole count tail ≡ Err p → IsShort p whole
+in_groups : (whole : List ℕ) (s : StateFields) (count : ℕ) (tail : List ℕ) (p : ℕ) → IsOctets whole → 0 < length whole → head_in whole ≡ Ok (s, count, tail) → end_in whole count tail ≡ Err p
+    → IsShort p whole
 in_groups whole s count tail p h some e r =
     let t = head_takes whole (s, count, tail) h e in
     let len : length whole ≡ 15 + length s.bad_code + length tail = ap length t.parts ∙ before-length s count tail t.address t.broadcast_id in
@@ -44,8 +97,15 @@ in_groups whole s count tail p h some e r =
     let a = t.address in
     let b = t.broadcast_id in
     let place : 1 + (1 + (length all.address + (1 + (length all.broadcast_id + (1 + (1 + (length all.bad_code + (1 + (g.q))))))))) ≡ p = omega arith in
-    let few : length g.groups ≤ 255 = let small = t.few in let same = g.count in omega arith in
-    (some, (all, record { address = t.address; broadcast_id = t.broadcast_id; bad_code = t.bad_code; few = few; groups = g.fit }, subst (λ (n : ℕ). EndsIn n (fields all) whole) place (subst (EndsIn (1 + (1 + (length all.address + (1 + (length all.broadcast_id + (1 + (1 + (length all.bad_code + (1 + (g.q)))))))))) (fields all)) parts (behind_head all g.q tail g.ends))))
+    let few : length g.groups ≤ 255 = let small = t.few in let same = g.count in omega arith in (
+      some,
+      (
+        all,
+        record { address = t.address; broadcast_id = t.broadcast_id; bad_code = t.bad_code; few = few; groups = g.fit },
+        subst (λ (n : ℕ). EndsIn n (fields all) whole) place
+            (subst (EndsIn (1 + (1 + (length all.address + (1 + (length all.broadcast_id + (1 + (1 + (length all.bad_code + (1 + (g.q)))))))))) (fields all)) parts (behind_head all g.q tail g.ends)),
+      ),
+    )
 
 short_same : (p place : ℕ) → Short p ≡ Short place → p ≡ place
 short_same p place e = cc
@@ -61,13 +121,16 @@ never_short state (Some found) end rest place e = cc
 never_short state None end [] place e = cc
 never_short state None end (first ∷ rest) place e = cc
 
-end_cases : (whole : List ℕ) (s : StateFields) (count : ℕ) (tail : List ℕ) (place : ℕ) (read : Result (List ℕ) ℕ) → IsOctets whole → 0 < length whole → head_in whole ≡ Ok (s, count, tail) → end_in whole count tail ≡ read
+end_cases : (whole : List ℕ) (s : StateFields) (count : ℕ) (tail : List ℕ) (place : ℕ) (read : Result (List ℕ) ℕ) → IsOctets whole → 0 < length whole → head_in whole ≡ Ok (s, count, tail)
+    → end_in whole count tail ≡ read
     → behind whole (record s { groups = subgroups_of (subgroups_in count tail) }) read ≡ Err (Short place) → IsShort place whole
 end_cases whole s count tail place (Err p) h some e r j = subst (λ (n : ℕ). IsShort n whole) (fault_of_err p place j) (in_groups whole s count tail p h some e r)
 end_cases whole s count tail place (Ok rest) h some e r j =
-    absurd (never_short (state_from (record s { groups = subgroups_of (subgroups_in count tail) })) (reserved_from 0 (fields (record s { groups = subgroups_of (subgroups_in count tail) }))) (place_in whole rest) rest place j)
+    absurd (never_short (state_from (record s { groups = subgroups_of (subgroups_in count tail) })) (reserved_from 0 (fields (record s { groups = subgroups_of (subgroups_in count tail) })))
+    (place_in whole rest) rest place j)
 
-head_cases : (whole : List ℕ) (place : ℕ) (read : Result (StateFields × ℕ × List ℕ) ℕ) → IsOctets whole → 0 < length whole → head_in whole ≡ read → judged whole read ≡ Err (Short place) → IsShort place whole
+head_cases : (whole : List ℕ) (place : ℕ) (read : Result (StateFields × ℕ × List ℕ) ℕ) → IsOctets whole → 0 < length whole → head_in whole ≡ read → judged whole read ≡ Err (Short place)
+    → IsShort place whole
 head_cases whole place (Err p) h some e j =
     let f = found_head whole p e in
     subst (λ (n : ℕ). IsShort n whole) (fault_of_err p place j) (some, (f.s, f.widths, f.ends))

@@ -1,5 +1,6 @@
 -- Octets that end within a field of a list, and what is read of them.
-use Rattle.std.proofs.Common.{◌≡◌, ℕ, zero, suc, ◌+◌, ◌-◌, ◌<◌, Bool, true, false, cond, ltb, List, [], ◌∷◌, ◌++◌, length, take, drop, Option, Some, None, refl, sym, ap, ◌∙◌, inl, inr, append_assoc, arith}
+use Rattle.std.proofs.Common.{◌≡◌, ℕ, zero, suc, ◌+◌, ◌-◌, ◌<◌, Bool, true, false, cond, ltb, List, [], ◌∷◌, ◌++◌, length, take, drop, Option, Some, None, refl, sym, ap, ◌∙◌, inl}
+use Rattle.std.proofs.Common.{inr, append_assoc, arith}
 use Rattle.std.specs.Prelude.{◌⊎◌}
 use Rattle.std.proofs.lemmas.Bool.{lt-ltb, ltb-true}
 use Rattle.std.proofs.lemmas.List.{length-append}
@@ -31,7 +32,8 @@ Split field fields place octets =
     ((place ≡ 0) × (length octets < length field.octets))
     ⊎ ((q : ℕ) × (rest : List ℕ) × (place ≡ length field.octets + q) × (octets ≡ field.octets ++ rest) × EndsIn q fields rest)
 
-split_at : (first : Field) (fields front : List Field) (field : Field) (back : List Field) (part more octets : List ℕ) (place : ℕ) → first ∷ fields ≡ front ++ field ∷ back → field.octets ≡ part ++ more → 0 < length more
+split_at : (first : Field) (fields front : List Field) (field : Field) (back : List Field) (part more octets : List ℕ) (place : ℕ) → first ∷ fields ≡ front ++ field ∷ back
+    → field.octets ≡ part ++ more → 0 < length more
     → octets ≡ laid front ++ part → place ≡ length (laid front) → Split first fields place octets
 split_at first fields [] field back part more octets place e o lt parts p =
     let same : first ≡ field = cc in

@@ -1,5 +1,5 @@
 -- Which states have a spelling.
-use Rattle.std.proofs.Common.{◌≡◌, ◌≤◌, ℕ, suc, Bool, true, false, cond, ltb, leb, List, [], ◌∷◌, length, map, Some, refl, ap, subst, arith}
+use Rattle.std.proofs.Common.{◌≡◌, ◌≤◌, ◌<◌, ◌^◌, ℕ, suc, Bool, true, false, cond, ltb, leb, List, [], ◌∷◌, length, map, Some, refl, ap, subst, arith}
 use Rattle.std.specs.Prelude.{◌&&◌, ◌||◌, not}
 use Rattle.std.specs.List.{flat_map, list_all, AllByRecursion}
 use Rattle.std.proofs.lemmas.Bool.{leb-true, le-leb}
@@ -9,7 +9,7 @@ use Rattle.receive_state.specs.declared.state.Encryption.{Encryption}
 use Rattle.receive_state.specs.declared.state.Encryption.TheVariants as keys
 use Rattle.receive_state.specs.declared.state.GroupState.{GroupState}
 use Rattle.receive_state.specs.declared.state.ReceiveState.{ReceiveState}
-use Rattle.receive_state.specs.Layout.{FieldsFit, fields_of, group_of, number_of, spelling, group_is_spelled, is_spelled, HasSpelling, StateIs}
+use Rattle.receive_state.specs.Layout.{FieldsFit, fields_of, group_of, number_of, spelling, group_is_spelled, is_spelled, HasSpelling, HasTypes, StateIs}
 
 length-groups : (groups : List GroupState) → length (map group_of groups) ≡ length groups
 length-groups [] = refl
@@ -19,8 +19,17 @@ metadata_fits : (groups : List GroupState) → AllByRecursion Fits (map group_of
 metadata_fits [] h = tt
 metadata_fits (group ∷ groups) h = (omega (arith, h.0.metadata), metadata_fits groups h.1)
 
-pub has_octets : (state : ReceiveState) → FieldsFit (fields_of state) → HasSpelling state → (octets : List ℕ) × StateIs (Some state) octets
-has_octets state w h = (spelling state, record { widths = w; values = h.values; spelled = refl })
+groups_fit : (groups : List GroupState) → AllByRecursion (λ group. group.bis_sync_state < 2 ^ 32) groups → AllByRecursion (λ group. length group.metadata ≤ 255) groups
+    → AllByRecursion Fits (map group_of groups)
+groups_fit [] b m = tt
+groups_fit (group ∷ groups) b m = (record { bits = b.0; metadata = omega (arith, m.0) }, groups_fit groups b.1 m.1)
+
+pub has_octets : (state : ReceiveState) → HasTypes state → HasSpelling state → (octets : List ℕ) × StateIs (Some state) octets
+has_octets state t h =
+    let few : length (map group_of state.groups) ≤ 255 = omega (arith, length-groups state.groups, h.few) in
+    let widths : FieldsFit (fields_of state) =
+    record { address = t.address; broadcast_id = t.broadcast_id; bad_code = t.bad_code; few = few; groups = groups_fit state.groups t.bits h.metadata } in
+    (spelling state, record { widths = widths; values = h.values; spelled = refl })
 
 pub octets_fit : (state : ReceiveState) → ((octets : List ℕ) × StateIs (Some state) octets) → HasSpelling state
 octets_fit state s =
@@ -65,7 +74,8 @@ groups_values (group ∷ groups) e =
     let r = groups_values groups a.1 in
     ((leb-true (length group.metadata) 255 b.1, r.0), (b.0, (refl, (refl, r.1))))
 
-groups_pass : (groups : List GroupState) → AllByRecursion (λ group. length group.metadata ≤ 255) groups → NoneReserved (flat_map subgroup_fields (map group_of groups)) → list_all group_is_spelled groups ≡ true
+groups_pass : (groups : List GroupState) → AllByRecursion (λ group. length group.metadata ≤ 255) groups → NoneReserved (flat_map subgroup_fields (map group_of groups))
+    → list_all group_is_spelled groups ≡ true
 groups_pass [] m v = refl
 groups_pass (group ∷ groups) m v =
     and_so (group_is_spelled group) (list_all group_is_spelled groups)

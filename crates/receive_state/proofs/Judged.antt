@@ -61,7 +61,8 @@ encryption_back (keys.BadCode code) = refl
 
 pub fields_back : (s : StateFields) → s.encryption ≤ 3 → length s.bad_code ≡ code_width s.encryption → fields_of (state_from s) ≡ s
 fields_back s known width =
-    ap (λ (e : ℕ). record s { encryption = e; bad_code = code_of (encryption_of s.encryption s.bad_code); groups = map group_of (map state_of_group s.groups) }) (number_back s.encryption s.bad_code known)
+    ap (λ (e : ℕ). record s { encryption = e; bad_code = code_of (encryption_of s.encryption s.bad_code); groups = map group_of (map state_of_group s.groups) })
+    (number_back s.encryption s.bad_code known)
     ∙ (ap (λ (code : List ℕ). record s { bad_code = code; groups = map group_of (map state_of_group s.groups) }) (code_back s.encryption s.bad_code width)
     ∙ ap (λ (groups : List Subgroup). record s { groups = groups }) (groups_back s.groups))
 
@@ -94,7 +95,8 @@ few n h = omega arith
 nested : (s : StateFields) (count : ℕ) (tail rest : List ℕ) → before s count (tail ++ rest) ≡ before s count tail ++ rest
 nested s count tail rest = simp append_assoc
 
-pub whole_of : (whole : List ℕ) (s : StateFields) (count : ℕ) (tail : List ℕ) (groups : List Subgroup) (rest : List ℕ) → IsOctets whole → head_in whole ≡ Ok (s, count, tail) → subgroups_in count tail ≡ Some (groups, rest)
+pub whole_of : (whole : List ℕ) (s : StateFields) (count : ℕ) (tail : List ℕ) (groups : List Subgroup) (rest : List ℕ) → IsOctets whole → head_in whole ≡ Ok (s, count, tail)
+    → subgroups_in count tail ≡ Some (groups, rest)
     → IsFollowed (record s { groups = groups }) whole rest
 whole_of whole s count tail groups rest h e g =
     let t = head_takes whole (s, count, tail) h e in
@@ -108,7 +110,8 @@ whole_of whole s count tail groups rest h e g =
     }
 
 -- what octets that begin with all fields are judged as
-pub judged_as : (whole : List ℕ) (s : StateFields) (count : ℕ) (tail : List ℕ) (groups : List Subgroup) (rest : List ℕ) → head_in whole ≡ Ok (s, count, tail) → subgroups_in count tail ≡ Some (groups, rest)
+pub judged_as : (whole : List ℕ) (s : StateFields) (count : ℕ) (tail : List ℕ) (groups : List Subgroup) (rest : List ℕ) → head_in whole ≡ Ok (s, count, tail)
+    → subgroups_in count tail ≡ Some (groups, rest)
     → judged_of whole ≡ answered (state_from (record s { groups = groups })) (first_fault (reserved_from 0 (fields (record s { groups = groups }))) (place_in whole rest) rest)
 judged_as whole s count tail groups rest e g =
     let end : end_in whole count tail ≡ Ok rest = groups_told whole count tail groups rest g in
@@ -116,7 +119,8 @@ judged_as whole s count tail groups rest e g =
     ∙ (ap (λ (r : Option (List Subgroup × List ℕ)). behind whole (record s { groups = subgroups_of r }) (end_in whole count tail)) g
     ∙ ap (behind whole (record s { groups = groups })) end)
 
-pub whole_judged : (whole : List ℕ) (s : StateFields) (rest : List ℕ) → IsFollowed s whole rest → judged_of whole ≡ answered (state_from s) (first_fault (reserved_from 0 (fields s)) (place_in whole rest) rest)
+pub whole_judged : (whole : List ℕ) (s : StateFields) (rest : List ℕ) → IsFollowed s whole rest
+    → judged_of whole ≡ answered (state_from s) (first_fault (reserved_from 0 (fields s)) (place_in whole rest) rest)
 whole_judged whole s rest w =
     let tail = laid (flat_map subgroup_fields s.groups) ++ rest in
     let parts : whole ≡ before s (length s.groups) tail = w.parts ∙ sym (nested s (length s.groups) (laid (flat_map subgroup_fields s.groups)) rest) in
@@ -127,7 +131,8 @@ whole_judged whole s rest w =
 
 -- ---- laws
 
-end_cases : (whole : List ℕ) (s : StateFields) (count : ℕ) (tail : List ℕ) (state : ReceiveState) (read : Result (List ℕ) ℕ) → IsOctets whole → head_in whole ≡ Ok (s, count, tail) → end_in whole count tail ≡ read
+end_cases : (whole : List ℕ) (s : StateFields) (count : ℕ) (tail : List ℕ) (state : ReceiveState) (read : Result (List ℕ) ℕ) → IsOctets whole → head_in whole ≡ Ok (s, count, tail)
+    → end_in whole count tail ≡ read
     → behind whole (record s { groups = subgroups_of (subgroups_in count tail) }) read ≡ Ok state → IsSpelled state whole
 end_cases whole s count tail state (Err place) h e r j = absurd cc
 end_cases whole s count tail state (Ok rest) h e r j =

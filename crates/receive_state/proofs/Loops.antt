@@ -1,5 +1,6 @@
 -- Subgroups looked through one after the other, as a loop does.
-use Rattle.std.proofs.Common.{◌≡◌, ℕ, zero, suc, ◌+◌, ◌-◌, ◌<◌, ◌≤◌, Bool, true, false, cond, ltb, List, [], ◌∷◌, ◌++◌, length, take, drop, map, Option, Some, None, is_some, Result, Ok, Err, refl, sym, ap, ◌∙◌, append_assoc, arith}
+use Rattle.std.proofs.Common.{◌≡◌, ℕ, zero, suc, ◌+◌, ◌-◌, ◌<◌, ◌≤◌, Bool, true, false, cond, ltb, List, [], ◌∷◌, ◌++◌, length, take, drop, map, Option, Some, None, is_some}
+use Rattle.std.proofs.Common.{Result, Ok, Err, refl, sym, ap, ◌∙◌, append_assoc, arith}
 use Rattle.std.proofs.lemmas.List.{append-nil}
 use Rattle.std.proofs.lemmas.Option.{some_pair_parts}
 use Rattle.bcast_base.specs.Numbers.{sum_from}
@@ -20,11 +21,13 @@ end_suc : (whole : List ℕ) (n : ℕ) (from : List ℕ) (read : Result (List �
 unfolding end_in
 end_suc whole n from read e = ap (λ (r : Result (List ℕ) ℕ). r >>= λ rest. end_in whole n rest) e
 
-pub end_next : (whole : List ℕ) (count i : ℕ) (from after : List ℕ) (total : Result (List ℕ) ℕ) → i < count → group_end_in whole from ≡ Ok after → end_in whole (count - i) from ≡ total → end_in whole (count - (i + 1)) after ≡ total
+pub end_next : (whole : List ℕ) (count i : ℕ) (from after : List ℕ) (total : Result (List ℕ) ℕ) → i < count → group_end_in whole from ≡ Ok after → end_in whole (count - i) from ≡ total
+    → end_in whole (count - (i + 1)) after ≡ total
 end_next whole count i from after total lt e so_far =
     sym (ap (λ (n : ℕ). end_in whole n from) (one_left count i lt) ∙ end_suc whole (count - (i + 1)) from (Ok after) e) ∙ so_far
 
-pub end_short : (whole : List ℕ) (count i : ℕ) (from : List ℕ) (place : ℕ) (total : Result (List ℕ) ℕ) → i < count → group_end_in whole from ≡ Err place → end_in whole (count - i) from ≡ total → total ≡ Err place
+pub end_short : (whole : List ℕ) (count i : ℕ) (from : List ℕ) (place : ℕ) (total : Result (List ℕ) ℕ) → i < count → group_end_in whole from ≡ Err place
+    → end_in whole (count - i) from ≡ total → total ≡ Err place
 end_short whole count i from place total lt e so_far =
     sym so_far ∙ (ap (λ (n : ℕ). end_in whole n from) (one_left count i lt) ∙ end_suc whole (count - (i + 1)) from (Err place) e)
 
@@ -44,7 +47,8 @@ abbrev pub with_front : List GroupState → Option (List GroupState) → Option 
 with_front front None = None
 with_front front (Some states) = Some (front ++ states)
 
-regroup : (front : List GroupState) (group : Subgroup) (read : Option (List Subgroup × List ℕ)) → with_front front (states_of (joined group read)) ≡ with_front (front ++ state_of_group group ∷ []) (states_of read)
+regroup : (front : List GroupState) (group : Subgroup) (read : Option (List Subgroup × List ℕ))
+    → with_front front (states_of (joined group read)) ≡ with_front (front ++ state_of_group group ∷ []) (states_of read)
 regroup front group None = refl
 regroup front group (Some others) = ap (λ (gs : List GroupState). Some gs) (sym (append_assoc front (state_of_group group ∷ []) (map state_of_group others.0)))
 
@@ -52,7 +56,8 @@ pub read_next : (front : List GroupState) (count i : ℕ) (from : List ℕ) (gro
     → with_front front (groups_of (count - i) from) ≡ total → with_front (front ++ state_of_group group ∷ []) (groups_of (count - (i + 1)) after) ≡ total
 read_next front count i from group after total lt e so_far =
     sym (ap (λ (n : ℕ). with_front front (groups_of n from)) (one_left count i lt)
-    ∙ (ap (λ (r : Option (List Subgroup × List ℕ)). with_front front (states_of r)) (subgroups_suc (count - (i + 1)) from group after e) ∙ regroup front group (subgroups_in (count - (i + 1)) after))) ∙ so_far
+    ∙ (ap (λ (r : Option (List Subgroup × List ℕ)). with_front front (states_of r)) (subgroups_suc (count - (i + 1)) from group after e)
+    ∙ regroup front group (subgroups_in (count - (i + 1)) after))) ∙ so_far
 
 is_some-states : (read : Option (List Subgroup × List ℕ)) → is_some (states_of read) ≡ is_some read
 is_some-states None = refl
@@ -62,7 +67,8 @@ pub read_never : (front : List GroupState) (count i : ℕ) (from octets : List �
     → with_front front (groups_of (count - i) from) ≡ groups_of count octets → is_some (subgroups_in count octets) ≡ true → ⊥
 read_never front count i from octets lt e so_far some =
     let one : with_front front (groups_of (count - i) from) ≡ None =
-    ap (λ (n : ℕ). with_front front (groups_of n from)) (one_left count i lt) ∙ ap (λ (r : Option (List Subgroup × List ℕ)). with_front front (states_of r)) (subgroups_none (count - (i + 1)) from e) in
+    ap (λ (n : ℕ). with_front front (groups_of n from)) (one_left count i lt)
+    ∙ ap (λ (r : Option (List Subgroup × List ℕ)). with_front front (states_of r)) (subgroups_none (count - (i + 1)) from e) in
     let no : is_some (groups_of count octets) ≡ false = ap (λ (r : Option (List GroupState)). is_some r) (sym so_far ∙ one) in
     let yes : is_some (groups_of count octets) ≡ true = is_some-states (subgroups_in count octets) ∙ some in
     let clash : true ≡ false = sym yes ∙ no in
@@ -99,7 +105,8 @@ some_number n rest = Some (n, rest)
 abbrev some_octets : List ℕ → List ℕ → Option (List ℕ × List ℕ)
 some_octets value rest = Some (value, rest)
 
-spelled : (b : Bool) (value rest v r : List ℕ) → cond {A = Option (List ℕ × List ℕ)} b None (Some (value, rest)) ≡ Some (v, r) → cond {A = Option (ℕ × List ℕ)} b None (Some (sum_from 0 value, rest)) ≡ Some (sum_from 0 v, r)
+spelled : (b : Bool) (value rest v r : List ℕ) → cond {A = Option (List ℕ × List ℕ)} b None (Some (value, rest)) ≡ Some (v, r)
+    → cond {A = Option (ℕ × List ℕ)} b None (Some (sum_from 0 value, rest)) ≡ Some (sum_from 0 v, r)
 spelled true value rest v r e = absurd cc
 spelled false value rest v r e =
     let same = some_pair_parts value v rest r e in
@@ -134,14 +141,16 @@ groups_read whole (suc count) from rest e =
     let gs = groups_read whole count a.0 rest a.2 in
     (g.0 ∷ gs.0, subgroups_suc count from g.0 a.0 g.1 ∙ ap (joined g.0) gs.1)
 
-told : (b : Bool) (value rest : List ℕ) (n : ℕ) (r : List ℕ) → cond {A = Option (ℕ × List ℕ)} b None (Some (sum_from 0 value, rest)) ≡ Some (n, r) → cond {A = Option (List ℕ × List ℕ)} b None (Some (value, rest)) ≡ Some (value, r)
+told : (b : Bool) (value rest : List ℕ) (n : ℕ) (r : List ℕ) → cond {A = Option (ℕ × List ℕ)} b None (Some (sum_from 0 value, rest)) ≡ Some (n, r)
+    → cond {A = Option (List ℕ × List ℕ)} b None (Some (value, rest)) ≡ Some (value, r)
 told true value rest n r e = absurd cc
 told false value rest n r e = ap (λ (x : List ℕ). some_octets value x) (some_pair_parts (sum_from 0 value) n rest r e).1
 
 octets_told : (k : ℕ) (from : List ℕ) (n : ℕ) (rest : List ℕ) → number_in k from ≡ Some (n, rest) → octets_in k from ≡ Some (take k from, rest)
 octets_told k from n rest e = told (ltb (length from) k) (take k from) (drop k from) n rest e
 
-counted_told : (whole from value rest : List ℕ) → counted_in from ≡ Some (value, rest) → (field_in whole octet_in from >>= λ count. field_in whole (octets_in count.0) count.1 >>= λ metadata. Ok metadata.1) ≡ Ok rest
+counted_told : (whole from value rest : List ℕ) → counted_in from ≡ Some (value, rest)
+    → (field_in whole octet_in from >>= λ count. field_in whole (octets_in count.0) count.1 >>= λ metadata. Ok metadata.1) ≡ Ok rest
 counted_told whole [] value rest e = absurd cc
 counted_told whole (count ∷ after) value rest e =
     ap (λ (r : Option (List ℕ × List ℕ)). needed (place_in whole after) r >>= λ metadata. Ok metadata.1) e
@@ -150,7 +159,8 @@ group_told : (whole from : List ℕ) (group : Subgroup) (rest : List ℕ) → su
 group_told whole from group rest e =
     let p = subgroup_parts from group rest e in
     let bits : octets_in 4 from ≡ Some (take 4 from, p.0) = octets_told 4 from group.bits p.0 p.1 in
-    ap (λ (r : Option (List ℕ × List ℕ)). needed (place_in whole from) r >>= λ bits. field_in whole octet_in bits.1 >>= λ count. field_in whole (octets_in count.0) count.1 >>= λ metadata. Ok metadata.1) bits
+    ap (λ (r : Option (List ℕ × List ℕ)). needed (place_in whole from) r >>= λ bits. field_in whole octet_in bits.1 >>= λ count. field_in whole (octets_in count.0) count.1
+    >>= λ metadata. Ok metadata.1) bits
     ∙ counted_told whole p.0 group.metadata rest p.2
 
 pub groups_told : (whole : List ℕ) (count : ℕ) (from : List ℕ) (groups : List Subgroup) (rest : List ℕ) → subgroups_in count from ≡ Some (groups, rest) → end_in whole count from ≡ Ok rest

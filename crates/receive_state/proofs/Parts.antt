@@ -22,7 +22,8 @@ pub subgroups_none : (n : ℕ) (from : List ℕ) → subgroup_in from ≡ None �
 unfolding subgroups_in
 subgroups_none n from e = rw e refl
 
-pub subgroup_parts : (from : List ℕ) (group : Subgroup) (rest : List ℕ) → subgroup_in from ≡ Some (group, rest) → (after : List ℕ) × (number_in 4 from ≡ Some (group.bits, after)) × (counted_in after ≡ Some (group.metadata, rest))
+pub subgroup_parts : (from : List ℕ) (group : Subgroup) (rest : List ℕ) → subgroup_in from ≡ Some (group, rest) → (after : List ℕ) × (number_in 4 from ≡ Some (group.bits, after))
+    × (counted_in after ≡ Some (group.metadata, rest))
 unfolding subgroup_in
 subgroup_parts from group rest e =
     let a = bind_some (number_in 4 from) (λ bits. counted_in bits.1 >>= λ metadata. Some (record { bits = bits.0; metadata = metadata.0 }, metadata.1)) (group, rest) e in
@@ -31,7 +32,8 @@ subgroup_parts from group rest e =
     let same = some_is read (group, rest) b.2 in
     (a.0.1, a.1 ∙ ap (λ (p : Subgroup × List ℕ). Some (p.0.bits, a.0.1)) same, b.1 ∙ ap (λ (p : Subgroup × List ℕ). Some (p.0.metadata, p.1)) same)
 
-pub subgroup_made : (from : List ℕ) (bits : ℕ) (after metadata rest : List ℕ) → number_in 4 from ≡ Some (bits, after) → counted_in after ≡ Some (metadata, rest) → subgroup_in from ≡ Some (record { bits = bits; metadata = metadata }, rest)
+pub subgroup_made : (from : List ℕ) (bits : ℕ) (after metadata rest : List ℕ) → number_in 4 from ≡ Some (bits, after) → counted_in after ≡ Some (metadata, rest)
+    → subgroup_in from ≡ Some (record { bits = bits; metadata = metadata }, rest)
 unfolding subgroup_in
 subgroup_made from bits after metadata rest e f =
     ap (λ (r : Option (ℕ × List ℕ)). r >>= λ x. counted_in x.1 >>= λ y. Some (record { bits = x.0; metadata = y.0 }, y.1)) e

@@ -33,7 +33,8 @@ four false false false false others = refl
 abbrev head_of : StateFields → Option ℕ
 head_of s = reserved_head s.address_type s.sid s.pa_sync_state s.encryption
 
-places : (s : StateFields) → length s.address ≡ 6 → length s.broadcast_id ≡ 3 → reserved_from 0 (fields s) ≡ or_place (head_of s) (reserved_from (14 + length s.bad_code + 1) (flat_map subgroup_fields s.groups))
+places : (s : StateFields) → length s.address ≡ 6 → length s.broadcast_id ≡ 3
+    → reserved_from 0 (fields s) ≡ or_place (head_of s) (reserved_from (14 + length s.bad_code + 1) (flat_map subgroup_fields s.groups))
 places s address id =
     rw (address, id) (four (ltb 1 s.address_type) (ltb 15 s.sid) (ltb 4 s.pa_sync_state) (ltb 3 s.encryption) (reserved_from (14 + length s.bad_code + 1) (flat_map subgroup_fields s.groups)))
 
@@ -42,7 +43,8 @@ pub record IsRead (whole : List ℕ) (s : StateFields) (count : ℕ) (tail rest 
   pub read : subgroups_in count tail ≡ Some (groups, rest)
   pub judged : judged_of whole ≡ answered (state_from (record s { groups = groups })) (first_fault (or_place (head_of s) (reserved_in whole count tail)) (place_in whole rest) rest)
 
-pub is_read : (whole : List ℕ) (s : StateFields) (count : ℕ) (tail rest : List ℕ) → IsOctets whole → head_in whole ≡ Ok (s, count, tail) → end_in whole count tail ≡ Ok rest → IsRead whole s count tail rest
+pub is_read : (whole : List ℕ) (s : StateFields) (count : ℕ) (tail rest : List ℕ) → IsOctets whole → head_in whole ≡ Ok (s, count, tail) → end_in whole count tail ≡ Ok rest
+    → IsRead whole s count tail rest
 is_read whole s count tail rest h e r =
     let g = groups_read whole count tail rest r in
     let t = head_takes whole (s, count, tail) h e in
@@ -57,7 +59,8 @@ is_read whole s count tail rest h e r =
       judged = judged_as whole s count tail g.0 rest e g.1 ∙ ap (λ (p : Option ℕ). answered (state_from (record s { groups = g.0 })) (first_fault p (place_in whole rest) rest)) place;
     }
 
-pub reserved_group : (whole : List ℕ) (s : StateFields) (count : ℕ) (tail rest : List ℕ) (place : ℕ) → IsRead whole s count tail rest → None ≡ head_of s → Some place ≡ reserved_in whole count tail → judged_of whole ≡ Err (Rfu place)
+pub reserved_group : (whole : List ℕ) (s : StateFields) (count : ℕ) (tail rest : List ℕ) (place : ℕ) → IsRead whole s count tail rest → None ≡ head_of s
+    → Some place ≡ reserved_in whole count tail → judged_of whole ≡ Err (Rfu place)
 reserved_group whole s count tail rest place r head found =
     r.judged ∙ (ap (λ (p : Option ℕ). answered (state_from (record s { groups = r.groups })) (first_fault (or_place p (reserved_in whole count tail)) (place_in whole rest) rest)) (sym head)
     ∙ ap (λ (p : Option ℕ). answered (state_from (record s { groups = r.groups })) (first_fault p (place_in whole rest) rest)) (sym found))
@@ -75,7 +78,8 @@ left end (octet ∷ rest) e = refl
 none_left : (end : ℕ) (rest : List ℕ) → eqb (length rest) 0 ≡ true → first_fault None end rest ≡ None
 none_left end rest e = ap (first_fault None end) (nil_from_length rest (eqb-true (length rest) 0 e))
 
-pub trailing : (whole : List ℕ) (s : StateFields) (count : ℕ) (tail rest : List ℕ) → IsRead whole s count tail rest → None ≡ head_of s → None ≡ reserved_in whole count tail → eqb (length rest) 0 ≡ false
+pub trailing : (whole : List ℕ) (s : StateFields) (count : ℕ) (tail rest : List ℕ) → IsRead whole s count tail rest → None ≡ head_of s → None ≡ reserved_in whole count tail
+    → eqb (length rest) 0 ≡ false
     → judged_of whole ≡ Err (Trailing (place_in whole rest))
 trailing whole s count tail rest r head found more =
     unreserved whole s count tail rest r head found ∙ ap (answered (state_from (record s { groups = r.groups }))) (left (place_in whole rest) rest more)
@@ -89,13 +93,15 @@ is_ok : (read : Result ReceiveState StateFault) (state : ReceiveState) → read 
 is_ok (Ok read) state e = refl
 is_ok (Err fault) state e = absurd cc
 
-pub is_value : (whole : List ℕ) (s : StateFields) (count : ℕ) (tail rest : List ℕ) → IsRead whole s count tail rest → None ≡ head_of s → None ≡ reserved_in whole count tail → eqb (length rest) 0 ≡ true → IsOk (judged_of whole)
+pub is_value : (whole : List ℕ) (s : StateFields) (count : ℕ) (tail rest : List ℕ) → IsRead whole s count tail rest → None ≡ head_of s → None ≡ reserved_in whole count tail
+    → eqb (length rest) 0 ≡ true → IsOk (judged_of whole)
 is_value whole s count tail rest r head found none = is_ok (judged_of whole) (state_from (record s { groups = r.groups })) (ended whole s count tail rest r head found none)
 
 some_same : (x y : List GroupState) → Some x ≡ Some y → x ≡ y
 some_same x y e = cc
 
-pub is_done : (whole : List ℕ) (s : StateFields) (count : ℕ) (tail rest : List ℕ) (state : ReceiveState) → IsRead whole s count tail rest → None ≡ head_of s → None ≡ reserved_in whole count tail → eqb (length rest) 0 ≡ true
+pub is_done : (whole : List ℕ) (s : StateFields) (count : ℕ) (tail rest : List ℕ) (state : ReceiveState) → IsRead whole s count tail rest → None ≡ head_of s
+    → None ≡ reserved_in whole count tail → eqb (length rest) 0 ≡ true
     → groups_of count tail ≡ Some state.groups → state ≡ record (state_from (record s { groups = [] })) { groups = state.groups } → judged_of whole ≡ Ok state
 is_done whole s count tail rest state r head found none groups same =
     let told : map state_of_group r.groups ≡ state.groups = some_same (map state_of_group r.groups) state.groups (sym (ap states_of r.read) ∙ groups) in

@@ -1,6 +1,6 @@
 -- The Broadcast Receive State (Broadcast Audio Scan Service 1.0, section 3.2): its fields one behind the other. The empty
 -- value is no source.
-use Rattle.std.specs.Prelude.{ℕ, ◌≡◌, ◌≤◌, List, [], ◌∷◌, length, map, Option, Some, None, Bool, false, nat_lt, nat_le, ◌==◌, ◌&&◌, ◌||◌, not, if◌then◌else◌}
+use Rattle.std.specs.Prelude.{ℕ, ◌≡◌, ◌≤◌, ◌<◌, ◌^◌, List, [], ◌∷◌, length, map, Option, Some, None, Bool, false, nat_lt, nat_le, ◌==◌, ◌&&◌, ◌||◌, not, if◌then◌else◌}
 use Rattle.std.specs.List.{flat_map, list_all, AllByRecursion}
 use Rattle.octet_fields.specs.Layout.{Field, free, unless, laid, NoneReserved}
 use Rattle.octet_fields.specs.Spelling.{octet}
@@ -87,6 +87,13 @@ pub record IsSpelled (state : ReceiveState) (octets : List ℕ) : Type 0 where
 abbrev pub StateIs : Option ReceiveState → List ℕ → Type 0
 StateIs None octets = octets ≡ []
 StateIs (Some state) octets = IsSpelled state octets
+
+-- what the types of its fields give every state
+pub record HasTypes (state : ReceiveState) : Type 0 where
+  pub address : length state.address ≡ 6
+  pub broadcast_id : length state.broadcast_id ≡ 3
+  pub bad_code : length (code_of state.encryption) ≡ code_width (number_of state.encryption)
+  pub bits : AllByRecursion (λ group. group.bis_sync_state < 2 ^ 32) state.groups
 
 -- a state that has octets: no value is reserved, and each count is one octet
 pub record HasSpelling (state : ReceiveState) : Type 0 where

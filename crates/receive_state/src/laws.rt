@@ -2,7 +2,7 @@
 ghost use Rattle.std.specs.Prelude.{◌≡◌, ◌≢◌, ◌↔◌, ℕ, List, Option, Some, Ok, Err};
 ghost use Rattle.octet_fields.specs.Spelling.{IsOctets};
 ghost use Rattle.receive_state.specs.Faults.{IsFault};
-ghost use Rattle.receive_state.specs.Layout.{FieldsFit, HasSpelling, StateIs, fields_of};
+ghost use Rattle.receive_state.specs.Layout.{HasSpelling, HasTypes, StateIs};
 ghost use Rattle.receive_state.specs.Reading.{state_of};
 ghost use Rattle.receive_state.specs.declared.fault.StateFault.{StateFault};
 ghost use Rattle.receive_state.specs.declared.fault.StateFault.TheVariants.{Memory};
@@ -20,5 +20,5 @@ pub fn fault_is_cause()
 
 /// A state fits exactly where some octets are it.
 pub fn fits_is_spelled()
-    ensures { (state : ReceiveState) → FieldsFit (fields_of state) → HasSpelling state ↔ ((octets : List ℕ) × StateIs (Some state) octets) }
+    ensures { (state : ReceiveState) → HasTypes state → HasSpelling state ↔ ((octets : List ℕ) × StateIs (Some state) octets) }
 {}

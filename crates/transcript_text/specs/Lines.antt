@@ -9,7 +9,8 @@ use Rattle.isoal_base.specs.declared.hearing.Hearing.{Hearing}
 use Rattle.isoal_base.specs.declared.hearing.Hearing.TheVariants.{NotOnGroup, NotTaken, NoNumber, Heard}
 use Rattle.unit_outlets.specs.Handed.{Handed, valid, lost}
 use Rattle.transcript_text.specs.declared.refusal.Refusal.{Refusal}
-use Rattle.transcript_text.specs.declared.refusal.Refusal.TheVariants.{TextTooLong, LineTooLong, BadLine, NotBuilt, AfterEnd, Order, BadGroup, IdentTwice, NoSuchSink, SinkTwice, NoOutlet, NoSuchBis, UnitTooLong, TimeOrder, Backlog, NoSuchSubevent, NotOnAir, CounterEnds, NoEnd}
+use Rattle.transcript_text.specs.declared.refusal.Refusal.TheVariants.{TextTooLong, LineTooLong, BadLine, NotBuilt, AfterEnd, Order, BadGroup, IdentTwice, NoSuchSink, SinkTwice, NoOutlet}
+use Rattle.transcript_text.specs.declared.refusal.Refusal.TheVariants.{NoSuchBis, UnitTooLong, TimeOrder, Backlog, NoSuchSubevent, NotOnAir, CounterEnds, NoEnd}
 
 -- the octet between two words, and the one that ends a line
 abbrev pub space : ℕ

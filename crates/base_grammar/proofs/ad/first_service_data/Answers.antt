@@ -10,7 +10,8 @@ structures-preserved c = unfound_next c.args.uuid c.args.list.now c.structures.r
 
 pub returns-in-Some-service_at : goal.returns-in-Some-service_at
 returns-in-Some-service_at c =
-    unfound_found c.args.uuid c.args.list.now c.structures.rest.now c.in-Some.body.now c.in-Some.after.now c.in-Some-service_at.content.now c.in-Some.ensures c.in-Some-service_at.ensures c.structures.invariant
+    unfound_found c.args.uuid c.args.list.now c.structures.rest.now c.in-Some.body.now c.in-Some.after.now c.in-Some-service_at.content.now c.in-Some.ensures c.in-Some-service_at.ensures
+    c.structures.invariant
 
 pub returns : goal.returns
 returns c = unfound_none c.args.uuid c.args.list.now c.structures.rest.now c.in_default.ensures c.structures.invariant

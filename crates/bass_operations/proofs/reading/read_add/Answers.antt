@@ -10,7 +10,9 @@ pub returns-then-not-are_wishes : goal.returns-then-not-are_wishes
 returns-then-not-are_wishes c = add_no_wishes c.args.rest.now c.in-Some.add c.in-Some.count c.in-Some.subgroups.now c.in-Some.ensures (sym c.are_wishes.ensures ∙ c.if-not-are_wishes.true)
 
 pub returns-in-Some-reserved_in_add : goal.returns-in-Some-reserved_in_add
-returns-in-Some-reserved_in_add c = add_head_fault c.args.from.now c.args.rest.now c.in-Some.add c.in-Some.count c.in-Some.subgroups.now c.in-Some-reserved_in_add.place (λ i. omega (arith, c.type_inv.from i)) c.requires c.in-Some.ensures (sym c.are_wishes.ensures ∙ c.if-not-are_wishes.false) c.in-Some-reserved_in_add.ensures
+returns-in-Some-reserved_in_add c =
+    add_head_fault c.args.from.now c.args.rest.now c.in-Some.add c.in-Some.count c.in-Some.subgroups.now c.in-Some-reserved_in_add.place (λ i. omega (arith, c.type_inv.from i)) c.requires
+    c.in-Some.ensures (sym c.are_wishes.ensures ∙ c.if-not-are_wishes.false) c.in-Some-reserved_in_add.ensures
 
 pub check_wishes-requires : goal.check_wishes-requires
 check_wishes-requires c = add_tail c.args.from.now c.args.rest.now c.in-Some.add c.in-Some.count c.in-Some.subgroups.now (λ i. omega (arith, c.type_inv.from i)) c.requires c.in-Some.ensures
@@ -18,12 +20,15 @@ check_wishes-requires c = add_tail c.args.from.now c.args.rest.now c.in-Some.add
 pub returns-in_err-check_wishes : goal.returns-in_err-check_wishes
 returns-in_err-check_wishes c =
     let p = err_from_is_err_and c.from_residual.result c.from_residual.ensures.1 in
-    rw (p.1, p.2) (add_wishes_fault c.args.from.now c.args.rest.now c.in-Some.add c.in-Some.count c.in-Some.subgroups.now c.in_err-check_wishes.field-0.0 (λ i. omega (arith, c.type_inv.from i)) c.requires c.in-Some.ensures (sym c.are_wishes.ensures ∙ c.if-not-are_wishes.false) c.in_default-reserved_in_add.ensures c.in_err-check_wishes.ensures)
+    rw (p.1, p.2) (add_wishes_fault c.args.from.now c.args.rest.now c.in-Some.add c.in-Some.count c.in-Some.subgroups.now c.in_err-check_wishes.field-0.0
+    (λ i. omega (arith, c.type_inv.from i)) c.requires c.in-Some.ensures (sym c.are_wishes.ensures ∙ c.if-not-are_wishes.false) c.in_default-reserved_in_add.ensures c.in_err-check_wishes.ensures)
 
 pub returns-in_err-add : goal.returns-in_err-add
 returns-in_err-add c =
     let p = err_from_is_err_and c.from_residual-in_err-add.result c.from_residual-in_err-add.ensures.1 in
-    rw (p.1, p.2) (add_is_operation c.args.from.now c.args.rest.now c.in-Some.add c.in-Some.count c.in-Some.subgroups.now (λ i. omega (arith, c.type_inv.from i)) c.requires c.in-Some.ensures (sym c.are_wishes.ensures ∙ c.if-not-are_wishes.false) c.in_default-reserved_in_add.ensures c.in_ok-check_wishes.ensures)
+    rw (p.1, p.2) (add_is_operation c.args.from.now c.args.rest.now c.in-Some.add c.in-Some.count c.in-Some.subgroups.now (λ i. omega (arith, c.type_inv.from i)) c.requires c.in-Some.ensures
+    (sym c.are_wishes.ensures ∙ c.if-not-are_wishes.false) c.in_default-reserved_in_add.ensures c.in_ok-check_wishes.ensures)
 
 pub returns : goal.returns
-returns c = add_done c.args.from.now c.args.rest.now c.in-Some.add c.in-Some.count c.in-Some.subgroups.now c.in_ok-add.field-0 (λ i. omega (arith, c.type_inv.from i)) c.requires c.in-Some.ensures c.in_ok-add.ensures c.in_default-reserved_in_add.ensures c.in_ok-check_wishes.ensures
+returns c = add_done c.args.from.now c.args.rest.now c.in-Some.add c.in-Some.count c.in-Some.subgroups.now c.in_ok-add.field-0 (λ i. omega (arith, c.type_inv.from i)) c.requires
+    c.in-Some.ensures c.in_ok-add.ensures c.in_default-reserved_in_add.ensures c.in_ok-check_wishes.ensures

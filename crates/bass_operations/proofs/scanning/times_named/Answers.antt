@@ -11,10 +11,16 @@ pub subgroups-preserved : goal.subgroups-preserved
 subgroups-preserved c =
     let group : Subgroup = record { bits = c.in-Some.group.bits; metadata = c.in-Some.group.metadata.now } in
     elim c.if-names.branch [
-      | then-names w ↦
-          (rw w.times-is (named_next c.args.bis c.subgroups.times c.args.count c.subgroups.counter c.subgroups.rest.now group c.in-Some.after.now _ true c.subgroups-test.true c.in-Some.ensures (sym c.names.ensures ∙ w.if-names.true) c.subgroups.invariant.0), omega arith)
-      | else-names w ↦
-          (let same = named_next c.args.bis c.subgroups.times c.args.count c.subgroups.counter c.subgroups.rest.now group c.in-Some.after.now _ false c.subgroups-test.true c.in-Some.ensures (sym c.names.ensures ∙ w.if-names.false) c.subgroups.invariant.0 in omega arith, omega arith)
+      | then-names w ↦ (
+        rw w.times-is (named_next c.args.bis c.subgroups.times c.args.count c.subgroups.counter c.subgroups.rest.now group c.in-Some.after.now _ true c.subgroups-test.true
+            c.in-Some.ensures (sym c.names.ensures ∙ w.if-names.true) c.subgroups.invariant.0),
+        omega arith,
+      )
+      | else-names w ↦ (
+        let same = named_next c.args.bis c.subgroups.times c.args.count c.subgroups.counter c.subgroups.rest.now group c.in-Some.after.now _ false c.subgroups-test.true c.in-Some.ensures
+            (sym c.names.ensures ∙ w.if-names.false) c.subgroups.invariant.0 in omega arith,
+        omega arith,
+      )
     ]
 
 pub returns : goal.returns

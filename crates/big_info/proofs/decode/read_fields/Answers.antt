@@ -5,7 +5,8 @@ use Rattle.big_info.proofs.decode.read_fields.Goals as goal
 
 pub returns-clause-number : goal.returns-clause-number
 returns-clause-number c =
-    let w0 = interval c.word-interval.result c.bits.result c.bits-2.result c.bits-3.result c.bits-4.result c.word-interval.ensures.small c.bits.ensures c.bits-2.ensures c.bits-3.ensures c.bits-4.ensures in
+    let w0 = interval c.word-interval.result c.bits.result c.bits-2.result c.bits-3.result c.bits-4.result c.word-interval.ensures.small c.bits.ensures c.bits-2.ensures c.bits-3.ensures
+    c.bits-4.ensures in
     let w1 = counts c.word-counts.result c.bits-5.result c.bits-6.result c.word-counts.ensures.small c.bits-5.ensures c.bits-6.ensures in
     let w2 = time c.word-subevents.result c.bits-7.result c.bits-8.result c.word-subevents.ensures.small c.bits-7.ensures c.bits-8.ensures in
     let w3 = time c.word-spacing.result c.bits-9.result c.bits-10.result c.word-spacing.ensures.small c.bits-9.ensures c.bits-10.ensures in

@@ -8,5 +8,6 @@ returns-clause-put c =
     let part_is : c.copy_from_slice-2.new.self ≡ c.args.part.now = c.copy_from_slice-2.ensures.after in
     rw (offset_is, part_is)
     (written c.args.octets.now c.args.len c.args.header (length c.args.offset.now + length c.args.part.now) c.args.offset.now c.args.part.now
-    (c.args.len + 2 + length c.args.offset.now) (c.args.len + 2 + length c.args.offset.now - (c.args.len + 2)) (c.args.len + 2 + length c.args.offset.now + length c.args.part.now - (c.args.len + 2 + length c.args.offset.now))
+    (c.args.len + 2 + length c.args.offset.now) (c.args.len + 2 + length c.args.offset.now - (c.args.len + 2))
+    (c.args.len + 2 + length c.args.offset.now + length c.args.part.now - (c.args.len + 2 + length c.args.offset.now))
     (omega (arith, c.told-octets, c.requires)) refl (omega arith) (omega arith))

@@ -28,7 +28,8 @@ pub returns-in_err-step-clause-stopped : goal.returns-in_err-step-clause-stopped
 returns-in_err-step-clause-stopped g c past before stands is =
     let history = after_all (take c.calls.call-index c.args.calls.now) past in
     stopped_err c.args.calls.now past before c.step.new.receiver (g.T.UnitTaker.calls c.step.new.taker) c.from_residual.result
-    (let front : (n : ℕ) × (g.T.UnitTaker.calls c.step.new.taker ≡ before ++ (handed c.calls.receiver.stay history ++ take n (units_of c.calls.receiver.stay history (opened c.calls.receiver.stay history)))) =
+    (let front : (n : ℕ) × (g.T.UnitTaker.calls c.step.new.taker
+    ≡ before ++ (handed c.calls.receiver.stay history ++ take n (units_of c.calls.receiver.stay history (opened c.calls.receiver.stay history)))) =
     c.in_err-step.ensures.front history before (c.calls.invariant.stands past stands)
     (subst (λ stay. g.T.UnitTaker.calls c.calls.taker ≡ before ++ handed stay history) (sym c.calls.invariant.stay)
     (c.calls.invariant.handed past before stands is)) in

@@ -57,6 +57,7 @@ returns-in_err-hand_slot-clause-behind g c =
 
 pub returns-clause-hands : goal.returns-clause-hands
 returns-clause-hands g c =
-    subst (λ p. g.T.UnitTaker.calls c.slots.taker ≡ g.T.UnitTaker.calls c.args.taker.now ++ owed_of (stay_of c.args.stream.now) c.args.event (drop p (kept_of c.args.ring.now))) c.place-first.ensures.exact
+    subst (λ p. g.T.UnitTaker.calls c.slots.taker ≡ g.T.UnitTaker.calls c.args.taker.now ++ owed_of (stay_of c.args.stream.now) c.args.event (drop p (kept_of c.args.ring.now)))
+    c.place-first.ensures.exact
     (owed_all (stay_of c.args.stream.now) c.args.event c.slots.slot c.slots-slot-end.result (drop c.place-first.result (kept_of c.args.ring.now))
     (g.T.UnitTaker.calls c.args.taker.now) (g.T.UnitTaker.calls c.slots.taker) c.slots-test.false c.slots-slot-end.ensures c.slots.invariant.handed)

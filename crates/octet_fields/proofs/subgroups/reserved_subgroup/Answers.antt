@@ -9,13 +9,15 @@ returns-in_default c = unreserved_short c.args.whole.now c.args.count c.subgroup
 pub returns-then-are_reserved : goal.returns-then-are_reserved
 returns-then-are_reserved c =
     let group : Subgroup = record { bits = c.in-Some.group.bits; metadata = c.in-Some.group.metadata.now } in
-    rw c.place_of.ensures (reserved_here c.args.whole.now c.args.count c.subgroups.counter c.subgroups.rest.now group c.in-Some.after.now _ c.subgroups-test.true c.in-Some.ensures (sym c.are_reserved.ensures ∙ c.if-are_reserved.true) c.subgroups.invariant.1)
+    rw c.place_of.ensures (reserved_here c.args.whole.now c.args.count c.subgroups.counter c.subgroups.rest.now group c.in-Some.after.now _ c.subgroups-test.true c.in-Some.ensures
+    (sym c.are_reserved.ensures ∙ c.if-are_reserved.true) c.subgroups.invariant.1)
 
 pub subgroups-preserved : goal.subgroups-preserved
 subgroups-preserved c =
     let group : Subgroup = record { bits = c.in-Some.group.bits; metadata = c.in-Some.group.metadata.now } in (
       omega (arith, subgroup_shorter c.subgroups.rest.now group c.in-Some.after.now c.in-Some.ensures),
-      unreserved_next c.args.whole.now c.args.count c.subgroups.counter c.subgroups.rest.now group c.in-Some.after.now _ c.subgroups-test.true c.in-Some.ensures (sym c.are_reserved.ensures ∙ c.if-are_reserved.false) c.subgroups.invariant.1,
+      unreserved_next c.args.whole.now c.args.count c.subgroups.counter c.subgroups.rest.now group c.in-Some.after.now _ c.subgroups-test.true c.in-Some.ensures
+          (sym c.are_reserved.ensures ∙ c.if-are_reserved.false) c.subgroups.invariant.1,
     )
 
 pub returns : goal.returns

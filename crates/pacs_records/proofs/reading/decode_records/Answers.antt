@@ -1,7 +1,14 @@
 use Rattle.std.proofs.Common.{arith, ap}
 use Rattle.std.proofs.Common.{length}
 use Rattle.pacs_records.proofs.Fields.{value_takes}
+use Rattle.std.proofs.lemmas.Result.{err_from_is_err_and}
+use Rattle.pacs_records.proofs.Whole.{refused}
 use Rattle.pacs_records.proofs.reading.decode_records.Goals as goal
+
+pub returns-in_err-check_value : goal.returns-in_err-check_value
+returns-in_err-check_value c =
+    let p = err_from_is_err_and c.from_residual.result c.from_residual.ensures.1 in
+    rw (p.1, p.2) (refused c.args.from.now c.in_err-check_value.field-0.0 (λ i. omega (arith, c.type_inv.from i)) c.in_err-check_value.ensures)
 
 pub of-requires-clause-records : goal.of-requires-clause-records
 of-requires-clause-records c = (value_takes c.args.from.now c.in_ok-list.list (λ i. omega (arith, c.type_inv.from i)) c.in_ok-list.ensures).are

@@ -6,28 +6,84 @@ use Rattle.receive_state.proofs.reading.read_state.Goals as goal
 
 pub returns-in-Some-reserved_subgroup : goal.returns-in-Some-reserved_subgroup
 returns-in-Some-reserved_subgroup c =
-    let s : StateFields = record { source_id = c.in_ok-lent.lent.source_id; address_type = c.in_ok-lent.lent.address_type; address = c.in_ok-lent.lent.address.now; sid = c.in_ok-lent.lent.sid; broadcast_id = c.in_ok-lent.lent.broadcast_id.now; pa_sync_state = c.in_ok-lent.lent.pa_sync_state; encryption = c.in_ok-lent.lent.encryption; bad_code = c.in_ok-lent.lent.bad_code.now; groups = [] } in
-    let r = is_read c.args.from.now s c.in_ok-lent.lent.count c.in_ok-lent.lent.groups.now c.in_ok-rest.rest.now (λ i. omega (arith, c.type_inv.from i)) c.in_ok-lent.ensures.head c.in_ok-rest.ensures.field in
-    reserved_group c.args.from.now s c.in_ok-lent.lent.count c.in_ok-lent.lent.groups.now c.in_ok-rest.rest.now c.in-Some-reserved_subgroup.place r c.in_default.ensures c.in-Some-reserved_subgroup.ensures
+    let s : StateFields = record {
+      source_id = c.in_ok-lent.lent.source_id;
+      address_type = c.in_ok-lent.lent.address_type;
+      address = c.in_ok-lent.lent.address.now;
+      sid =
+          c.in_ok-lent.lent.sid;
+      broadcast_id = c.in_ok-lent.lent.broadcast_id.now;
+      pa_sync_state = c.in_ok-lent.lent.pa_sync_state;
+      encryption = c.in_ok-lent.lent.encryption;
+      bad_code =
+          c.in_ok-lent.lent.bad_code.now;
+      groups = [];
+    } in
+    let r = is_read c.args.from.now s c.in_ok-lent.lent.count c.in_ok-lent.lent.groups.now c.in_ok-rest.rest.now (λ i. omega (arith, c.type_inv.from i)) c.in_ok-lent.ensures.head
+    c.in_ok-rest.ensures.field in
+    reserved_group c.args.from.now s c.in_ok-lent.lent.count c.in_ok-lent.lent.groups.now c.in_ok-rest.rest.now c.in-Some-reserved_subgroup.place r c.in_default.ensures
+    c.in-Some-reserved_subgroup.ensures
 
 pub returns-then-not-is_empty : goal.returns-then-not-is_empty
 returns-then-not-is_empty c =
-    let s : StateFields = record { source_id = c.in_ok-lent.lent.source_id; address_type = c.in_ok-lent.lent.address_type; address = c.in_ok-lent.lent.address.now; sid = c.in_ok-lent.lent.sid; broadcast_id = c.in_ok-lent.lent.broadcast_id.now; pa_sync_state = c.in_ok-lent.lent.pa_sync_state; encryption = c.in_ok-lent.lent.encryption; bad_code = c.in_ok-lent.lent.bad_code.now; groups = [] } in
-    let r = is_read c.args.from.now s c.in_ok-lent.lent.count c.in_ok-lent.lent.groups.now c.in_ok-rest.rest.now (λ i. omega (arith, c.type_inv.from i)) c.in_ok-lent.ensures.head c.in_ok-rest.ensures.field in
-    rw c.place_of.ensures (trailing c.args.from.now s c.in_ok-lent.lent.count c.in_ok-lent.lent.groups.now c.in_ok-rest.rest.now r c.in_default.ensures c.in_default-reserved_subgroup.ensures (sym c.is_empty.ensures ∙ c.if-not-is_empty.true))
+    let s : StateFields = record {
+      source_id = c.in_ok-lent.lent.source_id;
+      address_type = c.in_ok-lent.lent.address_type;
+      address = c.in_ok-lent.lent.address.now;
+      sid =
+          c.in_ok-lent.lent.sid;
+      broadcast_id = c.in_ok-lent.lent.broadcast_id.now;
+      pa_sync_state = c.in_ok-lent.lent.pa_sync_state;
+      encryption = c.in_ok-lent.lent.encryption;
+      bad_code =
+          c.in_ok-lent.lent.bad_code.now;
+      groups = [];
+    } in
+    let r = is_read c.args.from.now s c.in_ok-lent.lent.count c.in_ok-lent.lent.groups.now c.in_ok-rest.rest.now (λ i. omega (arith, c.type_inv.from i)) c.in_ok-lent.ensures.head
+    c.in_ok-rest.ensures.field in
+    rw c.place_of.ensures (trailing c.args.from.now s c.in_ok-lent.lent.count c.in_ok-lent.lent.groups.now c.in_ok-rest.rest.now r c.in_default.ensures c.in_default-reserved_subgroup.ensures
+    (sym c.is_empty.ensures ∙ c.if-not-is_empty.true))
 
 pub own_state-requires-clause-groups : goal.own_state-requires-clause-groups
 own_state-requires-clause-groups c = are_whole c.args.from.now c.in_ok-lent.lent.count c.in_ok-lent.lent.groups.now c.in_ok-rest.rest.now c.in_ok-rest.ensures.field
 
 pub returns-in_err-state : goal.returns-in_err-state
 returns-in_err-state c =
-    let s : StateFields = record { source_id = c.in_ok-lent.lent.source_id; address_type = c.in_ok-lent.lent.address_type; address = c.in_ok-lent.lent.address.now; sid = c.in_ok-lent.lent.sid; broadcast_id = c.in_ok-lent.lent.broadcast_id.now; pa_sync_state = c.in_ok-lent.lent.pa_sync_state; encryption = c.in_ok-lent.lent.encryption; bad_code = c.in_ok-lent.lent.bad_code.now; groups = [] } in
-    let r = is_read c.args.from.now s c.in_ok-lent.lent.count c.in_ok-lent.lent.groups.now c.in_ok-rest.rest.now (λ i. omega (arith, c.type_inv.from i)) c.in_ok-lent.ensures.head c.in_ok-rest.ensures.field in
+    let s : StateFields = record {
+      source_id = c.in_ok-lent.lent.source_id;
+      address_type = c.in_ok-lent.lent.address_type;
+      address = c.in_ok-lent.lent.address.now;
+      sid =
+          c.in_ok-lent.lent.sid;
+      broadcast_id = c.in_ok-lent.lent.broadcast_id.now;
+      pa_sync_state = c.in_ok-lent.lent.pa_sync_state;
+      encryption = c.in_ok-lent.lent.encryption;
+      bad_code =
+          c.in_ok-lent.lent.bad_code.now;
+      groups = [];
+    } in
+    let r = is_read c.args.from.now s c.in_ok-lent.lent.count c.in_ok-lent.lent.groups.now c.in_ok-rest.rest.now (λ i. omega (arith, c.type_inv.from i)) c.in_ok-lent.ensures.head
+    c.in_ok-rest.ensures.field in
     let p = err_from_is_err_and c.from_residual-in_err-state.result c.from_residual-in_err-state.ensures.1 in
-    rw (p.1, p.2) (is_value c.args.from.now s c.in_ok-lent.lent.count c.in_ok-lent.lent.groups.now c.in_ok-rest.rest.now r c.in_default.ensures c.in_default-reserved_subgroup.ensures (sym c.is_empty.ensures ∙ c.if-not-is_empty.false))
+    rw (p.1, p.2) (is_value c.args.from.now s c.in_ok-lent.lent.count c.in_ok-lent.lent.groups.now c.in_ok-rest.rest.now r c.in_default.ensures c.in_default-reserved_subgroup.ensures
+    (sym c.is_empty.ensures ∙ c.if-not-is_empty.false))
 
 pub returns : goal.returns
 returns c =
-    let s : StateFields = record { source_id = c.in_ok-lent.lent.source_id; address_type = c.in_ok-lent.lent.address_type; address = c.in_ok-lent.lent.address.now; sid = c.in_ok-lent.lent.sid; broadcast_id = c.in_ok-lent.lent.broadcast_id.now; pa_sync_state = c.in_ok-lent.lent.pa_sync_state; encryption = c.in_ok-lent.lent.encryption; bad_code = c.in_ok-lent.lent.bad_code.now; groups = [] } in
-    let r = is_read c.args.from.now s c.in_ok-lent.lent.count c.in_ok-lent.lent.groups.now c.in_ok-rest.rest.now (λ i. omega (arith, c.type_inv.from i)) c.in_ok-lent.ensures.head c.in_ok-rest.ensures.field in
-    is_done c.args.from.now s c.in_ok-lent.lent.count c.in_ok-lent.lent.groups.now c.in_ok-rest.rest.now c.in_ok-state.state r c.in_default.ensures c.in_default-reserved_subgroup.ensures (sym c.is_empty.ensures ∙ c.if-not-is_empty.false) c.in_ok-state.ensures.groups c.in_ok-state.ensures.head
+    let s : StateFields = record {
+      source_id = c.in_ok-lent.lent.source_id;
+      address_type = c.in_ok-lent.lent.address_type;
+      address = c.in_ok-lent.lent.address.now;
+      sid =
+          c.in_ok-lent.lent.sid;
+      broadcast_id = c.in_ok-lent.lent.broadcast_id.now;
+      pa_sync_state = c.in_ok-lent.lent.pa_sync_state;
+      encryption = c.in_ok-lent.lent.encryption;
+      bad_code =
+          c.in_ok-lent.lent.bad_code.now;
+      groups = [];
+    } in
+    let r = is_read c.args.from.now s c.in_ok-lent.lent.count c.in_ok-lent.lent.groups.now c.in_ok-rest.rest.now (λ i. omega (arith, c.type_inv.from i)) c.in_ok-lent.ensures.head
+    c.in_ok-rest.ensures.field in
+    is_done c.args.from.now s c.in_ok-lent.lent.count c.in_ok-lent.lent.groups.now c.in_ok-rest.rest.now c.in_ok-state.state r c.in_default.ensures c.in_default-reserved_subgroup.ensures
+    (sym c.is_empty.ensures ∙ c.if-not-is_empty.false) c.in_ok-state.ensures.groups c.in_ok-state.ensures.head

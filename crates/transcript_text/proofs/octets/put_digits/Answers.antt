@@ -5,7 +5,8 @@ use Rattle.transcript_text.proofs.octets.put_digits.Goals as goal
 
 pub chunks-preserved : goal.chunks-preserved
 chunks-preserved c =
-    put_more c.args.text.now c.chunks.text c.put_chunk.new.text (encode_lower c.args.octets.now) (encode_lower c.chunks.rest.now) (encode_lower c.split_at.result.0.now) (encode_lower c.split_at.result.1.now)
+    put_more c.args.text.now c.chunks.text c.put_chunk.new.text (encode_lower c.args.octets.now) (encode_lower c.chunks.rest.now) (encode_lower c.split_at.result.0.now)
+    (encode_lower c.split_at.result.1.now)
     c.chunks.invariant (encode_split _ c.chunks.rest.now c.split_at.result.0.now c.split_at.result.1.now c.split_at.ensures.front c.split_at.ensures.back)
     c.in_ok-put_chunk.ensures.ok
 

@@ -4,5 +4,6 @@ use Rattle.bcast_io.proofs.read_ahead.ReadAhead.consume.Goals as goal
 
 pub returns : goal.returns
 returns c =
-    let within : c.self.inside.start + c.args.n ≤ c.self.inside.end = omega (arith, ap length c.self.view_is, length-take (c.self.inside.end - c.self.inside.start) (drop c.self.inside.start c.self.inside.buffer.items)) in
+    let within : c.self.inside.start + c.args.n ≤ c.self.inside.end =
+    omega (arith, ap length c.self.view_is, length-take (c.self.inside.end - c.self.inside.start) (drop c.self.inside.start c.self.inside.buffer.items)) in
     rw (← c.self.view_is) (part-drop _ _ _ _ within)

@@ -57,7 +57,8 @@ count_is c =
 
 block_is : (c : goal.After-self-2-1)
     → (with_items c.args.self.now.block (take (c.args.first * c.from-max_pdu.result) c.deref_mut.result.now
-    ++ (c.gather.new.block ++ drop ((c.args.first + c.args.places) * c.from-max_pdu.result - c.args.first * c.from-max_pdu.result) (drop (c.args.first * c.from-max_pdu.result) c.deref_mut.result.now)))).items
+    ++ (c.gather.new.block ++ drop ((c.args.first + c.args.places) * c.from-max_pdu.result - c.args.first * c.from-max_pdu.result)
+    (drop (c.args.first * c.from-max_pdu.result) c.deref_mut.result.now)))).items
     ≡ take (c.args.first * c.args.self.now.max_pdu) c.args.self.now.block.items
     ++ (c.gather.new.block ++ drop (c.args.first * c.args.self.now.max_pdu + c.args.places * c.args.self.now.max_pdu) c.args.self.now.block.items)
 block_is c =

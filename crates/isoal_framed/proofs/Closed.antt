@@ -1,0 +1,158 @@
+-- The tokens of the closed events: a hear changes nothing of them, and a close adds those of an event.
+use Rattle.std.proofs.Common.{ℕ, zero, suc, ◌≡◌, ◌+◌, ◌-◌, ◌*◌, ◌/◌, ◌≤◌, ◌<◌, List, [], ◌∷◌, ◌++◌, map, take, drop, length, None, replicate, refl, sym, ap, ◌∙◌, subst, arith, append_assoc}
+use Rattle.std.specs.List.{flat_map, range_with_len}
+use Rattle.std.proofs.Math.Nat.{add-mul, div-lt_iff_lt-mul}
+use Rattle.std.proofs.Math.Seq.{drop-append_seam}
+use Rattle.std.proofs.lemmas.List.{append-nil}
+use Rattle.std.proofs.lemmas.List.Folds.{flat_map-map}
+use Rattle.big_info.specs.Bounds.{Bounds}
+use Rattle.big_info.specs.Schedule.{horizon_of}
+use Rattle.isoal_base.specs.Stays.{Stay, Call, hear, close, opened, window_of}
+use Rattle.isoal_base.specs.Hearing.{read_as}
+use Rattle.isoal_base.proofs.Heards.{heard_same, entry_outside}
+use Rattle.isoal_base.proofs.Ranges.{map_part}
+use Rattle.isoal_base.proofs.Steps.{stands_new, stands_hear, stands_close}
+use Rattle.isoal_framed.specs.Histories.{heard_in, event_tokens, closed_tokens, decided, gained}
+use Rattle.isoal_framed.specs.Tokens.{segmented, tokens_of}
+use Rattle.isoal_framed.specs.Units.{units, undecided_run}
+use Rattle.isoal_framed.specs.State.Joining.{hands, run_after}
+use Rattle.isoal_framed.specs.State.Windows.{Window, Stands, after_hear, after_close, tokens_in, owed}
+use Rattle.isoal_framed.proofs.Joins.{units_more, undecided_more}
+
+-- lists of lists over a range
+pub flat_same : {A : Type 0} (f g : ℕ → List A) (start n : ℕ) → ((i : ℕ) → start ≤ i → i < start + n → f i ≡ g i)
+    → flat_map f (range_with_len start n) ≡ flat_map g (range_with_len start n)
+flat_same f g start zero same = refl
+flat_same f g start (suc n) same =
+    ap (λ xs. xs ++ flat_map f (range_with_len (start + 1) n)) (same start (omega arith) (omega arith))
+    ∙ ap (λ xs. g start ++ xs) (flat_same f g (start + 1) n (λ i least below. same i (omega arith) (omega arith)))
+
+pub flat_last : {A : Type 0} (f : ℕ → List A) (start n : ℕ)
+    → flat_map f (range_with_len start (n + 1)) ≡ flat_map f (range_with_len start n) ++ f (start + n)
+flat_last f start zero =
+    let none : start + 0 ≡ start = omega arith in
+    append-nil (f start) ∙ ap f (sym none)
+flat_last f start (suc n) =
+    let more : suc n + 1 ≡ suc (n + 1) = omega arith in
+    let next : start + 1 + n ≡ start + suc n = omega arith in
+    ap (λ k. flat_map f (range_with_len start k)) more
+    ∙ ap (λ xs. f start ++ xs) (flat_last f (start + 1) n)
+    ∙ sym (append_assoc (f start) (flat_map f (range_with_len (start + 1) n)) (f (start + 1 + n)))
+    ∙ ap (λ k. (f start ++ flat_map f (range_with_len (start + 1) n)) ++ f k) next
+
+-- the open event is never before the first
+pub opened_least : (stay : Stay) (calls : List Call) → stay.first ≤ opened stay calls
+opened_least stay [] = omega arith
+opened_least stay (hear number octets ∷ calls) = opened_least stay calls
+opened_least stay (close ∷ calls) =
+    let before : stay.first ≤ opened stay calls = opened_least stay calls in
+    omega arith
+
+-- the event of a number
+event_below : (bn event number : ℕ) → 1 ≤ bn → number < event * bn + bn → number / bn < event + 1
+event_below bn event number some below =
+    let top : (event + 1) * bn ≡ event * bn + bn = add-mul event 1 bn ∙ omega arith in
+    (div-lt_iff_lt-mul some).1 (subst (λ most. number < most) (sym top) below)
+
+-- a hear changes nothing of an event before the open one
+hear_event : (stay : Stay) (calls : List Call) (number : ℕ) (octets : List ℕ) (event : ℕ) → 1 ≤ stay.info.bn → event < opened stay calls
+    → event_tokens stay (hear number octets ∷ calls) event ≡ event_tokens stay calls event
+hear_event stay calls number octets event some before =
+    flat_same (λ at. tokens_of stay event (heard_in stay (hear number octets ∷ calls) at)) (λ at. tokens_of stay event (heard_in stay calls at))
+    (event * stay.info.bn) stay.info.bn
+    (λ at least below. ap (tokens_of stay event) (heard_same (read_as segmented stay.info.max_pdu) stay (hear number octets) calls at
+    (entry_outside (read_as segmented stay.info.max_pdu) stay (opened stay calls) at number octets
+    (λ within.
+    let under : at / stay.info.bn < event + 1 = event_below stay.info.bn event at some below in
+    let low : opened stay calls ≤ at / stay.info.bn = within.0 in
+    absurd (omega arith)))))
+
+pub closed_hear : (stay : Stay) (calls : List Call) (number : ℕ) (octets : List ℕ) → 1 ≤ stay.info.bn
+    → closed_tokens stay (hear number octets ∷ calls) ≡ closed_tokens stay calls
+closed_hear stay calls number octets some =
+    let first : stay.first ≤ opened stay calls = opened_least stay calls in
+    flat_same (event_tokens stay (hear number octets ∷ calls)) (event_tokens stay calls) stay.first (opened stay calls - stay.first)
+    (λ event least below. hear_event stay calls number octets event some (omega arith))
+
+pub decides_nothing : (stay : Stay) → Bounds stay.info → (calls : List Call) (number : ℕ) (octets : List ℕ)
+    → decided stay (hear number octets ∷ calls) ≡ decided stay calls
+decides_nothing stay bounds calls number octets =
+    ap (units stay.info.max_sdu stay.bis) (closed_hear stay calls number octets bounds.bn)
+
+close_event : (stay : Stay) (calls : List Call) (event : ℕ) → event_tokens stay (close ∷ calls) event ≡ event_tokens stay calls event
+close_event stay calls event =
+    flat_same (λ at. tokens_of stay event (heard_in stay (close ∷ calls) at)) (λ at. tokens_of stay event (heard_in stay calls at))
+    (event * stay.info.bn) stay.info.bn
+    (λ at least below. ap (tokens_of stay event) (heard_same (read_as segmented stay.info.max_pdu) stay close calls at refl))
+
+pub closed_close : (stay : Stay) (calls : List Call)
+    → closed_tokens stay (close ∷ calls) ≡ closed_tokens stay calls ++ event_tokens stay calls (opened stay calls)
+closed_close stay calls =
+    let first : stay.first ≤ opened stay calls = opened_least stay calls in
+    let count : opened stay calls + 1 - stay.first ≡ opened stay calls - stay.first + 1 = omega arith in
+    let last : stay.first + (opened stay calls - stay.first) ≡ opened stay calls = omega arith in
+    flat_same (event_tokens stay (close ∷ calls)) (event_tokens stay calls) stay.first (opened stay calls + 1 - stay.first)
+    (λ event least below. close_event stay calls event)
+    ∙ ap (λ n. flat_map (event_tokens stay calls) (range_with_len stay.first n)) count
+    ∙ flat_last (event_tokens stay calls) stay.first (opened stay calls - stay.first)
+    ∙ ap (λ event. closed_tokens stay calls ++ event_tokens stay calls event) last
+
+-- the tokens of the open event, from the window
+pub tokens_are : (window : Window) → 1 ≤ window.stay.info.bn → (calls : List Call) → Stands calls window
+    → tokens_in window ≡ event_tokens window.stay calls (opened window.stay calls)
+tokens_are window some calls stands =
+    let events : window_of window.stay.info ≡ horizon_of window.stay.info * window.stay.info.bn + window.stay.info.bn =
+    add-mul (horizon_of window.stay.info) 1 window.stay.info.bn ∙ omega arith in
+    let from : window.event * window.stay.info.bn + 0 ≡ window.event * window.stay.info.bn = omega arith in
+    ap (λ kept. flat_map (tokens_of window.stay window.event) (take window.stay.info.bn kept)) stands.hearing.kept_is
+    ∙ ap (flat_map (tokens_of window.stay window.event))
+    (map_part (heard_in window.stay calls) (window.event * window.stay.info.bn) (window_of window.stay.info) 0 window.stay.info.bn (omega arith))
+    ∙ ap (λ start. flat_map (tokens_of window.stay window.event) (map (heard_in window.stay calls) (range_with_len start window.stay.info.bn))) from
+    ∙ flat_map-map (tokens_of window.stay window.event) (heard_in window.stay calls) (range_with_len (window.event * window.stay.info.bn) window.stay.info.bn)
+    ∙ ap (event_tokens window.stay calls) stands.hearing.event_is
+
+pub new_stands : (stay : Stay) → Stands [] (record { stay = stay; event = stay.first; kept = replicate (window_of stay.info) None; run = None })
+new_stands stay =
+    let none : stay.first - stay.first ≡ 0 = omega arith in
+    record {
+      hearing = stands_new (read_as segmented stay.info.max_pdu) stay;
+      run = ap (λ n. undecided_run stay.info.max_sdu (flat_map (event_tokens stay []) (range_with_len stay.first n))) (sym none);
+    }
+
+pub hear_stands : (window : Window) (number : ℕ) (octets : List ℕ) → Bounds window.stay.info
+    → (calls : List Call) → Stands calls window → Stands (hear number octets ∷ calls) (after_hear number octets window)
+hear_stands window number octets bounds calls stands = record {
+  hearing = stands_hear segmented window.stay calls window.event window.kept number octets bounds.bn stands.hearing;
+  run = stands.run ∙ ap (undecided_run window.stay.info.max_sdu) (sym (closed_hear window.stay calls number octets bounds.bn));
+}
+
+pub close_stands : (window : Window) → Bounds window.stay.info
+    → (calls : List Call) → Stands calls window → Stands (close ∷ calls) (after_close window)
+close_stands window bounds calls stands = record {
+  hearing = stands_close (read_as segmented window.stay.info.max_pdu) window.stay calls window.event window.kept bounds.bn stands.hearing;
+  run = ap (run_after window.stay.info.max_sdu window.run) (tokens_are window bounds.bn calls stands)
+      ∙ ap (λ run. run_after window.stay.info.max_sdu run (event_tokens window.stay calls (opened window.stay calls))) stands.run
+      ∙ sym (undecided_more window.stay.info.max_sdu (closed_tokens window.stay calls) (event_tokens window.stay calls (opened window.stay calls)))
+      ∙ ap (undecided_run window.stay.info.max_sdu) (sym (closed_close window.stay calls));
+}
+
+-- what the decided units gain is what is owed
+decided_more : (window : Window) → Bounds window.stay.info → (calls : List Call) → Stands calls window
+    → decided window.stay (close ∷ calls) ≡ decided window.stay calls ++ owed window
+decided_more window bounds calls stands =
+    ap (units window.stay.info.max_sdu window.stay.bis) (closed_close window.stay calls)
+    ∙ units_more window.stay.info.max_sdu window.stay.bis (closed_tokens window.stay calls) (event_tokens window.stay calls (opened window.stay calls))
+    ∙ ap (λ run. decided window.stay calls ++ hands window.stay.info.max_sdu window.stay.bis run (event_tokens window.stay calls (opened window.stay calls))) (sym stands.run)
+    ∙ ap (λ tokens. decided window.stay calls ++ hands window.stay.info.max_sdu window.stay.bis window.run tokens)
+    (sym (tokens_are window bounds.bn calls stands))
+
+pub owed_is : (window : Window) → Bounds window.stay.info → (calls : List Call) → Stands calls window
+    → owed window ≡ gained window.stay calls
+owed_is window bounds calls stands =
+    sym (ap (drop (length (decided window.stay calls))) (decided_more window bounds calls stands)
+    ∙ drop-append_seam (decided window.stay calls) (owed window))
+
+pub gains : (window : Window) → Bounds window.stay.info → (calls : List Call) → Stands calls window
+    → decided window.stay (close ∷ calls) ≡ decided window.stay calls ++ gained window.stay calls
+gains window bounds calls stands =
+    decided_more window bounds calls stands ∙ ap (λ xs. decided window.stay calls ++ xs) (owed_is window bounds calls stands)

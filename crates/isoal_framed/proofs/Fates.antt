@@ -1,0 +1,206 @@
+-- The fate of a run from left to right is what the run and what follows it say.
+use Rattle.std.proofs.Common.{ℕ, ◌≡◌, ◌≤◌, ◌<◌, ◌⊎◌, inl, inr, true, false, leb, cond, Bool, List, [], ◌∷◌, ◌++◌, length, refl, sym, ap, ◌∙◌, subst, arith, append_assoc, length-append}
+use Rattle.std.proofs.lemmas.Bool.{cases_Bool, cond-true, cond-false, leb-true, leb-false, le-leb, lt-leb}
+use Rattle.std.proofs.lemmas.List.{append-nil}
+use Rattle.isoal_framed.specs.Units.{Piece, Fate, whole, broken, undecided, NoneComplete, joined, IsWhole, IsTooLong, IsCut, FateIs, fate_after, fate_of}
+
+-- a piece that fits and doesn't complete, and what follows
+goes : (max_sdu : ℕ) (front : List ℕ) (piece : Piece) (run : List Piece) (followed : Bool) → piece.complete ≡ false
+    → length (front ++ piece.octets) ≤ max_sdu
+    → fate_after max_sdu front (piece ∷ run) followed ≡ fate_after max_sdu (front ++ piece.octets) run followed
+goes max_sdu front piece run followed goes_on fits =
+    cond-true (leb (length (front ++ piece.octets)) max_sdu)
+    (cond piece.complete (whole (front ++ piece.octets)) (fate_after max_sdu (front ++ piece.octets) run followed)) broken
+    (le-leb (length (front ++ piece.octets)) max_sdu fits)
+    ∙ cond-false piece.complete (whole (front ++ piece.octets)) (fate_after max_sdu (front ++ piece.octets) run followed) goes_on
+
+stops : (max_sdu : ℕ) (front : List ℕ) (piece : Piece) (run : List Piece) (followed : Bool) → leb (length (front ++ piece.octets)) max_sdu ≡ false
+    → fate_after max_sdu front (piece ∷ run) followed ≡ broken
+stops max_sdu front piece run followed passes =
+    cond-false (leb (length (front ++ piece.octets)) max_sdu)
+    (cond piece.complete (whole (front ++ piece.octets)) (fate_after max_sdu (front ++ piece.octets) run followed)) broken passes
+
+behind : (front part rest last : List ℕ) → (front ++ part) ++ (rest ++ last) ≡ front ++ ((part ++ rest) ++ last)
+behind front part rest last = append_assoc front part (rest ++ last) ∙ ap (λ xs. front ++ xs) (sym (append_assoc part rest last))
+
+front_fits : (max_sdu : ℕ) (front rest : List ℕ) → length (front ++ rest) ≤ max_sdu → length front ≤ max_sdu
+front_fits max_sdu front rest fits = omega (arith, length-append front rest)
+
+whole_after : (max_sdu : ℕ) (front : List ℕ) (before : List Piece) (last : List ℕ) (others : List Piece) (followed : Bool)
+    → NoneComplete before → length (front ++ (joined before ++ last)) ≤ max_sdu
+    → fate_after max_sdu front (before ++ record { complete = true; octets = last } ∷ others) followed ≡ whole (front ++ (joined before ++ last))
+whole_after max_sdu front [] last others followed first fits =
+    cond-true (leb (length (front ++ last)) max_sdu) (whole (front ++ last)) broken (le-leb (length (front ++ last)) max_sdu fits)
+whole_after max_sdu front (piece ∷ before) last others followed first fits =
+    let same : (front ++ piece.octets) ++ (joined before ++ last) ≡ front ++ ((piece.octets ++ joined before) ++ last) =
+    behind front piece.octets (joined before) last in
+    let room : length ((front ++ piece.octets) ++ (joined before ++ last)) ≤ max_sdu = subst (λ xs. length xs ≤ max_sdu) (sym same) fits in
+    goes max_sdu front piece (before ++ record { complete = true; octets = last } ∷ others) followed first.0
+    (front_fits max_sdu (front ++ piece.octets) (joined before ++ last) room)
+    ∙ whole_after max_sdu (front ++ piece.octets) before last others followed first.1 room
+    ∙ ap whole same
+
+long_after : (max_sdu : ℕ) (front : List ℕ) (before : List Piece) (last : Piece) (others : List Piece) (followed : Bool)
+    → NoneComplete before → max_sdu < length (front ++ (joined before ++ last.octets))
+    → fate_after max_sdu front (before ++ last ∷ others) followed ≡ broken
+long_after max_sdu front [] last others followed first passes =
+    stops max_sdu front last others followed (lt-leb (length (front ++ last.octets)) max_sdu passes)
+long_after max_sdu front (piece ∷ before) last others followed first passes =
+    elim (cases_Bool (leb (length (front ++ piece.octets)) max_sdu)) [
+      | inl fits ↦
+          goes max_sdu front piece (before ++ last ∷ others) followed first.0 (leb-true (length (front ++ piece.octets)) max_sdu fits)
+          ∙ long_after max_sdu (front ++ piece.octets) before last others followed first.1
+          (subst (λ xs. max_sdu < length xs) (sym (behind front piece.octets (joined before) last.octets)) passes)
+      | inr over ↦ stops max_sdu front piece (before ++ last ∷ others) followed over
+    ]
+
+cut_after : (max_sdu : ℕ) (front : List ℕ) (run : List Piece) → NoneComplete run → fate_after max_sdu front run true ≡ broken
+cut_after max_sdu front [] first = refl
+cut_after max_sdu front (piece ∷ run) first = elim (cases_Bool (leb (length (front ++ piece.octets)) max_sdu)) [
+  | inl fits ↦ goes max_sdu front piece run true first.0 (leb-true (length (front ++ piece.octets)) max_sdu fits)
+      ∙ cut_after max_sdu (front ++ piece.octets) run first.1
+  | inr over ↦ stops max_sdu front piece run true over
+]
+
+-- what the fate tells, behind a front
+record WholeAfter (max_sdu : ℕ) (front : List ℕ) (run : List Piece) (octets : List ℕ) : Type 0 where
+  before : List Piece
+  last : List ℕ
+  others : List Piece
+  run_is : run ≡ before ++ record { complete = true; octets = last } ∷ others
+  first : NoneComplete before
+  octets_are : octets ≡ front ++ (joined before ++ last)
+  fits : length octets ≤ max_sdu
+
+record LongAfter (max_sdu : ℕ) (front : List ℕ) (run : List Piece) : Type 0 where
+  before : List Piece
+  last : Piece
+  others : List Piece
+  run_is : run ≡ before ++ last ∷ others
+  first : NoneComplete before
+  passes : max_sdu < length (front ++ (joined before ++ last.octets))
+
+abbrev Tells : ℕ → List ℕ → List Piece → Bool → Fate → Type 0
+Tells max_sdu front run followed (whole octets) = WholeAfter max_sdu front run octets
+Tells max_sdu front run followed broken = LongAfter max_sdu front run ⊎ IsCut run followed
+Tells max_sdu front run followed (undecided octets) = (octets ≡ front ++ joined run) × (followed ≡ false)
+
+more_told : (max_sdu : ℕ) (front : List ℕ) (piece : Piece) (run : List Piece) (followed : Bool) (fate : Fate) → piece.complete ≡ false
+    → Tells max_sdu (front ++ piece.octets) run followed fate → Tells max_sdu front (piece ∷ run) followed fate
+more_told max_sdu front piece run followed (whole octets) goes_on told = record {
+  before = piece ∷ told.before;
+  last = told.last;
+  others = told.others;
+  run_is = ap (λ xs. piece ∷ xs) told.run_is;
+  first = (goes_on, told.first);
+  octets_are = told.octets_are ∙ behind front piece.octets (joined told.before) told.last;
+  fits = told.fits;
+}
+more_told max_sdu front piece run followed broken goes_on (inl long) = inl (record {
+  before = piece ∷ long.before;
+  last = long.last;
+  others = long.others;
+  run_is = ap (λ xs. piece ∷ xs) long.run_is;
+  first = (goes_on, long.first);
+  passes = subst (λ xs. max_sdu < length xs) (behind front piece.octets (joined long.before) long.last.octets) long.passes;
+})
+more_told max_sdu front piece run followed broken goes_on (inr cut) = inr ((goes_on, cut.0), cut.1)
+more_told max_sdu front piece run followed (undecided octets) goes_on told =
+    (told.0 ∙ append_assoc front piece.octets (joined run), told.1)
+
+tells : (max_sdu : ℕ) (front : List ℕ) (run : List Piece) (followed : Bool) → Tells max_sdu front run followed (fate_after max_sdu front run followed)
+tells max_sdu front [] true = inr (tt, refl)
+tells max_sdu front [] false = (sym (append-nil front), refl)
+tells max_sdu front (piece ∷ run) followed = elim (cases_Bool (leb (length (front ++ piece.octets)) max_sdu)) [
+  | inr over ↦ subst (Tells max_sdu front (piece ∷ run) followed) (sym (stops max_sdu front piece run followed over)) (inl (record {
+    before = [];
+    last = piece;
+    others = run;
+    run_is = refl;
+    first = tt;
+    passes = leb-false (length (front ++ piece.octets)) max_sdu over;
+  }))
+  | inl fits ↦ elim (cases_Bool piece.complete) [
+    | inl complete ↦ subst (Tells max_sdu front (piece ∷ run) followed)
+        (sym (cond-true (leb (length (front ++ piece.octets)) max_sdu)
+        (cond piece.complete (whole (front ++ piece.octets)) (fate_after max_sdu (front ++ piece.octets) run followed)) broken fits
+        ∙ cond-true piece.complete (whole (front ++ piece.octets)) (fate_after max_sdu (front ++ piece.octets) run followed) complete))
+        (record {
+          before = [];
+          last = piece.octets;
+          others = run;
+          run_is = ap (λ flag. record { complete = flag; octets = piece.octets } ∷ run) complete;
+          first = tt;
+          octets_are = refl;
+          fits = leb-true (length (front ++ piece.octets)) max_sdu fits;
+        })
+    | inr goes_on ↦ subst (Tells max_sdu front (piece ∷ run) followed)
+        (sym (goes max_sdu front piece run followed goes_on (leb-true (length (front ++ piece.octets)) max_sdu fits)))
+        (more_told max_sdu front piece run followed (fate_after max_sdu (front ++ piece.octets) run followed) goes_on
+        (tells max_sdu (front ++ piece.octets) run followed))
+  ]
+]
+
+is_whole : (max_sdu : ℕ) (run : List Piece) (followed : Bool) (octets : List ℕ) → IsWhole max_sdu run octets → fate_of max_sdu run followed ≡ whole octets
+is_whole max_sdu run followed octets is =
+    ap (λ xs. fate_of max_sdu xs followed) is.run_is
+    ∙ whole_after max_sdu [] is.before is.last is.others followed is.first (subst (λ xs. length xs ≤ max_sdu) is.octets_are is.fits)
+    ∙ ap whole (sym is.octets_are)
+
+is_long : (max_sdu : ℕ) (run : List Piece) (followed : Bool) → IsTooLong max_sdu run → fate_of max_sdu run followed ≡ broken
+is_long max_sdu run followed is =
+    ap (λ xs. fate_of max_sdu xs followed) is.run_is ∙ long_after max_sdu [] is.before is.last is.others followed is.first is.passes
+
+is_cut : (max_sdu : ℕ) (run : List Piece) (followed : Bool) → IsCut run followed → fate_of max_sdu run followed ≡ broken
+is_cut max_sdu run followed is = ap (fate_of max_sdu run) is.1 ∙ cut_after max_sdu [] run is.0
+
+apart_whole : (unit octets : List ℕ) → whole unit ≡ undecided octets → ⊥
+apart_whole unit octets is = cc
+
+apart_broken : (octets : List ℕ) → broken ≡ undecided octets → ⊥
+apart_broken octets is = cc
+
+told_is : (max_sdu : ℕ) (run : List Piece) (followed : Bool) (fate : Fate) → fate_of max_sdu run followed ≡ fate
+    → Tells max_sdu [] run followed fate → FateIs max_sdu run followed fate
+told_is max_sdu run followed (whole octets) is told = record {
+  before = told.before;
+  last = told.last;
+  others = told.others;
+  run_is = told.run_is;
+  first = told.first;
+  octets_are = told.octets_are;
+  fits = told.fits;
+}
+told_is max_sdu run followed broken is (inl long) = inl (record {
+  before = long.before;
+  last = long.last;
+  others = long.others;
+  run_is = long.run_is;
+  first = long.first;
+  passes = long.passes;
+})
+told_is max_sdu run followed broken is (inr cut) = inr cut
+told_is max_sdu run followed (undecided octets) is told = (
+  λ unit other. apart_whole unit octets (sym (is_whole max_sdu run followed unit other) ∙ is),
+  λ long. apart_broken octets (sym (is_long max_sdu run followed long) ∙ is),
+  λ cut. apart_broken octets (sym (is_cut max_sdu run followed cut) ∙ is),
+  told.0,
+)
+
+pub fate_is : (max_sdu : ℕ) (run : List Piece) (followed : Bool) (fate : Fate) → fate_of max_sdu run followed ≡ fate → FateIs max_sdu run followed fate
+fate_is max_sdu run followed fate is =
+    told_is max_sdu run followed fate is (subst (Tells max_sdu [] run followed) is (tells max_sdu [] run followed))
+
+undecided_else : (max_sdu : ℕ) (run : List Piece) (followed : Bool) (octets : List ℕ) (fate : Fate) → FateIs max_sdu run followed (undecided octets)
+    → FateIs max_sdu run followed fate → fate ≡ undecided octets
+undecided_else max_sdu run followed octets (whole unit) is other = absurd (is.0 unit other)
+undecided_else max_sdu run followed octets broken is (inl long) = absurd (is.1 long)
+undecided_else max_sdu run followed octets broken is (inr cut) = absurd (is.2 cut)
+undecided_else max_sdu run followed octets (undecided others) is other = ap undecided (other.3 ∙ sym is.3)
+
+pub is_fate : (max_sdu : ℕ) (run : List Piece) (followed : Bool) (fate : Fate) → FateIs max_sdu run followed fate → fate_of max_sdu run followed ≡ fate
+is_fate max_sdu run followed (whole octets) is = is_whole max_sdu run followed octets is
+is_fate max_sdu run followed broken (inl long) = is_long max_sdu run followed long
+is_fate max_sdu run followed broken (inr cut) = is_cut max_sdu run followed cut
+is_fate max_sdu run followed (undecided octets) is =
+    undecided_else max_sdu run followed octets (fate_of max_sdu run followed) is (fate_is max_sdu run followed (fate_of max_sdu run followed) refl)

@@ -1,0 +1,86 @@
+-- The places of a window: filled with empty ones, and turned by one.
+use Rattle.std.proofs.Common.{ℕ, suc, ◌≡◌, ◌+◌, ◌-◌, ◌<◌, ◌≤◌, List, [], ◌∷◌, ◌++◌, map, length, take, drop, replicate, get_or, Option, None, ◌⊎◌, inl, inr, refl, sym, ap, ◌∙◌}
+use Rattle.std.proofs.Common.{arith, append_assoc, length-append}
+use Rattle.std.specs.List.{flat_map, slice_get}
+use Rattle.std.proofs.lemmas.Option.{none-some, slice_get-get_or}
+use Rattle.std.proofs.lemmas.List.{map-append, drop-map, length-map, length-replicate, length-drop, replicate-append-replicate, drop-append-le, drop-drop}
+use Rattle.std.proofs.Math.Seq.{drop-cons}
+use Rattle.circular_buffer.specs.Buffer.{keep_last}
+use Rattle.iso_pdu.specs.Reading.{read_of}
+use Rattle.isoal_base.specs.Hearing.{read_as}
+use Rattle.isoal_framed.specs.Tokens.{segmented}
+
+empty : (max_pdu : ℕ) → read_as segmented max_pdu [] ≡ None
+unfolding read_of
+empty max_pdu = refl
+
+-- no octets are no PDU
+pub nothing_read : (max_pdu : ℕ) (octets : List ℕ) → octets ≡ [] → read_as segmented max_pdu octets ≡ None
+nothing_read max_pdu octets none = ap (read_as segmented max_pdu) none ∙ empty max_pdu
+
+-- an item is put behind others that leave room for it
+pub kept_last : {A : Type 0} (items : List A) (item : A) (capacity : ℕ) → length items < capacity → keep_last capacity (items ++ item ∷ []) ≡ items ++ item ∷ []
+kept_last items item capacity room =
+    let none : length (items ++ item ∷ []) - capacity ≡ 0 = omega (arith, length-append items (item ∷ [])) in
+    ap (λ n. drop n (items ++ item ∷ [])) none
+
+pub filled_more : {A B : Type 0} (entry : A → Option B) (items : List A) (item : A) (capacity n : ℕ) → map entry items ≡ replicate n None
+    → n < capacity → entry item ≡ None → map entry (keep_last capacity (items ++ item ∷ [])) ≡ replicate (n + 1) None
+filled_more entry items item capacity n before below here =
+    let count : length items ≡ n = sym (length-map items entry) ∙ ap length before ∙ length-replicate n None in
+    ap (map entry) (kept_last items item capacity (omega arith))
+    ∙ map-append entry items (item ∷ [])
+    ∙ ap (λ xs. xs ++ entry item ∷ []) before
+    ∙ ap (λ x. replicate n None ++ x ∷ []) here
+    ∙ replicate-append-replicate n 1 None
+
+pub filled_count : {A B : Type 0} (entry : A → Option B) (items : List A) (n : ℕ) → map entry items ≡ replicate n None → length items ≡ n
+filled_count entry items n is = sym (length-map items entry) ∙ ap length is ∙ length-replicate n None
+
+pub turned : {A B : Type 0} (entry : A → Option B) (items : List A) (item : A) (capacity : ℕ) → length items ≡ capacity → 0 < capacity → entry item ≡ None
+    → map entry (keep_last capacity (drop 1 items ++ item ∷ [])) ≡ drop 1 (map entry items) ++ None ∷ []
+turned entry items item capacity full some here =
+    let shorter : length (drop 1 items) ≡ length items - 1 = length-drop 1 items in
+    ap (map entry) (kept_last (drop 1 items) item capacity (omega arith))
+    ∙ map-append entry (drop 1 items) (item ∷ [])
+    ∙ ap (λ x. map entry (drop 1 items) ++ x ∷ []) here
+    ∙ ap (λ xs. xs ++ None ∷ []) (sym (drop-map entry 1 items))
+
+-- after several turns
+pub turned_more : {A : Type 0} (was now next : List (Option A)) (n count : ℕ) → now ≡ drop n was ++ replicate n None → n < length was
+    → next ≡ drop 1 now ++ None ∷ [] → next ≡ drop (n + 1) was ++ replicate (n + 1) None
+turned_more was now next n count before below after =
+    let some : 1 ≤ length (drop n was) = omega (arith, length-drop n was) in
+    after ∙ ap (λ xs. drop 1 xs ++ None ∷ []) before
+    ∙ ap (λ xs. xs ++ None ∷ []) (drop-append-le 1 (drop n was) (replicate n None) some)
+    ∙ append_assoc (drop 1 (drop n was)) (replicate n None) (None ∷ [])
+    ∙ ap (λ xs. xs ++ (replicate n None ++ None ∷ [])) (drop-drop 1 n was)
+    ∙ ap (λ xs. drop (n + 1) was ++ xs) (replicate-append-replicate n 1 None)
+
+-- the first of what is left
+pub first_left : {A : Type 0} (was now : List (Option A)) (n : ℕ) → now ≡ drop n was ++ replicate n None → n < length was
+    → get_or now 0 None ≡ get_or was n None
+first_left was now n before below =
+    ap (λ xs. get_or xs 0 None) (before ∙ ap (λ xs. xs ++ replicate n None) (drop-cons was n None below))
+
+-- what is left to take, from its first on
+pub left_more : {A B : Type 0} (tokens : Option A → List B) (was : List (Option A)) (n count left : ℕ) → n < length was → count ≡ left + 1
+    → flat_map tokens (take count (drop n was)) ≡ tokens (get_or was n None) ++ flat_map tokens (take left (drop (n + 1) was))
+left_more tokens was n count left below is =
+    let more : left + 1 ≡ suc left = omega arith in
+    let next : suc n ≡ n + 1 = omega arith in
+    ap (λ k. flat_map tokens (take k (drop n was))) (is ∙ more)
+    ∙ ap (λ xs. flat_map tokens (take (suc left) xs)) (drop-cons was n None below)
+    ∙ ap (λ k. tokens (get_or was n None) ++ flat_map tokens (take left (drop k was))) next
+
+cases_item : {A : Type 0} (items : List A) → (items ≡ []) ⊎ ((x : A) × (rest : List A) × (items ≡ x ∷ rest))
+cases_item [] = inl refl
+cases_item (x ∷ items) = inr (x, items, refl)
+
+-- an item below the length is there
+pub not_there : {A : Type 0} (items : List A) (index : ℕ) → index < length items → slice_get items index ≡ None → ⊥
+not_there items index below none =
+    elim (cases_item items) [
+      | inl nothing ↦ (let short : length items ≡ 0 = ap length nothing in absurd (omega arith))
+      | inr first ↦ none-some (get_or items index first.0) (sym none ∙ slice_get-get_or items index first.0 below)
+    ]

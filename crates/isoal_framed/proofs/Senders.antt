@@ -1,0 +1,112 @@
+-- A sender that stands for its calls stands for them and one more.
+use Rattle.std.proofs.Common.{ℕ, ◌≡◌, ◌<◌, ◌≤◌, true, false, List, [], ◌∷◌, ◌++◌, length, drop, None, refl, sym, ap, ◌∙◌, subst, arith, length-append}
+use Rattle.std.proofs.lemmas.List.{drop-append-le}
+use Rattle.std.proofs.lemmas.Option.{slice_get_within}
+use Rattle.big_info.specs.declared.info.BigInfo.{BigInfo}
+use Rattle.isoal_base.specs.Air.{Laid, Air}
+use Rattle.isoal_framed.specs.Air.{AllCome, IsEvent, IsAirOf, event_of, begun_by}
+use Rattle.isoal_framed.specs.Calls.{Call, accept, lay, Timed, accepted}
+use Rattle.isoal_framed.specs.Places.{Act, carries, leaves_out, ends, done, sent, room}
+use Rattle.isoal_framed.specs.State.Senders.{Sender, IsSender, StandsFor, with_unit}
+
+-- between two events a PDU begins
+pub room_between : (max_pdu : ℕ) (info : BigInfo) (calls : List Call) (acts : List Act) (air : Air) → IsAirOf info calls acts air → room max_pdu acts ≡ max_pdu
+room_between max_pdu info [] acts air is = ap (room max_pdu) is.0
+room_between max_pdu info (accept time octets ∷ calls) acts air is = room_between max_pdu info calls acts air is
+room_between max_pdu info (lay anchor ∷ calls) acts air (earlier, before, own, is_before, event, acts_is, air_is) = ap (room max_pdu) acts_is
+
+-- no more units are done than were accepted
+done_come : (max_pdu : ℕ) (units : List Timed) (anchor : ℕ) (earlier acts : List Act) → AllCome max_pdu units anchor earlier acts
+    → done earlier ≤ length units → done (acts ++ earlier) ≤ length units
+done_come max_pdu units anchor earlier [] come within = within
+done_come max_pdu units anchor earlier (carries count true ∷ acts) come within =
+    let below : done (acts ++ earlier) < length units =
+    slice_get_within units (done (acts ++ earlier)) come.1.0 come.1.1.due in
+    omega arith
+done_come max_pdu units anchor earlier (carries count false ∷ acts) come within = done_come max_pdu units anchor earlier acts come.0 within
+done_come max_pdu units anchor earlier (leaves_out ∷ acts) come within =
+    let below : done (acts ++ earlier) < length units =
+    slice_get_within units (done (acts ++ earlier)) come.1.0 come.1.1.due in
+    omega arith
+done_come max_pdu units anchor earlier (ends ∷ acts) come within = done_come max_pdu units anchor earlier acts come.0 within
+
+pub done_within : (info : BigInfo) (calls : List Call) (acts : List Act) (air : Air) → IsAirOf info calls acts air → done acts ≤ length (accepted calls)
+done_within info [] acts air is = let none : done acts ≡ 0 = ap done is.0 in omega arith
+done_within info (accept time octets ∷ calls) acts air is =
+    let before : done acts ≤ length (accepted calls) = done_within info calls acts air is in
+    omega (arith, length-append (accepted calls) (record { time = time; octets = octets } ∷ []))
+done_within info (lay anchor ∷ calls) acts air (earlier, before, own, is_before, event, acts_is, air_is) =
+    let within : done ((ends ∷ own) ++ earlier) ≤ length (accepted calls) =
+    done_come info.max_pdu (accepted calls) anchor earlier (ends ∷ own) event.come (done_within info calls earlier before is_before) in
+    subst (λ xs. done xs ≤ length (accepted calls)) (sym acts_is) within
+
+pub new_stands : (info : BigInfo) → StandsFor info [] [] (record { info = info; last = None; units = []; sent = 0 })
+new_stands info = record {
+  acts = [];
+  group = refl;
+  air_is = (refl, refl);
+  last = refl;
+  units = refl;
+  sent = refl;
+}
+
+pub accept_stands : (info : BigInfo) (calls : List Call) (air : Air) (sender : Sender) (time : ℕ) (octets : List ℕ)
+    → StandsFor info calls air sender → StandsFor info (accept time octets ∷ calls) air (with_unit sender time octets)
+accept_stands info calls air sender time octets stands = record {
+  acts = stands.acts;
+  group = stands.group;
+  air_is = stands.air_is;
+  last = refl;
+  units = ap (λ units. units ++ record { time = time; octets = octets } ∷ []) stands.units
+      ∙ sym (drop-append-le (done stands.acts) (accepted calls) (record { time = time; octets = octets } ∷ [])
+      (done_within info calls stands.acts air stands.air_is));
+  sent = stands.sent;
+}
+
+pub lay_stands : (info : BigInfo) (calls : List Call) (air : Air) (old new : Sender) (anchor : ℕ) (event : Laid) (own : List Act)
+    → (stands : StandsFor info calls air old) → IsEvent old.info (accepted calls) anchor stands.acts own
+    → event ≡ event_of (accepted calls) anchor stands.acts (ends ∷ own)
+    → new ≡ record old { units = drop (done (own ++ stands.acts)) (accepted calls); sent = sent (own ++ stands.acts) }
+    → (begun : ℕ) × StandsFor info (lay anchor ∷ calls) (record { event = event; begun = begun } ∷ air) new
+lay_stands info calls air old new anchor event own stands is event_is new_is = (
+  begun_by (ends ∷ own ++ stands.acts),
+  record {
+    acts = ends ∷ own ++ stands.acts;
+    group = ap (λ s. s.info) new_is ∙ stands.group;
+    air_is = (
+      stands.acts,
+      air,
+      own,
+      stands.air_is,
+      subst (λ i. IsEvent i (accepted calls) anchor stands.acts own) stands.group is,
+      refl,
+      ap (λ e. record { event = e; begun = begun_by (ends ∷ own ++ stands.acts) } ∷ air) event_is,
+    );
+    last = ap (λ s. s.last) new_is ∙ stands.last;
+    units = ap (λ s. s.units) new_is;
+    sent = ap (λ s. s.sent) new_is;
+  },
+)
+
+no_units : (unit : Timed) (units : List Timed) → unit ∷ units ≡ [] → ⊥
+no_units unit units nothing = cc
+
+-- a sender with one more unit
+pub accepted_sender : (info : BigInfo) (sent_now : ℕ) (units : List Timed) (unit : Timed) → IsSender info sent_now units
+    → IsSender info sent_now (units ++ unit ∷ [])
+accepted_sender info sent_now [] unit is =
+    let none : sent_now ≡ 0 = is.partly.none refl in
+    record {
+      framed = is.framed;
+      partly = record {
+        none = λ nothing. none;
+        first = λ first due. (omega arith, λ some. absurd (omega arith));
+      };
+    }
+accepted_sender info sent_now (other ∷ units) unit is = record {
+  framed = is.framed;
+  partly = record {
+    none = λ nothing. absurd (no_units other (units ++ unit ∷ []) nothing);
+    first = λ first due. is.partly.first first due;
+  };
+}

@@ -1,0 +1,52 @@
+use Rattle.std.proofs.Common.{◌≡◌, ◌<◌, ◌+◌, ◌-◌, ◌∙◌, sym, ap, subst, length, take, drop, get_or, None, Ok, vec_len, arith}
+use Rattle.std.specs.List.{flat_map}
+use Rattle.std.proofs.lemmas.List.{length-map}
+use Rattle.isoal_base.specs.Hearing.{read_as}
+use Rattle.isoal_framed.specs.Tokens.{segmented, tokens_of}
+use Rattle.isoal_framed.specs.State.Buffers.{run_in}
+use Rattle.isoal_framed.specs.State.Joining.{hands, run_after}
+use Rattle.isoal_framed.specs.State.Places.{entry_in, kept_of, octets_in}
+use Rattle.isoal_framed.specs.State.Streams.{stay_of}
+use Rattle.isoal_framed.specs.State.Windows.{HandsOn}
+use Rattle.isoal_framed.proofs.Rings.{turned_more, first_left, left_more}
+use Rattle.isoal_framed.proofs.Walks.{walked_more}
+use Rattle.isoal_framed.proofs.close.take_places.Goals as goal
+
+pub places-preserved : goal.places-preserved
+places-preserved g c =
+    let size : length (kept_of c.args.store.now.places) ≡ length c.args.store.now.places.ring.items =
+    length-map c.args.store.now.places.ring.items (entry_in c.args.store.now.places.max_pdu) in
+    let below : c.places.counter < length (kept_of c.args.store.now.places) = omega (arith, c.places-test.true, c.requires.count) in
+    let entry : read_as segmented c.args.stream.now.group.info.max_pdu c.pdu.result.now ≡ get_or (kept_of c.args.store.now.places) c.places.counter None =
+    ap (read_as segmented c.args.stream.now.group.info.max_pdu) c.pdu.ensures
+    ∙ ap (λ max_pdu. read_as segmented max_pdu (octets_in c.turn-place.result)) (sym (c.places.invariant.max_pdu ∙ c.requires.max_pdu))
+    ∙ c.turn-place.ensures.first
+    ∙ first_left (kept_of c.args.store.now.places) (kept_of c.places.store.places) c.places.counter c.places.invariant.kept below in
+    record {
+      places = c.turn-place.ensures.places ∙ c.places.invariant.places;
+      max_pdu = c.turn-place.ensures.max_pdu ∙ c.places.invariant.max_pdu;
+      room = c.take_pdu-handed.ensures.room ∙ c.places.invariant.room;
+      kept = turned_more (kept_of c.args.store.now.places) (kept_of c.places.store.places) (kept_of c.turn-place.new.self) c.places.counter c.args.count
+          c.places.invariant.kept below c.turn-place.ensures.kept;
+      walked = walked_more (vec_len c.args.store.now.joining.octets) c.args.stream.now.bis (run_in c.args.store.now.joining) (run_in c.places.store.joining) (run_in c.take_pdu-handed.new.joining)
+          (flat_map (tokens_of (stay_of c.args.stream.now) c.args.event) (take c.args.count (kept_of c.args.store.now.places)))
+          (flat_map (tokens_of (stay_of c.args.stream.now) c.args.event) (take (c.args.count - c.places.counter) (drop c.places.counter (kept_of c.args.store.now.places))))
+          (tokens_of (stay_of c.args.stream.now) c.args.event (get_or (kept_of c.args.store.now.places) c.places.counter None))
+          (flat_map (tokens_of (stay_of c.args.stream.now) c.args.event) (take (c.args.count - (c.places.counter + 1)) (drop (c.places.counter + 1) (kept_of c.args.store.now.places))))
+          (Ok tt) c.places.handed c.take_pdu-handed.result
+          (g.T.UnitTaker.calls c.args.taker.now) (g.T.UnitTaker.calls c.places.taker) (g.T.UnitTaker.calls c.take_pdu-handed.new.taker)
+          (g.T.UnitTaker.counts c.args.taker.now) (g.T.UnitTaker.counts c.places.taker) (g.T.UnitTaker.counts c.take_pdu-handed.new.taker)
+          c.places.invariant.walked
+          (left_more (tokens_of (stay_of c.args.stream.now) c.args.event) (kept_of c.args.store.now.places) c.places.counter (c.args.count - c.places.counter)
+          (c.args.count - (c.places.counter + 1)) below (omega (arith, c.places-test.true)))
+          (c.take_pdu-handed.ensures.run
+          ∙ ap (λ max_sdu. run_after max_sdu (run_in c.places.store.joining)
+          (tokens_of (stay_of c.args.stream.now) c.args.event (read_as segmented c.args.stream.now.group.info.max_pdu c.pdu.result.now))) c.places.invariant.room
+          ∙ ap (λ kept. run_after (vec_len c.args.store.now.joining.octets) (run_in c.places.store.joining) (tokens_of (stay_of c.args.stream.now) c.args.event kept)) entry)
+          (subst (λ kept. HandsOn (hands (vec_len c.args.store.now.joining.octets) c.args.stream.now.bis (run_in c.places.store.joining) (tokens_of (stay_of c.args.stream.now) c.args.event kept))
+          c.places.handed (g.T.UnitTaker.calls c.places.taker) (g.T.UnitTaker.calls c.take_pdu-handed.new.taker) c.take_pdu-handed.result) entry
+          (subst (λ max_sdu. HandsOn (hands max_sdu c.args.stream.now.bis (run_in c.places.store.joining)
+          (tokens_of (stay_of c.args.stream.now) c.args.event (read_as segmented c.args.stream.now.group.info.max_pdu c.pdu.result.now)))
+          c.places.handed (g.T.UnitTaker.calls c.places.taker) (g.T.UnitTaker.calls c.take_pdu-handed.new.taker) c.take_pdu-handed.result) c.places.invariant.room c.take_pdu-handed.ensures.hands))
+          c.take_pdu-handed.ensures.cause;
+    }

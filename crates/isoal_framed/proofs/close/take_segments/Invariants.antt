@@ -1,0 +1,15 @@
+use Rattle.std.proofs.Common.{◌≡◌, map, vec_len}
+use Rattle.isoal_framed.specs.Tokens.{token_of}
+use Rattle.isoal_framed.specs.State.Buffers.{run_in}
+use Rattle.isoal_framed.specs.State.Streams.{stay_of}
+use Rattle.isoal_framed.proofs.Walks.{Walked}
+use Rattle.isoal_framed.proofs.close.take_segments.Given as goal
+
+abbrev pub invariant-segments : goal.invariant-segments
+invariant-segments g l = record {
+  room : vec_len l.joining.octets ≡ vec_len l.initial.joining.octets;
+  walked : Walked (vec_len l.initial.joining.octets) l.stream.bis (run_in l.initial.joining) (run_in l.joining)
+      (map (token_of (stay_of l.stream) l.event) l.fn.segments) (map (token_of (stay_of l.stream) l.event) l.segment-iterator)
+      l.initial.handed l.handed (g.T.UnitTaker.calls l.initial.taker) (g.T.UnitTaker.calls l.taker)
+      (g.T.UnitTaker.counts l.initial.taker) (g.T.UnitTaker.counts l.taker);
+}

@@ -1,0 +1,18 @@
+use Rattle.std.proofs.Common.{◌∷◌, sym, subst}
+use Rattle.isoal_base.specs.Stays.{close}
+use Rattle.isoal_framed.specs.State.Windows.{Stands, HandsOver}
+use Rattle.isoal_framed.proofs.Closed.{close_stands, gains, owed_is}
+use Rattle.isoal_framed.proofs.framed_in.FramedIn.close.Goals as goal
+
+pub returns-clause-stands : goal.returns-clause-stands
+returns-clause-stands g c calls stands =
+    subst (Stands (close ∷ calls)) (sym c.hand_units.ensures.step)
+    (close_stands c.args.self.now c.hand_units.ensures.bounds calls stands)
+
+pub returns-clause-units : goal.returns-clause-units
+returns-clause-units g c calls stands =
+    subst (λ units. HandsOver units (g.T.UnitTaker.calls c.args.taker.now) (g.T.UnitTaker.calls c.hand_units.new.taker) c.hand_units.result)
+    (owed_is c.args.self.now c.hand_units.ensures.bounds calls stands) c.hand_units.ensures.hands
+
+pub returns-clause-gains : goal.returns-clause-gains
+returns-clause-gains g c calls stands = gains c.args.self.now c.hand_units.ensures.bounds calls stands

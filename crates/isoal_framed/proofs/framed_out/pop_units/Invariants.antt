@@ -1,0 +1,5 @@
+use Rattle.std.proofs.Common.{◌≡◌, drop}
+use Rattle.isoal_framed.proofs.framed_out.pop_units.Given as goal
+
+abbrev pub invariant-units : goal.invariant-units
+invariant-units l = l.queue.items ≡ drop l.counter l.initial.queue.items

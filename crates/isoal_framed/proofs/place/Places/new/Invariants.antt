@@ -1,0 +1,9 @@
+use Rattle.std.proofs.Common.{◌≡◌, map, replicate, None}
+use Rattle.isoal_framed.specs.State.Places.{entry_in}
+use Rattle.isoal_framed.proofs.place.Places.new.Given as goal
+
+abbrev pub invariant-places : goal.invariant-places
+invariant-places l = record {
+  capacity : l.ring.capacity ≡ l.count;
+  filled : map (entry_in l.max_pdu) l.ring.items ≡ replicate l.counter None;
+}

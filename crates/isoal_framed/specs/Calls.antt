@@ -1,0 +1,24 @@
+-- The calls that a sender of a framed stream took, the newest first (Core 5.2, volume 6 part G, section 2.2).
+use Rattle.std.specs.Prelude.{ℕ, List, [], ◌∷◌, ◌++◌, Option, Some, None}
+use Rattle.bcast_base.specs.declared.unit.Unit.{Unit as AudioUnit}
+
+-- a unit is accepted with its time in µs, or the next event is laid, which has this anchor in µs
+pub data Call : Type 0 where
+  accept : (time : ℕ) (octets : List ℕ) → Call
+  lay : (anchor : ℕ) → Call
+
+-- a unit with its time
+abbrev pub Timed : Type 0
+Timed = AudioUnit
+
+-- the units accepted, in the order of acceptance
+abbrev pub accepted : List Call → List Timed
+accepted [] = []
+accepted (accept time octets ∷ earlier) = accepted earlier ++ record { time = time; octets = octets } ∷ []
+accepted (lay anchor ∷ earlier) = accepted earlier
+
+-- the time of the last one
+abbrev pub last_time : List Call → Option ℕ
+last_time [] = None
+last_time (accept time octets ∷ earlier) = Some time
+last_time (lay anchor ∷ earlier) = last_time earlier

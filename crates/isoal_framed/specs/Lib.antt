@@ -1,0 +1,10 @@
+pub mod Air
+pub mod Calls
+pub mod Histories
+pub mod Places
+pub mod Sends
+pub mod State
+pub mod Struck
+pub mod Tokens
+pub mod Units
+pub mod Worked

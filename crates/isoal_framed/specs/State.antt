@@ -1,0 +1,12 @@
+-- How the states of a receiver and of a sender stand for their histories.
+pub mod Buffers
+pub mod Greedy
+pub mod Joining
+pub mod Nexts
+pub mod Packings
+pub mod Places
+pub mod Receivers
+pub mod Runs
+pub mod Senders
+pub mod Streams
+pub mod Windows

@@ -1,0 +1,99 @@
+//! The tokens of an event, number by number.
+ghost use Rattle.std.specs.Prelude.{◌≡◌, ◌≤◌, ◌<◌, ◌+◌, ◌^◌, ◌++◌, length, map, take, drop, replicate, vec_len, None};
+ghost use Rattle.std.specs.List.{flat_map};
+ghost use Rattle.isoal_base.specs.Hearing.{read_as};
+ghost use Rattle.isoal_framed.specs.Tokens.{segmented, token_of, tokens_of};
+ghost use Rattle.isoal_framed.specs.State.Buffers.{run_in};
+ghost use Rattle.isoal_framed.specs.State.Joining.{hands, run_after};
+ghost use Rattle.isoal_framed.specs.State.Places.{kept_of};
+ghost use Rattle.isoal_framed.specs.State.Streams.{stay_of};
+ghost use Rattle.isoal_framed.specs.State.Windows.{HandsOn, CausedOn};
+
+use crate::joining::Joining;
+use crate::store::Store;
+use crate::stream::Stream;
+use iso_pdu::{Pdu, Segments, read_pdu};
+use unit_outlets::{TakerFault, UnitTaker};
+
+/// Takes the tokens of the first `count` places, which are numbers of this event, and puts these places, empty, at the
+/// end of the window.
+pub(crate) fn take_places<T: UnitTaker>(
+    stream: &Stream,
+    event: u64,
+    count: u8,
+    store: &mut Store,
+    taker: &mut T,
+) -> Result<(), TakerFault>
+    requires first { stream.now.first ≤ event }
+    requires event { event < 2 ^ 39 }
+    requires max_pdu { store.old.places.max_pdu ≡ stream.now.group.info.max_pdu }
+    requires count { count ≤ length store.old.places.ring.items }
+    ensures places { length store.new.places.ring.items ≡ length store.old.places.ring.items }
+    ensures max_pdu { store.new.places.max_pdu ≡ store.old.places.max_pdu }
+    ensures room { vec_len store.new.joining.octets ≡ vec_len store.old.joining.octets }
+    ensures kept { kept_of store.new.places ≡ drop count (kept_of store.old.places) ++ replicate count None }
+    ensures run { run_in store.new.joining ≡ run_after (vec_len store.old.joining.octets) (run_in store.old.joining) (flat_map (tokens_of (stay_of stream.now) event) (take count (kept_of store.old.places))) }
+    ensures hands { HandsOn (hands (vec_len store.old.joining.octets) stream.now.bis (run_in store.old.joining) (flat_map (tokens_of (stay_of stream.now) event) (take count (kept_of store.old.places)))) (Ok tt) (T.calls taker.old) (T.calls taker.new) result }
+    ensures cause { CausedOn (Ok tt) (T.counts taker.old) (T.counts taker.new) result }
+{
+    let mut handed = Ok(());
+    'places: for _ in 0..count {
+        let place = store.places.turn();
+        handed = take_pdu(
+            stream,
+            event,
+            place.pdu(),
+            stream.group.info.max_pdu,
+            &mut store.joining,
+            handed,
+            taker,
+        );
+    }
+    handed
+}
+
+/// Takes the tokens of a number: the segments of what is kept of it, or that nothing is.
+fn take_pdu<T: UnitTaker>(
+    stream: &Stream,
+    event: u64,
+    pdu: &[u8],
+    max_pdu: u8,
+    joining: &mut Joining,
+    so_far: Result<(), TakerFault>,
+    taker: &mut T,
+) -> Result<(), TakerFault>
+    requires first { stream.now.first ≤ event }
+    requires event { event < 2 ^ 39 }
+    ensures room { vec_len joining.new.octets ≡ vec_len joining.old.octets }
+    ensures run { run_in joining.new ≡ run_after (vec_len joining.old.octets) (run_in joining.old) (tokens_of (stay_of stream.now) event (read_as segmented max_pdu pdu.now)) }
+    ensures hands { HandsOn (hands (vec_len joining.old.octets) stream.now.bis (run_in joining.old) (tokens_of (stay_of stream.now) event (read_as segmented max_pdu pdu.now))) so_far (T.calls taker.old) (T.calls taker.new) result }
+    ensures cause { CausedOn so_far (T.counts taker.old) (T.counts taker.new) result }
+{
+    match read_pdu(pdu, max_pdu) {
+        Ok(Pdu::Framed(segments)) => take_segments(stream, event, segments, joining, so_far, taker),
+        _ => joining.miss(stream.bis, so_far, taker),
+    }
+}
+
+/// Takes segments, one behind the other.
+fn take_segments<T: UnitTaker>(
+    stream: &Stream,
+    event: u64,
+    segments: Segments<'_>,
+    joining: &mut Joining,
+    so_far: Result<(), TakerFault>,
+    taker: &mut T,
+) -> Result<(), TakerFault>
+    requires first { stream.now.first ≤ event }
+    requires event { event < 2 ^ 39 }
+    ensures room { vec_len joining.new.octets ≡ vec_len joining.old.octets }
+    ensures run { run_in joining.new ≡ run_after (vec_len joining.old.octets) (run_in joining.old) (map (token_of (stay_of stream.now) event) segments.entry) }
+    ensures hands { HandsOn (hands (vec_len joining.old.octets) stream.now.bis (run_in joining.old) (map (token_of (stay_of stream.now) event) segments.entry)) so_far (T.calls taker.old) (T.calls taker.new) result }
+    ensures cause { CausedOn so_far (T.counts taker.old) (T.counts taker.new) result }
+{
+    let mut handed = so_far;
+    'segments: for segment in segments {
+        handed = joining.take(stream, event, segment, handed, taker);
+    }
+    handed
+}

@@ -1,0 +1,182 @@
+ghost use Rattle.std.specs.Prelude.{◌≡◌, ◌≤◌, ◌+◌, ◌^◌, ◌++◌, ◌∷◌, [], List, ℕ, IsTrue, ◌↔◌, length, drop, Some, None, IfOk, IfErr, OnOk, OnErr};
+ghost use Rattle.big_info.specs.declared.info.BigInfo.{BigInfo};
+ghost use Rattle.isoal_base.specs.Air.{Air, laid_in};
+ghost use Rattle.isoal_framed.specs.Air.{IsEvent, event_of, IsFramedAir};
+ghost use Rattle.isoal_framed.specs.Calls.{Call, Timed, accept, lay};
+ghost use Rattle.isoal_framed.specs.Places.{Act, ends, done, sent as sent_by, room};
+ghost use Rattle.isoal_framed.specs.State.Senders.{Above, NotPast, MayWait, PutFaultIs, StandsFor, waiting, with_unit};
+
+use crate::packing::{Packing, pack_pdus};
+use bcast_base::{Memory, Octets, Times, Unit};
+use big_info::Group;
+use iso_pdu::FramedPdu;
+use isoal_base::{EventLaid, PutFault};
+use std::alloc::Global;
+use std::collections::VecDeque;
+use std::marker::Model;
+
+/// The most units that wait for their start.
+const BACKLOG: usize = 16;
+
+/// The sender of a framed stream (Core 5.2, volume 6 part G, section 2.2). Its units fill the PDUs of the events that are
+/// laid one behind the other, each with a TimeOffset from its time to the anchor of the event in which it starts.
+#[derive(Drop)]
+pub struct FramedOut {
+    alloc: Global,
+    group: Group,
+    queue: VecDeque<Unit>,
+    sent: usize,
+    last: Option<u64>,
+}
+
+impl Model for FramedOut {
+    ghost use Rattle.isoal_framed.specs.State.Senders.{Sender, IsSender};
+
+    ghost Value = { Sender };
+
+    ghost view = { λ s. record { info = s.group.info; last = s.last; units = s.queue.items; sent = s.sent } };
+
+    ghost invariant = { λ s. IsSender s.group.info s.sent s.queue.items };
+}
+
+impl FramedOut {
+    /// A sender before its first event. It takes no memory.
+    pub fn new(alloc: Global, group: &Group) -> FramedOut
+        requires { group.now.info.framing ≡ 1 }
+        ensures empty { result ≡ record { info = group.now.info; last = None; units = []; sent = 0 } }
+        ensures stands { StandsFor group.now.info [] [] result }
+    {
+        FramedOut {
+            alloc,
+            group: *group,
+            queue: VecDeque::new(alloc),
+            sent: 0,
+            last: None,
+        }
+    }
+
+    /// Gives a unit with its time in µs to the stream; it waits for its start.
+    ///
+    /// It is refused as TooLong where it has more than Max_SDU octets, else as TimeOrder where its time is not above that
+    /// of the last accepted unit or is past the next anchor, and else as Backlog where 16 units wait. A refused unit
+    /// changes nothing.
+    pub fn put(&mut self, time: u64, next_anchor: u64, octets: &[u8]) -> Result<(), PutFault>
+        ensures may_wait { OnOk result (MayWait self.old (Some next_anchor) time octets.now) }
+        ensures ok { OnOk result (self.new ≡ with_unit self.old time octets.now) }
+        ensures fault { IfErr result (λ fault. PutFaultIs self.old (Some next_anchor) time octets.now fault) }
+        ensures err { OnErr result (self.new ≡ self.old) }
+        ensures stands { OnOk result ((info : BigInfo) (calls : List Call) (air : Air) → StandsFor info calls air self.old → StandsFor info (accept time octets.now ∷ calls) air self.new) }
+    {
+        self.accept(time, Some(next_anchor), octets)
+    }
+
+    /// Gives a unit as `put` does, whose time may also be past the next anchor.
+    pub fn put_ahead(&mut self, time: u64, octets: &[u8]) -> Result<(), PutFault>
+        ensures may_wait { OnOk result (MayWait self.old None time octets.now) }
+        ensures ok { OnOk result (self.new ≡ with_unit self.old time octets.now) }
+        ensures fault { IfErr result (λ fault. PutFaultIs self.old None time octets.now fault) }
+        ensures err { OnErr result (self.new ≡ self.old) }
+        ensures stands { OnOk result ((info : BigInfo) (calls : List Call) (air : Air) → StandsFor info calls air self.old → StandsFor info (accept time octets.now ∷ calls) air self.new) }
+    {
+        self.accept(time, None, octets)
+    }
+
+    fn accept(&mut self, time: u64, limit: Option<u64>, octets: &[u8]) -> Result<(), PutFault>
+        ensures may_wait { OnOk result (MayWait self.old limit time octets.now) }
+        ensures ok { OnOk result (self.new ≡ with_unit self.old time octets.now) }
+        ensures fault { IfErr result (λ fault. PutFaultIs self.old limit time octets.now fault) }
+        ensures err { OnErr result (self.new ≡ self.old) }
+    {
+        if octets.len() > usize::from(self.group.info.max_sdu) {
+            return Err(PutFault::TooLong);
+        }
+        if !is_above(self.last, time) || is_past(limit, time) {
+            return Err(PutFault::TimeOrder);
+        }
+        if self.waiting() >= BACKLOG {
+            return Err(PutFault::Backlog);
+        }
+        let unit = Unit {
+            time,
+            octets: Octets::copy(self.alloc, octets)?,
+        };
+        self.queue.push_back(unit)?;
+        self.last = Some(time);
+        Ok(())
+    }
+
+    /// How many units wait for their start.
+    fn waiting(&self) -> usize
+        ensures { result ≡ waiting self.now }
+    {
+        if self.sent == 0 {
+            self.queue.len()
+        } else {
+            self.queue.len() - 1
+        }
+    }
+
+    /// Lays the next event, which has this anchor in µs: its PDUs are filled one behind the other with the units that
+    /// wait. A unit whose time is past the anchor doesn't start in it, and it and all behind it wait. A unit whose
+    /// TimeOffset would pass 24 bits as its turn comes is left out as stale. Want of memory changes nothing.
+    pub fn pack_event(&mut self, anchor: u64) -> Result<EventLaid, Memory>
+        ensures err { OnErr result (self.new ≡ self.old) }
+        ensures count { IfOk result (λ event. length event.pdus ≡ self.old.info.bn) }
+        ensures laid { (info : BigInfo) (calls : List Call) (air : Air) → StandsFor info calls air self.old
+            → IfOk result (λ event. (begun : ℕ) × StandsFor info (lay anchor ∷ calls) (record { event = laid_in event; begun = begun } ∷ air) self.new) }
+    {
+        self.pack_next(anchor)
+    }
+
+    fn pack_next(&mut self, anchor: u64) -> Result<EventLaid, Memory>
+        ensures err { OnErr result (self.new ≡ self.old) }
+        ensures count { IfOk result (λ event. length event.pdus ≡ self.old.info.bn) }
+        ensures laid { (units : List Timed) (earlier : List Act) → self.old.units ≡ drop (done earlier) units → self.old.sent ≡ sent_by earlier
+            → room self.old.info.max_pdu earlier ≡ self.old.info.max_pdu
+            → IfOk result (λ event. (own : List Act) × IsEvent self.old.info units anchor earlier own × (laid_in event ≡ event_of units anchor earlier (ends ∷ own))
+            × (self.new ≡ record self.old { units = drop (done (own ++ earlier)) units; sent = sent_by (own ++ earlier) })) }
+    {
+        let mut packing = Packing {
+            pdu: FramedPdu::new(self.group.info.max_pdu),
+            past: 0,
+            sent: self.sent,
+            stale: Times::new(self.alloc),
+        };
+        let pdus = pack_pdus(self.alloc, &self.group, &self.queue, anchor, &mut packing)?;
+        pop_units(&mut self.queue, packing.past);
+        self.sent = packing.sent;
+        Ok(EventLaid {
+            pdus,
+            stale: packing.stale,
+        })
+    }
+}
+
+/// Takes the first `count` units out of the queue.
+fn pop_units(queue: &mut VecDeque<Unit>, count: usize)
+    ensures { queue.new.items ≡ drop count queue.old.items }
+{
+    'units: for _ in 0..count {
+        let _ = queue.pop_front();
+    }
+}
+
+/// Whether a time is above the last one, if there is one.
+fn is_above(last: Option<u64>, time: u64) -> bool
+    ensures { IsTrue result ↔ Above last time }
+{
+    match last {
+        Some(last) => last < time,
+        None => true,
+    }
+}
+
+/// Whether a time is past a limit, if there is one.
+fn is_past(limit: Option<u64>, time: u64) -> bool
+    ensures { IsTrue result ↔ (¬ NotPast limit time) }
+{
+    match limit {
+        Some(limit) => limit < time,
+        None => false,
+    }
+}

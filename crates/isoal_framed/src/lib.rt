@@ -1,0 +1,27 @@
+//! The sender and the receiver of a framed stream: units and their segments.
+#![tactic(auto)]
+
+mod air_laws;
+mod close;
+mod framed_in;
+mod framed_out;
+mod hand;
+mod in_call;
+mod joining;
+mod keep;
+mod laws;
+mod next;
+mod packing;
+mod place;
+mod run;
+mod store;
+mod stream;
+
+pub use air_laws::{
+    a_framed_air_sends_units, a_sender_lays_a_framed_air, one_framed_air, worked_events,
+};
+pub use framed_in::FramedIn;
+pub use framed_out::FramedOut;
+pub use in_call::InCall;
+pub use laws::{fate_is_decided, framed_units_are_struck};
+pub use run::run_calls;

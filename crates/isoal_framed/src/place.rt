@@ -1,0 +1,118 @@
+//! The places of a window, in a ring from the first number of the open event on.
+ghost use Rattle.std.specs.Prelude.{◌≡◌, ◌≤◌, ◌<◌, ◌+◌, ◌^◌, [], ◌∷◌, ◌++◌, length, drop, replicate, not, is_some, slice_set, slice_index_or, Some, None, IfOk};
+ghost use Rattle.isoal_base.specs.Hearing.{read_as};
+ghost use Rattle.isoal_framed.specs.Tokens.{segmented};
+
+use bcast_base::Memory;
+use circular_buffer::HeapCircularBuffer;
+use iso_pdu::{Pdu, read_pdu};
+use std::alloc::Global;
+
+/// What is kept of a payload number: its PDU, or no octets.
+#[derive(Clone, Copy)]
+pub(crate) struct Place {
+    octets: [u8; 255],
+    count: u8,
+}
+
+impl Place {
+    ghost use Rattle.isoal_framed.specs.State.Places.{octets_in};
+
+    /// A place at which nothing is kept.
+    fn empty() -> Place
+        ensures { octets_in result ≡ [] }
+    {
+        Place {
+            octets: [0; 255],
+            count: 0,
+        }
+    }
+
+    /// The PDU.
+    pub(crate) fn pdu(&self) -> &[u8]
+        ensures { result.now ≡ octets_in self.now }
+    {
+        &self.octets[..usize::from(self.count)]
+    }
+
+    /// Keeps a PDU.
+    fn keep(&mut self, pdu: &[u8])
+        requires { length pdu.now ≤ 253 }
+        ensures { octets_in self.new ≡ pdu.now }
+    {
+        self.octets[..pdu.len()].copy_from_slice(pdu);
+        self.count = pdu.len() as u8;
+    }
+}
+
+/// Places for the PDUs of a window.
+#[derive(Drop)]
+pub(crate) struct Places {
+    pub(crate) max_pdu: u8,
+    pub(crate) ring: HeapCircularBuffer<Place>,
+    ghost full: { length ring.items ≡ ring.capacity },
+}
+
+impl Places {
+    ghost use Rattle.isoal_framed.specs.State.Places.{entry_in, kept_of};
+
+    /// So many places, all empty.
+    pub(crate) fn new(alloc: Global, count: usize, max_pdu: u8) -> Result<Places, Memory>
+        ensures places { IfOk result (λ places. length places.ring.items ≡ count) }
+        ensures max_pdu { IfOk result (λ places. places.max_pdu ≡ max_pdu) }
+        ensures empty { IfOk result (λ places. kept_of places ≡ replicate count None) }
+    {
+        let mut ring = HeapCircularBuffer::with_capacity(alloc, count)?;
+        'places: for _ in 0..count {
+            let _ = ring.push_back(Place::empty());
+        }
+        Ok(Places { max_pdu, ring })
+    }
+
+    /// Whether nothing is kept at this place.
+    pub(crate) fn is_empty(&self, index: usize) -> bool
+        requires { index < length self.now.ring.items }
+        ensures { result ≡ not (is_some (slice_index_or (kept_of self.now) index None)) }
+    {
+        match self.ring.get(index) {
+            Some(place) => !is_framed(place.pdu(), self.max_pdu),
+            None => true,
+        }
+    }
+
+    /// Keeps a PDU at this place.
+    pub(crate) fn put(&mut self, index: usize, pdu: &[u8])
+        requires index { index < length self.old.ring.items }
+        requires room { length pdu.now ≤ 253 }
+        ensures places { length self.new.ring.items ≡ length self.old.ring.items }
+        ensures max_pdu { self.new.max_pdu ≡ self.old.max_pdu }
+        ensures kept { kept_of self.new ≡ slice_set (kept_of self.old) index (read_as segmented self.old.max_pdu pdu.now) }
+    {
+        if let Some(place) = self.ring.get_mut(index) {
+            place.keep(pdu);
+        }
+    }
+
+    /// Takes the first place out, and puts it back, empty, at the end.
+    pub(crate) fn turn(&mut self) -> Place
+        requires { 0 < length self.old.ring.items }
+        ensures places { length self.new.ring.items ≡ length self.old.ring.items }
+        ensures max_pdu { self.new.max_pdu ≡ self.old.max_pdu }
+        ensures first { entry_in self.old.max_pdu result ≡ slice_index_or (kept_of self.old) 0 None }
+        ensures kept { kept_of self.new ≡ drop 1 (kept_of self.old) ++ None ∷ [] }
+    {
+        let place = match self.ring.pop_front() {
+            Some(place) => place,
+            None => Place::empty(),
+        };
+        let _ = self.ring.push_back(Place::empty());
+        place
+    }
+}
+
+/// Whether the octets are a framed PDU.
+fn is_framed(pdu: &[u8], max_pdu: u8) -> bool
+    ensures { result ≡ is_some (read_as segmented max_pdu pdu.now) }
+{
+    matches!(read_pdu(pdu, max_pdu), Ok(Pdu::Framed(_)))
+}

@@ -1,0 +1,128 @@
+-- The whole value: what is left behind the records, and the records in memory of their own.
+use Rattle.std.proofs.Common.{◌≡◌, ℕ, ◌≤◌, Bool, true, false, cond, eqb, ltb, List, [], ◌∷◌, length, Option, Some, None, Result, Ok, Err, refl, sym, ap, subst, ◌∙◌}
+use Rattle.std.specs.Prelude.{IsOk, IfOk}
+use Rattle.std.specs.Result.{result_err}
+use Rattle.octet_fields.specs.Reading.{octet_in, place_in}
+use Rattle.octet_fields.specs.Spelling.{IsOctets}
+use Rattle.pacs_records.specs.declared.fault.PacFault.{PacFault}
+use Rattle.pacs_records.specs.declared.fault.PacFault.TheVariants.{TooLong, Short, Ltv, Trailing, Memory}
+use Rattle.pacs_records.specs.declared.record.PacRecord.{PacRecord}
+use Rattle.pacs_records.specs.Layout.{greatest_value}
+use Rattle.pacs_records.specs.Reading.{◌>>=◌, Fails, field_at, records_in, list_of, rest_of, value_in}
+use Rattle.pacs_records.proofs.Fields.{value_again}
+use Rattle.pacs_records.proofs.Stops.{value_stops}
+
+-- the records, where no octet is left behind them
+abbrev pub ending : List ℕ → List PacRecord × List ℕ → Result (List PacRecord) PacFault
+ending octets x = cond (eqb (length x.1) 0) (Ok x.0) (Err (Trailing (place_in octets x.1)))
+
+-- what the value is behind the count
+pub behind_count : (octets : List ℕ) (count : ℕ) (from : List ℕ) → ltb greatest_value (length octets) ≡ false → octet_in octets ≡ Some (count, from)
+    → value_in octets ≡ (records_in octets count from >>= ending octets)
+unfolding value_in
+behind_count octets count from small first = rw (small, first) refl
+
+failed_by : (octets : List ℕ) (read : Result (List PacRecord × List ℕ) PacFault) (fault : PacFault) → rest_of read ≡ Err fault → result_err (read >>= ending octets) ≡ Some fault
+failed_by octets (Ok x) fault e = absurd cc
+failed_by octets (Err other) fault e = ap result_err e
+
+ended_by : (octets : List ℕ) (read : Result (List PacRecord × List ℕ) PacFault) (rest : List ℕ) → rest_of read ≡ Ok rest
+    → result_err (read >>= ending octets) ≡ cond (eqb (length rest) 0) None (Some (Trailing (place_in octets rest)))
+ended_by octets (Ok x) rest e = test_of (eqb (length x.1) 0) x.0 (Trailing (place_in octets x.1))
+    ∙ ap (λ (r : List ℕ). cond (eqb (length r) 0) None (Some (Trailing (place_in octets r)))) (ok_same x.1 rest e)
+  where
+    ok_same : (a b : List ℕ) → (let r : List ℕ → Result (List ℕ) PacFault = λ z. Ok z in r a ≡ r b) → a ≡ b
+    ok_same a b h = cc
+
+    test_of : (b : Bool) (records : List PacRecord) (fault : PacFault) → result_err (cond {A = Result (List PacRecord) PacFault} b (Ok records) (Err fault)) ≡ cond b None (Some fault)
+    test_of true records fault = refl
+    test_of false records fault = refl
+ended_by octets (Err fault) rest e = absurd cc
+
+pub records_failed : (octets : List ℕ) (count : ℕ) (from : List ℕ) (fault : PacFault) → ltb greatest_value (length octets) ≡ false → octet_in octets ≡ Some (count, from)
+    → rest_of (records_in octets count from) ≡ Err fault → Some fault ≡ result_err (value_in octets)
+records_failed octets count from fault small first e =
+    sym (ap result_err (behind_count octets count from small first) ∙ failed_by octets (records_in octets count from) fault e)
+
+pub records_ended : (octets : List ℕ) (count : ℕ) (from rest : List ℕ) → ltb greatest_value (length octets) ≡ false → octet_in octets ≡ Some (count, from)
+    → rest_of (records_in octets count from) ≡ Ok rest → result_err (value_in octets) ≡ cond (eqb (length rest) 0) None (Some (Trailing (place_in octets rest)))
+records_ended octets count from rest small first e =
+    ap result_err (behind_count octets count from small first) ∙ ended_by octets (records_in octets count from) rest e
+
+-- ---- octets that are a value
+
+not_long : (b : Bool) (read : Result (List PacRecord) PacFault) → IsOk (cond b (Err TooLong) read) → b ≡ false
+not_long true read ok = absurd cc
+not_long false read ok = refl
+
+pub is_short : (octets : List ℕ) → IsOk (value_in octets) → ltb greatest_value (length octets) ≡ false
+unfolding value_in
+is_short octets ok = not_long (ltb greatest_value (length octets)) (field_at 0 (octet_in octets) >>= λ count. records_in octets count.0 count.1 >>= ending octets) ok
+
+pub has_count : (octets : List ℕ) → IsOk (value_in octets) → octet_in octets ≡ None → ⊥
+unfolding value_in
+has_count [] ok none = cc
+has_count (first ∷ octets) ok none = cc
+
+read_ok : (octets : List ℕ) (read : Result (List PacRecord × List ℕ) PacFault) → IsOk (read >>= ending octets) → IsOk read
+read_ok octets (Ok x) ok = refl
+read_ok octets (Err fault) ok = absurd cc
+
+pub records_ok : (octets : List ℕ) (count : ℕ) (from : List ℕ) → octet_in octets ≡ Some (count, from) → IsOk (value_in octets) → IsOk (records_in octets count from)
+records_ok octets count from first ok =
+    read_ok octets (records_in octets count from) (subst (λ (r : Result (List PacRecord) PacFault). IsOk r) (behind_count octets count from (is_short octets ok) first) ok)
+
+list_is : (octets : List ℕ) (read : Result (List PacRecord × List ℕ) PacFault) (records : List PacRecord) → IsOk (read >>= ending octets) → list_of read ≡ Ok records
+    → (read >>= ending octets) ≡ Ok records
+list_is octets (Ok x) records ok e = by_test (eqb (length x.1) 0) (Trailing (place_in octets x.1)) ok
+  where
+    by_test : (b : Bool) (fault : PacFault) → IsOk (cond {A = Result (List PacRecord) PacFault} b (Ok x.0) (Err fault)) → cond b (Ok x.0) (Err fault) ≡ Ok records
+    by_test true fault h = e
+    by_test false fault h = absurd cc
+list_is octets (Err fault) records ok e = absurd cc
+
+pub value_is : (octets : List ℕ) (count : ℕ) (from : List ℕ) (records : List PacRecord) → octet_in octets ≡ Some (count, from) → IsOk (value_in octets)
+    → list_of (records_in octets count from) ≡ Ok records → value_in octets ≡ Ok records
+value_is octets count from records first ok e =
+    let whole = behind_count octets count from (is_short octets ok) first in
+    whole ∙ list_is octets (records_in octets count from) records (subst (λ (r : Result (List PacRecord) PacFault). IsOk r) whole ok) e
+
+-- ---- what the call promises
+
+ok_by : (read : Result (List PacRecord) PacFault) → result_err read ≡ None → IsOk read
+ok_by (Ok records) e = refl
+ok_by (Err fault) e = absurd cc
+
+pub checked_ok : (octets : List ℕ) → None ≡ result_err (value_in octets) → IsOk (value_in octets)
+checked_ok octets e = ok_by (value_in octets) (sym e)
+
+err_by : (read : Result (List PacRecord) PacFault) (fault : PacFault) → Some fault ≡ result_err read → read ≡ Err fault
+err_by (Ok records) fault e = absurd cc
+err_by (Err other) fault e = ap (λ (f : PacFault). Err f) (some_same other fault (sym e))
+  where
+    some_same : (a b : PacFault) → (let r : PacFault → Option PacFault = λ z. Some z in r a ≡ r b) → a ≡ b
+    some_same a b h = cc
+
+-- reading gives no want of memory
+no_wants : (octets : List ℕ) → IsOctets octets → value_in octets ≡ Err Memory → ⊥
+no_wants octets fits e =
+    let value = value_stops Memory octets fits e in
+    ok_no value.0 (sym (value_again octets value.0 value.1) ∙ e)
+  where
+    ok_no : (records : List PacRecord) → (let r : Result (List PacRecord) PacFault = Ok records in r ≡ Err Memory) → ⊥
+    ok_no records h = cc
+
+refuses : (octets : List ℕ) (fault : PacFault) → IsOctets octets → value_in octets ≡ Err fault → Fails fault (value_in octets)
+refuses octets TooLong fits e = e
+refuses octets (Short place) fits e = e
+refuses octets (Ltv place bad) fits e = e
+refuses octets (Trailing place) fits e = e
+refuses octets Memory fits e = absurd (no_wants octets fits e)
+
+pub refused : (octets : List ℕ) (fault : PacFault) → IsOctets octets → Some fault ≡ result_err (value_in octets) → Fails fault (value_in octets)
+refused octets fault fits e = refuses octets fault fits (err_by (value_in octets) fault e)
+
+pub owned : {M : Type 0} (octets : List ℕ) (count : ℕ) (from : List ℕ) (result : Result (List PacRecord) M) → octet_in octets ≡ Some (count, from) → IsOk (value_in octets)
+    → IfOk result (λ records. list_of (records_in octets count from) ≡ Ok records) → IfOk result (λ records. value_in octets ≡ Ok records)
+owned octets count from (Ok records) first ok h = value_is octets count from records first ok h
+owned octets count from (Err wants) first ok h = tt

@@ -1,0 +1,7 @@
+use Rattle.std.proofs.Common.{◌-◌}
+use Rattle.pacs_records.specs.Reading.{records_in, rest_of}
+use Rattle.pacs_records.proofs.Loop.{Left}
+use Rattle.pacs_records.proofs.reading.records_end.Given as goal
+
+abbrev pub invariant-loop : goal.invariant-loop
+invariant-loop l = Left l.whole (l.count - l.counter) l.rest (rest_of (records_in l.whole l.count l.from))
