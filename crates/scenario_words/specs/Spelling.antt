@@ -3,7 +3,7 @@ use Rattle.std.specs.Prelude.{◌≡◌, ◌≢◌, ◌≤◌, ◌⊎◌, ℕ, �
 use Rattle.hex.specs.Hex.{decode_of}
 use Rattle.bcast_base.specs.Numbers.{Le}
 use Rattle.bass_operations.specs.declared.wishes.Wish.{Wish}
-use Rattle.ltv_codec.specs.Reading.{AreLtvs}
+use Rattle.ltv_codec.specs.Reading.{bad_of}
 use Rattle.scenario_words.specs.Places.{WordPlace, between, framing_word, time_up_to, octets_up_to, octets_exactly, number_in_octets, list_up_to, Place, one}
 use Rattle.scenario_words.specs.Places.{perhaps, rising, wishes, WordValue, PlaceValue, most_wishes, wishes_octets}
 use Rattle.scenario_words.specs.Reading.{with_stream}
@@ -13,7 +13,7 @@ abbrev pub SpellsOctets : ℕ → List ℕ → List ℕ → Type 0
 SpellsOctets most octets word =
     ((octets ≡ []) × (word ≡ codes "-")) ⊎ ((word ≢ []) × (decode_of word ≡ Ok octets) × (length octets ≤ most))
 
--- the word spells the value at the place
+-- the word spells the value at the place; octets with no bad length octet are an LTV list
 abbrev pub SpellsWord : (place : WordPlace) → WordValue place → List ℕ → Type 0
 SpellsWord (between least greatest) n word = (word ≡ decimal n) × (least ≤ n) × (n ≤ greatest)
 SpellsWord framing_word n word = ((n ≡ 0) × (word ≡ codes "unframed")) ⊎ ((n ≡ 1) × (word ≡ codes "framed"))
@@ -23,7 +23,7 @@ SpellsWord (octets_up_to most) octets word = SpellsOctets most octets word
 SpellsWord (octets_exactly count) octets word = (decode_of word ≡ Ok octets) × (length octets ≡ count)
 SpellsWord (number_in_octets count) n word =
     (octets : List ℕ) × (decode_of word ≡ Ok octets) × (length octets ≡ count) × Le n octets
-SpellsWord (list_up_to most) octets word = SpellsOctets most octets word × AreLtvs octets
+SpellsWord (list_up_to most) octets word = SpellsOctets most octets word × (bad_of octets ≡ None)
 
 -- each index lies from a least one to 31, and above the one before
 abbrev pub Rising : ℕ → List ℕ → Type 0
