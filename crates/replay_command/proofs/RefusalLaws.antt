@@ -16,8 +16,8 @@ use Rattle.transcript_text.specs.declared.refusal.Refusal.{Refusal}
 use Rattle.transcript_text.specs.declared.refusal.Refusal.TheVariants.{AfterEnd, Order, BadGroup, IdentTwice, NoSuchSink, SinkTwice, NoOutlet, NoSuchBis, NotBuilt, NotOnAir, NoEnd}
 use Rattle.scenario_text.specs.declared.step.Step.{Step}
 use Rattle.scenario_text.specs.declared.step.Step.TheVariants as kinds
-use Rattle.scenario_text.specs.declared.fault.LineFault.{LineFault}
-use Rattle.scenario_text.specs.declared.fault.LineFault.TheVariants as misread
+use Rattle.scenario_words.specs.declared.fault.LineFault.{LineFault}
+use Rattle.scenario_words.specs.declared.fault.LineFault.TheVariants as misread
 use Rattle.scenario_text.specs.Steps.{read_of}
 use Rattle.scenario_history.specs.Steps.{chosen_steps, version_of, is_over, sinks_made}
 use Rattle.scenario_history.specs.Source.{setup_of, source_calls, performed}
@@ -85,10 +85,7 @@ other_of_sinks boxes steps (kinds.Start first) = tt
 other_of_sinks boxes steps (kinds.Unit bis time octets) = tt
 other_of_sinks boxes steps kinds.Event = tt
 other_of_sinks boxes steps (kinds.Sniff back bis subevent) = tt
-other_of_sinks boxes steps (kinds.Scenario version) = tt
-other_of_sinks boxes steps (kinds.Source source) = tt
-other_of_sinks boxes steps kinds.Stop = tt
-other_of_sinks boxes steps kinds.End = tt
+other_of_sinks boxes steps _ = tt
 
 other_of_source : (version : ℕ) (own : List Step) (step : Step) → OtherThan (source_refusal airs_of version own step)
 other_of_source version own (kinds.Start first) = other_map BadGroup other_group _
@@ -103,10 +100,7 @@ other_of_source version own (kinds.Group framing origin delay iso sdu max_sdu ma
 other_of_source version own (kinds.Ident address_type address sid broadcast_id) = tt
 other_of_source version own (kinds.Sink sink streams slots mtu) = tt
 other_of_source version own (kinds.Drop sink) = tt
-other_of_source version own (kinds.Scenario v) = tt
-other_of_source version own (kinds.Source source) = tt
-other_of_source version own kinds.Stop = tt
-other_of_source version own kinds.End = tt
+other_of_source version own _ = tt
 
 other_of_twin : (steps : List Step) (step : Step) → OtherThan (twin_refusal steps step)
 other_of_twin steps (kinds.Start first) = other_if (is_ident_twice steps) IdentTwice (λ e. cc)
@@ -132,7 +126,6 @@ other_read : (boxes : ℕ) (steps : List Step) (read : Result (Option Step) Line
 other_read boxes steps (Ok None) = tt
 other_read boxes steps (Ok (Some step)) = other_step boxes steps step
 other_read boxes steps (Err (misread.BadLine word)) = λ e. cc
-other_read boxes steps (Err misread.NotBuilt) = λ e. cc
 other_read boxes steps (Err misread.Memory) = tt
 
 other_line : (boxes version : ℕ) (steps : List Step) (line : TextLine) → OtherThan (refusal_said airs_of boxes steps (said_in version line))

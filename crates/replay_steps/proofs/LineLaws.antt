@@ -47,21 +47,7 @@ sink_fits boxes n streams slots mtu earlier e =
 
 room_stays : (boxes : ℕ) (earlier : List Step) (made : Step) → refusal_of airs_of boxes earlier made ≡ None → sinks_made earlier ≤ boxes → sinks_made (made ∷ earlier) ≤ boxes
 room_stays boxes earlier (steps.Sink n streams slots mtu) e room = sink_fits boxes n streams slots mtu earlier e
-room_stays boxes earlier (steps.Scenario version) e room = room
-room_stays boxes earlier (steps.Group framing origin delay iso sdu max_sdu max_pdu num_bis bn nse irc pto sub spacing phy) e room = room
-room_stays boxes earlier (steps.Ident address_type address sid broadcast_id) e room = room
-room_stays boxes earlier (steps.Start first) e room = room
-room_stays boxes earlier (steps.Source source) e room = room
-room_stays boxes earlier (steps.Tuned n which) e room = room
-room_stays boxes earlier (steps.Unit bis time octets) e room = room
-room_stays boxes earlier steps.Event e room = room
-room_stays boxes earlier (steps.Hear n back bis subevent) e room = room
-room_stays boxes earlier (steps.Air n lose) e room = room
-room_stays boxes earlier (steps.Inject n back bis subevent octets) e room = room
-room_stays boxes earlier (steps.Sniff back bis subevent) e room = room
-room_stays boxes earlier (steps.Drop n) e room = room
-room_stays boxes earlier steps.Stop e room = room
-room_stays boxes earlier steps.End e room = room
+room_stays boxes earlier _ e room = room
 
 boxes_go_on : (starts before after : List Account) (earlier : List Step) (made : Step) → BoxesStand starts earlier before → refusal_of airs_of (length starts) earlier made ≡ None
     → after ≡ accounts_after before (handed_by airs_of earlier made) → BoxesStand starts (made ∷ earlier) after

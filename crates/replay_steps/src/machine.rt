@@ -59,7 +59,6 @@ impl Machine {
             Ok(Some(step)) => self.step(step, outlets, text),
             Ok(None) => Ok(()),
             Err(LineFault::BadLine { word }) => Err(Stop::Refused(Refusal::BadLine { word })),
-            Err(LineFault::NotBuilt) => Err(Stop::Refused(Refusal::NotBuilt)),
             Err(LineFault::Memory) => Err(Stop::Memory),
         }
     }

@@ -136,6 +136,38 @@ impl Machine {
             Step::Stop => self.stop(outlets, text),
             Step::End => self.end(version, outlets, text),
             Step::Source { source } => self.choose(source),
+            Step::Subgroup { .. }
+            | Step::Meta { .. }
+            | Step::Bis { .. }
+            | Step::Cipher { .. }
+            | Step::Pac { .. }
+            | Step::Locate { .. }
+            | Step::Context { .. }
+            | Step::Announce { .. }
+            | Step::Train { .. }
+            | Step::Write { .. }
+            | Step::Add { .. }
+            | Step::Modify { .. }
+            | Step::Remove { .. }
+            | Step::Code { .. }
+            | Step::Serve { .. }
+            | Step::Tell { .. }
+            | Step::Read { .. }
+            | Step::Drain { .. }
+            | Step::Show { .. }
+            | Step::Lose { .. }
+            | Step::Terminate { .. }
+            | Step::Control { .. }
+            | Step::Forge { .. }
+            | Step::Assist { .. }
+            | Step::Apart { .. }
+            | Step::AWrite { .. }
+            | Step::AServe { .. }
+            | Step::ATell { .. }
+            | Step::ARead { .. }
+            | Step::ADrain { .. }
+            | Step::AShow { .. }
+            | Step::Relay { .. } => Err(Stop::Refused(Refusal::NotBuilt)),
         }
     }
 

@@ -6,8 +6,8 @@ use Rattle.std.specs.Option.{option_map, option_or}
 use Rattle.bcast_io.specs.TextLines.{TextLine, plain, too_long, past}
 use Rattle.unit_outlets.specs.Account.{Account}
 use Rattle.line_runs.specs.Runs.{Accepted}
-use Rattle.scenario_text.specs.declared.fault.LineFault.{LineFault}
-use Rattle.scenario_text.specs.declared.fault.LineFault.TheVariants.{BadLine as Misfit, NotBuilt as Later, Memory as NoMemory}
+use Rattle.scenario_words.specs.declared.fault.LineFault.{LineFault}
+use Rattle.scenario_words.specs.declared.fault.LineFault.TheVariants.{BadLine as Misfit, Memory as NoMemory}
 use Rattle.scenario_text.specs.declared.step.Step.{Step}
 use Rattle.scenario_text.specs.Ranges.{IsInRange}
 use Rattle.scenario_text.specs.Steps.{read_of}
@@ -34,7 +34,6 @@ by_reading : (r : Result (Option Step) LineFault) → ((step : Step) → r ≡ O
 by_reading (Ok None) ranged = tt
 by_reading (Ok (Some step)) ranged = ranged step refl
 by_reading (Err (Misfit word)) ranged = tt
-by_reading (Err Later) ranged = tt
 by_reading (Err NoMemory) ranged = tt
 
 in_range : LinesInRange → (version : ℕ) (line : TextLine) → InRange (said_in version line)

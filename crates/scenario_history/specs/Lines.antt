@@ -3,11 +3,11 @@ use Rattle.std.specs.Prelude.{ℕ, List, [], ◌∷◌, length, Option, None, So
 use Rattle.bcast_io.specs.TextLines.{TextLine, plain, too_long, past}
 use Rattle.unit_outlets.specs.Account.{Account}
 use Rattle.scenario_text.specs.declared.step.Step.{Step}
-use Rattle.scenario_text.specs.declared.fault.LineFault.{LineFault}
-use Rattle.scenario_text.specs.declared.fault.LineFault.TheVariants.{BadLine as Misfit, NotBuilt as Later, Memory as NoMemory}
+use Rattle.scenario_words.specs.declared.fault.LineFault.{LineFault}
+use Rattle.scenario_words.specs.declared.fault.LineFault.TheVariants.{BadLine as Misfit, Memory as NoMemory}
 use Rattle.scenario_text.specs.Steps.{read_of}
 use Rattle.transcript_text.specs.declared.refusal.Refusal.{Refusal}
-use Rattle.transcript_text.specs.declared.refusal.Refusal.TheVariants.{TextTooLong, LineTooLong, BadLine, NotBuilt}
+use Rattle.transcript_text.specs.declared.refusal.Refusal.TheVariants.{TextTooLong, LineTooLong, BadLine}
 use Rattle.transcript_text.specs.Lines.{refusal_line}
 use Rattle.line_runs.specs.Runs.{Rules}
 use Rattle.scenario_history.specs.Steps.{version_of}
@@ -26,7 +26,6 @@ abbrev pub said_by : Result (Option Step) LineFault → Said
 said_by (Ok None) = nothing
 said_by (Ok (Some step)) = a_step step
 said_by (Err (Misfit word)) = unsaid (BadLine word)
-said_by (Err Later) = unsaid NotBuilt
 said_by (Err NoMemory) = nothing
 
 abbrev pub said_in : ℕ → TextLine → Said

@@ -16,7 +16,7 @@ use Rattle.transcript_text.specs.declared.refusal.Refusal.{Refusal}
 use Rattle.transcript_text.specs.declared.refusal.Refusal.TheVariants.{NotBuilt, AfterEnd, Order, BadGroup, IdentTwice, NoSuchSink, SinkTwice}
 use Rattle.transcript_text.specs.declared.refusal.Refusal.TheVariants.{NoOutlet, NoSuchBis, UnitTooLong, TimeOrder, Backlog, NoSuchSubevent, NotOnAir, CounterEnds}
 use Rattle.scenario_text.specs.declared.step.Step.{Step}
-use Rattle.scenario_text.specs.declared.step.Step.TheVariants.{Scenario, Group, Ident, Start, Sink, Tuned, Unit, Event, Hear, Air, Inject, Sniff, Drop, Stop}
+use Rattle.scenario_text.specs.declared.step.Step.TheVariants.{Scenario, Group, Ident, Start, Sink, Tuned, Unit, Event, Hear, Air, Inject, Sniff, Drop, Stop, End, Source}
 use Rattle.scenario_history.specs.Steps.{Stage, chosen_of, chosen_steps, is_over, is_unbegun_at, other_of, sinks_made, stage_of, steps_of_source, version_of}
 use Rattle.scenario_history.specs.Source.{Airs, Identity, group_of, ident_of, identity_of, is_absent_at, is_described_at}
 use Rattle.scenario_history.specs.Source.{is_sending, is_started, no_group, performed, phase_of, setup_of, source_calls}
@@ -33,7 +33,7 @@ is_misplaced stage _ = is_unbegun_at stage
 
 -- A source line stands in the wrong phase of its source, of which these are the steps: `group` stands once, before `start`;
 -- `ident` after `group`, before `start`, once; `start` once, after `group`; `tuned`, `unit`, `event` and `stop` between
--- `start` and `stop`; `hear`, `air`, `inject` and `sniff` after `start`.
+-- `start` and `stop`; `hear`, `air`, `inject` and `sniff` after `start`. A step that is not built yet has no phase of its own.
 abbrev pub is_out_of_phase : List Step → Step → Bool
 is_out_of_phase own (Group framing origin delay iso sdu max_sdu max_pdu num_bis bn nse irc pto sub spacing phy) =
     not (is_absent_at (phase_of own))
@@ -57,7 +57,22 @@ is_out_of_order steps step = is_misplaced (stage_of steps) step || is_out_of_pha
 -- the step is of the language and not built yet
 abbrev pub is_unbuilt : Step → Bool
 is_unbuilt (Group framing origin delay iso sdu max_sdu max_pdu num_bis bn nse irc pto sub spacing phy) = not (framing == 0)
-is_unbuilt _ = false
+is_unbuilt (Scenario version) = false
+is_unbuilt (Ident address_type address sid broadcast_id) = false
+is_unbuilt (Start first) = false
+is_unbuilt (Sink sink streams slots mtu) = false
+is_unbuilt (Tuned sink which) = false
+is_unbuilt (Unit bis time octets) = false
+is_unbuilt Event = false
+is_unbuilt (Hear sink back bis subevent) = false
+is_unbuilt (Air sink lose) = false
+is_unbuilt (Inject sink back bis subevent octets) = false
+is_unbuilt (Sniff back bis subevent) = false
+is_unbuilt (Drop sink) = false
+is_unbuilt Stop = false
+is_unbuilt End = false
+is_unbuilt (Source source) = false
+is_unbuilt _ = true
 
 -- how many events ahead a group may reach in a version
 abbrev pub horizon_in : ℕ → ℕ

@@ -1,12 +1,6 @@
-pub mod Splitting
-pub mod Decimals
-pub mod DigitPairs
-pub mod NextWords
-pub mod MoreWords
-pub mod OneWord
-pub mod Streams
-pub mod Spelling
-pub mod Places
-pub mod StepValues
-pub mod StepRows
+pub mod Rows
+pub mod Within
+pub mod Operations
 pub mod Steps
+pub mod Misfits
+pub mod MisfitNumbers

@@ -1,78 +1,21 @@
 -- Steps and their lines: what is read is the step that the line says, and what a line says is read.
-use Rattle.std.proofs.Common.{◌≡◌, ℕ, Bool, true, false, cond, nat_eq, List, [], ◌∷◌, Option, None, Some, Result, Ok, Err, refl, ap, sym, subst, ◌∙◌, arith, get_or, eqb-true, IsSome}
+use Rattle.std.proofs.Common.{◌≡◌, ◌≤◌, ◌+◌, ℕ, Bool, true, false, cond, nat_eq, ◌||◌, not, List, [], ◌∷◌, Option, None, Some, Result, Ok, Err, refl, ap, sym, subst, ◌∙◌, eqb-true}
 use Rattle.std.specs.Prelude.{IfOk, IfSome, IfNone}
-use Rattle.scenario_text.specs.declared.fault.LineFault.{LineFault}
-use Rattle.scenario_text.specs.declared.fault.LineFault.TheVariants.{BadLine, NotBuilt, Memory}
+use Rattle.scenario_words.specs.declared.fault.LineFault.{LineFault}
+use Rattle.scenario_words.specs.Words.{words_of, onto_first}
+use Rattle.scenario_words.specs.Places.{Place, one, perhaps, rising, wishes, PlaceValue}
+use Rattle.scenario_words.specs.Reading.{Left, Gives, ◌>>=◌, any_word, next_of, at_place, ended}
+use Rattle.scenario_words.proofs.Spelling.{place_again, place_spelled, bind_ok, IsLast}
 use Rattle.scenario_text.specs.declared.step.Step.{Step}
-use Rattle.scenario_text.specs.declared.step.Step.TheVariants.{Scenario, Group, Ident, Start, Sink, Tuned, Unit, Event, Hear, Air, Inject, Sniff, Drop, Stop, End, Source}
 use Rattle.scenario_text.specs.Ranges.{IsInRange}
-use Rattle.scenario_text.specs.Words.{words_of, onto_first}
-use Rattle.scenario_text.specs.Reading.{Spelled, Gives, ◌>>=◌, spelled_by, reading}
-use Rattle.scenario_text.specs.Lines.{spelling, spelling_of, LineIs, IsBlank}
-use Rattle.scenario_text.specs.Steps.{step_of, read_as, read_of}
-use Rattle.scenario_text.proofs.Spelling.{reads_again, reads_so}
-use Rattle.scenario_text.proofs.Places.{kinds_of, in_places}
-use Rattle.scenario_text.proofs.StepValues.{step_spelled, named_is}
-use Rattle.scenario_text.proofs.StepRows.{some_step, in_range}
+use Rattle.scenario_text.specs.Table.{Build, Row, row_of}
+use Rattle.scenario_text.specs.Lines.{Says, LineIs, IsBlank}
+use Rattle.scenario_text.specs.Steps.{built_at, at_known, whole, line_after, step_of, read_of}
+use Rattle.scenario_text.proofs.Rows.{all_small, takes_all, none_more, takes_all_last, is_word, is_fine, and_parts, of_table, Fine}
+use Rattle.scenario_text.proofs.Within.{row_within, says_within}
 
-some_is : {A : Type 0} (x y : A) → Some x ≡ Some y → x ≡ y
-some_is x y e = cc
-
-one_step : (a b : Step) → spelling a ≡ spelling b → a ≡ b
-one_step a b e = some_is a b (sym (step_spelled a) ∙ (ap step_of e ∙ step_spelled b))
-
--- ---- no step's line is blank
-
-no_comment : (said : Step) → get_or (spelling said).first 0 0 ≡ 35 → ⊥
-no_comment (Scenario version) e = omega arith
-no_comment (Group framing origin delay iso sdu max_sdu max_pdu num_bis bn nse irc pto sub spacing phy) e = omega arith
-no_comment (Ident address_type address sid broadcast_id) e = omega arith
-no_comment (Start first) e = omega arith
-no_comment (Sink sink streams slots mtu) e = omega arith
-no_comment (Tuned sink which) e = omega arith
-no_comment (Unit bis time octets) e = omega arith
-no_comment Event e = omega arith
-no_comment (Hear sink back bis subevent) e = omega arith
-no_comment (Air sink lose) e = omega arith
-no_comment (Inject sink back bis subevent octets) e = omega arith
-no_comment (Sniff back bis subevent) e = omega arith
-no_comment (Drop sink) e = omega arith
-no_comment Stop e = omega arith
-no_comment End e = omega arith
-no_comment (Source source) e = omega arith
-
-not_empty : (said : Step) → (spelling said).first ≡ [] → ⊥
-not_empty (Scenario version) e = absurd cc
-not_empty (Group framing origin delay iso sdu max_sdu max_pdu num_bis bn nse irc pto sub spacing phy) e = absurd cc
-not_empty (Ident address_type address sid broadcast_id) e = absurd cc
-not_empty (Start first) e = absurd cc
-not_empty (Sink sink streams slots mtu) e = absurd cc
-not_empty (Tuned sink which) e = absurd cc
-not_empty (Unit bis time octets) e = absurd cc
-not_empty Event e = absurd cc
-not_empty (Hear sink back bis subevent) e = absurd cc
-not_empty (Air sink lose) e = absurd cc
-not_empty (Inject sink back bis subevent octets) e = absurd cc
-not_empty (Sniff back bis subevent) e = absurd cc
-not_empty (Drop sink) e = absurd cc
-not_empty Stop e = absurd cc
-not_empty End e = absurd cc
-not_empty (Source source) e = absurd cc
-
-refused : (b : Bool) → (b ≡ true → ⊥) → b ≡ false
-refused true h = absurd (h refl)
-refused false h = refl
-
-head_word : List (List ℕ) → List ℕ
-head_word [] = []
-head_word (word ∷ words) = word
-
-onto_head : (octet : ℕ) (words : List (List ℕ)) → get_or (head_word (onto_first octet words)) 0 0 ≡ octet
-unfolding head_word
-onto_head octet [] = refl
-onto_head octet (word ∷ words) = refl
-
--- ---- both ways
+abbrev left_of : List (List ℕ) → ℕ → Left
+left_of words read = record { words = words; read = read }
 
 abbrev done : {A : Type 0} → A → Result A LineFault
 done x = Ok x
@@ -80,142 +23,187 @@ done x = Ok x
 ok_is : {A : Type 0} (x y : A) → done x ≡ done y → x ≡ y
 ok_is x y e = cc
 
-spelled_in : (r : Result Spelled LineFault) (s : Spelled) → (r >>= λ spelled. Ok (Some spelled)) ≡ Ok (Some s) → r ≡ Ok s
-spelled_in (Ok x) s e = ap (λ (y : Spelled). Ok y) (some_is x s (ok_is (Some x) (Some s) e))
-spelled_in (Err f) s e = absurd cc
+some_is : {A : Type 0} (x y : A) → Some x ≡ Some y → x ≡ y
+some_is x y e = cc
 
-chosen_in : (b : Bool) (r : Result Spelled LineFault) (s : Spelled) → cond b (Ok None) (r >>= λ spelled. Ok (Some spelled)) ≡ Ok (Some s) → r ≡ Ok s
-chosen_in true r s e = absurd cc
-chosen_in false r s e = spelled_in r s e
+-- ---- the words at the places of a row
 
-says_step : (version : ℕ) (line : List ℕ) (said : Step) → spelled_by version line ≡ Ok (spelling said) → LineIs version said line
-unfolding spelled_by
-says_step version line said e =
-    let found = reads_so version (words_of line) (spelling said) e in
-    record { places = found.places; row = found.row; words = found.others; split = found.split; spelled = found.values }
+built_again : (places : List Place) (build : Build places) (made : Step) (words : List (List ℕ)) (read : ℕ) → all_small places ≡ true → Says places build made words
+    → (k : ℕ) × (built_at places build (left_of words read) ≡ Ok (made, left_of [] k))
+built_again [] built made words read small e = (read, rw (e.0, e.1) refl)
+built_again (place ∷ places) build made words read small e =
+    let parts = and_parts _ (all_small places) small in
+    let first = place_again place e.0 words e.1 read parts.0 e.2 in
+    let others = built_again places (build e.0) made e.1 first.0 parts.1 e.3 in
+    (others.0, rw first.1 others.1)
 
-line_says : (version : ℕ) (line : List ℕ) (said : Step) → reading version line ≡ Ok (Some (spelling said)) → LineIs version said line
-unfolding reading
-line_says version [] said e = absurd cc
-line_says version (octet ∷ line) said e = says_step version (octet ∷ line) said (chosen_in _ (spelled_by version (octet ∷ line)) (spelling said) e)
+last_place : (place : Place) (places : List Place) (built : Build places) (made : Step) (words : List (List ℕ)) (read : ℕ) (left : Left) → (none_more places || not (takes_all place)) ≡ true
+    → built_at places built (left_of words read) ≡ Ok (made, left) → left.words ≡ [] → IsLast place words
+last_place (one place) places built made words read left last e none = tt
+last_place (perhaps least greatest) places built made words read left last e none = tt
+last_place rising places built made words read left last e none = tt
+last_place (wishes most) [] built made words read left last e none =
+    let both = ok_is (built, left_of words read) (made, left) e in
+    ap (λ (p : Step × Left). p.1.words) both ∙ none
+last_place (wishes most) (place ∷ places) built made words read left last e none = absurd cc
 
-spelled_again : (version : ℕ) (line : List ℕ) (said : Step) → LineIs version said line → spelled_by version line ≡ Ok (spelling said)
-unfolding spelled_by
-spelled_again version line said is = reads_again version (spelling said) (words_of line) (record { places = is.places; row = is.row; others = is.words; split = is.split; values = is.spelled })
+built_says : (places : List Place) (build : Build places) (made : Step) (words : List (List ℕ)) (read : ℕ) (left : Left) → takes_all_last places ≡ true
+    → built_at places build (left_of words read) ≡ Ok (made, left) → left.words ≡ [] → Says places build made words
+built_says [] built made words read left last e none =
+    let both = ok_is (built, left_of words read) (made, left) e in
+    (ap (λ (p : Step × Left). p.0) both, ap (λ (p : Step × Left). p.1.words) both ∙ none)
+built_says (place ∷ places) build made words read left last e none =
+    let parts = and_parts (none_more places || not (takes_all place)) (takes_all_last places) last in
+    let a = bind_ok (at_place place (left_of words read)) (λ value. built_at places (build value.0) value.1) (made, left) e in
+    let here = last_place place places (build a.0.0) made a.0.1.words a.0.1.read left parts.0 a.2 none in
+    (a.0.0, a.0.1.words, place_spelled place words read a.0.0 a.0.1 a.1 here, built_says places (build a.0.0) made a.0.1.words a.0.1.read left parts.1 a.2 none)
 
-no_comment_line : (octet : ℕ) (line : List ℕ) (said : Step) (words : List (List ℕ)) → words_of (octet ∷ line) ≡ (spelling said).first ∷ words → nat_eq octet 35 ≡ false
+-- ---- a line
+
+ended_is : (read : ℕ) (words : List (List ℕ)) (u : Unit {0}) → ended read words ≡ Ok u → words ≡ []
+ended_is read [] u e = refl
+ended_is read (word ∷ words) u e = absurd cc
+
+-- a line that was read has a row, and its words spell the values of the step
+record Found (version : ℕ) (made : Step) (words : List (List ℕ)) : Type 0 where
+  pub first : List ℕ
+  pub others : List (List ℕ)
+  pub split : words ≡ first ∷ others
+  pub row : Row
+  pub known : row_of version first ≡ Some row
+  pub said : Says row.places row.build made others
+
+found_at : (version : ℕ) (first : List ℕ) (words : List (List ℕ)) (read : ℕ) (known : Option Row) (made : Step) (left : Left) → row_of version first ≡ known
+    → at_known known (left_of words read) ≡ Ok (made, left) → left.words ≡ [] → Found version made (first ∷ words)
+found_at version first words read None made left is e none = absurd cc
+found_at version first words read (Some row) made left is e none =
+    let fine = of_table version first row is in
+    let parts = and_parts (is_word row.first) _ fine.fine in
+    let places = and_parts (all_small row.places) (takes_all_last row.places) parts.1 in
+    record { first = first; others = words; split = refl; row = row; known = is; said = built_says row.places row.build made words read left places.1 e none }
+
+abbrev stepped : ℕ → ℕ → List (List ℕ) → Result Step LineFault
+stepped version read words = next_of any_word read words >>= line_after version
+
+found_by : (version read : ℕ) (words : List (List ℕ)) (made : Step) → stepped version read words ≡ Ok made → Found version made words
+found_by version read [] made e = absurd cc
+found_by version read (first ∷ words) made e =
+    let a = bind_ok (at_known (row_of version first) (left_of words (read + 1))) whole made e in
+    let b = bind_ok (ended a.0.1.read a.0.1.words) (λ none. Ok a.0.0) made a.2 in
+    let same : a.0.0 ≡ made = ok_is a.0.0 made b.2 in
+    let found = found_at version first words (read + 1) (row_of version first) a.0.0 a.0.1 refl a.1 (ended_is a.0.1.read a.0.1.words b.0 b.1) in
+    subst (λ (s : Step). Found version s (first ∷ words)) same found
+
+found_again : (version read : ℕ) (words : List (List ℕ)) (made : Step) → Found version made words → stepped version read words ≡ Ok made
+found_again version read words made found =
+    let fine = of_table version found.first found.row found.known in
+    let parts = and_parts (is_word found.row.first) _ fine.fine in
+    let places = and_parts (all_small found.row.places) (takes_all_last found.row.places) parts.1 in
+    let again = built_again found.row.places found.row.build made found.others (read + 1) places.0 found.said in
+    rw (found.split, found.known, again.1) refl
+
+-- ---- no step's line is blank
+
+head_word : List (List ℕ) → List ℕ
+head_word [] = []
+head_word (word ∷ words) = word
+
+onto_head : (octet : ℕ) (words : List (List ℕ)) → is_word (head_word (onto_first octet words)) ≡ not (nat_eq octet 35)
 unfolding head_word
-no_comment_line octet line said words e = refused _ (λ same.
-    let is : octet ≡ 35 = eqb-true octet 35 same in
-    let first : onto_first 35 (words_of line) ≡ (spelling said).first ∷ words = subst (λ (o : ℕ). words_of (o ∷ line) ≡ (spelling said).first ∷ words) is e in
-    no_comment said (sym (ap (λ (ws : List (List ℕ)). get_or (head_word ws) 0 0) first) ∙ onto_head 35 (words_of line)))
+onto_head octet [] = refl
+onto_head octet (word ∷ words) = refl
 
-line_again : (version : ℕ) (line : List ℕ) (said : Step) → LineIs version said line → reading version line ≡ Ok (Some (spelling said))
-unfolding reading head_word
-line_again version [] said is = absurd (not_empty said (sym (ap head_word is.split)))
-line_again version (octet ∷ line) said is =
-    let other = no_comment_line octet line said is.words is.split in
-    rw (other, spelled_again version (octet ∷ line) said is) refl
+first_word : (version : ℕ) (first : List ℕ) (row : Row) → row_of version first ≡ Some row → is_word first ≡ true
+first_word version first row e =
+    let fine = of_table version first row e in
+    rw fine.same (and_parts (is_word row.first) _ fine.fine).0
+
+not_true : (b : Bool) → not b ≡ true → b ≡ false
+not_true true e = absurd cc
+not_true false e = refl
+
+not_other : (comment space : Bool) (octet : ℕ) (line : List ℕ) → nat_eq octet 35 ≡ comment → nat_eq octet 32 ≡ space
+    → is_word (head_word (cond space ([] ∷ words_of line) (onto_first octet (words_of line)))) ≡ true → comment ≡ false
+unfolding head_word
+not_other comment true octet line is sp e = absurd cc
+not_other comment false octet line is sp e =
+    let negated : not comment ≡ true = ap not (sym is) ∙ (sym (onto_head octet (words_of line)) ∙ e) in
+    not_true comment negated
+
+no_comment : (octet : ℕ) (line : List ℕ) → is_word (head_word (words_of (octet ∷ line))) ≡ true → nat_eq octet 35 ≡ false
+unfolding head_word
+no_comment octet line e = not_other (nat_eq octet 35) (nat_eq octet 32) octet line refl refl e
+
+line_again : (version : ℕ) (line : List ℕ) (made : Step) → LineIs version made line → read_of version line ≡ Ok (Some made)
+unfolding read_of step_of head_word
+line_again version [] made is =
+    let word = first_word version is.first is.row is.known in
+    let empty : [] ≡ is.first = ap head_word is.split in
+    absurd (cc (rw (← empty) at word))
+line_again version (octet ∷ line) made is =
+    let word = first_word version is.first is.row is.known in
+    let head : is_word (head_word (words_of (octet ∷ line))) ≡ true = ap (λ (ws : List (List ℕ)). is_word (head_word ws)) is.split ∙ word in
+    let other = no_comment octet line head in
+    let read = found_again version 0 (words_of (octet ∷ line)) made (record { first = is.first; others = is.words; split = is.split; row = is.row; known = is.known; said = is.spelled }) in
+    rw (other, read) refl
+
+step_in : (r : Result Step LineFault) (made : Step) → (r >>= λ s. Ok (Some s)) ≡ Ok (Some made) → r ≡ Ok made
+step_in (Ok x) made e = ap done (some_is x made (ok_is (Some x) (Some made) e))
+step_in (Err f) made e = absurd cc
+
+chosen_in : (b : Bool) (r : Result Step LineFault) (made : Step) → cond b (Ok None) (r >>= λ s. Ok (Some s)) ≡ Ok (Some made) → r ≡ Ok made
+chosen_in true r made e = absurd cc
+chosen_in false r made e = step_in r made e
+
+line_says : (version : ℕ) (line : List ℕ) (made : Step) → read_of version line ≡ Ok (Some made) → LineIs version made line
+unfolding read_of step_of
+line_says version [] made e = absurd cc
+line_says version (octet ∷ line) made e =
+    let found = found_by version 0 (words_of (octet ∷ line)) made (chosen_in _ (stepped version 0 (words_of (octet ∷ line))) made e) in
+    record { first = found.first; words = found.others; split = found.split; row = found.row; known = found.known; spelled = found.said }
 
 -- ---- the clauses
 
-pub is_found : (version : ℕ) (line : List ℕ) (r : Result (Option Step) LineFault) → Gives spelling_of r (reading version line) → IfOk r (λ read. IfSome read (λ said. LineIs version said line))
-is_found version line (Ok (Some said)) given = line_says version line said given
-is_found version line (Ok None) given = tt
-is_found version line (Err e) given = tt
+pub says_so : (version : ℕ) (line : List ℕ) (made : Step) → LineIs version made line → read_of version line ≡ Ok (Some made)
+says_so version line made is = line_again version line made is
 
-pub is_read : (version : ℕ) (line : List ℕ) (r : Result (Option Step) LineFault) → Gives spelling_of r (reading version line) → (said : Step) → LineIs version said line → Gives (λ read. read) r (Ok (Some said))
-is_read version line (Ok (Some found)) given said is =
-    let same : Some (spelling said) ≡ Some (spelling found) = ok_is (Some (spelling said)) (Some (spelling found)) (sym (line_again version line said is) ∙ given) in
-    ap (λ (s : Step). done (Some s)) (one_step said found (some_is (spelling said) (spelling found) same))
-is_read version line (Ok None) given said is = let e = sym (line_again version line said is) ∙ given in absurd (cc e)
-is_read version line (Err Memory) given said is = tt
-is_read version line (Err (BadLine word)) given said is = let e = sym (line_again version line said is) ∙ given in absurd (cc e)
-is_read version line (Err NotBuilt) given said is = let e = sym (line_again version line said is) ∙ given in absurd (cc e)
-
-none_chosen : (b : Bool) (r : Result Spelled LineFault) → cond b (Ok None) (r >>= λ spelled. Ok (Some spelled)) ≡ Ok None → b ≡ true
-none_chosen true r e = refl
-none_chosen false (Ok x) e = absurd cc
-none_chosen false (Err f) e = absurd cc
-
-none_blank : (version : ℕ) (line : List ℕ) → reading version line ≡ Ok None → IsBlank line
-unfolding reading
-none_blank version [] e = tt
-none_blank version (octet ∷ line) e = eqb-true octet 35 (none_chosen _ (spelled_by version (octet ∷ line)) e)
-
-pub is_blank : (version : ℕ) (line : List ℕ) (r : Result (Option Step) LineFault) → Gives spelling_of r (reading version line) → IfOk r (λ read. IfNone read (IsBlank line))
-is_blank version line (Ok (Some said)) given = tt
-is_blank version line (Ok None) given = none_blank version line given
-is_blank version line (Err e) given = tt
-
--- ---- what a line reads as
-
-pub is_spelling : (spelled : Spelled) (said : Step) → step_of spelled ≡ Some said → spelling said ≡ spelled
-unfolding step_of
-is_spelling spelled said e = named_is spelled.first spelled.values said e
-
-pub has_step : (spelled : Spelled) (said : Step) → spelling said ≡ spelled → step_of spelled ≡ Some said
-has_step spelled said e = ap step_of (sym e) ∙ step_spelled said
-
-read_so : (version : ℕ) (line : List ℕ) (read : Result (Option Spelled) LineFault) → reading version line ≡ read → read_of version line ≡ read_as read
-unfolding read_of
-read_so version line read e = ap read_as e
-
-pub reads_step : (version : ℕ) (line : List ℕ) (r : Result (Option Step) LineFault) → Gives spelling_of r (reading version line) → Gives (λ read. read) r (read_of version line)
-reads_step version line (Ok (Some said)) given = read_so version line (Ok (Some (spelling said))) given ∙ ap done (step_spelled said)
-reads_step version line (Ok None) given = read_so version line (Ok None) given
-reads_step version line (Err Memory) given = tt
-reads_step version line (Err (BadLine word)) given = read_so version line (Err (BadLine word)) given
-reads_step version line (Err NotBuilt) given = read_so version line (Err NotBuilt) given
-
-pub says_so : (version : ℕ) (line : List ℕ) (said : Step) → LineIs version said line → read_of version line ≡ Ok (Some said)
-says_so version line said is = read_so version line (Ok (Some (spelling said))) (line_again version line said is) ∙ ap done (step_spelled said)
-
-said_by : (read : Result (Option Spelled) LineFault) (said : Step) → read_as read ≡ Ok (Some said) → read ≡ Ok (Some (spelling said))
-said_by (Ok None) said e = absurd cc
-said_by (Ok (Some spelled)) said e = ap (λ (s : Spelled). done (Some s)) (sym (is_spelling spelled said (ok_is (step_of spelled) (Some said) e)))
-said_by (Err fault) said e = absurd cc
-
-pub so_says : (version : ℕ) (line : List ℕ) (said : Step) → read_of version line ≡ Ok (Some said) → LineIs version said line
-so_says version line said e = line_says version line said (said_by (reading version line) said (sym (read_so version line (reading version line) refl) ∙ e))
+pub so_says : (version : ℕ) (line : List ℕ) (made : Step) → read_of version line ≡ Ok (Some made) → LineIs version made line
+so_says version line made e = line_says version line made e
 
 pub one_said : (version : ℕ) (line : List ℕ) (this that : Step) → LineIs version this line → LineIs version that line → this ≡ that
 one_said version line this that is other =
     some_is this that (ok_is (Some this) (Some that) (sym (says_so version line this is) ∙ says_so version line that other))
 
-pub said_in_range : (version : ℕ) (line : List ℕ) (said : Step) → read_of version line ≡ Ok (Some said) → IsInRange said
-said_in_range version line said e =
-    let is = so_says version line said e in
-    in_range version said is.places is.row (in_places is.places (spelling said).values is.words is.spelled)
+pub said_in_range : (version : ℕ) (line : List ℕ) (made : Step) → read_of version line ≡ Ok (Some made) → IsInRange made
+said_in_range version line made e =
+    let is = so_says version line made e in
+    says_within is.row.places is.row.build made is.words is.spelled (row_within version is.first is.row is.known)
 
--- a line that is read has a step
-has_step_in : (version : ℕ) (line : List ℕ) (spelled : Spelled) → spelled_by version line ≡ Ok spelled → IsSome (step_of spelled)
-unfolding spelled_by step_of
-has_step_in version line spelled e =
-    let found = reads_so version (words_of line) spelled e in
-    some_step version spelled.first found.places spelled.values (kinds_of found.places spelled.values found.others found.values) found.row
+pub is_found : (version : ℕ) (line : List ℕ) (r : Result (Option Step) LineFault) → Gives (λ read. read) r (read_of version line) → IfOk r (λ read. IfSome read (λ made. LineIs version made line))
+is_found version line (Ok (Some made)) given = line_says version line made given
+is_found version line (Ok None) given = tt
+is_found version line (Err e) given = tt
 
-spelled_has_step : (version : ℕ) (line : List ℕ) (spelled : Spelled) → reading version line ≡ Ok (Some spelled) → IsSome (step_of spelled)
-unfolding reading
-spelled_has_step version [] spelled e = absurd cc
-spelled_has_step version (octet ∷ line) spelled e = has_step_in version (octet ∷ line) spelled (chosen_in _ (spelled_by version (octet ∷ line)) spelled e)
+pub is_read : (version : ℕ) (line : List ℕ) (r : Result (Option Step) LineFault) → Gives (λ read. read) r (read_of version line)
+    → (made : Step) → LineIs version made line → Gives (λ read. read) r (Ok (Some made))
+is_read version line r given made is = subst (λ (read : Result (Option Step) LineFault). Gives (λ x. x) r read) (says_so version line made is) given
 
-none_read : (read : Result (Option Spelled) LineFault) → ((spelled : Spelled) → read ≡ Ok (Some spelled) → IsSome (step_of spelled)) → read_as read ≡ Ok None → read ≡ Ok None
-none_read (Ok None) some e = refl
-none_read (Ok (Some spelled)) some e =
-    let none : step_of spelled ≡ None = cc in
-    let found : IsSome (step_of spelled) = some spelled refl in
-    absurd (cc (rw none at found))
-none_read (Err fault) some e = absurd cc
+none_chosen : (b : Bool) (r : Result Step LineFault) → cond b (Ok None) (r >>= λ s. Ok (Some s)) ≡ Ok None → b ≡ true
+none_chosen true r e = refl
+none_chosen false (Ok x) e = absurd cc
+none_chosen false (Err f) e = absurd cc
 
 pub none_is_blank : (version : ℕ) (line : List ℕ) → read_of version line ≡ Ok None → IsBlank line
-none_is_blank version line e =
-    none_blank version line (none_read (reading version line) (spelled_has_step version line) (sym (read_so version line (reading version line) refl) ∙ e))
-
-blank_reading : (version : ℕ) (line : List ℕ) → IsBlank line → reading version line ≡ Ok None
-unfolding reading
-blank_reading version [] blank = refl
-blank_reading version (octet ∷ line) blank = rw blank refl
+unfolding read_of
+none_is_blank version [] e = tt
+none_is_blank version (octet ∷ line) e = eqb-true octet 35 (none_chosen _ (step_of version (octet ∷ line)) e)
 
 pub blank_is_none : (version : ℕ) (line : List ℕ) → IsBlank line → read_of version line ≡ Ok None
-blank_is_none version line blank = read_so version line (Ok None) (blank_reading version line blank)
+unfolding read_of
+blank_is_none version [] blank = refl
+blank_is_none version (octet ∷ line) blank = rw blank refl
+
+pub is_blank : (version : ℕ) (line : List ℕ) (r : Result (Option Step) LineFault) → Gives (λ read. read) r (read_of version line) → IfOk r (λ read. IfNone read (IsBlank line))
+is_blank version line (Ok (Some made)) given = tt
+is_blank version line (Ok None) given = none_is_blank version line given
+is_blank version line (Err e) given = tt

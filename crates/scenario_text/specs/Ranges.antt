@@ -2,7 +2,10 @@
 -- the widths of the BIGInfo (Core 5.2, volume 6 part B, section 4.4.6.11).
 use Rattle.std.specs.Prelude.{ℕ, ◌≡◌, ◌≤◌, ◌<◌, ◌^◌, ⊤, length}
 use Rattle.scenario_text.specs.declared.step.Step.{Step}
-use Rattle.scenario_text.specs.declared.step.Step.TheVariants.{Scenario, Group, Ident, Start, Sink, Tuned, Unit, Event, Hear, Air, Inject, Sniff, Drop, Stop, End, Source}
+use Rattle.scenario_text.specs.declared.step.Step.TheVariants.{Scenario, Group, Ident, Subgroup, Meta, Bis, Cipher, Start, Sink, Pac, Locate, Context, Tuned}
+use Rattle.scenario_text.specs.declared.step.Step.TheVariants.{Unit, Event, Hear, Air, Inject, Sniff, Announce, Train, Write, Add, Modify, Remove, Code, Serve}
+use Rattle.scenario_text.specs.declared.step.Step.TheVariants.{Tell, Read, Drain, Show, Lose, Drop, Terminate, Control, Forge, Stop, End, Assist, Apart, AWrite}
+use Rattle.scenario_text.specs.declared.step.Step.TheVariants.{AServe, ATell, ARead, ADrain, AShow, Source, Relay}
 
 pub record GroupRanges (framing origin delay iso sdu max_sdu max_pdu num_bis bn nse irc pto sub spacing phy : ℕ) : Type 0 where
   pub framing_is : framing ≤ 1
@@ -28,8 +31,15 @@ IsInRange (Scenario version) = (1 ≤ version) × (version ≤ 2)
 IsInRange (Group framing origin delay iso sdu max_sdu max_pdu num_bis bn nse irc pto sub spacing phy) =
     GroupRanges framing origin delay iso sdu max_sdu max_pdu num_bis bn nse irc pto sub spacing phy
 IsInRange (Ident address_type address sid broadcast_id) = (address_type ≤ 1) × (length address ≡ 6) × (sid ≤ 15) × (length broadcast_id ≡ 3)
+IsInRange (Subgroup codec config) = (length codec ≡ 5) × (length config ≤ 255)
+IsInRange (Meta metadata) = length metadata ≤ 255
+IsInRange (Bis bis config) = length config ≤ 255
+IsInRange (Cipher giv gskd) = (length giv ≡ 8) × (length gskd ≡ 16)
 IsInRange (Start first) = first < 2 ^ 39
 IsInRange (Sink sink streams slots mtu) = sink ≤ 7
+IsInRange (Pac sink codec caps metadata) = (sink ≤ 7) × (length codec ≡ 5) × (length caps ≤ 255) × (length metadata ≤ 255)
+IsInRange (Locate sink bits) = sink ≤ 7
+IsInRange (Context sink sink_bits source_bits) = sink ≤ 7
 IsInRange (Tuned sink which) = sink ≤ 7
 IsInRange (Unit bis time octets) = length octets ≤ 4095
 IsInRange Event = ⊤
@@ -37,7 +47,32 @@ IsInRange (Hear sink back bis subevent) = (sink ≤ 7) × (back ≤ 31) × (sube
 IsInRange (Air sink lose) = sink ≤ 7
 IsInRange (Inject sink back bis subevent octets) = (sink ≤ 7) × (back ≤ 31) × (subevent ≤ 30) × (length octets ≤ 300)
 IsInRange (Sniff back bis subevent) = (back ≤ 31) × (subevent ≤ 30)
+IsInRange (Announce sink) = sink ≤ 7
+IsInRange (Train sink time ext adv acad) = (sink ≤ 7) × (time ≤ 2 ^ 48) × (length ext ≤ 255) × (length adv ≤ 1650) × (length acad ≤ 255)
+IsInRange (Write sink octets) = (sink ≤ 7) × (length octets ≤ 512)
+IsInRange (Add sink op) = sink ≤ 7
+IsInRange (Modify sink op) = sink ≤ 7
+IsInRange (Remove sink source_id) = sink ≤ 7
+IsInRange (Code sink source_id code) = (sink ≤ 7) × (length code ≡ 16)
+IsInRange (Serve sink) = sink ≤ 7
+IsInRange (Tell sink) = sink ≤ 7
+IsInRange (Read sink) = sink ≤ 7
+IsInRange (Drain sink) = sink ≤ 7
+IsInRange (Show sink) = sink ≤ 7
+IsInRange (Lose sink) = sink ≤ 7
 IsInRange (Drop sink) = sink ≤ 7
+IsInRange (Terminate reason) = ⊤
+IsInRange (Control sink octets) = (sink ≤ 7) × (length octets ≤ 300)
+IsInRange (Forge sink slot octets) = (sink ≤ 7) × (length octets ≤ 1024)
 IsInRange Stop = ⊤
 IsInRange End = ⊤
+IsInRange (Assist sink link) = (sink ≤ 7) × (link ≤ 3)
+IsInRange (Apart sink link) = (sink ≤ 7) × (link ≤ 3)
+IsInRange (AWrite sink link octets) = (sink ≤ 7) × (link ≤ 3) × (length octets ≤ 512)
+IsInRange (AServe sink link) = (sink ≤ 7) × (link ≤ 3)
+IsInRange (ATell sink link) = (sink ≤ 7) × (link ≤ 3)
+IsInRange (ARead sink link) = (sink ≤ 7) × (link ≤ 3)
+IsInRange (ADrain sink link) = (sink ≤ 7) × (link ≤ 3)
+IsInRange (AShow sink link) = (sink ≤ 7) × (link ≤ 3)
 IsInRange (Source source) = source ≤ 1
+IsInRange (Relay sink bis to) = sink ≤ 7

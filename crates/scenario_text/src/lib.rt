@@ -1,17 +1,15 @@
 //! The lines of a scenario: what each line says, and the first word that doesn't fit its place.
 #![tactic(auto)]
 
-mod cursor;
-mod decimal;
-mod digits;
-mod fault;
-mod later;
+mod first_lines;
+mod later_lines;
 mod laws;
 mod line;
+mod sink_lines;
+mod source_lines;
 mod step;
-mod word;
 
-pub use fault::LineFault;
-pub use laws::a_line_says_one_step;
+pub use laws::{a_line_says_one_step, an_operation_has_so_many_octets};
 pub use line::{read_line, read_line_in};
+pub use scenario_words::LineFault;
 pub use step::Step;

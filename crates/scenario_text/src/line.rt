@@ -1,15 +1,16 @@
-ghost use Rattle.std.specs.Prelude.{◌≡◌, ◌≤◌, ◌⊎◌, IfOk, IfSome, IfNone, codes};
+ghost use Rattle.std.specs.Prelude.{◌≡◌, ◌⊎◌, ℕ, IfOk, IfSome, IfNone, Ok, Err, Some, None};
+ghost use Rattle.scenario_words.specs.declared.fault.LineFault.TheVariants.{BadLine};
+ghost use Rattle.scenario_words.specs.Reading.{Gives, GivesNext};
 ghost use Rattle.scenario_text.specs.Ranges.{IsInRange};
-ghost use Rattle.scenario_text.specs.Reading.{Gives, GivesNext, at_line, spelled_by, reading};
-ghost use Rattle.scenario_text.specs.Table.{most_slots as slots_in};
-ghost use Rattle.scenario_text.specs.Lines.{spelling, spelling_of, LineIs, IsBlank};
-ghost use Rattle.scenario_text.specs.Steps.{read_of};
+ghost use Rattle.scenario_text.specs.Table.{row_of, source_row_of, sink_row_of, row_of_2};
+ghost use Rattle.scenario_text.specs.Lines.{LineIs, IsBlank};
+ghost use Rattle.scenario_text.specs.Steps.{at_known, step_of as step_in, read_of};
+ghost use Rattle.scenario_text.specs.Misfits.{IsMisfit};
 ghost use Rattle.scenario_text.specs.declared.step.Step.{Step};
 
-use crate::cursor::Cursor;
-use crate::fault::LineFault;
-use crate::later::is_of_the_language;
 use crate::step::Step;
+use crate::{first_lines, later_lines, sink_lines, source_lines};
+use scenario_words::{Cursor, LineFault};
 use std::alloc::Global;
 
 /// Reads a line of a scenario of version 1: `None` for an empty line or a comment.
@@ -22,8 +23,8 @@ pub fn read_line(alloc: Global, line: &[u8]) -> Result<Option<Step>, LineFault>
     // None comes exactly for an empty line or a comment.
     ensures blank { IsBlank line.now → result ≡ Ok None }
     ensures none { IfOk result (λ read. IfNone read (IsBlank line.now)) }
-    // Which fault it is.
-    ensures exact { Gives spelling_of result (reading 1 line.now) }
+    // The number of a fault is that of the words that fit.
+    ensures misfit { (k : ℕ) → result ≡ Err (BadLine k) → IsMisfit 1 line.now k }
     // What it answers is what the line reads as.
     ensures reads { Gives (λ read. read) result (read_of 1 line.now) }
 {
@@ -41,8 +42,8 @@ pub fn read_line_in(alloc: Global, version: u8, line: &[u8]) -> Result<Option<St
     // None comes exactly for an empty line or a comment.
     ensures blank { IsBlank line.now → result ≡ Ok None }
     ensures none { IfOk result (λ read. IfNone read (IsBlank line.now)) }
-    // Which fault it is.
-    ensures exact { Gives spelling_of result (reading version line.now) }
+    // The number of a fault is that of the words that fit.
+    ensures misfit { (k : ℕ) → result ≡ Err (BadLine k) → IsMisfit version line.now k }
     // What it answers is what the line reads as.
     ensures reads { Gives (λ read. read) result (read_of version line.now) }
 {
@@ -50,11 +51,11 @@ pub fn read_line_in(alloc: Global, version: u8, line: &[u8]) -> Result<Option<St
 }
 
 /// What the line reads as.
-#[tactic(auto, unfolding(crate::specs::Reading::reading))]
+#[tactic(auto, unfolding(crate::specs::Steps::read_of))]
 fn read(alloc: Global, version: u8, line: &[u8]) -> Result<Option<Step>, LineFault>
     ensures in_range { IfOk result (λ read. IfSome read IsInRange) }
     ensures blank { IsBlank line.now → result ≡ Ok None }
-    ensures exact { Gives spelling_of result (reading version line.now) }
+    ensures reads { Gives (λ read. read) result (read_of version line.now) }
 {
     match line.first() {
         None => Ok(None),
@@ -64,10 +65,10 @@ fn read(alloc: Global, version: u8, line: &[u8]) -> Result<Option<Step>, LineFau
 }
 
 /// The step of a line that is neither empty nor a comment.
-#[tactic(auto, unfolding(crate::specs::Reading::spelled_by))]
+#[tactic(auto, unfolding(crate::specs::Steps::step_of))]
 fn step_of(alloc: Global, version: u8, line: &[u8]) -> Result<Step, LineFault>
     ensures in_range { IfOk result IsInRange }
-    ensures gives { Gives spelling result (spelled_by version line.now) }
+    ensures gives { Gives (λ step. step) result (step_in version line.now) }
 {
     let mut words = Cursor::new(line);
     let name = words.word()?;
@@ -77,45 +78,46 @@ fn step_of(alloc: Global, version: u8, line: &[u8]) -> Result<Step, LineFault>
 }
 
 /// The step that the words after this first word spell.
+#[tactic(auto, unfolding(crate::specs::Table::row_of))]
 fn named(alloc: Global, version: u8, name: &[u8], words: &mut Cursor<'_>) -> Result<Step, LineFault>
     ensures in_range { IfOk result IsInRange }
-    ensures gives { GivesNext spelling result words.new (at_line version name.now words.old) }
+    ensures gives { GivesNext (λ step. step) result words.new (at_known (row_of version name.now) words.old) }
 {
     if name == b"unit".as_slice() {
-        return unit(alloc, words);
+        return first_lines::unit(alloc, words);
     }
     if name == b"event".as_slice() {
         return Ok(Step::Event);
     }
     if name == b"hear".as_slice() {
-        return hear(words);
+        return first_lines::hear(words);
     }
     if name == b"tuned".as_slice() {
-        return tuned(words);
+        return first_lines::tuned(words);
     }
     if name == b"scenario".as_slice() {
-        return scenario(words);
+        return first_lines::scenario(words);
     }
     if name == b"group".as_slice() {
-        return group(words);
+        return first_lines::group(words);
     }
     if name == b"start".as_slice() {
-        return start(words);
+        return first_lines::start(words);
     }
     if name == b"sink".as_slice() {
-        return sink(version, words);
+        return first_lines::sink(version, words);
     }
     if name == b"air".as_slice() {
-        return air(words);
+        return first_lines::air(words);
     }
     if name == b"inject".as_slice() {
-        return inject(alloc, words);
+        return first_lines::inject(alloc, words);
     }
     if name == b"sniff".as_slice() {
-        return sniff(words);
+        return first_lines::sniff(words);
     }
     if name == b"drop".as_slice() {
-        return drop_sink(words);
+        return first_lines::drop_sink(words);
     }
     if name == b"stop".as_slice() {
         return Ok(Step::Stop);
@@ -123,170 +125,152 @@ fn named(alloc: Global, version: u8, name: &[u8], words: &mut Cursor<'_>) -> Res
     if name == b"end".as_slice() {
         return Ok(Step::End);
     }
+    named_of_source(alloc, version, name, words)
+}
+
+/// The step where the first word is that of a line of a source, or a later one.
+#[tactic(auto, unfolding(crate::specs::Table::source_row_of))]
+fn named_of_source(
+    alloc: Global,
+    version: u8,
+    name: &[u8],
+    words: &mut Cursor<'_>,
+) -> Result<Step, LineFault>
+    ensures in_range { IfOk result IsInRange }
+    ensures gives { GivesNext (λ step. step) result words.new (at_known (source_row_of version name.now) words.old) }
+{
     if name == b"ident".as_slice() {
-        return ident(words);
+        return source_lines::ident(words);
     }
-    if version == 2 && name == b"source".as_slice() {
-        return source(words);
+    if name == b"subgroup".as_slice() {
+        return source_lines::subgroup(alloc, words);
     }
-    if is_of_the_language(version, name) {
-        return Err(LineFault::NotBuilt);
+    if name == b"meta".as_slice() {
+        return source_lines::meta(alloc, words);
+    }
+    if name == b"bis".as_slice() {
+        return source_lines::bis(alloc, words);
+    }
+    if name == b"cipher".as_slice() {
+        return source_lines::cipher(words);
+    }
+    if name == b"announce".as_slice() {
+        return source_lines::announce(words);
+    }
+    if name == b"train".as_slice() {
+        return source_lines::train(alloc, words);
+    }
+    if name == b"terminate".as_slice() {
+        return source_lines::terminate(words);
+    }
+    named_of_sink(alloc, version, name, words)
+}
+
+/// The step where the first word is that of a line of a sink, or a later one.
+#[tactic(auto, unfolding(crate::specs::Table::sink_row_of))]
+fn named_of_sink(
+    alloc: Global,
+    version: u8,
+    name: &[u8],
+    words: &mut Cursor<'_>,
+) -> Result<Step, LineFault>
+    ensures in_range { IfOk result IsInRange }
+    ensures gives { GivesNext (λ step. step) result words.new (at_known (sink_row_of version name.now) words.old) }
+{
+    if name == b"pac".as_slice() {
+        return sink_lines::pac(alloc, words);
+    }
+    if name == b"locate".as_slice() {
+        return sink_lines::locate(words);
+    }
+    if name == b"context".as_slice() {
+        return sink_lines::context(words);
+    }
+    if name == b"write".as_slice() {
+        return sink_lines::write(alloc, words);
+    }
+    if name == b"add".as_slice() {
+        return sink_lines::add(alloc, words);
+    }
+    if name == b"modify".as_slice() {
+        return sink_lines::modify(alloc, words);
+    }
+    if name == b"remove".as_slice() {
+        return sink_lines::remove(words);
+    }
+    if name == b"code".as_slice() {
+        return sink_lines::code(words);
+    }
+    if name == b"serve".as_slice() {
+        return sink_lines::serve(words);
+    }
+    if name == b"tell".as_slice() {
+        return sink_lines::tell(words);
+    }
+    if name == b"read".as_slice() {
+        return sink_lines::read(words);
+    }
+    if name == b"drain".as_slice() {
+        return sink_lines::drain(words);
+    }
+    if name == b"show".as_slice() {
+        return sink_lines::show(words);
+    }
+    if name == b"lose".as_slice() {
+        return sink_lines::lose(words);
+    }
+    if name == b"control".as_slice() {
+        return sink_lines::control(alloc, words);
+    }
+    if name == b"forge".as_slice() {
+        return sink_lines::forge(alloc, words);
+    }
+    named_of_2(alloc, version, name, words)
+}
+
+/// The step where the first word is that of a line of version 2 alone.
+#[tactic(auto, unfolding(crate::specs::Table::row_of_2))]
+fn named_of_2(
+    alloc: Global,
+    version: u8,
+    name: &[u8],
+    words: &mut Cursor<'_>,
+) -> Result<Step, LineFault>
+    ensures in_range { IfOk result IsInRange }
+    ensures gives { GivesNext (λ step. step) result words.new (at_known (row_of_2 version name.now) words.old) }
+{
+    if version != 2 {
+        return Err(LineFault::BadLine { word: 0 });
+    }
+    if name == b"assist".as_slice() {
+        return later_lines::assist(words);
+    }
+    if name == b"apart".as_slice() {
+        return later_lines::apart(words);
+    }
+    if name == b"awrite".as_slice() {
+        return later_lines::awrite(alloc, words);
+    }
+    if name == b"aserve".as_slice() {
+        return later_lines::aserve(words);
+    }
+    if name == b"atell".as_slice() {
+        return later_lines::atell(words);
+    }
+    if name == b"aread".as_slice() {
+        return later_lines::aread(words);
+    }
+    if name == b"adrain".as_slice() {
+        return later_lines::adrain(words);
+    }
+    if name == b"ashow".as_slice() {
+        return later_lines::ashow(words);
+    }
+    if name == b"source".as_slice() {
+        return later_lines::source(words);
+    }
+    if name == b"relay".as_slice() {
+        return later_lines::relay(words);
     }
     Err(LineFault::BadLine { word: 0 })
-}
-
-fn scenario(words: &mut Cursor<'_>) -> Result<Step, LineFault>
-    ensures in_range { IfOk result IsInRange }
-    ensures gives { GivesNext spelling result words.new (at_line 1 (codes "scenario") words.old) }
-{
-    let version = words.octet(1, 2)?;
-    Ok(Step::Scenario { version })
-}
-
-fn group(words: &mut Cursor<'_>) -> Result<Step, LineFault>
-    ensures in_range { IfOk result IsInRange }
-    ensures gives { GivesNext spelling result words.new (at_line 1 (codes "group") words.old) }
-{
-    Ok(Step::Group {
-        framing: words.framing()?,
-        origin: words.number(3_000, 1 << 48)?,
-        delay: words.bits(24)?,
-        iso: words.bits(12)? as u16,
-        sdu: words.bits(20)?,
-        max_sdu: words.bits(12)? as u16,
-        max_pdu: words.bits(8)? as u8,
-        num_bis: words.bits(5)? as u8,
-        bn: words.bits(3)? as u8,
-        nse: words.bits(5)? as u8,
-        irc: words.bits(4)? as u8,
-        pto: words.bits(4)? as u8,
-        sub: words.bits(20)?,
-        spacing: words.bits(20)?,
-        phy: words.bits(3)? as u8,
-    })
-}
-
-fn ident(words: &mut Cursor<'_>) -> Result<Step, LineFault>
-    ensures in_range { IfOk result IsInRange }
-    ensures gives { GivesNext spelling result words.new (at_line 1 (codes "ident") words.old) }
-{
-    Ok(Step::Ident {
-        address_type: words.octet(0, 1)?,
-        address: words.array()?,
-        sid: words.octet(0, 15)?,
-        broadcast_id: words.array()?,
-    })
-}
-
-/// A line of version 2.
-fn source(words: &mut Cursor<'_>) -> Result<Step, LineFault>
-    ensures in_range { IfOk result IsInRange }
-    ensures gives { GivesNext spelling result words.new (at_line 2 (codes "source") words.old) }
-{
-    let source = words.octet(0, 1)?;
-    Ok(Step::Source { source })
-}
-
-fn start(words: &mut Cursor<'_>) -> Result<Step, LineFault>
-    ensures in_range { IfOk result IsInRange }
-    ensures gives { GivesNext spelling result words.new (at_line 1 (codes "start") words.old) }
-{
-    let first = words.number(0, 549_755_813_887)?;
-    Ok(Step::Start { first })
-}
-
-/// The most receive states of a sink.
-fn most_slots(version: u8) -> u8
-    ensures same { result ≡ slots_in version }
-    ensures some { result ≤ 8 }
-{
-    if version == 2 { 8 } else { 4 }
-}
-
-fn sink(version: u8, words: &mut Cursor<'_>) -> Result<Step, LineFault>
-    ensures in_range { IfOk result IsInRange }
-    ensures gives { GivesNext spelling result words.new (at_line version (codes "sink") words.old) }
-{
-    Ok(Step::Sink {
-        sink: words.octet(0, 7)?,
-        streams: words.octet(1, 31)?,
-        slots: words.octet(1, most_slots(version))?,
-        mtu: words.perhaps(23, 517)?,
-    })
-}
-
-/// One index or more, each above the one before.
-fn tuned(words: &mut Cursor<'_>) -> Result<Step, LineFault>
-    ensures in_range { IfOk result IsInRange }
-    ensures gives { GivesNext spelling result words.new (at_line 1 (codes "tuned") words.old) }
-{
-    Ok(Step::Tuned {
-        sink: words.octet(0, 7)?,
-        which: words.rising()?,
-    })
-}
-
-fn unit(alloc: Global, words: &mut Cursor<'_>) -> Result<Step, LineFault>
-    ensures in_range { IfOk result IsInRange }
-    ensures gives { GivesNext spelling result words.new (at_line 1 (codes "unit") words.old) }
-{
-    Ok(Step::Unit {
-        bis: words.bis(1)?,
-        time: words.time()?,
-        octets: words.octets(alloc, 4_095)?,
-    })
-}
-
-fn hear(words: &mut Cursor<'_>) -> Result<Step, LineFault>
-    ensures in_range { IfOk result IsInRange }
-    ensures gives { GivesNext spelling result words.new (at_line 1 (codes "hear") words.old) }
-{
-    Ok(Step::Hear {
-        sink: words.octet(0, 7)?,
-        back: words.octet(0, 31)?,
-        bis: words.bis(1)?,
-        subevent: words.octet(0, 30)?,
-    })
-}
-
-fn air(words: &mut Cursor<'_>) -> Result<Step, LineFault>
-    ensures in_range { IfOk result IsInRange }
-    ensures gives { GivesNext spelling result words.new (at_line 1 (codes "air") words.old) }
-{
-    Ok(Step::Air {
-        sink: words.octet(0, 7)?,
-        lose: words.octet(0, 255)?,
-    })
-}
-
-fn inject(alloc: Global, words: &mut Cursor<'_>) -> Result<Step, LineFault>
-    ensures in_range { IfOk result IsInRange }
-    ensures gives { GivesNext spelling result words.new (at_line 1 (codes "inject") words.old) }
-{
-    Ok(Step::Inject {
-        sink: words.octet(0, 7)?,
-        back: words.octet(0, 31)?,
-        bis: words.bis(1)?,
-        subevent: words.octet(0, 30)?,
-        octets: words.octets(alloc, 300)?,
-    })
-}
-
-fn sniff(words: &mut Cursor<'_>) -> Result<Step, LineFault>
-    ensures in_range { IfOk result IsInRange }
-    ensures gives { GivesNext spelling result words.new (at_line 1 (codes "sniff") words.old) }
-{
-    Ok(Step::Sniff {
-        back: words.octet(0, 31)?,
-        bis: words.bis(1)?,
-        subevent: words.octet(0, 30)?,
-    })
-}
-
-fn drop_sink(words: &mut Cursor<'_>) -> Result<Step, LineFault>
-    ensures in_range { IfOk result IsInRange }
-    ensures gives { GivesNext spelling result words.new (at_line 1 (codes "drop") words.old) }
-{
-    let sink = words.octet(0, 7)?;
-    Ok(Step::Drop { sink })
 }

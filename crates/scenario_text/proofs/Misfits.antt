@@ -1,0 +1,373 @@
+-- The number of a fault is the number of the words that fit, and no other number is.
+use Rattle.std.proofs.Common.{◌≡◌, ◌≤◌, ◌<◌, ◌+◌, ℕ, zero, suc, Bool, true, false, cond, nat_eq, ◌||◌, not, List, [], ◌∷◌, length, take, Option, None, Some}
+use Rattle.std.proofs.Common.{Result, Ok, Err, refl, ap, sym, subst, ◌∙◌, arith, inl, inr}
+use Rattle.std.proofs.lemmas.List.{take_all, take-take}
+use Rattle.std.proofs.lemmas.Bool.{cases_lt}
+use Rattle.bass_operations.specs.declared.wishes.Wish.{Wish}
+use Rattle.scenario_words.specs.declared.fault.LineFault.{LineFault}
+use Rattle.scenario_words.specs.declared.fault.LineFault.TheVariants.{BadLine, Memory}
+use Rattle.scenario_words.specs.Words.{words_of}
+use Rattle.scenario_words.specs.Places.{WordPlace, between, Place, one, perhaps, rising, wishes, WordValue, PlaceValue}
+use Rattle.scenario_words.specs.Reading.{Left, Gives, ◌>>=◌, any_word, next_of, taken, word_in, decimal_in, with_stream, streams_of, rising_of, perhaps_of}
+use Rattle.scenario_words.specs.Reading.{wishes_of, bounded, all_wishes_of, at_place, ended}
+use Rattle.scenario_words.specs.Fitting.{FitsWord, FitsIndices, FitsPairs, FitsFront}
+use Rattle.scenario_words.proofs.Spelling.{word_spelled, bind_ok, is_small, bounded_is}
+use Rattle.scenario_words.proofs.Fitting.{Stops, misfit, bad_is, indices_first, indices_stop, indices_all, pairs_stop, pairs_end}
+use Rattle.scenario_text.specs.declared.step.Step.{Step}
+use Rattle.scenario_text.specs.Table.{Build, Row, row_of}
+use Rattle.scenario_text.specs.Lines.{LineIs, IsBlank}
+use Rattle.scenario_text.specs.Steps.{built_at, at_known, whole, line_after, step_of, read_of}
+use Rattle.scenario_text.specs.Misfits.{FitsLine, IsMisfit}
+use Rattle.scenario_text.proofs.Rows.{all_small, takes_all, none_more, takes_all_last, is_word, is_fine, and_parts, of_table}
+use Rattle.scenario_text.proofs.Steps.{says_so, blank_is_none}
+
+abbrev left_of : List (List ℕ) → ℕ → Left
+left_of words read = record { words = words; read = read }
+
+abbrev done : {A : Type 0} → A → Result A LineFault
+done x = Ok x
+
+ok_is : {A : Type 0} (x y : A) → done x ≡ done y → x ≡ y
+ok_is x y e = cc
+
+abbrev perhaps_bad : ℕ → Result (Option ℕ × Left) LineFault
+perhaps_bad k = Err (BadLine k)
+
+abbrev wishes_bad : ℕ → Result (List Wish × Left) LineFault
+wishes_bad k = Err (BadLine k)
+
+abbrev failed : (A : Type 0) → LineFault → Result A LineFault
+failed A fault = Err fault
+
+-- the fault k has the number of the words that fit
+abbrev Halts : List Place → List (List ℕ) → ℕ → ℕ → Type 0
+Halts places words read k = (j : ℕ) × (k ≡ read + j) × Stops (FitsFront places) words j
+
+none_fit : (places : List Place) (read k : ℕ) → read ≡ k → Halts places [] read k
+none_fit places read k e = (0, omega arith, record { within = omega arith; front = tt; no_more = λ inside fits. absurd (omega (arith, inside)) })
+
+-- ---- a place of one word
+
+abbrev go_on : (place : WordPlace) (places : List Place) → (WordValue place → Build places) → WordValue place × Left → Result (Step × Left) LineFault
+go_on place places build value = built_at places (build value.0) value.1
+
+word_halts : (place : WordPlace) (places : List Place) (build : WordValue place → Build places) (read k : ℕ) (word : List ℕ) (words : List (List ℕ)) (found : Option (WordValue place))
+    → is_small (one place) ≡ true → word_in place word ≡ found → (taken read words found >>= go_on place places build) ≡ Err (BadLine k)
+    → ((value : WordValue place) → built_at places (build value) (left_of words (read + 1)) ≡ Err (BadLine k) → Halts places words (read + 1) k)
+    → Halts (one place ∷ places) (word ∷ words) read k
+word_halts place places build read k word words None small is e rest =
+    let same : read ≡ k = bad_is (Step × Left) read k e in
+    (0, omega arith, record { within = omega arith; front = tt; no_more = λ inside fits. misfit place word small is fits.0 })
+word_halts place places build read k word words (Some value) small is e rest =
+    let it = rest value e in (
+      suc it.0,
+      omega (arith, it.1),
+      record {
+        within = omega (arith, it.2.within);
+        front = ((value, word_spelled place value word is), it.2.front);
+        no_more = λ inside fits. it.2.no_more (omega (arith, inside)) fits.1;
+      },
+    )
+
+word_ends : (place : WordPlace) (places : List Place) (build : WordValue place → Build places) (read : ℕ) (word : List ℕ) (words : List (List ℕ))
+    (found : Option (WordValue place)) (made : Step) (left : Left)
+    → word_in place word ≡ found → (taken read words found >>= go_on place places build) ≡ Ok (made, left)
+    → ((value : WordValue place) → built_at places (build value) (left_of words (read + 1)) ≡ Ok (made, left) → Halts places words (read + 1) left.read)
+    → Halts (one place ∷ places) (word ∷ words) read left.read
+word_ends place places build read word words None made left is e rest = absurd cc
+word_ends place places build read word words (Some value) made left is e rest =
+    let it = rest value e in (
+      suc it.0,
+      omega (arith, it.1),
+      record {
+        within = omega (arith, it.2.within);
+        front = ((value, word_spelled place value word is), it.2.front);
+        no_more = λ inside fits. it.2.no_more (omega (arith, inside)) fits.1;
+      },
+    )
+
+-- ---- the last places
+
+-- no word may follow
+no_place : (words : List (List ℕ)) → 0 < length words → FitsFront [] (take 1 words) → ⊥
+no_place [] inside fits = omega (arith, inside)
+no_place (word ∷ words) inside fits = fits
+
+err_is : (A : Type 0) (f g : LineFault) → failed (A × Left) f ≡ failed (A × Left) g → f ≡ g
+err_is A f g e = cc
+
+abbrev with_built : {A : Type 0} → (A → Step) → A × Left → Result (Step × Left) LineFault
+with_built build value = Ok (build value.0, value.1)
+
+abbrev as_some : ℕ × Left → Result (Option ℕ × Left) LineFault
+as_some n = Ok (Some n.0, n.1)
+
+build_bad : {A : Type 0} (r : Result (A × Left) LineFault) (build : A → Step) (k : ℕ) → (r >>= with_built build) ≡ Err (BadLine k) → r ≡ Err (BadLine k)
+build_bad (Ok x) build k e = absurd cc
+build_bad {A = A} (Err f) build k e = ap (failed (A × Left)) (err_is Step f (BadLine k) e)
+
+perhaps_halts : (least greatest read k : ℕ) (word : List ℕ) (words : List (List ℕ)) (found : Option ℕ) → is_small (one (between least greatest)) ≡ true → decimal_in least greatest word ≡ found
+    → (taken read words found >>= as_some) ≡ perhaps_bad k → Halts (perhaps least greatest ∷ []) (word ∷ words) read k
+perhaps_halts least greatest read k word words None small is e =
+    let same : read ≡ k = bad_is (Option ℕ × Left) read k e in
+    (0, omega arith, record { within = omega arith; front = tt; no_more = λ inside fits. misfit (between least greatest) word small is fits.0 })
+perhaps_halts least greatest read k word words (Some n) small is e = absurd cc
+
+perhaps_ends : (least greatest read : ℕ) (word : List ℕ) (words : List (List ℕ)) (found : Option ℕ) (value : Option ℕ) (left : Left) → decimal_in least greatest word ≡ found
+    → (taken read words found >>= as_some) ≡ done (value, left) → Halts (perhaps least greatest ∷ []) (word ∷ words) read left.read
+perhaps_ends least greatest read word words None value left is e = absurd cc
+perhaps_ends least greatest read word words (Some n) value left is e =
+    let both = ok_is (Some n, left_of words (read + 1)) (value, left) e in
+    let same : read + 1 ≡ left.read = ap (λ (p : Option ℕ × Left). p.1.read) both in (
+      1,
+      omega arith,
+      record {
+        within = omega arith;
+        front = ((n, word_spelled (between least greatest) n word is), tt);
+        no_more = λ inside fits. no_place words (omega (arith, inside)) fits.1;
+      },
+    )
+
+as_front : (words : List (List ℕ)) → FitsIndices 1 words → FitsFront (rising ∷ []) words
+as_front [] fits = tt
+as_front (word ∷ words) fits = fits
+
+as_indices : (words : List (List ℕ)) → FitsFront (rising ∷ []) words → FitsIndices 1 words
+as_indices [] fits = tt
+as_indices (word ∷ words) fits = fits
+
+from_indices : (words : List (List ℕ)) (read k : ℕ) → (j : ℕ) × (k ≡ read + j) × Stops (FitsIndices 1) words j → Halts (rising ∷ []) words read k
+from_indices words read k it = (
+  it.0,
+  it.1,
+  record {
+    within = it.2.within;
+    front = as_front (take it.0 words) it.2.front;
+    no_more = λ inside fits. it.2.no_more inside (as_indices (take (suc it.0) words) fits);
+  },
+)
+
+as_front_pairs : (most : ℕ) (words : List (List ℕ)) → FitsPairs 31 words → FitsFront (wishes most ∷ []) words
+as_front_pairs most [] fits = tt
+as_front_pairs most (word ∷ words) fits = fits
+
+as_pairs : (most : ℕ) (words : List (List ℕ)) → FitsFront (wishes most ∷ []) words → FitsPairs 31 words
+as_pairs most [] fits = tt
+as_pairs most (word ∷ words) fits = fits
+
+from_pairs : (most : ℕ) (words : List (List ℕ)) (read k : ℕ) → (j : ℕ) × (k ≡ read + j) × Stops (FitsPairs 31) words j → Halts (wishes most ∷ []) words read k
+from_pairs most words read k it = (
+  it.0,
+  it.1,
+  record {
+    within = it.2.within;
+    front = as_front_pairs most (take it.0 words) it.2.front;
+    no_more = λ inside fits. it.2.no_more inside (as_pairs most (take (suc it.0) words) fits);
+  },
+)
+
+some_is : {A : Type 0} (x y : A) → Some x ≡ Some y → x ≡ y
+some_is x y e = cc
+
+abbrev streams_on : List (List ℕ) → ℕ × Left → Result (ℕ × Left) LineFault
+streams_on words n = streams_of (with_stream 0 n.0) (n.0 + 1) n.1.read n.1.words
+
+rising_halts : (read k : ℕ) (word : List ℕ) (words : List (List ℕ)) (found : Option ℕ) → decimal_in 1 31 word ≡ found → (taken read words found >>= streams_on words) ≡ Err (BadLine k)
+    → (j : ℕ) × (k ≡ read + j) × Stops (FitsIndices 1) (word ∷ words) j
+rising_halts read k word words None is e =
+    indices_first 1 read k word words None is (λ n some. absurd cc) (λ none. sym (bad_is (ℕ × Left) read k e))
+rising_halts read k word words (Some n) is e =
+    indices_first 1 read k word words (Some n) is
+    (λ m some. let same : n ≡ m = some_is n m some in
+    indices_stop words (with_stream 0 m) (m + 1) (read + 1) k (subst (λ (x : ℕ). streams_of (with_stream 0 x) (x + 1) (read + 1) words ≡ Err (BadLine k)) same e))
+    (λ none. absurd cc)
+
+rising_ends : (read : ℕ) (word : List ℕ) (words : List (List ℕ)) (found : Option ℕ) (set : ℕ) (left : Left)
+    → decimal_in 1 31 word ≡ found → (taken read words found >>= streams_on words) ≡ Ok (set, left)
+    → (j : ℕ) × (left.read ≡ read + j) × Stops (FitsIndices 1) (word ∷ words) j
+rising_ends read word words None set left is e = absurd cc
+rising_ends read word words (Some n) set left is e =
+    let all = indices_all words (with_stream 0 n) (n + 1) (read + 1) set left e in (
+      suc (length words),
+      omega (arith, all.0),
+      record {
+        within = omega arith;
+        front = (n, word_spelled (between 1 31) n word is, subst (λ (ws : List (List ℕ)). FitsIndices (n + 1) ws) (sym (take_all (length words) words (omega arith))) all.1);
+        no_more = λ inside fits. absurd (omega (arith, inside));
+      },
+    )
+
+bound_bad : (b : Bool) (all : List Wish × Left) (k : ℕ) → cond b (Ok all) (Err (BadLine all.1.read)) ≡ wishes_bad k → all.1.read ≡ k
+bound_bad true all k e = absurd cc
+bound_bad false all k e = bad_is (List Wish × Left) all.1.read k e
+
+wishes_halt : (most : ℕ) (words : List (List ℕ)) (read k : ℕ) (r : Result (List Wish × Left) LineFault) → wishes_of [] 31 read words ≡ r → (r >>= bounded most) ≡ Err (BadLine k)
+    → (j : ℕ) × (k ≡ read + j) × Stops (FitsPairs 31) words j
+wishes_halt most words read k (Ok all) is e =
+    let same : all.1.read ≡ k = bound_bad _ all k e in
+    let it = pairs_end 31 [] read words all.0 all.1 is in
+    (it.0, sym same ∙ it.1, it.2)
+wishes_halt most words read k (Err fault) is e =
+    pairs_stop 31 [] read k words (is ∙ ap (failed (List Wish × Left)) (err_is (List Wish) fault (BadLine k) e))
+
+-- ---- the places of a row
+
+built_halts : (places : List Place) (build : Build places) (words : List (List ℕ)) (read k : ℕ) → all_small places ≡ true → takes_all_last places ≡ true
+    → built_at places build (left_of words read) ≡ Err (BadLine k) → Halts places words read k
+built_halts [] build words read k small last e = absurd cc
+built_halts (one place ∷ places) build [] read k small last e = none_fit (one place ∷ places) read k (bad_is (Step × Left) read k e)
+built_halts (one place ∷ places) build (word ∷ words) read k small last e =
+    let smalls = and_parts _ (all_small places) small in
+    let lasts = and_parts (none_more places || true) (takes_all_last places) last in
+    word_halts place places build read k word words (word_in place word) smalls.0 refl e (λ value next. built_halts places (build value) words (read + 1) k smalls.1 lasts.1 next)
+built_halts (perhaps least greatest ∷ []) build [] read k small last e = absurd cc
+built_halts (perhaps least greatest ∷ []) build (word ∷ words) read k small last e =
+    let smalls = and_parts _ true small in
+    perhaps_halts least greatest read k word words (decimal_in least greatest word) smalls.0 refl
+    (build_bad (perhaps_of least greatest read (word ∷ words)) build k e)
+built_halts (rising ∷ []) build [] read k small last e =
+    none_fit (rising ∷ []) read k (bad_is (ℕ × Left) read k (build_bad (rising_of (left_of [] read)) build k e))
+built_halts (rising ∷ []) build (word ∷ words) read k small last e =
+    let bad = build_bad (rising_of (left_of (word ∷ words) read)) build k e in
+    from_indices (word ∷ words) read k (rising_halts read k word words (decimal_in 1 31 word) refl bad)
+built_halts (wishes most ∷ []) build words read k small last e =
+    from_pairs most words read k (wishes_halt most words read k (wishes_of [] 31 read words) refl (build_bad (all_wishes_of most (left_of words read)) build k e))
+built_halts (perhaps least greatest ∷ place ∷ places) build words read k small last e = absurd cc
+built_halts (rising ∷ place ∷ places) build words read k small last e = absurd cc
+built_halts (wishes most ∷ place ∷ places) build words read k small last e = absurd cc
+
+end_here : (words : List (List ℕ)) (read : ℕ) (left : Left) → read ≡ left.read → Halts [] words read left.read
+end_here words read left e = (0, omega arith, record { within = omega arith; front = tt; no_more = λ inside fits. no_place words inside fits })
+
+built_ok : {A : Type 0} (r : Result (A × Left) LineFault) (build : A → Step) (made : Step) (left : Left) → (r >>= with_built build) ≡ Ok (made, left) → (value : A) × (r ≡ Ok (value, left))
+built_ok (Ok x) build made left e =
+    let both = ok_is (build x.0, x.1) (made, left) e in
+    (x.0, ap (λ (l : Left). done (x.0, l)) (ap (λ (p : Step × Left). p.1) both))
+built_ok (Err f) build made left e = absurd cc
+
+built_ends : (places : List Place) (build : Build places) (words : List (List ℕ)) (read : ℕ) (made : Step) (left : Left) → takes_all_last places ≡ true
+    → built_at places build (left_of words read) ≡ Ok (made, left) → Halts places words read left.read
+built_ends [] build words read made left last e =
+    let both = ok_is (build, left_of words read) (made, left) e in
+    end_here words read left (ap (λ (p : Step × Left). p.1.read) both)
+built_ends (one place ∷ places) build [] read made left last e = absurd cc
+built_ends (one place ∷ places) build (word ∷ words) read made left last e =
+    let lasts = and_parts (none_more places || true) (takes_all_last places) last in
+    word_ends place places build read word words (word_in place word) made left refl e (λ value next. built_ends places (build value) words (read + 1) made left lasts.1 next)
+built_ends (perhaps least greatest ∷ []) build [] read made left last e =
+    let both = ok_is (build None, left_of [] read) (made, left) e in
+    none_fit (perhaps least greatest ∷ []) read left.read (ap (λ (p : Step × Left). p.1.read) both)
+built_ends (perhaps least greatest ∷ []) build (word ∷ words) read made left last e =
+    let t = built_ok (perhaps_of least greatest read (word ∷ words)) build made left e in
+    perhaps_ends least greatest read word words (decimal_in least greatest word) t.0 left refl t.1
+built_ends (rising ∷ []) build [] read made left last e = absurd cc
+built_ends (rising ∷ []) build (word ∷ words) read made left last e =
+    let t = built_ok (rising_of (left_of (word ∷ words) read)) build made left e in
+    from_indices (word ∷ words) read left.read (rising_ends read word words (decimal_in 1 31 word) t.0 left refl t.1)
+built_ends (wishes most ∷ []) build words read made left last e =
+    let t = built_ok (all_wishes_of most (left_of words read)) build made left e in
+    let a = bind_ok (wishes_of [] 31 read words) (bounded most) (t.0, left) t.1 in
+    let both = bounded_is most a.0 (t.0, left) a.2 in
+    let it = pairs_end 31 [] read words a.0.0 a.0.1 a.1 in
+    from_pairs most words read left.read (it.0, sym (ap (λ (p : List Wish × Left). p.1.read) both.1) ∙ it.1, it.2)
+built_ends (perhaps least greatest ∷ place ∷ places) build words read made left last e = absurd cc
+built_ends (rising ∷ place ∷ places) build words read made left last e = absurd cc
+built_ends (wishes most ∷ place ∷ places) build words read made left last e = absurd cc
+
+-- ---- a line
+
+record LineHalts (version : ℕ) (words : List (List ℕ)) (k : ℕ) : Type 0 where
+  pub within : k ≤ length words
+  pub fits : FitsLine version (take k words)
+  pub no_more : k < length words → FitsLine version (take (suc k) words) → ⊥
+
+some_row : (this that : Row) → Some this ≡ Some that → this ≡ that
+some_row this that e = cc
+
+in_line : (version k : ℕ) (first : List ℕ) (words : List (List ℕ)) (row : Row) → row_of version first ≡ Some row → Halts row.places words 1 k → LineHalts version (first ∷ words) k
+in_line version k first words row is it =
+    let count : k ≡ suc it.0 = omega (arith, it.1) in
+    rw count (record {
+      within = omega (arith, it.2.within);
+      fits = (row, is, it.2.front);
+      no_more = λ inside fits. it.2.no_more (omega (arith, inside))
+          (subst (λ (r : Row). FitsFront r.places (take (suc it.0) words)) (some_row fits.0 row (sym fits.1 ∙ is)) fits.2);
+    })
+
+abbrev step_bad : ℕ → Result Step LineFault
+step_bad k = Err (BadLine k)
+
+step_bad_is : (j k : ℕ) → step_bad j ≡ step_bad k → j ≡ k
+step_bad_is j k e = cc
+
+abbrev step_failed : LineFault → Result Step LineFault
+step_failed fault = Err fault
+
+step_err_is : (f g : LineFault) → step_failed f ≡ step_failed g → f ≡ g
+step_err_is f g e = cc
+
+ended_bad : (read : ℕ) (words : List (List ℕ)) (made : Step) (k : ℕ) → (ended read words >>= λ none. Ok made) ≡ Err (BadLine k) → read ≡ k
+ended_bad read [] made k e = absurd cc
+ended_bad read (word ∷ words) made k e = step_bad_is read k e
+
+row_halts : (version k : ℕ) (first : List ℕ) (words : List (List ℕ)) (row : Row) → row_of version first ≡ Some row → all_small row.places ≡ true → takes_all_last row.places ≡ true
+    → (r : Result (Step × Left) LineFault) → built_at row.places row.build (left_of words 1) ≡ r → (r >>= whole) ≡ step_bad k → LineHalts version (first ∷ words) k
+row_halts version k first words row is small last (Ok built) read e =
+    let same : built.1.read ≡ k = ended_bad built.1.read built.1.words built.0 k e in
+    in_line version k first words row is (subst (Halts row.places words 1) same (built_ends row.places row.build words 1 built.0 built.1 last read))
+row_halts version k first words row is small last (Err fault) read e =
+    let same : fault ≡ BadLine k = step_err_is fault (BadLine k) e in
+    in_line version k first words row is (built_halts row.places row.build words 1 k small last (read ∙ ap (failed (Step × Left)) same))
+
+known_halts : (version k : ℕ) (first : List ℕ) (words : List (List ℕ)) (known : Option Row) → row_of version first ≡ known → (at_known known (left_of words 1) >>= whole) ≡ step_bad k
+    → LineHalts version (first ∷ words) k
+known_halts version k first words None is e =
+    let same : 0 ≡ k = step_bad_is 0 k e in
+    rw (← same) (record { within = omega arith; fits = tt; no_more = λ inside fits. let some = sym is ∙ fits.1 in absurd (cc some) })
+known_halts version k first words (Some row) is e =
+    let fine = of_table version first row is in
+    let parts = and_parts (is_word row.first) _ fine.fine in
+    let places = and_parts (all_small row.places) (takes_all_last row.places) parts.1 in
+    row_halts version k first words row is places.0 places.1 (built_at row.places row.build (left_of words 1)) refl e
+
+words_halt : (version k : ℕ) (words : List (List ℕ)) → (next_of any_word 0 words >>= line_after version) ≡ step_bad k → LineHalts version words k
+words_halt version k [] e =
+    let same : 0 ≡ k = step_bad_is 0 k e in
+    rw (← same) (record { within = omega arith; fits = tt; no_more = λ inside fits. absurd (omega (arith, inside)) })
+words_halt version k (first ∷ words) e = known_halts version k first words (row_of version first) refl e
+
+abbrev read_bad : ℕ → Result (Option Step) LineFault
+read_bad k = Err (BadLine k)
+
+abbrev read_failed : LineFault → Result (Option Step) LineFault
+read_failed fault = Err fault
+
+read_err_is : (f g : LineFault) → read_failed f ≡ read_failed g → f ≡ g
+read_err_is f g e = cc
+
+step_in_bad : (r : Result Step LineFault) (k : ℕ) → (r >>= λ s. Ok (Some s)) ≡ read_bad k → r ≡ step_bad k
+step_in_bad (Ok x) k e = absurd cc
+step_in_bad (Err f) k e = ap step_failed (read_err_is f (BadLine k) e)
+
+chosen_bad : (b : Bool) (r : Result Step LineFault) (k : ℕ) → cond b (Ok None) (r >>= λ s. Ok (Some s)) ≡ read_bad k → r ≡ step_bad k
+chosen_bad true r k e = absurd cc
+chosen_bad false r k e = step_in_bad r k e
+
+line_halts : (version k : ℕ) (line : List ℕ) → read_of version line ≡ Err (BadLine k) → LineHalts version (words_of line) k
+unfolding read_of step_of
+line_halts version k [] e = absurd cc
+line_halts version k (octet ∷ line) e = words_halt version k (words_of (octet ∷ line)) (chosen_bad _ (next_of any_word 0 (words_of (octet ∷ line)) >>= line_after version) k e)
+
+pub is_misfit : (version k : ℕ) (line : List ℕ) → read_of version line ≡ Err (BadLine k) → IsMisfit version line k
+is_misfit version k line e =
+    let halts = line_halts version k line e in
+    record {
+      not_blank = λ blank. let none = sym (blank_is_none version line blank) ∙ e in absurd (cc none);
+      no_step = λ made is. let some = sym (says_so version line made is) ∙ e in absurd (cc some);
+      within = halts.within;
+      fits = halts.fits;
+      no_more = halts.no_more;
+    }
+
+pub result_misfit : (version k : ℕ) (line : List ℕ) (r : Result (Option Step) LineFault) → Gives (λ read. read) r (read_of version line) → r ≡ Err (BadLine k) → IsMisfit version line k
+result_misfit version k line r given e = is_misfit version k line (subst (λ (x : Result (Option Step) LineFault). Gives (λ read. read) x (read_of version line)) e given)

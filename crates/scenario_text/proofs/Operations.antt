@@ -1,0 +1,41 @@
+-- How many octets an operation has.
+use Rattle.std.proofs.Common.{◌≡◌, ◌+◌, ℕ, List, [], ◌∷◌, ◌++◌, length, refl, ap, sym, ◌∙◌, arith}
+use Rattle.std.specs.List.{flat_map}
+use Rattle.std.proofs.lemmas.List.{length-append}
+use Rattle.octet_fields.specs.Layout.{Field, laid}
+use Rattle.octet_fields.specs.Subgroups.{subgroup_fields}
+use Rattle.octet_fields.proofs.Fields.{number-length}
+use Rattle.octet_fields.specs.Spelling.{number}
+use Rattle.bass_operations.specs.declared.wishes.Wish.{Wish}
+use Rattle.bass_operations.specs.declared.operation.AddSource.{AddSource}
+use Rattle.bass_operations.specs.declared.operation.ModifySource.{ModifySource}
+use Rattle.bass_operations.specs.declared.operation.Operation.TheVariants.{Add, Modify}
+use Rattle.bass_operations.specs.Layout.{group_of, spelling}
+use Rattle.scenario_words.specs.Places.{wishes_octets}
+
+wishes_length : (wishes : List Wish) → length (laid (flat_map (λ wish. subgroup_fields (group_of wish)) wishes)) ≡ wishes_octets wishes
+wishes_length [] = refl
+wishes_length (wish ∷ wishes) =
+    let rest = wishes_length wishes in
+    let bits = number-length 4 wish.bis_sync in
+    let whole = length-append (number 4 wish.bis_sync) (length wish.metadata ∷ (wish.metadata ++ laid (flat_map (λ w. subgroup_fields (group_of w)) wishes))) in
+    let metadata = length-append wish.metadata (laid (flat_map (λ w. subgroup_fields (group_of w)) wishes)) in
+    omega (arith, rest, bits, whole, metadata)
+
+pub add_length : (op : AddSource) → length op.address ≡ 6 → length op.broadcast_id ≡ 3 → length (spelling (Add op)) ≡ 16 + wishes_octets op.wishes
+add_length op address broadcast_id =
+    let rest = wishes_length op.wishes in
+    let all = laid (flat_map (λ w. subgroup_fields (group_of w)) op.wishes) in
+    let interval = length-append (number 2 op.pa_interval) (length op.wishes ∷ all) in
+    let two = number-length 2 op.pa_interval in
+    let id = length-append op.broadcast_id (op.pa_sync ∷ (number 2 op.pa_interval ++ length op.wishes ∷ all)) in
+    let first = length-append op.address (op.sid ∷ (op.broadcast_id ++ op.pa_sync ∷ (number 2 op.pa_interval ++ length op.wishes ∷ all))) in
+    omega (arith, rest, interval, two, id, first)
+
+pub modify_length : (op : ModifySource) → length (spelling (Modify op)) ≡ 6 + wishes_octets op.wishes
+modify_length op =
+    let rest = wishes_length op.wishes in
+    let all = laid (flat_map (λ w. subgroup_fields (group_of w)) op.wishes) in
+    let interval = length-append (number 2 op.pa_interval) (length op.wishes ∷ all) in
+    let two = number-length 2 op.pa_interval in
+    omega (arith, rest, interval, two)

@@ -1,6 +1,0 @@
-use Rattle.std.proofs.Common.{sym, ◌∙◌}
-use Rattle.scenario_text.proofs.OneWord.{octets_range}
-use Rattle.scenario_text.proofs.cursor.Cursor.octets.Goals as goal
-
-pub returns-in-Some-clause-range : goal.returns-in-Some-clause-range
-returns-in-Some-clause-range c = octets_range c.args.most c.in_ok-word.word.now c.in-Some.octets (sym c.in_ok-octets.ensures ∙ c.in-Some.is)

@@ -1,0 +1,10 @@
+pub mod Splitting
+pub mod Decimals
+pub mod DigitPairs
+pub mod NextWords
+pub mod MoreWords
+pub mod OneWord
+pub mod Streams
+pub mod WishWords
+pub mod Spelling
+pub mod Fitting

@@ -1,0 +1,55 @@
+-- One word of a line: it fits its place, or it doesn't, or none is left.
+use Rattle.std.proofs.Common.{◌∙◌, ◌≡◌, ℕ, ◌+◌, ◌-◌, List, [], ◌∷◌, Option, None, Some, Result, Ok, Err, refl, ap, arith}
+use Rattle.scenario_words.specs.declared.fault.LineFault.{LineFault}
+use Rattle.scenario_words.specs.declared.fault.LineFault.TheVariants.{BadLine, Memory}
+use Rattle.scenario_words.specs.Reading.{Left, Fails, any_word, next_of, next}
+
+abbrev done : {A : Type 0} → A → Result A LineFault
+done x = Ok x
+
+pub ok_is : {A : Type 0} (x y : A) → done x ≡ done y → x ≡ y
+ok_is x y e = cc
+
+abbrev after : List (List ℕ) → ℕ → Left
+after words read = record { words = words; read = read + 1 }
+
+-- a word that fits is read
+fits_of : {X : Type 0} (f : List ℕ → Option X) (read : ℕ) (words : List (List ℕ)) (w : List ℕ) (new : Left) (x : X)
+    → next_of any_word read words ≡ Ok (w, new) → f w ≡ Some x → next_of f read words ≡ Ok (x, new)
+fits_of f read [] w new x e h = absurd cc
+fits_of f read (word ∷ words) w new x e h =
+    let both : (word, after words read) ≡ (w, new) = ok_is (word, after words read) (w, new) e in
+    let this : word ≡ w = ap (λ (p : List ℕ × Left). p.0) both in
+    let rest : after words read ≡ new = ap (λ (p : List ℕ × Left). p.1) both in
+    rw (this, h, rest) refl
+
+pub fits : {X : Type 0} (f : List ℕ → Option X) (old new : Left) (w : List ℕ) (x : X) → next any_word old ≡ Ok (w, new) → f w ≡ Some x → next f old ≡ Ok (x, new)
+fits f old new w x e h = fits_of f old.read old.words w new x e h
+
+less_one : (n : ℕ) → n ≡ n + 1 - 1
+less_one n = omega arith
+
+-- one that doesn't has the number of the words before it
+misfits_of : {X : Type 0} (f : List ℕ → Option X) (read : ℕ) (words : List (List ℕ)) (w : List ℕ) (new : Left) → next_of any_word read words ≡ Ok (w, new)
+    → f w ≡ None → next_of f read words ≡ Err (BadLine (new.read - 1))
+misfits_of f read [] w new e h = absurd cc
+misfits_of f read (word ∷ words) w new e h =
+    let both : (word, after words read) ≡ (w, new) = ok_is (word, after words read) (w, new) e in
+    let this : word ≡ w = ap (λ (p : List ℕ × Left). p.0) both in
+    let rest : after words read ≡ new = ap (λ (p : List ℕ × Left). p.1) both in
+    let number : read ≡ new.read - 1 = less_one read ∙ ap (λ (l : Left). l.read - 1) rest in
+    rw (this, h, ← number) refl
+
+pub misfits : {X : Type 0} (f : List ℕ → Option X) (old new : Left) (w : List ℕ) (fault : LineFault) → next any_word old ≡ Ok (w, new)
+    → f w ≡ None → fault ≡ BadLine (new.read - 1) → Fails fault (next f old)
+misfits f old new w fault e h is = rw is (misfits_of f old.read old.words w new e h)
+
+-- and where none is left, each place has that fault
+none_left_of : {X : Type 0} (f : List ℕ → Option X) (read : ℕ) (words : List (List ℕ)) (fault : LineFault) → Fails fault (next_of any_word read words) → Fails fault (next_of f read words)
+none_left_of f read [] Memory h = tt
+none_left_of f read [] (BadLine word) h = cc
+none_left_of f read (w ∷ words) Memory h = tt
+none_left_of f read (w ∷ words) (BadLine word) h = absurd cc
+
+pub none_left : {X : Type 0} (f : List ℕ → Option X) (old : Left) (fault : LineFault) → Fails fault (next any_word old) → Fails fault (next f old)
+none_left f old fault h = none_left_of f old.read old.words fault h

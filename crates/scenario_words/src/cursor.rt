@@ -1,0 +1,335 @@
+ghost use Rattle.std.specs.Prelude.{◌≡◌, ◌≤◌, ◌^◌, ◌<◌, ◌+◌, ◌-◌, ◌*◌, ◌∷◌, ℕ, List, [], Some, None, length, IfOk, IfSome, IsTrue, ◌≢◌, ◌↔◌};
+ghost use Rattle.scenario_words.specs.Reading.{GivesNext, Fails, Left, next, any_word, decimal_in, framing_in, time_in, octets_in, exact_in, number_in};
+ghost use Rattle.scenario_words.specs.Reading.{list_in, wish_of, wishes_of, all_wishes_of, perhaps_of, rising_of, with_stream as stream_in, ended};
+ghost use Rattle.bass_operations.specs.Layout.{MetadataFits};
+ghost use Rattle.scenario_words.specs.Places.{most_wishes, wishes_octets};
+ghost use Rattle.scenario_words.specs.Words.{words_of};
+ghost use Rattle.scenario_words.specs.Rests.{words_after, octets_after};
+
+use crate::fault::LineFault;
+use crate::word::{array_of, decimal_within, framing_of, list_of, number_of, octets_of, time_of};
+use bass_operations::{Wish, Wishes};
+use bcast_base::{Bis, BisSet, Octets};
+use memchr::memchr;
+use std::alloc::Global;
+use std::marker::Model;
+
+/// The most pairs of words of a line.
+const MOST_WISHES: usize = 31;
+
+/// The greatest time that a unit may have, in µs.
+const GREATEST_TIME: u64 = 1 << 62;
+
+/// The octets up to the first space, and those after it where there is one.
+fn split_word(line: &[u8]) -> (&[u8], Option<&[u8]>)
+    ensures words { words_of line.now ≡ result.0.now ∷ words_after result.1 }
+    ensures shorter { octets_after result.1 ≤ length line.now }
+{
+    match memchr(b' ', line) {
+        None => (line, None),
+        Some(end) => (&line[..end], Some(&line[end + 1..])),
+    }
+}
+
+/// The set with one stream more.
+fn with_stream(which: BisSet, bis: Bis) -> BisSet
+    requires { 1 ≤ bis }
+    ensures { result ≡ stream_in which bis }
+{
+    which.with(bis)
+}
+
+/// The octets of these subgroups in an operation: 4 of BIS_Sync, one that counts the metadata, and the metadata.
+fn octets_of_wishes(wishes: &Wishes) -> usize
+    requires few { length wishes.now ≤ 31 }
+    requires short { MetadataFits wishes.now }
+    ensures { result ≡ wishes_octets wishes.now }
+{
+    let mut octets = 0;
+    'wishes: for i in 0..wishes.count() {
+        octets += 5 + wishes.item(i).metadata.as_slice().len();
+    }
+    octets
+}
+
+/// The words of a line that are still to be read, and how many were read before.
+///
+/// Each call that reads a word answers BadLine with the number of that word, from 0, where it doesn't fit, and with the
+/// number of words of the line where none is left. After a fault the cursor may stand behind the word or before it.
+#[derive(Drop)]
+pub struct Cursor<'a> {
+    rest: Option<&'a [u8]>,
+    read: u64,
+}
+
+impl<'a> Model for Cursor<'a> {
+    ghost use Rattle.std.specs.Prelude.{◌≤◌, ◌+◌, ◌^◌, ◌-◌};
+    ghost use Rattle.scenario_words.specs.Reading.{Left};
+    ghost use Rattle.scenario_words.specs.Rests.{words_after, octets_after};
+
+    ghost Value = { Left };
+
+    ghost view = { λ a. record { words = words_after a.rest; read = a.read } };
+
+    ghost invariant = { λ a. a.read + octets_after a.rest ≤ 2 ^ 64 - 1 };
+}
+
+impl<'a> Cursor<'a> {
+    pub fn new(line: &'a [u8]) -> Cursor<'a>
+        ensures { result ≡ record { words = words_of line.now; read = 0 } }
+    {
+        Cursor {
+            rest: Some(line),
+            read: 0,
+        }
+    }
+
+    /// The fault of the word that was read last.
+    fn misfit(&self) -> LineFault
+        ensures { result ≡ LineFault.BadLine (self.now.read - 1) }
+    {
+        LineFault::BadLine {
+            word: self.read.saturating_sub(1),
+        }
+    }
+
+    /// Whether a word is left.
+    pub fn has_more(&self) -> bool
+        ensures { IsTrue result ↔ (self.now.words ≢ []) }
+    {
+        self.rest.is_some()
+    }
+
+    /// The next word, which may be empty; BadLine where none is left.
+    pub fn word(&mut self) -> Result<&'a [u8], LineFault>
+        ensures { GivesNext (λ word. word.now) result self.new (next any_word self.old) }
+    {
+        let Some(rest) = self.rest else {
+            return Err(LineFault::BadLine { word: self.read });
+        };
+        self.read += 1;
+        let (word, rest) = split_word(rest);
+        self.rest = rest;
+        Ok(word)
+    }
+
+    /// A decimal from `least` to `greatest`.
+    #[tactic(auto, using(crate::proofs::NextWords::fits, crate::proofs::NextWords::misfits, crate::proofs::OneWord::decimal_range))]
+    pub fn number(&mut self, least: u64, greatest: u64) -> Result<u64, LineFault>
+        ensures range { IfOk result (λ n. (least ≤ n) × (n ≤ greatest)) }
+        ensures gives { GivesNext (λ n. n) result self.new (next (decimal_in least greatest) self.old) }
+    {
+        let word = self.word()?;
+        match decimal_within(word, least, greatest) {
+            Some(n) => Ok(n),
+            None => Err(self.misfit()),
+        }
+    }
+
+    /// A decimal of at most `greatest` that is an octet.
+    pub fn octet(&mut self, least: u8, greatest: u8) -> Result<u8, LineFault>
+        ensures range { IfOk result (λ n. (least ≤ n) × (n ≤ greatest)) }
+        ensures gives { GivesNext (λ n. n) result self.new (next (decimal_in least greatest) self.old) }
+    {
+        Ok(self.number(u64::from(least), u64::from(greatest))? as u8)
+    }
+
+    /// A decimal that fits a number of so many bits, at most 32.
+    pub fn bits(&mut self, width: u32) -> Result<u32, LineFault>
+        requires { width ≤ 32 }
+        ensures range { IfOk result (λ n. n < 2 ^ width) }
+        ensures gives { GivesNext (λ n. n) result self.new (next (decimal_in 0 (2 ^ width - 1)) self.old) }
+    {
+        Ok(self.number(0, (1u64 << width) - 1)? as u32)
+    }
+
+    /// The index of a stream, from `least` to 31.
+    pub fn bis(&mut self, least: u8) -> Result<Bis, LineFault>
+        requires { 1 ≤ least }
+        ensures range { IfOk result (λ bis. (least ≤ bis) × (bis ≤ 31)) }
+        ensures gives { GivesNext (λ n. n) result self.new (next (decimal_in least 31) self.old) }
+    {
+        let index = self.octet(least, 31)?;
+        match Bis::new(index) {
+            Some(bis) => Ok(bis),
+            None => Err(self.misfit()),
+        }
+    }
+
+    /// A decimal from `least` to `greatest`, where a word is left.
+    pub fn perhaps(&mut self, least: u16, greatest: u16) -> Result<Option<u16>, LineFault>
+        ensures { GivesNext (λ n. n) result self.new (perhaps_of least greatest self.old.read self.old.words) }
+    {
+        if !self.has_more() {
+            return Ok(None);
+        }
+        Ok(Some(self.number(u64::from(least), u64::from(greatest))? as u16))
+    }
+
+    /// One index or more, each above the one before.
+    pub fn rising(&mut self) -> Result<BisSet, LineFault>
+        ensures { GivesNext (λ n. n) result self.new (rising_of self.old) }
+    {
+        let first = self.bis(1)?;
+        let mut which = with_stream(BisSet::new(), first);
+        let mut last = first.get();
+        'indices: while self.has_more() {
+            let bis = self.bis(last + 1)?;
+            which = with_stream(which, bis);
+            last = bis.get();
+        }
+        Ok(which)
+    }
+
+    /// `unframed` is 0 and `framed` is 1.
+    #[tactic(auto, using(crate::proofs::NextWords::fits, crate::proofs::NextWords::misfits, crate::proofs::OneWord::framing_range))]
+    pub fn framing(&mut self) -> Result<u8, LineFault>
+        ensures range { IfOk result (λ framing. framing ≤ 1) }
+        ensures gives { GivesNext (λ n. n) result self.new (next framing_in self.old) }
+    {
+        let word = self.word()?;
+        match framing_of(word) {
+            Some(framing) => Ok(framing),
+            None => Err(self.misfit()),
+        }
+    }
+
+    /// `-`, or a decimal of at most 2 ^ 62.
+    #[tactic(auto, using(crate::proofs::NextWords::fits, crate::proofs::NextWords::misfits))]
+    pub fn time(&mut self) -> Result<Option<u64>, LineFault>
+        ensures { GivesNext (λ n. n) result self.new (next (time_in (2 ^ 62)) self.old) }
+    {
+        let word = self.word()?;
+        match time_of(word, GREATEST_TIME) {
+            Some(time) => Ok(time),
+            None => Err(self.misfit()),
+        }
+    }
+
+    /// Octets as pairs of hexadecimal digits, or `-` for none; at most `most`.
+    #[tactic(auto, using(crate::proofs::NextWords::fits, crate::proofs::NextWords::misfits))]
+    pub fn octets(&mut self, alloc: Global, most: usize) -> Result<Octets, LineFault>
+        ensures range { IfOk result (λ octets. length octets ≤ most) }
+        ensures gives { GivesNext (λ n. n) result self.new (next (octets_in most) self.old) }
+    {
+        let word = self.word()?;
+        match octets_of(alloc, word, most)? {
+            Some(octets) => Ok(octets),
+            None => Err(self.misfit()),
+        }
+    }
+
+    /// Exactly `N` octets as pairs of hexadecimal digits.
+    #[tactic(auto, using(crate::proofs::NextWords::fits, crate::proofs::NextWords::misfits, crate::proofs::OneWord::exact_length))]
+    pub fn array<const N: usize>(&mut self) -> Result<[u8; N], LineFault>
+        requires { 0 < N }
+        ensures range { IfOk result (λ octets. length octets ≡ N) }
+        ensures gives { GivesNext (λ n. n) result self.new (next (exact_in N) self.old) }
+    {
+        let word = self.word()?;
+        match array_of(word) {
+            Some(octets) => Ok(octets),
+            None => Err(self.misfit()),
+        }
+    }
+
+    /// The number in exactly `N` octets, the least octet first.
+    #[tactic(auto, using(crate::proofs::NextWords::fits, crate::proofs::NextWords::misfits))]
+    fn little<const N: usize>(&mut self) -> Result<u64, LineFault>
+        requires some { 0 < N }
+        requires few { N ≤ 8 }
+        ensures range { IfOk result (λ n. n < 2 ^ (8 * N)) }
+        ensures gives { GivesNext (λ n. n) result self.new (next (number_in N) self.old) }
+    {
+        let word = self.word()?;
+        match number_of::<N>(word) {
+            Some(n) => Ok(n),
+            None => Err(self.misfit()),
+        }
+    }
+
+    /// The number in 2 octets.
+    pub fn two_octets(&mut self) -> Result<u16, LineFault>
+        ensures { GivesNext (λ n. n) result self.new (next (number_in 2) self.old) }
+    {
+        Ok(self.little::<2>()? as u16)
+    }
+
+    /// The number in 4 octets.
+    pub fn four_octets(&mut self) -> Result<u32, LineFault>
+        ensures { GivesNext (λ n. n) result self.new (next (number_in 4) self.old) }
+    {
+        Ok(self.little::<4>()? as u32)
+    }
+
+    /// An LTV list of at most `most` octets.
+    #[tactic(auto, using(crate::proofs::NextWords::fits, crate::proofs::NextWords::misfits, crate::proofs::OneWord::list_range))]
+    pub fn list(&mut self, alloc: Global, most: usize) -> Result<Octets, LineFault>
+        ensures range { IfOk result (λ octets. length octets ≤ most) }
+        ensures gives { GivesNext (λ n. n) result self.new (next (list_in most) self.old) }
+    {
+        let word = self.word()?;
+        match list_of(alloc, word, most)? {
+            Some(octets) => Ok(octets),
+            None => Err(self.misfit()),
+        }
+    }
+
+    /// A pair of words: BIS_Sync in 4 octets, and at most 255 octets of metadata.
+    fn wish(&mut self, alloc: Global) -> Result<Wish, LineFault>
+        ensures range { IfOk result (λ wish. length wish.metadata ≤ 255) }
+        ensures gives { GivesNext (λ n. n) result self.new (wish_of self.old) }
+    {
+        Ok(Wish {
+            bis_sync: self.four_octets()?,
+            metadata: self.octets(alloc, 255)?,
+        })
+    }
+
+    /// Pairs of words as long as words are left, at most 31.
+    fn pairs(&mut self, alloc: Global) -> Result<Wishes, LineFault>
+        ensures range { IfOk result (λ wishes. (length wishes ≤ 31) × MetadataFits wishes) }
+        ensures gives { GivesNext (λ n. n) result self.new (wishes_of [] most_wishes self.old.read self.old.words) }
+    {
+        let mut wishes = Wishes::new(alloc);
+        'pairs: while self.has_more() {
+            if wishes.count() == MOST_WISHES {
+                return Ok(wishes);
+            }
+            let wish = self.wish(alloc)?;
+            wishes.push(wish)?;
+        }
+        Ok(wishes)
+    }
+
+    /// Pairs of words as long as words are left, at most 31, which make at most `most` octets of an operation; else BadLine
+    /// has the number of words read.
+    pub fn wishes(&mut self, alloc: Global, most: usize) -> Result<Wishes, LineFault>
+        ensures { GivesNext (λ n. n) result self.new (all_wishes_of most self.old) }
+    {
+        let wishes = self.pairs(alloc)?;
+        let fault = LineFault::BadLine { word: self.read };
+        if octets_of_wishes(&wishes) > most {
+            return Err(fault);
+        }
+        Ok(wishes)
+    }
+
+    /// How many words were read.
+    pub fn count(&self) -> u64
+        ensures { result ≡ self.now.read }
+    {
+        self.read
+    }
+
+    /// BadLine where a word is left.
+    pub fn finish(&self) -> Result<(), LineFault>
+        ensures { result ≡ ended self.now.read self.now.words }
+    {
+        if self.rest.is_some() {
+            Err(LineFault::BadLine { word: self.read })
+        } else {
+            Ok(())
+        }
+    }
+}

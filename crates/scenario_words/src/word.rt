@@ -1,0 +1,116 @@
+ghost use Rattle.std.specs.Prelude.{◌≡◌, ◌≤◌, ◌<◌, ◌^◌, ◌*◌, IfOk, IfSome, length};
+ghost use Rattle.scenario_words.specs.Reading.{decimal_in, framing_in, time_in, octets_in, exact_in, number_in, list_in};
+
+use crate::decimal::decimal;
+use crate::digits::decodes;
+use bcast_base::{Memory, Octets, read_le};
+use ltv_codec::check_ltvs;
+use std::alloc::Global;
+
+/// The number from `least` to `greatest` that a word spells.
+#[tactic(auto, using(crate::proofs::OneWord::decimal_fits, crate::proofs::OneWord::decimal_misfits))]
+pub fn decimal_within(word: &[u8], least: u64, greatest: u64) -> Option<u64>
+    ensures { result ≡ decimal_in least greatest word.now }
+{
+    let n = decimal(word)?;
+    if n < least {
+        return None;
+    }
+    if greatest < n {
+        return None;
+    }
+    Some(n)
+}
+
+/// `unframed` is 0 and `framed` is 1.
+#[tactic(auto, unfolding(crate::specs::Reading::framing_in))]
+pub fn framing_of(word: &[u8]) -> Option<u8>
+    ensures { result ≡ framing_in word.now }
+{
+    if word == b"unframed".as_slice() {
+        Some(0)
+    } else if word == b"framed".as_slice() {
+        Some(1)
+    } else {
+        None
+    }
+}
+
+/// `-` for none, or a number of at most `greatest`.
+#[tactic(auto, unfolding(crate::specs::Reading::time_in))]
+pub fn time_of(word: &[u8], greatest: u64) -> Option<Option<u64>>
+    ensures { result ≡ time_in greatest word.now }
+{
+    if word == b"-".as_slice() {
+        return Some(None);
+    }
+    match decimal_within(word, 0, greatest) {
+        Some(time) => Some(Some(time)),
+        None => None,
+    }
+}
+
+/// At most `most` octets as pairs of hexadecimal digits, or `-` for none.
+pub fn octets_of(alloc: Global, word: &[u8], most: usize) -> Result<Option<Octets>, Memory>
+    ensures { IfOk result (λ octets. octets ≡ octets_in most word.now) }
+{
+    if word == b"-".as_slice() {
+        return Ok(Some(Octets::new(alloc)));
+    }
+    if word.is_empty() {
+        return Ok(None);
+    }
+    let count = word.len() / 2;
+    if count > most {
+        return Ok(None);
+    }
+    let mut octets = vec![in alloc; 0u8; count]?;
+    if !decodes(word, octets.as_mut_slice()) {
+        return Ok(None);
+    }
+    Ok(Some(Octets::of(octets)))
+}
+
+/// An LTV list of at most `most` octets.
+#[tactic(auto, using(crate::proofs::OneWord::no_list, crate::proofs::OneWord::bad_list, crate::proofs::OneWord::a_list))]
+pub fn list_of(alloc: Global, word: &[u8], most: usize) -> Result<Option<Octets>, Memory>
+    ensures { IfOk result (λ octets. octets ≡ list_in most word.now) }
+{
+    let Some(octets) = octets_of(alloc, word, most)? else {
+        return Ok(None);
+    };
+    match check_ltvs(octets.as_slice()) {
+        Ok(()) => Ok(Some(octets)),
+        Err(_bad) => Ok(None),
+    }
+}
+
+/// The number in exactly `N` octets, the least octet first.
+#[tactic(auto, using(crate::proofs::OneWord::no_number, crate::proofs::OneWord::a_number))]
+pub fn number_of<const N: usize>(word: &[u8]) -> Option<u64>
+    requires some { 0 < N }
+    requires few { N ≤ 8 }
+    ensures exact { result ≡ number_in N word.now }
+    ensures range { IfSome result (λ n. n < 2 ^ (8 * N)) }
+{
+    match array_of::<N>(word) {
+        Some(octets) => Some(read_le(&octets)),
+        None => None,
+    }
+}
+
+/// Exactly `N` octets as pairs of hexadecimal digits.
+pub fn array_of<const N: usize>(word: &[u8]) -> Option<[u8; N]>
+    requires { 0 < N }
+    ensures exact { result ≡ exact_in N word.now }
+    ensures whole { IfSome result (λ octets. length octets ≡ N) }
+{
+    if word.len() / 2 != N {
+        return None;
+    }
+    let mut octets = [0; N];
+    if !decodes(word, &mut octets) {
+        return None;
+    }
+    Some(octets)
+}
