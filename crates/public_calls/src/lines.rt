@@ -93,10 +93,19 @@ fn each_version_has_its_lines(rt: HostRuntime) {
 // An odd number of words behind PA_Interval lacks a word; a list of one octet that counts two is none.
 #[test]
 fn a_pair_lacks_a_word_and_a_list_its_end(rt: HostRuntime) {
-    assert_eq!(rt; fault_of(rt.alloc(), b"modify 0 0 0 65535 ffffffff"), bad(6));
-    assert_eq!(rt; fault_of(rt.alloc(), b"modify 0 0 0 65535 ffffff -"), bad(5));
+    assert_eq!(rt;
+        fault_of(rt.alloc(), b"modify 0 0 0 65535 ffffffff"),
+        bad(6)
+    );
+    assert_eq!(rt;
+        fault_of(rt.alloc(), b"modify 0 0 0 65535 ffffff -"),
+        bad(5)
+    );
     assert_eq!(rt; fault_of(rt.alloc(), b"meta 02"), bad(1));
-    assert_eq!(rt; fault_of(rt.alloc(), b"ident 0 0000000000 1 000000"), bad(2));
+    assert_eq!(rt;
+        fault_of(rt.alloc(), b"ident 0 0000000000 1 000000"),
+        bad(2)
+    );
 }
 
 #[test]
