@@ -17,7 +17,7 @@ use Rattle.base_grammar.specs.declared.subgroup.Subgroup.{Subgroup}
 use Rattle.base_grammar.specs.Checking.{Seen, Passed, Passes, same_bis, entry_bis, entries_bis, subgroup_bis}
 use Rattle.base_grammar.specs.Layout.{Endpoint, is_lc3, bis_of, indices, stands_in}
 use Rattle.base_grammar.specs.Rows.{index_fault}
-use Rattle.base_grammar.specs.Reading.{needed, unless, run_at, index_at, entry_at, entries_at, streams_at, subgroup_at, subgroups_at, rest_of, base_of, Refuses}
+use Rattle.base_grammar.specs.Reading.{field_at, unless, run_at, index_at, entry_at, entries_at, streams_at, subgroup_at, subgroups_at, rest_of, base_of, Refuses}
 use Rattle.base_grammar.proofs.Firsts.{read_bad}
 use Rattle.base_grammar.proofs.Loops.{Entering, entering_first, entering_next, entering_err, entering_done, Grouping, grouping_first, grouping_next, grouping_err, grouping_done, indices-push}
 use Rattle.base_grammar.proofs.Steps.{none_index}
@@ -66,11 +66,11 @@ seen_more set more bis before s has others = λ b least greatest. by_test b leas
 
 -- ---- an index
 
-pub index_unread : (whole before rest : List ℕ) (f : BaseFault) → needed whole rest (octet_in rest) ≡ Err f → index_at whole before rest ≡ Err f
+pub index_unread : (whole before rest : List ℕ) (f : BaseFault) → field_at whole rest (octet_in rest) ≡ Err f → index_at whole before rest ≡ Err f
 unfolding index_at
 index_unread whole before rest f e = rw e refl
 
-index_tested : (whole before rest : List ℕ) (bis : ℕ) (after : List ℕ) (o : Option BaseFault) → needed whole rest (octet_in rest) ≡ Ok (bis, after)
+index_tested : (whole before rest : List ℕ) (bis : ℕ) (after : List ℕ) (o : Option BaseFault) → field_at whole rest (octet_in rest) ≡ Ok (bis, after)
     → index_fault (place_in whole rest) before bis ≡ o → index_at whole before rest ≡ unless o (bis, after)
 unfolding index_at
 index_tested whole before rest bis after o e h = rw (e, h) refl
@@ -85,18 +85,18 @@ outside place before bis none =
 twice : (place : ℕ) (before : List ℕ) (bis : ℕ) → 1 ≤ bis → bis ≤ 31 → stands_in before bis ≡ true → index_fault place before bis ≡ Some (faults.IndexTwice place)
 twice place before bis least greatest e = rw (le-ltb bis 1 least, le-ltb 31 bis greatest, e) refl
 
-pub index_outside : (whole before rest : List ℕ) (bis : ℕ) (after : List ℕ) → needed whole rest (octet_in rest) ≡ Ok (bis, after) → ((1 ≤ bis) × (bis ≤ 31) → ⊥)
+pub index_outside : (whole before rest : List ℕ) (bis : ℕ) (after : List ℕ) → field_at whole rest (octet_in rest) ≡ Ok (bis, after) → ((1 ≤ bis) × (bis ≤ 31) → ⊥)
     → index_at whole before rest ≡ Err (faults.BadIndex (place_in whole rest))
 index_outside whole before rest bis after e none =
     index_tested whole before rest bis after (Some (faults.BadIndex (place_in whole rest))) e (outside (place_in whole rest) before bis none)
 
-pub index_twice : (whole before rest : List ℕ) (bis : ℕ) (after : List ℕ) (set : ℕ) (has : Bool) → needed whole rest (octet_in rest) ≡ Ok (bis, after) → 1 ≤ bis → bis ≤ 31
+pub index_twice : (whole before rest : List ℕ) (bis : ℕ) (after : List ℕ) (set : ℕ) (has : Bool) → field_at whole rest (octet_in rest) ≡ Ok (bis, after) → 1 ≤ bis → bis ≤ 31
     → Seen set before → (IsTrue has ↔ Has set bis) → has ≡ true → index_at whole before rest ≡ Err (faults.IndexTwice (place_in whole rest))
 index_twice whole before rest bis after set has e least greatest s h met =
     index_tested whole before rest bis after (Some (faults.IndexTwice (place_in whole rest))) e
     (twice (place_in whole rest) before bis least greatest (stands set before bis has s least greatest h met))
 
-pub index_passed : (whole before rest : List ℕ) (bis : ℕ) (after : List ℕ) (set more : ℕ) (has : Bool) → needed whole rest (octet_in rest) ≡ Ok (bis, after) → 1 ≤ bis → bis ≤ 31
+pub index_passed : (whole before rest : List ℕ) (bis : ℕ) (after : List ℕ) (set more : ℕ) (has : Bool) → field_at whole rest (octet_in rest) ≡ Ok (bis, after) → 1 ≤ bis → bis ≤ 31
     → Seen set before → (IsTrue has ↔ Has set bis) → has ≡ false → Has more bis → ((b : ℕ) → 1 ≤ b → b ≢ bis → (Has more b ↔ Has set b))
     → Passed same_bis before more after (index_at whole before rest)
 index_passed whole before rest bis after set more has e least greatest s h unmet new others =
@@ -181,36 +181,36 @@ pub subgroup_uncounted : (whole before rest : List ℕ) (f : BaseFault) → stre
 unfolding subgroup_at
 subgroup_uncounted whole before rest f e = rw e refl
 
-pub subgroup_uncoded : (whole before rest : List ℕ) (count : ℕ) (r1 : List ℕ) (f : BaseFault) → streams_at whole rest ≡ Ok (count, r1) → needed whole r1 (octets_in 5 r1) ≡ Err f
+pub subgroup_uncoded : (whole before rest : List ℕ) (count : ℕ) (r1 : List ℕ) (f : BaseFault) → streams_at whole rest ≡ Ok (count, r1) → field_at whole r1 (octets_in 5 r1) ≡ Err f
     → subgroup_at whole before rest ≡ Err f
 unfolding subgroup_at
 subgroup_uncoded whole before rest count r1 f a e = rw (a, e) refl
 
 pub subgroup_unconfigured : (whole before rest : List ℕ) (count : ℕ) (r1 codec r2 : List ℕ) (f : BaseFault) → streams_at whole rest ≡ Ok (count, r1)
-    → needed whole r1 (octets_in 5 r1) ≡ Ok (codec, r2) → run_at whole (is_lc3 codec) r2 ≡ Err f → subgroup_at whole before rest ≡ Err f
+    → field_at whole r1 (octets_in 5 r1) ≡ Ok (codec, r2) → run_at whole (is_lc3 codec) r2 ≡ Err f → subgroup_at whole before rest ≡ Err f
 unfolding subgroup_at
 subgroup_unconfigured whole before rest count r1 codec r2 f a b e = rw (a, b, e) refl
 
 pub subgroup_undescribed : (whole before rest : List ℕ) (count : ℕ) (r1 codec r2 config r3 : List ℕ) (f : BaseFault) → streams_at whole rest ≡ Ok (count, r1)
-    → needed whole r1 (octets_in 5 r1) ≡ Ok (codec, r2) → run_at whole (is_lc3 codec) r2 ≡ Ok (config, r3) → run_at whole true r3 ≡ Err f → subgroup_at whole before rest ≡ Err f
+    → field_at whole r1 (octets_in 5 r1) ≡ Ok (codec, r2) → run_at whole (is_lc3 codec) r2 ≡ Ok (config, r3) → run_at whole true r3 ≡ Err f → subgroup_at whole before rest ≡ Err f
 unfolding subgroup_at
 subgroup_undescribed whole before rest count r1 codec r2 config r3 f a b c e = rw (a, b, c, e) refl
 
 subgroup_unread : (whole before rest : List ℕ) (count : ℕ) (r1 codec r2 config r3 metadata r4 : List ℕ) (f : BaseFault) → streams_at whole rest ≡ Ok (count, r1)
-    → needed whole r1 (octets_in 5 r1) ≡ Ok (codec, r2) → run_at whole (is_lc3 codec) r2 ≡ Ok (config, r3) → run_at whole true r3 ≡ Ok (metadata, r4)
+    → field_at whole r1 (octets_in 5 r1) ≡ Ok (codec, r2) → run_at whole (is_lc3 codec) r2 ≡ Ok (config, r3) → run_at whole true r3 ≡ Ok (metadata, r4)
     → entries_at whole (is_lc3 codec) before count r4 ≡ Err f → subgroup_at whole before rest ≡ Err f
 unfolding subgroup_at
 subgroup_unread whole before rest count r1 codec r2 config r3 metadata r4 f a b c d e = rw (a, b, c, d, e) refl
 
 subgroup_read : (whole before rest : List ℕ) (count : ℕ) (r1 codec r2 config r3 metadata r4 : List ℕ) (es : List BaseEntry) (left : List ℕ) → streams_at whole rest ≡ Ok (count, r1)
-    → needed whole r1 (octets_in 5 r1) ≡ Ok (codec, r2) → run_at whole (is_lc3 codec) r2 ≡ Ok (config, r3) → run_at whole true r3 ≡ Ok (metadata, r4)
+    → field_at whole r1 (octets_in 5 r1) ≡ Ok (codec, r2) → run_at whole (is_lc3 codec) r2 ≡ Ok (config, r3) → run_at whole true r3 ≡ Ok (metadata, r4)
     → entries_at whole (is_lc3 codec) before count r4 ≡ Ok (es, left)
     → subgroup_at whole before rest ≡ Ok (record { codec = codec; config = config; metadata = metadata; entries = es }, left)
 unfolding subgroup_at
 subgroup_read whole before rest count r1 codec r2 config r3 metadata r4 es left a b c d e = rw (a, b, c, d, e) refl
 
 pub subgroup_ends : {R : Type 0} (view : R → List ℕ) (result : Result R BaseFault) (set : ℕ) (whole before rest : List ℕ) (count : ℕ) (r1 codec r2 config r3 metadata r4 : List ℕ)
-    → streams_at whole rest ≡ Ok (count, r1) → needed whole r1 (octets_in 5 r1) ≡ Ok (codec, r2) → run_at whole (is_lc3 codec) r2 ≡ Ok (config, r3)
+    → streams_at whole rest ≡ Ok (count, r1) → field_at whole r1 (octets_in 5 r1) ≡ Ok (codec, r2) → run_at whole (is_lc3 codec) r2 ≡ Ok (config, r3)
     → run_at whole true r3 ≡ Ok (metadata, r4) → Passes entries_bis before set view result (entries_at whole (is_lc3 codec) before count r4)
     → Passes subgroup_bis before set view result (subgroup_at whole before rest)
 subgroup_ends view (Ok left) set whole before rest count r1 codec r2 config r3 metadata r4 a b c d p =

@@ -7,7 +7,8 @@ use Rattle.base_grammar.specs.declared.subgroup.BaseEntry.{BaseEntry}
 use Rattle.base_grammar.specs.declared.subgroup.Subgroup.{Subgroup}
 use Rattle.base_grammar.specs.Layout.{endpoint, is_lc3, bis_of}
 use Rattle.base_grammar.specs.Rows.{subgroups_fault, streams_fault, index_fault}
-use Rattle.base_grammar.specs.Reading.{◌>>=◌, needed, run_at, index_at, entry_at, entries_at, streams_at, subgroup_at, subgroups_at, count_at, ended, fields_of}
+use Rattle.octet_fields.specs.Tries.{◌>>=◌}
+use Rattle.base_grammar.specs.Reading.{field_at, run_at, index_at, entry_at, entries_at, streams_at, subgroup_at, subgroups_at, count_at, ended, fields_of}
 use Rattle.base_grammar.specs.Faults.{Row, num_subgroups, num_bis, codec_id, config_length, config, metadata_length, metadata, bis_index, bis_config_length, bis_config, nothing}
 use Rattle.base_grammar.specs.Faults.{Due, first_due, behind_entry, behind_subgroup, AtCut}
 use Rattle.base_grammar.proofs.Taken.{streams_take, count_takes}
@@ -90,12 +91,12 @@ subgroup_comes : (whole : List ℕ) (is_list : Bool) (streams subgroups : ℕ) (
 unfolding subgroup_at streams_at
 subgroup_comes whole is_list streams subgroups before rest a =
     comes_then whole (λ n. due_at codec_id is_list n subgroups before) (subgrouped subgroups before) (streams_at whole rest)
-    (λ count. needed whole count.1 (octets_in 5 count.1) >>= λ codec. run_at whole (is_lc3 codec.0) codec.1 >>= λ config. run_at whole true config.1
+    (λ count. field_at whole count.1 (octets_in 5 count.1) >>= λ codec. run_at whole (is_lc3 codec.0) codec.1 >>= λ config. run_at whole true config.1
     >>= λ metadata. entries_at whole (is_lc3 codec.0) before count.0 metadata.1
     >>= λ entries. Ok (record { codec = codec.0; config = config.0; metadata = metadata.0; entries = entries.0 }, entries.1))
     (ruled_octet_comes whole (due_at num_bis is_list streams subgroups before) rest (streams_fault (place_in whole rest)) a tt refl (λ x. refl))
     (λ count read a1.
-    comes_then whole (λ codec. due_at config_length (is_lc3 codec) count.0 subgroups before) (subgrouped subgroups before) (needed whole count.1 (octets_in 5 count.1))
+    comes_then whole (λ codec. due_at config_length (is_lc3 codec) count.0 subgroups before) (subgrouped subgroups before) (field_at whole count.1 (octets_in 5 count.1))
     (λ codec. run_at whole (is_lc3 codec.0) codec.1 >>= λ config. run_at whole true config.1 >>= λ metadata. entries_at whole (is_lc3 codec.0) before count.0 metadata.1
     >>= λ entries. Ok (record { codec = codec.0; config = config.0; metadata = metadata.0; entries = entries.0 }, entries.1))
     (octets_come whole (due_at codec_id is_list count.0 subgroups before) 5 count.1 a1 tt refl (λ field. refl))
@@ -176,7 +177,7 @@ all_ended whole delay (Err fault) f = f
 pub fields_end : (whole : List ℕ) → Ends whole (fields_of whole)
 unfolding fields_of count_at
 fields_end whole =
-    ends_then whole (λ (_ : ℕ). due_at num_subgroups false 0 0 []) (needed whole whole (number_in 3 whole))
+    ends_then whole (λ (_ : ℕ). due_at num_subgroups false 0 0 []) (field_at whole whole (number_in 3 whole))
     (λ delay. count_at whole delay.1 >>= λ count. subgroups_at whole [] count.0 count.1 >>= λ subgroups. ended whole subgroups.1 (endpoint delay.0 subgroups.0))
     (number_comes whole first_due (due_at num_subgroups false 0 0 []) 3 whole (at_first whole) tt refl (λ field. refl) (λ field. refl))
     (λ delay _ a1.

@@ -8,7 +8,8 @@ use Rattle.base_grammar.specs.declared.fault.BaseFault.TheVariants as faults
 use Rattle.base_grammar.specs.declared.subgroup.BaseEntry.{BaseEntry}
 use Rattle.base_grammar.specs.declared.subgroup.Subgroup.{Subgroup}
 use Rattle.base_grammar.specs.Layout.{bis_of, indices}
-use Rattle.base_grammar.specs.Reading.{◌>>=◌, Fails, entry_at, entries_at, subgroup_at, subgroups_at}
+use Rattle.octet_fields.specs.Tries.{◌>>=◌}
+use Rattle.base_grammar.specs.Reading.{Fails, entry_at, entries_at, subgroup_at, subgroups_at}
 
 -- what was read before, and what is still read
 abbrev pub with_front : {A : Type 0} → List A → Result (List A × List ℕ) BaseFault → Result (List A × List ℕ) BaseFault

@@ -7,23 +7,16 @@ use Rattle.ltv_codec.specs.Reading.{bad_of}
 use Rattle.ltv_codec.proofs.Loops.{are_read, reads}
 use Rattle.ltv_codec.specs.declared.fault.LtvBad.{LtvBad}
 use Rattle.base_grammar.specs.declared.fault.BaseFault.{BaseFault}
-use Rattle.base_grammar.specs.declared.fault.BaseFault.TheVariants.{NoSubgroup, NoBis, BadIndex, IndexTwice, Ltv}
+use Rattle.base_grammar.specs.declared.fault.BaseFault.TheVariants.{Short, NoSubgroup, NoBis, BadIndex, IndexTwice, Ltv}
+use Rattle.octet_fields.specs.Reading.{place_in}
 use Rattle.base_grammar.specs.Layout.{IsConfig, stands_in}
 use Rattle.base_grammar.specs.Rows.{subgroups_fault, streams_fault, index_fault, run_fault}
-use Rattle.base_grammar.specs.Reading.{◌>>=◌, needed, unless}
-
--- the value of a step that did not fail
-pub bind_ok : {A B : Type 0} (r : Result A BaseFault) (f : A → Result B BaseFault) (y : B) → (r >>= f) ≡ Ok y → (x : A) × (r ≡ Ok x) × (f x ≡ Ok y)
-bind_ok (Ok x) f y e = (x, refl, e)
-bind_ok (Err fault) f y e = absurd cc
-
-pub ok_is : {A : Type 0} (x y : A) → (let r : A → Result A BaseFault = λ z. Ok z in r x ≡ r y) → x ≡ y
-ok_is x y e = cc
+use Rattle.octet_fields.proofs.Tries.{needed_ok, ok_is}
+use Rattle.base_grammar.specs.Reading.{field_at, unless}
 
 -- a field that is whole
-pub needed_ok : {A : Type 0} (whole rest : List ℕ) (o : Option A) (x : A) → needed whole rest o ≡ Ok x → o ≡ Some x
-needed_ok whole rest None x e = absurd cc
-needed_ok whole rest (Some y) x e = ap (λ z. Some z) (ok_is y x e)
+pub field_ok : {A : Type 0} (whole rest : List ℕ) (o : Option A) (x : A) → field_at whole rest o ≡ Ok x → o ≡ Some x
+field_ok whole rest o x e = needed_ok (Short (place_in whole rest)) o x e
 
 -- a rule that is kept
 pub unless_ok : {A : Type 0} (o : Option BaseFault) (x y : A) → unless o x ≡ Ok y → (o ≡ None) × (x ≡ y)

@@ -10,8 +10,10 @@ use Rattle.base_grammar.specs.declared.subgroup.BaseEntry.{BaseEntry}
 use Rattle.base_grammar.specs.declared.subgroup.Subgroup.{Subgroup}
 use Rattle.base_grammar.specs.Layout.{Endpoint, endpoint, is_lc3, entry, subgroup, spelling, bis_of, indices, stands_in, AreNew, IsConfig, EntryFits, SubgroupFits, HasEntry}
 use Rattle.base_grammar.specs.Rows.{subgroups_fault, streams_fault, index_fault, run_fault}
-use Rattle.base_grammar.specs.Reading.{◌>>=◌, needed, unless, run_at, index_at, entry_at, entries_at, streams_at, subgroup_at, subgroups_at, count_at, ended, fields_of}
-use Rattle.base_grammar.proofs.Steps.{bind_ok, ok_is, needed_ok, unless_ok, subgroups_none, streams_none, run_none, index_none}
+use Rattle.octet_fields.specs.Tries.{◌>>=◌}
+use Rattle.base_grammar.specs.Reading.{field_at, unless, run_at, index_at, entry_at, entries_at, streams_at, subgroup_at, subgroups_at, count_at, ended, fields_of}
+use Rattle.octet_fields.proofs.Tries.{bind_ok, ok_is}
+use Rattle.base_grammar.proofs.Steps.{field_ok, unless_ok, subgroups_none, streams_none, run_none, index_none}
 
 -- ---- fields
 
@@ -19,12 +21,12 @@ pub run_takes : (whole : List ℕ) (is_list : Bool) (from value rest : List ℕ)
     → Takes from (counted value) rest × IsConfig is_list value
 unfolding run_at
 run_takes whole is_list from value rest fits e =
-    let a = bind_ok (needed whole from (octet_in from)) (λ count. needed whole count.1 (octets_in count.0 count.1) >>= λ run. unless (run_fault (place_in whole count.1) is_list run.0) run)
+    let a = bind_ok (field_at whole from (octet_in from)) (λ count. field_at whole count.1 (octets_in count.0 count.1) >>= λ run. unless (run_fault (place_in whole count.1) is_list run.0) run)
     (value, rest) e in
-    let b = bind_ok (needed whole a.0.1 (octets_in a.0.0 a.0.1)) (λ run. unless (run_fault (place_in whole a.0.1) is_list run.0) run) (value, rest) a.2 in
+    let b = bind_ok (field_at whole a.0.1 (octets_in a.0.0 a.0.1)) (λ run. unless (run_fault (place_in whole a.0.1) is_list run.0) run) (value, rest) a.2 in
     let g = unless_ok (run_fault (place_in whole a.0.1) is_list b.0.0) b.0 (value, rest) b.2 in
-    let count = octet_takes from a.0.0 a.0.1 (needed_ok whole from (octet_in from) a.0 a.1) in
-    let run = octets_take a.0.0 a.0.1 b.0.0 b.0.1 (needed_ok whole a.0.1 (octets_in a.0.0 a.0.1) b.0 b.1) in
+    let count = octet_takes from a.0.0 a.0.1 (field_ok whole from (octet_in from) a.0 a.1) in
+    let run = octets_take a.0.0 a.0.1 b.0.0 b.0.1 (field_ok whole a.0.1 (octets_in a.0.0 a.0.1) b.0 b.1) in
     let both = Takes-then from (octet a.0.0) a.0.1 b.0.0 b.0.1 count run.0 in
     let spelled : Takes from (counted b.0.0) b.0.1 = subst (λ (n : ℕ). Takes from (n ∷ b.0.0) b.0.1) (sym run.1) both in
     let run_fits : IsOctets b.0.0 = IsOctets-front b.0.0 b.0.1 (subst IsOctets run.0.parts (count.fits fits)) in
@@ -35,26 +37,26 @@ pub index_takes : (whole before from : List ℕ) (bis : ℕ) (rest : List ℕ) �
     → Takes from (octet bis) rest × ((1 ≤ bis) × (bis ≤ 31) × (stands_in before bis ≡ false))
 unfolding index_at
 index_takes whole before from bis rest e =
-    let a = bind_ok (needed whole from (octet_in from)) (λ x. unless (index_fault (place_in whole from) before x.0) x) (bis, rest) e in
+    let a = bind_ok (field_at whole from (octet_in from)) (λ x. unless (index_fault (place_in whole from) before x.0) x) (bis, rest) e in
     let g = unless_ok (index_fault (place_in whole from) before a.0.0) a.0 (bis, rest) a.2 in
-    let taken = octet_takes from a.0.0 a.0.1 (needed_ok whole from (octet_in from) a.0 a.1) in
+    let taken = octet_takes from a.0.0 a.0.1 (field_ok whole from (octet_in from) a.0 a.1) in
     subst (λ (x : ℕ × List ℕ). Takes from (octet x.0) x.1 × ((1 ≤ x.0) × (x.0 ≤ 31) × (stands_in before x.0 ≡ false))) g.1
     (taken, index_none (place_in whole from) before a.0.0 g.0)
 
 pub streams_take : (whole from : List ℕ) (count : ℕ) (rest : List ℕ) → streams_at whole from ≡ Ok (count, rest) → Takes from (octet count) rest × (1 ≤ count)
 unfolding streams_at
 streams_take whole from count rest e =
-    let a = bind_ok (needed whole from (octet_in from)) (λ x. unless (streams_fault (place_in whole from) x.0) x) (count, rest) e in
+    let a = bind_ok (field_at whole from (octet_in from)) (λ x. unless (streams_fault (place_in whole from) x.0) x) (count, rest) e in
     let g = unless_ok (streams_fault (place_in whole from) a.0.0) a.0 (count, rest) a.2 in
-    let taken = octet_takes from a.0.0 a.0.1 (needed_ok whole from (octet_in from) a.0 a.1) in
+    let taken = octet_takes from a.0.0 a.0.1 (field_ok whole from (octet_in from) a.0 a.1) in
     subst (λ (x : ℕ × List ℕ). Takes from (octet x.0) x.1 × (1 ≤ x.0)) g.1 (taken, streams_none (place_in whole from) a.0.0 g.0)
 
 pub count_takes : (whole from : List ℕ) (count : ℕ) (rest : List ℕ) → count_at whole from ≡ Ok (count, rest) → Takes from (octet count) rest × (1 ≤ count)
 unfolding count_at
 count_takes whole from count rest e =
-    let a = bind_ok (needed whole from (octet_in from)) (λ x. unless (subgroups_fault x.0) x) (count, rest) e in
+    let a = bind_ok (field_at whole from (octet_in from)) (λ x. unless (subgroups_fault x.0) x) (count, rest) e in
     let g = unless_ok (subgroups_fault a.0.0) a.0 (count, rest) a.2 in
-    let taken = octet_takes from a.0.0 a.0.1 (needed_ok whole from (octet_in from) a.0 a.1) in
+    let taken = octet_takes from a.0.0 a.0.1 (field_ok whole from (octet_in from) a.0 a.1) in
     subst (λ (x : ℕ × List ℕ). Takes from (octet x.0) x.1 × (1 ≤ x.0)) g.1 (taken, subgroups_none a.0.0 g.0)
 
 -- ---- entries
@@ -119,10 +121,10 @@ subgroup_takes : (whole before from : List ℕ) (x : Subgroup × List ℕ) → I
 unfolding subgroup_at
 subgroup_takes whole before from x octets e =
     let a = bind_ok (streams_at whole from)
-    (λ count. needed whole count.1 (octets_in 5 count.1) >>= λ codec. run_at whole (is_lc3 codec.0) codec.1 >>= λ config. run_at whole true config.1
+    (λ count. field_at whole count.1 (octets_in 5 count.1) >>= λ codec. run_at whole (is_lc3 codec.0) codec.1 >>= λ config. run_at whole true config.1
     >>= λ metadata. entries_at whole (is_lc3 codec.0) before count.0 metadata.1
     >>= λ entries. Ok (record { codec = codec.0; config = config.0; metadata = metadata.0; entries = entries.0 }, entries.1)) x e in
-    let b = bind_ok (needed whole a.0.1 (octets_in 5 a.0.1))
+    let b = bind_ok (field_at whole a.0.1 (octets_in 5 a.0.1))
     (λ codec. run_at whole (is_lc3 codec.0) codec.1 >>= λ config. run_at whole true config.1 >>= λ metadata. entries_at whole (is_lc3 codec.0) before a.0.0 metadata.1
     >>= λ entries. Ok (record { codec = codec.0; config = config.0; metadata = metadata.0; entries = entries.0 }, entries.1)) x a.2 in
     let c = bind_ok (run_at whole (is_lc3 b.0.0) b.0.1)
@@ -133,7 +135,7 @@ subgroup_takes whole before from x octets e =
     >>= λ entries. Ok (record { codec = b.0.0; config = c.0.0; metadata = metadata.0; entries = entries.0 }, entries.1)) x c.2 in
     let f = bind_ok (entries_at whole (is_lc3 b.0.0) before a.0.0 d.0.1) (λ entries. Ok (record { codec = b.0.0; config = c.0.0; metadata = d.0.0; entries = entries.0 }, entries.1)) x d.2 in
     let t0 = streams_take whole from a.0.0 a.0.1 a.1 in
-    let t1 = octets_take 5 a.0.1 b.0.0 b.0.1 (needed_ok whole a.0.1 (octets_in 5 a.0.1) b.0 b.1) in
+    let t1 = octets_take 5 a.0.1 b.0.0 b.0.1 (field_ok whole a.0.1 (octets_in 5 a.0.1) b.0 b.1) in
     let t2 = run_takes whole (is_lc3 b.0.0) b.0.1 c.0.0 c.0.1 (t1.0.fits (t0.0.fits octets)) c.1 in
     let t3 = run_takes whole true c.0.1 d.0.0 d.0.1 (t2.0.fits (t1.0.fits (t0.0.fits octets))) d.1 in
     let t4 = entries_take whole (is_lc3 b.0.0) before a.0.0 d.0.1 f.0 (t3.0.fits (t2.0.fits (t1.0.fits (t0.0.fits octets)))) f.1 in
@@ -200,13 +202,13 @@ pub record FieldsTaken (from : List ℕ) (v : Endpoint) : Type 0 where
 pub fields_take : (whole : List ℕ) (v : Endpoint) → IsOctets whole → fields_of whole ≡ Ok v → FieldsTaken whole v
 unfolding fields_of
 fields_take whole v fits e =
-    let a = bind_ok (needed whole whole (number_in 3 whole))
+    let a = bind_ok (field_at whole whole (number_in 3 whole))
     (λ delay. count_at whole delay.1 >>= λ count. subgroups_at whole [] count.0 count.1 >>= λ subgroups. ended whole subgroups.1 (endpoint delay.0 subgroups.0)) v e in
     let b = bind_ok (count_at whole a.0.1) (λ count. subgroups_at whole [] count.0 count.1 >>= λ subgroups. ended whole subgroups.1 (endpoint a.0.0 subgroups.0)) v a.2 in
     let c = bind_ok (subgroups_at whole [] b.0.0 b.0.1) (λ subgroups. ended whole subgroups.1 (endpoint a.0.0 subgroups.0)) v b.2 in
     let made : Endpoint = record { delay = a.0.0; subgroups = c.0.0 } in
     let last = ended_ok whole c.0.1 made v c.2 in
-    let t0 = number_takes 3 whole a.0.0 a.0.1 fits (needed_ok whole whole (number_in 3 whole) a.0 a.1) in
+    let t0 = number_takes 3 whole a.0.0 a.0.1 fits (field_ok whole whole (number_in 3 whole) a.0 a.1) in
     let t1 = count_takes whole a.0.1 b.0.0 b.0.1 b.1 in
     let t2 = subgroups_take whole [] b.0.0 b.0.1 c.0 (t1.0.fits (t0.0.fits fits)) c.1 in
     let e12 = Takes-then a.0.1 (octet b.0.0) b.0.1 (flat_map subgroup c.0.0) c.0.1 t1.0 t2.taken in

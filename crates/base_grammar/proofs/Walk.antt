@@ -12,7 +12,8 @@ use Rattle.base_grammar.specs.declared.fault.BaseFault.TheVariants.{Short}
 use Rattle.base_grammar.specs.Faults.{Row, presentation_delay, num_subgroups, num_bis, codec_id, config_length, config, metadata_length, metadata, bis_index, bis_config_length}
 use Rattle.base_grammar.specs.Faults.{bis_config, nothing, Due, first_due, width, row_fault, next_due, IsDue, due_behind, Meets, AllMeet, field_fault, cut_fault, AtCut}
 use Rattle.base_grammar.specs.Rows.{run_fault}
-use Rattle.base_grammar.specs.Reading.{◌>>=◌, needed, unless, run_at}
+use Rattle.octet_fields.specs.Tries.{◌>>=◌}
+use Rattle.base_grammar.specs.Reading.{field_at, unless, run_at}
 
 -- ---- one field more
 
@@ -119,14 +120,14 @@ ruled whole due (Some f) x ok err = err f refl
 
 -- one octet
 pub octet_comes : (whole : List ℕ) (due : Due) (rest : List ℕ) → At whole due rest → IsDue due.row → width due.row ≡ 1 → ((x : ℕ) → row_fault due.row (place_in whole rest) due (x ∷ []) ≡ None)
-    → Comes whole (λ x. next_due due.row due (x ∷ [])) (needed whole rest (octet_in rest))
+    → Comes whole (λ x. next_due due.row due (x ∷ [])) (field_at whole rest (octet_in rest))
 octet_comes whole due [] a is_due one sound = stop_short whole due [] a is_due (omega (arith, one))
 octet_comes whole due (x ∷ rest) a is_due one sound = at_next whole due (x ∷ rest) (x ∷ []) rest a is_due refl (sym one) (sound x)
 
 -- one octet under a rule
 pub ruled_octet_comes : (whole : List ℕ) (due : Due) (rest : List ℕ) (rule : ℕ → Option BaseFault) → At whole due rest → IsDue due.row → width due.row ≡ 1
     → ((x : ℕ) → row_fault due.row (place_in whole rest) due (x ∷ []) ≡ rule x)
-    → Comes whole (λ x. next_due due.row due (x ∷ [])) (needed whole rest (octet_in rest) >>= λ x. unless (rule x.0) x)
+    → Comes whole (λ x. next_due due.row due (x ∷ [])) (field_at whole rest (octet_in rest) >>= λ x. unless (rule x.0) x)
 ruled_octet_comes whole due [] rule a is_due one same = stop_short whole due [] a is_due (omega (arith, one))
 ruled_octet_comes whole due (x ∷ rest) rule a is_due one same =
     ruled whole (λ y. next_due due.row due (y ∷ [])) (rule x) (x, rest)
@@ -144,7 +145,7 @@ octets_cases k from =
 -- octets under a rule
 pub ruled_octets_come : (whole : List ℕ) (due : Due) (k : ℕ) (rest : List ℕ) (rule : List ℕ → Option BaseFault) → At whole due rest → IsDue due.row → width due.row ≡ k
     → ((field : List ℕ) → row_fault due.row (place_in whole rest) due field ≡ rule field)
-    → Comes whole (λ field. next_due due.row due field) (needed whole rest (octets_in k rest) >>= λ x. unless (rule x.0) x)
+    → Comes whole (λ field. next_due due.row due field) (field_at whole rest (octets_in k rest) >>= λ x. unless (rule x.0) x)
 ruled_octets_come whole due k rest rule a is_due long same =
     elim (octets_cases k rest) [
       | inl (lt, none) ↦ rw none (stop_short whole due rest a is_due (omega (arith, lt, long)))
@@ -156,7 +157,7 @@ ruled_octets_come whole due k rest rule a is_due long same =
 
 pub octets_come : (whole : List ℕ) (due : Due) (k : ℕ) (rest : List ℕ) → At whole due rest → IsDue due.row → width due.row ≡ k
     → ((field : List ℕ) → row_fault due.row (place_in whole rest) due field ≡ None)
-    → Comes whole (λ field. next_due due.row due field) (needed whole rest (octets_in k rest))
+    → Comes whole (λ field. next_due due.row due field) (field_at whole rest (octets_in k rest))
 octets_come whole due k rest a is_due long sound =
     elim (octets_cases k rest) [
       | inl (lt, none) ↦ rw none (stop_short whole due rest a is_due (omega (arith, lt, long)))
@@ -183,12 +184,12 @@ pub run_comes : (whole : List ℕ) (due : Due) (middle : ℕ → Due) (last : Du
     → Comes whole (λ _. last) (run_at whole is_list rest)
 unfolding run_at
 run_comes whole due middle last is_list rest r a =
-    comes_then whole (λ x. next_due due.row due (x ∷ [])) (λ _. last) (needed whole rest (octet_in rest))
-    (λ count. needed whole count.1 (octets_in count.0 count.1) >>= λ run. unless (run_fault (place_in whole count.1) is_list run.0) run)
+    comes_then whole (λ x. next_due due.row due (x ∷ [])) (λ _. last) (field_at whole rest (octet_in rest))
+    (λ count. field_at whole count.1 (octets_in count.0 count.1) >>= λ run. unless (run_fault (place_in whole count.1) is_list run.0) run)
     (octet_comes whole due rest a r.is_due r.one (r.sound (place_in whole rest)))
     (λ count _ a1.
     comes_same whole (λ field. next_due (middle count.0).row (middle count.0) field) (λ _. last)
-    (needed whole count.1 (octets_in count.0 count.1) >>= λ run. unless (run_fault (place_in whole count.1) is_list run.0) run) (r.behind count.0)
+    (field_at whole count.1 (octets_in count.0 count.1) >>= λ run. unless (run_fault (place_in whole count.1) is_list run.0) run) (r.behind count.0)
     (ruled_octets_come whole (middle count.0) count.0 count.1 (run_fault (place_in whole count.1) is_list)
     (subst (λ (d : Due). At whole d count.1) (r.counted count.0) a1) (r.run_due count.0) (r.long count.0) (r.rule count.0 (place_in whole count.1))))
 
@@ -203,7 +204,7 @@ number_cases k from =
 -- a number, behind which the same is due whatever it is
 pub number_comes : (whole : List ℕ) (due last : Due) (k : ℕ) (rest : List ℕ) → At whole due rest → IsDue due.row → width due.row ≡ k
     → ((field : List ℕ) → row_fault due.row (place_in whole rest) due field ≡ None) → ((field : List ℕ) → next_due due.row due field ≡ last)
-    → Comes whole (λ _. last) (needed whole rest (number_in k rest))
+    → Comes whole (λ _. last) (field_at whole rest (number_in k rest))
 number_comes whole due last k rest a is_due long sound same =
     elim (number_cases k rest) [
       | inl (lt, none) ↦ rw none (stop_short whole due rest a is_due (omega (arith, lt, long)))

@@ -1,7 +1,9 @@
 -- Reading a BASE (Basic Audio Profile 1.0, section 3.7.2.2) from left to right, field by field, with the first fault that
 -- is met. `whole` is all that is read, and `rest` its last octets, which are still to be read.
-use Rattle.std.specs.Prelude.{◌≡◌, ℕ, zero, suc, Bool, true, List, [], ◌∷◌, ◌++◌, length, map, Option, Some, None, Result, Ok, Err, IsOk, nat_lt, if◌then◌else◌}
+use Rattle.std.specs.Prelude.{◌≡◌, ℕ, zero, suc, Bool, true, false, List, [], ◌∷◌, ◌++◌, length, map, Option, Some, None, Result, Ok, Err, nat_lt, if◌then◌else◌}
 use Rattle.octet_fields.specs.Reading.{octet_in, octets_in, number_in, place_in}
+use Rattle.octet_fields.specs.Tries.{◌>>=◌, needed}
+use Rattle.octet_fields.specs.Tries as tries
 use Rattle.base_grammar.specs.declared.fault.BaseFault.{BaseFault}
 use Rattle.base_grammar.specs.declared.fault.BaseFault.TheVariants.{Short, Trailing, TooLong, Memory}
 use Rattle.base_grammar.specs.declared.subgroup.BaseEntry.{BaseEntry}
@@ -9,20 +11,10 @@ use Rattle.base_grammar.specs.declared.subgroup.Subgroup.{Subgroup}
 use Rattle.base_grammar.specs.Layout.{Endpoint, endpoint, is_lc3, bis_of}
 use Rattle.base_grammar.specs.Rows.{subgroups_fault, streams_fault, index_fault, run_fault}
 
-infixl 10 ◌>>=◌
-abbrev pub ◌>>=◌ : {A B : Type 0} → Result A BaseFault → (A → Result B BaseFault) → Result B BaseFault
-(Ok x) >>= f = f x
-(Err fault) >>= f = Err fault
-
 -- what a function returned, seen by view, is what reading gives, unless memory ran out
 abbrev pub Fails : {Y : Type 0} → BaseFault → Result Y BaseFault → Type 0
 Fails Memory read = Unit {0}
 Fails fault read = read ≡ Err fault
-
--- the same of a part that takes no memory
-abbrev pub Reads : {X Y : Type 0} → (X → Y) → Result X BaseFault → Result Y BaseFault → Type 0
-Reads view (Ok x) read = read ≡ Ok (view x)
-Reads view (Err fault) read = read ≡ Err fault
 
 abbrev pub Gives : {X Y : Type 0} → (X → Y) → Result X BaseFault → Result Y BaseFault → Type 0
 Gives view (Ok x) read = read ≡ Ok (view x)
@@ -31,9 +23,8 @@ Gives view (Err fault) read = Fails fault read
 -- ---- a field
 
 -- a field that has to be whole
-abbrev pub needed : {A : Type 0} → List ℕ → List ℕ → Option A → Result A BaseFault
-needed whole rest None = Err (Short (place_in whole rest))
-needed whole rest (Some field) = Ok field
+abbrev pub field_at : {A : Type 0} → List ℕ → List ℕ → Option A → Result A BaseFault
+field_at whole rest field = needed (Short (place_in whole rest)) field
 
 -- what is read, unless it is wrong
 abbrev pub unless : {A : Type 0} → Option BaseFault → A → Result A BaseFault
@@ -43,14 +34,14 @@ unless (Some fault) x = Err fault
 -- octets behind one that counts them
 unfoldable pub run_at : List ℕ → Bool → List ℕ → Result (List ℕ × List ℕ) BaseFault
 run_at whole is_list rest = do
-  count ← needed whole rest (octet_in rest)
-  run ← needed whole count.1 (octets_in count.0 count.1)
+  count ← field_at whole rest (octet_in rest)
+  run ← field_at whole count.1 (octets_in count.0 count.1)
   unless (run_fault (place_in whole count.1) is_list run.0) run
 
 -- an index, behind these
 unfoldable pub index_at : List ℕ → List ℕ → List ℕ → Result (ℕ × List ℕ) BaseFault
 index_at whole before rest = do
-  bis ← needed whole rest (octet_in rest)
+  bis ← field_at whole rest (octet_in rest)
   unless (index_fault (place_in whole rest) before bis.0) bis
 
 -- ---- the values
@@ -71,13 +62,13 @@ entries_at whole is_list before (suc n) rest = do
 -- the number of entries
 unfoldable pub streams_at : List ℕ → List ℕ → Result (ℕ × List ℕ) BaseFault
 streams_at whole rest = do
-  count ← needed whole rest (octet_in rest)
+  count ← field_at whole rest (octet_in rest)
   unless (streams_fault (place_in whole rest) count.0) count
 
 unfoldable pub subgroup_at : List ℕ → List ℕ → List ℕ → Result (Subgroup × List ℕ) BaseFault
 subgroup_at whole before rest = do
   count ← streams_at whole rest
-  codec ← needed whole count.1 (octets_in 5 count.1)
+  codec ← field_at whole count.1 (octets_in 5 count.1)
   config ← run_at whole (is_lc3 codec.0) codec.1
   metadata ← run_at whole true config.1
   entries ← entries_at whole (is_lc3 codec.0) before count.0 metadata.1
@@ -98,7 +89,7 @@ rest_of (Err fault) = Err fault
 -- the number of subgroups
 unfoldable pub count_at : List ℕ → List ℕ → Result (ℕ × List ℕ) BaseFault
 count_at whole rest = do
-  count ← needed whole rest (octet_in rest)
+  count ← field_at whole rest (octet_in rest)
   unless (subgroups_fault count.0) count
 
 -- nothing stands behind the last field
@@ -108,15 +99,18 @@ ended whole (octet ∷ rest) x = Err (Trailing (place_in whole (octet ∷ rest))
 
 unfoldable pub fields_of : List ℕ → Result Endpoint BaseFault
 fields_of whole = do
-  delay ← needed whole whole (number_in 3 whole)
+  delay ← field_at whole whole (number_in 3 whole)
   count ← count_at whole delay.1
   subgroups ← subgroups_at whole [] count.0 count.1
   ended whole subgroups.1 (endpoint delay.0 subgroups.0)
 
 -- a BASE, or what is wrong with the octets, or memory ran out for a BASE
+abbrev pub wants : BaseFault → Bool
+wants Memory = true
+wants fault = false
+
 abbrev pub Refuses : BaseFault → Result Endpoint BaseFault → Type 0
-Refuses Memory read = IsOk read
-Refuses fault read = read ≡ Err fault
+Refuses fault read = tries.Fails (wants fault) fault read
 
 abbrev pub Answers : Result Endpoint BaseFault → Result Endpoint BaseFault → Type 0
 Answers (Ok base) read = read ≡ Ok base

@@ -3,7 +3,8 @@
 ghost use Rattle.std.specs.Prelude.{◌≡◌, ◌≤◌, ℕ, List, [], length, IfOk};
 ghost use Rattle.std.specs.Result.{result_err};
 ghost use Rattle.base_grammar.specs.Checking.{Seen, Passes, same_bis, entry_bis, entries_bis, subgroup_bis};
-ghost use Rattle.base_grammar.specs.Reading.{Reads, index_at, entry_at, entries_at, subgroup_at, subgroups_at, rest_of, base_of};
+ghost use Rattle.octet_fields.specs.Tries.{Reads};
+ghost use Rattle.base_grammar.specs.Reading.{index_at, entry_at, entries_at, subgroup_at, subgroups_at, rest_of, base_of};
 
 use crate::fault::BaseFault;
 use crate::fields::{codec_field, count_field, delay_field, octet_field, run_field, streams_field};

@@ -2,7 +2,8 @@
 ghost use Rattle.std.specs.Prelude.{◌≡◌, ◌≤◌, ◌++◌, length, map, IfOk};
 ghost use Rattle.octet_fields.specs.Reading.{place_in, octet_in, octets_in, number_in};
 ghost use Rattle.base_grammar.specs.Layout.{indices, bis_of};
-ghost use Rattle.base_grammar.specs.Reading.{Reads, needed, run_at, index_at, streams_at, count_at};
+ghost use Rattle.octet_fields.specs.Tries.{Reads};
+ghost use Rattle.base_grammar.specs.Reading.{field_at, run_at, index_at, streams_at, count_at};
 ghost use Rattle.base_grammar.specs.declared.fault.BaseFault.TheVariants as faults;
 
 use crate::fault::BaseFault;
@@ -24,7 +25,7 @@ fn short(whole: &[u8], rest: &[u8]) -> BaseFault
 // One octet.
 pub(crate) fn octet_field<'a>(whole: &[u8], rest: &'a [u8]) -> Result<(u8, &'a [u8]), BaseFault>
     requires { length rest.now ≤ length whole.now }
-    ensures reads { Reads (λ x. (x.0, x.1.now)) result (needed whole.now rest.now (octet_in rest.now)) }
+    ensures reads { Reads (λ x. (x.0, x.1.now)) result (field_at whole.now rest.now (octet_in rest.now)) }
     ensures shorter { IfOk result (λ x. length x.1.now ≤ length rest.now) }
 {
     match octet_at(rest) {
@@ -40,7 +41,7 @@ pub(crate) fn octets_field<'a>(
     k: usize,
 ) -> Result<(&'a [u8], &'a [u8]), BaseFault>
     requires { length rest.now ≤ length whole.now }
-    ensures reads { Reads (λ x. (x.0.now, x.1.now)) result (needed whole.now rest.now (octets_in k rest.now)) }
+    ensures reads { Reads (λ x. (x.0.now, x.1.now)) result (field_at whole.now rest.now (octets_in k rest.now)) }
     ensures long { IfOk result (λ x. length x.0.now ≡ k) }
     ensures shorter { IfOk result (λ x. length x.1.now ≤ length rest.now) }
 {
@@ -56,7 +57,7 @@ pub(crate) fn codec_field<'a>(
     rest: &'a [u8],
 ) -> Result<([u8; 5], &'a [u8]), BaseFault>
     requires { length rest.now ≤ length whole.now }
-    ensures reads { Reads (λ x. (x.0, x.1.now)) result (needed whole.now rest.now (octets_in 5 rest.now)) }
+    ensures reads { Reads (λ x. (x.0, x.1.now)) result (field_at whole.now rest.now (octets_in 5 rest.now)) }
     ensures shorter { IfOk result (λ x. length x.1.now ≤ length rest.now) }
 {
     let (codec, after) = octets_field(whole, rest, 5)?;
@@ -145,7 +146,7 @@ pub(crate) fn count_field<'a>(whole: &[u8], rest: &'a [u8]) -> Result<(u8, &'a [
 
 // The presentation delay.
 pub(crate) fn delay_field(whole: &[u8]) -> Result<(u32, &[u8]), BaseFault>
-    ensures reads { Reads (λ x. (x.0, x.1.now)) result (needed whole.now whole.now (number_in 3 whole.now)) }
+    ensures reads { Reads (λ x. (x.0, x.1.now)) result (field_at whole.now whole.now (number_in 3 whole.now)) }
     ensures shorter { IfOk result (λ x. length x.1.now ≤ length whole.now) }
 {
     match number_at(whole, 3) {

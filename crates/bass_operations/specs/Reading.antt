@@ -1,8 +1,9 @@
 -- Reading an operation (Broadcast Audio Scan Service 1.0, section 3.1.1) field by field.
-use Rattle.std.specs.Prelude.{ℕ, zero, suc, ◌≡◌, List, [], ◌∷◌, map, Option, Some, None, Result, Ok, Err, IsOk, nat_lt, if◌then◌else◌}
+use Rattle.std.specs.Prelude.{ℕ, zero, suc, ◌≡◌, List, [], ◌∷◌, map, Option, Some, None, Result, Ok, Err, Bool, true, false, nat_lt, if◌then◌else◌}
 use Rattle.octet_fields.specs.Layout.{reserved_from}
 use Rattle.octet_fields.specs.Reading.{octet_in, octets_in, number_in}
 use Rattle.octet_fields.specs.Steps.{◌>>=◌, whole}
+use Rattle.octet_fields.specs.Tries as tries
 use Rattle.octet_fields.specs.Subgroups.{Subgroup, subgroups_in}
 use Rattle.bass_operations.specs.declared.fault.OpFault.{OpFault}
 use Rattle.bass_operations.specs.declared.fault.OpFault.TheVariants.{Empty, Opcode, Length, Rfu, BisTwice}
@@ -112,13 +113,12 @@ op_of [] = Err Empty
 op_of (opcode ∷ octets) = if nat_lt 5 opcode then Err Opcode else judged (op_in opcode octets)
 
 -- a function gave what reading gives, unless memory ran out for an operation
+abbrev pub wants : OpFault → Bool
+wants faults.Memory = true
+wants fault = false
+
 abbrev pub Fails : OpFault → Result Operation OpFault → Type 0
-Fails faults.Memory read = IsOk read
-Fails faults.Empty read = read ≡ Err faults.Empty
-Fails faults.Opcode read = read ≡ Err faults.Opcode
-Fails faults.Length read = read ≡ Err faults.Length
-Fails (faults.Rfu place) read = read ≡ Err (faults.Rfu place)
-Fails (faults.BisTwice bis) read = read ≡ Err (faults.BisTwice bis)
+Fails fault read = tries.Fails (wants fault) fault read
 
 abbrev pub Gives : Result Operation OpFault → Result Operation OpFault → Type 0
 Gives (Ok op) read = read ≡ Ok op

@@ -1,2 +1,3 @@
 mod Airing
 mod Answered
+mod Starting

@@ -2,5 +2,7 @@
 #![tactic(auto)]
 
 mod broadcast;
+mod field;
 
 pub use broadcast::Broadcast;
+pub use field::{Field, FieldFault};

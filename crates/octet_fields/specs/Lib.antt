@@ -3,3 +3,4 @@ pub mod Reading
 pub mod Spelling
 pub mod Steps
 pub mod Subgroups
+pub mod Tries

@@ -21,7 +21,8 @@ use Rattle.pacs_records.specs.Faults.{Fields, to_codec, to_caps_length, to_caps,
 use Rattle.pacs_records.specs.Faults.{IsNoList, IsTrailing, IsFault}
 use Rattle.base_grammar.specs.Layout.{lc3, is_lc3}
 use Rattle.pacs_records.specs.Layout.{greatest_value, spelled, value, Fits}
-use Rattle.pacs_records.specs.Reading.{◌>>=◌, field_at, codec_in, checked, run_in, record_in, records_in, value_in}
+use Rattle.octet_fields.specs.Tries.{◌>>=◌}
+use Rattle.pacs_records.specs.Reading.{field_at, codec_in, checked, run_in, record_in, records_in, value_in}
 use Rattle.pacs_records.proofs.Fields.{is_lc3-true, lc3-is, run_again, record_again, records_again}
 use Rattle.pacs_records.proofs.Stops.{NoList, Stop}
 

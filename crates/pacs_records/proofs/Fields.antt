@@ -20,20 +20,14 @@ use Rattle.pacs_records.specs.declared.fault.PacFault.TheVariants.{TooLong, Shor
 use Rattle.pacs_records.specs.declared.record.PacRecord.{PacRecord}
 use Rattle.base_grammar.specs.Layout.{lc3, is_lc3}
 use Rattle.pacs_records.specs.Layout.{greatest_value, spelled, value, Fits, AreRecords, PacIs}
-use Rattle.pacs_records.specs.Reading.{◌>>=◌, field_at, codec_in, Gives, checked, run_in, record_in, records_in, value_in}
+use Rattle.octet_fields.specs.Tries.{◌>>=◌}
+use Rattle.octet_fields.proofs.Tries.{ok_is, bind_ok, needed_ok}
+use Rattle.pacs_records.specs.Reading.{field_at, codec_in, Gives, checked, run_in, record_in, records_in, value_in}
 
 -- ---- steps of reading
 
-pub ok_is : {A : Type 0} (x y : A) → (let r : A → Result A PacFault = λ z. Ok z in r x ≡ r y) → x ≡ y
-ok_is x y e = cc
-
-pub bind_ok : {A B : Type 0} (read : Result A PacFault) (f : A → Result B PacFault) (y : B) → (read >>= f) ≡ Ok y → (x : A) × (read ≡ Ok x) × (f x ≡ Ok y)
-bind_ok (Ok x) f y e = (x, refl, e)
-bind_ok (Err fault) f y e = absurd cc
-
 pub field_ok : {A : Type 0} (place : ℕ) (field : Option A) (x : A) → field_at place field ≡ Ok x → field ≡ Some x
-field_ok place None x e = absurd cc
-field_ok place (Some y) x e = ap (λ z. Some z) (ok_is y x e)
+field_ok place field x e = needed_ok (Short place) field x e
 
 checked_ok : (place : ℕ) (listed : Bool) (bad : Option LtvBad) (run x : List ℕ × List ℕ) → checked place listed bad run ≡ Ok x → (run ≡ x) × (listed ≡ true → bad ≡ None)
 checked_ok place true None run x e = (ok_is run x e, λ _. refl)

@@ -24,24 +24,15 @@ use Rattle.pacs_records.specs.Faults.{Fields, to_codec, to_caps_length, to_caps,
 use Rattle.pacs_records.specs.Faults.{IsNoList, IsTrailing, IsFault}
 use Rattle.base_grammar.specs.Layout.{lc3, is_lc3}
 use Rattle.pacs_records.specs.Layout.{greatest_value, spelled, value, Fits, PacIs}
-use Rattle.pacs_records.specs.Reading.{◌>>=◌, Fails, Gives, field_at, codec_in, checked, run_in, record_in, records_in, value_in}
+use Rattle.octet_fields.proofs.Tries.{err_is, ok_no, bind_err, needed_err}
+use Rattle.octet_fields.specs.Tries.{◌>>=◌}
+use Rattle.pacs_records.specs.Reading.{Gives, field_at, codec_in, checked, run_in, record_in, records_in, value_in}
 use Rattle.pacs_records.proofs.Fields.{field_ok, is_lc3-true, lc3-is, run_takes, record_takes, records_take, value_takes}
 
 -- ---- steps that fail
 
-err_is : {A : Type 0} (x y : PacFault) → (let r : PacFault → Result A PacFault = λ z. Err z in r x ≡ r y) → x ≡ y
-err_is x y e = cc
-
-ok_no : {A : Type 0} (x : A) (fault : PacFault) → (let r : Result A PacFault = Ok x in r ≡ Err fault) → ⊥
-ok_no x fault e = cc
-
-bind_err : {A B : Type 0} (read : Result A PacFault) (f : A → Result B PacFault) (fault : PacFault) → (read >>= f) ≡ Err fault → (read ≡ Err fault) ⊎ ((x : A) × (read ≡ Ok x) × (f x ≡ Err fault))
-bind_err (Ok x) f fault e = inr (x, refl, e)
-bind_err {B = B} (Err other) f fault e = inl (ap (λ (x : PacFault). Err x) (err_is {A = B} other fault e))
-
 field_err : {A : Type 0} (place : ℕ) (field : Option A) (fault : PacFault) → field_at place field ≡ Err fault → (field ≡ None) × (Short place ≡ fault)
-field_err {A = A} place None fault e = (refl, err_is {A = A} (Short place) fault e)
-field_err place (Some x) fault e = absurd (ok_no x fault e)
+field_err place field fault e = needed_err (Short place) field fault e
 
 checked_err : (place : ℕ) (listed : Bool) (bad : Option LtvBad) (run : List ℕ × List ℕ) (fault : PacFault) → checked place listed bad run ≡ Err fault
     → (b : LtvBad) × (listed ≡ true) × (bad ≡ Some b) × (Ltv place b ≡ fault)

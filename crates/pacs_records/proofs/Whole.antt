@@ -8,7 +8,8 @@ use Rattle.pacs_records.specs.declared.fault.PacFault.{PacFault}
 use Rattle.pacs_records.specs.declared.fault.PacFault.TheVariants.{TooLong, Short, Ltv, Trailing, Memory}
 use Rattle.pacs_records.specs.declared.record.PacRecord.{PacRecord}
 use Rattle.pacs_records.specs.Layout.{greatest_value}
-use Rattle.pacs_records.specs.Reading.{◌>>=◌, Fails, field_at, records_in, list_of, rest_of, value_in}
+use Rattle.octet_fields.specs.Tries.{◌>>=◌}
+use Rattle.pacs_records.specs.Reading.{Fails, field_at, records_in, list_of, rest_of, value_in}
 use Rattle.pacs_records.proofs.Fields.{value_again}
 use Rattle.pacs_records.proofs.Stops.{value_stops}
 

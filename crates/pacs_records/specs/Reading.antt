@@ -1,7 +1,9 @@
 -- Reading a Sink PAC value (Published Audio Capabilities Service 1.0, section 3.1) field by field, with the first fault
 -- that is met.
-use Rattle.std.specs.Prelude.{ℕ, zero, suc, ◌≡◌, Bool, true, false, List, [], ◌∷◌, length, Option, Some, None, Result, Ok, Err, IsOk, nat_lt, ◌==◌, if◌then◌else◌}
+use Rattle.std.specs.Prelude.{ℕ, zero, suc, ◌≡◌, Bool, true, false, List, [], ◌∷◌, length, Option, Some, None, Result, Ok, Err, nat_lt, ◌==◌, if◌then◌else◌}
 use Rattle.octet_fields.specs.Reading.{octet_in, octets_in, place_in}
+use Rattle.octet_fields.specs.Tries.{◌>>=◌, needed}
+use Rattle.octet_fields.specs.Tries as tries
 use Rattle.ltv_codec.specs.declared.fault.LtvBad.{LtvBad}
 use Rattle.ltv_codec.specs.Reading.{bad_of}
 use Rattle.pacs_records.specs.declared.fault.PacFault.{PacFault}
@@ -10,23 +12,13 @@ use Rattle.pacs_records.specs.declared.record.PacRecord.{PacRecord}
 use Rattle.base_grammar.specs.Layout.{is_lc3}
 use Rattle.pacs_records.specs.Layout.{greatest_value}
 
-infixl 10 ◌>>=◌
-abbrev pub ◌>>=◌ : {A B : Type 0} → Result A PacFault → (A → Result B PacFault) → Result B PacFault
-(Ok x) >>= f = f x
-(Err e) >>= f = Err e
+-- a function gave the records that reading gives, unless memory ran out for them
+abbrev pub wants : PacFault → Bool
+wants Memory = true
+wants fault = false
 
--- what a function returned, seen by view, is what reading gives
-abbrev pub Reads : {X Y : Type 0} → (X → Y) → Result X PacFault → Result Y PacFault → Type 0
-Reads view (Ok x) read = read ≡ Ok (view x)
-Reads view (Err fault) read = read ≡ Err fault
-
--- the same, unless memory ran out for what is read
-abbrev pub Fails : {Y : Type 0} → PacFault → Result Y PacFault → Type 0
-Fails Memory read = IsOk read
-Fails TooLong read = read ≡ Err TooLong
-Fails (Short place) read = read ≡ Err (Short place)
-Fails (Ltv place fault) read = read ≡ Err (Ltv place fault)
-Fails (Trailing place) read = read ≡ Err (Trailing place)
+abbrev pub Fails : PacFault → Result (List PacRecord) PacFault → Type 0
+Fails fault read = tries.Fails (wants fault) fault read
 
 abbrev pub Gives : Result (List PacRecord) PacFault → Result (List PacRecord) PacFault → Type 0
 Gives (Ok records) read = read ≡ Ok records
@@ -34,8 +26,7 @@ Gives (Err fault) read = Fails fault read
 
 -- a whole field, or the place at which it begins
 abbrev pub field_at : {A : Type 0} → ℕ → Option A → Result A PacFault
-field_at place None = Err (Short place)
-field_at place (Some x) = Ok x
+field_at place field = needed (Short place) field
 
 abbrev pub codec_in : List ℕ → List ℕ → Result (List ℕ × List ℕ) PacFault
 codec_in whole from = field_at (place_in whole from) (octets_in 5 from)

@@ -2,7 +2,8 @@ ghost use Rattle.std.specs.Prelude.{◌≡◌, ◌≤◌, List, length, IfOk, If
 ghost use Rattle.std.specs.Result.{result_err};
 ghost use Rattle.pacs_records.specs.Layout.{PacIs};
 ghost use Rattle.pacs_records.specs.Faults.{IsFault};
-ghost use Rattle.pacs_records.specs.Reading.{Gives, Reads, codec_in, run_in, record_in, records_in, list_of, rest_of, value_in};
+ghost use Rattle.octet_fields.specs.Tries.{Reads};
+ghost use Rattle.pacs_records.specs.Reading.{Gives, codec_in, run_in, record_in, records_in, list_of, rest_of, value_in};
 ghost use Rattle.pacs_records.specs.declared.record.PacRecord.{PacRecord};
 
 use crate::fault::PacFault;

@@ -9,6 +9,8 @@ mod boxes;
 #[cfg(test)]
 mod framed_receivers;
 #[cfg(test)]
+mod framed_senders;
+#[cfg(test)]
 mod groups;
 #[cfg(test)]
 mod lines;

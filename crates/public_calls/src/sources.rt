@@ -1,9 +1,11 @@
-ghost use Rattle.std.specs.Prelude.{◌≡◌};
+ghost use Rattle.std.specs.Prelude.{◌≡◌, ◌<◌, ◌^◌};
+ghost use Rattle.big_info.specs.Widths.{FitsWidths};
 
 use bcast_base::Bis;
-use big_info::{BigInfo, Limits};
+use big_info::BigInfo;
 use multi_source::Broadcast;
 use source_machine::{EventFault, GiveFault, Identity, Setup, SourceIdle};
+use std::alloc::Global;
 use std::test::Fail;
 
 /// One stream of a unit every 10 ms in PDUs of at most 4 octets on LE 2M.
@@ -53,6 +55,21 @@ fn setup(info: BigInfo) -> Setup
     }
 }
 
+/// A source of this group with its first event, or none where the group or memory is wanting.
+fn started(alloc: Global, info: BigInfo, first: u64) -> Result<Broadcast, &'static str>
+    requires widths { FitsWidths info }
+    requires unframed { info.framing ≡ 0 }
+    requires first { first < 2 ^ 39 }
+{
+    let Ok(configured) = SourceIdle::new(alloc).configure(setup(info)) else {
+        return Err("no group");
+    };
+    let Ok(source) = Broadcast::start(alloc, configured, first) else {
+        return Err("no memory");
+    };
+    Ok(source)
+}
+
 #[test]
 fn a_source_sends_each_pdu_at_its_place(rt: HostRuntime) -> Result<(), Fail> {
     let info = info(4, 1, 2, 2, 0);
@@ -86,7 +103,7 @@ fn a_source_sends_each_pdu_at_its_place(rt: HostRuntime) -> Result<(), Fail> {
 fn a_long_unit_begins_with_a_full_fragment(rt: HostRuntime) -> Result<(), Fail> {
     let info = info(8, 2, 2, 1, 0);
     assert!(rt; info.fits());
-    let mut source = Broadcast::start(rt.alloc(), setup(info), Limits::VERSION_1, 0)?;
+    let mut source = started(rt.alloc(), info, 0)?;
     let one = Bis::new(1).ok_or("no stream")?;
     source.give(one, None, &[1, 2, 3, 4])?;
     source.event()?;
@@ -101,7 +118,7 @@ fn a_long_unit_begins_with_a_full_fragment(rt: HostRuntime) -> Result<(), Fail> 
 fn a_later_copy_carries_a_later_unit(rt: HostRuntime) -> Result<(), Fail> {
     let info = info(4, 1, 4, 2, 1);
     assert!(rt; info.fits());
-    let mut source = Broadcast::start(rt.alloc(), setup(info), Limits::VERSION_1, 0)?;
+    let mut source = started(rt.alloc(), info, 0)?;
     let one = Bis::new(1).ok_or("no stream")?;
     source.give(one, None, &[0xC0])?;
     source.give(one, None, &[0xC1])?;
@@ -119,7 +136,7 @@ fn the_payload_counter_ends(rt: HostRuntime) -> Result<(), Fail> {
     let info = info(4, 1, 1, 1, 0);
     assert!(rt; info.fits());
     let last = 549_755_813_887;
-    let mut source = Broadcast::start(rt.alloc(), setup(info), Limits::VERSION_1, last)?;
+    let mut source = started(rt.alloc(), info, last)?;
     source.event()?;
     assert!(rt; matches!(source.event(), Err(EventFault::CounterEnds)));
     assert_eq!(rt; source.last_event(), Some(last));
@@ -130,7 +147,7 @@ fn the_payload_counter_ends(rt: HostRuntime) -> Result<(), Fail> {
 fn no_more_than_16_units_wait(rt: HostRuntime) -> Result<(), Fail> {
     let info = info(4, 1, 1, 1, 0);
     assert!(rt; info.fits());
-    let mut source = Broadcast::start(rt.alloc(), setup(info), Limits::VERSION_1, 0)?;
+    let mut source = started(rt.alloc(), info, 0)?;
     let one = Bis::new(1).ok_or("no stream")?;
     for _ in 0..16 {
         source.give(one, None, &[0xAA])?;

@@ -10,7 +10,8 @@ use Rattle.octet_fields.specs.Subgroups.{Subgroup, Fits, subgroup_fields, is_res
 use Rattle.octet_fields.proofs.Fields.{IsOctets-front, number-length, number_below, number_once}
 use Rattle.receive_state.specs.Faults.{EndsIn}
 use Rattle.receive_state.specs.Reading.{end_in}
-use Rattle.receive_state.specs.Steps.{◌>>=◌, needed, field_in}
+use Rattle.octet_fields.specs.Tries.{◌>>=◌, needed}
+use Rattle.receive_state.specs.Steps.{field_in}
 use Rattle.receive_state.proofs.Cuts.{ends_here, ends_more, ends_nowhere, zeros, octets_with, filled, length-filled, more-zeros}
 use Rattle.receive_state.proofs.CutHeads.{told_octet, told_octets, find_octet, find_octets}
 

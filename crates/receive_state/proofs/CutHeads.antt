@@ -11,7 +11,8 @@ use Rattle.octet_fields.proofs.Fields.{octet_takes, octets_take}
 use Rattle.receive_state.specs.Faults.{EndsIn}
 use Rattle.receive_state.specs.Layout.{StateFields, fields, FieldsFit, code_width}
 use Rattle.receive_state.specs.Reading.{source_in, head_in}
-use Rattle.receive_state.specs.Steps.{◌>>=◌, needed, field_in}
+use Rattle.octet_fields.specs.Tries.{◌>>=◌, needed}
+use Rattle.receive_state.specs.Steps.{field_in}
 use Rattle.receive_state.proofs.Cuts.{ends_here, ends_more, ends_split, no_octet, no_octets, octet_short, octets_short, zeros, length-zeros, filled, length-filled, more-zeros}
 use Rattle.receive_state.proofs.Heads.{octets_again_at}
 

@@ -10,7 +10,9 @@ use Rattle.octet_fields.specs.Subgroups.{Subgroup, subgroup_in, subgroups_in}
 use Rattle.receive_state.specs.declared.state.GroupState.{GroupState}
 use Rattle.receive_state.proofs.Parts.{joined, subgroup_parts, subgroup_made, subgroups_suc, subgroups_none, subgroups_parts}
 use Rattle.receive_state.specs.Reading.{group_end_in, end_in, groups_of, states_of, state_of_group}
-use Rattle.receive_state.specs.Steps.{◌>>=◌, needed, field_in}
+use Rattle.octet_fields.proofs.Tries.{bind_ok, needed_ok, ok_is}
+use Rattle.octet_fields.specs.Tries.{◌>>=◌, needed}
+use Rattle.receive_state.specs.Steps.{field_in}
 
 one_left : (count i : ℕ) → i < count → count - i ≡ suc (count - (i + 1))
 one_left count i lt = omega arith
@@ -85,19 +87,8 @@ read_end front count i rest total le so_far =
 
 -- ---- subgroups are whole exactly where their end is found
 
-pub bind_ok : {A B : Type 0} (r : Result A ℕ) (f : A → Result B ℕ) (y : B) → (r >>= f) ≡ Ok y → (x : A) × (r ≡ Ok x) × (f x ≡ Ok y)
-bind_ok (Ok x) f y e = (x, refl, e)
-bind_ok (Err place) f y e = absurd cc
-
-pub needed_ok : {A : Type 0} (place : ℕ) (read : Option A) (x : A) → needed place read ≡ Ok x → read ≡ Some x
-needed_ok place None x e = absurd cc
-needed_ok place (Some y) x e = let same : y ≡ x = cc in ap (λ z. Some z) same
-
 abbrev pub done : {A : Type 0} → A → Result A ℕ
 done x = Ok x
-
-pub ok_is : {A : Type 0} (x y : A) → done x ≡ done y → x ≡ y
-ok_is x y e = cc
 
 abbrev some_number : ℕ → List ℕ → Option (ℕ × List ℕ)
 some_number n rest = Some (n, rest)

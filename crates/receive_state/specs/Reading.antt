@@ -1,5 +1,5 @@
 -- Reading a receive state (Broadcast Audio Scan Service 1.0, section 3.2) field by field.
-use Rattle.std.specs.Prelude.{ℕ, zero, suc, ◌≡◌, List, [], ◌∷◌, map, Option, Some, None, Result, Ok, Err, IsOk, nat_lt, if◌then◌else◌}
+use Rattle.std.specs.Prelude.{ℕ, zero, suc, ◌≡◌, List, [], ◌∷◌, map, Option, Some, None, Result, Ok, Err, Bool, true, false, nat_lt, if◌then◌else◌}
 use Rattle.octet_fields.specs.Layout.{reserved_from}
 use Rattle.octet_fields.specs.Reading.{octet_in, octets_in, place_in}
 use Rattle.octet_fields.specs.Subgroups.{Subgroup, subgroups_in}
@@ -10,7 +10,9 @@ use Rattle.receive_state.specs.declared.state.Encryption.TheVariants as keys
 use Rattle.receive_state.specs.declared.state.GroupState.{GroupState}
 use Rattle.receive_state.specs.declared.state.ReceiveState.{ReceiveState}
 use Rattle.receive_state.specs.Layout.{StateFields, fields, code_width}
-use Rattle.receive_state.specs.Steps.{◌>>=◌, field_in}
+use Rattle.octet_fields.specs.Tries.{◌>>=◌}
+use Rattle.octet_fields.specs.Tries as tries
+use Rattle.receive_state.specs.Steps.{field_in}
 
 -- Source_ID, and what tells the source, and the octets behind it
 unfoldable pub source_in : List ℕ → Result (StateFields × List ℕ) ℕ
@@ -119,11 +121,12 @@ state_of [] = Ok None
 state_of (octet ∷ rest) = lifted (judged_of (octet ∷ rest))
 
 -- a function gave what reading gives, unless memory ran out for a value
+abbrev pub wants : StateFault → Bool
+wants faults.Memory = true
+wants fault = false
+
 abbrev pub Fails : {A : Type 0} → StateFault → Result A StateFault → Type 0
-Fails faults.Memory read = IsOk read
-Fails (faults.Short place) read = read ≡ Err (faults.Short place)
-Fails (faults.Rfu place) read = read ≡ Err (faults.Rfu place)
-Fails (faults.Trailing place) read = read ≡ Err (faults.Trailing place)
+Fails fault read = tries.Fails (wants fault) fault read
 
 abbrev pub Answers : {A : Type 0} → Result A StateFault → Result A StateFault → Type 0
 Answers (Ok state) read = read ≡ Ok state

@@ -1,7 +1,8 @@
 //! Fields that are read behind each other, with the place of the one that passes the end.
 ghost use Rattle.std.specs.Prelude.{◌≡◌, ◌≤◌, length, IfOk};
 ghost use Rattle.octet_fields.specs.Reading.{octet_in, octets_in};
-ghost use Rattle.receive_state.specs.Steps.{Gives, field_in};
+ghost use Rattle.octet_fields.specs.Tries.{ReadsAs};
+ghost use Rattle.receive_state.specs.Steps.{field_in};
 
 use crate::fault::StateFault;
 use octet_fields::{octet_at, place_of};
@@ -25,7 +26,7 @@ impl From<ShortAt> for StateFault {
 // One octet at the front of `rest`, the last octets of `whole`, or the place of `rest`.
 pub(crate) fn octet_of<'a>(whole: &[u8], rest: &'a [u8]) -> Result<(u8, &'a [u8]), ShortAt>
     requires { length rest.now ≤ length whole.now }
-    ensures field { Gives (λ x. (x.0, x.1.now)) (λ e. e.place) result (field_in whole.now octet_in rest.now) }
+    ensures field { ReadsAs (λ x. (x.0, x.1.now)) (λ e. e.place) result (field_in whole.now octet_in rest.now) }
     ensures within { IfOk result (λ x. length x.1.now ≤ length whole.now) }
 {
     match octet_at(rest) {
@@ -43,7 +44,7 @@ pub(crate) fn octets_of<'a>(
     k: usize,
 ) -> Result<(&'a [u8], &'a [u8]), ShortAt>
     requires { length rest.now ≤ length whole.now }
-    ensures field { Gives (λ x. (x.0.now, x.1.now)) (λ e. e.place) result (field_in whole.now (octets_in k) rest.now) }
+    ensures field { ReadsAs (λ x. (x.0.now, x.1.now)) (λ e. e.place) result (field_in whole.now (octets_in k) rest.now) }
     ensures width { IfOk result (λ x. length x.0.now ≡ k) }
     ensures within { IfOk result (λ x. length x.1.now ≤ length whole.now) }
 {

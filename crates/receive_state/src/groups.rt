@@ -2,7 +2,7 @@
 ghost use Rattle.std.specs.Prelude.{◌≡◌, ◌≤◌, length, is_some, true, IfOk, Some};
 ghost use Rattle.octet_fields.specs.Subgroups.{subgroups_in};
 ghost use Rattle.receive_state.specs.Reading.{end_in, group_end_in, groups_of};
-ghost use Rattle.receive_state.specs.Steps.{Gives};
+ghost use Rattle.octet_fields.specs.Tries.{ReadsAs};
 
 use crate::fields::{ShortAt, octet_of, octets_of};
 use crate::state::{GroupState, GroupStates};
@@ -14,7 +14,7 @@ use std::alloc::Global;
 // passes the end.
 pub(crate) fn groups_end<'a>(whole: &[u8], count: u8, octets: &'a [u8]) -> Result<&'a [u8], ShortAt>
     requires { length octets.now ≤ length whole.now }
-    ensures field { Gives (λ rest. rest.now) (λ e. e.place) result (end_in whole.now count octets.now) }
+    ensures field { ReadsAs (λ rest. rest.now) (λ e. e.place) result (end_in whole.now count octets.now) }
     ensures within { IfOk result (λ rest. length rest.now ≤ length whole.now) }
 {
     let mut rest = octets;
@@ -27,7 +27,7 @@ pub(crate) fn groups_end<'a>(whole: &[u8], count: u8, octets: &'a [u8]) -> Resul
 // The octets behind one subgroup.
 fn group_end<'a>(whole: &[u8], octets: &'a [u8]) -> Result<&'a [u8], ShortAt>
     requires { length octets.now ≤ length whole.now }
-    ensures field { Gives (λ rest. rest.now) (λ e. e.place) result (group_end_in whole.now octets.now) }
+    ensures field { ReadsAs (λ rest. rest.now) (λ e. e.place) result (group_end_in whole.now octets.now) }
     ensures within { IfOk result (λ rest. length rest.now ≤ length whole.now) }
 {
     let (_bits, rest) = octets_of(whole, octets, 4)?;

@@ -3,7 +3,7 @@ ghost use Rattle.receive_state.specs.Faults.{IsFault};
 ghost use Rattle.receive_state.specs.Layout.{StateIs, code_width};
 ghost use Rattle.receive_state.specs.Reading.{Answers, state_of, judged_of, head_in, reserved_head, encryption_of, groups_of};
 ghost use Rattle.octet_fields.specs.Subgroups.{subgroups_in};
-ghost use Rattle.receive_state.specs.Steps.{Gives};
+ghost use Rattle.octet_fields.specs.Tries.{ReadsAs};
 ghost use Rattle.receive_state.specs.declared.state.ReceiveState.{ReceiveState};
 
 use crate::fault::StateFault;
@@ -87,7 +87,7 @@ fn read_state(alloc: Global, from: &[u8]) -> Result<ReceiveState, StateFault>
 // The fields before the subgroups, or the place of the one that passes the end.
 #[tactic(auto, unfolding(crate::specs::Reading::source_in, crate::specs::Reading::head_in))]
 fn head_at(from: &[u8]) -> Result<LentState<'_>, ShortAt>
-    ensures head { Gives (λ l. (record { source_id = l.source_id; address_type = l.address_type; address = l.address.now; sid = l.sid; broadcast_id = l.broadcast_id.now; pa_sync_state = l.pa_sync_state; encryption = l.encryption; bad_code = l.bad_code.now; groups = [] }, l.count, l.groups.now)) (λ e. e.place) result (head_in from.now) }
+    ensures head { ReadsAs (λ l. (record { source_id = l.source_id; address_type = l.address_type; address = l.address.now; sid = l.sid; broadcast_id = l.broadcast_id.now; pa_sync_state = l.pa_sync_state; encryption = l.encryption; bad_code = l.bad_code.now; groups = [] }, l.count, l.groups.now)) (λ e. e.place) result (head_in from.now) }
     ensures address { IfOk result (λ l. length l.address.now ≡ 6) }
     ensures broadcast_id { IfOk result (λ l. length l.broadcast_id.now ≡ 3) }
     ensures bad_code { IfOk result (λ l. length l.bad_code.now ≡ code_width l.encryption) }

@@ -1,5 +1,6 @@
 -- Facts of all items of lists, place by place.
-use Rattle.std.proofs.Common.{ℕ, ◌≡◌, ◌<◌, ◌≤◌, ◌+◌, zero, suc, List, [], ◌∷◌, length, get_or, set, map, arith, ◌∙◌, ap, sym, refl, subst, inl, inr, get_or-set_same, get_or-set_other, length-set, Result, Ok, Err}
+use Rattle.std.proofs.Common.{ℕ, ◌≡◌, ◌<◌, ◌≤◌, ◌+◌, zero, suc, List, [], ◌∷◌, length, get_or, set, map}
+use Rattle.std.proofs.Common.{arith, ◌∙◌, ap, sym, refl, subst, inl, inr, get_or-set_same, get_or-set_other, length-set, Result, Ok, Err}
 use Rattle.std.specs.List.{AllZip, range_with_len}
 use Rattle.std.specs.Result.{IfErr, IsErrAnd, OnErr}
 use Rattle.std.proofs.lemmas.List.{get_or_default}

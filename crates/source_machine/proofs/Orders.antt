@@ -64,7 +64,8 @@ pub unit_is_accepted : (info : BigInfo) (calls : List StreamCall) (e slot : ℕ)
 unit_is_accepted info calls e slot unit is =
     let front = front_accepted calls e in
     ap (λ units. slice_get units (begun info (before_event calls e) + slot)) front.1
-    ∙ slice_get-append_left (accepted (before_event calls e)) front.0 (begun info (before_event calls e) + slot) (is_within (accepted (before_event calls e)) (begun info (before_event calls e) + slot) unit is)
+    ∙ slice_get-append_left (accepted (before_event calls e)) front.0 (begun info (before_event calls e) + slot)
+    (is_within (accepted (before_event calls e)) (begun info (before_event calls e) + slot) unit is)
     ∙ is
 
 pub units_in_order : (info : BigInfo) (calls : List StreamCall) (e slot later behind : ℕ) (unit other : List ℕ) → e < later → slot < per_event_of info
