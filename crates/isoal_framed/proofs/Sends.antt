@@ -242,7 +242,8 @@ new_stable number offset octets complete closed q before =
 take_fits : (count most : ℕ) (octets : List ℕ) → count ≤ most → length (take count octets ++ []) ≤ most
 take_fits count most octets within = omega (arith, length-append (take count octets) [], length-take count octets)
 
-start_step : (max_pdu max_sdu bn : ℕ) (anchors : List ℕ) (units : List Timed) (anchor number : ℕ) (acts : List Act) (parts : List Part) (closed : List Sent) (count : ℕ) (complete : Bool) (unit : Timed)
+start_step : (max_pdu max_sdu bn : ℕ) (anchors : List ℕ) (units : List Timed) (anchor number : ℕ) (acts : List Act) (parts : List Part) (closed : List Sent) (count : ℕ) (complete : Bool)
+    (unit : Timed)
     → Sending max_pdu max_sdu bn anchors units number acts parts closed None → slice_get units (done acts) ≡ Some unit → length unit.octets ≤ max_sdu
     → IsSegment (place_of max_pdu units anchor acts) unit count complete
     → IsTimed bn anchors unit (record { first = number; offset = anchor - unit.time; segments = take count unit.octets ∷ []; whole = complete })
@@ -554,7 +555,8 @@ leaves_step max_pdu max_sdu bn anchors units number acts parts closed (Some unit
     absurd (omega arith)
 
 -- a segment
-carries_step : (max_pdu max_sdu bn : ℕ) (anchors : List ℕ) (units : List Timed) (anchor number : ℕ) (acts : List Act) (parts : List Part) (closed : List Sent) (opened : Option Sent) (count : ℕ) (complete : Bool)
+carries_step : (max_pdu max_sdu bn : ℕ) (anchors : List ℕ) (units : List Timed) (anchor number : ℕ) (acts : List Act) (parts : List Part) (closed : List Sent) (opened : Option Sent)
+    (count : ℕ) (complete : Bool)
     → ((i : ℕ) → (unit : Timed) → slice_get units i ≡ Some unit → length unit.octets ≤ max_sdu)
     → (event : ℕ) → event * bn ≤ number → number < event * bn + bn → slice_get anchors event ≡ Some anchor
     → Sending max_pdu max_sdu bn anchors units number acts parts closed opened → Comes (place_of max_pdu units anchor acts) (carries count complete)
@@ -741,7 +743,8 @@ air_sends info (accept time octets ∷ calls) acts air wide fits is =
     record {
       closed = rest.closed;
       opened = rest.opened;
-      sending = accepted_more info.max_pdu info.max_sdu info.bn (anchors_of calls) (accepted calls) (record { time = time; octets = octets }) (length air * info.bn) acts [] rest.closed rest.opened rest.sending;
+      sending = accepted_more info.max_pdu info.max_sdu info.bn (anchors_of calls) (accepted calls) (record { time = time; octets = octets }) (length air * info.bn) acts [] rest.closed
+          rest.opened rest.sending;
       events = rest.events;
     }
 air_sends info (lay anchor ∷ calls) acts air wide fits (earlier, before, own, is_before, event, acts_is, air_is) =
@@ -760,7 +763,8 @@ air_sends info (lay anchor ∷ calls) acts air wide fits (earlier, before, own, 
       closed = laid.closed_now;
       opened = laid.opened_now;
       sending = subst (λ n. Sending info.max_pdu info.max_sdu info.bn (anchors_of calls ++ anchor ∷ []) (accepted calls) n acts [] laid.closed_now laid.opened_now) numbers
-          (subst (λ xs. Sending info.max_pdu info.max_sdu info.bn (anchors_of calls ++ anchor ∷ []) (accepted calls) (length before * info.bn + pdus_ended (ends ∷ own)) xs [] laid.closed_now laid.opened_now)
+          (subst (λ xs. Sending info.max_pdu info.max_sdu info.bn (anchors_of calls ++ anchor ∷ []) (accepted calls) (length before * info.bn + pdus_ended (ends ∷ own)) xs []
+          laid.closed_now laid.opened_now)
           (sym acts_is) laid.sending);
       events = subst (λ a. EventsAre info a (all laid.closed_now laid.opened_now)) (sym air_is) (
         events_stay info before (all laid.closed_now laid.opened_now) (all rest.closed rest.opened) laid.stable rest.events,
