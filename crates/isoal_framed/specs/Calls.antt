@@ -22,3 +22,9 @@ abbrev pub last_time : List Call → Option ℕ
 last_time [] = None
 last_time (accept time octets ∷ earlier) = Some time
 last_time (lay anchor ∷ earlier) = last_time earlier
+
+-- the anchors of the events laid, in order
+abbrev pub anchors_of : List Call → List ℕ
+anchors_of [] = []
+anchors_of (accept time octets ∷ earlier) = anchors_of earlier
+anchors_of (lay anchor ∷ earlier) = anchors_of earlier ++ anchor ∷ []

@@ -21,10 +21,11 @@ pub fn a_sender_lays_a_framed_air()
     ensures { (info : BigInfo) (calls : List Call) (air : Air) (sender : Sender) → StandsFor info calls air sender → IsFramedAir info calls air }
 {}
 
-/// A framed air sends units in order, each carried by numbers one behind the other, of which the last alone may be partly
-/// laid: its PDUs are those of these units.
+/// A framed air sends some of the accepted units, in order, each carried by numbers one behind the other, of which the last
+/// alone may be partly laid: its PDUs are those of these units. A unit's TimeOffset is from its time to the anchor of the
+/// event of its first number.
 pub fn a_framed_air_sends_units()
-    ensures { (group : Group) (calls : List Call) (air : Air) → group.info.framing ≡ 1 → ((i : ℕ) (unit : Timed) → slice_get (accepted calls) i ≡ Some unit → length unit.octets ≤ group.info.max_sdu) → IsFramedAir group.info calls air → (units : List Sent) × Sends group.info air units }
+    ensures { (group : Group) (calls : List Call) (air : Air) → group.info.framing ≡ 1 → ((i : ℕ) (unit : Timed) → slice_get (accepted calls) i ≡ Some unit → length unit.octets ≤ group.info.max_sdu) → IsFramedAir group.info calls air → (units : List Sent) × Sends group.info calls air units }
 {}
 
 /// Three events worked by hand.
