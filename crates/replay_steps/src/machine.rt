@@ -1,4 +1,4 @@
-ghost use Rattle.std.specs.Prelude.{◌≡◌, IfOk, List, [], map};
+ghost use Rattle.std.specs.Prelude.{◌≡◌, ◌<◌, ◌^◌, IfOk, List, [], map, length};
 ghost use Rattle.bcast_io.specs.TextLines.{TextLine, plain};
 ghost use Rattle.unit_outlets.specs.Account.{Account};
 
@@ -44,13 +44,14 @@ impl Machine {
         matches!(self.stage, Stage::Over(_))
     }
 
-    /// Runs a line, and puts what it prints at the end of the text.
+    /// Runs a line, and puts what it prints at the end of the text. The condition is one that every slice meets.
     pub fn line(
         &mut self,
         line: &[u8],
         outlets: &mut Vec<Box<dyn Outlet>>,
         text: &mut Octets,
     ) -> Result<(), Stop>
+        requires { length line.now < 2 ^ 64 }
         ensures { (starts : List Account) (lines : List TextLine) → LinesStand starts lines self.old (map account outlets.old.items)
             → LineMeets starts lines (plain line.now) self.new text.old text.new (map account outlets.old.items) (map account outlets.new.items) result }
     {
