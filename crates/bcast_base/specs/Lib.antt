@@ -1,2 +1,3 @@
 pub mod Bis
+pub mod Counts
 pub mod Numbers

@@ -1,6 +1,6 @@
 -- What a sink's refusal says of its count of faults.
 use Rattle.std.specs.Prelude.{ℕ, ◌≡◌}
-use Rattle.bcast_io.specs.Faults.{Rose}
+use Rattle.bcast_base.specs.Counts.{Rose}
 use Rattle.bcast_io.specs.declared.sink.SinkFault.{SinkFault}
 use Rattle.bcast_io.specs.declared.sink.SinkFault.TheVariants.{Failed, Memory}
 

@@ -1,4 +1,3 @@
-pub mod Faults
 pub mod Causes
 pub mod Scripts
 pub mod Stores

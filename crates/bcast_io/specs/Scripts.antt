@@ -1,6 +1,6 @@
 -- Calls of which those with listed numbers fail, counted from 1.
 use Rattle.std.specs.Prelude.{ℕ, ◌+◌, ◌^◌, ◌<◌, List, Contains}
-use Rattle.bcast_io.specs.Faults.{counted}
+use Rattle.bcast_base.specs.Counts.{counted}
 
 pub record Script : Type 0 where
   -- the numbers of the calls that fail

@@ -1,7 +1,7 @@
 ghost use Rattle.std.specs.Prelude.{◌≡◌, ◌<◌, ◌≤◌, Err, OnOk, OnErr, IfOk, length};
 ghost use Rattle.std.specs.Io.{ReadsAtMost, WritesAtMost};
 ghost use Rattle.std.specs.Io.KnownBytes.{ReadConsumes, WriteAppends};
-ghost use Rattle.bcast_io.specs.Faults.{counted};
+ghost use Rattle.bcast_base.specs.Counts.{counted};
 
 use crate::sink::{ByteSink, SinkFault};
 use crate::source::{ByteSource, Failed};

@@ -1,6 +1,6 @@
 ghost use Rattle.std.specs.Prelude.{◌≡◌, ◌<◌, ◌≤◌, ◌+◌, ◌-◌, min, false, true, [], ◌++◌, None, Some, Ok, length, take, drop, slice_index, IfOk, OnOk, OnErr, IsSome, IfSome, IfNone};
 ghost use Rattle.std.specs.Io.KnownBytes.{IsAtEnd};
-ghost use Rattle.bcast_io.specs.Faults.{Rose};
+ghost use Rattle.bcast_base.specs.Counts.{Rose};
 ghost use Rattle.bcast_io.specs.TextLines.{NoNewline, line_of, line_limit, newline, text_limit};
 ghost use Rattle.bcast_io.specs.State.Reading.{IsSound, IsReady, IsPast, Reads, Took, BreaksOff};
 ghost use Rattle.bcast_io.specs.State.Answering.{Names, Finds, Ends, GoesOn, Anew, Answers};

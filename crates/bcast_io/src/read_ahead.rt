@@ -1,6 +1,6 @@
 ghost use Rattle.std.specs.Prelude.{◌≡◌, ◌≤◌, [], length, drop, IfOk, OnOk, OnErr};
 ghost use Rattle.std.specs.Io.KnownBytes.{Consumes, IsAtEnd, Keeps};
-ghost use Rattle.bcast_io.specs.Faults.{Rose};
+ghost use Rattle.bcast_base.specs.Counts.{Rose};
 
 use crate::source::{ByteSource, Failed};
 use bcast_base::Memory;

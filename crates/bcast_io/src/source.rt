@@ -1,7 +1,7 @@
 ghost use Rattle.std.specs.Prelude.{◌≡◌, ◌≤◌, ℕ, List, Option, None, OnOk, OnErr};
 ghost use Rattle.std.specs.Io.{ReadsAtMost};
 ghost use Rattle.std.specs.Io.KnownBytes.{ReadConsumes};
-ghost use Rattle.bcast_io.specs.Faults.{Rose};
+ghost use Rattle.bcast_base.specs.Counts.{Rose};
 
 /// A read from the outside failed.
 #[derive(Clone, Copy, Debug, PartialEq, Eq)]

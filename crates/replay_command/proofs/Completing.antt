@@ -4,11 +4,10 @@ use Rattle.std.specs.Prelude.{option_map, sum}
 use Rattle.std.proofs.lemmas.List.{append-nil, map-append}
 use Rattle.std.proofs.lemmas.List.Sums.{sum_by-cons, sum_by-append}
 use Rattle.std.specs.Io.KnownBytes.{Consumes, IsAtEnd}
-use Rattle.bcast_io.specs.Faults.{Rose as OutsideRose}
 use Rattle.bcast_io.specs.State.Reading.{MayFollow}
 use Rattle.bcast_io.specs.TextLines.{lines_of}
 use Rattle.unit_outlets.specs.Account.{Account, Fits}
-use Rattle.unit_outlets.specs.Faults.{Rose}
+use Rattle.bcast_base.specs.Counts.{Rose}
 use Rattle.unit_outlets.specs.Handed.{valid}
 use Rattle.source_machine.specs.Airs.{airs_of}
 use Rattle.line_runs.specs.Runs.{through, refused}
@@ -173,9 +172,9 @@ no_room starts ends units f room =
 
 module _ (text : List ℕ) (starts ends : List Account) (left' kept kept' : Option (List ℕ)) (read read' write write' : ℕ) where
   through_at : (status : Status) → Ended status starts ends (Some text) left' kept kept'
-      → (status ≡ statuses.ReadFault → OutsideRose read read') → (status ≡ statuses.WriteFault → OutsideRose write write')
+      → (status ≡ statuses.ReadFault → Rose read read') → (status ≡ statuses.WriteFault → Rose write write')
       → transcript_end airs_of starts (lines_of true text) ≡ through
-      → ¬ OutsideRose read read' → ¬ OutsideRose write write' → NoneFailed starts ends → IsDoneOrMemory status
+      → ¬ Rose read read' → ¬ Rose write write' → NoneFailed starts ends → IsDoneOrMemory status
   through_at statuses.Done e r w t no_read no_write none = tt
   through_at (statuses.Refused line reason) e r w t no_read no_write none =
       let rest = rest_of text left' e.0.text e.0.over e.0.read in
@@ -194,8 +193,8 @@ module _ (text : List ℕ) (starts ends : List Account) (left' kept kept' : Opti
       (failure text starts ends left' kept kept' (ended_at status statuses.OutletFault starts ends (Some text) left' kept kept' e is)) room
 
   no_fault_at : (status : Status) → Ended status starts ends (Some text) left' kept kept'
-      → (status ≡ statuses.ReadFault → OutsideRose read read') → (status ≡ statuses.WriteFault → OutsideRose write write')
-      → RoomForText starts text → ¬ OutsideRose read read' → ¬ OutsideRose write write' → IsNoFault status
+      → (status ≡ statuses.ReadFault → Rose read read') → (status ≡ statuses.WriteFault → Rose write write')
+      → RoomForText starts text → ¬ Rose read read' → ¬ Rose write write' → IsNoFault status
   no_fault_at statuses.Done e r w room no_read no_write = tt
   no_fault_at (statuses.Refused line reason) e r w room no_read no_write = tt
   no_fault_at statuses.Usage e r w room no_read no_write = absurd e
@@ -206,7 +205,7 @@ module _ (text : List ℕ) (starts ends : List Account) (left' kept kept' : Opti
 
 pub ended_complete : (text : List ℕ) (starts ends : List Account) (left left' kept kept' : Option (List ℕ)) (read read' write write' : ℕ) (status : Status)
     → Ended status starts ends left left' kept kept' → left ≡ Some text
-    → (status ≡ statuses.ReadFault → OutsideRose read read') → (status ≡ statuses.WriteFault → OutsideRose write write')
+    → (status ≡ statuses.ReadFault → Rose read read') → (status ≡ statuses.WriteFault → Rose write write')
     → Complete text starts ends read read' write write' status
 ended_complete text starts ends left left' kept kept' read read' write write' status e is r w =
     let at = left_at status text starts ends left left' kept kept' is e in

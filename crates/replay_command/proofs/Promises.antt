@@ -1,6 +1,6 @@
 -- What is promised of a call, from what its run did.
 use Rattle.std.proofs.Common.{◌≡◌, ◌≢◌, ℕ, List, [], refl}
-use Rattle.bcast_io.specs.Faults.{Rose}
+use Rattle.bcast_base.specs.Counts.{Rose}
 use Rattle.replay_command.specs.declared.status.Status.{Status}
 use Rattle.replay_command.specs.declared.status.Status.TheVariants as statuses
 use Rattle.replay_command.specs.Promised.{Promised, Did}

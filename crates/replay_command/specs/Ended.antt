@@ -1,9 +1,8 @@
 -- What a call of `replay` did, by its status, and which statuses can come. The statuses are this project's own.
 use Rattle.std.specs.Prelude.{ℕ, ◌≡◌, ◌≢◌, ◌<◌, ◌^◌, IsTrue, true, List, slice_get, Option, Some}
-use Rattle.bcast_io.specs.Faults.{Rose as OutsideRose}
 use Rattle.bcast_io.specs.TextLines.{lines_of}
 use Rattle.unit_outlets.specs.Account.{Account}
-use Rattle.unit_outlets.specs.Faults.{Rose}
+use Rattle.bcast_base.specs.Counts.{Rose}
 use Rattle.source_machine.specs.Airs.{airs_of}
 use Rattle.transcript_text.specs.declared.refusal.Refusal.TheVariants.{NoEnd}
 use Rattle.scenario_history.specs.Boxes.{SinkUnit, valid_for, with_units}
@@ -72,6 +71,6 @@ RoomForText starts text = RoomFor starts (units_of airs_of starts (lines_of true
 -- boxes, and by the room of the boxes.
 pub record Complete (text : List ℕ) (starts ends : List Account) (read read' write write' : ℕ) (status : Status) : Type 0 where
   pub through_all : transcript_end airs_of starts (lines_of true text) ≡ through
-      → ¬ OutsideRose read read' → ¬ OutsideRose write write' → NoneFailed starts ends → IsDoneOrMemory status
+      → ¬ Rose read read' → ¬ Rose write write' → NoneFailed starts ends → IsDoneOrMemory status
   pub room : RoomForText starts text → status ≢ statuses.OutletFault
-  pub no_fault : RoomForText starts text → ¬ OutsideRose read read' → ¬ OutsideRose write write' → IsNoFault status
+  pub no_fault : RoomForText starts text → ¬ Rose read read' → ¬ Rose write write' → IsNoFault status

@@ -1,7 +1,7 @@
 -- What a call of `replay` promises of the outside before it and after it, by its words and its status. The program is
 -- this project's own.
 use Rattle.std.specs.Prelude.{ℕ, ◌≡◌, ◌≢◌, ◌↔◌, true, List, [], Some}
-use Rattle.bcast_io.specs.Faults.{Rose}
+use Rattle.bcast_base.specs.Counts.{Rose}
 use Rattle.bcast_io.specs.TextLines.{lines_of}
 use Rattle.source_machine.specs.Airs.{airs_of}
 use Rattle.transcript_text.specs.declared.refusal.Refusal.{Refusal}

@@ -1,6 +1,6 @@
 //! The run of a scenario, line by line.
 ghost use Rattle.std.specs.Prelude.{◌≡◌, ◌≢◌, ◌<◌, ◌+◌, ◌∷◌, ℕ, List, Option, None, Some, Ok, length, map, true, IfNone, IfOk, OnOk, OnErr, IsSome};
-ghost use Rattle.bcast_io.specs.Faults.{Rose};
+ghost use Rattle.bcast_base.specs.Counts.{Rose};
 ghost use Rattle.bcast_io.specs.TextLines.{TextLine, plain};
 ghost use Rattle.bcast_io.specs.State.Reading.{lines_left};
 ghost use Rattle.bcast_io.specs.State.Answering.{GoesOn};

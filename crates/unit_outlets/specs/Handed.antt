@@ -1,7 +1,7 @@
 -- What a receiver hands up: units that are valid, with their octets, and units that are lost (Core 5.2, volume 6
 -- part G, section 1), each with its stream and its time in µs.
 use Rattle.std.specs.Prelude.{ℕ, ◌≡◌, List, Result, Ok, Err}
-use Rattle.unit_outlets.specs.Faults.{Rose}
+use Rattle.bcast_base.specs.Counts.{Rose}
 use Rattle.unit_outlets.specs.declared.fault.TakerFault.{TakerFault}
 use Rattle.unit_outlets.specs.declared.fault.TakerFault.TheVariants.{Failed, Memory}
 

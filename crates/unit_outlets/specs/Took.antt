@@ -1,7 +1,7 @@
 -- What a box does with a unit.
 use Rattle.std.specs.Prelude.{ℕ, ◌≡◌, IsTrue, List, Some, slice_get, slice_set, Result, Ok, Err}
 use Rattle.unit_outlets.specs.Account.{Account, Fits, with_unit}
-use Rattle.unit_outlets.specs.Faults.{Rose}
+use Rattle.bcast_base.specs.Counts.{Rose}
 use Rattle.unit_outlets.specs.declared.fault.OutletFault.{OutletFault}
 use Rattle.unit_outlets.specs.declared.fault.OutletFault.TheVariants.{Failed, Memory}
 

@@ -1,7 +1,7 @@
 ghost use Rattle.std.specs.Prelude.{◌≡◌, ◌+◌, ◌↔◌, false, None, Contains, IsTrue};
 ghost use Rattle.unit_outlets.specs.Account.{fresh};
 ghost use Rattle.unit_outlets.specs.Failing.{FailsAsListed};
-ghost use Rattle.unit_outlets.specs.Faults.{counted};
+ghost use Rattle.bcast_base.specs.Counts.{counted};
 ghost use Rattle.unit_outlets.specs.Took.{Took};
 
 use crate::fault::OutletFault;

@@ -1,5 +1,5 @@
 ghost use Rattle.std.specs.Prelude.{◌≡◌, ◌+◌, ◌<◌, ◌≤◌, ◌^◌, SomeIff};
-ghost use Rattle.unit_outlets.specs.Faults.{counted};
+ghost use Rattle.bcast_base.specs.Counts.{counted};
 
 /// The two sums of a box, and its count of faults.
 #[derive(Clone, Copy)]
