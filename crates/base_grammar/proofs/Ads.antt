@@ -9,7 +9,7 @@ use Rattle.ltv_codec.specs.declared.ltvs.Ltv.{Ltv}
 use Rattle.ltv_codec.specs.Faults.{IsBad, StandsZero}
 use Rattle.ltv_codec.specs.Layout.{IsLtvList, AreLtvs}
 use Rattle.ltv_codec.specs.Reading.{ltvs_of, ltvs_in}
-use Rattle.ltv_codec.proofs.Lists.{list_read, read_list, read_bad, bad_read}
+use Rattle.ltv_codec.proofs.Citable.{list_read, read_list, read_bad, bad_read}
 use Rattle.base_grammar.specs.Ad.{IsEnd, IsAdList, IsAdShort}
 use Rattle.base_grammar.specs.AdReading.{ads_read, ads_of, ads_in}
 

@@ -7,7 +7,7 @@ use Rattle.std.proofs.lemmas.List.{append-nil}
 use Rattle.std.proofs.lemmas.List.Concat.{flat_map-cons}
 use Rattle.octet_fields.specs.Reading.{octets_in, number_in, place_in}
 use Rattle.octet_fields.specs.Spelling.{IsOctets, counted}
-use Rattle.octet_fields.proofs.Fields.{octets_again, number_again}
+use Rattle.octet_fields.proofs.Citable.{octets_again, number_again}
 use Rattle.base_grammar.specs.declared.fault.BaseFault.{BaseFault}
 use Rattle.base_grammar.specs.declared.fault.BaseFault.TheVariants.{TooLong}
 use Rattle.base_grammar.specs.declared.subgroup.BaseEntry.{BaseEntry}

@@ -6,11 +6,11 @@ use Rattle.std.proofs.lemmas.List.{length-append}
 use Rattle.std.proofs.lemmas.List.Concat.{flat_map-cons}
 use Rattle.octet_fields.specs.Spelling.{IsOctets}
 use Rattle.octet_fields.specs.Reading.{counted_in}
-use Rattle.octet_fields.proofs.Fields.{counted_again}
+use Rattle.octet_fields.proofs.Citable.{counted_again}
 use Rattle.ltv_codec.specs.declared.ltvs.Ltv.{Ltv}
 use Rattle.ltv_codec.specs.Layout.{structure, spelling, IsLtvList, AreLtvs}
 use Rattle.ltv_codec.specs.Reading.{ltvs_in}
-use Rattle.ltv_codec.proofs.Loops.{list_in, reads}
+use Rattle.ltv_codec.proofs.Citable.{list_in, reads}
 use Rattle.base_grammar.specs.Ad.{service_in, first_service}
 use Rattle.base_grammar.specs.AdReading.{service_of}
 

@@ -4,8 +4,7 @@ use Rattle.std.specs.Prelude.{IsOk, IfOk, IfErr}
 use Rattle.std.proofs.lemmas.Bool.{ltb-false, ltb-true, lt-ltb, le-ltb}
 use Rattle.octet_fields.specs.Layout.{reserved_from}
 use Rattle.octet_fields.specs.Spelling.{IsOctets}
-use Rattle.octet_fields.proofs.Fields.{IsOctets-rest}
-use Rattle.octet_fields.proofs.Layouts.{reserved_first, first_reserved, reserved_none, none_reserved}
+use Rattle.octet_fields.proofs.Citable.{IsOctets-rest, reserved_first, first_reserved, reserved_none, none_reserved}
 use Rattle.bass_operations.specs.declared.fault.OpFault.{OpFault}
 use Rattle.bass_operations.specs.declared.fault.OpFault.TheVariants.{Empty, Opcode, Length, Rfu, BisTwice, Memory}
 use Rattle.bass_operations.specs.declared.operation.Operation.{Operation}

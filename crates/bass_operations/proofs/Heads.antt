@@ -4,8 +4,7 @@ use Rattle.std.proofs.lemmas.List.{length-append}
 use Rattle.octet_fields.specs.Reading.{octet_in, octets_in, number_in}
 use Rattle.octet_fields.specs.Spelling.{IsOctets, octet, number}
 use Rattle.octet_fields.specs.Steps.{◌>>=◌}
-use Rattle.octet_fields.proofs.Fields.{octet_takes, octets_take, octets_again, number_takes, number_again, number-length}
-use Rattle.octet_fields.proofs.Groups.{bind_some, some_is}
+use Rattle.octet_fields.proofs.Citable.{octet_takes, octets_take, octets_again, number_takes, number_again, number-length, bind_some, some_is}
 use Rattle.bass_operations.specs.declared.operation.AddSource.{AddSource}
 use Rattle.bass_operations.specs.declared.operation.ModifySource.{ModifySource}
 use Rattle.bass_operations.specs.Reading.{add_head_in, modify_head_in}

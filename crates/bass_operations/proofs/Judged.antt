@@ -6,9 +6,7 @@ use Rattle.octet_fields.specs.Layout.{laid, reserved_from}
 use Rattle.octet_fields.specs.Reading.{octet_in, octets_in}
 use Rattle.octet_fields.specs.Spelling.{IsOctets, octet}
 use Rattle.octet_fields.specs.Steps.{◌>>=◌, whole}
-use Rattle.octet_fields.proofs.Fields.{IsOctets-rest, octet_takes, octets_take}
-use Rattle.octet_fields.proofs.Groups.{bind_some, some_is}
-use Rattle.octet_fields.proofs.Layouts.{reserved_none, none_reserved}
+use Rattle.octet_fields.proofs.Citable.{IsOctets-rest, octet_takes, octets_take, bind_some, some_is, reserved_none, none_reserved}
 use Rattle.bass_operations.specs.declared.fault.OpFault.{OpFault}
 use Rattle.bass_operations.specs.declared.fault.OpFault.TheVariants.{Opcode}
 use Rattle.bass_operations.specs.declared.operation.AddSource.{AddSource}

@@ -7,7 +7,7 @@ use Rattle.std.proofs.Math.Dec.{eqb-suc-zero}
 use Rattle.std.proofs.lemmas.List.Sums.{sum_by-cons}
 use Rattle.octet_fields.specs.Steps.{◌>>=◌, whole}
 use Rattle.octet_fields.specs.Subgroups.{Subgroup, subgroup_in, subgroups_in}
-use Rattle.octet_fields.proofs.Groups.{bind_some, some_is}
+use Rattle.octet_fields.proofs.Citable.{bind_some, some_is}
 use Rattle.bass_operations.specs.declared.wishes.Wish.{Wish}
 use Rattle.bass_operations.specs.Reading.{wish_of, wishes_in}
 use Rattle.bass_operations.specs.Scanning.{named_in, twice_in}

@@ -5,7 +5,7 @@ use Rattle.std.proofs.lemmas.Bool.{eqb-true}
 use Rattle.std.proofs.lemmas.List.{take_all, nil_from_length}
 use Rattle.octet_fields.specs.Reading.{octet_in, octets_in}
 use Rattle.octet_fields.specs.Steps.{◌>>=◌, whole}
-use Rattle.octet_fields.proofs.Groups.{bind_some, some_is}
+use Rattle.octet_fields.proofs.Citable.{bind_some, some_is}
 use Rattle.bass_operations.specs.declared.fault.OpFault.{OpFault}
 use Rattle.bass_operations.specs.declared.fault.OpFault.TheVariants.{Length}
 use Rattle.bass_operations.specs.declared.operation.Operation.{Operation}

@@ -7,8 +7,7 @@ use Rattle.octet_fields.specs.Layout.{reserved_from}
 use Rattle.octet_fields.specs.Reading.{place_in}
 use Rattle.octet_fields.specs.Spelling.{IsOctets}
 use Rattle.octet_fields.specs.Subgroups.{subgroup_fields, reserved_in}
-use Rattle.octet_fields.proofs.Fields.{IsOctets-rest, number-length}
-use Rattle.octet_fields.proofs.Groups.{reserved_found}
+use Rattle.octet_fields.proofs.Citable.{IsOctets-rest, number-length, reserved_found}
 use Rattle.bass_operations.specs.declared.fault.OpFault.{OpFault}
 use Rattle.bass_operations.specs.declared.fault.OpFault.TheVariants.{Length, Rfu, BisTwice}
 use Rattle.bass_operations.specs.declared.operation.AddSource.{AddSource}

@@ -7,7 +7,7 @@ use Rattle.octet_fields.specs.Layout.{Field, laid}
 use Rattle.octet_fields.specs.Spelling.{IsOctets}
 use Rattle.octet_fields.specs.Steps.{◌>>=◌, whole}
 use Rattle.octet_fields.specs.Subgroups.{Subgroup, Fits, subgroup, subgroup_fields, subgroups_in}
-use Rattle.octet_fields.proofs.Groups.{bind_some, some_is, subgroup_laid, subgroups_take, subgroups_again}
+use Rattle.octet_fields.proofs.Citable.{bind_some, some_is, subgroup_laid, subgroups_take, subgroups_again}
 use Rattle.bass_operations.specs.declared.wishes.Wish.{Wish}
 use Rattle.bass_operations.specs.Layout.{group_of, WishFits}
 use Rattle.bass_operations.specs.Reading.{wish_of, wishes_in}

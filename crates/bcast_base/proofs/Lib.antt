@@ -1,2 +1,3 @@
 pub mod Sets
-pub mod Places
+mod Places
+pub mod Citable

@@ -1,4 +1,5 @@
-pub mod Transfers
+mod Transfers
 pub mod Slices
-pub mod LineLaws
+mod LineLaws
 pub mod ReadingLaws
+pub mod Citable

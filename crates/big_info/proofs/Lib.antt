@@ -1,8 +1,9 @@
-pub mod Order
-pub mod BoundsOf
+mod Order
+mod BoundsOf
 pub mod Sums
 pub mod Words
 pub mod Ciphers
 pub mod Fields
 pub mod Cuts
 pub mod Spellings
+pub mod Citable

@@ -2,7 +2,7 @@
 use Rattle.std.proofs.Common.{◌≡◌, ◌≤◌, ◌<◌, ℕ, suc, ◌+◌, ◌*◌, ◌^◌, List, [], ◌∷◌, ◌++◌, length, take, drop, get_or, refl, sym, ◌∙◌, ap, arith, subst, length-take, length-drop, take-append-drop}
 use Rattle.std.proofs.lemmas.List.{drop-drop, get_or-take, get_or-drop}
 use Rattle.bcast_base.specs.Numbers.{sum_from}
-use Rattle.bcast_base.proofs.Places.{sum_from-cons}
+use Rattle.bcast_base.proofs.Citable.{sum_from-cons}
 use Rattle.big_info.specs.declared.info.BigInfo.{BigInfo}
 use Rattle.big_info.specs.Layout.{Spells, AreOctets, SameButRfu}
 use Rattle.big_info.specs.Widths.{FitsWidths}

@@ -5,7 +5,7 @@ use Rattle.std.proofs.Math.Seq.{take-add}
 use Rattle.std.proofs.Math.Nat.{pow-suc}
 use Rattle.std.proofs.lemmas.List.{take_more, get_or-take, get_or-drop}
 use Rattle.bcast_base.specs.Numbers.{sum_from}
-use Rattle.bcast_base.proofs.Places.{sum_from-append, sum_from-suc, sum_from-cons, small_read}
+use Rattle.bcast_base.proofs.Citable.{sum_from-append, sum_from-suc, sum_from-cons, small_read}
 
 -- octets from place i on count 256 ^ i times as much
 pub sum_from-places : (i : ℕ) (octets : List ℕ) → sum_from i octets ≡ 256 ^ i * sum_from 0 octets

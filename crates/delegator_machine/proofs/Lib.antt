@@ -2,5 +2,6 @@ pub mod Handing
 pub mod Numbers
 pub mod OneStream
 pub mod Opened
-pub mod Sets
+mod Sets
 pub mod Standing
+pub mod Citable

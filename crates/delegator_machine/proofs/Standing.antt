@@ -11,11 +11,10 @@ use Rattle.isoal_base.specs.declared.hearing.Hearing.TheVariants as hearings
 use Rattle.isoal_base.specs.Hearing.{read_as}
 use Rattle.isoal_base.specs.Stays as stays
 use Rattle.isoal_base.specs.Stays.{Stay, opened, window_of}
-use Rattle.isoal_base.proofs.Ranges.{map_same, map_changed}
-use Rattle.isoal_base.proofs.Steps.{stands_new, stands_hear, stands_close}
+use Rattle.isoal_base.proofs.Citable.{map_same, map_changed, stands_new, stands_hear, stands_close}
 use Rattle.isoal_unframed.specs.Units.{unframed}
 use Rattle.isoal_unframed.specs.State.Windows.{after_hear, after_close}
-use Rattle.isoal_unframed.proofs.Stands.{owed_is}
+use Rattle.isoal_unframed.proofs.Citable.{owed_is}
 use Rattle.delegator_machine.proofs.Sets.{flat_map_filter}
 use Rattle.delegator_machine.specs.Calls.{Tuning, Call, tune, hear, tick, place}
 use Rattle.delegator_machine.specs.Handing.{units_by, units_on, handed_by, handed_at}

@@ -1,5 +1,6 @@
 pub mod Lists
 pub mod PartsRead
-pub mod PdusRead
+mod PdusRead
 pub mod Packs
 pub mod Controls
+pub mod Citable

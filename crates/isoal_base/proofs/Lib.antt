@@ -1,3 +1,4 @@
-pub mod Ranges
-pub mod Heards
-pub mod Steps
+mod Ranges
+mod Heards
+mod Steps
+pub mod Citable

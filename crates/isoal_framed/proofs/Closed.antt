@@ -9,9 +9,7 @@ use Rattle.big_info.specs.Bounds.{Bounds}
 use Rattle.big_info.specs.Schedule.{horizon_of}
 use Rattle.isoal_base.specs.Stays.{Stay, Call, hear, close, opened, window_of}
 use Rattle.isoal_base.specs.Hearing.{read_as}
-use Rattle.isoal_base.proofs.Heards.{heard_same, entry_outside}
-use Rattle.isoal_base.proofs.Ranges.{map_part}
-use Rattle.isoal_base.proofs.Steps.{stands_new, stands_hear, stands_close}
+use Rattle.isoal_base.proofs.Citable.{heard_same, entry_outside, map_part, stands_new, stands_hear, stands_close}
 use Rattle.isoal_framed.specs.Histories.{heard_in, event_tokens, closed_tokens, decided, gained}
 use Rattle.isoal_framed.specs.Tokens.{segmented, tokens_of}
 use Rattle.isoal_framed.specs.Units.{units, undecided_run}

@@ -2,7 +2,7 @@
 use Rattle.std.proofs.Common.{ℕ, ◌≡◌, ◌+◌, ◌-◌, ◌<◌, ◌≤◌, ◌⊎◌, inl, inr, true, false, leb, ltb, eqb, cond, Bool, ◌&&◌, length, Option, Some, None, refl, sym, ap, ◌∙◌, subst, arith}
 use Rattle.std.proofs.lemmas.Bool.{cases_Bool, cond-true, cond-false, leb-true, leb-false, lt-ltb, le-ltb, le-leb, lt-leb, eqb-true, eq-eqb, ne_eqb, and_left, and_right, false≢true, cases_eq}
 use Rattle.std.proofs.lemmas.Option.{none-some}
-use Rattle.isoal_base.proofs.Heards.{cases_option}
+use Rattle.isoal_base.proofs.Citable.{cases_option}
 use Rattle.isoal_framed.specs.Calls.{Timed}
 use Rattle.isoal_framed.specs.Places.{Act, carries, leaves_out, ends, Place, overhead, least_room, HasTurn, IsStale, IsSegment, Comes}
 use Rattle.isoal_framed.specs.State.Greedy.{sends, unless_stale, unless_early, act_for, act_of}

@@ -6,7 +6,7 @@ use Rattle.std.proofs.lemmas.Option.{none-some, slice_get_past}
 use Rattle.iso_pdu.specs.Layout.{framed}
 use Rattle.iso_pdu.specs.State.Packing.{room_in}
 use Rattle.iso_pdu.specs.Spelling.{pdu}
-use Rattle.isoal_base.proofs.Heards.{cases_option}
+use Rattle.isoal_base.proofs.Citable.{cases_option}
 use Rattle.isoal_framed.specs.Air.{pdus_ended, open_parts, pdus_of, stale_of, part_of, time_in}
 use Rattle.isoal_framed.specs.Calls.{Timed}
 use Rattle.isoal_framed.specs.Places.{Act, carries, leaves_out, ends, Place, place_of, Comes, done, sent, room, overhead}

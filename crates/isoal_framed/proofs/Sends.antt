@@ -11,7 +11,7 @@ use Rattle.big_info.specs.declared.info.BigInfo.{BigInfo}
 use Rattle.iso_pdu.specs.Layout.{Part, start, more, framed}
 use Rattle.iso_pdu.specs.Spelling.{pdu}
 use Rattle.isoal_base.specs.Air.{Air}
-use Rattle.isoal_base.proofs.Ranges.{map_same, map_append}
+use Rattle.isoal_base.proofs.Citable.{map_same, map_append}
 use Rattle.isoal_framed.specs.Air.{AllCome, IsAirOf, pdus_ended, part_of, open_parts, pdus_of}
 use Rattle.isoal_framed.specs.Calls.{Call, accept, lay, Timed, accepted, anchors_of}
 use Rattle.isoal_framed.specs.Places.{Act, carries, leaves_out, ends, Comes, IsSegment, place_of, overhead, least_room, done, sent, room}

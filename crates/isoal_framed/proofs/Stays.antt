@@ -6,7 +6,7 @@ use Rattle.std.proofs.Math.Nat.{add-mul, le-div_iff_mul-le, div-lt_iff_lt-mul}
 use Rattle.std.proofs.lemmas.Bool.{cases_order, cond-true, cond-false, true≢false}
 use Rattle.isoal_base.specs.Stays.{Stay, Call, opened, heard, FirstHeard}
 use Rattle.isoal_base.specs.Hearing.{read_as}
-use Rattle.isoal_base.proofs.Heards.{cases_option, heard_first}
+use Rattle.isoal_base.proofs.Citable.{cases_option, heard_first}
 use Rattle.isoal_framed.specs.Histories.{heard_in, event_tokens, closed_tokens, decided}
 use Rattle.isoal_framed.specs.Tokens.{missing, segmented, token_of, tokens_of}
 use Rattle.isoal_framed.specs.State.Joining.{hands}

@@ -8,9 +8,10 @@ mod Places
 mod Rows
 mod Runs
 mod SlotSteps
-pub mod Stands
+mod Stands
 mod Struck
 mod Turns
 mod UnitLaws
 mod Vecs
 mod Windows
+pub mod Citable

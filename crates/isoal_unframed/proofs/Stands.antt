@@ -5,8 +5,7 @@ use Rattle.big_info.specs.Bounds.{Bounds}
 use Rattle.big_info.specs.Schedule.{horizon_of, per_event_of, per_unit_of}
 use Rattle.isoal_base.specs.Stays.{Stay, Call, hear, close, opened, window_of}
 use Rattle.isoal_base.specs.Hearing.{read_as}
-use Rattle.isoal_base.proofs.Ranges.{map_same, map_part}
-use Rattle.isoal_base.proofs.Steps.{stands_new, stands_hear, stands_close}
+use Rattle.isoal_base.proofs.Citable.{map_same, map_part, stands_new, stands_hear, stands_close}
 use Rattle.isoal_unframed.specs.Histories.{heard_in, unit_at, units_of}
 use Rattle.isoal_unframed.specs.Units.{unframed, unit_of}
 use Rattle.isoal_unframed.specs.State.Windows.{Window, Stands, after_hear, after_close, handed_of, time_of, owed, owed_at}

@@ -12,8 +12,7 @@ use Rattle.iso_pdu.specs.Layout.{Content}
 use Rattle.isoal_unframed.specs.Slot.{fragments_of, laid}
 use Rattle.isoal_base.specs.Stays.{Stay, Call, hear, close, opened, FirstHeard}
 use Rattle.isoal_base.specs.Hearing.{read_as}
-use Rattle.isoal_base.proofs.Heards.{heard_same, entry_outside, heard_first}
-use Rattle.isoal_base.proofs.Ranges.{map_same}
+use Rattle.isoal_base.proofs.Citable.{heard_same, entry_outside, heard_first, map_same}
 use Rattle.isoal_unframed.specs.Histories.{heard_in, numbers_of, unit_at, units_of, handed}
 use Rattle.isoal_unframed.specs.Struck.{Slots, air_at, FromSource, Carried, IsStruck, closed_slots, Struck}
 use Rattle.isoal_unframed.specs.Units.{unframed, unit_of}

@@ -5,7 +5,7 @@ use Rattle.std.proofs.lemmas.Bool.{cond-true, leb-true, le-leb}
 use Rattle.std.proofs.lemmas.Option.{none-some, cond_some}
 use Rattle.std.proofs.lemmas.List.{append_assoc}
 use Rattle.iso_pdu.specs.Layout.{Content, end, fragment, framed, control}
-use Rattle.isoal_base.proofs.Heards.{cases_option}
+use Rattle.isoal_base.proofs.Citable.{cases_option}
 use Rattle.isoal_unframed.specs.Units.{IsUnit, unit_after, unit_of}
 
 -- a unit behind a front

@@ -12,7 +12,7 @@ use Rattle.iso_pdu.specs.Layout.{Content}
 use Rattle.isoal_base.specs.declared.heard.Heard.TheVariants.{Late, Beyond, Repeat, Kept}
 use Rattle.isoal_base.specs.Stays.{Stay, window_of}
 use Rattle.isoal_base.specs.Hearing.{placing}
-use Rattle.isoal_base.proofs.Ranges.{map_same}
+use Rattle.isoal_base.proofs.Citable.{map_same}
 use Rattle.isoal_unframed.specs.State.Cells.{turned}
 use Rattle.isoal_unframed.specs.State.Streams.{place_of, place_at}
 use Rattle.isoal_unframed.specs.Units.{unit_of, held_in}

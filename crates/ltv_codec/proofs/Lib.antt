@@ -1,2 +1,3 @@
-pub mod Lists
-pub mod Loops
+mod Lists
+mod Loops
+pub mod Citable

@@ -7,7 +7,7 @@ use Rattle.std.proofs.lemmas.List.{take_at, drop_at, take-append-drop, length-ap
 use Rattle.std.proofs.lemmas.List.Concat.{flat_map-cons}
 use Rattle.octet_fields.specs.Spelling.{IsOctets}
 use Rattle.octet_fields.specs.Reading.{counted_in}
-use Rattle.octet_fields.proofs.Fields.{IsOctets-drop, counted_takes}
+use Rattle.octet_fields.proofs.Citable.{IsOctets-drop, counted_takes}
 use Rattle.ltv_codec.specs.declared.fault.LtvBad.{LtvBad}
 use Rattle.ltv_codec.specs.declared.fault.LtvBad.TheVariants.{ZeroLength, Short}
 use Rattle.ltv_codec.specs.declared.ltvs.Ltv.{Ltv}

@@ -7,7 +7,7 @@ use Rattle.std.proofs.lemmas.Nat.{pow-add}
 use Rattle.std.proofs.lemmas.Option.{some_pair_parts}
 use Rattle.std.specs.Int.{w64, to_le_bytes}
 use Rattle.bcast_base.specs.Numbers.{sum_from}
-use Rattle.bcast_base.proofs.Places.{sum_from-cons}
+use Rattle.bcast_base.proofs.Citable.{sum_from-cons}
 use Rattle.octet_fields.specs.Reading.{octet_in, octets_in, number_in, counted_in, Takes}
 use Rattle.octet_fields.specs.Spelling.{IsOctets, octet, number, counted}
 

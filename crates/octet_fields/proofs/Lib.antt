@@ -1,4 +1,5 @@
-pub mod Fields
-pub mod Layouts
-pub mod Groups
-pub mod Tries
+mod Fields
+mod Layouts
+mod Groups
+mod Tries
+pub mod Citable

@@ -8,12 +8,12 @@ use Rattle.std.proofs.lemmas.List.{append-nil, length-append, nil_from_length}
 use Rattle.std.proofs.lemmas.List.Concat.{flat_map-cons}
 use Rattle.octet_fields.specs.Spelling.{IsOctets, counted}
 use Rattle.octet_fields.specs.Reading.{octet_in, octets_in, place_in}
-use Rattle.octet_fields.proofs.Fields.{octets_again}
+use Rattle.octet_fields.proofs.Citable.{octets_again}
 use Rattle.ltv_codec.specs.declared.fault.LtvBad.{LtvBad}
 use Rattle.ltv_codec.specs.Faults.{IsBad}
 use Rattle.ltv_codec.specs.Layout.{AreLtvs}
 use Rattle.ltv_codec.specs.Reading.{bad_of}
-use Rattle.ltv_codec.proofs.Lists.{bad_read}
+use Rattle.ltv_codec.proofs.Citable.{bad_read}
 use Rattle.pacs_records.specs.declared.fault.PacFault.{PacFault}
 use Rattle.pacs_records.specs.declared.fault.PacFault.TheVariants.{TooLong, Short, Ltv, Trailing, Memory}
 use Rattle.pacs_records.specs.declared.record.PacRecord.{PacRecord}

@@ -5,7 +5,7 @@ use Rattle.octet_fields.specs.Layout.{laid, reserved_from}
 use Rattle.octet_fields.specs.Reading.{place_in}
 use Rattle.octet_fields.specs.Spelling.{IsOctets}
 use Rattle.octet_fields.specs.Subgroups.{Subgroup, subgroups_in}
-use Rattle.octet_fields.proofs.Layouts.{reserved_first, first_reserved, reserved_none, none_reserved}
+use Rattle.octet_fields.proofs.Citable.{reserved_first, first_reserved, reserved_none, none_reserved}
 use Rattle.receive_state.specs.declared.fault.StateFault.{StateFault}
 use Rattle.receive_state.specs.declared.fault.StateFault.TheVariants.{Short, Rfu, Trailing}
 use Rattle.receive_state.specs.declared.state.ReceiveState.{ReceiveState}

@@ -7,7 +7,7 @@ use Rattle.octet_fields.specs.Layout.{Field, free, unless}
 use Rattle.octet_fields.specs.Reading.{octet_in, octets_in, place_in}
 use Rattle.octet_fields.specs.Spelling.{IsOctets, octet, number}
 use Rattle.octet_fields.specs.Subgroups.{Subgroup, Fits, subgroup_fields, is_reserved}
-use Rattle.octet_fields.proofs.Fields.{IsOctets-front, number-length, number_below, number_once}
+use Rattle.octet_fields.proofs.Citable.{IsOctets-front, number-length, number_below, number_once}
 use Rattle.receive_state.specs.Faults.{EndsIn}
 use Rattle.receive_state.specs.Reading.{end_in}
 use Rattle.octet_fields.specs.Tries.{◌>>=◌, needed}

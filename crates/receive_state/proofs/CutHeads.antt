@@ -7,7 +7,7 @@ use Rattle.octet_fields.specs.Layout.{Field, free, unless}
 use Rattle.octet_fields.specs.Reading.{octet_in, octets_in, place_in}
 use Rattle.octet_fields.specs.Spelling.{octet}
 use Rattle.octet_fields.specs.Subgroups.{subgroup_fields}
-use Rattle.octet_fields.proofs.Fields.{octet_takes, octets_take}
+use Rattle.octet_fields.proofs.Citable.{octet_takes, octets_take}
 use Rattle.receive_state.specs.Faults.{EndsIn}
 use Rattle.receive_state.specs.Layout.{StateFields, fields, FieldsFit, code_width}
 use Rattle.receive_state.specs.Reading.{source_in, head_in}

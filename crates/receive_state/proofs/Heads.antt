@@ -3,12 +3,11 @@ use Rattle.std.proofs.Common.{◌≡◌, ℕ, ◌+◌, ◌<◌, List, [], ◌++�
 use Rattle.std.proofs.lemmas.List.{length-append}
 use Rattle.octet_fields.specs.Reading.{octet_in, octets_in, place_in}
 use Rattle.octet_fields.specs.Spelling.{IsOctets, octet}
-use Rattle.octet_fields.proofs.Fields.{octet_takes, octets_take, octets_again}
+use Rattle.octet_fields.proofs.Citable.{octet_takes, octets_take, octets_again, bind_ok, needed_ok, ok_is}
 use Rattle.receive_state.specs.Layout.{StateFields, code_width}
 use Rattle.receive_state.specs.Reading.{source_in, head_in}
 use Rattle.octet_fields.specs.Tries.{◌>>=◌}
 use Rattle.receive_state.specs.Steps.{field_in}
-use Rattle.octet_fields.proofs.Tries.{bind_ok, needed_ok, ok_is}
 
 pub octets_again_at : (k : ℕ) (value rest : List ℕ) → length value ≡ k → octets_in k (value ++ rest) ≡ Some (value, rest)
 octets_again_at k value rest e = subst (λ (n : ℕ). octets_in n (value ++ rest) ≡ Some (value, rest)) e (octets_again value rest)

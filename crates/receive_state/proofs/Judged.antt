@@ -9,8 +9,7 @@ use Rattle.octet_fields.specs.Layout.{Field, laid, reserved_from, NoneReserved}
 use Rattle.octet_fields.specs.Reading.{place_in}
 use Rattle.octet_fields.specs.Spelling.{IsOctets}
 use Rattle.octet_fields.specs.Subgroups.{Subgroup, subgroup, subgroup_fields, subgroups_in}
-use Rattle.octet_fields.proofs.Groups.{subgroup_laid, subgroups_take, subgroups_again}
-use Rattle.octet_fields.proofs.Layouts.{reserved_none, none_reserved}
+use Rattle.octet_fields.proofs.Citable.{subgroup_laid, subgroups_take, subgroups_again, reserved_none, none_reserved}
 use Rattle.receive_state.specs.declared.fault.StateFault.{StateFault}
 use Rattle.receive_state.specs.declared.state.Encryption.{Encryption}
 use Rattle.receive_state.specs.declared.state.Encryption.TheVariants as keys

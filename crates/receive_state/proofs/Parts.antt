@@ -3,7 +3,7 @@ use Rattle.std.proofs.Common.{◌≡◌, ℕ, suc, List, ◌∷◌, Option, Some
 use Rattle.octet_fields.specs.Reading.{number_in, counted_in}
 use Rattle.octet_fields.specs.Steps.{◌>>=◌}
 use Rattle.octet_fields.specs.Subgroups.{Subgroup, subgroup_in, subgroups_in}
-use Rattle.octet_fields.proofs.Groups.{bind_some, some_is}
+use Rattle.octet_fields.proofs.Citable.{bind_some, some_is}
 
 -- a subgroup before others
 abbrev pub joined : Subgroup → Option (List Subgroup × List ℕ) → Option (List Subgroup × List ℕ)

@@ -8,7 +8,7 @@ use Rattle.octet_fields.specs.Layout.{reserved_from}
 use Rattle.octet_fields.specs.Reading.{place_in}
 use Rattle.octet_fields.specs.Spelling.{IsOctets}
 use Rattle.octet_fields.specs.Subgroups.{Subgroup, subgroup_fields, subgroups_in, reserved_in}
-use Rattle.octet_fields.proofs.Groups.{reserved_found}
+use Rattle.octet_fields.proofs.Citable.{reserved_found}
 use Rattle.receive_state.specs.declared.fault.StateFault.{StateFault}
 use Rattle.receive_state.specs.declared.fault.StateFault.TheVariants.{Rfu, Trailing}
 use Rattle.receive_state.specs.declared.state.GroupState.{GroupState}

@@ -14,7 +14,7 @@ use Rattle.line_runs.specs.Runs.{through, refused}
 use Rattle.scenario_history.specs.Boxes.{SinkUnit, accounts_after, onto_valid, valid_for, with_units, Took}
 use Rattle.scenario_history.specs.Lines.{handed_on}
 use Rattle.scenario_history.specs.Transcript.{transcript_end, units_of}
-use Rattle.scenario_history.proofs.Laws.{took_all, valid_append}
+use Rattle.scenario_history.proofs.Citable.{took_all, valid_append}
 use Rattle.replay_command.specs.declared.status.Status.{Status}
 use Rattle.replay_command.specs.declared.status.Status.TheVariants as statuses
 use Rattle.replay_command.specs.Replayed.{TextRead, OutletFaulted}

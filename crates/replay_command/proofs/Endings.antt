@@ -6,20 +6,20 @@ use Rattle.std.specs.Io.KnownBytes.{Appends, Keeps}
 use Rattle.bcast_io.specs.TextLines.{TextLine, lines_of}
 use Rattle.bcast_io.specs.State.Reading.{MayFollow}
 use Rattle.bcast_io.specs.Writing.{AppendsFront, AppendsShort}
-use Rattle.bcast_io.proofs.Transfers.{Appends-then, AppendsFront-then, AppendsFront-nothing, Consumes-nothing}
+use Rattle.bcast_io.proofs.Citable.{Appends-then, AppendsFront-then, AppendsFront-nothing, Consumes-nothing}
 use Rattle.unit_outlets.specs.Account.{Account}
 use Rattle.source_machine.specs.Airs.{airs_of}
 use Rattle.transcript_text.specs.declared.refusal.Refusal.{Refusal}
 use Rattle.transcript_text.specs.declared.refusal.Refusal.TheVariants.{NoEnd}
 use Rattle.transcript_text.specs.Lines.{refusal_line}
 use Rattle.line_runs.specs.Runs.{through, refused, out, out_unless, end_of, end_unless, accepted_of, accepted_unless, brought, Accepted}
-use Rattle.line_runs.proofs.RunLaws.{out_accepted, end_accepted, accepted_accepted}
+use Rattle.line_runs.proofs.Citable.{out_accepted, end_accepted, accepted_accepted}
 use Rattle.scenario_text.specs.declared.step.Step.{Step}
 use Rattle.scenario_history.specs.Steps.{is_over}
 use Rattle.scenario_history.specs.Boxes.{SinkUnit, handed_up, Took}
 use Rattle.scenario_history.specs.Lines.{Said, a_step, nothing, unsaid, rules_of, steps_of, said_after, handed_on, handed_said, with_said}
 use Rattle.scenario_history.specs.Transcript.{out_of, end_after, last_line_after, last_end_after, has_end, transcript_of, transcript_end, units_of}
-use Rattle.scenario_history.proofs.Laws.{took_all}
+use Rattle.scenario_history.proofs.Citable.{took_all}
 use Rattle.replay_command.specs.declared.status.Status.{Status}
 use Rattle.replay_command.specs.declared.status.Status.TheVariants as statuses
 use Rattle.replay_steps.specs.declared.machine.Machine.{Machine}

@@ -4,7 +4,7 @@ use Rattle.std.proofs.lemmas.List.{append-nil, reverse-append}
 use Rattle.std.specs.Io.KnownBytes.{Appends}
 use Rattle.bcast_io.specs.TextLines.{TextLine, lines_of}
 use Rattle.bcast_io.specs.Writing.{AppendsFront, AppendsShort}
-use Rattle.bcast_io.proofs.Transfers.{Appends-then, AppendsFront-of_more, AppendsFront-then}
+use Rattle.bcast_io.proofs.Citable.{Appends-then, AppendsFront-of_more, AppendsFront-then}
 use Rattle.unit_outlets.specs.Account.{Account}
 use Rattle.source_machine.specs.Airs.{airs_of}
 use Rattle.transcript_text.specs.declared.refusal.Refusal.{Refusal}
@@ -14,7 +14,7 @@ use Rattle.scenario_history.specs.Boxes.{SinkUnit, accounts_after, handed_up, ha
 use Rattle.scenario_history.specs.Output.{unit_lines, output_of}
 use Rattle.scenario_history.specs.Lines.{Said, a_step, nothing, unsaid, rules_of, steps_of, said_after, handed_on, handed_said, output_said}
 use Rattle.scenario_history.specs.Transcript.{out_of, last_line_after, end_after, has_end, transcript_of, transcript_end, units_of}
-use Rattle.scenario_history.proofs.Laws.{took_all}
+use Rattle.scenario_history.proofs.Citable.{took_all}
 use Rattle.scenario_text.specs.declared.step.Step.{Step}
 use Rattle.scenario_text.specs.declared.step.Step.TheVariants as kinds
 use Rattle.replay_command.specs.declared.status.Status.{Status}
@@ -26,7 +26,7 @@ use Rattle.replay_steps.specs.LineMeets.{LinesStand, refusal_at, output_at}
 use Rattle.replay_command.specs.Replayed.{Comes, brought_by, BoxesCut, BoxFailed, Broken, OutletFaulted, ReadsAhead, CutAt, BoxesAt, TookFront}
 use Rattle.replay_command.specs.Ended.{Ended}
 use Rattle.replay_command.specs.State.Between.{Refuses, Puts, StepRuns}
-use Rattle.replay_steps.proofs.Laws.{accounts_append, lines_append}
+use Rattle.replay_steps.proofs.Citable.{accounts_append, lines_append}
 use Rattle.replay_command.proofs.Endings.{out_then, out_all, out_line, out_refused, ends_refused, writes_refused, units_then, units_all, units_refused, units_rest, handed_line, took_history, front_of_short, front_none}
 use Rattle.replay_command.proofs.RefusalLaws.{never_no_end}
 

@@ -17,7 +17,7 @@ use Rattle.replay_steps.specs.LineMeets.{LinesStand, LineMeets}
 use Rattle.replay_command.specs.Replayed.{Comes, ReadsAhead, Broken}
 use Rattle.replay_command.specs.Ended.{Ended}
 use Rattle.replay_command.specs.State.Between.{ReadTo, NextIs, RunTo, Refuses, Puts, StepRuns, LineRuns}
-use Rattle.bcast_io.proofs.Transfers.{Appends-nothing}
+use Rattle.bcast_io.proofs.Citable.{Appends-nothing}
 use Rattle.replay_command.proofs.ReadingOn.{read_none, comes_of, ahead_of}
 use Rattle.replay_command.proofs.LineEndings.{ends_refusal, step_put, outlet_put, step_memory}
 

@@ -11,9 +11,8 @@ use Rattle.bcast_io.specs.State.Answering.{Answers, Anew}
 use Rattle.bcast_io.specs.declared.line_reader.LineRead.{LineRead}
 use Rattle.bcast_io.specs.declared.line_reader.LineRead.TheVariants.{Line, LineTooLong, TextTooLong, End}
 use Rattle.bcast_io.specs.declared.source.Failed.{Failed}
-use Rattle.bcast_io.proofs.Transfers.{Consumes-nothing, Consumes-then}
-use Rattle.bcast_io.proofs.LineLaws.{lines-nothing, lines-unended, lines-end, lines-past_all}
-use Rattle.line_runs.proofs.RunLaws.{reverse_onto}
+use Rattle.bcast_io.proofs.Citable.{Consumes-nothing, Consumes-then, lines-nothing, lines-unended, lines-end, lines-past_all}
+use Rattle.line_runs.proofs.Citable.{reverse_onto}
 use Rattle.replay_command.specs.Replayed.{Comes, ReadsAhead, ReadsAtMost, read_limit}
 use Rattle.replay_command.specs.State.Between.{ReadTo, TextIs, NextIs}
 

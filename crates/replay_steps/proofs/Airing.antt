@@ -28,12 +28,12 @@ use Rattle.scenario_history.specs.Refusals.{air_refusal, no_place, no_sink, own_
 use Rattle.scenario_sources.specs.Answers.{NoPlace}
 use Rattle.scenario_sources.specs.declared.sources.Sources.{Sources}
 use Rattle.scenario_sources.specs.State.Standing.{SourcesStand}
-use Rattle.scenario_sources.proofs.Laws.{SaysNothing, air_says, hear_says, inject_says, sniff_says, sources_stay}
+use Rattle.scenario_sources.proofs.Citable.{SaysNothing, air_says, hear_says, inject_says, sniff_says, sources_stay}
 use Rattle.scenario_sinks.specs.declared.sinks.Sinks.{Sinks}
 use Rattle.scenario_sinks.specs.Hearing.{Hears, hearing_by}
 use Rattle.scenario_sinks.specs.Pasts.{Past, with_hearing}
 use Rattle.scenario_sinks.specs.State.Standing.{SinksStand}
-use Rattle.scenario_sinks.proofs.Laws.{SamePast, stands_same}
+use Rattle.scenario_sinks.proofs.Citable.{SamePast, stands_same}
 use Rattle.replay_steps.specs.declared.machine.Machine.{Machine}
 use Rattle.replay_steps.specs.Airing.{OnAir, Reaches, past_on_air}
 use Rattle.replay_steps.specs.Machines.{Stands, past_of}

@@ -17,10 +17,10 @@ use Rattle.scenario_history.specs.Sinks.{is_of, sink_calls, source_of, ticked_if
 use Rattle.scenario_history.specs.Boxes.{SinkUnit, account_at, accounts_after, box_of, closing, closing_both, closing_by, handed_by, handed_up, sink_numbers, valid_for}
 use Rattle.scenario_history.specs.Output.{output_of, sum_if, sum_of, unit_lines}
 use Rattle.scenario_history.specs.Refusals.{no_sink, phase_refusal}
-use Rattle.scenario_history.proofs.Laws.{box_was_made, octets_add_up, units_add_up}
+use Rattle.scenario_history.proofs.Citable.{box_was_made, octets_add_up, units_add_up}
 use Rattle.scenario_sources.specs.declared.sources.Sources.{Sources}
 use Rattle.scenario_sources.specs.State.Standing.{SourcesStand}
-use Rattle.scenario_sources.proofs.Laws.{drop_says, end_says, sources_stay}
+use Rattle.scenario_sources.proofs.Citable.{drop_says, end_says, sources_stay}
 use Rattle.scenario_sinks.specs.declared.sinks.Sinks.{Sinks}
 use Rattle.scenario_sinks.specs.Closing.{Closes, closings_at}
 use Rattle.scenario_sinks.specs.Handing.{Hands}
@@ -29,8 +29,8 @@ use Rattle.scenario_sinks.specs.Refusals as sinks
 use Rattle.scenario_sinks.specs.Refusals.{not_living}
 use Rattle.scenario_sinks.specs.State.Standing.{SinksStand}
 use Rattle.scenario_sinks.specs.Sums.{Puts, sum_at, sum_where, sums_where}
-use Rattle.scenario_sinks.proofs.Laws.{accounts_append, hands_then, lines_append}
-use Rattle.scenario_sinks.proofs.Laws as laws
+use Rattle.scenario_sinks.proofs.Citable.{accounts_append, hands_then, lines_append}
+use Rattle.scenario_sinks.proofs.Citable as laws
 use Rattle.replay_steps.specs.declared.machine.Machine.{Machine}
 use Rattle.replay_steps.specs.Machines.{Stands, past_of}
 use Rattle.replay_steps.specs.Meets.{BoxesStand, Meets, Tells}

@@ -1,4 +1,4 @@
-pub mod Laws
+pub mod Citable
 pub mod Stepping
 pub mod Airing
 pub mod Closing

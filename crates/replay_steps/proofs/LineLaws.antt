@@ -21,7 +21,7 @@ use Rattle.replay_steps.specs.Machines.{Stands}
 use Rattle.replay_steps.specs.Meets.{BoxesStand, StepMeets}
 use Rattle.scenario_sinks.specs.Handing.{BoxFails, CutShort}
 use Rattle.replay_steps.specs.LineMeets.{LineMeets}
-use Rattle.replay_steps.proofs.Laws.{accounts_append}
+use Rattle.replay_steps.proofs.Citable.{accounts_append}
 
 last_none : {A : Type 0} (a b : Option A) → option_or a b ≡ None → b ≡ None
 last_none None b e = e

@@ -11,7 +11,7 @@ use Rattle.scenario_history.specs.Steps.{is_over, over, running, stage_of, unbeg
 use Rattle.scenario_history.specs.Boxes.{accounts_after, handed_by, handed_up}
 use Rattle.scenario_history.specs.Output.{output_of}
 use Rattle.scenario_history.specs.Refusals.{phase_refusal, refusal_of, refuse_if}
-use Rattle.scenario_history.proofs.Laws.{boxes_stay}
+use Rattle.scenario_history.proofs.Citable.{boxes_stay}
 use Rattle.replay_steps.specs.declared.machine.Machine.{Machine}
 use Rattle.transcript_text.specs.declared.stop.Stop.{Stop}
 use Rattle.transcript_text.specs.declared.stop.Stop.TheVariants.{Refused, OutletFault, Memory}

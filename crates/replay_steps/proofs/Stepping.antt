@@ -19,7 +19,7 @@ use Rattle.scenario_sources.specs.declared.sources.Sources.{Sources}
 use Rattle.scenario_sources.specs.Answers as sources
 use Rattle.scenario_sources.specs.Faults.{fault_of}
 use Rattle.scenario_sources.specs.State.Standing.{SourcesStand}
-use Rattle.scenario_sources.proofs.Laws.{SaysNothing, sink_says, sources_stay, tuned_says}
+use Rattle.scenario_sources.proofs.Citable.{SaysNothing, sink_says, sources_stay, tuned_says}
 use Rattle.scenario_sinks.specs.declared.sinks.Sinks.{Sinks}
 use Rattle.scenario_sinks.specs.Pasts.{Past, with_sink, with_tuning}
 use Rattle.scenario_sinks.specs.Refusals as sinks

@@ -6,7 +6,7 @@ use Rattle.iso_pdu.specs.declared.fault.PduFault.{PduFault}
 use Rattle.iso_pdu.specs.Layout.{Content, PduIs, fragment, end}
 use Rattle.iso_pdu.specs.Reading.{read_of}
 use Rattle.iso_pdu.specs.Spelling.{pdu}
-use Rattle.iso_pdu.proofs.PdusRead.{pdu-is, read_of-layout, read_of-spelled}
+use Rattle.iso_pdu.proofs.Citable.{pdu-is, read_of-layout, read_of-spelled}
 use Rattle.isoal_base.specs.Hearing.{read_as, taken_of}
 use Rattle.isoal_base.specs.Stays as stays
 use Rattle.isoal_base.specs.Stays.{Stay}

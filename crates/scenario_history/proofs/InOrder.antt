@@ -13,7 +13,7 @@ use Rattle.source_machine.specs.Calls.{Setup, Call as SourceCall, events, stream
 use Rattle.delegator_machine.specs.Calls.{Tuning, Call, tune, tick, place}
 use Rattle.delegator_machine.specs.Handing.{handed_at, handed_by as ticked_by, of_stream}
 use Rattle.delegator_machine.specs.Streams.{closes, is_in, stay_on, stream_calls}
-use Rattle.delegator_machine.proofs.Sets.{is_member, member_is}
+use Rattle.delegator_machine.proofs.Citable.{is_member, member_is}
 use Rattle.scenario_text.specs.declared.step.Step.{Step}
 use Rattle.scenario_text.specs.declared.step.Step.TheVariants as steps
 use Rattle.scenario_history.specs.Steps.{chosen_of, chosen_steps, steps_of_source}

@@ -16,4 +16,4 @@ mod Numbers
 mod InOrder
 mod MetAirs
 mod OneTranscript
-pub mod Laws
+pub mod Citable

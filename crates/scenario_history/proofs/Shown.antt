@@ -21,7 +21,7 @@ use Rattle.source_machine.specs.Calls.{Setup, Call as SourceCall}
 use Rattle.delegator_machine.specs.Calls.{Tuning, Call, tick, place}
 use Rattle.delegator_machine.specs.Handing.{bis_of, handed_at, handed_by as ticked_by, handed_since as ticked_since, of_stream}
 use Rattle.delegator_machine.specs.Streams.{closes, is_in, stay_on, stream_calls, streams_of}
-use Rattle.delegator_machine.proofs.Sets.{is_member, member_is}
+use Rattle.delegator_machine.proofs.Citable.{is_member, member_is}
 use Rattle.scenario_text.specs.declared.step.Step.{Step}
 use Rattle.scenario_text.specs.declared.step.Step.TheVariants as steps
 use Rattle.scenario_history.specs.Steps.{chosen_of, steps_of_source}

@@ -13,8 +13,7 @@ use Rattle.big_info.specs.Bounds.{Bounds}
 use Rattle.big_info.specs.Faults.{faults}
 use Rattle.big_info.specs.Rows.{NoFault, first_fault, has_fault}
 use Rattle.big_info.specs.Widths.{FitsWidths}
-use Rattle.big_info.proofs.BoundsOf.{bounds_of}
-use Rattle.big_info.proofs.Order.{no_fault_within}
+use Rattle.big_info.proofs.Citable.{bounds_of, no_fault_within}
 use Rattle.source_machine.specs.declared.fault.EventFault.{EventFault}
 use Rattle.source_machine.specs.Faults.{event_fault, give_fault}
 use Rattle.scenario_text.specs.declared.step.Step.{Step}

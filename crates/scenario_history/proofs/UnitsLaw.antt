@@ -20,7 +20,7 @@ use Rattle.source_machine.specs.Faults.{give_fault}
 use Rattle.delegator_machine.specs.Calls.{Tuning, Call, tune, hear, place}
 use Rattle.delegator_machine.specs.Handing.{handed_since as ticked_since, of_stream}
 use Rattle.delegator_machine.specs.Streams.{stay_on}
-use Rattle.delegator_machine.proofs.Sets.{member_is}
+use Rattle.delegator_machine.proofs.Citable.{member_is}
 use Rattle.scenario_text.specs.declared.step.Step.{Step}
 use Rattle.scenario_text.specs.declared.step.Step.TheVariants as steps
 use Rattle.scenario_text.specs.Ranges.{IsInRange}

@@ -27,7 +27,7 @@ use Rattle.scenario_sinks.specs.State.Gathering.{handed_of, units_for}
 use Rattle.scenario_sinks.specs.State.Standing.{EntryIs, EntryAt, EntriesAre, SinksStand}
 use Rattle.scenario_sinks.specs.State.Between.{SinkCloses, AllClose, Between}
 use Rattle.scenario_sinks.proofs.Entries.{SinkIs, entry_of}
-use Rattle.scenario_sinks.proofs.Laws.{hands_stop, hands_then}
+use Rattle.scenario_sinks.proofs.Citable.{hands_stop, hands_then}
 use Rattle.scenario_sinks.proofs.Ranges.{range_append, get_set_here, get_set_other, nat_same}
 
 pub closings_more : (source event : ℕ) (past : Past) (n : ℕ)

@@ -16,7 +16,7 @@ use Rattle.scenario_sinks.specs.State.Gathering.{handed_of, units_for}
 use Rattle.scenario_sinks.specs.declared.gathered.HandedUnit.{HandedUnit}
 use Rattle.scenario_sinks.specs.declared.sink.Owner.{Owner}
 use Rattle.scenario_sinks.specs.Handing.{BoxTakes, Hands}
-use Rattle.scenario_sinks.proofs.Laws.{hands_stop, hands_then}
+use Rattle.scenario_sinks.proofs.Citable.{hands_stop, hands_then}
 
 pub set_past : {A : Type 0} (xs : List A) (i : ℕ) (x : A) → length xs ≤ i → slice_set xs i x ≡ xs
 set_past [] i x h = refl

@@ -1,4 +1,4 @@
-pub mod Laws
+pub mod Citable
 pub mod Ranges
 pub mod Handings
 pub mod Entries

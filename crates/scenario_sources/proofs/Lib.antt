@@ -1,3 +1,3 @@
 pub mod Lifting
 pub mod Phasing
-pub mod Laws
+pub mod Citable

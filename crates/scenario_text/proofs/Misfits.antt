@@ -11,8 +11,7 @@ use Rattle.scenario_words.specs.Places.{WordPlace, between, Place, one, perhaps,
 use Rattle.scenario_words.specs.Reading.{Left, Gives, ◌>>=◌, any_word, next_of, taken, word_in, decimal_in, with_stream, streams_of, rising_of, perhaps_of}
 use Rattle.scenario_words.specs.Reading.{wishes_of, bounded, all_wishes_of, at_place, ended}
 use Rattle.scenario_words.specs.Fitting.{FitsWord, FitsIndices, FitsPairs, FitsFront}
-use Rattle.scenario_words.proofs.Spelling.{word_spelled, bind_ok, is_small, bounded_is}
-use Rattle.scenario_words.proofs.Fitting.{Stops, misfit, bad_is, indices_first, indices_stop, indices_all, pairs_stop, pairs_end}
+use Rattle.scenario_words.proofs.Citable.{word_spelled, bind_ok, is_small, bounded_is, Stops, misfit, bad_is, indices_first, indices_stop, indices_all, pairs_stop, pairs_end}
 use Rattle.scenario_text.specs.declared.step.Step.{Step}
 use Rattle.scenario_text.specs.Table.{Build, Row, row_of}
 use Rattle.scenario_text.specs.Lines.{LineIs, IsBlank}

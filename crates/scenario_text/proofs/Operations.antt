@@ -4,7 +4,7 @@ use Rattle.std.specs.List.{flat_map}
 use Rattle.std.proofs.lemmas.List.{length-append}
 use Rattle.octet_fields.specs.Layout.{Field, laid}
 use Rattle.octet_fields.specs.Subgroups.{subgroup_fields}
-use Rattle.octet_fields.proofs.Fields.{number-length}
+use Rattle.octet_fields.proofs.Citable.{number-length}
 use Rattle.octet_fields.specs.Spelling.{number}
 use Rattle.bass_operations.specs.declared.wishes.Wish.{Wish}
 use Rattle.bass_operations.specs.declared.operation.AddSource.{AddSource}

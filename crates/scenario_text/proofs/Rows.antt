@@ -4,7 +4,7 @@ use Rattle.std.proofs.Common.{◌≡◌, ℕ, Bool, true, false, cond, nat_eq, n
 use Rattle.std.specs.Str.{bytes_eq}
 use Rattle.std.proofs.lemmas.Slice.Eq.{bytes_eq-Decides}
 use Rattle.scenario_words.specs.Places.{Place, one, perhaps, rising, wishes}
-use Rattle.scenario_words.proofs.Spelling.{is_small}
+use Rattle.scenario_words.proofs.Citable.{is_small}
 use Rattle.scenario_text.specs.Table.{Row, row_in, first_rows, source_rows, sink_rows, rows_of_2, row_of_2, sink_row_of, source_row_of, row_of}
 
 abbrev pub all_small : List Place → Bool

@@ -5,7 +5,7 @@ use Rattle.scenario_words.specs.declared.fault.LineFault.{LineFault}
 use Rattle.scenario_words.specs.Words.{words_of, onto_first}
 use Rattle.scenario_words.specs.Places.{Place, one, perhaps, rising, wishes, PlaceValue}
 use Rattle.scenario_words.specs.Reading.{Left, Gives, ◌>>=◌, any_word, next_of, at_place, ended}
-use Rattle.scenario_words.proofs.Spelling.{place_again, place_spelled, bind_ok, IsLast}
+use Rattle.scenario_words.proofs.Citable.{place_again, place_spelled, bind_ok, IsLast}
 use Rattle.scenario_text.specs.declared.step.Step.{Step}
 use Rattle.scenario_text.specs.Ranges.{IsInRange}
 use Rattle.scenario_text.specs.Table.{Build, Row, row_of}

@@ -6,5 +6,6 @@ pub mod MoreWords
 pub mod OneWord
 pub mod Streams
 pub mod WishWords
-pub mod Spelling
-pub mod Fitting
+mod Spelling
+mod Fitting
+pub mod Citable

@@ -13,7 +13,7 @@ use Rattle.hex.proofs.HexLemmas.{decode_of-ok}
 use Rattle.hex.specs.declared.error.FromHexError.{FromHexError}
 use Rattle.scenario_words.specs.Reading.{decimal_in, framing_in, octets_in, within, exact_in, exactly, number_in, list_in, listed}
 use Rattle.bcast_base.specs.Numbers.{sum_from}
-use Rattle.octet_fields.proofs.Fields.{number_below}
+use Rattle.octet_fields.proofs.Citable.{number_below}
 use Rattle.ltv_codec.specs.Reading.{bad_of}
 use Rattle.ltv_codec.specs.declared.fault.LtvBad.{LtvBad}
 use Rattle.scenario_words.proofs.Decimals.{own}

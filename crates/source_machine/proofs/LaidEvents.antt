@@ -6,7 +6,7 @@ use Rattle.std.proofs.lemmas.List.FromFn.{length-map-range_with_len}
 use Rattle.std.specs.List.{range_with_len}
 use Rattle.circular_buffer.specs.Buffer.{keep_last}
 use Rattle.big_info.specs.declared.info.BigInfo.{BigInfo}
-use Rattle.isoal_base.proofs.Ranges.{map_append, map_rest, map_same}
+use Rattle.isoal_base.proofs.Citable.{map_append, map_rest, map_same}
 use Rattle.isoal_base.specs.declared.laid.EventLaid.{EventLaid}
 use Rattle.isoal_base.specs.Air.{Air, Entry, laid_in}
 use Rattle.isoal_unframed.specs.Air.{unframed_air}

@@ -1,5 +1,5 @@
 mod Advances
-pub mod AirLaws
+mod AirLaws
 mod Histories
 mod LaidEvents
 mod Lists
@@ -7,3 +7,4 @@ mod Orders
 mod Payloads
 mod Sending
 mod Standing
+pub mod Citable

@@ -8,7 +8,7 @@ use Rattle.std.specs.List.{range_with_len, slice_get}
 use Rattle.std.specs.Option.{option_and_then, option_map}
 use Rattle.big_info.specs.declared.info.BigInfo.{BigInfo}
 use Rattle.big_info.specs.Schedule.{group_count}
-use Rattle.isoal_base.proofs.Ranges.{map_append}
+use Rattle.isoal_base.proofs.Citable.{map_append}
 use Rattle.source_machine.specs.Airs.{Sends, airs_of}
 use Rattle.source_machine.specs.Calls.{Setup, Call, events, next_of}
 use Rattle.source_machine.specs.State.Sources.{Stream, stream_of}

@@ -3,7 +3,7 @@ use Rattle.std.proofs.Common.{◌≡◌, List, ◌++◌}
 use Rattle.unit_outlets.specs.Account.{Account}
 use Rattle.scenario_history.specs.Boxes.{SinkUnit, accounts_after}
 use Rattle.scenario_history.specs.Output.{unit_lines}
-use Rattle.scenario_sinks.proofs.Laws as sinks
+use Rattle.scenario_sinks.proofs.Citable as sinks
 
 pub lines_append : (us vs : List SinkUnit) → unit_lines (us ++ vs) ≡ unit_lines us ++ unit_lines vs
 lines_append us vs = sinks.lines_append us vs

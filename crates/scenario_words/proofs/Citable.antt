@@ -1,0 +1,3 @@
+-- What upper crates may cite: what is spelled is read again, and which words fit.
+pub use Rattle.scenario_words.proofs.Spelling.{IsLast, bind_ok, bounded_is, is_small, place_again, place_spelled, word_spelled}
+pub use Rattle.scenario_words.proofs.Fitting.{Stops, bad_is, indices_all, indices_first, indices_stop, misfit, pairs_end, pairs_stop}
