@@ -1,5 +1,6 @@
 pub mod Closed
 mod Fates
+mod Filling
 mod Greedy
 mod Handing
 mod Joins
