@@ -5,7 +5,7 @@ use Rattle.std.proofs.lemmas.Bool.{cases_Bool, cond-true, cond-false, eqb-true, 
 use Rattle.std.proofs.lemmas.Option.{slice_get_within}
 use Rattle.circular_buffer.proofs.Places.{slice_get-append_left}
 use Rattle.big_info.specs.declared.info.BigInfo.{BigInfo}
-use Rattle.isoal_framed.specs.Air.{AllCome, pdus_ended, IsEvent, event_of, begun_by, IsAirOf}
+use Rattle.isoal_framed.specs.Air.{AllCome, pdus_ended, IsEvent, event_of, begun_by, IsAirOf, IsFramedAir}
 use Rattle.isoal_framed.specs.Calls.{Call, accept, lay, Timed, accepted}
 use Rattle.isoal_framed.specs.Filling.{next_act, filled, event_acts, acts_of, framed_air}
 use Rattle.isoal_framed.specs.Places.{Act, carries, leaves_out, ends, place_of, Comes, done, sent, room, overhead, least_room}
@@ -218,6 +218,6 @@ air_and_left info (lay anchor ∷ calls) some most =
       event.3,
     )
 
-pub air_is_there : (info : BigInfo) (calls : List Call) → 1 ≤ info.bn → 2 ≤ info.max_pdu
-    → IsAirOf info calls (acts_of info calls) (framed_air info calls)
-air_is_there info calls some most = (air_and_left info calls some most).0
+-- the air is there
+pub framed_air_is : (info : BigInfo) (calls : List Call) → 1 ≤ info.bn → 8 ≤ info.max_pdu → IsFramedAir info calls (framed_air info calls)
+framed_air_is info calls some most = (acts_of info calls, (air_and_left info calls some (omega arith)).0)
