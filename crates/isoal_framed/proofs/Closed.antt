@@ -7,10 +7,11 @@ use Rattle.std.proofs.lemmas.List.{append-nil}
 use Rattle.std.proofs.lemmas.List.Folds.{flat_map-map}
 use Rattle.big_info.specs.Bounds.{Bounds}
 use Rattle.big_info.specs.Schedule.{horizon_of}
+use Rattle.unit_outlets.specs.Handed.{Handed}
 use Rattle.isoal_base.specs.Stays.{Stay, Call, hear, close, opened, window_of}
 use Rattle.isoal_base.specs.Hearing.{read_as}
 use Rattle.isoal_base.proofs.Citable.{heard_same, entry_outside, map_part, stands_new, stands_hear, stands_close}
-use Rattle.isoal_framed.specs.Histories.{heard_in, event_tokens, closed_tokens, decided, gained}
+use Rattle.isoal_framed.specs.Histories.{heard_in, event_tokens, closed_tokens, decided, gained, undecided_in}
 use Rattle.isoal_framed.specs.Tokens.{segmented, tokens_of}
 use Rattle.isoal_framed.specs.Units.{units, undecided_run}
 use Rattle.isoal_framed.specs.State.Joining.{hands, run_after}
@@ -53,29 +54,29 @@ event_below bn event number some below =
     (div-lt_iff_lt-mul some).1 (subst (λ most. number < most) (sym top) below)
 
 -- a hear changes nothing of an event before the open one
-hear_event : (stay : Stay) (calls : List Call) (number : ℕ) (octets : List ℕ) (event : ℕ) → 1 ≤ stay.info.bn → event < opened stay calls
+hear_event : (stay : Stay) (calls : List Call) (number : ℕ) (octets : List ℕ) (event : ℕ) → event < opened stay calls
     → event_tokens stay (hear number octets ∷ calls) event ≡ event_tokens stay calls event
-hear_event stay calls number octets event some before =
+hear_event stay calls number octets event before =
     flat_same (λ at. tokens_of stay event (heard_in stay (hear number octets ∷ calls) at)) (λ at. tokens_of stay event (heard_in stay calls at))
     (event * stay.info.bn) stay.info.bn
     (λ at least below. ap (tokens_of stay event) (heard_same (read_as segmented stay.info.max_pdu) stay (hear number octets) calls at
     (entry_outside (read_as segmented stay.info.max_pdu) stay (opened stay calls) at number octets
     (λ within.
-    let under : at / stay.info.bn < event + 1 = event_below stay.info.bn event at some below in
+    let under : at / stay.info.bn < event + 1 = event_below stay.info.bn event at (omega arith) below in
     let low : opened stay calls ≤ at / stay.info.bn = within.0 in
     absurd (omega arith)))))
 
-pub closed_hear : (stay : Stay) (calls : List Call) (number : ℕ) (octets : List ℕ) → 1 ≤ stay.info.bn
+pub closed_hear : (stay : Stay) (calls : List Call) (number : ℕ) (octets : List ℕ)
     → closed_tokens stay (hear number octets ∷ calls) ≡ closed_tokens stay calls
-closed_hear stay calls number octets some =
+closed_hear stay calls number octets =
     let first : stay.first ≤ opened stay calls = opened_least stay calls in
     flat_same (event_tokens stay (hear number octets ∷ calls)) (event_tokens stay calls) stay.first (opened stay calls - stay.first)
-    (λ event least below. hear_event stay calls number octets event some (omega arith))
+    (λ event least below. hear_event stay calls number octets event (omega arith))
 
-pub decides_nothing : (stay : Stay) → Bounds stay.info → (calls : List Call) (number : ℕ) (octets : List ℕ)
+pub decides_nothing : (stay : Stay) (calls : List Call) (number : ℕ) (octets : List ℕ)
     → decided stay (hear number octets ∷ calls) ≡ decided stay calls
-decides_nothing stay bounds calls number octets =
-    ap (units stay.info.max_sdu stay.bis) (closed_hear stay calls number octets bounds.bn)
+decides_nothing stay calls number octets =
+    ap (units stay.info.max_sdu stay.bis) (closed_hear stay calls number octets)
 
 close_event : (stay : Stay) (calls : List Call) (event : ℕ) → event_tokens stay (close ∷ calls) event ≡ event_tokens stay calls event
 close_event stay calls event =
@@ -121,7 +122,7 @@ pub hear_stands : (window : Window) (number : ℕ) (octets : List ℕ) → Bound
     → (calls : List Call) → Stands calls window → Stands (hear number octets ∷ calls) (after_hear number octets window)
 hear_stands window number octets bounds calls stands = record {
   hearing = stands_hear segmented window.stay calls window.event window.kept number octets bounds.bn stands.hearing;
-  run = stands.run ∙ ap (undecided_run window.stay.info.max_sdu) (sym (closed_hear window.stay calls number octets bounds.bn));
+  run = stands.run ∙ ap (undecided_run window.stay.info.max_sdu) (sym (closed_hear window.stay calls number octets));
 }
 
 pub close_stands : (window : Window) → Bounds window.stay.info
@@ -134,23 +135,30 @@ close_stands window bounds calls stands = record {
       ∙ ap (undecided_run window.stay.info.max_sdu) (sym (closed_close window.stay calls));
 }
 
--- what the decided units gain is what is owed
-decided_more : (window : Window) → Bounds window.stay.info → (calls : List Call) → Stands calls window
-    → decided window.stay (close ∷ calls) ≡ decided window.stay calls ++ owed window
-decided_more window bounds calls stands =
-    ap (units window.stay.info.max_sdu window.stay.bis) (closed_close window.stay calls)
-    ∙ units_more window.stay.info.max_sdu window.stay.bis (closed_tokens window.stay calls) (event_tokens window.stay calls (opened window.stay calls))
-    ∙ ap (λ run. decided window.stay calls ++ hands window.stay.info.max_sdu window.stay.bis run (event_tokens window.stay calls (opened window.stay calls))) (sym stands.run)
-    ∙ ap (λ tokens. decided window.stay calls ++ hands window.stay.info.max_sdu window.stay.bis window.run tokens)
-    (sym (tokens_are window bounds.bn calls stands))
+-- a close adds to the units that are decided
+close_adds : (stay : Stay) (calls : List Call) → decided stay (close ∷ calls)
+    ≡ decided stay calls ++ hands stay.info.max_sdu stay.bis (undecided_in stay calls) (event_tokens stay calls (opened stay calls))
+close_adds stay calls =
+    ap (units stay.info.max_sdu stay.bis) (closed_close stay calls)
+    ∙ units_more stay.info.max_sdu stay.bis (closed_tokens stay calls) (event_tokens stay calls (opened stay calls))
+
+pub close_gains : (stay : Stay) (calls : List Call) → decided stay (close ∷ calls) ≡ decided stay calls ++ gained stay calls
+close_gains stay calls =
+    let added : List Handed = hands stay.info.max_sdu stay.bis (undecided_in stay calls) (event_tokens stay calls (opened stay calls)) in
+    close_adds stay calls
+    ∙ ap (λ xs. decided stay calls ++ xs)
+    (sym (ap (drop (length (decided stay calls))) (close_adds stay calls) ∙ drop-append_seam (decided stay calls) added))
+
+-- what they gain is what is owed
+owed_added : (window : Window) → Bounds window.stay.info → (calls : List Call) → Stands calls window
+    → hands window.stay.info.max_sdu window.stay.bis (undecided_in window.stay calls) (event_tokens window.stay calls (opened window.stay calls)) ≡ owed window
+owed_added window bounds calls stands =
+    ap (λ run. hands window.stay.info.max_sdu window.stay.bis run (event_tokens window.stay calls (opened window.stay calls))) (sym stands.run)
+    ∙ ap (hands window.stay.info.max_sdu window.stay.bis window.run) (sym (tokens_are window bounds.bn calls stands))
 
 pub owed_is : (window : Window) → Bounds window.stay.info → (calls : List Call) → Stands calls window
     → owed window ≡ gained window.stay calls
 owed_is window bounds calls stands =
-    sym (ap (drop (length (decided window.stay calls))) (decided_more window bounds calls stands)
+    sym (ap (drop (length (decided window.stay calls)))
+    (close_adds window.stay calls ∙ ap (λ xs. decided window.stay calls ++ xs) (owed_added window bounds calls stands))
     ∙ drop-append_seam (decided window.stay calls) (owed window))
-
-pub gains : (window : Window) → Bounds window.stay.info → (calls : List Call) → Stands calls window
-    → decided window.stay (close ∷ calls) ≡ decided window.stay calls ++ gained window.stay calls
-gains window bounds calls stands =
-    decided_more window bounds calls stands ∙ ap (λ xs. decided window.stay calls ++ xs) (owed_is window bounds calls stands)

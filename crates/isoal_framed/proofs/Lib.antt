@@ -1,4 +1,4 @@
-pub mod Closed
+mod Closed
 mod Fates
 mod Greedy
 mod Handing
@@ -12,3 +12,4 @@ mod Sends
 mod Stays
 mod Struck
 mod Walks
+pub mod Citable
