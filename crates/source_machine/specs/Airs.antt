@@ -12,7 +12,7 @@ use Rattle.isoal_unframed.specs.Air.{before_event, unframed_air, unit_at}
 use Rattle.isoal_unframed.specs.Calls.{Call as StreamCall, begun}
 use Rattle.isoal_framed.specs.Air.{IsFramedAir}
 use Rattle.isoal_framed.specs.Calls.{Call as FramedCall}
-use Rattle.isoal_framed.specs.GreedyAir.{framed_air}
+use Rattle.isoal_framed.specs.Filling.{framed_air}
 use Rattle.source_machine.specs.Calls.{Setup, Call, framed_calls, given, laid_with, stream_calls}
 use Rattle.source_machine.specs.declared.sent.Stale.{Stale}
 

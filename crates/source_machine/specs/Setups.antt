@@ -1,6 +1,6 @@
 -- What a source is configured with, and what fixes it once it was started.
-use Rattle.std.specs.Prelude.{ℕ, ◌≡◌, Bool}
-use Rattle.big_info.specs.declared.group.Group.{Group}
+use Rattle.std.specs.Prelude.{ℕ, ◌≤◌, Bool}
+use Rattle.big_info.specs.Bounds.{Bounds}
 use Rattle.big_info.specs.declared.info.BigInfo.{BigInfo}
 use Rattle.source_machine.specs.Calls.{Setup}
 use Rattle.source_machine.specs.declared.setup.Identity.{Identity}
@@ -25,6 +25,7 @@ abbrev pub started : Configured → ℕ → Setup
 started source first =
     record { info = source.info; origin = source.origin; delay = source.delay; first = first; ahead = source.ahead }
 
--- the group passed the group check
-abbrev pub IsChecked : BigInfo → Type 0
-IsChecked info = (group : Group) × (info ≡ group.info)
+-- what every group that passed the group check keeps to
+pub record IsChecked (info : BigInfo) : Type 0 where
+  pub bounds : Bounds info
+  pub framing : info.framing ≤ 1

@@ -4,6 +4,8 @@
 mod configured;
 mod fault;
 mod laws;
+mod laying;
+mod sender;
 mod sent;
 mod setup;
 mod stream;
