@@ -77,6 +77,13 @@ impl BaseDraft {
         put_entry(self.alloc, &mut self.subgroups, bis, config)
     }
 
+    /// What `finish` would refuse; `None` exactly where it gives the BASE. It takes no memory.
+    pub fn check(&self) -> Option<DraftFault>
+        ensures { result ≡ finish_fault self.now }
+    {
+        finish_refusal(&self.subgroups)
+    }
+
     /// The BASE. `NoSubgroup` where there is no subgroup, then `NoBis` where the last one has no entry, then `TooLong`
     /// where there would be more than 252 octets. A refusal hands the draft back. It takes no memory.
     pub fn finish(self) -> Result<Base, Kept<BaseDraft, DraftFault>>
@@ -84,7 +91,7 @@ impl BaseDraft {
         ensures base { IfOk result IsBase }
         ensures refuses { MatchResult result (λ _. finish_fault self ≡ None) (λ kept. (finish_fault self ≡ Some kept.fault) × (kept.state ≡ self)) }
     {
-        if let Some(fault) = finish_refusal(&self.subgroups) {
+        if let Some(fault) = self.check() {
             return Err(Kept { state: self, fault });
         }
         let BaseDraft {

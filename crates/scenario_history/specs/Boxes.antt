@@ -8,7 +8,7 @@ use Rattle.unit_outlets.specs.Handed.{Handed, valid, lost}
 use Rattle.delegator_machine.specs.Calls.{Call}
 use Rattle.delegator_machine.specs.Handing.{handed_at}
 use Rattle.scenario_text.specs.declared.step.Step.{Step}
-use Rattle.scenario_text.specs.declared.step.Step.TheVariants.{Sink, Event, Drop, Stop, End}
+use Rattle.scenario_text.specs.declared.step.Step.TheVariants.{Sink, Event, Drop, Stop, Terminate, End}
 use Rattle.scenario_history.specs.Steps.{chosen_of, sinks_made, steps_of_source}
 use Rattle.scenario_history.specs.Source.{Airs, open_event}
 use Rattle.scenario_history.specs.Sinks.{is_of, sink_calls, source_of}
@@ -66,6 +66,7 @@ closing_both airs steps = closing airs 0 steps ++ closing airs 1 steps
 abbrev pub handed_by : Airs → List Step → Step → List SinkUnit
 handed_by airs earlier Event = closing airs (chosen_of earlier) earlier
 handed_by airs earlier Stop = closing airs (chosen_of earlier) earlier
+handed_by airs earlier (Terminate reason) = closing airs (chosen_of earlier) earlier
 handed_by airs earlier End = closing_both airs earlier
 handed_by airs earlier _ = []
 

@@ -19,7 +19,7 @@ use Rattle.delegator_machine.specs.Calls.{Tuning, Call, place}
 use Rattle.delegator_machine.specs.Handing.{of_stream}
 use Rattle.delegator_machine.specs.Streams.{closes, is_in, stay_on, stream_calls, streams_of}
 use Rattle.scenario_text.specs.declared.step.Step.{Step}
-use Rattle.scenario_text.specs.declared.step.Step.TheVariants.{Sink, Tuned, Event, Inject, Stop, End}
+use Rattle.scenario_text.specs.declared.step.Step.TheVariants.{Sink, Tuned, Event, Inject, Stop, Terminate, End}
 use Rattle.scenario_history.specs.Steps.{chosen_of, steps_of_source}
 use Rattle.scenario_history.specs.Source.{Airs, setup_of, source_calls, open_event}
 use Rattle.scenario_history.specs.Airs.{MeetAirs}
@@ -134,6 +134,7 @@ closed_with airs s n earlier =
 abbrev pub closed_by : Airs → ℕ → ℕ → List Step → Step → List Closed
 closed_by airs s n earlier Event = if chosen_of earlier == s then closed_with airs s n earlier else []
 closed_by airs s n earlier Stop = if chosen_of earlier == s then closed_with airs s n earlier else []
+closed_by airs s n earlier (Terminate reason) = if chosen_of earlier == s then closed_with airs s n earlier else []
 closed_by airs s n earlier End = closed_with airs s n earlier
 closed_by airs s n earlier _ = []
 

@@ -1,5 +1,6 @@
 pub mod Steps
 pub mod Source
+pub mod Bases
 pub mod Airs
 pub mod Sinks
 pub mod Boxes

@@ -7,11 +7,11 @@ use Rattle.isoal_base.specs.declared.hearing.Hearing.{Hearing}
 use Rattle.isoal_base.specs.declared.hearing.Hearing.TheVariants.{NotOnGroup}
 use Rattle.source_machine.specs.declared.sent.Stale.{Stale}
 use Rattle.delegator_machine.specs.Hearings.{hearing_of}
-use Rattle.transcript_text.specs.Lines.{handed_line, pdu_line, heard_line, stale_line, sum_line}
+use Rattle.transcript_text.specs.Lines.{handed_line, pdu_line, heard_line, stale_line, control_line, sum_line}
 use Rattle.scenario_text.specs.declared.step.Step.{Step}
-use Rattle.scenario_text.specs.declared.step.Step.TheVariants.{Event, Inject, Sniff, Drop, Stop, End}
+use Rattle.scenario_text.specs.declared.step.Step.TheVariants.{Event, Inject, Sniff, Drop, Stop, Terminate, End}
 use Rattle.scenario_history.specs.Steps.{chosen_of, chosen_steps}
-use Rattle.scenario_history.specs.Source.{Airs, event_back, pdu_in, stale_in}
+use Rattle.scenario_history.specs.Source.{Airs, event_back, end_pdu, pdu_in, stale_in}
 use Rattle.scenario_history.specs.Sinks.{is_of, sink_calls, source_of}
 use Rattle.scenario_history.specs.Boxes.{SinkUnit, sink_numbers, account_at, box_of, closing, closing_both, valid_for, handed_up}
 
@@ -48,6 +48,8 @@ injected_hearing airs steps sink back bis subevent octets =
 abbrev pub output_of : Airs → List Account → List Step → Step → List ℕ
 output_of airs starts steps Event = unit_lines (closing airs (chosen_of steps) steps) ++ stale_lines (stale_in airs (chosen_steps steps))
 output_of airs starts steps Stop = unit_lines (closing airs (chosen_of steps) steps)
+output_of airs starts steps (Terminate reason) =
+    unit_lines (closing airs (chosen_of steps) steps) ++ control_line (end_pdu (chosen_steps steps) reason)
 output_of airs starts steps End =
     unit_lines (closing_both airs steps) ++ sums_of starts (handed_up airs steps ++ closing_both airs steps) steps
 output_of airs starts steps (Drop sink) = sum_if starts (handed_up airs steps) sink (box_of sink steps)

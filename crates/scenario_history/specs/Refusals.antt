@@ -3,23 +3,29 @@
 -- of steps have the newest first; where a list is called `own` its steps are those of one source.
 use Rattle.std.specs.Prelude.{ℕ, ◌==◌, ◌&&◌, ◌||◌, nat_lt, nat_le, not, is_some, unwrap_or, bytes_eq, Bool, true, false, List, Option, None, Some, if◌then◌else◌}
 use Rattle.std.specs.List.{list_any}
-use Rattle.std.specs.Option.{option_or, option_map}
+use Rattle.std.specs.Option.{option_or, option_map, option_and_then}
+use Rattle.big_info.specs.declared.fault.GroupFault.{GroupFault}
+use Rattle.big_info.specs.declared.fault.GroupFault.TheVariants.{Encrypted}
+use Rattle.big_info.specs.declared.info.BigInfo.{BigInfo}
 use Rattle.big_info.specs.Rows.{first_fault}
 use Rattle.radio_schedule.specs.declared.air.AirFault.{AirFault}
 use Rattle.radio_schedule.specs.declared.air.AirFault.TheVariants.{NoSuchBis as NoStreamThere, NoSuchSubevent as NoSubeventThere, NotOnAir as NotKept}
 use Rattle.source_machine.specs.declared.fault.GiveFault.{GiveFault}
 use Rattle.source_machine.specs.declared.fault.GiveFault.TheVariants.{NoSuchBis as NoStream, UnitTooLong as TooLong, TimeOrder as WrongTime, Backlog as Full, Memory as NoMemory}
 use Rattle.source_machine.specs.declared.fault.EventFault.{EventFault}
+use Rattle.source_machine.specs.Ciphers.{with_cipher}
 use Rattle.source_machine.specs.Faults.{give_fault, event_fault, air_fault}
 use Rattle.delegator_machine.specs.Streams.{streams_of}
 use Rattle.transcript_text.specs.declared.refusal.Refusal.{Refusal}
-use Rattle.transcript_text.specs.declared.refusal.Refusal.TheVariants.{NotBuilt, AfterEnd, Order, BadGroup, IdentTwice, NoSuchSink, SinkTwice}
+use Rattle.transcript_text.specs.declared.refusal.Refusal.TheVariants.{NotBuilt, AfterEnd, Order, BadGroup, BaseTooLong, IdentTwice, NoSuchSink, SinkTwice}
 use Rattle.transcript_text.specs.declared.refusal.Refusal.TheVariants.{NoOutlet, NoSuchBis, UnitTooLong, TimeOrder, Backlog, NoSuchSubevent, NotOnAir, CounterEnds}
 use Rattle.scenario_text.specs.declared.step.Step.{Step}
-use Rattle.scenario_text.specs.declared.step.Step.TheVariants.{Scenario, Group, Ident, Start, Sink, Tuned, Unit, Event, Hear, Air, Inject, Sniff, Drop, Stop, End, Source}
+use Rattle.scenario_text.specs.declared.step.Step.TheVariants.{Scenario, Group, Ident, Subgroup, Meta, Bis, Cipher, Start, Sink, Tuned, Unit, Event, Hear, Air}
+use Rattle.scenario_text.specs.declared.step.Step.TheVariants.{Inject, Sniff, Announce, Drop, Stop, Terminate, End, Source}
 use Rattle.scenario_history.specs.Steps.{Stage, chosen_of, chosen_steps, is_over, is_unbegun_at, other_of, sinks_made, stage_of, steps_of_source, version_of}
-use Rattle.scenario_history.specs.Source.{Airs, Identity, group_of, ident_of, identity_of, is_absent_at, is_described_at}
+use Rattle.scenario_history.specs.Source.{Airs, Identity, cipher_of, group_of, ident_of, identity_of, is_absent_at, is_ciphered, is_described_at}
 use Rattle.scenario_history.specs.Source.{is_sending, is_started, no_group, performed, phase_of, setup_of, source_calls}
+use Rattle.scenario_history.specs.Bases.{has_subgroup, has_bis, is_last_bare, is_base_too_long}
 use Rattle.scenario_history.specs.Boxes.{box_of}
 
 abbrev pub refuse_if : Bool → Refusal → Option Refusal
@@ -32,22 +38,31 @@ is_misplaced stage (Scenario version) = not (is_unbegun_at stage)
 is_misplaced stage _ = is_unbegun_at stage
 
 -- A source line stands in the wrong phase of its source, of which these are the steps: `group` stands once, before `start`;
--- `ident` after `group`, before `start`, once; `start` once, after `group`; `tuned`, `unit`, `event` and `stop` between
--- `start` and `stop`; `hear`, `air`, `inject` and `sniff` after `start`. A step that is not built yet has no phase of its own.
+-- `subgroup` after `group`, before `start`, and not while the last subgroup has no `bis`; `ident` and `cipher` after `group`,
+-- before `start`, each once; `meta` and `bis` after a `subgroup`, before `start`; `start` once, after `group`, and not while
+-- the last subgroup has no `bis`; `tuned`, `unit` and `event` between `start` and `stop` or `terminate`, without `cipher`;
+-- `announce`, `stop` and `terminate` between `start` and `stop` or `terminate`; `hear`, `air`, `inject` and `sniff` after
+-- `start`, without `cipher`. Other steps that are not built yet have no phase of their own.
 abbrev pub is_out_of_phase : List Step → Step → Bool
 is_out_of_phase own (Group framing origin delay iso sdu max_sdu max_pdu num_bis bn nse irc pto sub spacing phy) =
     not (is_absent_at (phase_of own))
 is_out_of_phase own (Ident address_type address sid broadcast_id) =
     not (is_described_at (phase_of own)) || is_some (ident_of own)
-is_out_of_phase own (Start first) = not (is_described_at (phase_of own))
-is_out_of_phase own (Tuned sink which) = not (is_sending own)
-is_out_of_phase own (Unit bis time octets) = not (is_sending own)
-is_out_of_phase own Event = not (is_sending own)
+is_out_of_phase own (Subgroup codec config) = not (is_described_at (phase_of own)) || is_last_bare own
+is_out_of_phase own (Meta metadata) = not (is_described_at (phase_of own)) || not (has_subgroup own)
+is_out_of_phase own (Bis bis config) = not (is_described_at (phase_of own)) || not (has_subgroup own)
+is_out_of_phase own (Cipher giv gskd) = not (is_described_at (phase_of own)) || is_ciphered own
+is_out_of_phase own (Start first) = not (is_described_at (phase_of own)) || is_last_bare own
+is_out_of_phase own (Tuned sink which) = not (is_sending own) || is_ciphered own
+is_out_of_phase own (Unit bis time octets) = not (is_sending own) || is_ciphered own
+is_out_of_phase own Event = not (is_sending own) || is_ciphered own
+is_out_of_phase own (Announce sink) = not (is_sending own)
 is_out_of_phase own Stop = not (is_sending own)
-is_out_of_phase own (Hear sink back bis subevent) = not (is_started own)
-is_out_of_phase own (Air sink lose) = not (is_started own)
-is_out_of_phase own (Inject sink back bis subevent octets) = not (is_started own)
-is_out_of_phase own (Sniff back bis subevent) = not (is_started own)
+is_out_of_phase own (Terminate reason) = not (is_sending own)
+is_out_of_phase own (Hear sink back bis subevent) = not (is_started own) || is_ciphered own
+is_out_of_phase own (Air sink lose) = not (is_started own) || is_ciphered own
+is_out_of_phase own (Inject sink back bis subevent octets) = not (is_started own) || is_ciphered own
+is_out_of_phase own (Sniff back bis subevent) = not (is_started own) || is_ciphered own
 is_out_of_phase own _ = false
 
 -- the step stands in the wrong phase of the scenario, or of the source that it means
@@ -59,6 +74,10 @@ abbrev pub is_unbuilt : Step → Bool
 is_unbuilt (Group framing origin delay iso sdu max_sdu max_pdu num_bis bn nse irc pto sub spacing phy) = false
 is_unbuilt (Scenario version) = false
 is_unbuilt (Ident address_type address sid broadcast_id) = false
+is_unbuilt (Subgroup codec config) = false
+is_unbuilt (Meta metadata) = false
+is_unbuilt (Bis bis config) = false
+is_unbuilt (Cipher giv gskd) = false
 is_unbuilt (Start first) = false
 is_unbuilt (Sink sink streams slots mtu) = false
 is_unbuilt (Tuned sink which) = false
@@ -70,6 +89,7 @@ is_unbuilt (Inject sink back bis subevent octets) = false
 is_unbuilt (Sniff back bis subevent) = false
 is_unbuilt (Drop sink) = false
 is_unbuilt Stop = false
+is_unbuilt (Terminate reason) = false
 is_unbuilt End = false
 is_unbuilt (Source source) = false
 is_unbuilt _ = true
@@ -77,6 +97,18 @@ is_unbuilt _ = true
 -- how many events ahead a group may reach in a version
 abbrev pub horizon_in : ℕ → ℕ
 horizon_in version = if version == 2 then 31 else 15
+
+-- the BIGInfo that the group check sees: that of the group, with the cipher where one was said
+abbrev pub checked_info : List Step → BigInfo
+checked_info own = with_cipher (unwrap_or (group_of own) no_group).info (cipher_of own)
+
+-- that a group is encrypted keeps no source from its start
+abbrev pub fault_refusal : GroupFault → Option Refusal
+fault_refusal Encrypted = None
+fault_refusal fault = Some (BadGroup fault)
+
+abbrev pub group_refusal : Option GroupFault → Option Refusal
+group_refusal fault = option_and_then fault_refusal fault
 
 abbrev pub no_sink : ℕ → List Step → Option Refusal
 no_sink n steps = refuse_if (not (is_some (box_of n steps))) NoSuchSink
@@ -130,8 +162,10 @@ sink_refusal boxes steps _ = None
 -- what is refused of a step in the right phase by what its source is, in a scenario of this version: the steps here are
 -- those of the source
 abbrev pub source_refusal : Airs → ℕ → List Step → Step → Option Refusal
+source_refusal airs version own (Bis bis config) =
+    refuse_if (nat_lt (unwrap_or (group_of own) no_group).info.num_bis bis || has_bis own bis) NoSuchBis
 source_refusal airs version own (Start first) =
-    option_map BadGroup (first_fault (horizon_in version) (unwrap_or (group_of own) no_group).info)
+    option_or (group_refusal (first_fault (horizon_in version) (checked_info own))) (refuse_if (is_base_too_long own) BaseTooLong)
 source_refusal airs version own (Tuned sink which) = refuse_if (has_beyond (setup_of own).info.num_bis which) NoSuchBis
 source_refusal airs version own (Unit bis time octets) =
     option_map give_refusal (give_fault (setup_of own) (source_calls own) (airs (setup_of own) (source_calls own)) bis time octets)

@@ -7,7 +7,7 @@ use Rattle.big_info.specs.declared.info.BigInfo.{BigInfo}
 use Rattle.source_machine.specs.Calls.{next_of, next_anchor_of}
 use Rattle.delegator_machine.specs.Calls.{Tuning, Call, tune, hear, tick}
 use Rattle.scenario_text.specs.declared.step.Step.{Step}
-use Rattle.scenario_text.specs.declared.step.Step.TheVariants.{Sink, Tuned, Event, Hear, Air, Inject, Drop, Stop, End}
+use Rattle.scenario_text.specs.declared.step.Step.TheVariants.{Sink, Tuned, Event, Hear, Air, Inject, Drop, Stop, Terminate, End}
 use Rattle.scenario_history.specs.Steps.{chosen_of, chosen_steps, steps_of_source}
 use Rattle.scenario_history.specs.Source.{Airs, setup_of, source_calls, event_back, pdu_in, open_event}
 
@@ -112,6 +112,7 @@ with_sink_call airs n (Inject sink back bis subevent octets) earlier calls =
     if reaches sink n earlier then hear (event_back (chosen_steps earlier) back) bis subevent octets ∷ calls else calls
 with_sink_call airs n Event earlier calls = ticked_by (chosen_of earlier) n earlier calls
 with_sink_call airs n Stop earlier calls = ticked_by (chosen_of earlier) n earlier calls
+with_sink_call airs n (Terminate reason) earlier calls = ticked_by (chosen_of earlier) n earlier calls
 with_sink_call airs n End earlier calls = ticked_by 1 n earlier (ticked_by 0 n earlier calls)
 with_sink_call airs n _ earlier calls = calls
 

@@ -1,14 +1,18 @@
 -- A source of a scenario: what its lines say of it, the calls that it took, and the PDUs on its air (Core 5.2, volume 6
 -- part B, section 4.4.6, and part G, section 2; the numbers of a group are those of the BIGInfo, section 4.4.6.11 of part
 -- B). The steps here are those of one source, the newest first.
-use Rattle.std.specs.Prelude.{ℕ, ◌-◌, ◌==◌, ◌||◌, not, Bool, true, false, List, [], ◌∷◌, Option, None, Some, unwrap_or, replicate, if◌then◌else◌}
+use Rattle.std.specs.Prelude.{ℕ, ◌-◌, ◌%◌, ◌^◌, ◌==◌, ◌||◌, not, is_some, Bool, true, false, List, [], ◌∷◌, Option, None, Some, unwrap_or, replicate, if◌then◌else◌}
 use Rattle.big_info.specs.declared.info.BigInfo.{BigInfo}
+use Rattle.big_info.specs.declared.info.Cipher.{Cipher}
+use Rattle.iso_pdu.specs.Control.{terminate}
+use Rattle.iso_pdu.specs.Layout.{control}
+use Rattle.iso_pdu.specs.Spelling.{pdu}
 use Rattle.isoal_base.specs.Air.{Air}
 use Rattle.source_machine.specs.Calls.{Setup, Call, give, event as perform, events, next_of}
 use Rattle.source_machine.specs.Airs.{pdu_of, stale_of}
 use Rattle.source_machine.specs.declared.sent.Stale.{Stale}
 use Rattle.scenario_text.specs.declared.step.Step.{Step}
-use Rattle.scenario_text.specs.declared.step.Step.TheVariants.{Group, Ident, Start, Unit, Event, Stop}
+use Rattle.scenario_text.specs.declared.step.Step.TheVariants.{Group, Ident, Cipher as CipherLine, Start, Unit, Event, Stop, Terminate}
 use Rattle.scenario_history.specs.Steps.{last_given, is_over, version_of}
 
 -- ---- what its lines say
@@ -86,9 +90,21 @@ no_identity = record { address_type = 0; address = replicate 6 0; sid = 0; broad
 abbrev pub identity_of : List Step → Identity
 identity_of steps = unwrap_or (ident_of steps) no_identity
 
+abbrev pub cipher_given : Step → Option Cipher
+cipher_given (CipherLine giv gskd) = Some (record { giv = giv; gskd = gskd })
+cipher_given _ = None
+
+-- what `cipher` says, where it was said
+abbrev pub cipher_of : List Step → Option Cipher
+cipher_of steps = last_given cipher_given steps
+
+-- the group is encrypted: the source announces it, and sends nothing
+abbrev pub is_ciphered : List Step → Bool
+is_ciphered steps = is_some (cipher_of steps)
+
 -- ---- its phase
 
--- where a source stands: without a group, described by one, between its start and its stop, or stopped
+-- where a source stands: without a group, described by one, between its start and its end, or stopped by `stop` or by `terminate`
 pub data Phase : Type 0 where
   absent : Phase
   described : Phase
@@ -99,6 +115,7 @@ abbrev pub phase_given : Step → Option Phase
 phase_given (Group framing origin delay iso sdu max_sdu max_pdu num_bis bn nse irc pto sub spacing phy) = Some described
 phase_given (Start first) = Some sending
 phase_given Stop = Some stopped
+phase_given (Terminate reason) = Some stopped
 phase_given _ = None
 
 abbrev pub phase_of : List Step → Phase
@@ -128,7 +145,7 @@ was_started_at described = false
 was_started_at sending = true
 was_started_at stopped = true
 
--- the source is between its start and its stop
+-- the source is between its start and its stop or `terminate`
 abbrev pub is_sending : List Step → Bool
 is_sending steps = is_sending_at (phase_of steps)
 
@@ -180,11 +197,17 @@ abbrev pub pdu_in : Airs → List Step → ℕ → ℕ → ℕ → List ℕ
 pdu_in airs steps event bis subevent =
     unwrap_or (pdu_of (setup_of steps) (airs (setup_of steps) (source_calls steps)) event bis subevent) []
 
+-- the PDU that ends the group for a reason, at the next event (Core 5.2, volume 6 part B, section 2.6.3): its Instant is the
+-- low 16 bits of that event
+abbrev pub end_pdu : List Step → ℕ → List ℕ
+end_pdu steps reason = pdu (control (terminate reason (next_of (setup_of steps) (source_calls steps) % 2 ^ 16)))
+
 -- the units that the streams leave out as stale in the event performed after these steps
 abbrev pub stale_in : Airs → List Step → List Stale
 stale_in airs steps = stale_of (setup_of steps) (source_calls steps) (airs (setup_of steps) (perform ∷ source_calls steps))
 
--- the event that is open: the last one performed, until it is closed by the next one, by `stop` or by `end`
+-- the event that is open: the last one performed, until it is closed by the next one, by `stop`, by `terminate`
+-- or by `end`
 abbrev pub open_event : List Step → Option ℕ
 open_event steps =
     if not (is_sending steps) || is_over steps || (performed steps == 0) then None else Some (event_back steps 0)

@@ -3,7 +3,8 @@
 use Rattle.std.specs.Prelude.{ℕ, ◌+◌, ◌-◌, ◌==◌, ◌&&◌, ◌||◌, Bool, true, false, List, [], ◌∷◌, Option, None, Some, unwrap_or, if◌then◌else◌}
 use Rattle.std.specs.Option.{option_or}
 use Rattle.scenario_text.specs.declared.step.Step.{Step}
-use Rattle.scenario_text.specs.declared.step.Step.TheVariants.{Scenario, Group, Ident, Start, Sink, Tuned, Unit, Event, Hear, Air, Inject, Sniff, Source, Stop, End}
+use Rattle.scenario_text.specs.declared.step.Step.TheVariants.{Scenario, Group, Ident, Subgroup, Meta, Bis, Cipher, Start, Sink, Tuned, Unit, Event, Hear, Air}
+use Rattle.scenario_text.specs.declared.step.Step.TheVariants.{Inject, Sniff, Announce, Source, Stop, Terminate, End}
 
 -- what the last step that gives something gives
 abbrev pub last_given : {A : Type 0} → (Step → Option A) → List Step → Option A
@@ -78,6 +79,10 @@ is_common _ = false
 abbrev pub is_source_line : Step → Bool
 is_source_line (Group framing origin delay iso sdu max_sdu max_pdu num_bis bn nse irc pto sub spacing phy) = true
 is_source_line (Ident address_type address sid broadcast_id) = true
+is_source_line (Subgroup codec config) = true
+is_source_line (Meta metadata) = true
+is_source_line (Bis bis config) = true
+is_source_line (Cipher giv gskd) = true
 is_source_line (Start first) = true
 is_source_line (Tuned sink which) = true
 is_source_line (Unit bis time octets) = true
@@ -86,7 +91,9 @@ is_source_line (Hear sink back bis subevent) = true
 is_source_line (Air sink lose) = true
 is_source_line (Inject sink back bis subevent octets) = true
 is_source_line (Sniff back bis subevent) = true
+is_source_line (Announce sink) = true
 is_source_line Stop = true
+is_source_line (Terminate reason) = true
 is_source_line _ = false
 
 -- the step after these says something of a source

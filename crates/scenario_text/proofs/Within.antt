@@ -5,6 +5,7 @@ use Rattle.std.specs.Str.{bytes_eq}
 use Rattle.scenario_words.specs.Places.{WordPlace, between, framing_word, time_up_to, octets_up_to, octets_exactly, number_in_octets, list_up_to, Place, one}
 use Rattle.scenario_words.specs.Places.{perhaps, rising, wishes, WordValue, PlaceValue}
 use Rattle.scenario_words.specs.Spelling.{SpellsOctets, Spells, SpellsWord}
+use Rattle.ltv_codec.specs.Reading.{bad_of}
 use Rattle.scenario_text.specs.declared.step.Step.{Step}
 use Rattle.scenario_text.specs.Ranges.{IsInRange, GroupRanges}
 use Rattle.scenario_text.specs.Table as rows
@@ -18,7 +19,7 @@ InWord (time_up_to greatest) time = ⊤
 InWord (octets_up_to most) octets = length octets ≤ most
 InWord (octets_exactly count) octets = length octets ≡ count
 InWord (number_in_octets count) n = ⊤
-InWord (list_up_to most) octets = length octets ≤ most
+InWord (list_up_to most) octets = (length octets ≤ most) × (bad_of octets ≡ None)
 
 abbrev pub InPlace : (place : Place) → PlaceValue place → Type 0
 InPlace (one place) value = InWord place value
@@ -47,7 +48,7 @@ in_word (time_up_to greatest) time word h = tt
 in_word (octets_up_to most) octets word h = few_octets most octets word h
 in_word (octets_exactly count) octets word h = h.1
 in_word (number_in_octets count) n word h = tt
-in_word (list_up_to most) octets word h = few_octets most octets word h.0
+in_word (list_up_to most) octets word h = (few_octets most octets word h.0, h.1)
 
 in_place : (place : Place) (value : PlaceValue place) (words rest : List (List ℕ)) → Spells place value words rest → InPlace place value
 in_place (one place) value words rest h = in_word place value h.0 h.2
@@ -129,7 +130,7 @@ ident_within : RowWithin rows.ident_row
 ident_within v0 h0 v1 h1 v2 h2 v3 h3 = (h0.1, h1, h2.1, h3)
 
 subgroup_within : RowWithin rows.subgroup_row
-subgroup_within v0 h0 v1 h1 = (h0, h1)
+subgroup_within v0 h0 v1 h1 = (h0, h1.0, h1.1)
 
 meta_within : RowWithin rows.meta_row
 meta_within v0 h0 = h0
@@ -150,7 +151,7 @@ terminate_within : RowWithin rows.terminate_row
 terminate_within v0 h0 = tt
 
 pac_within : RowWithin rows.pac_row
-pac_within v0 h0 v1 h1 v2 h2 v3 h3 = (h0.1, h1, h2, h3)
+pac_within v0 h0 v1 h1 v2 h2 v3 h3 = (h0.1, h1, h2.0, h3.0)
 
 locate_within : RowWithin rows.locate_row
 locate_within v0 h0 v1 h1 = h0.1

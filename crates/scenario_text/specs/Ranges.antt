@@ -1,6 +1,7 @@
 -- What the numbers of a step keep to, whatever its line: the ranges of the scenario language, which for a group are
 -- the widths of the BIGInfo (Core 5.2, volume 6 part B, section 4.4.6.11).
-use Rattle.std.specs.Prelude.{ℕ, ◌≡◌, ◌≤◌, ◌<◌, ◌^◌, ⊤, length}
+use Rattle.std.specs.Prelude.{ℕ, ◌≡◌, ◌≤◌, ◌<◌, ◌^◌, ⊤, length, None}
+use Rattle.ltv_codec.specs.Reading.{bad_of}
 use Rattle.scenario_text.specs.declared.step.Step.{Step}
 use Rattle.scenario_text.specs.declared.step.Step.TheVariants.{Scenario, Group, Ident, Subgroup, Meta, Bis, Cipher, Start, Sink, Pac, Locate, Context, Tuned}
 use Rattle.scenario_text.specs.declared.step.Step.TheVariants.{Unit, Event, Hear, Air, Inject, Sniff, Announce, Train, Write, Add, Modify, Remove, Code, Serve}
@@ -31,9 +32,9 @@ IsInRange (Scenario version) = (1 ≤ version) × (version ≤ 2)
 IsInRange (Group framing origin delay iso sdu max_sdu max_pdu num_bis bn nse irc pto sub spacing phy) =
     GroupRanges framing origin delay iso sdu max_sdu max_pdu num_bis bn nse irc pto sub spacing phy
 IsInRange (Ident address_type address sid broadcast_id) = (address_type ≤ 1) × (length address ≡ 6) × (sid ≤ 15) × (length broadcast_id ≡ 3)
-IsInRange (Subgroup codec config) = (length codec ≡ 5) × (length config ≤ 255)
-IsInRange (Meta metadata) = length metadata ≤ 255
-IsInRange (Bis bis config) = length config ≤ 255
+IsInRange (Subgroup codec config) = (length codec ≡ 5) × (length config ≤ 255) × (bad_of config ≡ None)
+IsInRange (Meta metadata) = (length metadata ≤ 255) × (bad_of metadata ≡ None)
+IsInRange (Bis bis config) = (length config ≤ 255) × (bad_of config ≡ None)
 IsInRange (Cipher giv gskd) = (length giv ≡ 8) × (length gskd ≡ 16)
 IsInRange (Start first) = first < 2 ^ 39
 IsInRange (Sink sink streams slots mtu) = sink ≤ 7

@@ -231,3 +231,6 @@ list_is most word octets e = listed_is (octets_in most word) octets e
 
 pub list_range : (most : ℕ) (word octets : List ℕ) → list_in most word ≡ Some octets → length octets ≤ most
 list_range most word octets e = octets_range most word octets (list_is most word octets e).0
+
+pub list_ltvs : (most : ℕ) (word octets : List ℕ) → list_in most word ≡ Some octets → bad_of octets ≡ None
+list_ltvs most word octets e = (list_is most word octets e).1

@@ -2,6 +2,7 @@ ghost use Rattle.std.specs.Prelude.{◌≡◌, ◌≤◌, ◌^◌, ◌<◌, ◌+
 ghost use Rattle.scenario_words.specs.Reading.{GivesNext, Fails, Left, next, any_word, decimal_in, framing_in, time_in, octets_in, exact_in, number_in};
 ghost use Rattle.scenario_words.specs.Reading.{list_in, wish_of, wishes_of, all_wishes_of, perhaps_of, rising_of, with_stream as stream_in, ended};
 ghost use Rattle.bass_operations.specs.Layout.{MetadataFits};
+ghost use Rattle.ltv_codec.specs.Reading.{bad_of};
 ghost use Rattle.scenario_words.specs.Places.{most_wishes, wishes_octets};
 ghost use Rattle.scenario_words.specs.Words.{words_of};
 ghost use Rattle.scenario_words.specs.Rests.{words_after, octets_after};
@@ -263,9 +264,10 @@ impl<'a> Cursor<'a> {
     }
 
     /// An LTV list of at most `most` octets.
-    #[tactic(auto, using(crate::proofs::NextWords::fits, crate::proofs::NextWords::misfits, crate::proofs::OneWord::list_range))]
+    #[tactic(auto, using(crate::proofs::NextWords::fits, crate::proofs::NextWords::misfits, crate::proofs::OneWord::list_range, crate::proofs::OneWord::list_ltvs))]
     pub fn list(&mut self, alloc: Global, most: usize) -> Result<Octets, LineFault>
         ensures range { IfOk result (λ octets. length octets ≤ most) }
+        ensures ltvs { IfOk result (λ octets. bad_of octets ≡ None) }
         ensures gives { GivesNext (λ n. n) result self.new (next (list_in most) self.old) }
     {
         let word = self.word()?;

@@ -9,7 +9,7 @@ use Rattle.isoal_base.specs.declared.hearing.Hearing.{Hearing}
 use Rattle.isoal_base.specs.declared.hearing.Hearing.TheVariants.{NotOnGroup, NotTaken, NoNumber, Heard}
 use Rattle.unit_outlets.specs.Handed.{Handed, valid, lost}
 use Rattle.transcript_text.specs.declared.refusal.Refusal.{Refusal}
-use Rattle.transcript_text.specs.declared.refusal.Refusal.TheVariants.{TextTooLong, LineTooLong, BadLine, NotBuilt, AfterEnd, Order, BadGroup, IdentTwice, NoSuchSink, SinkTwice, NoOutlet}
+use Rattle.transcript_text.specs.declared.refusal.Refusal.TheVariants.{TextTooLong, LineTooLong, BadLine, NotBuilt, AfterEnd, Order, BadGroup, BaseTooLong, IdentTwice, NoSuchSink, SinkTwice, NoOutlet}
 use Rattle.transcript_text.specs.declared.refusal.Refusal.TheVariants.{NoSuchBis, UnitTooLong, TimeOrder, Backlog, NoSuchSubevent, NotOnAir, CounterEnds, NoEnd}
 
 -- the octet between two words, and the one that ends a line
@@ -56,6 +56,10 @@ pdu_line event bis subevent octets =
 abbrev pub stale_line : (bis time : ℕ) → List ℕ
 stale_line bis time = line_of (codes "stale") (decimal bis ∷ decimal time ∷ [])
 
+-- the line of the PDU that ends a group
+abbrev pub control_line : List ℕ → List ℕ
+control_line octets = line_of (codes "control") (digits octets ∷ [])
+
 abbrev pub sum_line : (sink units octets : ℕ) → List ℕ
 sum_line sink units octets = line_of (codes "sum") (decimal sink ∷ decimal units ∷ decimal octets ∷ [])
 
@@ -95,6 +99,7 @@ refusal_name NotBuilt = codes "NotBuilt"
 refusal_name AfterEnd = codes "AfterEnd"
 refusal_name Order = codes "Order"
 refusal_name (BadGroup fault) = codes "BadGroup"
+refusal_name BaseTooLong = codes "BaseTooLong"
 refusal_name IdentTwice = codes "IdentTwice"
 refusal_name NoSuchSink = codes "NoSuchSink"
 refusal_name SinkTwice = codes "SinkTwice"

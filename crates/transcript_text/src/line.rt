@@ -1,6 +1,6 @@
 ghost use Rattle.std.specs.Prelude.{◌≡◌, ◌++◌, OnOk, OnErr};
 ghost use Rattle.transcript_text.specs.Fronts.{AFront};
-ghost use Rattle.transcript_text.specs.Lines.{valid_line, lost_line, pdu_line, stale_line, sum_line};
+ghost use Rattle.transcript_text.specs.Lines.{valid_line, lost_line, pdu_line, stale_line, control_line, sum_line};
 
 use crate::word::{Word, put_line};
 use bcast_base::{Memory, Octets};
@@ -90,6 +90,16 @@ pub fn put_stale(text: &mut Octets, bis: u8, time: u64) -> Result<(), Memory>
         b"stale",
         &[Word::Number(u64::from(bis)), Word::Number(time)],
     )
+}
+
+/// Puts the line of the PDU that ends a group.
+///
+/// After Memory a front of the line stands at the end of the text.
+pub fn put_control(text: &mut Octets, octets: &[u8]) -> Result<(), Memory>
+    ensures ok { OnOk result (text.new ≡ text.old ++ control_line octets.now) }
+    ensures err { OnErr result (AFront text.old text.new (control_line octets.now)) }
+{
+    put_line(text, b"control", &[Word::Octets(octets)])
 }
 
 /// Puts the line of a sink's sums: the units that its box took, and their octets.

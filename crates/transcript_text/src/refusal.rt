@@ -23,6 +23,8 @@ pub enum Refusal {
     Order,
     /// The numbers of the group don't go together.
     BadGroup { fault: GroupFault },
+    /// The BASE has more than 252 octets.
+    BaseTooLong,
     /// The other source was started with the same address type, advertising set and Broadcast_ID.
     IdentTwice,
     /// No sink of this number lives.
@@ -61,6 +63,7 @@ fn name_of(reason: Refusal) -> &'static [u8]
         Refusal::AfterEnd => b"AfterEnd",
         Refusal::Order => b"Order",
         Refusal::BadGroup { .. } => b"BadGroup",
+        Refusal::BaseTooLong => b"BaseTooLong",
         Refusal::IdentTwice => b"IdentTwice",
         Refusal::NoSuchSink => b"NoSuchSink",
         Refusal::SinkTwice => b"SinkTwice",

@@ -1,0 +1,3 @@
+mod PlainBases
+mod Lines
+pub mod Citable
