@@ -5,6 +5,7 @@ ghost use Rattle.bcast_io.specs.TextLines.{TextLine, plain};
 ghost use Rattle.bcast_io.specs.State.Reading.{lines_left};
 ghost use Rattle.bcast_io.specs.State.Answering.{GoesOn};
 ghost use Rattle.unit_outlets.specs.Account.{Account};
+ghost use Rattle.source_machine.specs.Airs.{airs_of};
 ghost use Rattle.replay_command.specs.World.{world_of};
 ghost use Rattle.replay_command.specs.Promised.{Promised};
 ghost use Rattle.replay_command.specs.Replayed.{Comes, ReadsAhead, ReadsAtMost, read_limit};
@@ -16,7 +17,7 @@ use crate::words::{Mode, Words, mode_of};
 use bcast_base::Octets;
 use bcast_io::{ByteSink, ByteSource, Failed, LineRead, LineReader, SinkFault, write_whole};
 use replay_steps::Machine;
-use scenario_history::{order_law, units_law};
+use scenario_history::{one_transcript, order_law, some_airs_meet, units_law};
 use std::alloc::Global;
 use transcript_text::{Refusal, Stop, put_refusal};
 use unit_outlets::Outlet;
@@ -45,6 +46,8 @@ pub fn replay<S: ByteSource, K: ByteSink>(
     ensures unwritten { result ≡ Status.Usage → sink.new ≡ sink.old }
     ensures uncalled { result ≡ Status.Usage → outlets.new ≡ outlets.old }
 {
+    some_airs_meet();
+    one_transcript();
     units_law();
     order_law();
     match mode_of(words) {
@@ -60,7 +63,7 @@ fn run<S: ByteSource, K: ByteSink>(
     sink: &mut K,
     outlets: &mut Vec<Box<dyn Outlet>>,
 ) -> Status
-    ensures ended { Ended result (map account outlets.old.items) (map account outlets.new.items) (S.left source.old) (S.left source.new) (K.contents sink.old) (K.contents sink.new) }
+    ensures ended { Ended airs_of result (map account outlets.old.items) (map account outlets.new.items) (S.left source.old) (S.left source.new) (K.contents sink.old) (K.contents sink.new) }
     ensures within { ReadsAtMost (S.left source.old) (S.left source.new) read_limit }
     ensures read_fault { result ≡ Status.ReadFault → Rose (S.faults source.old) (S.faults source.new) }
     ensures no_read_fault { result ≢ Status.ReadFault → S.faults source.new ≡ S.faults source.old }
@@ -139,7 +142,7 @@ fn read_next<S: ByteSource>(reader: &mut LineReader, source: &mut S) -> Result<L
 fn end_text<K: ByteSink>(number: u64, machine: &Machine, text: &mut Octets, sink: &mut K) -> Status
     ensures ends { (starts : List Account) (lines : List TextLine) (left left' kept : Option (List ℕ)) (accounts : List Account) → number ≡ length lines + 1
         → TextIs left left' lines true → RunTo starts lines kept (K.contents sink.old) machine.now accounts
-        → Ended result starts accounts left left' kept (K.contents sink.new) }
+        → Ended airs_of result starts accounts left left' kept (K.contents sink.new) }
     ensures never_read_fault { result ≢ Status.ReadFault }
     ensures write_fault { result ≡ Status.WriteFault → Rose (K.faults sink.old) (K.faults sink.new) }
     ensures no_write_fault { result ≢ Status.WriteFault → K.faults sink.new ≡ K.faults sink.old }

@@ -27,7 +27,7 @@ use Rattle.scenario_history.specs.Sinks.{Spot, hear_at, heard_on_air, is_lost, i
 use Rattle.scenario_history.specs.Boxes.{SinkUnit, box_of, closing, closing_at, closing_both, closing_by, handed_by, handed_up, sink_numbers}
 use Rattle.scenario_history.specs.Refusals.{give_refusal, is_misplaced, is_out_of_phase, refusal_of, refuse_if}
 use Rattle.scenario_history.specs.Output.{output_of, stale_lines, sum_if, sums_of, unit_lines}
-use Rattle.scenario_history.specs.Lines.{Said, a_step, nothing, unsaid, output_said, refusal_said, rules_of, said_after, steps_of}
+use Rattle.scenario_history.specs.Lines.{Said, a_step, nothing, unsaid, handed_on, handed_said, output_said, refusal_said, rules_of, said_after, steps_of}
 use Rattle.scenario_history.specs.Transcript.{end_after, has_end, last_end_after, last_line_after, out_of, transcript_end, transcript_of, units_of}
 use Rattle.scenario_history.proofs.Legals.{Legal, LinesInRange, legal, permitted}
 use Rattle.scenario_history.proofs.Sources.{Lawful, are_accepted, checked, group_in, lawful, no_end, not_false, sends, settled}
@@ -295,3 +295,21 @@ units_same airs others told starts lines =
     handed_up_same airs others told.both (length starts) (steps_of (accepted_of (rules_of airs starts) [] lines))
     (legal told.ranged airs starts (accepted_of (rules_of airs starts) [] lines) runs.accepted)
     ∙ ap (λ history. handed_up others (steps_of history)) runs.same
+
+pub end_after_same : (airs others : Airs) → Told airs others → (starts : List Account) (lines : List TextLine) → end_after airs starts lines ≡ end_after others starts lines
+end_after_same airs others told starts lines = end_same airs others told starts [] lines tt
+
+pub accepted_same : (airs others : Airs) → Told airs others → (starts : List Account) (lines : List TextLine) → Accepted (rules_of airs starts) lines → Accepted (rules_of others starts) lines
+accepted_same airs others told starts [] accepted = tt
+accepted_same airs others told starts (line ∷ lines) accepted =
+    (accepted_same airs others told starts lines accepted.0, sym (refused_same airs others told starts lines line accepted.0) ∙ accepted.1)
+
+said_handed : (airs others : Airs) → Both airs others → (boxes : ℕ) (made : List Step) (said : Said) → Legal airs boxes made → handed_said airs made said ≡ handed_said others made said
+said_handed airs others both boxes made (a_step step) legal = handed_same airs others both boxes made step legal
+said_handed airs others both boxes made nothing legal = refl
+said_handed airs others both boxes made (unsaid reason) legal = refl
+
+pub handed_on_same : (airs others : Airs) → Told airs others → (starts : List Account) (lines : List TextLine) (line : TextLine) → Accepted (rules_of airs starts) lines
+    → handed_on airs lines line ≡ handed_on others lines line
+handed_on_same airs others told starts lines line accepted =
+    said_handed airs others told.both (length starts) (steps_of lines) (said_after lines line) (legal told.ranged airs starts lines accepted)

@@ -91,7 +91,7 @@ stage_after_step s earlier (steps.Scenario version) = refl
 stage_after_step s earlier steps.End = refl
 stage_after_step s earlier step = stage_if (steps_of_source s earlier) step (is_of_source s earlier step) refl
 
-stage_same : (s : ℕ) (made : List Step) → stage_of (steps_of_source s made) ≡ stage_of made
+pub stage_same : (s : ℕ) (made : List Step) → stage_of (steps_of_source s made) ≡ stage_of made
 stage_same s [] = refl
 stage_same s (step ∷ earlier) = stage_after_step s earlier step ∙ ap (stage_after step) (stage_same s earlier)
 

@@ -5,7 +5,9 @@ ghost use Rattle.unit_outlets.specs.Account.{Account};
 ghost use Rattle.source_machine.specs.Airs.{airs_of};
 ghost use Rattle.scenario_history.specs.Airs.{MeetAirs};
 ghost use Rattle.scenario_history.specs.Source.{Airs};
-ghost use Rattle.scenario_history.specs.Transcript.{out_of, transcript_end, transcript_of, units_of};
+ghost use Rattle.line_runs.specs.Runs.{Accepted};
+ghost use Rattle.scenario_history.specs.Lines.{handed_on, rules_of};
+ghost use Rattle.scenario_history.specs.Transcript.{end_after, out_of, transcript_end, transcript_of, units_of};
 ghost use Rattle.scenario_history.specs.Boxes.{SinkUnit, accounts_after, Took};
 ghost use Rattle.scenario_history.specs.Laws.{OrderLaw, UnitsLaw};
 
@@ -24,7 +26,8 @@ pub fn some_airs_meet()
 }
 
 /// At most one list of octets is the transcript of a text: any two airs that meet the relation of their framing give the
-/// same, and the same end, the same units and the same output of its lines.
+/// same, and the same end, the same units and the same output of its lines; none of its lines is refused over one and not
+/// over the other, and a line hands up the same units.
 pub fn one_transcript()
     ensures octets { (airs others : Airs) (starts : List Account) (lines : List TextLine) → MeetAirs airs → MeetAirs others
         → transcript_of airs starts lines ≡ transcript_of others starts lines }
@@ -34,6 +37,12 @@ pub fn one_transcript()
         → units_of airs starts lines ≡ units_of others starts lines }
     ensures out { (airs others : Airs) (starts : List Account) (lines : List TextLine) → MeetAirs airs → MeetAirs others
         → out_of airs starts lines ≡ out_of others starts lines }
+    ensures lines_end { (airs others : Airs) (starts : List Account) (lines : List TextLine) → MeetAirs airs → MeetAirs others
+        → end_after airs starts lines ≡ end_after others starts lines }
+    ensures accepted { (airs others : Airs) (starts : List Account) (lines : List TextLine) → MeetAirs airs → MeetAirs others
+        → Accepted (rules_of airs starts) lines → Accepted (rules_of others starts) lines }
+    ensures handed { (airs others : Airs) (starts : List Account) (lines : List TextLine) (line : TextLine) → MeetAirs airs → MeetAirs others
+        → Accepted (rules_of airs starts) lines → handed_on airs lines line ≡ handed_on others lines line }
 {
     a_line_says_one_step();
     one_air();
