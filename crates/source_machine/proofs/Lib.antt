@@ -1,3 +1,4 @@
+mod Ciphers
 mod Advances
 mod AirLaws
 mod Histories

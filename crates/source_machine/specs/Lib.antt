@@ -3,3 +3,4 @@ pub mod Calls
 pub mod Faults
 pub mod Setups
 pub mod State
+pub mod Ciphers

@@ -1,6 +1,7 @@
 //! The source of a broadcast isochronous group: what it takes, and what each of its events sends.
 #![tactic(auto)]
 
+mod checking;
 mod configured;
 mod fault;
 mod laws;
