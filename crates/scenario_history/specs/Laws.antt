@@ -1,22 +1,22 @@
 -- What the laws of the units speak of: the PDUs that were injected, the events of a source that a sink closed, the units
 -- that it handed up, and the units that the source accepted (Core 5.2, volume 6 part G, sections 2.1 and 3.2). Lists of
 -- steps have the newest first; lists of events, of slots and of units have the oldest first.
-use Rattle.std.specs.Prelude.{ℕ, ◌+◌, ◌<◌, ◌≤◌, ◌≡◌, ◌==◌, ◌&&◌, ◌||◌, nat_le, Bool, true, false, List, [], ◌∷◌, ◌++◌, map, Option, None, Some, slice_get, if◌then◌else◌}
+use Rattle.std.specs.Prelude.{ℕ, ◌+◌, ◌-◌, ◌≤◌, ◌≡◌, ◌==◌, ◌&&◌, ◌||◌, nat_le, Bool, false, List, [], ◌∷◌, ◌++◌, map, Option, None, Some, slice_get, unwrap_or, if◌then◌else◌}
 use Rattle.std.specs.List.{AllZip, Contains, filter, flat_map, range_with_len}
 use Rattle.std.specs.List.Sorted.{IsStrictlyIncreasing}
 use Rattle.big_info.specs.Schedule.{per_event_of}
 use Rattle.bcast_io.specs.TextLines.{TextLine}
 use Rattle.unit_outlets.specs.Account.{Account}
-use Rattle.unit_outlets.specs.Handed.{Handed, valid, lost}
+use Rattle.unit_outlets.specs.Handed.{Handed}
+use Rattle.isoal_base.specs.Air.{Air}
 use Rattle.isoal_base.specs.Stays as stays
-use Rattle.isoal_base.specs.Stays.{Stay}
+use Rattle.isoal_framed.specs.Struck.{Sent, struck}
 use Rattle.isoal_unframed.specs.Struck.{Place, Struck}
-use Rattle.isoal_unframed.specs.State.Windows.{time_of}
 use Rattle.line_runs.specs.Runs.{Accepted}
-use Rattle.source_machine.specs.Airs.{place_of, slots_of}
-use Rattle.source_machine.specs.Calls.{Setup, Call as SourceCall, given, next_of}
+use Rattle.source_machine.specs.Airs.{slots_of}
+use Rattle.source_machine.specs.Calls.{Setup}
 use Rattle.delegator_machine.specs.Calls.{Tuning, Call, place}
-use Rattle.delegator_machine.specs.Handing.{bis_of, of_stream}
+use Rattle.delegator_machine.specs.Handing.{of_stream}
 use Rattle.delegator_machine.specs.Streams.{closes, is_in, stay_on, stream_calls, streams_of}
 use Rattle.scenario_text.specs.declared.step.Step.{Step}
 use Rattle.scenario_text.specs.declared.step.Step.TheVariants.{Sink, Tuned, Event, Inject, Stop, End}
@@ -26,6 +26,7 @@ use Rattle.scenario_history.specs.Airs.{MeetAirs}
 use Rattle.scenario_history.specs.Sinks.{is_of, sink_calls, source_of}
 use Rattle.scenario_history.specs.Boxes.{SinkUnit, handed_by}
 use Rattle.scenario_history.specs.Lines.{rules_of, steps_of}
+use Rattle.scenario_history.specs.SourceUnits.{AreOfStarts, AreSent, InSourceOrder, InUnitOrder, IsOfSlot, valid_in}
 
 -- ---- injected PDUs
 
@@ -71,13 +72,28 @@ shown_since begins airs s n bis steps = of_stream bis (of_sink s n (handed_since
 abbrev pub calls_on : Airs → List Step → ℕ → Tuning → ℕ → List stays.Call
 calls_on airs steps n tuning bis = stream_calls (stay_on tuning bis) (sink_calls airs n steps)
 
--- what the sink handed up on the stream since it was put on its group is struck over the slots of the source: one entry for
--- each slot of each event that was closed in the stay, in order: the source's unit of the slot, valid, where the slot has
--- one and all numbers that carry it are heard, else lost
-abbrev pub IsStayStruck : Airs → List Step → ℕ → ℕ → Tuning → ℕ → Type 0
-IsStayStruck airs steps s n tuning bis =
-    Struck (stay_on tuning bis) (slots_of (setup_of (steps_of_source s steps)) (source_calls (steps_of_source s steps)) bis)
-    (calls_on airs steps n tuning bis) (shown_since (is_tuned n) airs s n bis steps)
+-- the air of a stream of a source
+abbrev pub air_in : Airs → List Step → ℕ → Air
+air_in airs own bis = unwrap_or (slice_get (airs (setup_of own) (source_calls own)) (bis - 1)) []
+
+-- in a stay on a framed stream: the air of the source sends units, and what the sink handed up on the stream since it was put
+-- on its group is struck over them: one entry for each unit whose start was heard, in order: valid where it is wholly laid and
+-- all numbers that carry it were heard before their events closed, lost where the first that wasn't is closed
+pub record IsFramedStruck (airs : Airs) (steps : List Step) (s n : ℕ) (tuning : Tuning) (bis : ℕ) : Type 0 where
+  pub some : (units : List Sent)
+      × AreSent (setup_of (steps_of_source s steps)) (source_calls (steps_of_source s steps)) bis (air_in airs (steps_of_source s steps) bis) units
+  pub each : (units : List Sent)
+      → AreSent (setup_of (steps_of_source s steps)) (source_calls (steps_of_source s steps)) bis (air_in airs (steps_of_source s steps) bis) units
+      → shown_since (is_tuned n) airs s n bis steps ≡ struck (stay_on tuning bis) units (calls_on airs steps n tuning bis)
+
+-- what the sink handed up on the stream since it was put on its group is struck, by the framing of the group. Unframed: over
+-- the slots of the source: one entry for each slot of each event that was closed in the stay, in order: the source's unit of
+-- the slot, valid, where the slot has one and all numbers that carry it are heard, else lost
+pub record IsStayStruck (airs : Airs) (steps : List Step) (s n : ℕ) (tuning : Tuning) (bis : ℕ) : Type 0 where
+  pub unframed : (setup_of (steps_of_source s steps)).info.framing ≡ 0
+      → Struck (stay_on tuning bis) (slots_of (setup_of (steps_of_source s steps)) (source_calls (steps_of_source s steps)) bis)
+      (calls_on airs steps n tuning bis) (shown_since (is_tuned n) airs s n bis steps)
+  pub framed : (setup_of (steps_of_source s steps)).info.framing ≡ 1 → IsFramedStruck airs steps s n tuning bis
 
 -- The units law: of a scenario of which no line was refused, where a sink is on a group, of source `s`, and no PDU was
 -- injected into it since it was put there, what it handed up since on a stream that it takes is struck. It holds after each
@@ -136,64 +152,31 @@ slots_in setup bis closed =
 abbrev pub slots_closed : Setup → ℕ → List Closed → List Place
 slots_closed setup bis closed = flat_map (slots_in setup bis) closed
 
-abbrev pub is_valid : Handed → Bool
-is_valid (valid bis time octets) = true
-is_valid (lost bis time) = false
+-- these events, where the stream was taken
+abbrev pub events_taken : ℕ → List Closed → List ℕ
+events_taken bis closed = map (λ (closed : Closed). closed.event) (filter (λ (closed : Closed). is_in closed.which bis) closed)
 
-abbrev pub valid_in : List Handed → List Handed
-valid_in units = filter is_valid units
-
--- ---- units by the source's own anchors and numbers
-
--- the stay that begins with the source's first event
-abbrev pub whole_stay : Setup → ℕ → Stay
-whole_stay setup bis = record {
-  info = setup.info;
-  bis = bis;
-  first = setup.first;
-  origin = setup.origin;
-  delay = setup.delay;
-}
-
-abbrev pub time_in : Handed → ℕ
-time_in (valid bis time octets) = time
-time_in (lost bis time) = time
-
--- the unit is of the stream and has the time of the slot: its synchronization reference and the presentation delay
-abbrev pub IsOfSlot : Setup → ℕ → Place → Handed → Type 0
-IsOfSlot setup bis at unit = (bis_of unit ≡ bis) × (time_in unit ≡ time_of (whole_stay setup bis) at.event at.slot)
-
--- the unit of this number among those that the source accepted on the stream, valid, with its octets, at the time of its
--- slot in an event that was performed
-pub record IsGiven (setup : Setup) (calls : List SourceCall) (bis number : ℕ) (unit : Handed) : Type 0 where
-  pub event : ℕ
-  pub slot : ℕ
-  pub octets : List ℕ
-  pub least : setup.first ≤ event
-  pub performed : event < next_of setup calls
-  pub slot_below : slot < per_event_of setup.info
-  pub number_is : number ≡ place_of setup calls bis event slot
-  pub accepted : slice_get (given bis calls) number ≡ Some octets
-  pub unit_is : unit ≡ valid bis (time_of (whole_stay setup bis) event slot) octets
-
--- there are rising numbers such that the units are, in order, those of these numbers that the source accepted
-pub record InSourceOrder (setup : Setup) (calls : List SourceCall) (bis : ℕ) (units : List Handed) : Type 0 where
-  pub numbers : List ℕ
-  pub rising : IsStrictlyIncreasing numbers
-  pub given : AllZip (IsGiven setup calls bis) numbers units
-
--- over all stays of a sink with one and the same source: the events of it that the sink closed since it was made rise, so
--- that none is closed twice; what it handed up on a stream of it is one entry for each slot of each of these events that it
--- took the stream in, in order, at the slot's time by the source's anchors; and where no PDU was injected into the sink, its
--- valid units are, in order, units that the source accepted on the stream, each at most once
+-- Over all stays of a sink with one and the same source: the events of it that the sink closed since it was made rise, so
+-- that none is closed twice. What it handed up on an unframed stream of it is one entry for each slot of each of these events
+-- that it took the stream in, in order, at the slot's time by the source's anchors; on a framed stream each entry belongs to
+-- the event of its start, event by event, at the time by the source's anchor of that event and a TimeOffset. And where no PDU
+-- was injected into the sink, its valid units of an unframed stream are, in order, units that the source accepted on the
+-- stream, each at most once; and its entries of a framed stream, the valid ones with the unit's octets, are of such units
 pub record StaysInOrder (airs : Airs) (steps : List Step) (s n : ℕ) : Type 0 where
   pub rising : IsStrictlyIncreasing (map (λ (closed : Closed). closed.event) (closed_since airs s n steps))
-  pub slots : (bis : ℕ) → n ≤ 7 → 1 ≤ bis → bis ≤ 31
+  pub slots : (bis : ℕ) → n ≤ 7 → 1 ≤ bis → bis ≤ 31 → (setup_of (steps_of_source s steps)).info.framing ≡ 0
       → AllZip (IsOfSlot (setup_of (steps_of_source s steps)) bis)
       (slots_closed (setup_of (steps_of_source s steps)) bis (closed_since airs s n steps)) (shown_since (is_made n) airs s n bis steps)
-  pub in_source_order : (bis : ℕ) → n ≤ 7 → 1 ≤ bis → bis ≤ 31 → injected_since (is_made n) n steps ≡ false
+  pub starts : (bis : ℕ) → n ≤ 7 → 1 ≤ bis → bis ≤ 31 → (setup_of (steps_of_source s steps)).info.framing ≡ 1
+      → AreOfStarts (setup_of (steps_of_source s steps)) bis (events_taken bis (closed_since airs s n steps)) (shown_since (is_made n) airs s n bis steps)
+  pub in_source_order : (bis : ℕ) → n ≤ 7 → 1 ≤ bis → bis ≤ 31 → (setup_of (steps_of_source s steps)).info.framing ≡ 0
+      → injected_since (is_made n) n steps ≡ false
       → InSourceOrder (setup_of (steps_of_source s steps)) (source_calls (steps_of_source s steps)) bis
       (valid_in (shown_since (is_made n) airs s n bis steps))
+  pub in_unit_order : (bis : ℕ) → n ≤ 7 → 1 ≤ bis → bis ≤ 31 → (setup_of (steps_of_source s steps)).info.framing ≡ 1
+      → injected_since (is_made n) n steps ≡ false
+      → InUnitOrder (setup_of (steps_of_source s steps)) (source_calls (steps_of_source s steps)) bis
+      (shown_since (is_made n) airs s n bis steps)
 
 -- The order law: of a scenario of which no line was refused, the stays of each sink with each source are in order.
 abbrev pub OrderLaw : List Account → Type 0

@@ -7,4 +7,5 @@ pub mod Refusals
 pub mod Output
 pub mod Lines
 pub mod Transcript
+pub mod SourceUnits
 pub mod Laws

@@ -5,12 +5,13 @@ use Rattle.std.specs.List.{flat_map, sum}
 use Rattle.unit_outlets.specs.Account.{Account}
 use Rattle.isoal_base.specs.declared.hearing.Hearing.{Hearing}
 use Rattle.isoal_base.specs.declared.hearing.Hearing.TheVariants.{NotOnGroup}
+use Rattle.source_machine.specs.declared.sent.Stale.{Stale}
 use Rattle.delegator_machine.specs.Hearings.{hearing_of}
-use Rattle.transcript_text.specs.Lines.{handed_line, pdu_line, heard_line, sum_line}
+use Rattle.transcript_text.specs.Lines.{handed_line, pdu_line, heard_line, stale_line, sum_line}
 use Rattle.scenario_text.specs.declared.step.Step.{Step}
 use Rattle.scenario_text.specs.declared.step.Step.TheVariants.{Event, Inject, Sniff, Drop, Stop, End}
 use Rattle.scenario_history.specs.Steps.{chosen_of, chosen_steps}
-use Rattle.scenario_history.specs.Source.{Airs, event_back, pdu_in}
+use Rattle.scenario_history.specs.Source.{Airs, event_back, pdu_in, stale_in}
 use Rattle.scenario_history.specs.Sinks.{is_of, sink_calls, source_of}
 use Rattle.scenario_history.specs.Boxes.{SinkUnit, sink_numbers, account_at, box_of, closing, closing_both, valid_for, handed_up}
 
@@ -19,6 +20,9 @@ unit_line unit = handed_line unit.sink unit.unit
 
 abbrev pub unit_lines : List SinkUnit → List ℕ
 unit_lines units = flat_map unit_line units
+
+abbrev pub stale_lines : List Stale → List ℕ
+stale_lines units = flat_map (λ unit. stale_line unit.bis unit.time) units
 
 -- the sums of a box: those at the start, and the count and the octets of the valid units that were handed to it
 abbrev pub sum_of : List Account → List SinkUnit → ℕ → ℕ → List ℕ
@@ -42,7 +46,7 @@ injected_hearing airs steps sink back bis subevent octets =
 
 -- what a step after these prints, with these accounts at the start
 abbrev pub output_of : Airs → List Account → List Step → Step → List ℕ
-output_of airs starts steps Event = unit_lines (closing airs (chosen_of steps) steps)
+output_of airs starts steps Event = unit_lines (closing airs (chosen_of steps) steps) ++ stale_lines (stale_in airs (chosen_steps steps))
 output_of airs starts steps Stop = unit_lines (closing airs (chosen_of steps) steps)
 output_of airs starts steps End =
     unit_lines (closing_both airs steps) ++ sums_of starts (handed_up airs steps ++ closing_both airs steps) steps

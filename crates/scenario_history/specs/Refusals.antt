@@ -56,7 +56,7 @@ is_out_of_order steps step = is_misplaced (stage_of steps) step || is_out_of_pha
 
 -- the step is of the language and not built yet
 abbrev pub is_unbuilt : Step → Bool
-is_unbuilt (Group framing origin delay iso sdu max_sdu max_pdu num_bis bn nse irc pto sub spacing phy) = not (framing == 0)
+is_unbuilt (Group framing origin delay iso sdu max_sdu max_pdu num_bis bn nse irc pto sub spacing phy) = false
 is_unbuilt (Scenario version) = false
 is_unbuilt (Ident address_type address sid broadcast_id) = false
 is_unbuilt (Start first) = false

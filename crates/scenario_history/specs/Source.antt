@@ -5,10 +5,11 @@ use Rattle.std.specs.Prelude.{ℕ, ◌-◌, ◌==◌, ◌||◌, not, Bool, true,
 use Rattle.big_info.specs.declared.info.BigInfo.{BigInfo}
 use Rattle.isoal_base.specs.Air.{Air}
 use Rattle.source_machine.specs.Calls.{Setup, Call, give, event as perform, events, next_of}
-use Rattle.source_machine.specs.Airs.{pdu_of}
+use Rattle.source_machine.specs.Airs.{pdu_of, stale_of}
+use Rattle.source_machine.specs.declared.sent.Stale.{Stale}
 use Rattle.scenario_text.specs.declared.step.Step.{Step}
 use Rattle.scenario_text.specs.declared.step.Step.TheVariants.{Group, Ident, Start, Unit, Event, Stop}
-use Rattle.scenario_history.specs.Steps.{last_given, is_over}
+use Rattle.scenario_history.specs.Steps.{last_given, is_over, version_of}
 
 -- ---- what its lines say
 
@@ -145,12 +146,16 @@ Airs = Setup → List Call → List Air
 abbrev pub no_group : GroupLine
 no_group = record { info = info_with 0 0 0 0 0 0 0 0 0 0 0 0 0; origin = 0; delay = 0 }
 
-abbrev pub setup_from : GroupLine → ℕ → Setup
-setup_from group first = record { info = group.info; origin = group.origin; delay = group.delay; first = first }
+abbrev pub setup_from : GroupLine → ℕ → Bool → Setup
+setup_from group first ahead = record { info = group.info; origin = group.origin; delay = group.delay; first = first; ahead = ahead }
+
+-- in version 2 the time of a framed unit may be past the next anchor
+abbrev pub is_ahead_in : ℕ → Bool
+is_ahead_in version = version == 2
 
 -- what fixes the source, once it was started
 abbrev pub setup_of : List Step → Setup
-setup_of steps = setup_from (unwrap_or (group_of steps) no_group) (unwrap_or (start_of steps) 0)
+setup_of steps = setup_from (unwrap_or (group_of steps) no_group) (unwrap_or (start_of steps) 0) (is_ahead_in (version_of steps))
 
 abbrev pub with_source_call : Step → List Call → List Call
 with_source_call (Unit bis time octets) calls = give bis time octets ∷ calls
@@ -174,6 +179,10 @@ event_back steps back = next_of (setup_of steps) (source_calls steps) - 1 - back
 abbrev pub pdu_in : Airs → List Step → ℕ → ℕ → ℕ → List ℕ
 pdu_in airs steps event bis subevent =
     unwrap_or (pdu_of (setup_of steps) (airs (setup_of steps) (source_calls steps)) event bis subevent) []
+
+-- the units that the streams leave out as stale in the event performed after these steps
+abbrev pub stale_in : Airs → List Step → List Stale
+stale_in airs steps = stale_of (setup_of steps) (source_calls steps) (airs (setup_of steps) (perform ∷ source_calls steps))
 
 -- the event that is open: the last one performed, until it is closed by the next one, by `stop` or by `end`
 abbrev pub open_event : List Step → Option ℕ

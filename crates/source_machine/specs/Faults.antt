@@ -1,13 +1,13 @@
 -- Which calls of a source are refused, and why: the first cause that holds (Core 5.2, volume 6 part B, section 4.4.6:
 -- payload counters have 39 bits; part G, section 2: only framed units have times of their own).
-use Rattle.std.specs.Prelude.{ℕ, ◌+◌, ◌*◌, ◌^◌, ◌==◌, ◌≡◌, ◌&&◌, nat_lt, nat_le, is_some, if◌then◌else◌, List, length, Option, Some, None}
+use Rattle.std.specs.Prelude.{ℕ, ◌+◌, ◌*◌, ◌^◌, ◌==◌, ◌≡◌, ◌&&◌, ◌||◌, nat_lt, nat_le, is_none, not, Bool, true, false, if◌then◌else◌, List, length, Option, Some, None}
 use Rattle.big_info.specs.Schedule.{horizon_of}
 use Rattle.radio_schedule.specs.declared.air.AirFault.{AirFault}
 use Rattle.radio_schedule.specs.declared.air.AirFault.TheVariants.{NoSuchBis as NoStream, NoSuchSubevent, NotOnAir}
 use Rattle.isoal_base.specs.declared.laid.PutFault.{PutFault}
 use Rattle.isoal_base.specs.declared.laid.PutFault.TheVariants as put_faults
 use Rattle.isoal_base.specs.Air.{Air}
-use Rattle.source_machine.specs.Calls.{Setup, Call, events, next_of}
+use Rattle.source_machine.specs.Calls.{Setup, Call, events, last_time_of, next_anchor_of, next_of}
 use Rattle.source_machine.specs.Airs.{waiting_of}
 use Rattle.big_info.specs.declared.info.BigInfo.{BigInfo}
 use Rattle.big_info.specs.Rows.{first_fault}
@@ -24,13 +24,29 @@ abbrev pub ConfigureFails : ℕ → BigInfo → ConfigureFault → Type 0
 ConfigureFails horizon info (configure_faults.BadGroup fault) = first_fault horizon info ≡ Some fault
 ConfigureFails horizon info configure_faults.Memory = Unit {0}
 
--- why a unit is refused: the group has no such stream, the unit has more than Max_SDU octets, it has a time in an
--- unframed group, 16 units of the stream wait
+-- a time is above the last one, where there is one
+abbrev pub is_above : Option ℕ → ℕ → Bool
+is_above None time = true
+is_above (Some last) time = nat_lt last time
+
+-- the time of a framed unit is there, above that of the last unit accepted on its stream, and, unless times may be ahead,
+-- not past the next anchor
+abbrev pub is_in_time : Setup → List Call → ℕ → Option ℕ → Bool
+is_in_time setup calls bis None = false
+is_in_time setup calls bis (Some time) =
+    is_above (last_time_of setup bis calls) time && (setup.ahead || nat_le time (next_anchor_of setup calls))
+
+-- a unit has the time that its framing wants: an unframed one has none
+abbrev pub has_its_time : Setup → List Call → ℕ → Option ℕ → Bool
+has_its_time setup calls bis time = if setup.info.framing == 0 then is_none time else is_in_time setup calls bis time
+
+-- why a unit is refused: the group has no such stream, the unit has more than Max_SDU octets, it hasn't the time that its
+-- framing wants, 16 units of the stream wait
 abbrev pub give_fault : Setup → List Call → List Air → ℕ → Option ℕ → List ℕ → Option GiveFault
 give_fault setup calls airs bis time octets =
     if nat_lt setup.info.num_bis bis then Some give_faults.NoSuchBis
     else (if nat_lt setup.info.max_sdu (length octets) then Some give_faults.UnitTooLong
-    else (if (setup.info.framing == 0) && is_some time then Some give_faults.TimeOrder
+    else (if not (has_its_time setup calls bis time) then Some give_faults.TimeOrder
     else (if nat_le 16 (waiting_of calls airs bis) then Some give_faults.Backlog else None)))
 
 -- why the next event is refused: payload numbers of it or of the H events behind it would pass 2^39

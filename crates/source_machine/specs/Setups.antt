@@ -1,8 +1,31 @@
 -- What a source is configured with, and what fixes it once it was started.
-use Rattle.std.specs.Prelude.{ℕ}
+use Rattle.std.specs.Prelude.{ℕ, ◌≤◌, Bool}
+use Rattle.big_info.specs.Bounds.{Bounds}
+use Rattle.big_info.specs.declared.info.BigInfo.{BigInfo}
 use Rattle.source_machine.specs.Calls.{Setup}
-use Rattle.source_machine.specs.declared.setup.Setup.{Setup as Configured}
+use Rattle.source_machine.specs.declared.setup.Identity.{Identity}
+use Rattle.source_machine.specs.declared.setup.Setup.{Setup as Given}
 
--- a source with this setup whose first event this is
+-- what a source that has a group keeps: who it is, its group, the anchor of its first event and the presentation delay in
+-- µs, and whether the time of a framed unit may be past the next anchor
+pub record Configured : Type 0 where
+  pub identity : Identity
+  pub info : BigInfo
+  pub origin : ℕ
+  pub delay : ℕ
+  pub ahead : Bool
+
+-- a source that was given this setup
+abbrev pub configured : Given → Bool → Configured
+configured setup ahead =
+    record { identity = setup.identity; info = setup.info; origin = setup.origin; delay = setup.delay; ahead = ahead }
+
+-- a configured source whose first event this is
 abbrev pub started : Configured → ℕ → Setup
-started setup first = record { info = setup.info; origin = setup.origin; delay = setup.delay; first = first }
+started source first =
+    record { info = source.info; origin = source.origin; delay = source.delay; first = first; ahead = source.ahead }
+
+-- what every group that passed the group check keeps to
+pub record IsChecked (info : BigInfo) : Type 0 where
+  pub bounds : Bounds info
+  pub framing : info.framing ≤ 1

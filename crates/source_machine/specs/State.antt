@@ -1,3 +1,4 @@
 -- How the state of a source stands for its calls.
+pub mod Senders
 pub mod Sources
 pub mod Streams

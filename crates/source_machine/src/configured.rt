@@ -1,8 +1,8 @@
-ghost use Rattle.std.specs.Prelude.{◌≡◌, ◌≤◌, ◌<◌, ◌^◌, None, IfOk, IfErr, []};
+ghost use Rattle.std.specs.Prelude.{◌≡◌, ◌≤◌, ◌<◌, ◌^◌, None, IfOk, IfErr, [], false};
 ghost use Rattle.big_info.specs.Rows.{first_fault};
 ghost use Rattle.big_info.specs.Widths.{FitsWidths};
 ghost use Rattle.source_machine.specs.Faults.{ConfigureFails};
-ghost use Rattle.source_machine.specs.Setups.{started};
+ghost use Rattle.source_machine.specs.Setups.{configured as as_configured, started};
 ghost use Rattle.source_machine.specs.State.Sources.{StandsFor};
 
 use crate::fault::ConfigureFault;
@@ -35,16 +35,16 @@ impl SourceIdle {
         setup: Setup,
     ) -> Result<SourceConfigured, Kept<SourceIdle, ConfigureFault>>
         requires widths { FitsWidths setup.info }
-        requires unframed { setup.info.framing ≡ 0 }
         requires origin { setup.origin ≤ 2 ^ 48 }
         requires delay { setup.delay < 2 ^ 24 }
-        ensures ok { IfOk result (λ configured. (configured ≡ setup) × (first_fault 15 setup.info ≡ None)) }
+        ensures ok { IfOk result (λ configured. (configured ≡ as_configured setup false) × (first_fault 15 setup.info ≡ None)) }
         ensures err { IfErr result (λ kept. ConfigureFails 15 setup.info kept.fault) }
     {
         self.configure_within(setup, Limits::VERSION_1)
     }
 
-    /// Gives the source its group, where a payload may be sent `limits.horizon` events ahead.
+    /// Gives the source its group, where a payload may be sent `limits.horizon` events ahead, and the time of a framed unit
+    /// may be past the next anchor where the limits say so.
     ///
     /// BadGroup comes exactly where a row of the group check holds, with the first that does.
     pub fn configure_within(
@@ -54,10 +54,9 @@ impl SourceIdle {
     ) -> Result<SourceConfigured, Kept<SourceIdle, ConfigureFault>>
         requires widths { FitsWidths setup.info }
         requires horizon { limits.horizon ≤ 31 }
-        requires unframed { setup.info.framing ≡ 0 }
         requires origin { setup.origin ≤ 2 ^ 48 }
         requires delay { setup.delay < 2 ^ 24 }
-        ensures ok { IfOk result (λ configured. (configured ≡ setup) × (first_fault limits.horizon setup.info ≡ None)) }
+        ensures ok { IfOk result (λ configured. (configured ≡ as_configured setup limits.ahead) × (first_fault limits.horizon setup.info ≡ None)) }
         ensures err { IfErr result (λ kept. ConfigureFails limits.horizon setup.info kept.fault) }
     {
         match check_group_within(&setup.info, limits) {
@@ -68,6 +67,7 @@ impl SourceIdle {
                     group,
                     origin: setup.origin,
                     delay: setup.delay,
+                    ahead: limits.ahead,
                 },
             }),
             Err(fault) => Err(Kept {
@@ -86,10 +86,10 @@ pub struct SourceConfigured {
 }
 
 impl Model for SourceConfigured {
-    ghost use Rattle.source_machine.specs.declared.setup.Setup.{Setup};
+    ghost use Rattle.source_machine.specs.Setups.{Configured};
     ghost use Rattle.source_machine.specs.State.Sources.{setup_in};
 
-    ghost Value = { Setup };
+    ghost Value = { Configured };
 
     ghost view = { λ c. setup_in c.plan };
 }

@@ -22,7 +22,8 @@ pub enum GiveFault {
     NoSuchBis,
     /// The unit has more than Max_SDU octets.
     UnitTooLong,
-    /// A time is given in an unframed group.
+    /// A time is given in an unframed group, or none in a framed one; it is not above that of the last unit of the stream;
+    /// or it is past the next anchor, where times may not be ahead.
     TimeOrder,
     /// 16 units of the stream wait.
     Backlog,

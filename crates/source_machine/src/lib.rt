@@ -5,6 +5,8 @@ mod checking;
 mod configured;
 mod fault;
 mod laws;
+mod laying;
+mod sender;
 mod sent;
 mod setup;
 mod stream;

@@ -32,7 +32,8 @@ pub(crate) struct Plan {
     pub(crate) group: Group,
     pub(crate) origin: u64,
     pub(crate) delay: u32,
-    ghost unframed: { group.info.framing ≡ 0 },
+    /// Whether the time of a framed unit may be past the next anchor.
+    pub(crate) ahead: bool,
     ghost origin_is: { origin ≤ 2 ^ 48 },
     ghost delay_is: { delay < 2 ^ 24 },
 }

@@ -1,16 +1,19 @@
-ghost use Rattle.std.specs.Prelude.{◌≡◌, ◌≤◌, ◌<◌, ◌+◌, ◌*◌, ◌/◌, ◌%◌, [], length, map, replicate, All, Some, IfOk, IfErr, OnOk, OnErr};
+ghost use Rattle.std.specs.Prelude.{◌≡◌, ◌≤◌, ◌<◌, ◌+◌, ◌*◌, ◌/◌, ◌%◌, ◌++◌, ℕ, [], length, map, get_or, All, Some, IfOk, IfErr, OnOk, OnErr};
 ghost use Rattle.std.specs.List.{AllZip, range_with_len};
 ghost use Rattle.big_info.specs.Schedule.{horizon_of};
-ghost use Rattle.isoal_unframed.specs.State.Sender.{PutFaultIs};
 ghost use Rattle.radio_schedule.specs.PayloadNumber.{payload_number};
-ghost use Rattle.source_machine.specs.State.Sources.{stream_after};
-ghost use Rattle.source_machine.specs.State.Streams.{Accepts, Grows, IsLaid, Lays, sender_of, sent_at, sent_of};
+ghost use Rattle.source_machine.specs.Airs.{stale_on};
+ghost use Rattle.source_machine.specs.State.Senders.{PutStops};
+ghost use Rattle.source_machine.specs.State.Sources.{Stream as StreamState, StreamStands};
+ghost use Rattle.source_machine.specs.State.Streams.{Accepts, AllTell, Grows, IsLaid, Lays, LaysOne, Tells, sent_at, sent_of};
 
-use bcast_base::{EventPdus, Memory, Octets};
+use crate::laying::Laying;
+use crate::sender::Sender;
+use crate::sent::{Stale, StaleList};
+use bcast_base::{Bis, EventPdus, Memory, Octets, Times};
 use big_info::Group;
 use circular_buffer::HeapCircularBuffer;
 use isoal_base::PutFault;
-use isoal_unframed::UnframedOut;
 use radio_schedule::payload_of;
 use std::alloc::Global;
 use std::marker::Model;
@@ -18,61 +21,69 @@ use std::marker::Model;
 /// A stream of a source: its sender, and the event that was performed last with the H events laid behind it.
 #[derive(Drop)]
 pub(crate) struct Stream {
-    out: UnframedOut,
+    bis: Bis,
+    sender: Sender,
     laid: HeapCircularBuffer<EventPdus>,
 }
 
 impl Model for Stream {
+    ghost use Rattle.source_machine.specs.State.Senders.{info_of};
     ghost use Rattle.source_machine.specs.State.Sources.{Stream};
     ghost use Rattle.source_machine.specs.State.Streams.{Keeps};
 
     ghost Value = { Stream };
 
-    ghost view = { λ s. record { info = s.out.info; waiting = s.out.waiting; laid = s.laid.items } };
+    ghost view = { λ s. record { bis = s.bis; sender = s.sender; laid = s.laid.items } };
 
-    ghost invariant = { λ s. Keeps s.out.info s.laid.capacity s.laid.items };
+    ghost invariant = { λ s. Keeps (info_of s.sender) s.laid.capacity s.laid.items };
 }
 
 impl Stream {
-    /// A stream before its first event.
-    pub(crate) fn new(alloc: Global, group: &Group) -> Result<Stream, Memory>
-        requires { group.now.info.framing ≡ 0 }
-        ensures { IfOk result (λ stream. stream ≡ stream_after group.now.info []) }
+    /// The stream of this index before its first event.
+    pub(crate) fn new(alloc: Global, group: &Group, bis: Bis) -> Result<Stream, Memory>
+        ensures { IfOk result (λ stream. StreamStands group.now.info bis [] [] stream) }
     {
         Ok(Stream {
-            out: UnframedOut::new(alloc, group),
+            bis,
+            sender: Sender::new(alloc, group),
             laid: HeapCircularBuffer::with_capacity(alloc, (group.horizon() + 1) as usize)?,
         })
     }
 
-    /// Lays the next `count` events.
-    fn lay(&mut self, count: u32) -> Result<(), Memory>
-        ensures ok { OnOk result (Lays count self.old self.new) }
+    /// Lays the next events, and tells the units that are left out of them.
+    fn lay(&mut self, laying: Laying, stale: &mut StaleList) -> Result<(), Memory>
+        ensures ok { OnOk result (Lays laying.anchor laying.iso_us laying.count self.old self.new) }
+        ensures told { OnOk result (Tells laying.anchor laying.iso_us laying.count self.old stale.old stale.new) }
         ensures err { OnErr result (Grows self.old self.new) }
     {
-        'events: for _ in 0..count {
-            self.lay_one()?;
+        'events: for n in 0..laying.count {
+            self.lay_one(laying.anchor_of(n), stale)?;
         }
         Ok(())
     }
 
-    /// Lays the next event. Where H + 1 events are kept, the oldest is dropped.
-    fn lay_one(&mut self) -> Result<(), Memory>
-        ensures ok { OnOk result (Lays 1 self.old self.new) }
-        ensures err { OnErr result (self.new ≡ self.old) }
+    /// Lays the next event, whose anchor this is. Where H + 1 events are kept, the oldest is dropped.
+    fn lay_one(&mut self, anchor: u64, stale: &mut StaleList) -> Result<(), Memory>
+        ensures ok { OnOk result (LaysOne anchor self.old self.new stale.old stale.new) }
+        ensures err { OnErr result (Grows self.old self.new) }
     {
-        let event = self.out.lay_event()?;
+        let event = self.sender.lay(anchor)?;
         let _ = self.laid.push_back(event.pdus);
-        Ok(())
+        tell_stale(self.bis, &event.stale, stale)
     }
 
     /// Gives a unit to the sender.
-    pub(crate) fn give(&mut self, octets: &[u8]) -> Result<(), PutFault>
-        ensures ok { OnOk result (Accepts octets.now self.old self.new) }
+    pub(crate) fn give(
+        &mut self,
+        time: Option<u64>,
+        limit: Option<u64>,
+        octets: &[u8],
+    ) -> Result<(), PutFault>
+        ensures ok { OnOk result (Accepts time limit octets.now self.old self.new) }
         ensures err { OnErr result (self.new ≡ self.old) }
-        ensures fault { IfErr result (λ fault. PutFaultIs (sender_of self.old) octets.now fault) }
+        ensures fault { IfErr result (λ fault. PutStops self.old.sender time limit octets.now fault) }
     {
-        self.out.put(octets)
+        self.sender.put(time, limit, octets)
     }
 
     /// The PDU that a subevent, from 0, carries in the oldest event that is kept.
@@ -100,21 +111,41 @@ fn carried(group: &Group, subevent: u8) -> (u32, usize)
     ((number / bn) as u32, (number % bn) as usize)
 }
 
-/// Lays the next `count` events of all streams.
-pub(crate) fn lay_all(streams: &mut Vec<Stream>, count: u32) -> Result<(), Memory>
-    ensures ok { OnOk result (AllZip (Lays count) streams.old.items streams.new.items) }
-    ensures err { OnErr result (AllZip Grows streams.old.items streams.new.items) }
+/// Tells the units of a stream that were left out, by their times.
+fn tell_stale(bis: Bis, times: &Times, stale: &mut StaleList) -> Result<(), Memory>
+    ensures { OnOk result (stale.new ≡ stale.old ++ stale_on bis times.now) }
 {
-    lay_each(streams.as_mut_slice(), count)
+    'times: for &time in times.as_slice().iter() {
+        stale.push(Stale { bis, time })?;
+    }
+    Ok(())
 }
 
-/// Lays the next `count` events of each stream.
-fn lay_each(streams: &mut [Stream], count: u32) -> Result<(), Memory>
-    ensures ok { OnOk result (AllZip (Lays count) streams.old streams.new) }
+/// Lays the next events of all streams, and tells the units that are left out of them, by rising index and in order.
+pub(crate) fn lay_all(
+    streams: &mut Vec<Stream>,
+    laying: Laying,
+    stale: &mut StaleList,
+) -> Result<(), Memory>
+    ensures ok { OnOk result (AllZip (Lays laying.anchor laying.iso_us laying.count) streams.old.items streams.new.items) }
+    ensures told { OnOk result (AllTell laying.anchor laying.iso_us laying.count streams.old.items (length streams.old.items) stale.old stale.new) }
+    ensures err { OnErr result (AllZip Grows streams.old.items streams.new.items) }
+{
+    lay_each(streams.as_mut_slice(), laying, stale)
+}
+
+/// Lays the next events of each stream.
+fn lay_each(
+    streams: &mut [Stream],
+    laying: Laying,
+    stale: &mut StaleList,
+) -> Result<(), Memory>
+    ensures ok { OnOk result (AllZip (Lays laying.anchor laying.iso_us laying.count) streams.old streams.new) }
+    ensures told { OnOk result (AllTell laying.anchor laying.iso_us laying.count streams.old (length streams.old) stale.old stale.new) }
     ensures err { OnErr result (AllZip Grows streams.old streams.new) }
 {
     'streams: for stream in streams.iter_mut() {
-        stream.lay(count)?;
+        stream.lay(laying, stale)?;
     }
     Ok(())
 }
@@ -142,12 +173,14 @@ pub(crate) fn sent_pdus(
 
 /// The streams of a group before their first event.
 pub(crate) fn new_streams(alloc: Global, group: &Group) -> Result<Vec<Stream>, Memory>
-    requires { group.now.info.framing ≡ 0 }
-    ensures { IfOk result (λ streams. streams.items ≡ replicate group.now.info.num_bis (stream_after group.now.info [])) }
+    ensures count { IfOk result (λ streams. length streams.items ≡ group.now.info.num_bis) }
+    ensures new { IfOk result (λ streams. (k : ℕ) (none : StreamState) → k < length streams.items
+        → StreamStands group.now.info (k + 1) [] [] (get_or streams.items k none)) }
 {
     let mut streams = Vec::new(alloc);
-    'streams: for _ in 0..group.info.num_bis {
-        streams.push(Stream::new(alloc, group)?)?;
+    'streams: for n in 0..group.info.num_bis {
+        let bis = Bis::new(n + 1).unwrap();
+        streams.push(Stream::new(alloc, group, bis)?)?;
     }
     Ok(streams)
 }

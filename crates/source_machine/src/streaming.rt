@@ -1,23 +1,24 @@
-ghost use Rattle.std.specs.Prelude.{◌≡◌, ◌≤◌, ◌<◌, ◌+◌, ◌-◌, ◌*◌, ◌^◌, ◌∷◌, ◌↔◌, [], List, length, Some, None, true, false, IfOk, IfErr, IsTrue, OnOk, OnErr};
-ghost use Rattle.big_info.specs.Bounds.{Bounds};
+ghost use Rattle.std.specs.Prelude.{◌≡◌, ◌≤◌, ◌<◌, ◌+◌, ◌-◌, ◌*◌, ◌^◌, ◌∷◌, ◌↔◌, ℕ, List, length, Option, Some, None, true, false, IfOk, IfErr, IsTrue, OnOk, OnErr};
 ghost use Rattle.big_info.specs.Schedule.{horizon_of};
 ghost use Rattle.big_info.specs.Time.{iso_us_of};
 ghost use Rattle.sync_reference.specs.Reference.{anchor_of};
 ghost use Rattle.isoal_base.specs.Air.{Air};
-ghost use Rattle.source_machine.specs.Airs.{AreAirs, Sends};
+ghost use Rattle.source_machine.specs.Airs.{AreAirs, Sends, stale_of};
 ghost use Rattle.source_machine.specs.Calls.{Call, give as gives, event as performs, next_anchor_of, next_of};
 ghost use Rattle.source_machine.specs.Faults.{event_fault, give_fault, refused_event, refused_unit};
+ghost use Rattle.source_machine.specs.Setups.{IsChecked};
 ghost use Rattle.source_machine.specs.State.Sources.{AfterFault, StandsFor, configured_in};
-ghost use Rattle.source_machine.specs.State.Streams.{IsFit, Performs};
+ghost use Rattle.source_machine.specs.State.Streams.{IsFit, LaysNext, Performs, limit_of};
 ghost use Rattle.source_machine.specs.declared.fault.EventFault.TheVariants.{Memory as EventMemory};
 ghost use Rattle.source_machine.specs.declared.fault.GiveFault.TheVariants.{Memory as GiveMemory};
 
 use crate::configured::SourceConfigured;
 use crate::fault::{EventFault, GiveFault};
+use crate::laying::Laying;
 use crate::sent::{Sent, StaleList};
 use crate::setup::{Identity, Plan};
 use crate::stream::{Stream, lay_all, sent_pdus};
-use bcast_base::{Bis, EventPdus, Memory};
+use bcast_base::{Bis, Memory};
 use big_info::Group;
 use std::alloc::Global;
 use std::marker::Model;
@@ -48,7 +49,7 @@ impl Model for SourceStreaming {
 
     ghost view = { λ s. record {
       identity = s.plan.identity;
-      setup = record { info = s.plan.group.info; origin = s.plan.origin; delay = s.plan.delay; first = s.first };
+      setup = record { info = s.plan.group.info; origin = s.plan.origin; delay = s.plan.delay; first = s.first; ahead = s.plan.ahead };
       next = s.next;
       streams = s.streams.items;
       failed = s.has_failed;
@@ -56,7 +57,7 @@ impl Model for SourceStreaming {
 
     ghost invariant = { λ s. IsSource (record {
       identity = s.plan.identity;
-      setup = record { info = s.plan.group.info; origin = s.plan.origin; delay = s.plan.delay; first = s.first };
+      setup = record { info = s.plan.group.info; origin = s.plan.origin; delay = s.plan.delay; first = s.first; ahead = s.plan.ahead };
       next = s.next;
       streams = s.streams.items;
       failed = s.has_failed;
@@ -64,11 +65,13 @@ impl Model for SourceStreaming {
 }
 
 impl SourceStreaming {
-    /// Gives a unit to a stream, where it waits for its slot. In an unframed group it has no time of its own.
+    /// Gives a unit to a stream, where it waits for its slot or its start. In an unframed group it has no time of its own, in
+    /// a framed one it has a time in µs.
     ///
     /// The first refusal that holds is answered: NoSuchBis where the group has no such stream, UnitTooLong above Max_SDU
-    /// octets, TimeOrder where a time is given, Backlog where 16 units of the stream wait. A refused unit changes
-    /// nothing. A source that has failed answers Memory.
+    /// octets, TimeOrder where a time is given in an unframed group, or in a framed one where none is given, it isn't above
+    /// that of the last unit of the stream, or it is past the next anchor without limits that let times be ahead, Backlog
+    /// where 16 units of the stream wait. A refused unit changes nothing. A source that has failed answers Memory.
     pub fn give(&mut self, bis: Bis, time: Option<u64>, octets: &[u8]) -> Result<(), GiveFault>
         ensures identity { self.new.identity ≡ self.old.identity }
         ensures setup { self.new.setup ≡ self.old.setup }
@@ -81,18 +84,19 @@ impl SourceStreaming {
             → give_fault self.old.setup calls airs bis time octets.now ≡ refused_unit fault) }
         ensures failed { self.old.failed ≡ true → IfErr result (λ fault. fault ≡ GiveMemory) }
         ensures works { OnOk result (self.old.failed ≡ false) }
-        ensures checked { Bounds self.old.setup.info × (self.old.setup.info.framing ≡ 0) }
+        ensures checked { IsChecked self.old.setup.info }
     {
         if self.has_failed {
             return Err(GiveFault::Memory);
         }
-        self.check_unit(bis, time, octets)?;
-        self.streams[usize::from(bis.get() - 1)].give(octets)?;
+        self.check_unit(bis, octets)?;
+        let limit = self.limit();
+        self.streams[usize::from(bis.get() - 1)].give(time, limit, octets)?;
         Ok(())
     }
 
     /// Performs the next event: lays it and the H events behind it, as far as they aren't laid, and answers what it
-    /// sends. In an unframed group no unit is stale.
+    /// sends, and the units that were left out of the events that were laid: by rising index and in order.
     ///
     /// CounterEnds comes exactly where the payload numbers of these events would pass 2^39, and changes nothing. After
     /// want of memory the source has failed, and the next event is as before. A source that has failed answers Memory.
@@ -105,13 +109,14 @@ impl SourceStreaming {
         ensures pdus { IfOk result (λ sent. (calls : List Call) (airs : List Air) → StandsFor calls self.old → AreAirs self.old.setup (performs ∷ calls) airs
             → Sends self.old.setup airs sent.event sent.pdus) }
         ensures count { IfOk result (λ sent. length sent.pdus ≡ self.old.setup.info.num_bis * self.old.setup.info.nse) }
-        ensures stale { IfOk result (λ sent. sent.stale ≡ []) }
+        ensures stale { IfOk result (λ sent. (calls : List Call) (airs : List Air) → StandsFor calls self.old → AreAirs self.old.setup (performs ∷ calls) airs
+            → sent.stale ≡ stale_of self.old.setup calls airs) }
         ensures err { IfErr result (λ fault. AfterFault fault self.old self.new) }
         ensures cause { IfErr result (λ fault. (calls : List Call) → StandsFor calls self.old
             → event_fault self.old.setup calls ≡ refused_event fault) }
         ensures failed { self.old.failed ≡ true → IfErr result (λ fault. fault ≡ EventMemory) }
         ensures works { OnOk result (self.old.failed ≡ false) }
-        ensures checked { Bounds self.old.setup.info × (self.old.setup.info.framing ≡ 0) }
+        ensures checked { IsChecked self.old.setup.info }
     {
         if self.has_failed {
             return Err(EventFault::Memory);
@@ -119,13 +124,8 @@ impl SourceStreaming {
         if !self.has_numbers() {
             return Err(EventFault::CounterEnds);
         }
-        let event = self.next;
         match self.perform() {
-            Ok(pdus) => Ok(Sent {
-                event,
-                pdus,
-                stale: StaleList::new(self.alloc),
-            }),
+            Ok(sent) => Ok(sent),
             Err(_) => {
                 self.has_failed = true;
                 Err(EventFault::Memory)
@@ -142,8 +142,7 @@ impl SourceStreaming {
 
     /// The group.
     pub fn group(&self) -> &Group
-        ensures info { result.now.info ≡ self.now.setup.info }
-        ensures unframed { result.now.info.framing ≡ 0 }
+        ensures { result.now.info ≡ self.now.setup.info }
     {
         &self.plan.group
     }
@@ -191,25 +190,28 @@ impl SourceStreaming {
     }
 
     /// Lays the next event and the H events behind it, and counts it.
-    fn perform(&mut self) -> Result<EventPdus, Memory>
+    fn perform(&mut self) -> Result<Sent, Memory>
         requires { self.old.next < 2 ^ 39 }
-        ensures ok { IfOk result (λ pdus. Performs self.old self.new pdus) }
+        ensures ok { IfOk result (λ sent. Performs self.old self.new sent.pdus sent.stale) }
+        ensures event { IfOk result (λ sent. sent.event ≡ self.old.next) }
         ensures identity { self.new.identity ≡ self.old.identity }
         ensures setup { self.new.setup ≡ self.old.setup }
         ensures same { OnErr result (self.new.next ≡ self.old.next) }
     {
-        let count = self.events_to_lay();
-        lay_all(&mut self.streams, count)?;
+        let laying = self.next_laying();
+        let mut stale = StaleList::new(self.alloc);
+        lay_all(&mut self.streams, laying, &mut stale)?;
         let plan = &self.plan;
         let pdus = sent_pdus(self.alloc, &plan.group, self.streams.as_slice())?;
+        let event = self.next;
         self.next += 1;
-        Ok(pdus)
+        Ok(Sent { event, pdus, stale })
     }
 
-    /// Tests a unit but for the number that wait.
-    fn check_unit(&self, bis: Bis, time: Option<u64>, octets: &[u8]) -> Result<(), GiveFault>
-        ensures ok { OnOk result (IsFit self.now.setup bis time octets.now) }
-        ensures err { IfErr result (λ fault. (calls : List Call) (airs : List Air)
+    /// Tests the stream and the length of a unit.
+    fn check_unit(&self, bis: Bis, octets: &[u8]) -> Result<(), GiveFault>
+        ensures ok { OnOk result (IsFit self.now.setup bis octets.now) }
+        ensures err { IfErr result (λ fault. (calls : List Call) (airs : List Air) (time : Option ℕ)
             → (give_fault self.now.setup calls airs bis time octets.now ≡ Some fault) × (refused_unit fault ≡ Some fault)) }
     {
         if bis.get() > self.plan.group.info.num_bis {
@@ -218,10 +220,18 @@ impl SourceStreaming {
         if octets.len() > usize::from(self.plan.group.info.max_sdu) {
             return Err(GiveFault::UnitTooLong);
         }
-        if time.is_some() {
-            return Err(GiveFault::TimeOrder);
-        }
         Ok(())
+    }
+
+    /// The time that a unit's time may not pass, where there is one.
+    fn limit(&self) -> Option<u64>
+        ensures { result ≡ limit_of self.now }
+    {
+        if self.plan.ahead {
+            None
+        } else {
+            Some(self.next_anchor())
+        }
     }
 
     /// Whether the payload counter has numbers for the next event and the H events behind it.
@@ -233,15 +243,29 @@ impl SourceStreaming {
         laid * u64::from(self.plan.group.info.bn) <= COUNTER_END
     }
 
-    /// How many events are laid with the next one.
-    fn events_to_lay(&self) -> u32
-        ensures first { self.now.next ≡ self.now.setup.first → result ≡ horizon_of self.now.setup.info + 1 }
-        ensures later { self.now.setup.first < self.now.next → result ≡ 1 }
+    /// The events that are laid with the next one.
+    fn next_laying(&self) -> Laying
+        requires { self.now.next < 2 ^ 39 }
+        ensures { LaysNext self.now result }
     {
+        let horizon = self.plan.group.horizon();
+        let iso_us = self.plan.group.iso_us();
         if self.next == self.first {
-            self.plan.group.horizon() + 1
-        } else {
-            1
+            return Laying {
+                count: horizon + 1,
+                anchor: self.plan.origin,
+                iso_us,
+            };
+        }
+        Laying {
+            count: 1,
+            anchor: anchor(
+                self.plan.origin,
+                self.first,
+                self.next + u64::from(horizon),
+                iso_us,
+            ),
+            iso_us,
         }
     }
 }

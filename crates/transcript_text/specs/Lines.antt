@@ -52,6 +52,10 @@ abbrev pub pdu_line : (event bis subevent : ℕ) → List ℕ → List ℕ
 pdu_line event bis subevent octets =
     line_of (codes "pdu") (decimal event ∷ decimal bis ∷ decimal subevent ∷ digits octets ∷ [])
 
+-- the line of a unit that a framed stream left out
+abbrev pub stale_line : (bis time : ℕ) → List ℕ
+stale_line bis time = line_of (codes "stale") (decimal bis ∷ decimal time ∷ [])
+
 abbrev pub sum_line : (sink units octets : ℕ) → List ℕ
 sum_line sink units octets = line_of (codes "sum") (decimal sink ∷ decimal units ∷ decimal octets ∷ [])
 

@@ -1,6 +1,6 @@
 ghost use Rattle.std.specs.Prelude.{◌≡◌, ◌++◌, OnOk, OnErr};
 ghost use Rattle.transcript_text.specs.Fronts.{AFront};
-ghost use Rattle.transcript_text.specs.Lines.{valid_line, lost_line, pdu_line, sum_line};
+ghost use Rattle.transcript_text.specs.Lines.{valid_line, lost_line, pdu_line, stale_line, sum_line};
 
 use crate::word::{Word, put_line};
 use bcast_base::{Memory, Octets};
@@ -75,6 +75,20 @@ pub fn put_pdu(
             Word::Number(u64::from(subevent)),
             Word::Octets(octets),
         ],
+    )
+}
+
+/// Puts the line of a unit that a framed stream left out, with its time in µs.
+///
+/// After Memory a front of the line stands at the end of the text.
+pub fn put_stale(text: &mut Octets, bis: u8, time: u64) -> Result<(), Memory>
+    ensures ok { OnOk result (text.new ≡ text.old ++ stale_line bis time) }
+    ensures err { OnErr result (AFront text.old text.new (stale_line bis time)) }
+{
+    put_line(
+        text,
+        b"stale",
+        &[Word::Number(u64::from(bis)), Word::Number(time)],
     )
 }
 

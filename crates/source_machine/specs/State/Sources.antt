@@ -1,24 +1,30 @@
 -- A source between its start and its stop, and the calls that it stands for (Core 5.2, volume 6 part B, section 4.4.6,
 -- and part G, section 2).
-use Rattle.std.specs.Prelude.{ℕ, ◌+◌, ◌-◌, ◌≡◌, Bool, true, false, List, [], length, drop, map, min, Option, Some, None}
+use Rattle.std.specs.Prelude.{ℕ, ◌+◌, ◌-◌, ◌≡◌, ◌<◌, Bool, true, false, List, [], length, get_or, map, min, Option, Some, None}
 use Rattle.std.specs.List.{range_with_len}
 use Rattle.big_info.specs.declared.info.BigInfo.{BigInfo}
 use Rattle.big_info.specs.Schedule.{horizon_of}
 use Rattle.isoal_base.specs.Air.{Air, Laid, event_at}
-use Rattle.isoal_unframed.specs.Air.{unframed_air}
-use Rattle.isoal_unframed.specs.Calls.{Call as StreamCall, accepted, begun}
-use Rattle.source_machine.specs.Calls.{Setup, Call, next_of, stream_calls}
+use Rattle.isoal_unframed.specs.Calls.{Call as PlainCall}
+use Rattle.isoal_framed.specs.Calls.{Call as TimedCall}
+use Rattle.source_machine.specs.Airs.{air_after}
+use Rattle.source_machine.specs.Calls.{Setup, Call, framed_calls, next_of, stream_calls}
+use Rattle.source_machine.specs.Setups.{Configured}
+use Rattle.source_machine.specs.State.Senders.{SenderStands, info_of}
+use Rattle.source_machine.specs.declared.sender.Sender.{Sender}
 use Rattle.source_machine.specs.declared.setup.Identity.{Identity}
 use Rattle.source_machine.specs.declared.setup.Plan.{Plan}
-use Rattle.source_machine.specs.declared.setup.Setup.{Setup as Configured}
 use Rattle.source_machine.specs.declared.fault.EventFault.{EventFault}
 use Rattle.source_machine.specs.declared.fault.EventFault.TheVariants.{CounterEnds, Memory}
 
--- a stream of a group: the units that wait for a slot, and the PDUs of the events that were laid last, the oldest first
+-- a stream of a group: its index, its sender, and the PDUs of the events that were laid last, the oldest first
 pub record Stream : Type 0 where
-  pub info : BigInfo
-  pub waiting : List (List ℕ)
+  pub bis : ℕ
+  pub sender : Sender
   pub laid : List (List (List ℕ))
+
+abbrev pub info_in : Stream → BigInfo
+info_in stream = info_of stream.sender
 
 -- who the source is, its setup, the next event, the streams by rising index, and whether an event wanted memory
 pub record Source : Type 0 where
@@ -35,10 +41,17 @@ configured_in source = record {
   info = source.setup.info;
   origin = source.setup.origin;
   delay = source.setup.delay;
+  ahead = source.setup.ahead;
 }
 
 abbrev pub setup_in : Plan → Configured
-setup_in plan = record { identity = plan.identity; info = plan.group.info; origin = plan.origin; delay = plan.delay }
+setup_in plan = record {
+  identity = plan.identity;
+  info = plan.group.info;
+  origin = plan.origin;
+  delay = plan.delay;
+  ahead = plan.ahead;
+}
 
 -- the PDUs of an event of an air
 abbrev pub pdus_in : Option Laid → List (List ℕ)
@@ -56,21 +69,26 @@ last_laid count air = map (pdus_at air) (range_with_len (length air - count) (mi
 abbrev pub kept_of : BigInfo → ℕ
 kept_of info = horizon_of info + 1
 
--- a stream after these calls
-abbrev pub stream_after : BigInfo → List StreamCall → Stream
-stream_after info calls = record {
-  info = info;
-  waiting = drop (begun info calls) (accepted calls);
-  laid = last_laid (kept_of info) (unframed_air info calls);
-}
+-- the stream of this index is as these calls of its sender leave it
+pub record StreamStands (info : BigInfo) (bis : ℕ) (plain : List PlainCall) (timed : List TimedCall) (stream : Stream) : Type 0 where
+  pub bis_is : stream.bis ≡ bis
+  pub sender : SenderStands info plain timed stream.sender
+  pub laid : stream.laid ≡ last_laid (kept_of info) (air_after info plain timed)
 
-abbrev pub stream_of : Setup → List Call → ℕ → Stream
-stream_of setup calls bis = stream_after setup.info (stream_calls setup.info bis calls)
+-- the stream of this index is as these calls of the source leave it
+abbrev pub StreamIs : Setup → List Call → ℕ → Stream → Type 0
+StreamIs setup calls bis stream =
+    StreamStands setup.info bis (stream_calls setup.info bis calls) (framed_calls setup bis calls) stream
+
+-- each of the streams, the first of which has index 1, is as these calls leave it
+abbrev pub StreamsAre : Setup → List Call → List Stream → Type 0
+StreamsAre setup calls streams =
+    (k : ℕ) (none : Stream) → k < length streams → StreamIs setup calls (k + 1) (get_or streams k none)
 
 -- the source is as these calls leave it
 pub record StandsFor (calls : List Call) (source : Source) : Type 0 where
   pub next : source.next ≡ next_of source.setup calls
-  pub streams : source.streams ≡ map (stream_of source.setup calls) (range_with_len 1 source.setup.info.num_bis)
+  pub streams : StreamsAre source.setup calls source.streams
   pub works : source.failed ≡ false
 
 -- the source has failed; nothing else changed but its streams

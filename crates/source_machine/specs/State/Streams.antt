@@ -1,14 +1,22 @@
 -- What is true of every source and of each of its streams, and what laying events does to a stream.
-use Rattle.std.specs.Prelude.{ℕ, ◌+◌, ◌-◌, ◌*◌, ◌/◌, ◌%◌, ◌^◌, ◌≡◌, ◌≤◌, ◌<◌, min, List, ◌∷◌, length, All, Option, None, slice_get, option_and_then}
+use Rattle.std.specs.Prelude.{ℕ, ◌+◌, ◌-◌, ◌*◌, ◌/◌, ◌%◌, ◌^◌, ◌≡◌, ◌≤◌, ◌<◌, min, List, ◌∷◌, ◌++◌, length, All, if◌then◌else◌, Option, None, Some, unwrap_or, slice_get, option_and_then}
+use Rattle.std.specs.List.{flat_map, range_with_len}
 use Rattle.big_info.specs.declared.info.BigInfo.{BigInfo}
 use Rattle.big_info.specs.Schedule.{horizon_of}
+use Rattle.big_info.specs.Time.{iso_us_of}
+use Rattle.sync_reference.specs.Reference.{anchor_of}
 use Rattle.isoal_base.specs.Air.{Air}
-use Rattle.isoal_unframed.specs.Calls.{Call, accept, lays}
-use Rattle.isoal_unframed.specs.State.Sender.{Sender}
+use Rattle.isoal_base.specs.declared.laid.EventLaid.{EventLaid}
+use Rattle.isoal_unframed.specs.Calls.{Call as PlainCall, accept, lay, lays}
+use Rattle.isoal_framed.specs.Calls.{Call as TimedCall, accept as accept_timed, lay as lay_at}
 use Rattle.radio_schedule.specs.PayloadNumber.{payload_number}
-use Rattle.source_machine.specs.Airs.{AreAirs, Sends}
-use Rattle.source_machine.specs.Calls.{Setup, Call as SourceCall, event}
-use Rattle.source_machine.specs.State.Sources.{Source, StandsFor, Stream, kept_of, stream_after}
+use Rattle.source_machine.specs.Airs.{AreAirs, Sends, air_after, stale_in, stale_of, stale_on}
+use Rattle.source_machine.specs.Calls.{Setup, Call as SourceCall, event, framed_calls, framed_lays, stream_calls}
+use Rattle.source_machine.specs.Setups.{IsChecked}
+use Rattle.source_machine.specs.State.Senders.{HasTime, waiting_in}
+use Rattle.source_machine.specs.State.Sources.{Source, StandsFor, Stream, StreamStands, StreamsAre, info_in, kept_of}
+use Rattle.source_machine.specs.declared.laying.Laying.{Laying}
+use Rattle.source_machine.specs.declared.sent.Stale.{Stale}
 
 -- what a stream keeps: whole events, at most as many as there is room for
 pub record Keeps (info : BigInfo) (capacity : ℕ) (laid : List (List (List ℕ))) : Type 0 where
@@ -18,16 +26,15 @@ pub record Keeps (info : BigInfo) (capacity : ℕ) (laid : List (List (List ℕ)
 
 -- the stream is of the group, and keeps the event that was performed last and the H events behind it
 pub record IsReady (setup : Setup) (next : ℕ) (stream : Stream) : Type 0 where
-  pub info : stream.info ≡ setup.info
+  pub info : info_in stream ≡ setup.info
   pub kept : setup.first < next → horizon_of setup.info < length stream.laid
 
 -- the stream is of the group, and keeps an event with the H events behind it
 pub record IsLaid (info : BigInfo) (stream : Stream) : Type 0 where
-  pub group : stream.info ≡ info
+  pub group : info_in stream ≡ info
   pub kept : horizon_of info < length stream.laid
 
 pub record IsSource (source : Source) : Type 0 where
-  pub unframed : source.setup.info.framing ≡ 0
   pub origin : source.setup.origin ≤ 2 ^ 48
   pub delay : source.setup.delay < 2 ^ 24
   pub first : source.setup.first ≤ source.next
@@ -35,48 +42,87 @@ pub record IsSource (source : Source) : Type 0 where
   pub streams : length source.streams ≡ source.setup.info.num_bis
   pub ready : All (IsReady source.setup source.next) source.streams
 
--- the sender of a stream
-abbrev pub sender_of : Stream → Sender
-sender_of stream = record { info = stream.info; waiting = stream.waiting }
+-- what the time of a unit may not pass: the next anchor, or nothing where times may be ahead
+abbrev pub limit_of : Source → Option ℕ
+limit_of source =
+    if source.setup.ahead then None
+    else Some (anchor_of source.setup.origin source.setup.first source.next (iso_us_of source.setup.info))
+
+-- these events are laid with the next one: the H events behind the first one with it, one with each later one
+pub record LaysNext (source : Source) (laying : Laying) : Type 0 where
+  pub iso_us : laying.iso_us ≡ iso_us_of source.setup.info
+  pub first : source.next ≡ source.setup.first → (laying.count ≡ horizon_of source.setup.info + 1) × (laying.anchor ≡ source.setup.origin)
+  pub later : source.setup.first < source.next
+      → (laying.count ≡ 1) × (laying.anchor ≡ source.setup.origin + (source.next - source.setup.first + horizon_of source.setup.info) * iso_us_of source.setup.info)
 
 -- the PDU that a subevent carries in an event, where this event is the oldest that is kept, and the H events behind it are
 -- laid
 abbrev pub sent_of : Stream → ℕ → Option (List ℕ)
 sent_of stream subevent =
-    option_and_then (λ pdus. slice_get pdus (payload_number stream.info 0 subevent % stream.info.bn))
-    (slice_get stream.laid (length stream.laid + payload_number stream.info 0 subevent / stream.info.bn - kept_of stream.info))
+    option_and_then (λ pdus. slice_get pdus (payload_number (info_in stream) 0 subevent % (info_in stream).bn))
+    (slice_get stream.laid (length stream.laid + payload_number (info_in stream) 0 subevent / (info_in stream).bn - kept_of (info_in stream)))
 
 -- the PDU at a place of the list of an event
 abbrev pub sent_at : BigInfo → List Stream → ℕ → Option (List ℕ)
 sent_at info streams place = option_and_then (λ stream. sent_of stream (place % info.nse)) (slice_get streams (place / info.nse))
 
--- a unit that a stream of an unframed group takes where there is room for it
-pub record IsFit (setup : Setup) (bis : ℕ) (time : Option ℕ) (octets : List ℕ) : Type 0 where
+-- a unit that the group has a stream for, and room in a slot or in segments
+pub record IsFit (setup : Setup) (bis : ℕ) (octets : List ℕ) : Type 0 where
   pub has_stream : bis ≤ setup.info.num_bis
   pub short : length octets ≤ setup.info.max_sdu
-  pub untimed : time ≡ None
 
 -- no event is lost
 pub record Grows (old new : Stream) : Type 0 where
-  pub info : new.info ≡ old.info
+  pub info : info_in new ≡ info_in old
   pub laid : length old.laid ≤ length new.laid
 
--- so many events were laid
-pub record Lays (count : ℕ) (old new : Stream) : Type 0 where
+-- an event with this anchor was laid, and these units were told that it left out
+pub record LaysOne (anchor : ℕ) (old new : Stream) (told now_told : List Stale) : Type 0 where
   pub grows : Grows old new
-  pub laid : min (kept_of old.info) (length old.laid + count) ≤ length new.laid
-  pub stands : (info : BigInfo) (calls : List Call) → old ≡ stream_after info calls → new ≡ stream_after info (lays count calls)
+  pub laid : min (kept_of (info_in old)) (length old.laid + 1) ≤ length new.laid
+  pub stands : (info : BigInfo) (bis : ℕ) (plain : List PlainCall) (timed : List TimedCall) → IsChecked info → StreamStands info bis plain timed old
+      → StreamStands info bis (lay ∷ plain) (lay_at anchor ∷ timed) new
+      × (now_told ≡ told ++ stale_on bis (stale_in 1 (air_after info (lay ∷ plain) (lay_at anchor ∷ timed))))
+
+-- so many events were laid, the first with this anchor
+pub record Lays (anchor iso_us count : ℕ) (old new : Stream) : Type 0 where
+  pub grows : Grows old new
+  pub laid : min (kept_of (info_in old)) (length old.laid + count) ≤ length new.laid
+  pub stands : (info : BigInfo) (bis : ℕ) (plain : List PlainCall) (timed : List TimedCall) → IsChecked info → StreamStands info bis plain timed old
+      → StreamStands info bis (lays count plain) (framed_lays anchor iso_us count timed) new
+
+-- and these units were told that they left out
+abbrev pub Tells : (anchor iso_us count : ℕ) → Stream → (told now_told : List Stale) → Type 0
+Tells anchor iso_us count old told now_told =
+    (info : BigInfo) (bis : ℕ) (plain : List PlainCall) (timed : List TimedCall) → IsChecked info → StreamStands info bis plain timed old
+    → now_told ≡ told ++ stale_on bis (stale_in count (air_after info (lays count plain) (framed_lays anchor iso_us count timed)))
+
+-- what a stream tells of these events after these calls of the source
+abbrev pub told_by : Setup → List SourceCall → (anchor iso_us count bis : ℕ) → List Stale
+told_by setup calls anchor iso_us count bis =
+    stale_on bis
+    (stale_in count
+    (air_after setup.info (lays count (stream_calls setup.info bis calls)) (framed_lays anchor iso_us count (framed_calls setup bis calls))))
+
+-- what the first streams tell, by rising index
+abbrev pub AllTell : (anchor iso_us count : ℕ) → List Stream → ℕ → (told now_told : List Stale) → Type 0
+AllTell anchor iso_us count streams n told now_told =
+    (setup : Setup) (calls : List SourceCall) → IsChecked setup.info → StreamsAre setup calls streams
+    → now_told ≡ told ++ flat_map (told_by setup calls anchor iso_us count) (range_with_len 1 n)
 
 -- a unit was accepted
-pub record Accepts (octets : List ℕ) (old new : Stream) : Type 0 where
-  pub room : length old.waiting < 16
+pub record Accepts (time limit : Option ℕ) (octets : List ℕ) (old new : Stream) : Type 0 where
+  pub order : HasTime old.sender time limit
+  pub room : waiting_in old.sender < 16
   pub grows : Grows old new
-  pub stands : (info : BigInfo) (calls : List Call) → old ≡ stream_after info calls → new ≡ stream_after info (accept octets ∷ calls)
+  pub stands : (info : BigInfo) (bis : ℕ) (plain : List PlainCall) (timed : List TimedCall) → StreamStands info bis plain timed old
+      → StreamStands info bis (accept octets ∷ plain) (accept_timed (unwrap_or time 0) octets ∷ timed) new
 
--- the next event was performed and sends these PDUs, whatever calls came before it
-pub record Performs (old new : Source) (pdus : List (List ℕ)) : Type 0 where
+-- the next event was performed, sends these PDUs and tells these units, whatever calls came before it
+pub record Performs (old new : Source) (pdus : List (List ℕ)) (stale : List Stale) : Type 0 where
   pub next : new.next ≡ old.next + 1
   pub failed : new.failed ≡ old.failed
   pub count : length pdus ≡ old.setup.info.num_bis * old.setup.info.nse
   pub stands : (calls : List SourceCall) → StandsFor calls old → StandsFor (event ∷ calls) new
   pub sent : (calls : List SourceCall) (airs : List Air) → StandsFor calls old → AreAirs old.setup (event ∷ calls) airs → Sends old.setup airs old.next pdus
+  pub told : (calls : List SourceCall) (airs : List Air) → StandsFor calls old → AreAirs old.setup (event ∷ calls) airs → stale ≡ stale_of old.setup calls airs
