@@ -1,6 +1,6 @@
-mod Ciphers
 mod Advances
 mod AirLaws
+mod Ciphers
 mod Histories
 mod LaidEvents
 mod Lists
