@@ -1,5 +1,6 @@
 mod Advances
 mod AirLaws
+mod Ciphers
 mod Histories
 mod LaidEvents
 mod Lists

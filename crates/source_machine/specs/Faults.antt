@@ -10,18 +10,20 @@ use Rattle.isoal_base.specs.Air.{Air}
 use Rattle.source_machine.specs.Calls.{Setup, Call, events, last_time_of, next_anchor_of, next_of}
 use Rattle.source_machine.specs.Airs.{waiting_of}
 use Rattle.big_info.specs.declared.info.BigInfo.{BigInfo}
-use Rattle.big_info.specs.Rows.{first_fault}
+use Rattle.source_machine.specs.Ciphers.{IsBadFor}
 use Rattle.source_machine.specs.declared.fault.ConfigureFault.{ConfigureFault}
 use Rattle.source_machine.specs.declared.fault.ConfigureFault.TheVariants as configure_faults
 use Rattle.source_machine.specs.declared.fault.GiveFault.{GiveFault}
 use Rattle.source_machine.specs.declared.fault.GiveFault.TheVariants as give_faults
+use Rattle.source_machine.specs.declared.fault.AnnounceFault.{AnnounceFault}
+use Rattle.source_machine.specs.declared.fault.AnnounceFault.TheVariants as announce_faults
 use Rattle.source_machine.specs.declared.fault.EventFault.{EventFault}
 use Rattle.source_machine.specs.declared.fault.EventFault.TheVariants as event_faults
 
 -- why a source takes no group, where a payload may be sent so many events ahead: the first row of the group check that
--- holds; nothing is said of want of memory
+-- holds, where that is not the row of a cipher; nothing is said of want of memory
 abbrev pub ConfigureFails : ℕ → BigInfo → ConfigureFault → Type 0
-ConfigureFails horizon info (configure_faults.BadGroup fault) = first_fault horizon info ≡ Some fault
+ConfigureFails horizon info (configure_faults.BadGroup fault) = IsBadFor horizon info fault
 ConfigureFails horizon info configure_faults.Memory = Unit {0}
 
 -- a time is above the last one, where there is one
@@ -54,6 +56,10 @@ abbrev pub event_fault : Setup → List Call → Option EventFault
 event_fault setup calls =
     if nat_lt (2 ^ 39) ((next_of setup calls + horizon_of setup.info + 1) * setup.info.bn) then Some event_faults.CounterEnds else None
 
+-- why the next event isn't announced: its payload count would be 2^39 or more
+abbrev pub announce_fault : Setup → List Call → Option AnnounceFault
+announce_fault setup calls = if nat_le (2 ^ 39) (next_of setup calls * setup.info.bn) then Some announce_faults.CounterEnds else None
+
 -- why nothing is heard at a place: the group has no such stream, no such subevent, or fewer than back + 1 events were
 -- performed
 abbrev pub air_fault : Setup → List Call → ℕ → ℕ → ℕ → Option AirFault
@@ -73,6 +79,10 @@ refused_unit give_faults.Memory = None
 abbrev pub refused_event : EventFault → Option EventFault
 refused_event event_faults.CounterEnds = Some event_faults.CounterEnds
 refused_event event_faults.Memory = None
+
+abbrev pub refused_train : AnnounceFault → Option AnnounceFault
+refused_train announce_faults.CounterEnds = Some announce_faults.CounterEnds
+refused_train announce_faults.Memory = None
 
 -- what a sender's refusal is called here
 abbrev pub of_sender : PutFault → GiveFault

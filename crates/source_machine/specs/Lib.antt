@@ -1,5 +1,6 @@
 pub mod Airs
 pub mod Calls
+pub mod Ciphers
 pub mod Faults
 pub mod Setups
 pub mod State

@@ -1,29 +1,39 @@
 -- What a source is configured with, and what fixes it once it was started.
-use Rattle.std.specs.Prelude.{ℕ, ◌≤◌, Bool}
+use Rattle.std.specs.Prelude.{ℕ, ◌≤◌, Bool, Option}
+use Rattle.base_grammar.specs.Layout.{Endpoint}
 use Rattle.big_info.specs.Bounds.{Bounds}
 use Rattle.big_info.specs.declared.info.BigInfo.{BigInfo}
+use Rattle.big_info.specs.declared.info.Cipher.{Cipher}
 use Rattle.source_machine.specs.Calls.{Setup}
+use Rattle.source_machine.specs.Ciphers.{without_cipher}
 use Rattle.source_machine.specs.declared.setup.Identity.{Identity}
 use Rattle.source_machine.specs.declared.setup.Setup.{Setup as Given}
 
--- what a source that has a group keeps: who it is, its group, the anchor of its first event and the presentation delay in
--- µs, and whether the time of a framed unit may be past the next anchor
+-- what a source that has a group keeps: who it is, its group without its cipher, the cipher, its BASE, the anchor of its
+-- first event in µs, and whether the time of a framed unit may be past the next anchor
 pub record Configured : Type 0 where
   pub identity : Identity
   pub info : BigInfo
+  pub cipher : Option Cipher
+  pub base : Endpoint
   pub origin : ℕ
-  pub delay : ℕ
   pub ahead : Bool
 
 -- a source that was given this setup
 abbrev pub configured : Given → Bool → Configured
-configured setup ahead =
-    record { identity = setup.identity; info = setup.info; origin = setup.origin; delay = setup.delay; ahead = ahead }
+configured setup ahead = record {
+  identity = setup.identity;
+  info = without_cipher setup.info;
+  cipher = setup.info.cipher;
+  base = setup.base;
+  origin = setup.origin;
+  ahead = ahead;
+}
 
 -- a configured source whose first event this is
 abbrev pub started : Configured → ℕ → Setup
 started source first =
-    record { info = source.info; origin = source.origin; delay = source.delay; first = first; ahead = source.ahead }
+    record { info = source.info; origin = source.origin; delay = source.base.delay; first = first; ahead = source.ahead }
 
 -- what every group that passed the group check keeps to
 pub record IsChecked (info : BigInfo) : Type 0 where

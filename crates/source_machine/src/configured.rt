@@ -1,16 +1,17 @@
-ghost use Rattle.std.specs.Prelude.{◌≡◌, ◌≤◌, ◌<◌, ◌^◌, None, IfOk, IfErr, [], false};
-ghost use Rattle.big_info.specs.Rows.{first_fault};
+ghost use Rattle.std.specs.Prelude.{◌≡◌, ◌≤◌, ◌<◌, ◌^◌, IfOk, IfErr, [], false};
 ghost use Rattle.big_info.specs.Widths.{FitsWidths};
+ghost use Rattle.source_machine.specs.Ciphers.{MayBeSent};
 ghost use Rattle.source_machine.specs.Faults.{ConfigureFails};
 ghost use Rattle.source_machine.specs.Setups.{configured as as_configured, started};
 ghost use Rattle.source_machine.specs.State.Sources.{StandsFor};
 
+use crate::checking::check_numbers;
 use crate::fault::ConfigureFault;
 use crate::setup::{Plan, Setup};
 use crate::stream::new_streams;
 use crate::streaming::SourceStreaming;
 use bcast_base::{Kept, Memory};
-use big_info::{Limits, check_group_within};
+use big_info::Limits;
 use std::alloc::Global;
 use std::marker::Model;
 
@@ -28,16 +29,16 @@ impl SourceIdle {
 
     /// Gives the source its group, by the limits of version 1.
     ///
-    /// BadGroup comes exactly where a row of the group check (Core 5.2, volume 6 part B, section 4.4.6) holds, with the
-    /// first that does.
+    /// BadGroup comes exactly where a row of the group check (Core 5.2, volume 6 part B, section 4.4.6) but Encrypted
+    /// holds, with the first that does. The anchor of the first event is 3,000 µs at least.
     pub fn configure(
         self,
         setup: Setup,
     ) -> Result<SourceConfigured, Kept<SourceIdle, ConfigureFault>>
         requires widths { FitsWidths setup.info }
-        requires origin { setup.origin ≤ 2 ^ 48 }
-        requires delay { setup.delay < 2 ^ 24 }
-        ensures ok { IfOk result (λ configured. (configured ≡ as_configured setup false) × (first_fault 15 setup.info ≡ None)) }
+        requires least { 3000 ≤ setup.origin }
+        requires greatest { setup.origin ≤ 2 ^ 48 }
+        ensures ok { IfOk result (λ configured. (configured ≡ as_configured setup false) × MayBeSent 15 setup.info) }
         ensures err { IfErr result (λ kept. ConfigureFails 15 setup.info kept.fault) }
     {
         self.configure_within(setup, Limits::VERSION_1)
@@ -46,7 +47,7 @@ impl SourceIdle {
     /// Gives the source its group, where a payload may be sent `limits.horizon` events ahead, and the time of a framed unit
     /// may be past the next anchor where the limits say so.
     ///
-    /// BadGroup comes exactly where a row of the group check holds, with the first that does.
+    /// BadGroup comes exactly where a row of the group check but Encrypted holds, with the first that does.
     pub fn configure_within(
         self,
         setup: Setup,
@@ -54,19 +55,21 @@ impl SourceIdle {
     ) -> Result<SourceConfigured, Kept<SourceIdle, ConfigureFault>>
         requires widths { FitsWidths setup.info }
         requires horizon { limits.horizon ≤ 31 }
-        requires origin { setup.origin ≤ 2 ^ 48 }
-        requires delay { setup.delay < 2 ^ 24 }
-        ensures ok { IfOk result (λ configured. (configured ≡ as_configured setup limits.ahead) × (first_fault limits.horizon setup.info ≡ None)) }
+        requires least { 3000 ≤ setup.origin }
+        requires greatest { setup.origin ≤ 2 ^ 48 }
+        ensures ok { IfOk result (λ configured. (configured ≡ as_configured setup limits.ahead) × MayBeSent limits.horizon setup.info) }
         ensures err { IfErr result (λ kept. ConfigureFails limits.horizon setup.info kept.fault) }
     {
-        match check_group_within(&setup.info, limits) {
+        let _delay = setup.base.delay();
+        match check_numbers(&setup.info, limits) {
             Ok(group) => Ok(SourceConfigured {
                 alloc: self.alloc,
                 plan: Plan {
                     identity: setup.identity,
                     group,
+                    cipher: setup.info.cipher,
+                    base: setup.base,
                     origin: setup.origin,
-                    delay: setup.delay,
                     ahead: limits.ahead,
                 },
             }),
@@ -100,6 +103,7 @@ impl SourceConfigured {
     pub fn start(self, first_event: u64) -> Result<SourceStreaming, Kept<SourceConfigured, Memory>>
         requires { first_event < 2 ^ 39 }
         ensures ok { IfOk result (λ source. (source.identity ≡ self.identity) × (source.setup ≡ started self first_event) × StandsFor [] source) }
+        ensures announced { IfOk result (λ source. (source.base ≡ self.base) × (source.cipher ≡ self.cipher)) }
         ensures err { IfErr result (λ kept. kept.state ≡ self) }
     {
         match new_streams(self.alloc, &self.plan.group) {

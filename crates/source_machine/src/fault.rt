@@ -1,4 +1,5 @@
 ghost use Rattle.std.specs.Prelude.{◌≡◌};
+ghost use Rattle.source_machine.specs.declared.fault.AnnounceFault.TheVariants.{Memory as NoMemoryToAnnounce};
 ghost use Rattle.source_machine.specs.declared.fault.EventFault.TheVariants.{Memory as NoMemory};
 ghost use Rattle.source_machine.specs.Faults.{of_sender};
 
@@ -9,7 +10,7 @@ use isoal_base::PutFault;
 /// Why a source took no group.
 #[derive(Clone, Copy, Debug, PartialEq, Eq)]
 pub enum ConfigureFault {
-    /// The first row of the group check that holds.
+    /// The first row of the group check that holds, where that is not Encrypted.
     BadGroup(GroupFault),
     /// Memory ran out.
     Memory,
@@ -40,6 +41,15 @@ pub enum EventFault {
     Memory,
 }
 
+/// Why the next event was not announced.
+#[derive(Clone, Copy, Debug, PartialEq, Eq)]
+pub enum AnnounceFault {
+    /// The payload count of the event, which is its number × BN, would be 2^39 or more.
+    CounterEnds,
+    /// Memory ran out.
+    Memory,
+}
+
 impl From<PutFault> for GiveFault {
     ghost from_gives = { λ put fault. fault ≡ of_sender put };
 
@@ -50,6 +60,14 @@ impl From<PutFault> for GiveFault {
             PutFault::Backlog => GiveFault::Backlog,
             PutFault::Memory => GiveFault::Memory,
         }
+    }
+}
+
+impl From<Memory> for AnnounceFault {
+    ghost from_gives = { λ _ fault. fault ≡ NoMemoryToAnnounce };
+
+    fn from(_memory: Memory) -> AnnounceFault {
+        AnnounceFault::Memory
     }
 }
 

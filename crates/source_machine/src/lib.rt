@@ -1,6 +1,7 @@
 //! The source of a broadcast isochronous group: what it takes, and what each of its events sends.
 #![tactic(auto)]
 
+mod checking;
 mod configured;
 mod fault;
 mod laws;
@@ -12,7 +13,8 @@ mod stream;
 mod streaming;
 
 pub use configured::{SourceConfigured, SourceIdle};
-pub use fault::{ConfigureFault, EventFault, GiveFault};
+pub use announcement_train::Train;
+pub use fault::{AnnounceFault, ConfigureFault, EventFault, GiveFault};
 pub use laws::{air_is_by_division, one_air, units_keep_their_order, what_was_sent_stays};
 pub use sent::{Sent, Stale, StaleList};
 pub use setup::{Identity, Setup};

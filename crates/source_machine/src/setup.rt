@@ -1,6 +1,7 @@
 ghost use Rattle.std.specs.Prelude.{◌≡◌, ◌≤◌, ◌<◌, ◌^◌};
 
-use big_info::{BigInfo, Group};
+use base_grammar::Base;
+use big_info::{BigInfo, Cipher, Group};
 
 /// Who a source is to its receivers (Basic Audio Profile 1.0, section 3.7.2, and Core 5.2, volume 6 part B).
 #[derive(Clone, Copy, Debug, PartialEq, Eq)]
@@ -14,26 +15,29 @@ pub struct Identity {
 }
 
 /// What a source is configured with.
-#[derive(Clone, Copy)]
+#[derive(Drop)]
 pub struct Setup {
     pub identity: Identity,
-    /// The numbers of the group.
+    /// The numbers of the group, and its cipher where it is encrypted.
     pub info: BigInfo,
+    /// The BASE, with the presentation delay.
+    pub base: Base,
     /// The anchor of the first event, in µs.
     pub origin: u64,
-    /// The presentation delay in µs.
-    pub delay: u32,
 }
 
 /// A setup whose group was checked.
-#[derive(Clone, Copy)]
+#[derive(Drop)]
 pub(crate) struct Plan {
     pub(crate) identity: Identity,
+    /// The group without its cipher.
     pub(crate) group: Group,
+    pub(crate) cipher: Option<Cipher>,
+    pub(crate) base: Base,
     pub(crate) origin: u64,
-    pub(crate) delay: u32,
     /// Whether the time of a framed unit may be past the next anchor.
     pub(crate) ahead: bool,
-    ghost origin_is: { origin ≤ 2 ^ 48 },
-    ghost delay_is: { delay < 2 ^ 24 },
+    ghost least: { 3000 ≤ origin },
+    ghost greatest: { origin ≤ 2 ^ 48 },
+    ghost delay_is: { base.delay < 2 ^ 24 },
 }

@@ -1,25 +1,34 @@
-ghost use Rattle.std.specs.Prelude.{◌≡◌, ◌≤◌, ◌<◌, ◌+◌, ◌-◌, ◌*◌, ◌^◌, ◌∷◌, ◌↔◌, ℕ, List, length, Option, Some, None, true, false, IfOk, IfErr, IsTrue, OnOk, OnErr};
+ghost use Rattle.std.specs.Prelude.{◌≡◌, ◌≤◌, ◌<◌, ◌+◌, ◌-◌, ◌*◌, ◌%◌, ◌^◌, ◌∷◌, ◌↔◌, ℕ, List, length, Option, Some, None, is_some, true, false, IfOk, IfErr, IsTrue, OnOk, OnErr};
+ghost use Rattle.announcement_train.specs.Layout.{IsTrain};
+ghost use Rattle.announcement_train.specs.Told.{Tells};
 ghost use Rattle.big_info.specs.Schedule.{horizon_of};
 ghost use Rattle.big_info.specs.Time.{iso_us_of};
+ghost use Rattle.big_info.specs.Widths.{FitsWidths};
+ghost use Rattle.iso_pdu.specs.Control.{terminate};
+ghost use Rattle.iso_pdu.specs.Layout.{control};
+ghost use Rattle.iso_pdu.specs.Spelling.{pdu};
 ghost use Rattle.sync_reference.specs.Reference.{anchor_of};
 ghost use Rattle.isoal_base.specs.Air.{Air};
 ghost use Rattle.source_machine.specs.Airs.{AreAirs, Sends, stale_of};
 ghost use Rattle.source_machine.specs.Calls.{Call, give as gives, event as performs, next_anchor_of, next_of};
-ghost use Rattle.source_machine.specs.Faults.{event_fault, give_fault, refused_event, refused_unit};
+ghost use Rattle.source_machine.specs.Faults.{announce_fault, event_fault, give_fault, refused_event, refused_train, refused_unit};
 ghost use Rattle.source_machine.specs.Setups.{IsChecked};
-ghost use Rattle.source_machine.specs.State.Sources.{AfterFault, StandsFor, configured_in};
+ghost use Rattle.source_machine.specs.State.Sources.{AfterFault, StandsFor, anchor_in, configured_in, group_in};
 ghost use Rattle.source_machine.specs.State.Streams.{IsFit, LaysNext, Performs, limit_of};
+ghost use Rattle.source_machine.specs.declared.fault.AnnounceFault.TheVariants.{Memory as AnnounceMemory};
 ghost use Rattle.source_machine.specs.declared.fault.EventFault.TheVariants.{Memory as EventMemory};
 ghost use Rattle.source_machine.specs.declared.fault.GiveFault.TheVariants.{Memory as GiveMemory};
 
 use crate::configured::SourceConfigured;
-use crate::fault::{EventFault, GiveFault};
+use crate::fault::{AnnounceFault, EventFault, GiveFault};
 use crate::laying::Laying;
 use crate::sent::{Sent, StaleList};
 use crate::setup::{Identity, Plan};
 use crate::stream::{Stream, lay_all, sent_pdus};
+use announcement_train::{Train, an_announcement_is_read};
 use bcast_base::{Bis, Memory};
-use big_info::Group;
+use big_info::{BigInfo, Group};
+use iso_pdu::write_terminate;
 use std::alloc::Global;
 use std::marker::Model;
 use sync_reference::anchor;
@@ -49,7 +58,9 @@ impl Model for SourceStreaming {
 
     ghost view = { λ s. record {
       identity = s.plan.identity;
-      setup = record { info = s.plan.group.info; origin = s.plan.origin; delay = s.plan.delay; first = s.first; ahead = s.plan.ahead };
+      base = s.plan.base;
+      cipher = s.plan.cipher;
+      setup = record { info = s.plan.group.info; origin = s.plan.origin; delay = s.plan.base.delay; first = s.first; ahead = s.plan.ahead };
       next = s.next;
       streams = s.streams.items;
       failed = s.has_failed;
@@ -57,7 +68,9 @@ impl Model for SourceStreaming {
 
     ghost invariant = { λ s. IsSource (record {
       identity = s.plan.identity;
-      setup = record { info = s.plan.group.info; origin = s.plan.origin; delay = s.plan.delay; first = s.first; ahead = s.plan.ahead };
+      base = s.plan.base;
+      cipher = s.plan.cipher;
+      setup = record { info = s.plan.group.info; origin = s.plan.origin; delay = s.plan.base.delay; first = s.first; ahead = s.plan.ahead };
       next = s.next;
       streams = s.streams.items;
       failed = s.has_failed;
@@ -71,9 +84,12 @@ impl SourceStreaming {
     /// The first refusal that holds is answered: NoSuchBis where the group has no such stream, UnitTooLong above Max_SDU
     /// octets, TimeOrder where a time is given in an unframed group, or in a framed one where none is given, it isn't above
     /// that of the last unit of the stream, or it is past the next anchor without limits that let times be ahead, Backlog
-    /// where 16 units of the stream wait. A refused unit changes nothing. A source that has failed answers Memory.
+    /// where 16 units of the stream wait. A refused unit changes nothing. A source that has failed answers Memory. A source
+    /// of an encrypted group takes no unit.
     pub fn give(&mut self, bis: Bis, time: Option<u64>, octets: &[u8]) -> Result<(), GiveFault>
+        requires { self.old.cipher ≡ None }
         ensures identity { self.new.identity ≡ self.old.identity }
+        ensures announced { (self.new.base ≡ self.old.base) × (self.new.cipher ≡ self.old.cipher) }
         ensures setup { self.new.setup ≡ self.old.setup }
         ensures next { self.new.next ≡ self.old.next }
         ensures ok { OnOk result ((calls : List Call) → StandsFor calls self.old → StandsFor (gives bis time octets.now ∷ calls) self.new) }
@@ -99,9 +115,12 @@ impl SourceStreaming {
     /// sends, and the units that were left out of the events that were laid: by rising index and in order.
     ///
     /// CounterEnds comes exactly where the payload numbers of these events would pass 2^39, and changes nothing. After
-    /// want of memory the source has failed, and the next event is as before. A source that has failed answers Memory.
+    /// want of memory the source has failed, and the next event is as before. A source that has failed answers Memory. A
+    /// source of an encrypted group performs none.
     pub fn event(&mut self) -> Result<Sent, EventFault>
+        requires { self.old.cipher ≡ None }
         ensures identity { self.new.identity ≡ self.old.identity }
+        ensures announced { (self.new.base ≡ self.old.base) × (self.new.cipher ≡ self.old.cipher) }
         ensures setup { self.new.setup ≡ self.old.setup }
         ensures ok { OnOk result ((calls : List Call) → StandsFor calls self.old
             → (event_fault self.old.setup calls ≡ None) × StandsFor (performs ∷ calls) self.new) }
@@ -133,6 +152,64 @@ impl SourceStreaming {
         }
     }
 
+    /// Announces the next event: its Broadcast_ID, its BASE, and the BIGInfo of that event, 3,000 µs before its anchor
+    /// (Basic Audio Profile 1.0, section 3.7.2, and Core 5.2, volume 6 part B, section 4.4.6.11).
+    ///
+    /// CounterEnds comes exactly where the payload count of the event, which is its number × BN, is 2^39 or more. A source
+    /// that has failed answers Memory.
+    pub fn announce(&self) -> Result<Train, AnnounceFault>
+        ensures train { IfOk result (λ train. IsTrain self.now.identity.broadcast_id self.now.base (group_in self.now) self.now.next (anchor_in self.now) train) }
+        ensures told { IfOk result (λ train. Tells train self.now.identity.broadcast_id self.now.base (group_in self.now) self.now.next (anchor_in self.now)) }
+        ensures ok { OnOk result ((calls : List Call) → StandsFor calls self.now → announce_fault self.now.setup calls ≡ None) }
+        ensures cause { IfErr result (λ fault. (calls : List Call) → StandsFor calls self.now
+            → announce_fault self.now.setup calls ≡ refused_train fault) }
+        ensures failed { self.now.failed ≡ true → IfErr result (λ fault. fault ≡ AnnounceMemory) }
+    {
+        an_announcement_is_read();
+        if self.has_failed {
+            return Err(AnnounceFault::Memory);
+        }
+        let info = self.group_info();
+        if self.next * u64::from(info.bn) >= COUNTER_END {
+            return Err(AnnounceFault::CounterEnds);
+        }
+        let train = Train::of_event(
+            self.alloc,
+            self.plan.identity.broadcast_id,
+            &self.plan.base,
+            &info,
+            self.next,
+            self.next_anchor(),
+        )?;
+        Ok(train)
+    }
+
+    /// The numbers of the group, and its cipher.
+    fn group_info(&self) -> BigInfo
+        ensures info { result ≡ group_in self.now }
+        ensures widths { FitsWidths result }
+        ensures some { 1 ≤ result.bn }
+    {
+        BigInfo {
+            cipher: self.plan.cipher,
+            ..self.plan.group.info
+        }
+    }
+
+    /// Whether the group is encrypted. Such a source is announced alone.
+    pub fn is_ciphered(&self) -> bool
+        ensures { result ≡ is_some self.now.cipher }
+    {
+        self.plan.cipher.is_some()
+    }
+
+    /// The PDU that ends the group for this reason at the next event (Core 5.2, volume 6 part B, section 2.6.3).
+    pub fn terminate_pdu(&self, reason: u8) -> [u8; 6]
+        ensures { result ≡ pdu (control (terminate reason (self.now.next % 2 ^ 16))) }
+    {
+        write_terminate(reason, (self.next % (1 << 16)) as u16)
+    }
+
     /// Who the source is.
     pub fn identity(&self) -> Identity
         ensures { result ≡ self.now.identity }
@@ -152,7 +229,7 @@ impl SourceStreaming {
         ensures delay { result ≡ self.now.setup.delay }
         ensures within { result < 2 ^ 24 }
     {
-        self.plan.delay
+        self.plan.base.delay()
     }
 
     /// The next event.
@@ -195,6 +272,7 @@ impl SourceStreaming {
         ensures ok { IfOk result (λ sent. Performs self.old self.new sent.pdus sent.stale) }
         ensures event { IfOk result (λ sent. sent.event ≡ self.old.next) }
         ensures identity { self.new.identity ≡ self.old.identity }
+        ensures announced { (self.new.base ≡ self.old.base) × (self.new.cipher ≡ self.old.cipher) }
         ensures setup { self.new.setup ≡ self.old.setup }
         ensures same { OnErr result (self.new.next ≡ self.old.next) }
     {

@@ -2,13 +2,18 @@
 -- and part G, section 2).
 use Rattle.std.specs.Prelude.{ℕ, ◌+◌, ◌-◌, ◌≡◌, ◌<◌, Bool, true, false, List, [], length, get_or, map, min, Option, Some, None}
 use Rattle.std.specs.List.{range_with_len}
+use Rattle.base_grammar.specs.Layout.{Endpoint}
 use Rattle.big_info.specs.declared.info.BigInfo.{BigInfo}
+use Rattle.big_info.specs.declared.info.Cipher.{Cipher}
 use Rattle.big_info.specs.Schedule.{horizon_of}
+use Rattle.big_info.specs.Time.{iso_us_of}
+use Rattle.sync_reference.specs.Reference.{anchor_of}
 use Rattle.isoal_base.specs.Air.{Air, Laid, event_at}
 use Rattle.isoal_unframed.specs.Calls.{Call as PlainCall}
 use Rattle.isoal_framed.specs.Calls.{Call as TimedCall}
 use Rattle.source_machine.specs.Airs.{air_after}
 use Rattle.source_machine.specs.Calls.{Setup, Call, framed_calls, next_of, stream_calls}
+use Rattle.source_machine.specs.Ciphers.{with_cipher}
 use Rattle.source_machine.specs.Setups.{Configured}
 use Rattle.source_machine.specs.State.Senders.{SenderStands, info_of}
 use Rattle.source_machine.specs.declared.sender.Sender.{Sender}
@@ -26,9 +31,12 @@ pub record Stream : Type 0 where
 abbrev pub info_in : Stream → BigInfo
 info_in stream = info_of stream.sender
 
--- who the source is, its setup, the next event, the streams by rising index, and whether an event wanted memory
+-- who the source is, its BASE and its cipher, its setup, the next event, the streams by rising index, and whether an event
+-- wanted memory
 pub record Source : Type 0 where
   pub identity : Identity
+  pub base : Endpoint
+  pub cipher : Option Cipher
   pub setup : Setup
   pub next : ℕ
   pub streams : List Stream
@@ -39,17 +47,27 @@ abbrev pub configured_in : Source → Configured
 configured_in source = record {
   identity = source.identity;
   info = source.setup.info;
+  cipher = source.cipher;
+  base = source.base;
   origin = source.setup.origin;
-  delay = source.setup.delay;
   ahead = source.setup.ahead;
 }
+
+-- its group, with its cipher
+abbrev pub group_in : Source → BigInfo
+group_in source = with_cipher source.setup.info source.cipher
+
+-- the anchor of the next event, in µs
+abbrev pub anchor_in : Source → ℕ
+anchor_in source = anchor_of source.setup.origin source.setup.first source.next (iso_us_of source.setup.info)
 
 abbrev pub setup_in : Plan → Configured
 setup_in plan = record {
   identity = plan.identity;
   info = plan.group.info;
+  cipher = plan.cipher;
+  base = plan.base;
   origin = plan.origin;
-  delay = plan.delay;
   ahead = plan.ahead;
 }
 
@@ -94,6 +112,8 @@ pub record StandsFor (calls : List Call) (source : Source) : Type 0 where
 -- the source has failed; nothing else changed but its streams
 pub record Fails (old new : Source) : Type 0 where
   pub identity : new.identity ≡ old.identity
+  pub base : new.base ≡ old.base
+  pub cipher : new.cipher ≡ old.cipher
   pub setup : new.setup ≡ old.setup
   pub next : new.next ≡ old.next
   pub failed : new.failed ≡ true
