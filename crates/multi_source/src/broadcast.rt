@@ -1,9 +1,12 @@
-ghost use Rattle.std.specs.Prelude.{◌≡◌, ◌≤◌, ◌<◌, ◌+◌, ◌-◌, ◌^◌, ◌∷◌, [], List, Some, None, true, IfOk, IfErr, IfSome, OnOk, OnErr};
+ghost use Rattle.std.specs.Prelude.{◌≡◌, ◌≤◌, ◌<◌, ◌+◌, ◌-◌, ◌%◌, ◌^◌, ◌∷◌, [], List, Some, None, is_some, IfOk, IfErr, IfSome, OnOk, OnErr};
+ghost use Rattle.iso_pdu.specs.Control.{terminate};
+ghost use Rattle.iso_pdu.specs.Layout.{control};
+ghost use Rattle.iso_pdu.specs.Spelling.{pdu};
 ghost use Rattle.isoal_base.specs.Air.{Air as StreamAir};
-ghost use Rattle.source_machine.specs.Airs.{AreAirs, pdu_of};
+ghost use Rattle.source_machine.specs.Airs.{AreAirs, pdu_of, stale_of};
 ghost use Rattle.source_machine.specs.Calls.{Call, give as gives, event as performs, last_of, next_anchor_of, next_of};
 ghost use Rattle.source_machine.specs.Faults.{air_fault, event_fault, give_fault, refused_event, refused_unit};
-ghost use Rattle.source_machine.specs.Setups.{started};
+ghost use Rattle.source_machine.specs.Setups.{IsChecked, started};
 ghost use Rattle.multi_source.specs.State.Broadcasts.{AfterFault, StandsFor};
 
 use bcast_base::{Bis, Memory};
@@ -42,8 +45,9 @@ impl Broadcast {
         first: u64,
     ) -> Result<Broadcast, Memory>
         requires { first < 2 ^ 39 }
-        ensures { IfOk result (λ broadcast. (broadcast.source.identity ≡ configured.identity)
+        ensures started { IfOk result (λ broadcast. (broadcast.source.identity ≡ configured.identity)
             × (broadcast.source.setup ≡ started configured first) × StandsFor [] broadcast) }
+        ensures announced { IfOk result (λ broadcast. (broadcast.source.base ≡ configured.base) × (broadcast.source.cipher ≡ configured.cipher)) }
     {
         match configured.start(first) {
             Ok(source) => {
@@ -56,7 +60,9 @@ impl Broadcast {
 
     /// Gives a unit to a stream, as `SourceStreaming::give` does.
     pub fn give(&mut self, bis: Bis, time: Option<u64>, octets: &[u8]) -> Result<(), GiveFault>
+        requires { self.old.source.cipher ≡ None }
         ensures identity { self.new.source.identity ≡ self.old.source.identity }
+        ensures announced { (self.new.source.base ≡ self.old.source.base) × (self.new.source.cipher ≡ self.old.source.cipher) }
         ensures setup { self.new.source.setup ≡ self.old.source.setup }
         ensures ok { OnOk result ((calls : List Call) → StandsFor calls self.old → StandsFor (gives bis time octets.now ∷ calls) self.new) }
         ensures accepted { OnOk result ((calls : List Call) (airs : List StreamAir) → StandsFor calls self.old → AreAirs self.old.source.setup calls airs
@@ -64,17 +70,22 @@ impl Broadcast {
         ensures err { OnErr result (self.new ≡ self.old) }
         ensures cause { IfErr result (λ fault. (calls : List Call) (airs : List StreamAir) → StandsFor calls self.old → AreAirs self.old.source.setup calls airs
             → give_fault self.old.source.setup calls airs bis time octets.now ≡ refused_unit fault) }
+        ensures checked { IsChecked self.old.source.setup.info }
     {
         self.source.give(bis, time, octets)
     }
 
     /// Performs the next event, as `SourceStreaming::event` does, and puts it on the air.
     pub fn event(&mut self) -> Result<StaleList, EventFault>
+        requires { self.old.source.cipher ≡ None }
         ensures identity { self.new.source.identity ≡ self.old.source.identity }
+        ensures announced { (self.new.source.base ≡ self.old.source.base) × (self.new.source.cipher ≡ self.old.source.cipher) }
         ensures setup { self.new.source.setup ≡ self.old.source.setup }
         ensures ok { OnOk result ((calls : List Call) → StandsFor calls self.old
             → (event_fault self.old.source.setup calls ≡ None) × StandsFor (performs ∷ calls) self.new) }
-        ensures stale { IfOk result (λ stale. stale ≡ []) }
+        ensures stale { IfOk result (λ stale. (calls : List Call) (airs : List StreamAir) → StandsFor calls self.old → AreAirs self.old.source.setup (performs ∷ calls) airs
+            → stale ≡ stale_of self.old.source.setup calls airs) }
+        ensures checked { IsChecked self.old.source.setup.info }
         ensures cause { IfErr result (λ fault. (calls : List Call) → StandsFor calls self.old
             → event_fault self.old.source.setup calls ≡ refused_event fault) }
         ensures err { IfErr result (λ fault. AfterFault fault self.old self.new) }
@@ -101,6 +112,7 @@ impl Broadcast {
             × (pdu_of self.now.source.setup airs (next_of self.now.source.setup calls - 1 - back) bis subevent ≡ Some pdu.now)) }
         ensures err { IfErr result (λ fault. (calls : List Call) → StandsFor calls self.now
             → air_fault self.now.source.setup calls back bis subevent ≡ Some fault) }
+        ensures checked { IsChecked self.now.source.setup.info }
     {
         self.air.heard_at(back, bis, subevent)
     }
@@ -112,10 +124,23 @@ impl Broadcast {
         self.source.identity()
     }
 
+    /// Whether the group is encrypted. Such a source is announced alone.
+    pub fn is_ciphered(&self) -> bool
+        ensures { result ≡ is_some self.now.source.cipher }
+    {
+        self.source.is_ciphered()
+    }
+
+    /// The PDU that ends the group for this reason at the next event.
+    pub fn terminate_pdu(&self, reason: u8) -> [u8; 6]
+        ensures { result ≡ pdu (control (terminate reason (self.now.source.next % 2 ^ 16))) }
+    {
+        self.source.terminate_pdu(reason)
+    }
+
     /// The group.
     pub fn group(&self) -> &Group
-        ensures info { result.now.info ≡ self.now.source.setup.info }
-        ensures unframed { result.now.info.framing ≡ 0 }
+        ensures { result.now.info ≡ self.now.source.setup.info }
     {
         self.source.group()
     }

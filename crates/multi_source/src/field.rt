@@ -91,9 +91,8 @@ impl Field {
         requires unbegun { begun_of self.old s ≡ None }
         requires widths { FitsWidths setup.info }
         requires horizon { limits.horizon ≤ 31 }
-        requires unframed { setup.info.framing ≡ 0 }
+        requires least { 3000 ≤ setup.origin }
         requires origin { setup.origin ≤ 2 ^ 48 }
-        requires delay { setup.delay < 2 ^ 24 }
         requires first { first < 2 ^ 39 }
         ensures ok { OnOk result (Starts setup first (source_of self.new s) (begun_of self.new s)) }
         ensures checked { OnOk result (first_fault limits.horizon setup.info ≡ None) }
@@ -102,6 +101,7 @@ impl Field {
         ensures err { OnErr result (self.new ≡ self.old) }
         ensures cause { IfErr result (λ fault. StartFails limits.horizon setup (begun_of self.old (1 - s)) fault) }
     {
+        let identity = setup.identity;
         let configured = match SourceIdle::new(self.alloc).configure_within(setup, limits) {
             Ok(configured) => configured,
             Err(kept) => return Err(field_fault(kept.fault)),
@@ -111,7 +111,7 @@ impl Field {
         } else {
             &self.one_begun
         };
-        if is_twin(setup.identity, twin) {
+        if is_twin(identity, twin) {
             return Err(FieldFault::IdentTwice);
         }
         let Ok(source) = configured.start(first) else {
@@ -121,7 +121,7 @@ impl Field {
             return Err(FieldFault::Memory);
         };
         let begun = Begun {
-            identity: setup.identity,
+            identity,
             air,
         };
         self.place(s, source, begun);
