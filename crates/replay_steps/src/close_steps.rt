@@ -2,7 +2,7 @@
 ghost use Rattle.std.specs.Prelude.{◌≡◌, ℕ, List, map};
 ghost use Rattle.unit_outlets.specs.Account.{Account};
 ghost use Rattle.scenario_text.specs.declared.step.Step.{Step};
-ghost use Rattle.scenario_text.specs.declared.step.Step.TheVariants.{Event as EventStep, Stop as StopStep, End as EndStep};
+ghost use Rattle.scenario_text.specs.declared.step.Step.TheVariants.{Event as EventStep, Stop as StopStep, Terminate as TerminateStep, End as EndStep};
 ghost use Rattle.scenario_history.specs.Steps.{running, stage_of};
 ghost use Rattle.replay_steps.specs.Machines.{Stands};
 ghost use Rattle.replay_steps.specs.Meets.{BoxesStand, Meets};
@@ -12,7 +12,7 @@ use crate::machine::Machine;
 use crate::stale::put_stale_units;
 use crate::version::{Stage, Version};
 use bcast_base::Octets;
-use transcript_text::Stop;
+use transcript_text::{Stop, put_control};
 use unit_outlets::Outlet;
 
 impl Machine {
@@ -57,6 +57,34 @@ impl Machine {
         };
         self.sinks
             .close(self.sources.chosen(), closed, outlets, text)
+    }
+
+    /// `terminate`: closes the open event of the chosen source, ends its group for this reason, and prints the PDU that says
+    /// so.
+    pub(crate) fn terminate(
+        &mut self,
+        reason: u8,
+        outlets: &mut Vec<Box<dyn Outlet>>,
+        text: &mut Octets,
+    ) -> Result<(), Stop>
+        ensures { (starts : List Account) (version : ℕ) (steps : List Step) → Stands steps self.old → stage_of steps ≡ running version
+            → Meets starts steps (TerminateStep reason) self.new text.old text.new (map account outlets.old.items) (map account outlets.new.items) result }
+    {
+        let terminated = match self.sources.terminate(reason) {
+            Ok(terminated) => terminated,
+            Err(stop) => return Err(stop),
+        };
+        match self
+            .sinks
+            .close(self.sources.chosen(), terminated.closed, outlets, text)
+        {
+            Ok(()) => {}
+            Err(stop) => return Err(stop),
+        }
+        match put_control(text, &terminated.pdu) {
+            Ok(()) => Ok(()),
+            Err(_) => Err(Stop::Memory),
+        }
     }
 
     /// `end`: closes the open event of each source, that of source 0 first, and prints the sums of the living sinks by rising

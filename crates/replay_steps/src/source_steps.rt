@@ -1,8 +1,10 @@
 //! The steps of the sources alone.
-ghost use Rattle.std.specs.Prelude.{◌≡◌, ◌≤◌, ◌<◌, ◌^◌, ℕ, List};
+ghost use Rattle.std.specs.Prelude.{◌≡◌, ◌≤◌, ◌<◌, ◌^◌, ℕ, List, None};
+ghost use Rattle.ltv_codec.specs.Reading.{bad_of};
 ghost use Rattle.big_info.specs.Widths.{FitsWidths};
 ghost use Rattle.scenario_text.specs.declared.step.Step.{Step};
-ghost use Rattle.scenario_text.specs.declared.step.Step.TheVariants.{Ident as IdentStep, Start as StartStep, Unit as UnitStep, Source as SourceStep};
+ghost use Rattle.scenario_text.specs.declared.step.Step.TheVariants.{Ident as IdentStep, Subgroup as SubgroupStep, Meta as MetaStep, Bis as BisStep, Cipher as CipherStep};
+ghost use Rattle.scenario_text.specs.declared.step.Step.TheVariants.{Announce as AnnounceStep, Start as StartStep, Unit as UnitStep, Source as SourceStep};
 ghost use Rattle.scenario_history.specs.Steps.{running, stage_of};
 ghost use Rattle.scenario_sources.specs.Described.{IsPlain, group_step};
 ghost use Rattle.replay_steps.specs.Machines.{Stands};
@@ -12,15 +14,16 @@ ghost use Rattle.replay_steps.specs.Versions.{number_of};
 use crate::machine::Machine;
 use crate::version::Version;
 use bcast_base::Bis;
-use big_info::BigInfo;
+use big_info::{BigInfo, Cipher};
 use source_machine::Identity;
-use transcript_text::Stop;
+use transcript_text::{Refusal, Stop};
 
 impl Machine {
     /// `group`: describes the chosen source. Origin and delay are in µs.
     pub(crate) fn group(&mut self, info: BigInfo, origin: u64, delay: u32) -> Result<(), Stop>
         requires widths { FitsWidths info }
-        requires origin { origin ≤ 2 ^ 48 }
+        requires least { 3000 ≤ origin }
+        requires greatest { origin ≤ 2 ^ 48 }
         requires delay { delay < 2 ^ 24 }
         ensures { (boxes version : ℕ) (steps : List Step) → IsPlain info → Stands steps self.old → stage_of steps ≡ running version
             → Quiet boxes steps (group_step info origin delay) self.new result }
@@ -34,6 +37,53 @@ impl Machine {
             → Quiet boxes steps (IdentStep identity.address_type identity.address identity.sid identity.broadcast_id) self.new result }
     {
         self.sources.identify(identity)
+    }
+
+    /// `subgroup`: opens a subgroup of the chosen source's BASE.
+    pub(crate) fn subgroup(&mut self, codec: [u8; 5], config: &[u8]) -> Result<(), Stop>
+        requires { bad_of config.now ≡ None }
+        ensures { (boxes version : ℕ) (steps : List Step) → Stands steps self.old → stage_of steps ≡ running version
+            → Quiet boxes steps (SubgroupStep codec config.now) self.new result }
+    {
+        self.sources.open_subgroup(codec, config)
+    }
+
+    /// `meta`: gives the last subgroup its metadata.
+    pub(crate) fn meta(&mut self, metadata: &[u8]) -> Result<(), Stop>
+        requires { bad_of metadata.now ≡ None }
+        ensures { (boxes version : ℕ) (steps : List Step) → Stands steps self.old → stage_of steps ≡ running version
+            → Quiet boxes steps (MetaStep metadata.now) self.new result }
+    {
+        self.sources.give_metadata(metadata)
+    }
+
+    /// `bis`: adds a stream to the last subgroup.
+    pub(crate) fn bis(&mut self, bis: Bis, config: &[u8]) -> Result<(), Stop>
+        requires { bad_of config.now ≡ None }
+        ensures { (boxes version : ℕ) (steps : List Step) → Stands steps self.old → stage_of steps ≡ running version
+            → Quiet boxes steps (BisStep bis config.now) self.new result }
+    {
+        self.sources.add_stream(bis, config)
+    }
+
+    /// `cipher`: encrypts the group of the chosen source.
+    pub(crate) fn cipher(&mut self, cipher: Cipher) -> Result<(), Stop>
+        ensures { (boxes version : ℕ) (steps : List Step) → Stands steps self.old → stage_of steps ≡ running version
+            → Quiet boxes steps (CipherStep cipher.giv cipher.gskd) self.new result }
+    {
+        self.sources.encrypt(cipher)
+    }
+
+    /// `announce`: not built yet, between the start and the end of the chosen source.
+    pub(crate) fn announce(&self) -> Result<(), Stop>
+        ensures { (boxes version sink : ℕ) (steps : List Step) → Stands steps self.now → stage_of steps ≡ running version
+            → Quiet boxes steps (AnnounceStep sink) self.now result }
+    {
+        if self.sources.is_sending() {
+            Err(Stop::Refused(Refusal::NotBuilt))
+        } else {
+            Err(Stop::Refused(Refusal::Order))
+        }
     }
 
     /// `start`: starts the chosen source.

@@ -11,7 +11,7 @@ ghost use Rattle.replay_steps.specs.Versions.{number_of};
 use crate::machine::Machine;
 use crate::version::{Stage, Version};
 use bcast_base::Octets;
-use big_info::BigInfo;
+use big_info::{BigInfo, Cipher};
 use scenario_sources::Place;
 use scenario_text::Step;
 use source_machine::Identity;
@@ -87,6 +87,10 @@ impl Machine {
                 sid,
                 broadcast_id,
             }),
+            Step::Subgroup { codec, config } => self.subgroup(codec, config.as_slice()),
+            Step::Meta { metadata } => self.meta(metadata.as_slice()),
+            Step::Bis { bis, config } => self.bis(bis, config.as_slice()),
+            Step::Cipher { giv, gskd } => self.cipher(Cipher { giv, gskd }),
             Step::Start { first } => self.start(version, first),
             Step::Sink { sink, .. } => self.sink(sink, outlets.len()),
             Step::Tuned { sink, which } => self.tuned(sink, which),
@@ -133,17 +137,14 @@ impl Machine {
                 self.sniff(place, text)
             }
             Step::Drop { sink } => self.drop_sink(sink, outlets, text),
+            Step::Announce { .. } => self.announce(),
             Step::Stop => self.stop(outlets, text),
+            Step::Terminate { reason } => self.terminate(reason, outlets, text),
             Step::End => self.end(version, outlets, text),
             Step::Source { source } => self.choose(source),
-            Step::Subgroup { .. }
-            | Step::Meta { .. }
-            | Step::Bis { .. }
-            | Step::Cipher { .. }
-            | Step::Pac { .. }
+            Step::Pac { .. }
             | Step::Locate { .. }
             | Step::Context { .. }
-            | Step::Announce { .. }
             | Step::Train { .. }
             | Step::Write { .. }
             | Step::Add { .. }
@@ -156,7 +157,6 @@ impl Machine {
             | Step::Drain { .. }
             | Step::Show { .. }
             | Step::Lose { .. }
-            | Step::Terminate { .. }
             | Step::Control { .. }
             | Step::Forge { .. }
             | Step::Assist { .. }

@@ -24,7 +24,7 @@ use Rattle.scenario_text.specs.declared.step.Step.TheVariants.{Scenario, Group, 
 use Rattle.scenario_text.specs.declared.step.Step.TheVariants.{Inject, Sniff, Announce, Drop, Stop, Terminate, End, Source}
 use Rattle.scenario_history.specs.Steps.{Stage, chosen_of, chosen_steps, is_over, is_unbegun_at, other_of, sinks_made, stage_of, steps_of_source, version_of}
 use Rattle.scenario_history.specs.Source.{Airs, Identity, cipher_of, group_of, ident_of, identity_of, is_absent_at, is_ciphered, is_described_at}
-use Rattle.scenario_history.specs.Source.{is_sending, is_started, no_group, performed, phase_of, setup_of, source_calls}
+use Rattle.scenario_history.specs.Source.{is_heard, is_sending, is_started, no_group, performed, phase_of, setup_of, source_calls, takes_units}
 use Rattle.scenario_history.specs.Bases.{has_subgroup, has_bis, is_last_bare, is_base_too_long}
 use Rattle.scenario_history.specs.Boxes.{box_of}
 
@@ -53,16 +53,16 @@ is_out_of_phase own (Meta metadata) = not (is_described_at (phase_of own)) || no
 is_out_of_phase own (Bis bis config) = not (is_described_at (phase_of own)) || not (has_subgroup own)
 is_out_of_phase own (Cipher giv gskd) = not (is_described_at (phase_of own)) || is_ciphered own
 is_out_of_phase own (Start first) = not (is_described_at (phase_of own)) || is_last_bare own
-is_out_of_phase own (Tuned sink which) = not (is_sending own) || is_ciphered own
-is_out_of_phase own (Unit bis time octets) = not (is_sending own) || is_ciphered own
-is_out_of_phase own Event = not (is_sending own) || is_ciphered own
+is_out_of_phase own (Tuned sink which) = not (takes_units own)
+is_out_of_phase own (Unit bis time octets) = not (takes_units own)
+is_out_of_phase own Event = not (takes_units own)
 is_out_of_phase own (Announce sink) = not (is_sending own)
 is_out_of_phase own Stop = not (is_sending own)
 is_out_of_phase own (Terminate reason) = not (is_sending own)
-is_out_of_phase own (Hear sink back bis subevent) = not (is_started own) || is_ciphered own
-is_out_of_phase own (Air sink lose) = not (is_started own) || is_ciphered own
-is_out_of_phase own (Inject sink back bis subevent octets) = not (is_started own) || is_ciphered own
-is_out_of_phase own (Sniff back bis subevent) = not (is_started own) || is_ciphered own
+is_out_of_phase own (Hear sink back bis subevent) = not (is_heard own)
+is_out_of_phase own (Air sink lose) = not (is_heard own)
+is_out_of_phase own (Inject sink back bis subevent octets) = not (is_heard own)
+is_out_of_phase own (Sniff back bis subevent) = not (is_heard own)
 is_out_of_phase own _ = false
 
 -- the step stands in the wrong phase of the scenario, or of the source that it means

@@ -1,7 +1,7 @@
 -- A source of a scenario: what its lines say of it, the calls that it took, and the PDUs on its air (Core 5.2, volume 6
 -- part B, section 4.4.6, and part G, section 2; the numbers of a group are those of the BIGInfo, section 4.4.6.11 of part
 -- B). The steps here are those of one source, the newest first.
-use Rattle.std.specs.Prelude.{ℕ, ◌-◌, ◌%◌, ◌^◌, ◌==◌, ◌||◌, not, is_some, Bool, true, false, List, [], ◌∷◌, Option, None, Some, unwrap_or, replicate, if◌then◌else◌}
+use Rattle.std.specs.Prelude.{ℕ, ◌-◌, ◌%◌, ◌^◌, ◌==◌, ◌&&◌, ◌||◌, not, is_some, Bool, true, false, List, [], ◌∷◌, Option, None, Some, unwrap_or, replicate, if◌then◌else◌}
 use Rattle.big_info.specs.declared.info.BigInfo.{BigInfo}
 use Rattle.big_info.specs.declared.info.Cipher.{Cipher}
 use Rattle.iso_pdu.specs.Control.{terminate}
@@ -152,6 +152,14 @@ is_sending steps = is_sending_at (phase_of steps)
 -- the source was started
 abbrev pub is_started : List Step → Bool
 is_started steps = was_started_at (phase_of steps)
+
+-- it takes units and performs events: it is between its start and its end, and its group isn't encrypted
+abbrev pub takes_units : List Step → Bool
+takes_units steps = is_sending steps && not (is_ciphered steps)
+
+-- its events may be heard: it was started, and its group isn't encrypted
+abbrev pub is_heard : List Step → Bool
+is_heard steps = is_started steps && not (is_ciphered steps)
 
 -- ---- its calls and its air
 

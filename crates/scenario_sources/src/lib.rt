@@ -2,6 +2,7 @@
 //! its air. Lines mean the source that was chosen last.
 #![tactic(auto)]
 
+mod basing;
 mod describing;
 mod identity;
 mod performed;
@@ -10,9 +11,12 @@ mod place;
 mod sending;
 mod sources;
 mod standpoint;
+mod starting;
+mod terminated;
 
 pub use performed::Performed;
 pub use place::Place;
 pub use source_machine::Identity;
 pub use sources::Sources;
 pub use standpoint::Standpoint;
+pub use terminated::Terminated;

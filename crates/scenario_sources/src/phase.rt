@@ -1,32 +1,27 @@
 ghost use Rattle.std.specs.Prelude.{◌≡◌, ◌≤◌, ◌<◌, ◌^◌};
 ghost use Rattle.big_info.specs.Widths.{FitsWidths};
 
+use base_grammar::BaseDraft;
 use big_info::BigInfo;
 use multi_source::Broadcast;
-use source_machine::{Identity, SourceConfigured};
+use source_machine::Identity;
 
 /// What the lines before `start` say of a source.
-#[derive(Clone, Copy)]
+#[derive(Drop)]
 pub(crate) struct Described {
+    /// The numbers of the group, and its cipher where one was said.
     pub(crate) info: BigInfo,
     /// The anchor of the first event, in µs.
     pub(crate) origin: u64,
     /// The presentation delay in µs.
     pub(crate) delay: u32,
     pub(crate) identity: Option<Identity>,
+    /// The BASE as far as it was said.
+    pub(crate) base: BaseDraft,
     pub(crate) ghost widths: { FitsWidths info },
-    pub(crate) ghost origin_is: { origin ≤ 2 ^ 48 },
+    pub(crate) ghost least: { 3000 ≤ origin },
+    pub(crate) ghost greatest: { origin ≤ 2 ^ 48 },
     pub(crate) ghost delay_is: { delay < 2 ^ 24 },
-}
-
-/// What is known of a source that may be started.
-#[derive(Drop)]
-pub(crate) struct Ready {
-    pub(crate) described: Described,
-    pub(crate) configured: SourceConfigured,
-    pub(crate) ghost info_is: { configured.info ≡ described.info },
-    pub(crate) ghost origin_is: { configured.origin ≡ described.origin },
-    pub(crate) ghost delay_is: { configured.delay ≡ described.delay },
 }
 
 /// A source that was started.
@@ -43,7 +38,7 @@ pub(crate) enum Phase {
     Absent,
     /// It has a group.
     Described(Described),
-    /// It is between its start and its stop.
+    /// It is between its start and its end by `stop` or `terminate`.
     Sending(Started),
     /// It was stopped. What it sent is still heard.
     Stopped(Started),

@@ -4,7 +4,7 @@ ghost use Rattle.std.specs.Option.{ForSome};
 ghost use Rattle.source_machine.specs.Airs.{airs_of};
 ghost use Rattle.scenario_text.specs.declared.step.Step.{Step};
 ghost use Rattle.scenario_history.specs.Refusals.{air_refusal, no_place};
-ghost use Rattle.scenario_history.specs.Source.{event_back, is_started, pdu_in};
+ghost use Rattle.scenario_history.specs.Source.{event_back, is_heard, is_started, pdu_in};
 ghost use Rattle.scenario_sources.specs.Answers.{GroupIs, LastIs, NoPlace};
 ghost use Rattle.scenario_sources.specs.State.Phases.{PhaseIs, StartedIs};
 
@@ -56,7 +56,7 @@ pub(crate) fn heard_in(phase: &Phase, place: Place) -> Result<&[u8], Stop>
     ensures ok { IfOk result (λ pdu. (own : List Step) → PhaseIs own phase.now
         → (no_place own place.back place.bis place.subevent ≡ None)
         × (pdu.now ≡ pdu_in airs_of own (event_back own place.back) place.bis place.subevent)) }
-    ensures err { IfErr result (λ stop. (own : List Step) → PhaseIs own phase.now → is_started own ≡ true → NoPlace own place.back place.bis place.subevent stop) }
+    ensures err { IfErr result (λ stop. (own : List Step) → PhaseIs own phase.now → is_heard own ≡ true → NoPlace own place.back place.bis place.subevent stop) }
 {
     match phase {
         Phase::Sending(started) => heard_from(started, place),
@@ -79,7 +79,7 @@ fn event_before(started: &Started, back: u8) -> u64
 
 /// The event `back` events before the last one of a source; 0 where it wasn't started.
 pub(crate) fn event_in(phase: &Phase, back: u8) -> u64
-    ensures event { (own : List Step) → PhaseIs own phase.now → is_started own ≡ true → result ≡ event_back own back }
+    ensures event { (own : List Step) → PhaseIs own phase.now → is_heard own ≡ true → result ≡ event_back own back }
     ensures within { result ≤ 2 ^ 39 }
 {
     match phase {
@@ -99,7 +99,7 @@ fn last_from(started: &Started) -> Option<u64>
 
 /// The last event of a source, where it performed one.
 pub(crate) fn last_in(phase: &Phase) -> Option<u64>
-    ensures last { (own : List Step) → PhaseIs own phase.now → is_started own ≡ true → LastIs own result }
+    ensures last { (own : List Step) → PhaseIs own phase.now → is_heard own ≡ true → LastIs own result }
     ensures within { ForSome result (λ event. event < 2 ^ 39) }
 {
     match phase {
@@ -109,13 +109,23 @@ pub(crate) fn last_in(phase: &Phase) -> Option<u64>
     }
 }
 
-/// The group of a source that was started.
+/// The group of a source that was started, unless it is encrypted.
+fn group_from(started: &Started) -> Option<Group>
+    ensures { (own : List Step) → StartedIs own started.now → is_started own ≡ true → GroupIs own result }
+{
+    if started.source.is_ciphered() {
+        return None;
+    }
+    Some(*started.source.group())
+}
+
+/// The group of a source that may be heard.
 pub(crate) fn group_in(phase: &Phase) -> Option<Group>
     ensures { (own : List Step) → PhaseIs own phase.now → GroupIs own result }
 {
     match phase {
-        Phase::Sending(started) => Some(*started.source.group()),
-        Phase::Stopped(started) => Some(*started.source.group()),
+        Phase::Sending(started) => group_from(started),
+        Phase::Stopped(started) => group_from(started),
         _ => None,
     }
 }

@@ -1,17 +1,18 @@
-//! A source between its start and its stop.
-ghost use Rattle.std.specs.Prelude.{◌≡◌, ◌≤◌, ◌<◌, ◌^◌, ℕ, List, Option, false, IfOk};
+//! A source between its start and its end.
+ghost use Rattle.std.specs.Prelude.{◌≡◌, ◌≤◌, ◌<◌, ◌^◌, ℕ, List, Option, None, false, IfOk};
 ghost use Rattle.std.specs.Option.{ForSome};
 ghost use Rattle.scenario_text.specs.declared.step.Step.{Step};
 ghost use Rattle.scenario_text.specs.declared.step.Step.TheVariants.{Unit as UnitStep, Stop as StopStep};
 ghost use Rattle.scenario_history.specs.Steps.{is_over};
-ghost use Rattle.scenario_history.specs.Source.{open_event};
-ghost use Rattle.scenario_sources.specs.State.Phases.{Becomes, Closes, Performs, PhaseIs};
+ghost use Rattle.scenario_history.specs.Source.{is_sending, open_event};
+ghost use Rattle.scenario_sources.specs.State.Phases.{Becomes, Closes, Performs, PhaseIs, Terminates};
 ghost use Rattle.scenario_sources.specs.Answers.{StandsAt};
 ghost use Rattle.scenario_sources.specs.State.Stops.{GiveStops, GivesTo};
 
 use crate::performed::Performed;
 use crate::phase::{Phase, Started};
 use crate::standpoint::Standpoint;
+use crate::terminated::Terminated;
 use bcast_base::Bis;
 use source_machine::{EventFault, GiveFault};
 use std::mem::replace;
@@ -29,11 +30,15 @@ pub(crate) fn give(
     let Phase::Sending(started) = phase else {
         return Err(Stop::Refused(Refusal::Order));
     };
+    if started.source.is_ciphered() {
+        return Err(Stop::Refused(Refusal::Order));
+    }
     give_to(started, bis, time, octets)
 }
 
 /// Gives a source that was started a unit of a stream.
 fn give_to(started: &mut Started, bis: Bis, time: Option<u64>, octets: &[u8]) -> Result<(), Stop>
+    requires { started.old.source.source.cipher ≡ None }
     ensures identity { started.new.identity ≡ started.old.identity }
     ensures source { GivesTo started.old.source bis time octets.now started.new.source result }
 {
@@ -64,6 +69,9 @@ pub(crate) fn perform(phase: &mut Phase) -> Result<Performed, Stop>
     let Phase::Sending(started) = phase else {
         return Err(Stop::Refused(Refusal::Order));
     };
+    if started.source.is_ciphered() {
+        return Err(Stop::Refused(Refusal::Order));
+    }
     let closed = started.source.last_event();
     match started.source.event() {
         Ok(stale) => return Ok(Performed { closed, stale }),
@@ -90,6 +98,32 @@ pub(crate) fn stop(phase: &mut Phase) -> Result<Option<u64>, Stop>
     }
 }
 
+/// `terminate`: ends the group of a source for this reason, and answers the event that it closes, and the PDU that says so.
+pub(crate) fn terminate(phase: &mut Phase, reason: u8) -> Result<Terminated, Stop>
+    ensures ends { (version : ℕ) (own : List Step) → PhaseIs own phase.old → Terminates version own reason phase.new result }
+    ensures within { IfOk result (λ terminated. ForSome terminated.closed (λ event. event < 2 ^ 39)) }
+{
+    match replace(phase, Phase::Absent) {
+        Phase::Sending(started) => {
+            let closed = started.source.last_event();
+            let pdu = started.source.terminate_pdu(reason);
+            *phase = Phase::Stopped(started);
+            Ok(Terminated { closed, pdu })
+        }
+        other => {
+            *phase = other;
+            Err(Stop::Refused(Refusal::Order))
+        }
+    }
+}
+
+/// Whether a source is between its start and its end.
+pub(crate) fn is_sending_in(phase: &Phase) -> bool
+    ensures { (own : List Step) → PhaseIs own phase.now → result ≡ is_sending own }
+{
+    matches!(phase, Phase::Sending(_))
+}
+
 /// The event of a source that is open.
 pub(crate) fn open(phase: &Phase) -> Option<u64>
     ensures event { (own : List Step) → PhaseIs own phase.now → is_over own ≡ false → result ≡ open_event own }
@@ -101,13 +135,16 @@ pub(crate) fn open(phase: &Phase) -> Option<u64>
     }
 }
 
-/// Where a source stands that is between its start and its stop.
+/// Where a source stands that takes units.
 pub(crate) fn standpoint_in(phase: &Phase) -> Option<Standpoint>
     ensures { (own : List Step) → PhaseIs own phase.now → StandsAt own result }
 {
     let Phase::Sending(started) = phase else {
         return None;
     };
+    if started.source.is_ciphered() {
+        return None;
+    }
     Some(Standpoint {
         group: *started.source.group(),
         event: started.source.next_event(),

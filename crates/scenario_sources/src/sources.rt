@@ -2,15 +2,17 @@ ghost use Rattle.std.specs.Prelude.{◌≡◌, ◌≤◌, ◌<◌, ◌^◌, ◌�
 ghost use Rattle.std.specs.Option.{ForSome};
 ghost use Rattle.big_info.specs.Widths.{FitsWidths};
 
-use crate::describing::{begin, check_start, describe, identify, is_twice};
-use crate::identity::identity_or;
+use crate::basing::{add_stream, give_metadata, open_subgroup};
+use crate::describing::{describe, encrypt, identify};
 use crate::phase::Phase;
 use crate::place::{Place, event_in, group_in, heard_in, last_in};
 use crate::performed::Performed;
-use crate::sending::{give, open, perform, standpoint_in, stop};
+use crate::sending::{give, is_sending_in, open, perform, standpoint_in, stop, terminate};
 use crate::standpoint::Standpoint;
+use crate::starting::{begin, check_start, is_twice};
+use crate::terminated::Terminated;
 use bcast_base::{Bis, Memory};
-use big_info::{BigInfo, Group, Limits};
+use big_info::{BigInfo, Cipher, Group, Limits};
 use source_machine::Identity;
 use std::alloc::Global;
 use transcript_text::{Refusal, Stop};
@@ -27,12 +29,14 @@ pub struct Sources {
 
 impl Sources {
     ghost use Rattle.source_machine.specs.Airs.{airs_of};
+    ghost use Rattle.ltv_codec.specs.Reading.{bad_of};
     ghost use Rattle.scenario_text.specs.declared.step.Step.{Step};
-    ghost use Rattle.scenario_text.specs.declared.step.Step.TheVariants.{Ident as IdentStep, Start as StartStep, Unit as UnitStep, Stop as StopStep, Source as SourceStep};
+    ghost use Rattle.scenario_text.specs.declared.step.Step.TheVariants.{Ident as IdentStep, Subgroup as SubgroupStep, Meta as MetaStep, Bis as BisStep, Cipher as CipherStep};
+    ghost use Rattle.scenario_text.specs.declared.step.Step.TheVariants.{Start as StartStep, Unit as UnitStep, Stop as StopStep, Source as SourceStep};
     ghost use Rattle.scenario_history.specs.Refusals.{horizon_in, no_place};
-    ghost use Rattle.scenario_history.specs.Source.{event_back, is_ahead_in, is_started, open_event, pdu_in};
+    ghost use Rattle.scenario_history.specs.Source.{event_back, is_ahead_in, is_heard, is_sending, open_event, pdu_in};
     ghost use Rattle.scenario_history.specs.Steps.{chosen_of, chosen_steps, is_over, running, stage_of, steps_of_source};
-    ghost use Rattle.scenario_sources.specs.Answers.{Answers, Closes, GroupIs, LastIs, NoPlace, Performs, StandsAt};
+    ghost use Rattle.scenario_sources.specs.Answers.{Answers, Closes, GroupIs, LastIs, NoPlace, Performs, StandsAt, Terminates};
     ghost use Rattle.scenario_sources.specs.Described.{IsPlain, group_step};
     ghost use Rattle.scenario_sources.specs.State.Standing.{SourcesStand};
 
@@ -70,11 +74,13 @@ impl Sources {
     /// presentation delay are in µs. It takes no memory.
     pub fn describe(&mut self, info: BigInfo, origin: u64, delay: u32) -> Result<(), Stop>
         requires widths { FitsWidths info }
-        requires origin { origin ≤ 2 ^ 48 }
+        requires least { 3000 ≤ origin }
+        requires greatest { origin ≤ 2 ^ 48 }
         requires delay { delay < 2 ^ 24 }
         ensures { (version : ℕ) (steps : List Step) → IsPlain info → SourcesStand steps self.old → Answers version steps (group_step info origin delay) self.new result }
     {
         describe(
+            self.alloc,
             &mut self.phases[usize::from(self.chosen)],
             info,
             origin,
@@ -91,9 +97,46 @@ impl Sources {
         identify(&mut self.phases[usize::from(self.chosen)], identity)
     }
 
+    /// `subgroup`: opens a subgroup of the chosen source's BASE with this Codec_ID and this configuration, an LTV list. It is
+    /// refused with Order outside `group` and `start`, and while the last subgroup has no stream.
+    pub fn open_subgroup(&mut self, codec: [u8; 5], config: &[u8]) -> Result<(), Stop>
+        requires { bad_of config.now ≡ None }
+        ensures { (version : ℕ) (steps : List Step) → SourcesStand steps self.old → Answers version steps (SubgroupStep codec config.now) self.new result }
+    {
+        open_subgroup(&mut self.phases[usize::from(self.chosen)], codec, config)
+    }
+
+    /// `meta`: gives the last subgroup this metadata, an LTV list, in place of what it had. It is refused with Order outside
+    /// a first `subgroup` and `start`.
+    pub fn give_metadata(&mut self, metadata: &[u8]) -> Result<(), Stop>
+        requires { bad_of metadata.now ≡ None }
+        ensures { (version : ℕ) (steps : List Step) → SourcesStand steps self.old → Answers version steps (MetaStep metadata.now) self.new result }
+    {
+        give_metadata(&mut self.phases[usize::from(self.chosen)], metadata)
+    }
+
+    /// `bis`: adds a stream with this configuration, an LTV list, to the last subgroup. The first refusal that holds is
+    /// answered: Order outside a first `subgroup` and `start`, NoSuchBis where the group has no stream of this index or the
+    /// index stands.
+    pub fn add_stream(&mut self, bis: Bis, config: &[u8]) -> Result<(), Stop>
+        requires { bad_of config.now ≡ None }
+        ensures { (version : ℕ) (steps : List Step) → SourcesStand steps self.old → Answers version steps (BisStep bis config.now) self.new result }
+    {
+        add_stream(&mut self.phases[usize::from(self.chosen)], bis, config)
+    }
+
+    /// `cipher`: encrypts the group of the chosen source, once, between `group` and `start`; else it is refused with Order.
+    /// Such a source is announced and ended alone. It takes no memory.
+    pub fn encrypt(&mut self, cipher: Cipher) -> Result<(), Stop>
+        ensures { (version : ℕ) (steps : List Step) → SourcesStand steps self.old → Answers version steps (CipherStep cipher.giv cipher.gskd) self.new result }
+    {
+        encrypt(&mut self.phases[usize::from(self.chosen)], cipher)
+    }
+
     /// `start`: starts the chosen source, once, with this first event. The first refusal that holds is answered: Order
-    /// without a group, BadGroup where the group check fails within the limits, IdentTwice where the other source was started
-    /// with the same address type, SID and Broadcast_ID.
+    /// without a group, and while the last subgroup has no stream; BadGroup where a row of the group check but that of a
+    /// cipher holds within the limits; BaseTooLong where the BASE has more than 252 octets; IdentTwice where the other source
+    /// was started with the same address type, SID and Broadcast_ID.
     pub fn start(&mut self, limits: Limits, first: u64) -> Result<(), Stop>
         requires limits { limits.horizon ≤ 31 }
         requires first { first < 2 ^ 39 }
@@ -104,15 +147,19 @@ impl Sources {
             Ok(ready) => ready,
             Err(stop) => return Err(stop),
         };
-        let own = identity_or(ready.described.identity);
-        if is_twice(own, &self.phases[usize::from(1 - self.chosen)]) {
+        if is_twice(
+            ready.identity,
+            &self.phases[usize::from(1 - self.chosen)],
+        ) {
             return Err(Stop::Refused(Refusal::IdentTwice));
         }
-        match begin(self.alloc, ready, first) {
-            Ok(phase) => self.phases[usize::from(self.chosen)] = phase,
-            Err(stop) => return Err(stop),
-        }
-        Ok(())
+        begin(
+            self.alloc,
+            &mut self.phases[usize::from(self.chosen)],
+            ready,
+            limits,
+            first,
+        )
     }
 
     /// `unit`: gives the chosen source a unit of a stream. The first refusal that holds is answered: Order outside its start
@@ -147,6 +194,22 @@ impl Sources {
         stop(&mut self.phases[usize::from(self.chosen)])
     }
 
+    /// `terminate`: ends the group of the chosen source for this reason, and answers the event that it closes, and the PDU
+    /// that says so. It is refused with Order outside its start and its end. It takes no memory.
+    pub fn terminate(&mut self, reason: u8) -> Result<Terminated, Stop>
+        ensures ends { (version : ℕ) (steps : List Step) → SourcesStand steps self.old → Terminates version steps reason self.new result }
+        ensures within { IfOk result (λ terminated. ForSome terminated.closed (λ event. event < 2 ^ 39)) }
+    {
+        terminate(&mut self.phases[usize::from(self.chosen)], reason)
+    }
+
+    /// Whether the chosen source is between its start and its end.
+    pub fn is_sending(&self) -> bool
+        ensures { (steps : List Step) → SourcesStand steps self.now → result ≡ is_sending (chosen_steps steps) }
+    {
+        is_sending_in(&self.phases[usize::from(self.chosen)])
+    }
+
     /// The open event of a source, before `end`.
     pub fn open(&self, source: u8) -> Option<u64>
         requires { source < 2 }
@@ -157,14 +220,15 @@ impl Sources {
         open(&self.phases[usize::from(source)])
     }
 
-    /// Where the chosen source stands before its next event; `None` exactly outside its start and its stop.
+    /// Where the chosen source stands before its next event; `None` exactly outside its start and its end, and where its
+    /// group is encrypted.
     pub fn standpoint(&self) -> Option<Standpoint>
         ensures { (steps : List Step) → SourcesStand steps self.now → StandsAt (chosen_steps steps) result }
     {
         standpoint_in(&self.phases[usize::from(self.chosen)])
     }
 
-    /// The group of the chosen source; `None` exactly before its start.
+    /// The group of the chosen source; `None` exactly before its start, and where it is encrypted.
     pub fn group(&self) -> Option<Group>
         ensures { (steps : List Step) → SourcesStand steps self.now → GroupIs (chosen_steps steps) result }
     {
@@ -173,7 +237,7 @@ impl Sources {
 
     /// The last event of the chosen source, where it performed one.
     pub fn last_event(&self) -> Option<u64>
-        ensures last { (steps : List Step) → SourcesStand steps self.now → is_started (chosen_steps steps) ≡ true → LastIs (chosen_steps steps) result }
+        ensures last { (steps : List Step) → SourcesStand steps self.now → is_heard (chosen_steps steps) ≡ true → LastIs (chosen_steps steps) result }
         ensures within { ForSome result (λ event. event < 2 ^ 39) }
     {
         last_in(&self.phases[usize::from(self.chosen)])
@@ -181,7 +245,7 @@ impl Sources {
 
     /// The event `back` events before the last one of the chosen source; 0 before its start.
     pub fn event_back(&self, back: u8) -> u64
-        ensures event { (steps : List Step) → SourcesStand steps self.now → is_started (chosen_steps steps) ≡ true → result ≡ event_back (chosen_steps steps) back }
+        ensures event { (steps : List Step) → SourcesStand steps self.now → is_heard (chosen_steps steps) ≡ true → result ≡ event_back (chosen_steps steps) back }
         ensures within { result ≤ 2 ^ 39 }
     {
         event_in(&self.phases[usize::from(self.chosen)], back)
@@ -194,7 +258,7 @@ impl Sources {
         ensures ok { IfOk result (λ pdu. (steps : List Step) → SourcesStand steps self.now
             → (no_place (chosen_steps steps) place.back place.bis place.subevent ≡ None)
             × (pdu.now ≡ pdu_in airs_of (chosen_steps steps) (event_back (chosen_steps steps) place.back) place.bis place.subevent)) }
-        ensures err { IfErr result (λ stop. (steps : List Step) → SourcesStand steps self.now → is_started (chosen_steps steps) ≡ true
+        ensures err { IfErr result (λ stop. (steps : List Step) → SourcesStand steps self.now → is_heard (chosen_steps steps) ≡ true
             → NoPlace (chosen_steps steps) place.back place.bis place.subevent stop) }
     {
         heard_in(&self.phases[usize::from(self.chosen)], place)
