@@ -104,7 +104,9 @@ impl Broadcast {
             × (pdu_of self.now.source.setup airs (next_of self.now.source.setup calls - 1 - back) bis subevent ≡ Some pdu.now)) }
         ensures err { IfErr result (λ fault. (calls : List Call) → StandsFor calls self.now
             → air_fault self.now.source.setup calls back bis subevent ≡ Some fault) }
+        ensures checked { IsChecked self.now.source.setup.info }
     {
+        let _group = self.source.group();
         self.air.heard_at(back, bis, subevent)
     }
 
