@@ -1,4 +1,7 @@
-ghost use Rattle.std.specs.Prelude.{◌≡◌, ◌≤◌, ◌<◌, ◌+◌, ◌-◌, ◌^◌, ◌∷◌, [], List, Some, None, true, IfOk, IfErr, IfSome, OnOk, OnErr};
+ghost use Rattle.std.specs.Prelude.{◌≡◌, ◌≤◌, ◌<◌, ◌+◌, ◌-◌, ◌%◌, ◌^◌, ◌∷◌, [], List, Some, None, is_some, IfOk, IfErr, IfSome, OnOk, OnErr};
+ghost use Rattle.iso_pdu.specs.Control.{terminate};
+ghost use Rattle.iso_pdu.specs.Layout.{control};
+ghost use Rattle.iso_pdu.specs.Spelling.{pdu};
 ghost use Rattle.isoal_base.specs.Air.{Air as StreamAir};
 ghost use Rattle.source_machine.specs.Airs.{AreAirs, pdu_of, stale_of};
 ghost use Rattle.source_machine.specs.Calls.{Call, give as gives, event as performs, last_of, next_anchor_of, next_of};
@@ -42,8 +45,9 @@ impl Broadcast {
         first: u64,
     ) -> Result<Broadcast, Memory>
         requires { first < 2 ^ 39 }
-        ensures { IfOk result (λ broadcast. (broadcast.source.identity ≡ configured.identity)
+        ensures started { IfOk result (λ broadcast. (broadcast.source.identity ≡ configured.identity)
             × (broadcast.source.setup ≡ started configured first) × StandsFor [] broadcast) }
+        ensures announced { IfOk result (λ broadcast. (broadcast.source.base ≡ configured.base) × (broadcast.source.cipher ≡ configured.cipher)) }
     {
         match configured.start(first) {
             Ok(source) => {
@@ -56,7 +60,9 @@ impl Broadcast {
 
     /// Gives a unit to a stream, as `SourceStreaming::give` does.
     pub fn give(&mut self, bis: Bis, time: Option<u64>, octets: &[u8]) -> Result<(), GiveFault>
+        requires { self.old.source.cipher ≡ None }
         ensures identity { self.new.source.identity ≡ self.old.source.identity }
+        ensures announced { (self.new.source.base ≡ self.old.source.base) × (self.new.source.cipher ≡ self.old.source.cipher) }
         ensures setup { self.new.source.setup ≡ self.old.source.setup }
         ensures ok { OnOk result ((calls : List Call) → StandsFor calls self.old → StandsFor (gives bis time octets.now ∷ calls) self.new) }
         ensures accepted { OnOk result ((calls : List Call) (airs : List StreamAir) → StandsFor calls self.old → AreAirs self.old.source.setup calls airs
@@ -71,7 +77,9 @@ impl Broadcast {
 
     /// Performs the next event, as `SourceStreaming::event` does, and puts it on the air.
     pub fn event(&mut self) -> Result<StaleList, EventFault>
+        requires { self.old.source.cipher ≡ None }
         ensures identity { self.new.source.identity ≡ self.old.source.identity }
+        ensures announced { (self.new.source.base ≡ self.old.source.base) × (self.new.source.cipher ≡ self.old.source.cipher) }
         ensures setup { self.new.source.setup ≡ self.old.source.setup }
         ensures ok { OnOk result ((calls : List Call) → StandsFor calls self.old
             → (event_fault self.old.source.setup calls ≡ None) × StandsFor (performs ∷ calls) self.new) }
@@ -115,6 +123,20 @@ impl Broadcast {
         ensures { result ≡ self.now.source.identity }
     {
         self.source.identity()
+    }
+
+    /// Whether the group is encrypted. Such a source is announced alone.
+    pub fn is_ciphered(&self) -> bool
+        ensures { result ≡ is_some self.now.source.cipher }
+    {
+        self.source.is_ciphered()
+    }
+
+    /// The PDU that ends the group for this reason at the next event.
+    pub fn terminate_pdu(&self, reason: u8) -> [u8; 6]
+        ensures { result ≡ pdu (control (terminate reason (self.now.source.next % 2 ^ 16))) }
+    {
+        self.source.terminate_pdu(reason)
     }
 
     /// The group.

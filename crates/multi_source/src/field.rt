@@ -1,13 +1,13 @@
 ghost use Rattle.std.specs.Prelude.{◌≡◌, ◌≤◌, ◌<◌, ◌-◌, ◌^◌, ◌*◌, ◌++◌, ◌∷◌, ℕ, List, [], length, Some, None, false, true, is_some, slice_set, IfOk, IfErr, OnOk, OnErr};
 ghost use Rattle.circular_buffer.specs.Buffer.{keep_last};
 ghost use Rattle.big_info.specs.Widths.{FitsWidths};
-ghost use Rattle.big_info.specs.Rows.{first_fault};
 ghost use Rattle.isoal_base.specs.Air.{Air as StreamAir};
 ghost use Rattle.source_machine.specs.Airs.{AreAirs, stale_of};
 ghost use Rattle.source_machine.specs.Calls.{Setup as Fixed, Call, event as performs};
 ghost use Rattle.source_machine.specs.Faults.{event_fault, refused_event};
+ghost use Rattle.source_machine.specs.Ciphers.{MayBeSent};
 ghost use Rattle.source_machine.specs.Setups.{configured};
-ghost use Rattle.multi_source.specs.State.Fields.{EventLeaves, HasOwnAir, Sending, fault_of, is_same as is_same_source, is_taken};
+ghost use Rattle.multi_source.specs.State.Fields.{EventLeaves, HasOwnAir, IsPlain, Sending, fault_of, is_same as is_same_source, is_taken};
 
 use bcast_base::{Bis, EventPdus};
 use big_info::{GroupFault, Limits};
@@ -80,7 +80,7 @@ impl Field {
 
     /// Starts a source with this first event. Nothing is on its air.
     ///
-    /// The first refusal that holds is answered: BadGroup where a row of the group check holds by these limits, IdentTwice
+    /// The first refusal that holds is answered: BadGroup where a row of the group check but Encrypted holds by these limits, IdentTwice
     /// where the other source was started with the same address type, SID and Broadcast_ID, be it stopped or not. A
     /// refusal changes nothing.
     pub fn start(
@@ -94,16 +94,17 @@ impl Field {
         requires unbegun { begun_of self.old s ≡ None }
         requires widths { FitsWidths setup.info }
         requires horizon { limits.horizon ≤ 31 }
-        requires origin { setup.origin ≤ 2 ^ 48 }
-        requires delay { setup.delay < 2 ^ 24 }
+        requires least { 3000 ≤ setup.origin }
+        requires greatest { setup.origin ≤ 2 ^ 48 }
         requires first { first < 2 ^ 39 }
         ensures ok { OnOk result (Starts (configured setup limits.ahead) first (source_of self.new s) (begun_of self.new s)) }
-        ensures checked { OnOk result (first_fault limits.horizon setup.info ≡ None) }
+        ensures checked { OnOk result (MayBeSent limits.horizon setup.info) }
         ensures single { OnOk result (is_taken setup.identity (begun_of self.old (1 - s)) ≡ false) }
         ensures others { OnOk result (OthersStay s self.old self.new) }
         ensures err { OnErr result (self.new ≡ self.old) }
         ensures cause { IfErr result (λ fault. StartFails limits.horizon setup (begun_of self.old (1 - s)) fault) }
     {
+        let identity = setup.identity;
         let configured = match SourceIdle::new(self.alloc).configure_within(setup, limits) {
             Ok(configured) => configured,
             Err(kept) => return Err(field_fault(kept.fault)),
@@ -113,7 +114,7 @@ impl Field {
         } else {
             &self.one_begun
         };
-        if is_twin(setup.identity, twin) {
+        if is_twin(identity, twin) {
             return Err(FieldFault::IdentTwice);
         }
         let Ok(source) = configured.start(first) else {
@@ -123,7 +124,7 @@ impl Field {
             return Err(FieldFault::Memory);
         };
         let begun = Begun {
-            identity: setup.identity,
+            identity,
             air,
         };
         self.place(s, source, begun);
@@ -149,6 +150,7 @@ impl Field {
     pub fn event(&mut self, s: u8) -> Result<StaleList, EventFault>
         requires number { s ≤ 1 }
         requires own_air { HasOwnAir (source_of self.old s) (begun_of self.old s) }
+        requires plain { IsPlain (source_of self.old s) }
         ensures ok { OnOk result ((setup : Fixed) (calls : List Call) → Sending setup calls (source_of self.old s) (begun_of self.old s)
             → (event_fault setup calls ≡ None) × Sending setup (performs ∷ calls) (source_of self.new s) (begun_of self.new s)) }
         ensures stale { IfOk result (λ stale. (setup : Fixed) (calls : List Call) (airs : List StreamAir) → Sending setup calls (source_of self.old s) (begun_of self.old s)
@@ -241,7 +243,8 @@ fn perform(
     place: &mut Option<SourceStreaming>,
     since: &mut Option<Begun>,
 ) -> Result<StaleList, EventFault>
-    requires { HasOwnAir place.old since.old }
+    requires own_air { HasOwnAir place.old since.old }
+    requires plain { IsPlain place.old }
     ensures ok { OnOk result ((setup : Fixed) (calls : List Call) → Sending setup calls place.old since.old
         → (event_fault setup calls ≡ None) × Sending setup (performs ∷ calls) place.new since.new) }
     ensures stale { IfOk result (λ stale. (setup : Fixed) (calls : List Call) (airs : List StreamAir) → Sending setup calls place.old since.old
