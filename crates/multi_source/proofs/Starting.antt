@@ -19,9 +19,9 @@ of_silence : (setup : Setup) (air : OnAir) → air ≡ silence setup.info → Is
 of_silence setup air is = record { streams = ap (λ (a : OnAir). a.num_bis) is; subevents = ap (λ (a : OnAir). a.nse) is }
 
 pub starts : (setup : Configured) (first : ℕ) (place : Option Source) (since : Option Begun) (source : Source) (begun : Begun) → place ≡ Some source → since ≡ Some begun
-    → source.identity ≡ setup.identity → source.setup ≡ started setup first → SourceStands [] source
+    → source.identity ≡ setup.identity → (source.base ≡ setup.base) × (source.cipher ≡ setup.cipher) → source.setup ≡ started setup first → SourceStands [] source
     → begun.identity ≡ setup.identity → begun.air ≡ silence setup.info → Starts setup first place since
-starts setup first place since source begun source_is begun_is identity setup_is stands named air = record {
+starts setup first place since source begun source_is begun_is identity announced setup_is stands named air = record {
   sending = record {
     source = source;
     source_is = source_is;
@@ -32,6 +32,8 @@ starts setup first place since source begun source_is begun_is identity setup_is
     air = silent (started setup first) begun.air (of_silence (started setup first) begun.air air) (ap (λ (a : OnAir). a.events) air);
   };
   source = identity;
+  base = announced.0;
+  cipher = announced.1;
   begun = named;
 }
 

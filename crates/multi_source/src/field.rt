@@ -80,9 +80,9 @@ impl Field {
 
     /// Starts a source with this first event. Nothing is on its air.
     ///
-    /// The first refusal that holds is answered: BadGroup where a row of the group check but Encrypted holds by these limits, IdentTwice
-    /// where the other source was started with the same address type, SID and Broadcast_ID, be it stopped or not. A
-    /// refusal changes nothing.
+    /// The first refusal that holds is answered: BadGroup where a row of the group check but Encrypted holds by these
+    /// limits, IdentTwice where the other source was started with the same address type, SID and Broadcast_ID, be it
+    /// stopped or not. A refusal changes nothing.
     pub fn start(
         &mut self,
         s: u8,
@@ -123,10 +123,7 @@ impl Field {
         let Ok(air) = Air::new(self.alloc, source.group()) else {
             return Err(FieldFault::Memory);
         };
-        let begun = Begun {
-            identity,
-            air,
-        };
+        let begun = Begun { identity, air };
         self.place(s, source, begun);
         Ok(())
     }

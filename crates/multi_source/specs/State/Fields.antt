@@ -60,6 +60,8 @@ pub record Sending (setup : Setup) (calls : List Call) (place : Option Source) (
 pub record Starts (setup : Configured) (first : ℕ) (place : Option Source) (since : Option Begun) : Type 0 where
   pub sending : Sending (started setup first) [] place since
   pub source : sending.source.identity ≡ setup.identity
+  pub base : sending.source.base ≡ setup.base
+  pub cipher : sending.source.cipher ≡ setup.cipher
   pub begun : sending.begun.identity ≡ setup.identity
 
 -- why a source is not started, where a payload may be sent so many events ahead; nothing is said of want of memory
