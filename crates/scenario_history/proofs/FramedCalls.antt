@@ -15,7 +15,6 @@ use Rattle.isoal_framed.specs.Calls.{Call as FramedCall, Timed, accept, lay, acc
 use Rattle.isoal_framed.specs.Places.{Act}
 use Rattle.source_machine.specs.declared.fault.GiveFault.{GiveFault}
 use Rattle.source_machine.specs.Calls.{Setup, Call, give, event, events, framed_calls, framed_lays, laid_before, laid_with, lay_anchor}
-use Rattle.source_machine.specs.Faults.{give_fault}
 use Rattle.scenario_history.specs.Source.{Airs}
 use Rattle.scenario_history.specs.Airs.{AreAccepted}
 
