@@ -1,13 +1,12 @@
 -- A source that was started, in its place beside the other one.
-use Rattle.std.proofs.Common.{ℕ, ◌≡◌, ◌∙◌, [], ◌∷◌, ◌++◌, List, Option, Some, None, ap, sym, refl, subst}
+use Rattle.std.proofs.Common.{ℕ, ◌≡◌, ◌∙◌, [], ◌∷◌, ◌++◌, Bool, List, Option, Some, None, ap, sym, refl, subst}
 use Rattle.radio_schedule.specs.OnAir.{OnAir, silence}
 use Rattle.source_machine.specs.declared.setup.Setup.{Setup as Configured}
 use Rattle.source_machine.specs.Calls.{Setup, Call, event, next_of}
-use Rattle.source_machine.specs.Setups.{started}
+use Rattle.source_machine.specs.Setups.{IsChecked, configured, started}
 use Rattle.source_machine.specs.State.Sources.{Source, StandsFor as SourceStands}
 use Rattle.std.proofs.lemmas.Option.{same_Some}
 use Rattle.circular_buffer.specs.Buffer.{keep_last}
-use Rattle.big_info.specs.Bounds.{Bounds}
 use Rattle.isoal_base.specs.Air.{Air}
 use Rattle.source_machine.specs.Airs.{AreAirs, Sends}
 use Rattle.source_machine.specs.Faults.{event_fault}
@@ -19,10 +18,10 @@ use Rattle.multi_source.proofs.Airing.{event_on_air, silent}
 of_silence : (setup : Setup) (air : OnAir) → air ≡ silence setup.info → IsOfGroup setup air
 of_silence setup air is = record { streams = ap (λ (a : OnAir). a.num_bis) is; subevents = ap (λ (a : OnAir). a.nse) is }
 
-pub starts : (setup : Configured) (first : ℕ) (place : Option Source) (since : Option Begun) (source : Source) (begun : Begun) → place ≡ Some source → since ≡ Some begun
-    → source.identity ≡ setup.identity → source.setup ≡ started setup first → SourceStands [] source
-    → begun.identity ≡ setup.identity → begun.air ≡ silence setup.info → Starts setup first place since
-starts setup first place since source begun source_is begun_is identity setup_is stands named air = record {
+pub starts : (setup : Configured) (ahead : Bool) (first : ℕ) (place : Option Source) (since : Option Begun) (source : Source) (begun : Begun) → place ≡ Some source → since ≡ Some begun
+    → source.identity ≡ setup.identity → source.setup ≡ started (configured setup ahead) first → SourceStands [] source
+    → begun.identity ≡ setup.identity → begun.air ≡ silence setup.info → Starts setup ahead first place since
+starts setup ahead first place since source begun source_is begun_is identity setup_is stands named air = record {
   sending = record {
     source = source;
     source_is = source_is;
@@ -30,14 +29,14 @@ starts setup first place since source begun source_is begun_is identity setup_is
     stands = stands;
     begun = begun;
     begun_is = begun_is;
-    air = silent (started setup first) begun.air (of_silence (started setup first) begun.air air) (ap (λ (a : OnAir). a.events) air);
+    air = silent (started (configured setup ahead) first) begun.air (of_silence (started (configured setup ahead) first) begun.air air) (ap (λ (a : OnAir). a.events) air);
   };
   source = identity;
   begun = named;
 }
 
 -- a source and its air after its next event
-pub performed : (setup : Setup) (calls : List Call) (old new : Source) (before after : Begun) (pdus : List (List ℕ)) → Bounds old.setup.info × (old.setup.info.framing ≡ 0)
+pub performed : (setup : Setup) (calls : List Call) (old new : Source) (before after : Begun) (pdus : List (List ℕ)) → IsChecked old.setup.info
     → new.setup ≡ old.setup → after.air ≡ record before.air { events = keep_last 32 (before.air.events ++ pdus ∷ []) }
     → ((c : List Call) → SourceStands c old → (event_fault old.setup c ≡ None) × SourceStands (event ∷ c) new)
     → ((c : List Call) (airs : List Air) → SourceStands c old → AreAirs old.setup (event ∷ c) airs → Sends old.setup airs old.next pdus)
@@ -59,7 +58,7 @@ performed setup calls old new before after pdus checked same pushed stands sends
         begun = after;
         begun_is = refl;
         air = subst (IsOnAir setup (event ∷ calls)) (sym pushed)
-            (event_on_air setup calls before.air pdus (subst (λ (s : Setup). Bounds s.info) setup_is checked.0) (subst (λ (s : Setup). s.info.framing ≡ 0) setup_is checked.1) on
+            (event_on_air setup calls before.air pdus (subst (λ (s : Setup). IsChecked s.info) setup_is checked) on
             (λ airs are. subst (λ at. Sends setup airs at pdus) next
             (subst (λ (s : Setup). Sends s airs old.next pdus) setup_is
             (sends calls airs standing (subst (λ s. AreAirs s (event ∷ calls) airs) (sym setup_is) are)))));

@@ -5,7 +5,7 @@ use Rattle.radio_schedule.specs.OnAir.{OnAir}
 use Rattle.source_machine.specs.declared.setup.Identity.{Identity}
 use Rattle.source_machine.specs.declared.setup.Setup.{Setup as Configured}
 use Rattle.source_machine.specs.Calls.{Setup, Call}
-use Rattle.source_machine.specs.Setups.{started}
+use Rattle.source_machine.specs.Setups.{configured, started}
 use Rattle.source_machine.specs.State.Sources.{AfterFault, Source, StandsFor as SourceStands}
 use Rattle.source_machine.specs.declared.fault.ConfigureFault.{ConfigureFault}
 use Rattle.source_machine.specs.declared.fault.ConfigureFault.TheVariants.{BadGroup as Misfit, Memory as NoMemory}
@@ -57,8 +57,8 @@ pub record Sending (setup : Setup) (calls : List Call) (place : Option Source) (
   pub air : IsOnAir setup calls begun.air
 
 -- a source was started as it was configured
-pub record Starts (setup : Configured) (first : ℕ) (place : Option Source) (since : Option Begun) : Type 0 where
-  pub sending : Sending (started setup first) [] place since
+pub record Starts (setup : Configured) (ahead : Bool) (first : ℕ) (place : Option Source) (since : Option Begun) : Type 0 where
+  pub sending : Sending (started (configured setup ahead) first) [] place since
   pub source : sending.source.identity ≡ setup.identity
   pub begun : sending.begun.identity ≡ setup.identity
 

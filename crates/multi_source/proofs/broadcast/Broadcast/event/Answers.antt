@@ -12,7 +12,7 @@ returns-in-Ok-clause-ok c = rw (← c.self.view_is) (λ calls broadcast. (
     source = (c.in-Ok.ensures.ok calls broadcast.source).1;
     air = subst (λ setup. IsOnAir setup (event ∷ calls) c.push.new.self) (sym c.event.ensures.setup)
         (subst (IsOnAir c.self.inside.source.setup (event ∷ calls)) (sym c.push.ensures)
-        (event_on_air c.self.inside.source.setup calls c.self.inside.air c.in-Ok.sent.pdus c.event.ensures.checked.0 c.event.ensures.checked.1 broadcast.air
+        (event_on_air c.self.inside.source.setup calls c.self.inside.air c.in-Ok.sent.pdus c.event.ensures.checked broadcast.air
         (λ airs are. subst (λ at. Sends c.self.inside.source.setup airs at c.in-Ok.sent.pdus) (c.in-Ok.ensures.event.0 ∙ broadcast.source.next)
         (c.in-Ok.ensures.pdus calls airs broadcast.source are))));
   },
