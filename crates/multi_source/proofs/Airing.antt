@@ -12,8 +12,8 @@ use Rattle.radio_schedule.specs.declared.air.AirFault.TheVariants.{NoSuchBis as 
 use Rattle.source_machine.specs.Airs.{AreAirs, Sends, airs_of, pdu_of}
 use Rattle.source_machine.specs.Calls.{Setup, Call, give, event, events, next_of}
 use Rattle.source_machine.specs.Faults.{air_fault}
-use Rattle.source_machine.specs.Setups.{IsChecked}
 use Rattle.source_machine.proofs.Citable.{airs_exist, sends_stay}
+use Rattle.source_machine.specs.Setups.{IsChecked}
 use Rattle.source_machine.specs.State.Sources.{Source, AfterFault as SourceFault}
 use Rattle.source_machine.specs.declared.fault.EventFault.{EventFault}
 use Rattle.source_machine.specs.declared.fault.EventFault.TheVariants.{CounterEnds, Memory}

@@ -1,14 +1,14 @@
 -- A source that was started, in its place beside the other one.
-use Rattle.std.proofs.Common.{ℕ, ◌≡◌, ◌∙◌, [], ◌∷◌, ◌++◌, Bool, List, Option, Some, None, ap, sym, refl, subst}
+use Rattle.std.proofs.Common.{ℕ, ◌≡◌, ◌∙◌, [], ◌∷◌, ◌++◌, List, Option, Some, None, ap, sym, refl, subst}
 use Rattle.radio_schedule.specs.OnAir.{OnAir, silence}
-use Rattle.source_machine.specs.declared.setup.Setup.{Setup as Configured}
 use Rattle.source_machine.specs.Calls.{Setup, Call, event, next_of}
-use Rattle.source_machine.specs.Setups.{IsChecked, configured, started}
+use Rattle.source_machine.specs.Setups.{Configured, IsChecked, started}
 use Rattle.source_machine.specs.State.Sources.{Source, StandsFor as SourceStands}
 use Rattle.std.proofs.lemmas.Option.{same_Some}
 use Rattle.circular_buffer.specs.Buffer.{keep_last}
 use Rattle.isoal_base.specs.Air.{Air}
-use Rattle.source_machine.specs.Airs.{AreAirs, Sends}
+use Rattle.source_machine.specs.Airs.{AreAirs, Sends, stale_of}
+use Rattle.source_machine.specs.declared.sent.Stale.{Stale}
 use Rattle.source_machine.specs.Faults.{event_fault}
 use Rattle.multi_source.specs.declared.field.Begun.{Begun}
 use Rattle.multi_source.specs.State.Broadcasts.{IsOfGroup, IsOnAir}
@@ -18,10 +18,10 @@ use Rattle.multi_source.proofs.Airing.{event_on_air, silent}
 of_silence : (setup : Setup) (air : OnAir) → air ≡ silence setup.info → IsOfGroup setup air
 of_silence setup air is = record { streams = ap (λ (a : OnAir). a.num_bis) is; subevents = ap (λ (a : OnAir). a.nse) is }
 
-pub starts : (setup : Configured) (ahead : Bool) (first : ℕ) (place : Option Source) (since : Option Begun) (source : Source) (begun : Begun) → place ≡ Some source → since ≡ Some begun
-    → source.identity ≡ setup.identity → source.setup ≡ started (configured setup ahead) first → SourceStands [] source
-    → begun.identity ≡ setup.identity → begun.air ≡ silence setup.info → Starts setup ahead first place since
-starts setup ahead first place since source begun source_is begun_is identity setup_is stands named air = record {
+pub starts : (setup : Configured) (first : ℕ) (place : Option Source) (since : Option Begun) (source : Source) (begun : Begun) → place ≡ Some source → since ≡ Some begun
+    → source.identity ≡ setup.identity → source.setup ≡ started setup first → SourceStands [] source
+    → begun.identity ≡ setup.identity → begun.air ≡ silence setup.info → Starts setup first place since
+starts setup first place since source begun source_is begun_is identity setup_is stands named air = record {
   sending = record {
     source = source;
     source_is = source_is;
@@ -29,7 +29,7 @@ starts setup ahead first place since source begun source_is begun_is identity se
     stands = stands;
     begun = begun;
     begun_is = begun_is;
-    air = silent (started (configured setup ahead) first) begun.air (of_silence (started (configured setup ahead) first) begun.air air) (ap (λ (a : OnAir). a.events) air);
+    air = silent (started setup first) begun.air (of_silence (started setup first) begun.air air) (ap (λ (a : OnAir). a.events) air);
   };
   source = identity;
   begun = named;
@@ -64,3 +64,13 @@ performed setup calls old new before after pdus checked same pushed stands sends
             (sends calls airs standing (subst (λ s. AreAirs s (event ∷ calls) airs) (sym setup_is) are)))));
       },
     )
+
+-- what is told of it as left out
+pub tells : (setup : Setup) (calls : List Call) (airs : List Air) (old : Source) (since : Option Begun) (told : List Stale)
+    → ((c : List Call) (all : List Air) → SourceStands c old → AreAirs old.setup (event ∷ c) all → told ≡ stale_of old.setup c all)
+    → Sending setup calls (Some old) since → AreAirs setup (event ∷ calls) airs → told ≡ stale_of setup calls airs
+tells setup calls airs old since told says sending are =
+    let source : sending.source ≡ old = sym (same_Some old sending.source sending.source_is) in
+    let setup_is : old.setup ≡ setup = sym (ap (λ (s : Source). s.setup) source) ∙ sending.setup_is in
+    let standing : SourceStands calls old = subst (SourceStands calls) source sending.stands in
+    subst (λ s. told ≡ stale_of s calls airs) setup_is (says calls airs standing (subst (λ s. AreAirs s (event ∷ calls) airs) (sym setup_is) are))

@@ -6,6 +6,7 @@ ghost use Rattle.isoal_base.specs.Air.{Air as StreamAir};
 ghost use Rattle.source_machine.specs.Airs.{AreAirs, stale_of};
 ghost use Rattle.source_machine.specs.Calls.{Setup as Fixed, Call, event as performs};
 ghost use Rattle.source_machine.specs.Faults.{event_fault, refused_event};
+ghost use Rattle.source_machine.specs.Setups.{configured};
 ghost use Rattle.multi_source.specs.State.Fields.{EventLeaves, HasOwnAir, Sending, fault_of, is_same as is_same_source, is_taken};
 
 use bcast_base::{Bis, EventPdus};
@@ -96,7 +97,7 @@ impl Field {
         requires origin { setup.origin ≤ 2 ^ 48 }
         requires delay { setup.delay < 2 ^ 24 }
         requires first { first < 2 ^ 39 }
-        ensures ok { OnOk result (Starts setup limits.ahead first (source_of self.new s) (begun_of self.new s)) }
+        ensures ok { OnOk result (Starts (configured setup limits.ahead) first (source_of self.new s) (begun_of self.new s)) }
         ensures checked { OnOk result (first_fault limits.horizon setup.info ≡ None) }
         ensures single { OnOk result (is_taken setup.identity (begun_of self.old (1 - s)) ≡ false) }
         ensures others { OnOk result (OthersStay s self.old self.new) }

@@ -18,5 +18,8 @@ returns-in-Ok-clause-ok c = rw (← c.self.view_is) (λ calls broadcast. (
   },
 ))
 
+pub returns-in-Ok-clause-stale : goal.returns-in-Ok-clause-stale
+returns-in-Ok-clause-stale c = rw (← c.self.view_is) (λ calls airs broadcast are. c.in-Ok.ensures.stale calls airs broadcast.source are)
+
 pub returns-in-Err-clause-err : goal.returns-in-Err-clause-err
 returns-in-Err-clause-err c = rw (← c.self.view_is) (refused c.self.inside.source c.event.new.self c.self.inside.air c.in-Err.fault c.in-Err.ensures.err)
