@@ -96,16 +96,18 @@ whole_units below airs meets own bis legal started is_framed least within =
     let has : HasAir (setup_of own) (source_calls own) bis (airs (setup_of own) (source_calls own)) =
     has_air (setup_of own) (source_calls own) bis (airs (setup_of own) (source_calls own)) are least within in
     let sends = below.sends_units group (framed_calls (setup_of own) bis (source_calls own)) has.air is_framed
-    (unit_short airs (setup_of own) bis (source_calls own) (are_accepted airs own legal)) (has.is.framed is_framed) in
-    (map (by_payload (setup_of own)) sends.0, record {
-      bounds = bounds_in own is started;
-      is_framed = is_framed;
-      least = least;
-      within = within;
-      are = are;
-      has = has;
-      sent = record { in_air = sends.0; sends = sends.1; numbered = refl };
-    })
+    (unit_short airs (setup_of own) bis (source_calls own) (are_accepted airs own legal)) (has.is.framed is_framed) in (
+      map (by_payload (setup_of own)) sends.0,
+      record {
+        bounds = bounds_in own is started;
+        is_framed = is_framed;
+        least = least;
+        within = within;
+        are = are;
+        has = has;
+        sent = record { in_air = sends.0; sends = sends.1; numbered = refl };
+      },
+    )
 
 -- ---- what is decided in the stay is struck
 

@@ -50,4 +50,3 @@ sends_own below airs meets setup whole tuning bis own legal started within same 
     event bis subevent refl (ap (λ (s : Setup). s.info.framing) (within.setup_is started) ∙ plain) least past bis_least bis_within inside
     ∙ ap (λ (s : Setup). pdu (content_at s whole bis (payload_number s.info event subevent))) (within.setup_is started)
     ∙ ap pdu (air_same setup whole tuning bis event subevent same)
-

@@ -74,9 +74,12 @@ no_more base units none = ap (map (moved_on base)) none
 pub order_on : (base from laid : ℕ) (units : List Sent) → InOrder from laid units → InOrder (base + from) (base + laid) (map (moved_on base) units)
 order_on base from laid [] order = tt
 order_on base from laid (unit ∷ units) order =
-    let next : base + (behind unit - 1) ≡ behind (moved_on base unit) - 1 = omega (arith, order.1) in
-    (omega (arith, order.0), order.1, (λ partly. (no_more base units (order.2 partly).0, omega (arith, (order.2 partly).1))),
-    subst (λ f. InOrder f (base + laid) (map (moved_on base) units)) next (order_on base (behind unit - 1) laid units order.3))
+    let next : base + (behind unit - 1) ≡ behind (moved_on base unit) - 1 = omega (arith, order.1) in (
+      omega (arith, order.0),
+      order.1,
+      (λ partly. (no_more base units (order.2 partly).0, omega (arith, (order.2 partly).1))),
+      subst (λ f. InOrder f (base + laid) (map (moved_on base) units)) next (order_on base (behind unit - 1) laid units order.3),
+    )
 
 pub order_from : (from low laid : ℕ) (units : List Sent) → low ≤ from → InOrder from laid units → InOrder low laid units
 order_from from low laid [] more order = tt

@@ -99,8 +99,7 @@ event_units : (stay : Stay) (event max_sdu : ℕ) (tokens rest : List Token) →
 event_units stay event max_sdu [] rest all = ([], refl, tt)
 event_units stay event max_sdu (starts time complete octets ∷ tokens) rest all =
     let later = event_units stay event max_sdu tokens rest all.1 in
-    let first : List Handed = handed_of stay.bis time (fate_at max_sdu complete octets (tokens ++ rest)) in
-    (
+    let first : List Handed = handed_of stay.bis time (fate_at max_sdu complete octets (tokens ++ rest)) in (
       first ++ later.0,
       ap (λ us. first ++ us) later.1 ∙ sym (append_assoc first later.0 (units max_sdu stay.bis rest)),
       all_on (AtStart stay event) first later.0 (fate_at_start stay event time all.0.0 (fate_at max_sdu complete octets (tokens ++ rest)) all.0.1) later.2,
@@ -160,14 +159,16 @@ by_source : (setup : Setup) (calls : List SourceCall) (tuning : Tuning) (bis low
 by_source setup calls tuning bis low high [] [] on least most rise all = tt
 by_source setup calls tuning bis low high [] (entry ∷ entries) on least most rise all = absurd all
 by_source setup calls tuning bis low high (event ∷ events) [] on least most rise all = absurd all
-by_source setup calls tuning bis low high (event ∷ events) (entry ∷ entries) on least most rise all =
-    (record {
-      least = omega (arith, least, on.first, rise.0);
-      performed = omega (arith, rise.1, most);
-      stream = all.0.stream;
-      offset = all.0.offset;
-      time_is = all.0.time_is ∙ start_time_is setup tuning bis event all.0.offset on (omega (arith, least, rise.0));
-    }, by_source setup calls tuning bis event high events entries on (omega (arith, least, rise.0)) most rise.2 all.1)
+by_source setup calls tuning bis low high (event ∷ events) (entry ∷ entries) on least most rise all = (
+  record {
+    least = omega (arith, least, on.first, rise.0);
+    performed = omega (arith, rise.1, most);
+    stream = all.0.stream;
+    offset = all.0.offset;
+    time_is = all.0.time_is ∙ start_time_is setup tuning bis event all.0.offset on (omega (arith, least, rise.0));
+  },
+  by_source setup calls tuning bis event high events entries on (omega (arith, least, rise.0)) most rise.2 all.1,
+)
 
 claim_more : (setup : Setup) (calls : List SourceCall) (bis e later : ℕ) (closed more : List Closed) (entries : List Handed) → e ≤ later → Claim setup calls bis e closed entries → Claim setup calls bis later more entries
 claim_more setup calls bis e later closed more entries most claim =

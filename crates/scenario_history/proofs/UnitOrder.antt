@@ -153,8 +153,13 @@ stay_gives setup whole tuning bis calls some on opens n unit sent long =
       | inr one ↦
           let is : IsEntry (stay_on tuning bis) (is_heard (stay_on tuning bis) calls) (closed_end (stay_on tuning bis) calls) (by_payload setup sent.0) one.0 =
           subst (λ u. IsEntry (stay_on tuning bis) (is_heard (stay_on tuning bis) calls) (closed_end (stay_on tuning bis) calls) u one.0) sent.1 one.2 in
-          inr (one.0, one.1, mul_least tuning.first unit.first tuning.info.bn (heard_least (stay_on tuning bis) calls unit.first one.2.start_heard), one.2.start_closed,
-          one_entry setup whole tuning bis n sent.0 one.0 calls some on opens sent.2 is)
+          inr (
+            one.0,
+            one.1,
+            mul_least tuning.first unit.first tuning.info.bn (heard_least (stay_on tuning bis) calls unit.first one.2.start_heard),
+            one.2.start_closed,
+            one_entry setup whole tuning bis n sent.0 one.0 calls some on opens sent.2 is,
+          )
     ]
 
 -- ---- over all stays

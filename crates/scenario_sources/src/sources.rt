@@ -4,9 +4,9 @@ ghost use Rattle.big_info.specs.Widths.{FitsWidths};
 
 use crate::describing::{begin, check_start, describe, identify, is_twice};
 use crate::identity::identity_or;
+use crate::performed::Performed;
 use crate::phase::Phase;
 use crate::place::{Place, event_in, group_in, heard_in, last_in};
-use crate::performed::Performed;
 use crate::sending::{give, open, perform, standpoint_in, stop};
 use crate::standpoint::Standpoint;
 use bcast_base::{Bis, Memory};
