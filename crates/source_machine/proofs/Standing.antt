@@ -2,7 +2,9 @@
 use Rattle.std.proofs.Common.{ℕ, ◌≡◌, ◌<◌, ◌≤◌, ◌+◌, ◌-◌, ◌*◌, ◌^◌, Option, Some, None, List, [], ◌∷◌, ◌++◌, false, length, map, get_or, set, get_or-set_other, get_or-set_same, length-set, arith, ◌∙◌, ap, sym, refl, subst, inl, inr}
 use Rattle.std.proofs.lemmas.Bool.{cases_eq, cases_lt, le-ltb}
 use Rattle.std.proofs.lemmas.List.{get_or-append_right, get_or_append_left, length-append}
+use Rattle.base_grammar.specs.Layout.{Endpoint}
 use Rattle.big_info.specs.declared.info.BigInfo.{BigInfo}
+use Rattle.big_info.specs.declared.info.Cipher.{Cipher}
 use Rattle.std.proofs.lemmas.List.Elements.{length_all_zip}
 use Rattle.std.specs.Prelude.{unwrap_or}
 use Rattle.std.specs.List.{AllZip, flat_map, range_with_len, slice_get}
@@ -27,8 +29,9 @@ use Rattle.source_machine.proofs.Lists.{flat_same}
 use Rattle.source_machine.proofs.Sending.{event_sends, gathered_count}
 
 pub stands_new : (setup : Setup) (streams : List Stream) → ((k : ℕ) (none : Stream) → k < length streams → StreamStands setup.info (k + 1) [] [] (get_or streams k none))
-    → (identity : Identity) → StandsFor [] (record { identity = identity; setup = setup; next = setup.first; streams = streams; failed = false })
-stands_new setup streams are identity = record { next = omega arith; streams = are; works = refl }
+    → (identity : Identity) (base : Endpoint) (cipher : Option Cipher)
+    → StandsFor [] (record { identity = identity; base = base; cipher = cipher; setup = setup; next = setup.first; streams = streams; failed = false })
+stands_new setup streams are identity base cipher = record { next = omega arith; streams = are; works = refl }
 
 -- one stream more
 pub one_more_stream : (info : BigInfo) (bis n : ℕ) (old new : List Stream) (stream : Stream) → length old ≡ n
