@@ -85,12 +85,12 @@ impl Broadcast {
             → (event_fault self.old.source.setup calls ≡ None) × StandsFor (performs ∷ calls) self.new) }
         ensures stale { IfOk result (λ stale. (calls : List Call) (airs : List StreamAir) → StandsFor calls self.old → AreAirs self.old.source.setup (performs ∷ calls) airs
             → stale ≡ stale_of self.old.source.setup calls airs) }
-        ensures checked { IsChecked self.old.source.setup.info }
         ensures cause { IfErr result (λ fault. (calls : List Call) → StandsFor calls self.old
             → event_fault self.old.source.setup calls ≡ refused_event fault) }
         ensures err { IfErr result (λ fault. AfterFault fault self.old self.new) }
         ensures next { OnOk result (self.new.source.next ≡ self.old.source.next + 1) }
         ensures same { OnErr result (self.new.source.next ≡ self.old.source.next) }
+        ensures checked { IsChecked self.old.source.setup.info }
     {
         match self.source.event() {
             Ok(sent) => {
@@ -114,6 +114,7 @@ impl Broadcast {
             → air_fault self.now.source.setup calls back bis subevent ≡ Some fault) }
         ensures checked { IsChecked self.now.source.setup.info }
     {
+        let _group = self.source.group();
         self.air.heard_at(back, bis, subevent)
     }
 

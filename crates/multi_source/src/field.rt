@@ -1,10 +1,13 @@
 ghost use Rattle.std.specs.Prelude.{◌≡◌, ◌≤◌, ◌<◌, ◌-◌, ◌^◌, ◌*◌, ◌++◌, ◌∷◌, ℕ, List, [], length, Some, None, false, true, is_some, slice_set, IfOk, IfErr, OnOk, OnErr};
 ghost use Rattle.circular_buffer.specs.Buffer.{keep_last};
 ghost use Rattle.big_info.specs.Widths.{FitsWidths};
-ghost use Rattle.big_info.specs.Rows.{first_fault};
+ghost use Rattle.isoal_base.specs.Air.{Air as StreamAir};
+ghost use Rattle.source_machine.specs.Airs.{AreAirs, stale_of};
 ghost use Rattle.source_machine.specs.Calls.{Setup as Fixed, Call, event as performs};
 ghost use Rattle.source_machine.specs.Faults.{event_fault, refused_event};
-ghost use Rattle.multi_source.specs.State.Fields.{EventLeaves, HasOwnAir, Sending, fault_of, is_same as is_same_source, is_taken};
+ghost use Rattle.source_machine.specs.Ciphers.{MayBeSent};
+ghost use Rattle.source_machine.specs.Setups.{configured};
+ghost use Rattle.multi_source.specs.State.Fields.{EventLeaves, HasOwnAir, IsPlain, Sending, fault_of, is_same as is_same_source, is_taken};
 
 use bcast_base::{Bis, EventPdus};
 use big_info::{GroupFault, Limits};
@@ -75,11 +78,11 @@ impl Field {
         }
     }
 
-    /// Starts a source of an unframed group with this first event. Nothing is on its air.
+    /// Starts a source with this first event. Nothing is on its air.
     ///
-    /// The first refusal that holds is answered: BadGroup where a row of the group check holds by these limits, IdentTwice
-    /// where the other source was started with the same address type, SID and Broadcast_ID, be it stopped or not. A
-    /// refusal changes nothing.
+    /// The first refusal that holds is answered: BadGroup where a row of the group check but Encrypted holds by these
+    /// limits, IdentTwice where the other source was started with the same address type, SID and Broadcast_ID, be it
+    /// stopped or not. A refusal changes nothing.
     pub fn start(
         &mut self,
         s: u8,
@@ -92,10 +95,10 @@ impl Field {
         requires widths { FitsWidths setup.info }
         requires horizon { limits.horizon ≤ 31 }
         requires least { 3000 ≤ setup.origin }
-        requires origin { setup.origin ≤ 2 ^ 48 }
+        requires greatest { setup.origin ≤ 2 ^ 48 }
         requires first { first < 2 ^ 39 }
-        ensures ok { OnOk result (Starts setup first (source_of self.new s) (begun_of self.new s)) }
-        ensures checked { OnOk result (first_fault limits.horizon setup.info ≡ None) }
+        ensures ok { OnOk result (Starts (configured setup limits.ahead) first (source_of self.new s) (begun_of self.new s)) }
+        ensures checked { OnOk result (MayBeSent limits.horizon setup.info) }
         ensures single { OnOk result (is_taken setup.identity (begun_of self.old (1 - s)) ≡ false) }
         ensures others { OnOk result (OthersStay s self.old self.new) }
         ensures err { OnErr result (self.new ≡ self.old) }
@@ -120,10 +123,7 @@ impl Field {
         let Ok(air) = Air::new(self.alloc, source.group()) else {
             return Err(FieldFault::Memory);
         };
-        let begun = Begun {
-            identity,
-            air,
-        };
+        let begun = Begun { identity, air };
         self.place(s, source, begun);
         Ok(())
     }
@@ -147,9 +147,11 @@ impl Field {
     pub fn event(&mut self, s: u8) -> Result<StaleList, EventFault>
         requires number { s ≤ 1 }
         requires own_air { HasOwnAir (source_of self.old s) (begun_of self.old s) }
+        requires plain { IsPlain (source_of self.old s) }
         ensures ok { OnOk result ((setup : Fixed) (calls : List Call) → Sending setup calls (source_of self.old s) (begun_of self.old s)
             → (event_fault setup calls ≡ None) × Sending setup (performs ∷ calls) (source_of self.new s) (begun_of self.new s)) }
-        ensures stale { IfOk result (λ stale. stale ≡ []) }
+        ensures stale { IfOk result (λ stale. (setup : Fixed) (calls : List Call) (airs : List StreamAir) → Sending setup calls (source_of self.old s) (begun_of self.old s)
+            → AreAirs setup (performs ∷ calls) airs → stale ≡ stale_of setup calls airs) }
         ensures cause { IfErr result (λ fault. (setup : Fixed) (calls : List Call) → Sending setup calls (source_of self.old s) (begun_of self.old s)
             → event_fault setup calls ≡ refused_event fault) }
         ensures left { IfErr result (λ fault. EventLeaves fault (source_of self.old s) (source_of self.new s)) }
@@ -238,10 +240,12 @@ fn perform(
     place: &mut Option<SourceStreaming>,
     since: &mut Option<Begun>,
 ) -> Result<StaleList, EventFault>
-    requires { HasOwnAir place.old since.old }
+    requires own_air { HasOwnAir place.old since.old }
+    requires plain { IsPlain place.old }
     ensures ok { OnOk result ((setup : Fixed) (calls : List Call) → Sending setup calls place.old since.old
         → (event_fault setup calls ≡ None) × Sending setup (performs ∷ calls) place.new since.new) }
-    ensures stale { IfOk result (λ stale. stale ≡ []) }
+    ensures stale { IfOk result (λ stale. (setup : Fixed) (calls : List Call) (airs : List StreamAir) → Sending setup calls place.old since.old
+        → AreAirs setup (performs ∷ calls) airs → stale ≡ stale_of setup calls airs) }
     ensures cause { IfErr result (λ fault. (setup : Fixed) (calls : List Call) → Sending setup calls place.old since.old
         → event_fault setup calls ≡ refused_event fault) }
     ensures left { IfErr result (λ fault. EventLeaves fault place.old place.new) }

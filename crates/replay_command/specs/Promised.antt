@@ -1,6 +1,6 @@
--- What a call of `replay` promises of the outside before it and after it, by its words and its status. The program is
--- this project's own.
-use Rattle.std.specs.Prelude.{ℕ, ◌≡◌, ◌≢◌, ◌↔◌, true, List, [], Some}
+-- What a call of `replay` promises of the outside before it and after it, by its status, where its words mean replay. The
+-- program is this project's own.
+use Rattle.std.specs.Prelude.{ℕ, ◌≡◌, ◌≢◌, true, List, Some}
 use Rattle.bcast_base.specs.Counts.{Rose}
 use Rattle.bcast_io.specs.TextLines.{TextLine, lines_of}
 use Rattle.transcript_text.specs.declared.refusal.Refusal.{Refusal}
@@ -23,9 +23,9 @@ DidOver airs status old new = Ended airs status old.boxes new.boxes old.left new
 abbrev pub Did : Status → World → World → Type 0
 Did status old new = (airs : Airs) → MeetAirs airs → DidOver airs status old new
 
-pub record Promised {W : Type 0} (words : List W) (old new : World) (status : Status) : Type 0 where
-  -- Any word is Usage, and nothing else is.
-  pub usage : (status ≡ statuses.Usage) ↔ (words ≢ [])
+pub record Promised (old new : World) (status : Status) : Type 0 where
+  -- Usage doesn't come.
+  pub no_usage : status ≢ statuses.Usage
   -- Done: the text was read to its end, no line of it is refused, and its transcript was written.
   pub done : status ≡ statuses.Done → Did statuses.Done old new
   -- Refused: the transcript ends with this refusal of this line, whatever follows what was read, and was written.
@@ -46,7 +46,7 @@ pub record Promised {W : Type 0} (words : List W) (old new : World) (status : St
   pub boxes : (airs : Airs) → MeetAirs airs → (text : List ℕ) → old.left ≡ Some text → IsWhole status
       → Took old.boxes new.boxes (units_of airs old.boxes (lines_of true text))
   -- What the outside does decides which statuses can come.
-  pub complete : (airs : Airs) → MeetAirs airs → (text : List ℕ) → old.left ≡ Some text → words ≡ []
+  pub complete : (airs : Airs) → MeetAirs airs → (text : List ℕ) → old.left ≡ Some text
       → Complete airs text old.boxes new.boxes old.reads new.reads old.writes new.writes status
   -- At most 65,536 octets were read past the line of the status.
   pub reading_ahead : (airs : Airs) → MeetAirs airs → AheadOf airs status old.boxes new.boxes old.left new.left old.taken new.taken

@@ -1,14 +1,15 @@
 -- The plain BASE has a spelling, and takes each index once.
-use Rattle.std.proofs.Common.{ℕ, zero, suc, ◌≡◌, ◌+◌, ◌*◌, ◌≤◌, ◌<◌, ◌||◌, true, false, eqb, ltb, cond, List, [], ◌∷◌, ◌++◌, map, length, Option, Some, None, refl, sym, ap, ◌∙◌, subst, arith, length-append}
+use Rattle.std.proofs.Common.{ℕ, zero, suc, ◌≡◌, ◌+◌, ◌*◌, ◌≤◌, ◌<◌, ◌||◌, true, false, eqb, ltb, cond, List, [], ◌∷◌, ◌++◌, map, length, Option, Result, Err, Some, None, refl, sym, ap, ◌∙◌, subst, arith, length-append}
 use Rattle.std.specs.List.{flat_map, list_any, range_with_len}
 use Rattle.std.proofs.lemmas.Bool.{cond-false, le-ltb, ne_eqb}
 use Rattle.std.proofs.lemmas.List.{append-nil}
 use Rattle.octet_fields.specs.Spelling.{number}
 use Rattle.octet_fields.proofs.Citable.{number-length}
 use Rattle.ltv_codec.specs.Layout.{AreLtvs}
-use Rattle.base_grammar.specs.Layout.{bis_of, entry, indices, spelling, stands_in, subgroup}
-use Rattle.base_grammar.specs.Draft.{entry_fault, finish_fault, size_fault}
-use Rattle.base_grammar.specs.declared.fault.DraftFault.TheVariants.{IndexTwice, NoBis, TooLong}
+use Rattle.base_grammar.specs.Layout.{Endpoint, endpoint, lc3, bis_of, entry, indices, spelling, stands_in, subgroup}
+use Rattle.base_grammar.specs.Draft.{Refuses, entry_fault, finish_fault, size_fault, with_entry}
+use Rattle.base_grammar.specs.declared.fault.DraftFault.{DraftFault}
+use Rattle.base_grammar.specs.declared.fault.DraftFault.TheVariants.{IndexTwice, Memory, NoBis, TooLong}
 use Rattle.base_grammar.specs.declared.subgroup.BaseEntry.{BaseEntry}
 use Rattle.scenario_bases.specs.Plain.{plain_entry, plain_entries, plain_subgroup, plain_base_of}
 
@@ -68,3 +69,17 @@ plain_finishes delay n least most =
     (cond-false (eqb (length (plain_entries n)) 0) (Some NoBis) None (ne_eqb (length (plain_entries n)) 0 (λ none. omega (arith, entries_count 1 n))))
     ∙ cond-false (ltb 252 (length (spelling (plain_base_of delay n)))) (Some TooLong) None
     (le-ltb 252 (length (spelling (plain_base_of delay n))) (omega (arith, spelling_length delay n)))
+
+-- the next entry is refused for want of memory alone, and else is put
+pub wants_memory : (v : Endpoint) (delay n bis : ℕ) (fault : DraftFault) → v ≡ plain_base_of delay n → bis ≡ n + 1
+    → Refuses (entry_fault v.subgroups bis) (Err fault) → fault ≡ Memory
+wants_memory v delay n bis fault v_is bis_is refuses =
+    subst (λ (f : Option DraftFault). Refuses f (Err fault))
+    (ap (λ (w : Endpoint). entry_fault w.subgroups bis) v_is ∙ ap (entry_fault (plain_subgroup n ∷ [])) bis_is ∙ index_is_new n) refuses
+
+pub put_is : (v new : Endpoint) (delay n bis : ℕ) → v ≡ plain_base_of delay n → bis ≡ n + 1
+    → new ≡ with_entry (record { bis = bis; config = [] }) v → new ≡ plain_base_of delay (n + 1)
+put_is v new delay n bis v_is bis_is new_is =
+    new_is ∙ ap (with_entry (record { bis = bis; config = [] })) v_is
+    ∙ ap (λ b. with_entry (plain_entry b) (plain_base_of delay n)) bis_is
+    ∙ ap (λ es. endpoint delay (record { codec = lc3; config = []; metadata = []; entries = es } ∷ [])) (sym (entries_more n))

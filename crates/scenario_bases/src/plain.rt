@@ -46,11 +46,18 @@ fn put_next(draft: &mut BaseDraft, delay: u32, n: u8) -> Result<(), Memory>
     requires draft { draft.old ≡ plain_base_of delay n }
     ensures { OnOk result (draft.new ≡ plain_base_of delay (n + 1)) }
 {
-    let bis = Bis::new(n + 1).unwrap();
-    match draft.bis(bis, &[]) {
+    match draft.bis(index_behind(n), &[]) {
         Ok(()) => Ok(()),
         Err(fault) => Err(wanting(fault)),
     }
+}
+
+/// The index behind the first `n`.
+fn index_behind(n: u8) -> Bis
+    requires { n < 31 }
+    ensures { result ≡ n + 1 }
+{
+    Bis::new(n + 1).unwrap()
 }
 
 /// A draft whose step is none that it refuses fails for want of memory alone.

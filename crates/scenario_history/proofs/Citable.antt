@@ -1,6 +1,6 @@
 -- What crates above may cite: what the boxes took of the units of a scenario, which boxes its sinks have, and where the steps
 -- of a source stand.
-use Rattle.std.proofs.Common.{ℕ, ◌≡◌, ◌<◌, ◌+◌, List, ◌++◌, length, map, sum, Option, Some}
+use Rattle.std.proofs.Common.{ℕ, ◌≡◌, ◌<◌, ◌+◌, List, ◌++◌, length, map, sum, Some}
 use Rattle.unit_outlets.specs.Account.{Account}
 use Rattle.scenario_text.specs.declared.step.Step.{Step}
 use Rattle.scenario_history.specs.Steps.{sinks_made, stage_of, steps_of_source}

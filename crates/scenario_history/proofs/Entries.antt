@@ -1,5 +1,5 @@
 -- What is struck of units, by the numbers that they begin at: each entry is of its unit, in order.
-use Rattle.std.proofs.Common.{ℕ, zero, suc, ◌≡◌, ◌⊎◌, ◌<◌, ◌≤◌, ◌+◌, ◌-◌, ◌*◌, ◌/◌, ◌&&◌, cond, ltb, leb, Bool, true, false, List, [], ◌∷◌, ◌++◌, length, Option, None, Some, refl, sym, ◌∙◌, ap, subst, arith, inl, inr}
+use Rattle.std.proofs.Common.{ℕ, zero, suc, ◌≡◌, ◌⊎◌, ◌<◌, ◌≤◌, ◌+◌, ◌-◌, ◌/◌, ◌&&◌, cond, ltb, Bool, true, false, List, [], ◌∷◌, ◌++◌, length, Option, None, Some, refl, sym, ◌∙◌, ap, subst, arith, inl, inr}
 use Rattle.std.specs.Prelude.{slice_get}
 use Rattle.std.specs.List.{AllZip, flat_map}
 use Rattle.std.proofs.lemmas.Bool.{and_parts, ltb-true}
@@ -16,7 +16,7 @@ use Rattle.scenario_history.proofs.Shown.{zip_on}
 pub le_total : (a b : ℕ) → (a ≤ b) ⊎ (b < a)
 le_total zero b = inl (omega arith)
 le_total (suc a) zero = inr (omega arith)
-le_total (suc a) (suc b) = elim (le_total a b) [ | inl is ↦ inl (omega (arith, is)) | inr is ↦ inr (omega (arith, is)) ]
+le_total (suc a) (suc b) = elim (le_total a b) [ inl is ↦ inl (omega (arith, is)) | inr is ↦ inr (omega (arith, is)) ]
 
 -- ---- the entry of a unit
 
@@ -45,23 +45,31 @@ valid_has : (stay : Stay) (heard : ℕ → Bool) (closed : ℕ) (unit : Sent) �
 valid_has stay heard closed unit start some false is = inl refl
 valid_has stay heard closed unit start some true is =
     let both = and_parts unit.whole (ltb (behind unit - 1) closed) is in
-    inr (valid stay.bis (time_of stay (unit.first / stay.info.bn) unit.offset) (octets_in unit.segments), refl, record {
-      start_heard = start;
-      start_closed = omega (arith, ltb-true (behind unit - 1) closed both.1, some);
-      octets = [];
-      is = inr (both.0, refl);
-    })
+    inr (
+      valid stay.bis (time_of stay (unit.first / stay.info.bn) unit.offset) (octets_in unit.segments),
+      refl,
+      record {
+        start_heard = start;
+        start_closed = omega (arith, ltb-true (behind unit - 1) closed both.1, some);
+        octets = [];
+        is = inr (both.0, refl);
+      },
+    )
 
 lost_has : (stay : Stay) (heard : ℕ → Bool) (closed number : ℕ) (unit : Sent) → heard unit.first ≡ true → unit.first ≤ number → (test : Bool) → ltb number closed ≡ test
     → HasEntry stay heard closed unit (cond test (lost stay.bis (time_of stay (unit.first / stay.info.bn) unit.offset) ∷ []) [])
 lost_has stay heard closed number unit start least false is = inl refl
 lost_has stay heard closed number unit start least true is =
-    inr (lost stay.bis (time_of stay (unit.first / stay.info.bn) unit.offset), refl, record {
-      start_heard = start;
-      start_closed = omega (arith, ltb-true number closed is, least);
-      octets = [];
-      is = inl refl;
-    })
+    inr (
+      lost stay.bis (time_of stay (unit.first / stay.info.bn) unit.offset),
+      refl,
+      record {
+        start_heard = start;
+        start_closed = omega (arith, ltb-true number closed is, least);
+        octets = [];
+        is = inl refl;
+      },
+    )
 
 by_missing : (stay : Stay) (heard : ℕ → Bool) (closed : ℕ) (unit : Sent) → heard unit.first ≡ true → 1 ≤ length unit.segments → (missing : Option ℕ) → first_missing heard unit.first unit.segments ≡ missing
     → HasEntry stay heard closed unit (entry_by stay closed unit missing)
@@ -194,13 +202,13 @@ batch R E from until f gives more at low least laid (n ∷ ns) (unit ∷ units) 
       (none_left R E from until f gives unit.first least laid (n ∷ ns) (unit ∷ units) all (omega arith, order.1, order.2, order.3) past)
       (ahead_later from until low (n ∷ ns) (unit ∷ units) more ahead)
   | inr below ↦ elim (gives n unit all.1 order.1) [
-      | inl none ↦
-          skip_batch E low until n ns unit units (f unit) (flat_map f units) none below
-          (batch R E from until f gives more (behind unit - 1) low (n + 1) laid ns units all.2 order.3 ahead.1)
-      | inr one ↦
-          one_batch E low until n ns unit units (f unit) one.0 (flat_map f units) one.1 below (ahead.0 one.2) one.4
-          (batch R E from until f gives more (behind unit - 1) (n + 1) (n + 1) laid ns units all.2 order.3 (ahead_all R from (n + 1) ns units all.2))
-    ]
+    | inl none ↦
+        skip_batch E low until n ns unit units (f unit) (flat_map f units) none below
+        (batch R E from until f gives more (behind unit - 1) low (n + 1) laid ns units all.2 order.3 ahead.1)
+    | inr one ↦
+        one_batch E low until n ns unit units (f unit) one.0 (flat_map f units) one.1 below (ahead.0 one.2) one.4
+        (batch R E from until f gives more (behind unit - 1) (n + 1) (n + 1) laid ns units all.2 order.3 (ahead_all R from (n + 1) ns units all.2))
+  ]
 ]
 
 -- the entries of earlier stays, all of units that begin below this number

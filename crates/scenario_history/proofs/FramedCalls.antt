@@ -15,7 +15,6 @@ use Rattle.isoal_framed.specs.Calls.{Call as FramedCall, Timed, accept, lay, acc
 use Rattle.isoal_framed.specs.Places.{Act}
 use Rattle.source_machine.specs.declared.fault.GiveFault.{GiveFault}
 use Rattle.source_machine.specs.Calls.{Setup, Call, give, event, events, framed_calls, framed_lays, laid_before, laid_with, lay_anchor}
-use Rattle.source_machine.specs.Faults.{give_fault}
 use Rattle.scenario_history.specs.Source.{Airs}
 use Rattle.scenario_history.specs.Airs.{AreAccepted}
 
@@ -30,7 +29,7 @@ get_last : {A : Type 0} (xs : List A) (y : A) (n : ℕ) (x : A) → slice_get (x
 get_last [] y zero x is = inr (refl, sym (same_Some y x is))
 get_last [] y (suc n) x is = absurd (none-some x is)
 get_last (z ∷ xs) y zero x is = inl is
-get_last (z ∷ xs) y (suc n) x is = elim (get_last xs y n x is) [ | inl before ↦ inl before | inr last ↦ inr (omega (arith, last.0), last.1) ]
+get_last (z ∷ xs) y (suc n) x is = elim (get_last xs y n x is) [ inl before ↦ inl before | inr last ↦ inr (omega (arith, last.0), last.1) ]
 
 lay_one : (setup : Setup) (count : ℕ) (calls : List FramedCall) (anchor : ℕ) → LaidBy setup count calls → anchor ≡ lay_anchor setup count → LaidBy setup (count + 1) (lay anchor ∷ calls)
 lay_one setup count calls anchor by is = record {

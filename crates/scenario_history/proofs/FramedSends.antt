@@ -1,5 +1,5 @@
 -- What a source of a framed group sends is its own: the PDUs of the units that its air sends, by payload numbers.
-use Rattle.std.proofs.Common.{ℕ, zero, suc, ◌≡◌, ◌<◌, ◌≤◌, ◌+◌, ◌-◌, ◌*◌, ◌/◌, ◌==◌, cond, List, [], ◌∷◌, ◌++◌, length, map, Option, Some, refl, sym, ◌∙◌, ap, subst, arith}
+use Rattle.std.proofs.Common.{ℕ, zero, suc, ◌≡◌, ◌<◌, ◌≤◌, ◌+◌, ◌-◌, ◌*◌, ◌/◌, List, [], ◌∷◌, ◌++◌, length, map, Some, refl, sym, ◌∙◌, ap, subst, arith}
 use Rattle.std.specs.Prelude.{slice_get, unwrap_or}
 use Rattle.std.specs.List.{AllZip, range_with_len}
 use Rattle.std.specs.Option.{option_and_then}
@@ -14,17 +14,16 @@ use Rattle.isoal_base.specs.Air.{Air, pdu_at}
 use Rattle.isoal_framed.specs.Struck.{Fit, InOrder, Sent, parts_at}
 use Rattle.radio_schedule.specs.PayloadNumber.{ahead_of, payload_number}
 use Rattle.source_machine.specs.Airs.{AreAirs, IsAir, pdu_of}
-use Rattle.source_machine.specs.Calls.{Setup, Call as SourceCall, events, laid_before, next_of}
+use Rattle.source_machine.specs.Calls.{Setup, Call as SourceCall, events, next_of}
 use Rattle.source_machine.proofs.Citable.{ahead_within, event_of_number}
 use Rattle.delegator_machine.specs.Calls.{Tuning}
-use Rattle.scenario_text.specs.declared.step.Step.{Step}
-use Rattle.scenario_history.specs.Source.{Airs, is_started, pdu_in, setup_of, source_calls}
+use Rattle.scenario_history.specs.Source.{Airs, setup_of, source_calls}
 use Rattle.scenario_history.specs.Airs.{MeetAirs}
 use Rattle.scenario_history.specs.SourceUnits.{AreSent, by_payload}
 use Rattle.scenario_history.proofs.Below.{Below}
-use Rattle.scenario_history.proofs.Sources.{Lawful, Settled, group_in, settled}
-use Rattle.scenario_history.proofs.Wholes.{Extends, Within, events_more}
-use Rattle.scenario_history.proofs.Hears.{SendsOwn, WholeSends, its_airs}
+use Rattle.scenario_history.proofs.Sources.{Settled, group_in, settled}
+use Rattle.scenario_history.proofs.Wholes.{events_more}
+use Rattle.scenario_history.proofs.Hears.{WholeSends, its_airs}
 use Rattle.scenario_history.proofs.FramedCalls.{events_in, laid_some}
 use Rattle.scenario_history.proofs.SentUnits.{each_sent, fit_on, order_from, order_on, parts_on}
 

@@ -1,28 +1,25 @@
 -- One stay on a framed stream: what its closed events decide is struck over the units that the source sends.
-use Rattle.std.proofs.Common.{ℕ, zero, suc, ◌≡◌, ◌<◌, ◌≤◌, ◌+◌, ◌*◌, ◌/◌, ◌==◌, ◌||◌, cond, ltb, Bool, true, false, List, [], ◌∷◌, length, map, Option, None, Some, refl, sym, ◌∙◌, ap, subst, arith}
+use Rattle.std.proofs.Common.{ℕ, zero, suc, ◌≡◌, ◌<◌, ◌≤◌, ◌+◌, ◌*◌, ◌/◌, ◌==◌, cond, ltb, Bool, true, false, List, [], ◌∷◌, length, map, Option, None, Some, refl, sym, ◌∙◌, ap, subst, arith}
 use Rattle.std.specs.Prelude.{is_some, slice_index_or, unwrap_or}
 use Rattle.std.specs.List.{Contains, list_any}
 use Rattle.std.proofs.Math.Nat.{add-mul, div-mul-le_self, mul-le-mul}
 use Rattle.std.proofs.lemmas.Bool.{eq-eqb, eqb-true, false≢true, ltb-false, or_parts}
 use Rattle.big_info.specs.declared.info.BigInfo.{BigInfo}
 use Rattle.big_info.specs.declared.group.Group.{Group}
-use Rattle.big_info.specs.Bounds.{Bounds}
 use Rattle.big_info.specs.Schedule.{horizon_of}
-use Rattle.iso_pdu.specs.Layout.{Part}
-use Rattle.isoal_base.specs.Air.{Air}
 use Rattle.isoal_base.specs.Hearing.{read_as}
 use Rattle.isoal_base.specs.Stays as stays
 use Rattle.isoal_base.specs.Stays.{Stay, opened}
 use Rattle.isoal_base.proofs.Citable.{heard_first}
 use Rattle.isoal_framed.specs.Histories.{decided, heard_in}
-use Rattle.isoal_framed.specs.Struck.{Fit, Sent, closed_end, is_heard, struck}
+use Rattle.isoal_framed.specs.Struck.{Fit, Sent, is_heard, struck}
 use Rattle.isoal_framed.specs.Tokens.{segmented}
 use Rattle.source_machine.specs.Airs.{AreAirs}
 use Rattle.source_machine.specs.Calls.{Setup, Call as SourceCall, events, framed_calls, laid_before, next_of}
-use Rattle.delegator_machine.specs.Calls.{Tuning, Call, place}
+use Rattle.delegator_machine.specs.Calls.{Tuning, place}
 use Rattle.delegator_machine.specs.Handing.{handed_since as ticked_since, of_stream}
 use Rattle.delegator_machine.proofs.Citable.{member_is}
-use Rattle.delegator_machine.specs.Streams.{closes, stay_on, stream_calls, streams_of}
+use Rattle.delegator_machine.specs.Streams.{closes, stay_on, streams_of}
 use Rattle.scenario_text.specs.declared.step.Step.{Step}
 use Rattle.scenario_history.specs.Steps.{steps_of_source}
 use Rattle.scenario_history.specs.Source.{Airs, is_started, setup_of, source_calls}
@@ -39,7 +36,7 @@ use Rattle.scenario_history.proofs.Stays.{IsOn, OnSource, TunedTo, on_source}
 use Rattle.scenario_history.proofs.Hears.{all_own, its_airs}
 use Rattle.scenario_history.proofs.FromSources.{framed_from_source}
 use Rattle.scenario_history.proofs.Closes.{closing, front_of}
-use Rattle.scenario_history.proofs.FramedCalls.{events_in, laid_some, unit_short}
+use Rattle.scenario_history.proofs.FramedCalls.{events_in, unit_short}
 use Rattle.scenario_history.proofs.FramedSends.{FramedWhole, HasAir, framed_sends, has_air, laid_end, laid_of, sent_fit, sent_in_order}
 
 -- ---- the streams that a sink takes are those of the group
@@ -99,16 +96,18 @@ whole_units below airs meets own bis legal started is_framed least within =
     let has : HasAir (setup_of own) (source_calls own) bis (airs (setup_of own) (source_calls own)) =
     has_air (setup_of own) (source_calls own) bis (airs (setup_of own) (source_calls own)) are least within in
     let sends = below.sends_units group (framed_calls (setup_of own) bis (source_calls own)) has.air is_framed
-    (unit_short airs (setup_of own) bis (source_calls own) (are_accepted airs own legal)) (has.is.framed is_framed) in
-    (map (by_payload (setup_of own)) sends.0, record {
-      bounds = bounds_in own is started;
-      is_framed = is_framed;
-      least = least;
-      within = within;
-      are = are;
-      has = has;
-      sent = record { in_air = sends.0; sends = sends.1; numbered = refl };
-    })
+    (unit_short airs (setup_of own) bis (source_calls own) (are_accepted airs own legal)) (has.is.framed is_framed) in (
+      map (by_payload (setup_of own)) sends.0,
+      record {
+        bounds = bounds_in own is started;
+        is_framed = is_framed;
+        least = least;
+        within = within;
+        are = are;
+        has = has;
+        sent = record { in_air = sends.0; sends = sends.1; numbered = refl };
+      },
+    )
 
 -- ---- what is decided in the stay is struck
 

@@ -1,26 +1,20 @@
 -- Each PDU that a sink hears on a stream of its group is the source's own at its payload number, where none is injected.
 use Rattle.std.proofs.Common.{ℕ, zero, suc, ◌≡◌, ◌≢◌, ◌<◌, ◌≤◌, ◌+◌, ◌*◌, ◌/◌, ◌%◌, ◌^◌, ◌&&◌, ◌||◌, ◌==◌, cond, ltb, leb}
-use Rattle.std.proofs.Common.{Bool, true, false, List, [], ◌∷◌, ◌++◌, Option, None, Some, refl, sym, ◌∙◌, ap, subst, arith, inl, inr}
-use Rattle.std.specs.Prelude.{unwrap_or}
+use Rattle.std.proofs.Common.{Bool, true, false, List, [], ◌∷◌, Option, None, Some, refl, sym, ◌∙◌, ap, subst, arith, inl, inr}
 use Rattle.std.specs.List.{AllByRecursion}
 use Rattle.std.proofs.Math.Nat.{div-lt_iff_lt-mul}
 use Rattle.std.proofs.lemmas.Bool.{and_parts, eqb-true, eqb-false, ltb-false, leb-false, false≢true}
 use Rattle.std.proofs.lemmas.Nat.{mod_below}
 use Rattle.std.proofs.lemmas.Option.{none-some}
-use Rattle.big_info.specs.declared.info.BigInfo.{BigInfo}
-use Rattle.big_info.specs.declared.group.Group.{Group}
 use Rattle.big_info.specs.Bounds.{Bounds}
-use Rattle.big_info.specs.Schedule.{per_unit_of}
 use Rattle.iso_pdu.specs.Layout.{Content}
 use Rattle.iso_pdu.specs.Spelling.{pdu}
-use Rattle.isoal_base.specs.Air.{Air}
 use Rattle.isoal_base.specs.Stays as stays
 use Rattle.isoal_base.specs.Stays.{Stay, opened}
 use Rattle.isoal_unframed.specs.Slot.{laid}
-use Rattle.isoal_unframed.specs.Struck.{Slots, air_at}
 use Rattle.radio_schedule.specs.PayloadNumber.{payload_number}
 use Rattle.radio_schedule.specs.declared.air.AirFault.{AirFault}
-use Rattle.source_machine.specs.Airs.{AreAirs, airs_of, content_at, pdu_of, slots_of}
+use Rattle.source_machine.specs.Airs.{AreAirs}
 use Rattle.source_machine.specs.Calls.{Setup, Call as SourceCall, events, next_of}
 use Rattle.source_machine.specs.Faults.{air_fault}
 use Rattle.delegator_machine.specs.Calls.{Tuning, Call, tune, hear}
@@ -34,10 +28,9 @@ use Rattle.scenario_history.specs.Airs.{MeetAirs}
 use Rattle.scenario_history.specs.Sinks.{spot_at, is_lost, is_of, hear_at, unless_lost, heard_on_air, reaches, sink_calls, source_of, spots_of, ticked, ticked_if, tuning_of, with_sink_call}
 use Rattle.scenario_history.specs.Refusals.{air_refusal, no_place}
 use Rattle.scenario_history.specs.Laws.{injected_since, is_injected, is_tuned}
-use Rattle.scenario_history.proofs.Below.{Below}
 use Rattle.scenario_history.proofs.Legals.{Legal, Permitted, fails_not, maps_none, permitted}
-use Rattle.scenario_history.proofs.Sources.{Lawful, Settled, are_accepted, bounds_in, group_in, lawful, settled}
-use Rattle.scenario_history.proofs.Wholes.{Extends, Within, events_more, within_before}
+use Rattle.scenario_history.proofs.Sources.{Lawful, are_accepted, bounds_in, group_in, lawful, settled}
+use Rattle.scenario_history.proofs.Wholes.{Within, within_before}
 use Rattle.scenario_history.proofs.Stays.{IsOn, OnSource, PutBy, on_before, on_source}
 
 -- each PDU of a stream that these steps of a source sent is the source's own, by what it lays at each number

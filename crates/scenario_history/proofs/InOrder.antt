@@ -4,10 +4,9 @@ use Rattle.std.proofs.lemmas.Bool.{eq-eqb, cases_Bool, leb-true, or_parts, false
 use Rattle.std.proofs.lemmas.List.{append-nil}
 use Rattle.std.proofs.lemmas.List.Elements.{filter-append}
 use Rattle.std.proofs.lemmas.Option.{none-some}
-use Rattle.unit_outlets.specs.Account.{Account}
 use Rattle.big_info.specs.declared.info.BigInfo.{BigInfo}
 use Rattle.unit_outlets.specs.Handed.{Handed}
-use Rattle.isoal_unframed.specs.Calls.{accepted, events as laid_events}
+use Rattle.isoal_unframed.specs.Calls.{events as laid_events}
 use Rattle.isoal_unframed.specs.Histories.{units_of}
 use Rattle.source_machine.specs.Airs.{slots_of}
 use Rattle.source_machine.specs.Calls.{Setup, Call as SourceCall, events, stream_calls as source_stream}
@@ -22,8 +21,7 @@ use Rattle.scenario_history.specs.Source.{Airs, setup_of, source_calls, open_eve
 use Rattle.scenario_history.specs.Airs.{MeetAirs}
 use Rattle.scenario_history.specs.Sinks.{is_of, sink_calls, source_after, source_of, ticked, tuning_of, with_sink_call}
 use Rattle.scenario_history.specs.Boxes.{SinkUnit, handed_by}
-use Rattle.scenario_history.specs.Lines.{steps_of}
-use Rattle.scenario_history.specs.Laws.{OrderLaw, closed_by, handed_since, injected_since, is_injected, is_made, is_tuned, of_sink, shown_since}
+use Rattle.scenario_history.specs.Laws.{closed_by, handed_since, injected_since, is_injected, is_made, is_tuned, of_sink, shown_since}
 use Rattle.scenario_history.specs.SourceUnits.{InSourceOrder, is_valid, valid_in}
 use Rattle.scenario_history.proofs.Below.{Below}
 use Rattle.scenario_history.proofs.Legals.{Legal, legal}
@@ -33,8 +31,8 @@ use Rattle.scenario_history.proofs.Stays.{IsOn, IsThere, OnSource, PutBy, TunedT
 use Rattle.scenario_history.proofs.UnitsLaw.{slot_short}
 use Rattle.scenario_history.proofs.Closings.{handed_open, shown_by, shown_if, step_shown}
 use Rattle.scenario_history.proofs.Ticks.{end_ticks, event_ticks, is_its}
-use Rattle.scenario_history.proofs.Closes.{Climb, climbs, closes_rise, closing, event_of, front, front_of, its_front, mine_in, moved, open_before}
-use Rattle.scenario_history.proofs.Shown.{on_whole, shown_on, slots_are_shown, tick_hands, tick_others}
+use Rattle.scenario_history.proofs.Closes.{Climb, climbs, closing, event_of, front, front_of, its_front, mine_in, moved, open_before}
+use Rattle.scenario_history.proofs.Shown.{on_whole, shown_on, tick_hands, tick_others}
 use Rattle.scenario_history.proofs.Numbers.{laid_least, Ordered, ordered_none, ordered_later, ordered_more, close_batch}
 
 -- ---- no PDU was injected into the sink

@@ -23,6 +23,7 @@ mod OneTranscript
 mod Entries
 mod StaysInTurn
 mod UnitOrder
+mod StartOrder
 mod OrderLaw
 mod MetAirs
 pub mod Citable

@@ -1,42 +1,26 @@
 -- What a source of an unframed group sends is its own, by division.
-use Rattle.std.proofs.Common.{ℕ, zero, suc, ◌≡◌, ◌≢◌, ◌<◌, ◌≤◌, ◌+◌, ◌*◌, ◌/◌, ◌%◌, ◌^◌, ◌&&◌, ◌||◌, ◌==◌, cond, ltb, leb}
-use Rattle.std.proofs.Common.{Bool, true, false, List, [], ◌∷◌, ◌++◌, Option, None, Some, refl, sym, ◌∙◌, ap, subst, arith, inl, inr}
+use Rattle.std.proofs.Common.{ℕ, ◌≡◌, ◌<◌, ◌≤◌, ◌/◌, ◌%◌}
+use Rattle.std.proofs.Common.{true, List, [], ◌++◌, Some, refl, sym, ◌∙◌, ap, subst, arith}
 use Rattle.std.specs.Prelude.{unwrap_or}
-use Rattle.std.specs.List.{AllByRecursion}
-use Rattle.std.proofs.Math.Nat.{div-lt_iff_lt-mul}
-use Rattle.std.proofs.lemmas.Bool.{and_parts, eqb-true, eqb-false, ltb-false, leb-false, false≢true}
-use Rattle.std.proofs.lemmas.Nat.{mod_below}
-use Rattle.std.proofs.lemmas.Option.{none-some}
 use Rattle.big_info.specs.declared.info.BigInfo.{BigInfo}
 use Rattle.big_info.specs.declared.group.Group.{Group}
-use Rattle.big_info.specs.Bounds.{Bounds}
 use Rattle.big_info.specs.Schedule.{per_unit_of}
 use Rattle.iso_pdu.specs.Spelling.{pdu}
 use Rattle.isoal_base.specs.Air.{Air}
-use Rattle.isoal_base.specs.Stays as stays
-use Rattle.isoal_base.specs.Stays.{Stay, opened}
 use Rattle.isoal_unframed.specs.Slot.{laid}
-use Rattle.isoal_unframed.specs.Struck.{Slots, air_at}
+use Rattle.isoal_unframed.specs.Struck.{air_at}
 use Rattle.radio_schedule.specs.PayloadNumber.{payload_number}
-use Rattle.radio_schedule.specs.declared.air.AirFault.{AirFault}
 use Rattle.source_machine.specs.Airs.{AreAirs, airs_of, content_at, pdu_of, slots_of}
-use Rattle.source_machine.specs.Calls.{Setup, Call as SourceCall, events, next_of}
+use Rattle.source_machine.specs.Calls.{Setup, Call as SourceCall, next_of}
 use Rattle.source_machine.specs.Setups.{IsChecked}
-use Rattle.delegator_machine.specs.Calls.{Tuning, Call, tune, hear}
-use Rattle.delegator_machine.specs.Streams.{stay_on, stream_calls, with_hear}
+use Rattle.delegator_machine.specs.Calls.{Tuning}
+use Rattle.delegator_machine.specs.Streams.{stay_on}
 use Rattle.scenario_text.specs.declared.step.Step.{Step}
-use Rattle.scenario_text.specs.declared.step.Step.TheVariants as steps
-use Rattle.transcript_text.specs.declared.refusal.Refusal.TheVariants.{NotOnAir}
-use Rattle.scenario_history.specs.Steps.{chosen_of, chosen_steps, steps_of_source}
-use Rattle.scenario_history.specs.Source.{Airs, setup_of, source_calls, performed, event_back, is_started, pdu_in, open_event}
+use Rattle.scenario_history.specs.Source.{Airs, setup_of, source_calls, is_started}
 use Rattle.scenario_history.specs.Airs.{MeetAirs}
-use Rattle.scenario_history.specs.Sinks.{spot_at, is_lost, is_of, hear_at, unless_lost, heard_on_air, reaches, sink_calls, source_of, spots_of, ticked, ticked_if, tuning_of, with_sink_call}
-use Rattle.scenario_history.specs.Refusals.{air_refusal, no_place}
-use Rattle.scenario_history.specs.Laws.{injected_since, is_injected, is_tuned}
 use Rattle.scenario_history.proofs.Below.{Below}
-use Rattle.scenario_history.proofs.Legals.{Legal, Permitted, fails_not, maps_none, permitted}
 use Rattle.scenario_history.proofs.Sources.{Lawful, Settled, checked, group_in, settled}
-use Rattle.scenario_history.proofs.Wholes.{Extends, Within, events_more, within_before}
+use Rattle.scenario_history.proofs.Wholes.{Extends, Within, events_more}
 use Rattle.scenario_history.proofs.Hears.{SendsOwn, its_airs}
 
 own_pdu : Below → (group : Group) (setup : Setup) (whole calls : List SourceCall) (airs : List Air) → Extends whole calls → AreAirs setup calls airs → (event bis subevent : ℕ)
@@ -66,4 +50,3 @@ sends_own below airs meets setup whole tuning bis own legal started within same 
     event bis subevent refl (ap (λ (s : Setup). s.info.framing) (within.setup_is started) ∙ plain) least past bis_least bis_within inside
     ∙ ap (λ (s : Setup). pdu (content_at s whole bis (payload_number s.info event subevent))) (within.setup_is started)
     ∙ ap pdu (air_same setup whole tuning bis event subevent same)
-

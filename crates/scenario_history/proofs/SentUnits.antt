@@ -1,16 +1,16 @@
 -- The units that a framed air sends, by payload numbers: the PDU of each number is theirs.
-use Rattle.std.proofs.Common.{ℕ, zero, suc, ◌≡◌, ◌≢◌, ◌<◌, ◌≤◌, ◌+◌, ◌-◌, ◌*◌, ◌/◌, ◌%◌, ◌&&◌, ◌==◌, cond, eqb, Bool, true, false, List, [], ◌∷◌, ◌++◌, length, map, Option, None, Some, refl, sym, ◌∙◌, ap, subst, arith, inl, inr}
+use Rattle.std.proofs.Common.{ℕ, zero, suc, ◌≡◌, ◌<◌, ◌≤◌, ◌+◌, ◌-◌, ◌*◌, ◌/◌, ◌%◌, ◌&&◌, cond, eqb, Bool, List, [], ◌∷◌, ◌++◌, length, map, Option, None, Some, refl, sym, ◌∙◌, ap, subst, arith, inl, inr}
 use Rattle.std.specs.Prelude.{slice_get}
-use Rattle.std.specs.List.{AllByRecursion, flat_map, range_with_len}
+use Rattle.std.specs.List.{range_with_len}
 use Rattle.std.specs.Option.{option_and_then}
 use Rattle.std.proofs.lemmas.Bool.{cases_eq, eq-eqb, ne_eqb}
 use Rattle.std.proofs.lemmas.Nat.{div-add-mod', mod_below}
 use Rattle.big_info.specs.declared.info.BigInfo.{BigInfo}
-use Rattle.iso_pdu.specs.Layout.{Part, framed}
+use Rattle.iso_pdu.specs.Layout.{framed}
 use Rattle.iso_pdu.specs.Spelling.{pdu}
 use Rattle.isoal_base.specs.Air.{Air, Laid, event_at, pdu_at}
 use Rattle.isoal_framed.specs.Sends.{EventsAre}
-use Rattle.isoal_framed.specs.Struck.{Fit, InOrder, Sent, behind, carried, is_last, octets_in, part_with, parts_at}
+use Rattle.isoal_framed.specs.Struck.{Fit, InOrder, Sent, behind, carried, is_last, part_with, parts_at}
 
 -- ---- the PDU of a number
 
@@ -74,9 +74,12 @@ no_more base units none = ap (map (moved_on base)) none
 pub order_on : (base from laid : ℕ) (units : List Sent) → InOrder from laid units → InOrder (base + from) (base + laid) (map (moved_on base) units)
 order_on base from laid [] order = tt
 order_on base from laid (unit ∷ units) order =
-    let next : base + (behind unit - 1) ≡ behind (moved_on base unit) - 1 = omega (arith, order.1) in
-    (omega (arith, order.0), order.1, (λ partly. (no_more base units (order.2 partly).0, omega (arith, (order.2 partly).1))),
-    subst (λ f. InOrder f (base + laid) (map (moved_on base) units)) next (order_on base (behind unit - 1) laid units order.3))
+    let next : base + (behind unit - 1) ≡ behind (moved_on base unit) - 1 = omega (arith, order.1) in (
+      omega (arith, order.0),
+      order.1,
+      (λ partly. (no_more base units (order.2 partly).0, omega (arith, (order.2 partly).1))),
+      subst (λ f. InOrder f (base + laid) (map (moved_on base) units)) next (order_on base (behind unit - 1) laid units order.3),
+    )
 
 pub order_from : (from low laid : ℕ) (units : List Sent) → low ≤ from → InOrder from laid units → InOrder low laid units
 order_from from low laid [] more order = tt

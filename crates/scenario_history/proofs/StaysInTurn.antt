@@ -1,6 +1,6 @@
 -- One stay after the other: what holds of the events and the entries of the earlier stays of a sink with a source, and goes on
 -- over one stay, holds of all of them.
-use Rattle.std.proofs.Common.{ℕ, zero, suc, ◌≡◌, ◌⊎◌, ◌≤◌, ◌==◌, cond, Bool, true, false, List, [], ◌∷◌, ◌++◌, Option, None, Some, refl, sym, ◌∙◌, ap, subst, arith, inl, inr, append_assoc}
+use Rattle.std.proofs.Common.{ℕ, ◌≡◌, ◌⊎◌, ◌≤◌, ◌==◌, cond, Bool, true, false, List, [], ◌∷◌, ◌++◌, Option, None, Some, refl, sym, ◌∙◌, ap, subst, arith, inl, inr, append_assoc}
 use Rattle.std.proofs.lemmas.Bool.{cases_Bool, eqb-true, false≢true}
 use Rattle.std.proofs.lemmas.List.{append-nil}
 use Rattle.std.proofs.lemmas.Option.{none-some}
@@ -36,7 +36,7 @@ put_placed true chosen on source calls before = inr (on, refl)
 put_placed false chosen on source calls before = before
 
 same_placed : (source : Option ℕ) (more calls : List Call) → place more ≡ place calls → IsPlaced source calls → IsPlaced source more
-same_placed source more calls same before = elim before [ | inl none ↦ inl none | inr some ↦ inr (some.0, same ∙ some.1) ]
+same_placed source more calls same before = elim before [ inl none ↦ inl none | inr some ↦ inr (some.0, same ∙ some.1) ]
 
 -- a step that puts the sink nowhere leaves it where it is
 place_stays : (airs : Airs) (n : ℕ) (step : Step) (earlier : List Step) (calls : List Call) → is_made n step ≡ false → is_tuned n step ≡ false

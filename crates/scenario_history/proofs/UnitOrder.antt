@@ -1,6 +1,5 @@
 -- The entries of a framed stream over all stays of a sink with a source: each is of a unit that the source accepted, in order.
-use Rattle.std.proofs.Common.{ℕ, zero, suc, ◌≡◌, ◌⊎◌, ◌<◌, ◌≤◌, ◌+◌, ◌-◌, ◌*◌, ◌/◌, ◌==◌, cond, Bool, true, false, List, [], ◌∷◌, ◌++◌, length, map, Option, Some, refl, sym, ◌∙◌, ap, subst, arith, inl, inr}
-use Rattle.std.specs.Prelude.{slice_get}
+use Rattle.std.proofs.Common.{ℕ, ◌≡◌, ◌⊎◌, ◌<◌, ◌≤◌, ◌+◌, ◌-◌, ◌*◌, ◌/◌, true, false, List, [], ◌∷◌, ◌++◌, map, refl, sym, ◌∙◌, ap, subst, arith, inl, inr}
 use Rattle.std.specs.List.{Contains}
 use Rattle.std.proofs.Math.Nat.{add-mul, mul-le-mul}
 use Rattle.std.proofs.lemmas.Bool.{cases_Bool}
@@ -13,11 +12,11 @@ use Rattle.isoal_base.specs.Stays as stays
 use Rattle.isoal_base.specs.Stays.{Stay, opened}
 use Rattle.isoal_framed.specs.Calls.{Timed, accepted, anchors_of}
 use Rattle.isoal_framed.specs.Sends.{IsOf}
-use Rattle.isoal_framed.specs.Struck.{InOrder, Sent, closed_end, entry_of, is_heard, octets_in, struck}
+use Rattle.isoal_framed.specs.Struck.{Sent, closed_end, entry_of, is_heard, octets_in, struck}
 use Rattle.isoal_framed.specs.Tokens.{time_of}
 use Rattle.sync_reference.specs.Reference.{anchor_of, framed_reference_of, render_of}
 use Rattle.source_machine.specs.Calls.{Setup, Call as SourceCall, framed_calls, next_of}
-use Rattle.delegator_machine.specs.Calls.{Tuning, place}
+use Rattle.delegator_machine.specs.Calls.{Tuning}
 use Rattle.delegator_machine.specs.Handing.{bis_of, handed_since as ticked_since, of_stream}
 use Rattle.delegator_machine.specs.Streams.{is_in, stay_on, streams_of}
 use Rattle.delegator_machine.proofs.Citable.{is_member, member_is}
@@ -32,14 +31,14 @@ use Rattle.scenario_history.proofs.Below.{Below}
 use Rattle.scenario_history.proofs.Legals.{Legal}
 use Rattle.scenario_history.proofs.Sources.{Lawful, lawful, true_not_false}
 use Rattle.scenario_history.proofs.Wholes.{Within, goes, next_in, within_before, within_itself}
-use Rattle.scenario_history.proofs.Stays.{IsOn, OnSource, TunedTo, on_source}
+use Rattle.scenario_history.proofs.Stays.{OnSource, TunedTo, on_source}
 use Rattle.scenario_history.proofs.Closes.{climbs}
 use Rattle.scenario_history.proofs.UnitsLaw.{since}
 use Rattle.scenario_history.proofs.InOrder.{clean_before, clean_stay}
 use Rattle.scenario_history.proofs.FramedCalls.{laid_by}
 use Rattle.scenario_history.proofs.FramedSends.{FramedWhole, laid_end, sent_in_order}
 use Rattle.scenario_history.proofs.FramedStays.{heard_least, mul_least, next_of_whole, opened_least, opened_within, stay_decided, stay_on_whole, taken_within, whole_units}
-use Rattle.scenario_history.proofs.Entries.{Gives, HasEntry, IsEntry, IsNumbered, Numbered, Ordered, are_numbered, has_entry, le_total, ordered_later, ordered_none, ordered_on}
+use Rattle.scenario_history.proofs.Entries.{Gives, IsEntry, IsNumbered, Numbered, Ordered, are_numbered, has_entry, le_total, ordered_later, ordered_none, ordered_on}
 use Rattle.scenario_history.proofs.StaysInTurn.{OverStay, Turns, over_stays}
 
 -- ---- units by payload numbers
@@ -60,7 +59,7 @@ numbered_on setup whole bis low (n ∷ ns) (unit ∷ units) all = (all.0, (unit,
 -- ---- an entry is of its unit
 
 -- the time of a start by the stay's anchor is that by the source's
-start_time_is : (setup : Setup) (tuning : Tuning) (bis event offset : ℕ) → TunedTo setup tuning → tuning.first ≤ event
+pub start_time_is : (setup : Setup) (tuning : Tuning) (bis event offset : ℕ) → TunedTo setup tuning → tuning.first ≤ event
     → time_of (stay_on tuning bis) event offset ≡ time_of (whole_stay setup bis) event offset
 start_time_is setup tuning bis event offset on least =
     let both : event - setup.first ≡ (tuning.first - setup.first) + (event - tuning.first) = omega (arith, least, on.first) in
@@ -154,8 +153,13 @@ stay_gives setup whole tuning bis calls some on opens n unit sent long =
       | inr one ↦
           let is : IsEntry (stay_on tuning bis) (is_heard (stay_on tuning bis) calls) (closed_end (stay_on tuning bis) calls) (by_payload setup sent.0) one.0 =
           subst (λ u. IsEntry (stay_on tuning bis) (is_heard (stay_on tuning bis) calls) (closed_end (stay_on tuning bis) calls) u one.0) sent.1 one.2 in
-          inr (one.0, one.1, mul_least tuning.first unit.first tuning.info.bn (heard_least (stay_on tuning bis) calls unit.first one.2.start_heard), one.2.start_closed,
-          one_entry setup whole tuning bis n sent.0 one.0 calls some on opens sent.2 is)
+          inr (
+            one.0,
+            one.1,
+            mul_least tuning.first unit.first tuning.info.bn (heard_least (stay_on tuning bis) calls unit.first one.2.start_heard),
+            one.2.start_closed,
+            one_entry setup whole tuning bis n sent.0 one.0 calls some on opens sent.2 is,
+          )
     ]
 
 -- ---- over all stays

@@ -1,7 +1,7 @@
 -- Units by the source's own anchors and numbers: which unit of the source an entry is that a sink hands up, and when it is
 -- due (Core 5.2, volume 6 part G, sections 2.1, 2.2 and 3.2). Lists of calls have the newest first; lists of events, of
 -- slots and of units have the oldest first.
-use Rattle.std.specs.Prelude.{ℕ, ◌+◌, ◌-◌, ◌*◌, ◌<◌, ◌≤◌, ◌≡◌, Bool, true, false, List, map, Some, slice_get}
+use Rattle.std.specs.Prelude.{ℕ, ◌+◌, ◌-◌, ◌*◌, ◌<◌, ◌≤◌, ◌≡◌, Bool, true, false, List, [], ◌∷◌, map, Some, slice_get}
 use Rattle.std.specs.List.{AllZip, filter}
 use Rattle.std.specs.List.Sorted.{IsStrictlyIncreasing}
 use Rattle.big_info.specs.Schedule.{per_event_of}
@@ -87,6 +87,26 @@ pub record AreSent (setup : Setup) (calls : List Call) (bis : ℕ) (air : Air) (
   pub in_air : List Sent
   pub sends : Sends setup.info (framed_calls setup bis calls) air in_air
   pub numbered : units ≡ map (by_payload setup) in_air
+
+-- the entry is of the stream and of a start in this event, which was performed: its time is by the event's anchor, less some
+-- TimeOffset, by the synchronization reference of a framed unit, which is never below 0, and the presentation delay
+pub record IsOfStart (setup : Setup) (calls : List Call) (bis event : ℕ) (entry : Handed) : Type 0 where
+  pub least : setup.first ≤ event
+  pub performed : event < next_of setup calls
+  pub stream : bis_of entry ≡ bis
+  pub offset : ℕ
+  pub time_is : time_in entry ≡ start_time (whole_stay setup bis) event offset
+
+-- events that never fall, from this one on
+abbrev pub NeverFall : ℕ → List ℕ → Type 0
+NeverFall least [] = Unit {0}
+NeverFall least (event ∷ events) = (least ≤ event) × NeverFall event events
+
+-- there are events that never fall such that the entries are, in order, of starts in them
+pub record InStartOrder (setup : Setup) (calls : List Call) (bis : ℕ) (entries : List Handed) : Type 0 where
+  pub events : List ℕ
+  pub order : NeverFall setup.first events
+  pub each : AllZip (IsOfStart setup calls bis) events entries
 
 -- the entry is of the unit of this number among those that the source accepted on the stream, which starts in an event that
 -- was performed: its time is by that event's anchor, less the TimeOffset from the unit's own time to the anchor, by the

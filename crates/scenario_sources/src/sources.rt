@@ -4,9 +4,9 @@ ghost use Rattle.big_info.specs.Widths.{FitsWidths};
 
 use crate::basing::{add_stream, give_metadata, open_subgroup};
 use crate::describing::{describe, encrypt, identify};
+use crate::performed::Performed;
 use crate::phase::Phase;
 use crate::place::{Place, event_in, group_in, heard_in, last_in};
-use crate::performed::Performed;
 use crate::sending::{give, is_sending_in, open, perform, standpoint_in, stop, terminate};
 use crate::standpoint::Standpoint;
 use crate::starting::{begin, check_start, is_twice};

@@ -1,11 +1,15 @@
 mod Advances
 mod AirLaws
 mod Ciphers
+mod FramedCalls
+mod Framings
 mod Histories
 mod LaidEvents
 mod Lists
 mod Orders
 mod Payloads
+mod Refusing
+mod SendersLay
 mod Sending
 mod Standing
 pub mod Citable

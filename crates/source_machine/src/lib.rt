@@ -12,8 +12,8 @@ mod setup;
 mod stream;
 mod streaming;
 
-pub use configured::{SourceConfigured, SourceIdle};
 pub use announcement_train::Train;
+pub use configured::{SourceConfigured, SourceIdle};
 pub use fault::{AnnounceFault, ConfigureFault, EventFault, GiveFault};
 pub use laws::{air_is_by_division, one_air, units_keep_their_order, what_was_sent_stays};
 pub use sent::{Sent, Stale, StaleList};

@@ -170,7 +170,8 @@ impl SourceStreaming {
             return Err(AnnounceFault::Memory);
         }
         let info = self.group_info();
-        if self.next * u64::from(info.bn) >= COUNTER_END {
+        let event = self.next;
+        if event * u64::from(info.bn) >= COUNTER_END {
             return Err(AnnounceFault::CounterEnds);
         }
         let train = Train::of_event(
@@ -178,7 +179,7 @@ impl SourceStreaming {
             self.plan.identity.broadcast_id,
             &self.plan.base,
             &info,
-            self.next,
+            event,
             self.next_anchor(),
         )?;
         Ok(train)

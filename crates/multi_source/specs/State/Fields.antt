@@ -1,11 +1,11 @@
 -- Two sources side by side (Core 5.2, volume 6 part B, section 4.4.6), numbered 0 and 1, and which of them a sink is of.
 use Rattle.std.specs.Prelude.{ℕ, ◌-◌, ◌≡◌, ◌==◌, ◌&&◌, true, false, Bool, bytes_eq, if◌then◌else◌, List, [], Option, None, Some, slice_get}
-use Rattle.big_info.specs.Rows.{first_fault}
 use Rattle.radio_schedule.specs.OnAir.{OnAir}
 use Rattle.source_machine.specs.declared.setup.Identity.{Identity}
-use Rattle.source_machine.specs.declared.setup.Setup.{Setup as Configured}
+use Rattle.source_machine.specs.declared.setup.Setup.{Setup as Given}
 use Rattle.source_machine.specs.Calls.{Setup, Call}
-use Rattle.source_machine.specs.Setups.{started}
+use Rattle.source_machine.specs.Ciphers.{IsBadFor, MayBeSent}
+use Rattle.source_machine.specs.Setups.{Configured, started}
 use Rattle.source_machine.specs.State.Sources.{AfterFault, Source, StandsFor as SourceStands}
 use Rattle.source_machine.specs.declared.fault.ConfigureFault.{ConfigureFault}
 use Rattle.source_machine.specs.declared.fault.ConfigureFault.TheVariants.{BadGroup as Misfit, Memory as NoMemory}
@@ -60,18 +60,25 @@ pub record Sending (setup : Setup) (calls : List Call) (place : Option Source) (
 pub record Starts (setup : Configured) (first : ℕ) (place : Option Source) (since : Option Begun) : Type 0 where
   pub sending : Sending (started setup first) [] place since
   pub source : sending.source.identity ≡ setup.identity
+  pub base : sending.source.base ≡ setup.base
+  pub cipher : sending.source.cipher ≡ setup.cipher
   pub begun : sending.begun.identity ≡ setup.identity
 
 -- why a source is not started, where a payload may be sent so many events ahead; nothing is said of want of memory
-abbrev pub StartFails : ℕ → Configured → Option Begun → FieldFault → Type 0
-StartFails horizon setup other (BadGroup fault) = first_fault horizon setup.info ≡ Some fault
-StartFails horizon setup other IdentTwice = (first_fault horizon setup.info ≡ None) × (is_taken setup.identity other ≡ true)
+abbrev pub StartFails : ℕ → Given → Option Begun → FieldFault → Type 0
+StartFails horizon setup other (BadGroup fault) = IsBadFor horizon setup.info fault
+StartFails horizon setup other IdentTwice = MayBeSent horizon setup.info × (is_taken setup.identity other ≡ true)
 StartFails horizon setup other Memory = Unit {0}
 
 -- the air of a source is of its group
 abbrev pub HasOwnAir : Option Source → Option Begun → Type 0
 HasOwnAir (Some source) (Some begun) = IsOfGroup source.setup begun.air
 HasOwnAir source begun = ⊥
+
+-- the group of a source is not encrypted
+abbrev pub IsPlain : Option Source → Type 0
+IsPlain None = Unit {0}
+IsPlain (Some source) = source.cipher ≡ None
 
 -- what a refused setup means
 abbrev pub fault_of : ConfigureFault → FieldFault
