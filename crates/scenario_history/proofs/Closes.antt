@@ -212,6 +212,10 @@ moves_by airs s n steps.Stop earlier next' least more within =
     close_moves (mine_in s n earlier) (chosen_of earlier == s) (open_event (steps_of_source s earlier)) (sink_calls airs n earlier) _ (next_in (steps_of_source s earlier)) next'
     (open_before (steps_of_source s earlier)) more within
     (λ mine. event_ticks (chosen_of earlier) s (λ t. open_event (steps_of_source t earlier)) (sink_calls airs n earlier) (source_of n earlier) (is_its s (source_of n earlier) mine))
+moves_by airs s n (steps.Terminate reason) earlier next' least more within =
+    close_moves (mine_in s n earlier) (chosen_of earlier == s) (open_event (steps_of_source s earlier)) (sink_calls airs n earlier) _ (next_in (steps_of_source s earlier)) next'
+    (open_before (steps_of_source s earlier)) more within
+    (λ mine. event_ticks (chosen_of earlier) s (λ t. open_event (steps_of_source t earlier)) (sink_calls airs n earlier) (source_of n earlier) (is_its s (source_of n earlier) mine))
 moves_by airs s n steps.End earlier next' least more within =
     close_moves (mine_in s n earlier) true (open_event (steps_of_source s earlier)) (sink_calls airs n earlier) _ (next_in (steps_of_source s earlier)) next'
     (open_before (steps_of_source s earlier)) more within

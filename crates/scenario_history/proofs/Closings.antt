@@ -63,6 +63,8 @@ housed_after airs boxes n steps.Event earlier calls permits before none =
     tick_if_place (is_of (chosen_of earlier) (source_of n earlier)) (open_event (chosen_steps earlier)) calls ∙ before none
 housed_after airs boxes n steps.Stop earlier calls permits before none =
     tick_if_place (is_of (chosen_of earlier) (source_of n earlier)) (open_event (chosen_steps earlier)) calls ∙ before none
+housed_after airs boxes n (steps.Terminate reason) earlier calls permits before none =
+    tick_if_place (is_of (chosen_of earlier) (source_of n earlier)) (open_event (chosen_steps earlier)) calls ∙ before none
 housed_after airs boxes n steps.End earlier calls permits before none =
     tick_if_place (is_of 1 (source_of n earlier)) (open_event (steps_of_source 1 earlier)) (ticked_if (is_of 0 (source_of n earlier)) (open_event (steps_of_source 0 earlier)) calls)
     ∙ tick_if_place (is_of 0 (source_of n earlier)) (open_event (steps_of_source 0 earlier)) calls ∙ before none
@@ -165,6 +167,7 @@ shown_with airs s n earlier = shown_if (is_of s (source_of n earlier)) (sink_cal
 abbrev pub shown_by : Airs → ℕ → ℕ → List Step → Step → List Handed
 shown_by airs s n earlier steps.Event = cond (chosen_of earlier == s) (shown_with airs s n earlier) []
 shown_by airs s n earlier steps.Stop = cond (chosen_of earlier == s) (shown_with airs s n earlier) []
+shown_by airs s n earlier (steps.Terminate reason) = cond (chosen_of earlier == s) (shown_with airs s n earlier) []
 shown_by airs s n earlier steps.End = shown_with airs s n earlier
 shown_by airs s n earlier _ = []
 
@@ -199,6 +202,7 @@ pub step_shown : (airs : Airs) (boxes s n : ℕ) (step : Step) (earlier : List S
     → of_sink s n (handed_by airs earlier step) ≡ shown_by airs s n earlier step
 step_shown airs boxes s n steps.Event earlier legal least within = closing_shown airs boxes s (chosen_of earlier) n earlier legal within
 step_shown airs boxes s n steps.Stop earlier legal least within = closing_shown airs boxes s (chosen_of earlier) n earlier legal within
+step_shown airs boxes s n (steps.Terminate reason) earlier legal least within = closing_shown airs boxes s (chosen_of earlier) n earlier legal within
 step_shown airs boxes s n steps.End earlier legal least within =
     of_sink_on s n (closing airs 0 earlier) (closing airs 1 earlier)
     ∙ ap (λ us. us ++ of_sink s n (closing airs 1 earlier)) (closing_shown airs boxes s 0 n earlier legal within)

@@ -202,6 +202,8 @@ own_after airs laid tuning boxes s n bis steps.Event earlier calls injected perm
     tick_if_own laid tuning bis (is_of (chosen_of earlier) (source_of n earlier)) (open_event (chosen_steps earlier)) calls (ready clean).all
 own_after airs laid tuning boxes s n bis steps.Stop earlier calls injected permits least there clean ready =
     tick_if_own laid tuning bis (is_of (chosen_of earlier) (source_of n earlier)) (open_event (chosen_steps earlier)) calls (ready clean).all
+own_after airs laid tuning boxes s n bis (steps.Terminate reason) earlier calls injected permits least there clean ready =
+    tick_if_own laid tuning bis (is_of (chosen_of earlier) (source_of n earlier)) (open_event (chosen_steps earlier)) calls (ready clean).all
 own_after airs laid tuning boxes s n bis steps.End earlier calls injected permits least there clean ready =
     tick_if_own laid tuning bis (is_of 1 (source_of n earlier)) (open_event (steps_of_source 1 earlier))
     (ticked_if (is_of 0 (source_of n earlier)) (open_event (steps_of_source 0 earlier)) calls)

@@ -218,6 +218,11 @@ by_step below airs meets boxes s n bis setup whole steps.Stop earlier ready next
     (chosen_of earlier == s) refl _
     (λ mine. event_ticks (chosen_of earlier) s (λ t. open_event (steps_of_source t earlier)) (sink_calls airs n earlier) (source_of n earlier) (is_its s (source_of n earlier) mine))
     next more units order past
+by_step below airs meets boxes s n bis setup whole (steps.Terminate reason) earlier ready next more units order past =
+    close_orders below airs meets boxes s n bis setup whole earlier ready (open_event (steps_of_source s earlier)) (open_before (steps_of_source s earlier)) (mine_in s n earlier)
+    (chosen_of earlier == s) refl _
+    (λ mine. event_ticks (chosen_of earlier) s (λ t. open_event (steps_of_source t earlier)) (sink_calls airs n earlier) (source_of n earlier) (is_its s (source_of n earlier) mine))
+    next more units order past
 by_step below airs meets boxes s n bis setup whole steps.End earlier ready next more units order past =
     close_orders below airs meets boxes s n bis setup whole earlier ready (open_event (steps_of_source s earlier)) (open_before (steps_of_source s earlier)) (mine_in s n earlier) true refl _
     (λ mine. end_ticks s (λ t. open_event (steps_of_source t earlier)) (sink_calls airs n earlier) (source_of n earlier) ready.source_below (is_its s (source_of n earlier) mine))

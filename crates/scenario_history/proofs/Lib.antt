@@ -1,6 +1,7 @@
 mod Sums
 mod BoxLaws
 mod Legals
+mod StartGroups
 mod Sources
 mod Wholes
 mod Below

@@ -19,9 +19,9 @@ use Rattle.scenario_text.specs.declared.step.Step.{Step}
 use Rattle.scenario_text.specs.declared.step.Step.TheVariants as steps
 use Rattle.transcript_text.specs.declared.refusal.Refusal.{Refusal}
 use Rattle.transcript_text.specs.declared.refusal.Refusal.TheVariants.{Order, AfterEnd}
-use Rattle.transcript_text.specs.Lines.{heard_line, pdu_line}
+use Rattle.transcript_text.specs.Lines.{control_line, heard_line, pdu_line}
 use Rattle.scenario_history.specs.Steps.{chosen_of, chosen_steps, is_over, stage_of, steps_of_source}
-use Rattle.scenario_history.specs.Source.{Airs, event_back, is_started, open_event, pdu_in, setup_of, source_calls, stale_in}
+use Rattle.scenario_history.specs.Source.{Airs, end_pdu, event_back, is_started, open_event, pdu_in, setup_of, source_calls, stale_in}
 use Rattle.scenario_history.specs.Airs.{MeetAirs}
 use Rattle.scenario_history.specs.Sinks.{Spot, hear_at, heard_on_air, is_lost, is_of, reaches, sink_calls, source_of, spot_at, spots_of, unless_lost, with_sink_call}
 use Rattle.scenario_history.specs.Boxes.{SinkUnit, box_of, closing, closing_at, closing_both, closing_by, handed_by, handed_up, sink_numbers}
@@ -30,7 +30,7 @@ use Rattle.scenario_history.specs.Output.{output_of, stale_lines, sum_if, sums_o
 use Rattle.scenario_history.specs.Lines.{Said, a_step, nothing, unsaid, handed_on, handed_said, output_said, refusal_said, rules_of, said_after, steps_of}
 use Rattle.scenario_history.specs.Transcript.{end_after, has_end, last_end_after, last_line_after, out_of, transcript_end, transcript_of, units_of}
 use Rattle.scenario_history.proofs.Legals.{Legal, LinesInRange, legal, permitted}
-use Rattle.scenario_history.proofs.Sources.{Lawful, are_accepted, checked, group_in, lawful, no_end, not_false, sends, settled}
+use Rattle.scenario_history.proofs.Sources.{Lawful, are_accepted, checked, group_in, hears, lawful, no_end, settled, takes}
 use Rattle.scenario_history.proofs.Hears.{its_airs}
 
 -- the relation has at most one solution
@@ -82,7 +82,7 @@ refusal_same airs others both boxes earlier (steps.Unit bis time octets) twice =
     in_order (is_over earlier) AfterEnd _ _ (λ goes_on.
     in_order (is_misplaced (stage_of earlier) (steps.Unit bis time octets) || is_out_of_phase (chosen_steps earlier) (steps.Unit bis time octets)) Order _ _ (λ placed.
     ap (λ all. option_or (option_map give_refusal (give_fault (setup_of (chosen_steps earlier)) (source_calls (chosen_steps earlier)) all bis time octets)) None)
-    (chosen_same airs others both boxes earlier twice (sends (chosen_steps earlier)
+    (chosen_same airs others both boxes earlier twice (takes (chosen_steps earlier)
     (or_parts (is_misplaced (stage_of earlier) (steps.Unit bis time octets)) (is_out_of_phase (chosen_steps earlier) (steps.Unit bis time octets)) placed).1))))
 refusal_same airs others both boxes earlier _ twice = refl
 
@@ -110,12 +110,12 @@ step_same : (airs others : Airs) → Both airs others → (boxes n : ℕ) (step 
 step_same airs others both boxes n (steps.Hear sink back bis subevent) earlier calls twice none =
     ap (λ octets. cond (reaches sink n earlier) (hear (event_back (chosen_steps earlier) back) bis subevent octets ∷ calls) calls)
     (pdu_same airs others (chosen_steps earlier)
-    (chosen_same airs others both boxes earlier twice (not_false (is_started (chosen_steps earlier)) (permitted airs boxes earlier (steps.Hear sink back bis subevent) none).in_phase))
+    (chosen_same airs others both boxes earlier twice (hears (chosen_steps earlier) (permitted airs boxes earlier (steps.Hear sink back bis subevent) none).in_phase))
     (event_back (chosen_steps earlier) back) bis subevent)
 step_same airs others both boxes n (steps.Air sink lose) earlier calls twice none =
     ap (λ all. cond (reaches sink n earlier) all calls)
     (air_same airs others (chosen_steps earlier) lose (spots_of (chosen_steps earlier)) calls
-    (chosen_same airs others both boxes earlier twice (not_false (is_started (chosen_steps earlier)) (permitted airs boxes earlier (steps.Air sink lose) none).in_phase)))
+    (chosen_same airs others both boxes earlier twice (hears (chosen_steps earlier) (permitted airs boxes earlier (steps.Air sink lose) none).in_phase)))
 step_same airs others both boxes n _ earlier calls twice none = refl
 
 sink_same : (airs others : Airs) → Both airs others → (boxes n : ℕ) (made : List Step) → Legal airs boxes made → sink_calls airs n made ≡ sink_calls others n made
@@ -150,6 +150,7 @@ closing_both_same airs others both boxes made legal =
 handed_same : (airs others : Airs) → Both airs others → (boxes : ℕ) (made : List Step) (step : Step) → Legal airs boxes made → handed_by airs made step ≡ handed_by others made step
 handed_same airs others both boxes made steps.Event legal = closing_same airs others both boxes (chosen_of made) made legal
 handed_same airs others both boxes made steps.Stop legal = closing_same airs others both boxes (chosen_of made) made legal
+handed_same airs others both boxes made (steps.Terminate reason) legal = closing_same airs others both boxes (chosen_of made) made legal
 handed_same airs others both boxes made steps.End legal = closing_both_same airs others both boxes made legal
 handed_same airs others both boxes made _ legal = refl
 
@@ -172,7 +173,7 @@ stale_same : (airs others : Airs) → Both airs others → (boxes : ℕ) (made :
 stale_same airs others both boxes made twice none =
     let own : List Step = chosen_steps made in
     let permits = permitted airs boxes made steps.Event none in
-    let started : is_started own ≡ true = sends own permits.in_phase in
+    let started : is_started own ≡ true = takes own permits.in_phase in
     let goes_on : event_fault (setup_of own) (source_calls own) ≡ None = no_end (event_fault (setup_of own) (source_calls own)) permits.by_source in
     let legal_here : Lawful airs own = lawful airs boxes (chosen_of made) made twice.here in
     let legal_there : Lawful others own = lawful others boxes (chosen_of made) made twice.there in
@@ -188,6 +189,8 @@ output_same airs others both starts made steps.Event legal none =
     ∙ ap (λ us. unit_lines (closing others (chosen_of made) made) ++ stale_lines us)
     (stale_same airs others both (length starts) made (record { here = legal; there = legal_too airs others both (length starts) made legal }) none)
 output_same airs others both starts made steps.Stop legal none = ap unit_lines (closing_same airs others both (length starts) (chosen_of made) made legal)
+output_same airs others both starts made (steps.Terminate reason) legal none =
+    ap (λ us. unit_lines us ++ control_line (end_pdu (chosen_steps made) reason)) (closing_same airs others both (length starts) (chosen_of made) made legal)
 output_same airs others both starts made steps.End legal none =
     ap (λ us. unit_lines us ++ sums_of starts (handed_up airs made ++ us) made) (closing_both_same airs others both (length starts) made legal)
     ∙ ap (λ us. unit_lines (closing_both others made) ++ sums_of starts (us ++ closing_both others made) made) (handed_up_same airs others both (length starts) made legal)
@@ -200,7 +203,7 @@ output_same airs others both starts made (steps.Sniff back bis subevent) legal n
     ap (λ octets. pdu_line (event_back (chosen_steps made) back) bis subevent octets)
     (pdu_same airs others (chosen_steps made)
     (chosen_same airs others both (length starts) made (record { here = legal; there = legal_too airs others both (length starts) made legal })
-    (not_false (is_started (chosen_steps made)) (permitted airs (length starts) made (steps.Sniff back bis subevent) none).in_phase)) (event_back (chosen_steps made) back) bis subevent)
+    (hears (chosen_steps made) (permitted airs (length starts) made (steps.Sniff back bis subevent) none).in_phase)) (event_back (chosen_steps made) back) bis subevent)
 output_same airs others both starts made _ legal none = refl
 
 -- ---- lines

@@ -170,6 +170,9 @@ step_zip below airs s n bis setup steps.Event earlier on plain least within =
 step_zip below airs s n bis setup steps.Stop earlier on plain least within =
     zip_if setup bis (chosen_of earlier == s) _ _
     (with_zip below setup bis (sink_calls airs n earlier) (open_event (steps_of_source s earlier)) (is_of s (source_of n earlier)) on plain least within)
+step_zip below airs s n bis setup (steps.Terminate reason) earlier on plain least within =
+    zip_if setup bis (chosen_of earlier == s) _ _
+    (with_zip below setup bis (sink_calls airs n earlier) (open_event (steps_of_source s earlier)) (is_of s (source_of n earlier)) on plain least within)
 step_zip below airs s n bis setup steps.End earlier on plain least within =
     with_zip below setup bis (sink_calls airs n earlier) (open_event (steps_of_source s earlier)) (is_of s (source_of n earlier)) on plain least within
 step_zip below airs s n bis setup _ earlier on plain least within = tt

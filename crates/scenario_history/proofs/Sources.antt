@@ -2,31 +2,30 @@
 -- behind it, and what fixes it stays.
 use Rattle.std.proofs.Common.{ℕ, zero, suc, ◌≡◌, ◌⊎◌, ◌<◌, ◌≤◌, ◌||◌, ◌&&◌, ◌==◌, not, cond, Bool, true, false, List, [], ◌∷◌, Option, None, Some, refl, sym, ◌∙◌, ap, subst, arith, inl, inr}
 use Rattle.std.specs.Prelude.{unwrap_or}
-use Rattle.std.specs.List.{find, AllByRecursion}
-use Rattle.std.proofs.lemmas.Bool.{cases_Bool, eqb-true, false≢true}
+use Rattle.std.proofs.lemmas.Bool.{cases_Bool, eqb-true, false≢true, or_parts}
 use Rattle.std.proofs.lemmas.Option.{none-some}
 use Rattle.big_info.specs.declared.info.BigInfo.{BigInfo}
 use Rattle.big_info.specs.declared.group.Group.{Group}
-use Rattle.big_info.specs.declared.fault.GroupFault.{GroupFault}
-use Rattle.big_info.specs.declared.fault.GroupFault.TheVariants as of_group
 use Rattle.big_info.specs.Bounds.{Bounds}
-use Rattle.big_info.specs.Faults.{faults}
-use Rattle.big_info.specs.Rows.{NoFault, first_fault, has_fault}
+use Rattle.big_info.specs.Rows.{NoFault, first_fault}
 use Rattle.big_info.specs.Widths.{FitsWidths}
 use Rattle.big_info.proofs.Citable.{bounds_of, no_fault_within}
 use Rattle.source_machine.specs.declared.fault.EventFault.{EventFault}
+use Rattle.source_machine.specs.Ciphers.{without_cipher}
 use Rattle.source_machine.specs.Faults.{event_fault, give_fault}
 use Rattle.source_machine.specs.Setups.{IsChecked}
 use Rattle.scenario_text.specs.declared.step.Step.{Step}
 use Rattle.scenario_text.specs.declared.step.Step.TheVariants as steps
 use Rattle.scenario_text.specs.Ranges.{IsInRange, GroupRanges}
-use Rattle.transcript_text.specs.declared.refusal.Refusal.TheVariants.{BadGroup}
+use Rattle.transcript_text.specs.declared.refusal.Refusal.TheVariants.{BaseTooLong}
 use Rattle.scenario_history.specs.Steps.{chosen_of, is_common, is_of_source, is_source_line, is_unbegun_at, stage_after, stage_of, steps_of_source, version_of}
-use Rattle.scenario_history.specs.Source.{Airs, Phase, absent, described, sending, stopped, group_of, info_with, is_absent_at}
-use Rattle.scenario_history.specs.Source.{is_described_at, is_sending, is_sending_at, is_started, no_group, phase_of, setup_of, source_calls, start_of, was_started_at}
+use Rattle.scenario_history.specs.Source.{Airs, Phase, absent, described, sending, stopped, cipher_of, group_of, info_with, is_absent_at, is_ciphered}
+use Rattle.scenario_history.specs.Source.{is_described_at, is_heard, is_sending, is_sending_at, is_started, no_group, takes_units, phase_of, setup_of, source_calls, start_of, was_started_at}
 use Rattle.scenario_history.specs.Airs.{AreAccepted}
-use Rattle.scenario_history.specs.Refusals.{counter_ends, give_refusal, horizon_in, is_misplaced, is_out_of_phase, is_unbuilt, source_refusal}
-use Rattle.scenario_history.proofs.Legals.{Legal, Permitted, maps_none, permitted}
+use Rattle.scenario_history.specs.Bases.{is_base_too_long, is_last_bare}
+use Rattle.scenario_history.specs.Refusals.{checked_info, counter_ends, give_refusal, group_refusal, horizon_in, is_misplaced, is_out_of_phase, is_unbuilt, refuse_if, source_refusal}
+use Rattle.scenario_history.proofs.Legals.{Legal, Permitted, maps_none, neither, permitted}
+use Rattle.scenario_history.proofs.StartGroups.{may_be_sent}
 
 -- ---- tests
 
@@ -65,6 +64,20 @@ not_started own is = described_then (phase_of own) is
 
 pub no_group_yet : (own : List Step) → not (is_absent_at (phase_of own)) ≡ false → is_started own ≡ false
 no_group_yet own is = absent_then (phase_of own) is
+
+left_fails : (a b : Bool) → not (a && b) ≡ false → not a ≡ false
+left_fails true b is = refl
+left_fails false b is = is
+
+pub takes : (own : List Step) → not (takes_units own) ≡ false → is_started own ≡ true
+takes own is = sends own (left_fails (is_sending own) (not (is_ciphered own)) is)
+
+pub hears : (own : List Step) → not (is_heard own) ≡ false → is_started own ≡ true
+hears own is = not_false (is_started own) (left_fails (is_started own) (not (is_ciphered own)) is)
+
+-- a step that stands before `start`, and not where something else holds
+pub not_yet : (own : List Step) (other : Bool) → (not (is_described_at (phase_of own)) || other) ≡ false → is_started own ≡ false
+not_yet own other is = not_started own (or_parts (not (is_described_at (phase_of own))) other is).0
 
 -- ---- the steps of a source
 
@@ -127,38 +140,6 @@ lawful airs boxes s (step ∷ earlier) legal =
     lawful_if airs (steps_of_source s earlier) step (is_of_source s earlier step) (lawful airs boxes s earlier legal.0)
     (its_step airs boxes s earlier step (permitted airs boxes earlier step legal.1) legal.2)
 
--- ---- no fault of a group
-
-not_found : (holds : Bool) (fault : GroupFault) (rest : Option GroupFault) → cond holds (Some fault) rest ≡ None → (holds ≡ false) × (rest ≡ None)
-not_found true fault rest none = absurd (none-some fault (sym none))
-not_found false fault rest none = (refl, none)
-
-none_holds : (test : GroupFault → Bool) (all : List GroupFault) → find test all ≡ None → AllByRecursion (λ fault. test fault ≡ false) all
-none_holds test [] none = tt
-none_holds test (fault ∷ all) none =
-    let here = not_found (test fault) fault (find test all) none in
-    (here.0, none_holds test all here.1)
-
-each_of : (test : GroupFault → Bool) → AllByRecursion (λ fault. test fault ≡ false) faults → (fault : GroupFault) → test fault ≡ false
-each_of test all of_group.RangeIso = all.0
-each_of test all of_group.RangeSdu = all.1.0
-each_of test all of_group.RangePdu = all.1.1.0
-each_of test all of_group.Bn = all.1.1.1.0
-each_of test all of_group.NseNotMultiple = all.1.1.1.1.0
-each_of test all of_group.Irc = all.1.1.1.1.1.0
-each_of test all of_group.PhyNotSupported = all.1.1.1.1.1.1.0
-each_of test all of_group.FramedPduSmall = all.1.1.1.1.1.1.1.0
-each_of test all of_group.UnframedMultiple = all.1.1.1.1.1.1.1.1.0
-each_of test all of_group.UnframedBn = all.1.1.1.1.1.1.1.1.1.0
-each_of test all of_group.Horizon = all.1.1.1.1.1.1.1.1.1.1.0
-each_of test all of_group.SubInterval = all.1.1.1.1.1.1.1.1.1.1.1.0
-each_of test all of_group.SyncDelay = all.1.1.1.1.1.1.1.1.1.1.1.1.0
-each_of test all of_group.Encrypted = all.1.1.1.1.1.1.1.1.1.1.1.1.1.0
-
-no_fault_in : (greatest : ℕ) (info : BigInfo) → first_fault greatest info ≡ None → NoFault greatest info
-unfolding first_fault
-no_fault_in greatest info none = each_of (has_fault greatest info) (none_holds (has_fault greatest info) faults none)
-
 horizon_greatest : (second : Bool) → cond second 31 15 ≤ 31
 horizon_greatest true = omega arith
 horizon_greatest false = omega arith
@@ -167,6 +148,7 @@ horizon_greatest false = omega arith
 
 pub record Settled (own : List Step) : Type 0 where
   pub widths : FitsWidths (unwrap_or (group_of own) no_group).info
+  pub uncoded : without_cipher (unwrap_or (group_of own) no_group).info ≡ (unwrap_or (group_of own) no_group).info
   pub no_fault : is_started own ≡ true → NoFault 31 (unwrap_or (group_of own) no_group).info
   pub quiet : is_started own ≡ false → source_calls own ≡ []
   pub unbegun : is_started own ≡ false → unwrap_or (start_of own) 0 ≡ 0
@@ -229,6 +211,7 @@ begins own before is = elim (cases_Bool (is_started own)) [
 settled_after : (airs : Airs) (own : List Step) (step : Step) → Settled own → Allowed airs own step → Settled (step ∷ own)
 settled_after airs own (steps.Group framing origin delay iso sdu max_sdu max_pdu num_bis bn nse irc pto sub spacing phy) before allows = record {
   widths = widths_in framing origin delay iso sdu max_sdu max_pdu num_bis bn nse irc pto sub spacing phy allows.ranged;
+  uncoded = refl;
   no_fault = λ started. absurd (false≢true started);
   quiet = λ idle. before.quiet (no_group_yet own allows.in_phase);
   under_way = λ started. absurd (false≢true started);
@@ -236,14 +219,26 @@ settled_after airs own (steps.Group framing origin delay iso sdu max_sdu max_pdu
 }
 settled_after airs own (steps.Start first) before allows = record {
   widths = before.widths;
+  uncoded = before.uncoded;
   no_fault = λ started. no_fault_within (horizon_in allows.version) (unwrap_or (group_of own) no_group).info (horizon_greatest (allows.version == 2))
-      (no_fault_in (horizon_in allows.version) (unwrap_or (group_of own) no_group).info (maps_none BadGroup _ allows.by_source));
+      (subst (NoFault (horizon_in allows.version)) before.uncoded
+      (may_be_sent (horizon_in allows.version) (unwrap_or (group_of own) no_group).info (cipher_of own) (first_fault (horizon_in allows.version) (checked_info own)) refl
+      (neither (group_refusal (first_fault (horizon_in allows.version) (checked_info own))) (refuse_if (is_base_too_long own) BaseTooLong) allows.by_source).0));
   quiet = λ idle. absurd (false≢true (sym idle));
   under_way = λ started. allows.in_place;
   unbegun = λ idle. absurd (false≢true (sym idle));
 }
 settled_after airs own steps.Stop before allows = record {
   widths = before.widths;
+  uncoded = before.uncoded;
+  no_fault = λ started. before.no_fault (sends own allows.in_phase);
+  quiet = λ idle. absurd (false≢true (sym idle));
+  under_way = λ started. allows.in_place;
+  unbegun = λ idle. absurd (false≢true (sym idle));
+}
+settled_after airs own (steps.Terminate reason) before allows = record {
+  widths = before.widths;
+  uncoded = before.uncoded;
   no_fault = λ started. before.no_fault (sends own allows.in_phase);
   quiet = λ idle. absurd (false≢true (sym idle));
   under_way = λ started. allows.in_place;
@@ -251,20 +246,23 @@ settled_after airs own steps.Stop before allows = record {
 }
 settled_after airs own (steps.Unit bis time octets) before allows = record {
   widths = before.widths;
+  uncoded = before.uncoded;
   no_fault = before.no_fault;
-  quiet = λ idle. absurd (true_not_false (is_started own) (sends own allows.in_phase) idle);
+  quiet = λ idle. absurd (true_not_false (is_started own) (takes own allows.in_phase) idle);
   under_way = λ started. allows.in_place;
   unbegun = before.unbegun;
 }
 settled_after airs own steps.Event before allows = record {
   widths = before.widths;
+  uncoded = before.uncoded;
   no_fault = before.no_fault;
-  quiet = λ idle. absurd (true_not_false (is_started own) (sends own allows.in_phase) idle);
+  quiet = λ idle. absurd (true_not_false (is_started own) (takes own allows.in_phase) idle);
   under_way = λ started. allows.in_place;
   unbegun = before.unbegun;
 }
 settled_after airs own (steps.Scenario version) before allows = record {
   widths = before.widths;
+  uncoded = before.uncoded;
   no_fault = before.no_fault;
   quiet = before.quiet;
   under_way = λ started. refl;
@@ -272,6 +270,7 @@ settled_after airs own (steps.Scenario version) before allows = record {
 }
 settled_after airs own steps.End before allows = record {
   widths = before.widths;
+  uncoded = before.uncoded;
   no_fault = before.no_fault;
   quiet = before.quiet;
   under_way = λ started. refl;
@@ -279,6 +278,7 @@ settled_after airs own steps.End before allows = record {
 }
 settled_after airs own _ before allows = record {
   widths = before.widths;
+  uncoded = before.uncoded;
   no_fault = before.no_fault;
   quiet = before.quiet;
   under_way = λ started. allows.in_place;
@@ -288,6 +288,7 @@ settled_after airs own _ before allows = record {
 pub settled : (airs : Airs) (own : List Step) → Lawful airs own → Settled own
 settled airs [] legal = record {
   widths = no_widths;
+  uncoded = refl;
   no_fault = λ started. absurd (false≢true started);
   quiet = λ idle. refl;
   unbegun = λ idle. refl;
@@ -301,12 +302,13 @@ started_stays airs own (steps.Group framing origin delay iso sdu max_sdu max_pdu
     absurd (true_not_false (is_started own) started (no_group_yet own allows.in_phase))
 started_stays airs own (steps.Start first) allows started = refl
 started_stays airs own steps.Stop allows started = refl
+started_stays airs own (steps.Terminate reason) allows started = refl
 started_stays airs own _ allows started = started
 
 pub setup_stays : (airs : Airs) (own : List Step) (step : Step) → Settled own → Allowed airs own step → is_started own ≡ true → setup_of (step ∷ own) ≡ setup_of own
 setup_stays airs own (steps.Group framing origin delay iso sdu max_sdu max_pdu num_bis bn nse irc pto sub spacing phy) is allows started =
     absurd (true_not_false (is_started own) started (no_group_yet own allows.in_phase))
-setup_stays airs own (steps.Start first) is allows started = absurd (true_not_false (is_started own) started (not_started own allows.in_phase))
+setup_stays airs own (steps.Start first) is allows started = absurd (true_not_false (is_started own) started (not_yet own (is_last_bare own) allows.in_phase))
 setup_stays airs own (steps.Scenario version) is allows started = absurd (true_not_false (is_started own) started (begins own is.under_way allows.in_place))
 setup_stays airs own _ is allows started = refl
 
@@ -346,7 +348,7 @@ accepted_after airs own (steps.Group framing origin delay iso sdu max_sdu max_pd
     subst (λ calls. AreAccepted airs (setup_of (steps.Group framing origin delay iso sdu max_sdu max_pdu num_bis bn nse irc pto sub spacing phy ∷ own)) calls)
     (sym (is.quiet (no_group_yet own allows.in_phase))) tt
 accepted_after airs own (steps.Start first) is allows before =
-    subst (λ calls. AreAccepted airs (setup_of (steps.Start first ∷ own)) calls) (sym (is.quiet (not_started own allows.in_phase))) tt
+    subst (λ calls. AreAccepted airs (setup_of (steps.Start first ∷ own)) calls) (sym (is.quiet (not_yet own (is_last_bare own) allows.in_phase))) tt
 accepted_after airs own (steps.Unit bis time octets) is allows before = (
   before,
   maps_none give_refusal (give_fault (setup_of own) (source_calls own) (airs (setup_of own) (source_calls own)) bis time octets) allows.by_source,

@@ -13,7 +13,7 @@ use Rattle.scenario_history.specs.Source.{Airs, event_back, is_started, open_eve
 use Rattle.scenario_history.specs.Sinks.{heard_on_air, is_lost, is_of, reaches, sink_calls, source_after, source_of, spot_at, spots_of, ticked, ticked_if, tuning_of, unless_lost, with_sink_call}
 use Rattle.scenario_history.specs.Refusals.{has_beyond}
 use Rattle.scenario_history.proofs.Legals.{Legal, Permitted, fails_not, permitted}
-use Rattle.scenario_history.proofs.Sources.{sends}
+use Rattle.scenario_history.proofs.Sources.{takes}
 use Rattle.scenario_history.proofs.Wholes.{goes}
 
 -- where the stay is on the source's group
@@ -93,6 +93,8 @@ there_before airs s n steps.Event earlier tuning calls source is =
     inl (there_still s tuning _ calls source (tick_if_place (is_of (chosen_of earlier) (source_of n earlier)) (open_event (chosen_steps earlier)) calls) is)
 there_before airs s n steps.Stop earlier tuning calls source is =
     inl (there_still s tuning _ calls source (tick_if_place (is_of (chosen_of earlier) (source_of n earlier)) (open_event (chosen_steps earlier)) calls) is)
+there_before airs s n (steps.Terminate reason) earlier tuning calls source is =
+    inl (there_still s tuning _ calls source (tick_if_place (is_of (chosen_of earlier) (source_of n earlier)) (open_event (chosen_steps earlier)) calls) is)
 there_before airs s n steps.End earlier tuning calls source is =
     inl (there_still s tuning _ calls source
     (tick_if_place (is_of 1 (source_of n earlier)) (open_event (steps_of_source 1 earlier)) (ticked_if (is_of 0 (source_of n earlier)) (open_event (steps_of_source 0 earlier)) calls)
@@ -114,7 +116,7 @@ put_to : (airs : Airs) (boxes s n : ℕ) (step : Step) (earlier : List Step) (tu
     → OnSource (steps_of_source s earlier) tuning
 put_to airs boxes s n (steps.Tuned sink which) earlier tuning permits put =
     subst (λ t. OnSource (steps_of_source t earlier) tuning) put.1 (record {
-      started = sends (chosen_steps earlier) permits.in_phase;
+      started = takes (chosen_steps earlier) permits.in_phase;
       tuned = subst (TunedTo (setup_of (chosen_steps earlier))) put.0 (record { info = refl; first = omega arith; anchor = refl; delay = refl });
       streams = subst (λ (t : Tuning). has_beyond (setup_of (chosen_steps earlier)).info.num_bis t.which ≡ false) put.0
           (fails_not (has_beyond (setup_of (chosen_steps earlier)).info.num_bis which) NoSuchBis permits.by_source);

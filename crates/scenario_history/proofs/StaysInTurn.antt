@@ -57,6 +57,7 @@ place_stays airs n (steps.Inject sink back bis subevent octets) earlier calls ma
     inl (same_place (reaches sink n earlier) (hear (event_back (chosen_steps earlier) back) bis subevent octets ∷ calls) calls refl)
 place_stays airs n steps.Event earlier calls made tuned = inl (tick_if_place (is_of (chosen_of earlier) (source_of n earlier)) (open_event (chosen_steps earlier)) calls)
 place_stays airs n steps.Stop earlier calls made tuned = inl (tick_if_place (is_of (chosen_of earlier) (source_of n earlier)) (open_event (chosen_steps earlier)) calls)
+place_stays airs n (steps.Terminate reason) earlier calls made tuned = inl (tick_if_place (is_of (chosen_of earlier) (source_of n earlier)) (open_event (chosen_steps earlier)) calls)
 place_stays airs n steps.End earlier calls made tuned =
     inl (tick_if_place (is_of 1 (source_of n earlier)) (open_event (steps_of_source 1 earlier)) (ticked_if (is_of 0 (source_of n earlier)) (open_event (steps_of_source 0 earlier)) calls)
     ∙ tick_if_place (is_of 0 (source_of n earlier)) (open_event (steps_of_source 0 earlier)) calls)
@@ -81,6 +82,7 @@ placed airs n (steps.Air sink lose ∷ earlier) = moved_placed airs n (steps.Air
 placed airs n (steps.Inject sink back bis subevent octets ∷ earlier) = moved_placed airs n (steps.Inject sink back bis subevent octets) earlier refl refl refl (placed airs n earlier)
 placed airs n (steps.Event ∷ earlier) = moved_placed airs n steps.Event earlier refl refl refl (placed airs n earlier)
 placed airs n (steps.Stop ∷ earlier) = moved_placed airs n steps.Stop earlier refl refl refl (placed airs n earlier)
+placed airs n (steps.Terminate reason ∷ earlier) = moved_placed airs n (steps.Terminate reason) earlier refl refl refl (placed airs n earlier)
 placed airs n (steps.End ∷ earlier) = moved_placed airs n steps.End earlier refl refl refl (placed airs n earlier)
 placed airs n (_ ∷ earlier) = placed airs n earlier
 
@@ -161,6 +163,8 @@ none_closed airs s n steps.Event earlier other =
     ap (λ b. cond (chosen_of earlier == s) (closed_if b (sink_calls airs n earlier) (open_event (steps_of_source s earlier))) []) other ∙ cond_none (chosen_of earlier == s)
 none_closed airs s n steps.Stop earlier other =
     ap (λ b. cond (chosen_of earlier == s) (closed_if b (sink_calls airs n earlier) (open_event (steps_of_source s earlier))) []) other ∙ cond_none (chosen_of earlier == s)
+none_closed airs s n (steps.Terminate reason) earlier other =
+    ap (λ b. cond (chosen_of earlier == s) (closed_if b (sink_calls airs n earlier) (open_event (steps_of_source s earlier))) []) other ∙ cond_none (chosen_of earlier == s)
 none_closed airs s n steps.End earlier other = ap (λ b. closed_if b (sink_calls airs n earlier) (open_event (steps_of_source s earlier))) other
 none_closed airs s n _ earlier other = refl
 
@@ -168,6 +172,8 @@ none_by : (airs : Airs) (s n : ℕ) (step : Step) (earlier : List Step) → mine
 none_by airs s n steps.Event earlier other =
     ap (λ b. cond (chosen_of earlier == s) (shown_if b (sink_calls airs n earlier) (open_event (steps_of_source s earlier))) []) other ∙ cond_none (chosen_of earlier == s)
 none_by airs s n steps.Stop earlier other =
+    ap (λ b. cond (chosen_of earlier == s) (shown_if b (sink_calls airs n earlier) (open_event (steps_of_source s earlier))) []) other ∙ cond_none (chosen_of earlier == s)
+none_by airs s n (steps.Terminate reason) earlier other =
     ap (λ b. cond (chosen_of earlier == s) (shown_if b (sink_calls airs n earlier) (open_event (steps_of_source s earlier))) []) other ∙ cond_none (chosen_of earlier == s)
 none_by airs s n steps.End earlier other = ap (λ b. shown_if b (sink_calls airs n earlier) (open_event (steps_of_source s earlier))) other
 none_by airs s n _ earlier other = refl
@@ -326,6 +332,7 @@ turn_after Q Fine airs boxes s n bis turns (steps.Inject sink back bis' subevent
     kept_there Q Fine airs boxes s n bis turns (steps.Inject sink back bis' subevent octets) earlier before refl refl refl
 turn_after Q Fine airs boxes s n bis turns steps.Event earlier before = kept_there Q Fine airs boxes s n bis turns steps.Event earlier before refl refl refl
 turn_after Q Fine airs boxes s n bis turns steps.Stop earlier before = kept_there Q Fine airs boxes s n bis turns steps.Stop earlier before refl refl refl
+turn_after Q Fine airs boxes s n bis turns (steps.Terminate reason) earlier before = kept_there Q Fine airs boxes s n bis turns (steps.Terminate reason) earlier before refl refl refl
 turn_after Q Fine airs boxes s n bis turns steps.End earlier before = kept_there Q Fine airs boxes s n bis turns steps.End earlier before refl refl refl
 turn_after Q Fine airs boxes s n bis turns step earlier before = kept Q Fine airs boxes s n bis turns step earlier before
 

@@ -225,6 +225,8 @@ since_after airs boxes s n steps.Event earlier tuning legal least within is sinc
     still_since airs boxes s n steps.Event earlier tuning legal least within (λ put. put) is since (λ its. closed_since_by airs s n earlier its)
 since_after airs boxes s n steps.Stop earlier tuning legal least within is since =
     still_since airs boxes s n steps.Stop earlier tuning legal least within (λ put. put) is since (λ its. closed_since_by airs s n earlier its)
+since_after airs boxes s n (steps.Terminate reason) earlier tuning legal least within is since =
+    still_since airs boxes s n (steps.Terminate reason) earlier tuning legal least within (λ put. put) is since (λ its. closed_since_by airs s n earlier its)
 since_after airs boxes s n steps.End earlier tuning legal least within is since =
     still_since airs boxes s n steps.End earlier tuning legal least within (λ put. put) is since
     (λ its. ap ticked_since (end_ticks s (λ t. open_event (steps_of_source t earlier)) (sink_calls airs n earlier) (source_of n earlier) least its)

@@ -5,8 +5,9 @@ use Rattle.scenario_text.specs.declared.step.Step.{Step}
 use Rattle.scenario_text.specs.declared.step.Step.TheVariants as steps
 use Rattle.scenario_history.specs.Steps.{is_of_source, steps_of_source}
 use Rattle.scenario_history.specs.Source.{Airs, is_started, setup_of, source_calls}
+use Rattle.scenario_history.specs.Bases.{is_last_bare}
 use Rattle.scenario_history.proofs.Legals.{Legal, permitted}
-use Rattle.scenario_history.proofs.Sources.{Allowed, Lawful, its_step, lawful, not_started, settled, setup_stays, started_stays}
+use Rattle.scenario_history.proofs.Sources.{Allowed, Lawful, its_step, lawful, not_yet, settled, setup_stays, started_stays}
 
 -- these calls and others behind them
 abbrev pub Extends : List SourceCall → List SourceCall → Type 0
@@ -69,7 +70,7 @@ next_in own = next_of (setup_of own) (source_calls own)
 
 next_after : (airs : Airs) (own : List Step) (step : Step) → Lawful airs own → Allowed airs own step → next_in own ≤ next_in (step ∷ own)
 next_after airs own (steps.Start first) legal allows =
-    let idle : is_started own ≡ false = not_started own allows.in_phase in
+    let idle : is_started own ≡ false = not_yet own (is_last_bare own) allows.in_phase in
     let none : events (source_calls own) ≡ 0 = ap events ((settled airs own legal).quiet idle) in
     omega (arith, none, (settled airs own legal).unbegun idle)
 next_after airs own steps.Event legal allows = omega arith

@@ -1,0 +1,116 @@
+-- Which groups a source may be started with: those of which no row of the group check holds but that of a cipher. Then none
+-- holds of the group without its cipher.
+use Rattle.std.proofs.Common.{ℕ, ◌≡◌, ◌≢◌, ◌<◌, cond, Bool, true, false, List, [], ◌∷◌, ◌++◌, Option, None, Some, refl, sym, ap, arith}
+use Rattle.std.specs.Prelude.{unwrap_or}
+use Rattle.std.specs.List.{find, AllByRecursion}
+use Rattle.std.proofs.lemmas.Bool.{false≢true}
+use Rattle.std.proofs.lemmas.Option.{none-some}
+use Rattle.big_info.specs.declared.info.BigInfo.{BigInfo}
+use Rattle.big_info.specs.declared.info.Cipher.{Cipher}
+use Rattle.big_info.specs.declared.fault.GroupFault.{GroupFault}
+use Rattle.big_info.specs.declared.fault.GroupFault.TheVariants as of_group
+use Rattle.big_info.specs.Faults.{faults, number_of}
+use Rattle.big_info.specs.Rows.{IsFirstFault, NoFault, first_fault, has_fault}
+use Rattle.source_machine.specs.Ciphers.{with_cipher, without_cipher}
+use Rattle.source_machine.proofs.Citable.{none_holds}
+use Rattle.scenario_history.specs.Refusals.{group_refusal}
+
+not_found : (holds : Bool) (fault : GroupFault) (rest : Option GroupFault) → cond holds (Some fault) rest ≡ None → (holds ≡ false) × (rest ≡ None)
+not_found true fault rest none = absurd (none-some fault (sym none))
+not_found false fault rest none = (refl, none)
+
+none_found : (test : GroupFault → Bool) (all : List GroupFault) → find test all ≡ None → AllByRecursion (λ fault. test fault ≡ false) all
+none_found test [] none = tt
+none_found test (fault ∷ all) none =
+    let here = not_found (test fault) fault (find test all) none in
+    (here.0, none_found test all here.1)
+
+each_of : (test : GroupFault → Bool) → AllByRecursion (λ fault. test fault ≡ false) faults → (fault : GroupFault) → test fault ≡ false
+each_of test all of_group.RangeIso = all.0
+each_of test all of_group.RangeSdu = all.1.0
+each_of test all of_group.RangePdu = all.1.1.0
+each_of test all of_group.Bn = all.1.1.1.0
+each_of test all of_group.NseNotMultiple = all.1.1.1.1.0
+each_of test all of_group.Irc = all.1.1.1.1.1.0
+each_of test all of_group.PhyNotSupported = all.1.1.1.1.1.1.0
+each_of test all of_group.FramedPduSmall = all.1.1.1.1.1.1.1.0
+each_of test all of_group.UnframedMultiple = all.1.1.1.1.1.1.1.1.0
+each_of test all of_group.UnframedBn = all.1.1.1.1.1.1.1.1.1.0
+each_of test all of_group.Horizon = all.1.1.1.1.1.1.1.1.1.1.0
+each_of test all of_group.SubInterval = all.1.1.1.1.1.1.1.1.1.1.1.0
+each_of test all of_group.SyncDelay = all.1.1.1.1.1.1.1.1.1.1.1.1.0
+each_of test all of_group.Encrypted = all.1.1.1.1.1.1.1.1.1.1.1.1.1.0
+
+no_fault_in : (greatest : ℕ) (info : BigInfo) → first_fault greatest info ≡ None → NoFault greatest info
+unfolding first_fault
+no_fault_in greatest info none = each_of (has_fault greatest info) (none_found (has_fault greatest info) faults none)
+
+-- ---- the row of a cipher is the first
+
+abbrev but_last : List GroupFault
+but_last =
+    of_group.RangeIso ∷ of_group.RangeSdu ∷ of_group.RangePdu ∷ of_group.Bn ∷ of_group.NseNotMultiple ∷ of_group.Irc ∷ of_group.PhyNotSupported
+    ∷ of_group.FramedPduSmall ∷ of_group.UnframedMultiple ∷ of_group.UnframedBn ∷ of_group.Horizon ∷ of_group.SubInterval ∷ of_group.SyncDelay ∷ []
+
+differs : (fault : GroupFault) → number_of fault < number_of of_group.Encrypted → fault ≡ of_group.Encrypted → ⊥
+differs fault below same = let number : number_of fault ≡ number_of of_group.Encrypted = ap number_of same in omega (arith, below, number)
+
+passed : (holds : Bool) (fault last : GroupFault) (rest : Option GroupFault) → cond holds (Some fault) rest ≡ Some last → (fault ≡ last → ⊥)
+    → (holds ≡ false) × (rest ≡ Some last)
+passed true fault last rest is other = absurd (other (ap (λ o. unwrap_or o fault) is))
+passed false fault last rest is other = (refl, is)
+
+found_last : (test : GroupFault → Bool) (all : List GroupFault) (last : GroupFault) → find test (all ++ last ∷ []) ≡ Some last
+    → AllByRecursion (λ fault. fault ≡ last → ⊥) all → AllByRecursion (λ fault. test fault ≡ false) all × (find test (last ∷ []) ≡ Some last)
+found_last test [] last is others = (tt, is)
+found_last test (fault ∷ all) last is others =
+    let here = passed (test fault) fault last (find test (all ++ last ∷ [])) is others.0 in
+    let more = found_last test all last here.1 others.1 in
+    ((here.0, more.0), more.1)
+
+it_holds : (holds : Bool) (last : GroupFault) → cond holds (Some last) None ≡ Some last → holds ≡ true
+it_holds true last is = refl
+it_holds false last is = absurd (none-some last is)
+
+before_last : (test : GroupFault → Bool) → AllByRecursion (λ fault. test fault ≡ false) but_last → (other : GroupFault) → number_of other < number_of of_group.Encrypted → test other ≡ false
+before_last test all of_group.RangeIso below = all.0
+before_last test all of_group.RangeSdu below = all.1.0
+before_last test all of_group.RangePdu below = all.1.1.0
+before_last test all of_group.Bn below = all.1.1.1.0
+before_last test all of_group.NseNotMultiple below = all.1.1.1.1.0
+before_last test all of_group.Irc below = all.1.1.1.1.1.0
+before_last test all of_group.PhyNotSupported below = all.1.1.1.1.1.1.0
+before_last test all of_group.FramedPduSmall below = all.1.1.1.1.1.1.1.0
+before_last test all of_group.UnframedMultiple below = all.1.1.1.1.1.1.1.1.0
+before_last test all of_group.UnframedBn below = all.1.1.1.1.1.1.1.1.1.0
+before_last test all of_group.Horizon below = all.1.1.1.1.1.1.1.1.1.1.0
+before_last test all of_group.SubInterval below = all.1.1.1.1.1.1.1.1.1.1.1.0
+before_last test all of_group.SyncDelay below = all.1.1.1.1.1.1.1.1.1.1.1.1.0
+before_last test all of_group.Encrypted below = absurd (omega (arith, below))
+
+first_encrypted : (greatest : ℕ) (info : BigInfo) → first_fault greatest info ≡ Some of_group.Encrypted → IsFirstFault greatest info of_group.Encrypted
+unfolding first_fault
+first_encrypted greatest info is =
+    let test : GroupFault → Bool = has_fault greatest info in
+    let found = found_last test but_last of_group.Encrypted is
+    (differs of_group.RangeIso (omega arith), (differs of_group.RangeSdu (omega arith), (differs of_group.RangePdu (omega arith), (differs of_group.Bn (omega arith), (differs of_group.NseNotMultiple (omega arith), (differs of_group.Irc (omega arith), (differs of_group.PhyNotSupported (omega arith), (differs of_group.FramedPduSmall (omega arith), (differs of_group.UnframedMultiple (omega arith), (differs of_group.UnframedBn (omega arith), (differs of_group.Horizon (omega arith), (differs of_group.SubInterval (omega arith), (differs of_group.SyncDelay (omega arith), tt))))))))))))) in
+    record { holds = it_holds (test of_group.Encrypted) of_group.Encrypted found.1; none_before = before_last test found.0 }
+
+pub may_be_sent : (greatest : ℕ) (info : BigInfo) (cipher : Option Cipher) (found : Option GroupFault) → first_fault greatest (with_cipher info cipher) ≡ found
+    → group_refusal found ≡ None → NoFault greatest (without_cipher info)
+may_be_sent greatest info None None is none = no_fault_in greatest (without_cipher info) is
+may_be_sent greatest info (Some cipher) None is none = absurd (false≢true (sym (no_fault_in greatest (with_cipher info (Some cipher)) is of_group.Encrypted)))
+may_be_sent greatest info cipher (Some of_group.Encrypted) is none = none_holds greatest (with_cipher info cipher) (first_encrypted greatest (with_cipher info cipher) is)
+may_be_sent greatest info cipher (Some of_group.RangeIso) is none = absurd (none-some _ (sym none))
+may_be_sent greatest info cipher (Some of_group.RangeSdu) is none = absurd (none-some _ (sym none))
+may_be_sent greatest info cipher (Some of_group.RangePdu) is none = absurd (none-some _ (sym none))
+may_be_sent greatest info cipher (Some of_group.Bn) is none = absurd (none-some _ (sym none))
+may_be_sent greatest info cipher (Some of_group.NseNotMultiple) is none = absurd (none-some _ (sym none))
+may_be_sent greatest info cipher (Some of_group.Irc) is none = absurd (none-some _ (sym none))
+may_be_sent greatest info cipher (Some of_group.PhyNotSupported) is none = absurd (none-some _ (sym none))
+may_be_sent greatest info cipher (Some of_group.FramedPduSmall) is none = absurd (none-some _ (sym none))
+may_be_sent greatest info cipher (Some of_group.UnframedMultiple) is none = absurd (none-some _ (sym none))
+may_be_sent greatest info cipher (Some of_group.UnframedBn) is none = absurd (none-some _ (sym none))
+may_be_sent greatest info cipher (Some of_group.Horizon) is none = absurd (none-some _ (sym none))
+may_be_sent greatest info cipher (Some of_group.SubInterval) is none = absurd (none-some _ (sym none))
+may_be_sent greatest info cipher (Some of_group.SyncDelay) is none = absurd (none-some _ (sym none))
