@@ -1,16 +1,19 @@
-ghost use Rattle.std.specs.Prelude.{◌≡◌, ◌<◌, ◌^◌};
+ghost use Rattle.std.specs.Prelude.{◌≡◌, ◌<◌, ◌^◌, None, IfOk};
 ghost use Rattle.big_info.specs.Widths.{FitsWidths};
 
+use base_grammar::decode_base;
 use bcast_base::Bis;
-use big_info::BigInfo;
+use big_info::{BigInfo, Cipher};
 use multi_source::Broadcast;
-use source_machine::{EventFault, GiveFault, Identity, Setup, SourceIdle};
+use source_machine::{
+    EventFault, GiveFault, Identity, Setup, SourceConfigured, SourceIdle, SourceStreaming,
+};
 use std::alloc::Global;
 use std::test::Fail;
 
 /// One stream of a unit every 10 ms in PDUs of at most 4 octets on LE 2M.
 fn info(max_sdu: u16, bn: u8, nse: u8, irc: u8, pto: u8) -> BigInfo
-    ensures { result.framing ≡ 0 }
+    ensures { result.cipher ≡ None }
 {
     BigInfo {
         big_offset: 0,
@@ -36,34 +39,62 @@ fn info(max_sdu: u16, bn: u8, nse: u8, irc: u8, pto: u8) -> BigInfo
     }
 }
 
-/// The source of a group: no name, the first event at 20 ms, presented 40 ms later.
-fn setup(info: BigInfo) -> Setup
-    ensures info { result.info ≡ info }
-    ensures origin { result.origin ≡ 20000 }
-    ensures delay { result.delay ≡ 40000 }
+/// A BASE of a presentation delay of 40 ms and one stream of a codec other than LC3.
+const BASE: [u8; 14] = [0x40, 0x9c, 0, 1, 1, 0xff, 1, 0, 2, 0, 0, 0, 1, 0];
+
+/// The source of a group, whose first event is at 20 ms, or none where memory is wanting.
+fn setup(alloc: Global, info: BigInfo) -> Result<Setup, &'static str>
+    ensures info { IfOk result (λ setup. setup.info ≡ info) }
+    ensures origin { IfOk result (λ setup. setup.origin ≡ 20000) }
 {
-    Setup {
+    let Ok(base) = decode_base(alloc, &BASE) else {
+        return Err("no memory");
+    };
+    Ok(Setup {
         identity: Identity {
             address_type: 0,
             address: [0; 6],
             sid: 0,
-            broadcast_id: [0; 3],
+            broadcast_id: [0x56, 0x34, 0x12],
         },
         info,
+        base,
         origin: 20000,
-        delay: 40000,
-    }
+    })
 }
 
-/// A source of this group with its first event, or none where the group or memory is wanting.
-fn started(alloc: Global, info: BigInfo, first: u64) -> Result<Broadcast, &'static str>
+/// A source of this group, or none where the group or memory is wanting.
+fn configured(alloc: Global, info: BigInfo) -> Result<SourceConfigured, &'static str>
     requires widths { FitsWidths info }
-    requires unframed { info.framing ≡ 0 }
-    requires first { first < 2 ^ 39 }
+    ensures { IfOk result (λ source. source.cipher ≡ info.cipher) }
 {
-    let Ok(configured) = SourceIdle::new(alloc).configure(setup(info)) else {
+    let setup = setup(alloc, info)?;
+    let Ok(configured) = SourceIdle::new(alloc).configure(setup) else {
         return Err("no group");
     };
+    Ok(configured)
+}
+
+/// The same with its first event.
+fn streaming(alloc: Global, info: BigInfo, first: u64) -> Result<SourceStreaming, &'static str>
+    requires widths { FitsWidths info }
+    requires first { first < 2 ^ 39 }
+    ensures { IfOk result (λ source. source.cipher ≡ info.cipher) }
+{
+    let configured = configured(alloc, info)?;
+    let Ok(source) = configured.start(first) else {
+        return Err("no memory");
+    };
+    Ok(source)
+}
+
+/// The same with its air.
+fn started(alloc: Global, info: BigInfo, first: u64) -> Result<Broadcast, &'static str>
+    requires widths { FitsWidths info }
+    requires first { first < 2 ^ 39 }
+    ensures { IfOk result (λ source. source.source.cipher ≡ info.cipher) }
+{
+    let configured = configured(alloc, info)?;
     let Ok(source) = Broadcast::start(alloc, configured, first) else {
         return Err("no memory");
     };
@@ -74,12 +105,7 @@ fn started(alloc: Global, info: BigInfo, first: u64) -> Result<Broadcast, &'stat
 fn a_source_sends_each_pdu_at_its_place(rt: HostRuntime) -> Result<(), Fail> {
     let info = info(4, 1, 2, 2, 0);
     assert!(rt; info.fits());
-    let Ok(configured) = SourceIdle::new(rt.alloc()).configure(setup(info)) else {
-        return Err("no group".into());
-    };
-    let Ok(mut source) = configured.start(3) else {
-        return Err("no memory".into());
-    };
+    let mut source = streaming(rt.alloc(), info, 3)?;
     let one = Bis::new(1).ok_or("no stream")?;
     source.give(one, None, &[0xC0])?;
     let sent = source.event()?;
@@ -153,5 +179,70 @@ fn no_more_than_16_units_wait(rt: HostRuntime) -> Result<(), Fail> {
         source.give(one, None, &[0xAA])?;
     }
     assert_eq!(rt; source.give(one, None, &[0xAA]), Err(GiveFault::Backlog));
+    Ok(())
+}
+
+/// The group of one stream that has one subevent an event.
+fn one_subevent() -> BigInfo
+    ensures { result.cipher ≡ None }
+{
+    BigInfo {
+        sub_interval: 0,
+        ..info(4, 1, 1, 1, 0)
+    }
+}
+
+#[test]
+fn a_source_announces_its_next_event(rt: HostRuntime) -> Result<(), Fail> {
+    let info = one_subevent();
+    assert!(rt; info.fits());
+    let source = streaming(rt.alloc(), info, 0)?;
+    let train = source.announce()?;
+    assert_eq!(rt; train.time, 17000);
+    assert_eq!(rt;
+        train.ext.as_slice(),
+        [0x06, 0x16, 0x52, 0x18, 0x56, 0x34, 0x12].as_slice()
+    );
+    assert_eq!(rt;
+        train.adv.as_slice(),
+        [
+            0x11, 0x16, 0x51, 0x18, 0x40, 0x9c, 0, 1, 1, 0xff, 1, 0, 2, 0, 0, 0, 1, 0
+        ]
+        .as_slice()
+    );
+    assert_eq!(rt;
+        train.acad.as_slice(),
+        [
+            0x22, 0x2c, 0x64, 0, 0x04, 0x08, 0x21, 0, 0, 0, 0, 0, 0x10, 0x04, 0, 0, 0, 0, 0, 0x10,
+            0x27, 0x40, 0, 0, 0, 0xff, 0xff, 0xff, 0xff, 0x3f, 0, 0, 0, 0, 0
+        ]
+        .as_slice()
+    );
+    Ok(())
+}
+
+#[test]
+fn an_encrypted_group_is_announced(rt: HostRuntime) -> Result<(), Fail> {
+    let info = BigInfo {
+        cipher: Some(Cipher {
+            giv: [1, 2, 3, 4, 5, 6, 7, 8],
+            gskd: [0x11; 16],
+        }),
+        ..one_subevent()
+    };
+    assert!(rt; info.fits());
+    let source = streaming(rt.alloc(), info, 0)?;
+    assert!(rt; source.is_ciphered());
+    let train = source.announce()?;
+    let behind = [
+        1, 2, 3, 4, 5, 6, 7, 8, 0x11, 0x11, 0x11, 0x11, 0x11, 0x11, 0x11, 0x11, 0x11, 0x11, 0x11,
+        0x11, 0x11, 0x11, 0x11, 0x11,
+    ];
+    match train.acad.as_slice() {
+        [0x3a, 0x2c, fields @ ..] if fields.len() == 57 => {
+            assert_eq!(rt; &fields[33..], behind.as_slice());
+        }
+        _ => return Err("a BIGInfo of 57 octets".into()),
+    }
     Ok(())
 }
