@@ -5,7 +5,10 @@ use Rattle.multi_source.specs.State.Broadcasts.{StandsFor}
 use Rattle.scenario_text.specs.declared.step.Step.{Step}
 use Rattle.scenario_text.specs.declared.step.Step.TheVariants.{Scenario, Sink, Tuned, Hear, Air, Inject, Sniff, Drop, End}
 use Rattle.scenario_history.specs.Steps.{chosen_given, chosen_of, is_of_source, is_unbegun, is_unbegun_at, stage_of, steps_of_source, unbegun}
-use Rattle.scenario_history.specs.Source.{group_of, ident_of, phase_of, setup_of, source_calls}
+use Rattle.base_grammar.specs.Layout.{endpoint}
+use Rattle.scenario_bases.specs.Lines.{subgroups_in}
+use Rattle.scenario_history.specs.Bases.{base_lines, base_of}
+use Rattle.scenario_history.specs.Source.{cipher_of, group_of, ident_of, phase_of, setup_of, source_calls}
 use Rattle.std.proofs.lemmas.Bool.{false≢true}
 use Rattle.scenario_history.proofs.Citable.{stage_same}
 use Rattle.scenario_sources.specs.declared.phase.Phase.{Phase}
@@ -21,24 +24,43 @@ pub record SaysNothing (made : Step) : Type 0 where
   pub phase : (own : List Step) → phase_of (made ∷ own) ≡ phase_of own
   pub group : (own : List Step) → group_of (made ∷ own) ≡ group_of own
   pub ident : (own : List Step) → ident_of (made ∷ own) ≡ ident_of own
+  pub cipher : (own : List Step) → cipher_of (made ∷ own) ≡ cipher_of own
+  pub lines : (own : List Step) → base_lines (made ∷ own) ≡ base_lines own
   pub setup : (own : List Step) → is_unbegun own ≡ false → setup_of (made ∷ own) ≡ setup_of own
   pub under_way : (own : List Step) → is_unbegun own ≡ false → is_unbegun (made ∷ own) ≡ false
   pub calls : (own : List Step) → source_calls (made ∷ own) ≡ source_calls own
+
+-- so its BASE stays
+base_stays : (made : Step) (own : List Step) → SaysNothing made → base_of (made ∷ own) ≡ base_of own
+base_stays made own nothing = rw (nothing.group own, nothing.lines own) refl
 
 started_stays : (made : Step) (own : List Step) (started : Started) → SaysNothing made → StartedIs own started → StartedIs (made ∷ own) started
 started_stays made own started nothing is = record {
   ident = is.ident ∙ sym (nothing.ident own);
   setup = is.setup ∙ sym (nothing.setup own is.under_way);
   under_way = nothing.under_way own is.under_way;
+  base = is.base ∙ sym (base_stays made own nothing);
+  cipher = is.cipher ∙ sym (nothing.cipher own);
   calls = let P : List Call → Type 0 = λ calls. StandsFor calls started.source in subst P (sym (nothing.calls own)) is.calls;
 }
 
 phase_stays : (made : Step) (own : List Step) (phase : Phase) → SaysNothing made → PhaseIs own phase → PhaseIs (made ∷ own) phase
 phase_stays made own phases.Absent nothing is =
-    (nothing.phase own ∙ is.0, record { ident = nothing.ident own ∙ is.1.ident; calls = nothing.calls own ∙ is.1.calls })
+    (nothing.phase own ∙ is.0, record {
+      ident = nothing.ident own ∙ is.1.ident;
+      cipher = nothing.cipher own ∙ is.1.cipher;
+      lines = nothing.lines own ∙ is.1.lines;
+      calls = nothing.calls own ∙ is.1.calls;
+    })
 phase_stays made own (phases.Described said) nothing is = (
   nothing.phase own ∙ is.0,
-  record { group = nothing.group own ∙ is.1.group; ident = is.1.ident ∙ sym (nothing.ident own); calls = nothing.calls own ∙ is.1.calls },
+  record {
+    group = nothing.group own ∙ is.1.group;
+    ident = is.1.ident ∙ sym (nothing.ident own);
+    cipher = is.1.cipher ∙ sym (nothing.cipher own);
+    base = is.1.base ∙ ap (λ lines. endpoint said.delay (subgroups_in lines)) (sym (nothing.lines own));
+    calls = nothing.calls own ∙ is.1.calls;
+  },
 )
 phase_stays made own (phases.Sending started) nothing is = (nothing.phase own ∙ is.0, started_stays made own started nothing is.1)
 phase_stays made own (phases.Stopped started) nothing is = (nothing.phase own ∙ is.0, started_stays made own started nothing is.1)
@@ -57,8 +79,8 @@ sources_stay made steps sources nothing stands = record {
 
 -- the first step of a scenario comes before any start, and leaves the sources as they are
 phase_begins : (version : ℕ) (own : List Step) (phase : Phase) → stage_of own ≡ unbegun → PhaseIs own phase → PhaseIs (Scenario version ∷ own) phase
-phase_begins version own phases.Absent stage is = (is.0, record { ident = is.1.ident; calls = is.1.calls })
-phase_begins version own (phases.Described said) stage is = (is.0, record { group = is.1.group; ident = is.1.ident; calls = is.1.calls })
+phase_begins version own phases.Absent stage is = (is.0, record { ident = is.1.ident; cipher = is.1.cipher; lines = is.1.lines; calls = is.1.calls })
+phase_begins version own (phases.Described said) stage is = (is.0, record { group = is.1.group; ident = is.1.ident; cipher = is.1.cipher; base = is.1.base; calls = is.1.calls })
 phase_begins version own (phases.Sending started) stage is = absurd (false≢true (sym is.1.under_way ∙ ap is_unbegun_at stage))
 phase_begins version own (phases.Stopped started) stage is = absurd (false≢true (sym is.1.under_way ∙ ap is_unbegun_at stage))
 
@@ -73,25 +95,25 @@ scenario_begins version steps sources stage stands = record {
 }
 
 pub sink_says : (sink streams slots : ℕ) (mtu : Option ℕ) → SaysNothing (Sink sink streams slots mtu)
-sink_says sink streams slots mtu = record { chosen = refl; phase = λ own. refl; group = λ own. refl; ident = λ own. refl; setup = λ own going. refl; under_way = λ own going. going; calls = λ own. refl }
+sink_says sink streams slots mtu = record { chosen = refl; phase = λ own. refl; group = λ own. refl; ident = λ own. refl; cipher = λ own. refl; lines = λ own. refl; setup = λ own going. refl; under_way = λ own going. going; calls = λ own. refl }
 
 pub drop_says : (sink : ℕ) → SaysNothing (Drop sink)
-drop_says sink = record { chosen = refl; phase = λ own. refl; group = λ own. refl; ident = λ own. refl; setup = λ own going. refl; under_way = λ own going. going; calls = λ own. refl }
+drop_says sink = record { chosen = refl; phase = λ own. refl; group = λ own. refl; ident = λ own. refl; cipher = λ own. refl; lines = λ own. refl; setup = λ own going. refl; under_way = λ own going. going; calls = λ own. refl }
 
 pub tuned_says : (sink which : ℕ) → SaysNothing (Tuned sink which)
-tuned_says sink which = record { chosen = refl; phase = λ own. refl; group = λ own. refl; ident = λ own. refl; setup = λ own going. refl; under_way = λ own going. going; calls = λ own. refl }
+tuned_says sink which = record { chosen = refl; phase = λ own. refl; group = λ own. refl; ident = λ own. refl; cipher = λ own. refl; lines = λ own. refl; setup = λ own going. refl; under_way = λ own going. going; calls = λ own. refl }
 
 pub hear_says : (sink back bis subevent : ℕ) → SaysNothing (Hear sink back bis subevent)
-hear_says sink back bis subevent = record { chosen = refl; phase = λ own. refl; group = λ own. refl; ident = λ own. refl; setup = λ own going. refl; under_way = λ own going. going; calls = λ own. refl }
+hear_says sink back bis subevent = record { chosen = refl; phase = λ own. refl; group = λ own. refl; ident = λ own. refl; cipher = λ own. refl; lines = λ own. refl; setup = λ own going. refl; under_way = λ own going. going; calls = λ own. refl }
 
 pub air_says : (sink lose : ℕ) → SaysNothing (Air sink lose)
-air_says sink lose = record { chosen = refl; phase = λ own. refl; group = λ own. refl; ident = λ own. refl; setup = λ own going. refl; under_way = λ own going. going; calls = λ own. refl }
+air_says sink lose = record { chosen = refl; phase = λ own. refl; group = λ own. refl; ident = λ own. refl; cipher = λ own. refl; lines = λ own. refl; setup = λ own going. refl; under_way = λ own going. going; calls = λ own. refl }
 
 pub inject_says : (sink back bis subevent : ℕ) (octets : List ℕ) → SaysNothing (Inject sink back bis subevent octets)
-inject_says sink back bis subevent octets = record { chosen = refl; phase = λ own. refl; group = λ own. refl; ident = λ own. refl; setup = λ own going. refl; under_way = λ own going. going; calls = λ own. refl }
+inject_says sink back bis subevent octets = record { chosen = refl; phase = λ own. refl; group = λ own. refl; ident = λ own. refl; cipher = λ own. refl; lines = λ own. refl; setup = λ own going. refl; under_way = λ own going. going; calls = λ own. refl }
 
 pub sniff_says : (back bis subevent : ℕ) → SaysNothing (Sniff back bis subevent)
-sniff_says back bis subevent = record { chosen = refl; phase = λ own. refl; group = λ own. refl; ident = λ own. refl; setup = λ own going. refl; under_way = λ own going. going; calls = λ own. refl }
+sniff_says back bis subevent = record { chosen = refl; phase = λ own. refl; group = λ own. refl; ident = λ own. refl; cipher = λ own. refl; lines = λ own. refl; setup = λ own going. refl; under_way = λ own going. going; calls = λ own. refl }
 
 pub end_says : SaysNothing End
-end_says = record { chosen = refl; phase = λ own. refl; group = λ own. refl; ident = λ own. refl; setup = λ own going. refl; under_way = λ own going. refl; calls = λ own. refl }
+end_says = record { chosen = refl; phase = λ own. refl; group = λ own. refl; ident = λ own. refl; cipher = λ own. refl; lines = λ own. refl; setup = λ own going. refl; under_way = λ own going. refl; calls = λ own. refl }

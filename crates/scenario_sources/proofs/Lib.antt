@@ -1,3 +1,5 @@
 pub mod Lifting
 pub mod Phasing
+pub mod Drafts
+pub mod Starts
 pub mod Citable

@@ -143,6 +143,18 @@ answers version made steps at old new phase (Err (Refused reason)) means twin sa
 answers version made steps at old new phase (Err OutletFault) means twin same within two stands b chosen set = b
 answers version made steps at old new phase (Err Memory) means twin same within two stands b chosen set = tt
 
+pub terminates : (version reason : ℕ) (steps : List Step) (at : ℕ) (old new : Sources) (phase : Phase) (r : Result Terminated Stop)
+    → at ≡ old.chosen → old.chosen < 2 → length old.phases.items ≡ 2 → SourcesStand steps old
+    → state.Terminates version (chosen_steps steps) reason phase r → new.chosen ≡ old.chosen → new.phases.items ≡ slice_set old.phases.items at phase
+    → Terminates version steps reason new r
+terminates version reason steps at old new phase (Ok x) same within two stands b chosen set =
+    (fault_same version steps (Terminate reason) refl None b.0,
+    lifted (Terminate reason) steps at old new phase (record { line = λ s steps. refl; chooses = refl }) same within two stands b.1 chosen set, b.2)
+terminates version reason steps at old new phase (Err (Refused cause)) same within two stands b chosen set =
+    (fault_same version steps (Terminate reason) refl (Some cause) b.0, again steps at old new phase same within two stands b.1 chosen set)
+terminates version reason steps at old new phase (Err OutletFault) same within two stands b chosen set = b
+terminates version reason steps at old new phase (Err Memory) same within two stands b chosen set = tt
+
 pub closes : (version : ℕ) (made : Step) (steps : List Step) (at : ℕ) (old new : Sources) (phase : Phase) (r : Result (Option ℕ) Stop) → MeansChosen made
     → twin_refusal steps made ≡ None → at ≡ old.chosen → old.chosen < 2 → length old.phases.items ≡ 2 → SourcesStand steps old
     → state.Closes version (chosen_steps steps) made phase r → new.chosen ≡ old.chosen → new.phases.items ≡ slice_set old.phases.items at phase
@@ -171,13 +183,12 @@ performs version steps at old new phase (Err Memory) same within two stands b ch
 -- ---- start
 
 -- the other source was started with the same identity
-pub twice_is : (steps : List Step) (own : Identity) (said : Option Identity) (other : List Step) (r : Bool) → identity_in own ≡ identity_or_none said
-    → option_map identity_in said ≡ ident_of (chosen_steps steps) → other ≡ steps_of_source (other_of (chosen_of steps)) steps
+pub twice_is : (steps : List Step) (own : Identity) (other : List Step) (r : Bool) → identity_in own ≡ identity_of (chosen_steps steps)
+    → other ≡ steps_of_source (other_of (chosen_of steps)) steps
     → r ≡ (is_started other && is_same_identity (identity_in own) (identity_of other)) → r ≡ is_ident_twice steps
-twice_is steps own said other r is ident same e =
+twice_is steps own other r is same e =
     e ∙ ap (λ o. is_started o && is_same_identity (identity_in own) (identity_of o)) same
-    ∙ ap (λ i. is_started (steps_of_source (other_of (chosen_of steps)) steps) && is_same_identity i (identity_of (steps_of_source (other_of (chosen_of steps)) steps)))
-    (is ∙ ap (λ (o : Option history.Identity). unwrap_or o no_identity) ident)
+    ∙ ap (λ i. is_started (steps_of_source (other_of (chosen_of steps)) steps) && is_same_identity i (identity_of (steps_of_source (other_of (chosen_of steps)) steps))) is
 
 -- all but the proofs of what is always true of them is the same
 pub stands_as : (steps : List Step) (old new : Sources) → SourcesStand steps old → new.chosen ≡ old.chosen → new.phases.items ≡ old.phases.items → SourcesStand steps new
@@ -194,11 +205,5 @@ pub start_twice : (version first : ℕ) (steps : List Step) (twice : Bool) → f
     → fault_of version steps (Start first) ≡ Some IdentTwice
 start_twice version first steps twice e is t = rw e (ap (λ (b : Bool). refuse_if b IdentTwice) (sym is ∙ t))
 
-pub start_wants : (version first : ℕ) (steps : List Step) (sources : Sources) (stop : Stop) → Begins first (chosen_steps steps) (Err stop) → Answers version steps (Start first) sources (Err stop)
-start_wants version first steps sources (Refused reason) b = absurd b
-start_wants version first steps sources OutletFault b = b
-start_wants version first steps sources Memory b = tt
-
-pub start_passes : (version first : ℕ) (steps : List Step) (twice : Bool) → fault_in version (chosen_steps steps) (Start first) ≡ None → twice ≡ is_ident_twice steps → twice ≡ false
-    → fault_of version steps (Start first) ≡ None
-start_passes version first steps twice e is t = rw e (ap (λ (b : Bool). refuse_if b IdentTwice) (sym is ∙ t))
+pub is_single : (first : ℕ) (steps : List Step) (twice : Bool) → twice ≡ is_ident_twice steps → twice ≡ false → twin_refusal steps (Start first) ≡ None
+is_single first steps twice is t = ap (λ (b : Bool). refuse_if b IdentTwice) (sym is ∙ t)

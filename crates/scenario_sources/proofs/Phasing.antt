@@ -1,103 +1,101 @@
 -- One source after a step that means it.
 use Rattle.std.proofs.Common.{◌≡◌, ◌-◌, ℕ, ◌==◌, Bool, true, false, List, [], ◌∷◌, refl, sym, ◌∙◌, ap, subst, is_some, unwrap_or, option_map, eq-eqb, Option, None, Some, Result, Ok, Err}
 use Rattle.std.specs.Option.{option_or}
-use Rattle.big_info.specs.declared.fault.GroupFault.{GroupFault}
+use Rattle.base_grammar.specs.Layout.{endpoint}
 use Rattle.big_info.specs.declared.info.BigInfo.{BigInfo}
-use Rattle.big_info.specs.Rows.{first_fault}
+use Rattle.big_info.specs.declared.info.Cipher.{Cipher}
+use Rattle.scenario_bases.specs.Lines.{subgroups_in}
+use Rattle.source_machine.specs.Ciphers.{with_cipher, without_cipher}
 use Rattle.source_machine.specs.Airs.{airs_of, pdu_of, stale_of}
 use Rattle.source_machine.specs.Calls.{Call, Setup, event as perform, give, next_of}
 use Rattle.source_machine.specs.declared.sent.Stale.{Stale}
-use Rattle.source_machine.specs.declared.fault.ConfigureFault.{ConfigureFault}
-use Rattle.source_machine.specs.declared.fault.ConfigureFault.TheVariants.{BadGroup as Misfit, Memory as NoMemory}
 use Rattle.source_machine.specs.declared.fault.GiveFault.{GiveFault}
-use Rattle.source_machine.specs.Faults.{ConfigureFails, air_fault, give_fault, refused_unit}
+use Rattle.source_machine.specs.Faults.{air_fault, give_fault, refused_unit}
 use Rattle.multi_source.specs.State.Broadcasts.{Broadcasting, StandsFor}
-use Rattle.transcript_text.specs.declared.refusal.Refusal.{Refusal}
-use Rattle.transcript_text.specs.declared.refusal.Refusal.TheVariants.{BadGroup}
+use Rattle.transcript_text.specs.declared.refusal.Refusal.TheVariants.{Order}
 use Rattle.transcript_text.specs.declared.stop.Stop.{Stop}
 use Rattle.transcript_text.specs.declared.stop.Stop.TheVariants.{Refused, OutletFault, Memory}
 use Rattle.scenario_text.specs.declared.step.Step.{Step}
-use Rattle.scenario_text.specs.declared.step.Step.TheVariants.{Ident, Start, Unit as UnitStep}
-use Rattle.scenario_history.specs.Source.{GroupLine, event_back, pdu_in, absent, described, sending, phase_of, ident_of, group_of, is_ahead_in, setup_of, setup_from, source_calls, stale_in}
-use Rattle.scenario_history.specs.Steps.{is_unbegun_at, running, stage_of}
-use Rattle.scenario_history.specs.Refusals.{air_refusal, give_refusal, horizon_in, no_place}
+use Rattle.scenario_text.specs.declared.step.Step.TheVariants.{Cipher as CipherLine, Ident, Unit as UnitStep}
+use Rattle.scenario_history.specs.Bases.{subgroups_of}
+use Rattle.scenario_history.specs.Source.{GroupLine, cipher_of, event_back, pdu_in, absent, described, sending, phase_of, ident_of, is_ciphered, setup_of, source_calls, stale_in, takes_units}
+use Rattle.scenario_history.specs.Refusals.{air_refusal, give_refusal, no_place}
 use Rattle.source_machine.specs.declared.setup.Identity.{Identity}
 use Rattle.scenario_sources.specs.declared.phase.Described.{Described}
 use Rattle.scenario_sources.specs.declared.phase.Phase.TheVariants as phases
 use Rattle.scenario_sources.specs.declared.phase.Started.{Started}
 use Rattle.scenario_sources.specs.Described.{IsPlain, group_step, identity_in}
-use Rattle.scenario_sources.specs.Faults.{fault_in}
-use Rattle.scenario_sources.specs.State.Phases.{AbsentIs, Becomes, DescribedIs, IsReady, PhaseIs, StartedIs, line_of}
-use Rattle.scenario_sources.specs.State.Stops.{GivesTo, GiveStops, StartStops}
+use Rattle.scenario_sources.specs.State.Phases.{AbsentIs, Becomes, DescribedIs, StartedIs}
+use Rattle.scenario_sources.specs.State.Stops.{GivesTo, GiveStops}
 
 same_line : (i j : BigInfo) (o p d e : ℕ) → i ≡ j → o ≡ p → d ≡ e
     → let one : GroupLine = record { info = i; origin = o; delay = d } in let other : GroupLine = record { info = j; origin = p; delay = e } in one ≡ other
 same_line i j o p d e a b c = rw (a, b, c) refl
 
-none_of : {A : Type 0} (o : Option A) → is_some o ≡ false → o ≡ None
+pub none_of : {A : Type 0} (o : Option A) → is_some o ≡ false → o ≡ None
 none_of None e = refl
 none_of (Some x) e = absurd (cc e)
 
--- ---- group, ident
+-- ---- group, ident, cipher
 
 pub describes : (version : ℕ) (own : List Step) (info : BigInfo) (origin delay : ℕ) (new : Described) → IsPlain info
-    → (phase_of own ≡ absent) × AbsentIs own → new.info ≡ info → new.origin ≡ origin → new.delay ≡ delay → new.identity ≡ None
+    → (phase_of own ≡ absent) × AbsentIs own → new.info ≡ info → new.origin ≡ origin → new.delay ≡ delay → new.identity ≡ None → new.base ≡ endpoint delay []
     → Becomes version own (group_step info origin delay) (phases.Described new) (Ok tt)
-describes version own info origin delay new plain is i o d n = (
+describes version own info origin delay new plain is i o d n b = (
   rw is.0 refl,
   (
     refl,
     record {
-      group = ap Some (same_line _ new.info origin new.origin delay new.delay (sym plain ∙ sym i) (sym o) (sym d));
+      group = ap Some (same_line _ (without_cipher new.info) origin new.origin delay new.delay (sym (ap without_cipher (i ∙ plain))) (sym o) (sym d));
       ident = ap (option_map identity_in) n ∙ sym is.1.ident;
+      cipher = ap (λ (x : BigInfo). x.cipher) (i ∙ plain) ∙ sym is.1.cipher;
+      base = b ∙ ap (λ k. endpoint k []) (sym d) ∙ ap (λ lines. endpoint new.delay (subgroups_in lines)) (sym is.1.lines);
       calls = is.1.calls;
     },
   ),
 )
 
 pub identifies : (version : ℕ) (own : List Step) (identity : Identity) (said new : Described) → (phase_of own ≡ described) × DescribedIs own said
-    → is_some said.identity ≡ false → new.info ≡ said.info → new.origin ≡ said.origin → new.delay ≡ said.delay → new.identity ≡ Some identity
+    → is_some said.identity ≡ false → new.info ≡ said.info → new.origin ≡ said.origin → new.delay ≡ said.delay → new.base ≡ said.base → new.identity ≡ Some identity
     → Becomes version own (Ident identity.address_type identity.address identity.sid identity.broadcast_id) (phases.Described new) (Ok tt)
-identifies version own identity said new is none i o d n =
+identifies version own identity said new is none i o d b n =
     let unsaid : ident_of own ≡ None = sym is.1.ident ∙ ap (option_map identity_in) (none_of said.identity none) in (
       rw (is.0, unsaid) refl,
       (
         is.0,
         record {
-          group = is.1.group ∙ ap Some (same_line said.info new.info said.origin new.origin said.delay new.delay (sym i) (sym o) (sym d));
+          group = is.1.group ∙ ap Some (rw (i, o, d) refl);
           ident = ap (option_map identity_in) n;
+          cipher = ap (λ (x : BigInfo). x.cipher) i ∙ is.1.cipher;
+          base = b ∙ is.1.base ∙ ap (λ k. endpoint k (subgroups_of own)) (sym d);
           calls = is.1.calls;
         },
       ),
     )
 
--- ---- start
+pub encrypts : (version : ℕ) (own : List Step) (cipher : Cipher) (said new : Described) → (phase_of own ≡ described) × DescribedIs own said
+    → is_some said.info.cipher ≡ false → new.info ≡ with_cipher said.info (Some cipher) → new.origin ≡ said.origin → new.delay ≡ said.delay → new.base ≡ said.base
+    → new.identity ≡ said.identity → Becomes version own (CipherLine cipher.giv cipher.gskd) (phases.Described new) (Ok tt)
+encrypts version own cipher said new is none i o d b n =
+    let unsaid : cipher_of own ≡ None = sym is.1.cipher ∙ none_of said.info.cipher none in (
+      rw (is.0, unsaid) refl,
+      (
+        is.0,
+        record {
+          group = is.1.group ∙ ap Some (same_line (without_cipher said.info) (without_cipher new.info) said.origin new.origin said.delay new.delay (sym (ap without_cipher i)) (sym o) (sym d));
+          ident = ap (option_map identity_in) n ∙ is.1.ident;
+          cipher = ap (λ (x : BigInfo). x.cipher) i;
+          base = b ∙ is.1.base ∙ ap (λ k. endpoint k (subgroups_of own)) (sym d);
+          calls = is.1.calls;
+        },
+      ),
+    )
 
-pub may_start : (version first horizon : ℕ) (own : List Step) (said : Described) (fault : Option GroupFault) → horizon ≡ horizon_in version
-    → (phase_of own ≡ described) × DescribedIs own said → first_fault horizon said.info ≡ fault → fault_in version own (Start first) ≡ option_map BadGroup fault
-may_start version first horizon own said fault h is e = rw (is.0, is.1.group, ← h, e) refl
-
-pub may_not_start : (version first horizon : ℕ) (own : List Step) (said : Described) (fault : ConfigureFault) (stop : Stop) → horizon ≡ horizon_in version
-    → (phase_of own ≡ described) × DescribedIs own said → ConfigureFails horizon said.info fault → StartStops fault stop → IsReady version first own (Err stop)
-may_not_start version first horizon own said (Misfit fault) (Refused reason) h is fails g = may_start version first horizon own said (Some fault) h is fails ∙ ap Some g
-may_not_start version first horizon own said NoMemory (Refused reason) h is fails g = absurd g
-may_not_start version first horizon own said fault OutletFault h is fails g = g
-may_not_start version first horizon own said fault Memory h is fails g = tt
-
-pub starts : (version first : ℕ) (own : List Step) (said : Described) (source : Broadcasting) → stage_of own ≡ running version → (phase_of own ≡ described) × DescribedIs own said
-    → (let setup : Setup = record { info = said.info; origin = said.origin; delay = said.delay; first = first; ahead = is_ahead_in version } in source.source.setup ≡ setup) → StandsFor [] source
-    → (let new : Started = record { identity = said.identity; source = source } in StartedIs (Start first ∷ own) new)
-starts version first own said source stage is setup stands = record {
-  ident = is.1.ident;
-  setup = setup ∙ rw (is.1.group, stage) refl;
-  under_way = ap is_unbegun_at stage;
-  calls = let P : List Call → Type 0 = λ calls. StandsFor calls source in subst P (sym is.1.calls) stands;
-}
-
-pub setup_same : (i j : BigInfo) (o p d e first : ℕ) (f g : Bool) → i ≡ j → o ≡ p → d ≡ e → f ≡ g
-    → let one : Setup = record { info = i; origin = o; delay = d; first = first; ahead = f } in
-    let other : Setup = record { info = j; origin = p; delay = e; first = first; ahead = g } in one ≡ other
-setup_same i j o p d e first f g a b c h = rw (a, b, c, h) refl
+pub encrypted_twice : (version : ℕ) (own : List Step) (cipher : Cipher) (said : Described) → (phase_of own ≡ described) × DescribedIs own said
+    → is_some said.info.cipher ≡ true → Becomes version own (CipherLine cipher.giv cipher.gskd) (phases.Described said) (Err (Refused Order))
+encrypted_twice version own cipher said is some =
+    let stands : is_ciphered own ≡ true = ap is_some (sym is.1.cipher) ∙ some in
+    (rw (is.0, stands) refl, is)
 
 -- ---- the air
 
@@ -123,16 +121,27 @@ gives_not old new bis time octets fault OutletFault same cause g = g
 gives_not old new bis time octets fault Memory same cause g = tt
 
 pub gives : (version : ℕ) (own : List Step) (old new : Started) (bis : ℕ) (time : Option ℕ) (octets : List ℕ) (r : Result (Unit {0}) Stop)
-    → (phase_of own ≡ sending) × StartedIs own old → new.identity ≡ old.identity → GivesTo old.source bis time octets new.source r
-    → Becomes version own (UnitStep bis time octets) (phases.Sending new) r
-gives version own old new bis time octets (Ok x) is identity g =
-    let given = g.1 (source_calls own) is.1.calls in (
-      rw is.0 (ap (λ (s : Setup). option_map give_refusal (give_fault s (source_calls own) (airs_of s (source_calls own)) bis time octets)) (sym is.1.setup)
+    → (phase_of own ≡ sending) × StartedIs own old → is_some old.source.source.cipher ≡ false → new.identity ≡ old.identity
+    → (new.source.source.base ≡ old.source.source.base) × (new.source.source.cipher ≡ old.source.source.cipher)
+    → GivesTo old.source bis time octets new.source r → Becomes version own (UnitStep bis time octets) (phases.Sending new) r
+gives version own old new bis time octets (Ok x) is plain identity said g =
+    let given = g.1 (source_calls own) is.1.calls in let uncoded : is_ciphered own ≡ false = ap is_some (sym is.1.cipher) ∙ plain in (
+      rw (is.0, uncoded) (ap (λ (s : Setup). option_map give_refusal (give_fault s (source_calls own) (airs_of s (source_calls own)) bis time octets)) (sym is.1.setup)
           ∙ ap (option_map give_refusal) given.0),
-      (is.0, record { ident = ap (option_map identity_in) identity ∙ is.1.ident; setup = g.0 ∙ is.1.setup; under_way = is.1.under_way; calls = given.1 }),
+      (
+        is.0,
+        record {
+          ident = ap (option_map identity_in) identity ∙ is.1.ident;
+          setup = g.0 ∙ is.1.setup;
+          under_way = is.1.under_way;
+          base = said.0 ∙ is.1.base;
+          cipher = said.1 ∙ is.1.cipher;
+          calls = given.1;
+        },
+      ),
     )
-gives version own old new bis time octets (Err (Refused reason)) is identity g = (
-  rw is.0 (ap (λ (s : Setup). option_map give_refusal (give_fault s (source_calls own) (airs_of s (source_calls own)) bis time octets)) (sym is.1.setup)
+gives version own old new bis time octets (Err (Refused reason)) is plain identity said g = let uncoded : is_ciphered own ≡ false = ap is_some (sym is.1.cipher) ∙ plain in (
+  rw (is.0, uncoded) (ap (λ (s : Setup). option_map give_refusal (give_fault s (source_calls own) (airs_of s (source_calls own)) bis time octets)) (sym is.1.setup)
       ∙ g.1 (source_calls own) is.1.calls),
   (
     is.0,
@@ -140,12 +149,21 @@ gives version own old new bis time octets (Err (Refused reason)) is identity g =
       ident = ap (option_map identity_in) identity ∙ is.1.ident;
       setup = ap (λ (s : Broadcasting). s.source.setup) g.0 ∙ is.1.setup;
       under_way = is.1.under_way;
+      base = said.0 ∙ is.1.base;
+      cipher = said.1 ∙ is.1.cipher;
       calls = let P : Broadcasting → Type 0 = λ s. StandsFor (source_calls own) s in subst P (sym g.0) is.1.calls;
     },
   ),
 )
-gives version own old new bis time octets (Err OutletFault) is identity g = g
-gives version own old new bis time octets (Err Memory) is identity g = tt
+gives version own old new bis time octets (Err OutletFault) is plain identity said g = g
+gives version own old new bis time octets (Err Memory) is plain identity said g = tt
+
+-- the group is encrypted
+pub coded : (own : List Step) (started : Started) → (phase_of own ≡ sending) × StartedIs own started → is_some started.source.source.cipher ≡ true → takes_units own ≡ false
+coded own started is some = let stands : is_ciphered own ≡ true = ap is_some (sym is.1.cipher) ∙ some in rw (is.0, stands) refl
+
+pub uncoded : (own : List Step) (started : Started) → (phase_of own ≡ sending) × StartedIs own started → is_some started.source.source.cipher ≡ false → takes_units own ≡ true
+uncoded own started is none = let plain : is_ciphered own ≡ false = ap is_some (sym is.1.cipher) ∙ none in rw (is.0, plain) refl
 
 -- ---- event
 

@@ -6,13 +6,14 @@ use Rattle.source_machine.specs.Airs.{airs_of}
 use Rattle.transcript_text.specs.declared.stop.Stop.{Stop}
 use Rattle.transcript_text.specs.declared.stop.Stop.TheVariants.{Refused, OutletFault, Memory}
 use Rattle.scenario_text.specs.declared.step.Step.{Step}
-use Rattle.scenario_text.specs.declared.step.Step.TheVariants.{Event}
+use Rattle.scenario_text.specs.declared.step.Step.TheVariants.{Event, Terminate}
 use Rattle.scenario_history.specs.Steps.{chosen_steps, is_over}
-use Rattle.scenario_history.specs.Source.{event_back, is_sending, is_started, open_event, performed, setup_of, stale_in}
+use Rattle.scenario_history.specs.Source.{end_pdu, event_back, is_heard, open_event, performed, setup_of, stale_in, takes_units}
 use Rattle.scenario_history.specs.Sinks.{tuning_of}
 use Rattle.scenario_history.specs.Refusals.{no_place}
 use Rattle.scenario_sources.specs.declared.performed.Performed.{Performed}
 use Rattle.scenario_sources.specs.declared.standpoint.Standpoint.{Standpoint}
+use Rattle.scenario_sources.specs.declared.terminated.Terminated.{Terminated}
 use Rattle.scenario_sources.specs.declared.sources.Sources.{Sources}
 use Rattle.scenario_sources.specs.Faults.{fault_of, tuning_at}
 use Rattle.scenario_sources.specs.State.Standing.{SourcesStand}
@@ -43,15 +44,25 @@ Performs version steps new (Err (Refused reason)) = (fault_of version steps Even
 Performs version steps new (Err OutletFault) = ⊥
 Performs version steps new (Err Memory) = Unit {0}
 
--- where a source stands before its next event, where it is between its start and its stop; these are its steps
-abbrev pub StandsAt : List Step → Option Standpoint → Type 0
-StandsAt own None = is_sending own ≡ false
-StandsAt own (Some at) = (is_sending own ≡ true) × ((which : ℕ) → tuning_at at which ≡ tuning_of own which)
+-- the same of `terminate`, which also tells the PDU that ends the group
+abbrev pub Terminates : ℕ → List Step → ℕ → Sources → Result Terminated Stop → Type 0
+Terminates version steps reason new (Ok ended) =
+    (fault_of version steps (Terminate reason) ≡ None) × SourcesStand (Terminate reason ∷ steps) new
+    × (is_over (chosen_steps steps) ≡ false → ended.closed ≡ open_event (chosen_steps steps))
+    × (ended.pdu ≡ end_pdu (chosen_steps steps) reason)
+Terminates version steps reason new (Err (Refused cause)) = (fault_of version steps (Terminate reason) ≡ Some cause) × SourcesStand steps new
+Terminates version steps reason new (Err OutletFault) = ⊥
+Terminates version steps reason new (Err Memory) = Unit {0}
 
--- the group of a source that was started
+-- where a source stands before its next event, where it takes units; these are its steps
+abbrev pub StandsAt : List Step → Option Standpoint → Type 0
+StandsAt own None = takes_units own ≡ false
+StandsAt own (Some at) = (takes_units own ≡ true) × ((which : ℕ) → tuning_at at which ≡ tuning_of own which)
+
+-- the group of a source that may be heard
 abbrev pub GroupIs : List Step → Option Group → Type 0
-GroupIs own None = is_started own ≡ false
-GroupIs own (Some group) = (is_started own ≡ true) × (group.info ≡ (setup_of own).info)
+GroupIs own None = is_heard own ≡ false
+GroupIs own (Some group) = (is_heard own ≡ true) × (group.info ≡ (setup_of own).info)
 
 -- the last event of a source that was started
 abbrev pub LastIs : List Step → Option ℕ → Type 0

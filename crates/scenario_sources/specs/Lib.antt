@@ -1,3 +1,4 @@
+pub mod Bases
 pub mod Described
 pub mod Faults
 pub mod Answers

@@ -4,7 +4,7 @@ ghost use Rattle.base_grammar.specs.Draft.{is_empty_last, last_of};
 ghost use Rattle.ltv_codec.specs.Reading.{bad_of};
 ghost use Rattle.scenario_text.specs.declared.step.Step.{Step};
 ghost use Rattle.scenario_text.specs.declared.step.Step.TheVariants.{Subgroup as SubgroupStep, Meta as MetaStep, Bis as BisStep};
-ghost use Rattle.scenario_sources.specs.Bases.{is_bare_fault, is_missing_fault, stop_of};
+ghost use Rattle.scenario_sources.specs.Bases.{is_bare as is_bare_fault, is_missing as is_missing_fault, stop_of};
 ghost use Rattle.scenario_sources.specs.State.Phases.{Becomes, PhaseIs};
 
 use crate::phase::Phase;

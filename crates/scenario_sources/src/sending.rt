@@ -40,6 +40,7 @@ pub(crate) fn give(
 fn give_to(started: &mut Started, bis: Bis, time: Option<u64>, octets: &[u8]) -> Result<(), Stop>
     requires { started.old.source.source.cipher ≡ None }
     ensures identity { started.new.identity ≡ started.old.identity }
+    ensures announced { (started.new.source.source.base ≡ started.old.source.source.base) × (started.new.source.source.cipher ≡ started.old.source.source.cipher) }
     ensures source { GivesTo started.old.source bis time octets.now started.new.source result }
 {
     match started.source.give(bis, time, octets) {

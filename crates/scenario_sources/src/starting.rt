@@ -1,20 +1,17 @@
 //! The start of a source.
-ghost use Rattle.std.specs.Prelude.{◌≡◌, ◌≤◌, ◌<◌, ◌^◌, ◌&&◌, ℕ, List, None, IfSome, IfNone, IfOk, Some};
-ghost use Rattle.std.specs.List.{length};
-ghost use Rattle.base_grammar.specs.Layout.{spelling};
+ghost use Rattle.std.specs.Prelude.{◌≡◌, ◌≤◌, ◌<◌, ◌^◌, ◌&&◌, ℕ, List, IfErr, IfNone, IfOk};
+ghost use Rattle.base_grammar.specs.Draft.{finish_fault};
 ghost use Rattle.big_info.specs.Rows.{first_fault};
 ghost use Rattle.big_info.specs.Widths.{FitsWidths};
-ghost use Rattle.scenario_bases.specs.Plain.{plain_base_of};
 ghost use Rattle.scenario_text.specs.declared.step.Step.{Step};
 ghost use Rattle.scenario_text.specs.declared.step.Step.TheVariants.{Start as StartStep};
 ghost use Rattle.scenario_history.specs.Refusals.{group_refusal, horizon_in, is_same_identity};
 ghost use Rattle.scenario_history.specs.Source.{identity_of, is_ahead_in, is_started};
 ghost use Rattle.scenario_history.specs.Steps.{running, stage_of};
 ghost use Rattle.scenario_sources.specs.Described.{identity_in};
-ghost use Rattle.scenario_sources.specs.Bases.{is_long_fault};
-ghost use Rattle.scenario_sources.specs.Faults.{fault_in};
-ghost use Rattle.scenario_sources.specs.State.Phases.{Becomes, Begins, IsReady, PhaseIs};
-ghost use Rattle.scenario_sources.specs.State.Stops.{StartStops};
+ghost use Rattle.scenario_sources.specs.Bases.{is_long as is_long_fault};
+ghost use Rattle.scenario_sources.specs.State.Phases.{Becomes, Begins, IsReady, MayStart, PhaseIs};
+ghost use Rattle.scenario_sources.specs.State.Stops.{FinishStops, Finishes, StartStops};
 ghost use Rattle.scenario_sources.specs.declared.phase.Phase.TheVariants.{Described as DescribedPhase};
 
 use crate::basing::{draft_stop, has_subgroup, is_last_bare};
@@ -86,9 +83,16 @@ fn group_fault(info: &BigInfo, limits: Limits) -> Option<Refusal>
 
 /// Whether the BASE that was said has more than 252 octets.
 fn is_too_long(base: &BaseDraft) -> bool
-    ensures { result ≡ is_long_fault (base.now) }
+    ensures { result ≡ is_long_fault (finish_fault base.now) }
 {
-    matches!(base.check(), Some(DraftFault::TooLong))
+    is_long(base.check())
+}
+
+/// Whether it is that there are too many octets.
+fn is_long(fault: Option<DraftFault>) -> bool
+    ensures { result ≡ is_long_fault fault }
+{
+    matches!(fault, Some(DraftFault::TooLong))
 }
 
 /// Whether a source was started with an identity like this one.
@@ -114,7 +118,7 @@ pub(crate) fn begin(
     requires limits { limits.horizon ≤ 31 }
     requires first { first < 2 ^ 39 }
     ensures { (version : ℕ) (own : List Step) → limits.horizon ≡ horizon_in version → limits.ahead ≡ is_ahead_in version → stage_of own ≡ running version
-        → IsReady version first own (Ok ready) → PhaseIs own phase.old → Becomes version own (StartStep first) phase.new result }
+        → MayStart version first own ready.plain → PhaseIs own phase.old → Becomes version own (StartStep first) phase.new result }
 {
     match replace(phase, Phase::Absent) {
         Phase::Described(described) => {
@@ -142,7 +146,7 @@ fn begin_with(
     requires limits { limits.horizon ≤ 31 }
     requires first { first < 2 ^ 39 }
     ensures { (version : ℕ) (own : List Step) → limits.horizon ≡ horizon_in version → limits.ahead ≡ is_ahead_in version → stage_of own ≡ running version
-        → IsReadyWith version first own plain → PhaseIs own (DescribedPhase described) → Begins first own result }
+        → MayStart version first own plain → PhaseIs own (DescribedPhase described) → Begins first own result }
 {
     let Described {
         info,

@@ -1,16 +1,20 @@
 -- Where a source stands, and the steps of this source that it stands for, the newest first.
-use Rattle.std.specs.Prelude.{ℕ, ◌≡◌, ◌<◌, ◌^◌, ◌∷◌, false, List, [], Option, None, Some, option_map, Result, Ok, Err}
+use Rattle.std.specs.Prelude.{ℕ, ◌≡◌, ◌<◌, ◌^◌, ◌∷◌, true, false, List, [], Option, None, Some, option_map, Result, Ok, Err}
+use Rattle.base_grammar.specs.Layout.{Endpoint, endpoint}
 use Rattle.source_machine.specs.Airs.{airs_of}
+use Rattle.source_machine.specs.Ciphers.{without_cipher}
 use Rattle.multi_source.specs.State.Broadcasts.{StandsFor}
 use Rattle.transcript_text.specs.declared.refusal.Refusal.{Refusal}
 use Rattle.transcript_text.specs.declared.stop.Stop.{Stop}
 use Rattle.transcript_text.specs.declared.stop.Stop.TheVariants.{Refused, OutletFault, Memory}
 use Rattle.scenario_text.specs.declared.step.Step.{Step}
-use Rattle.scenario_text.specs.declared.step.Step.TheVariants.{Event, Start}
+use Rattle.scenario_text.specs.declared.step.Step.TheVariants.{Event, Start, Terminate}
 use Rattle.scenario_history.specs.Steps.{is_over, is_unbegun}
-use Rattle.scenario_history.specs.Source.{GroupLine, absent, described, sending, stopped, group_of, ident_of, is_ahead_in, open_event, phase_of, setup_of, source_calls, stale_in}
+use Rattle.scenario_history.specs.Source.{GroupLine, absent, described, sending, stopped, cipher_of, end_pdu, group_of, ident_of, identity_of, open_event, phase_of, setup_of, source_calls, stale_in}
+use Rattle.scenario_history.specs.Bases.{base_lines, base_of, has_subgroup, subgroups_of}
 use Rattle.scenario_sources.specs.declared.performed.Performed.{Performed}
-use Rattle.scenario_sources.specs.declared.phase.Ready.{Ready}
+use Rattle.scenario_sources.specs.declared.starting.Ready.{Ready}
+use Rattle.scenario_sources.specs.declared.terminated.Terminated.{Terminated}
 use Rattle.scenario_sources.specs.declared.phase.Described.{Described}
 use Rattle.scenario_sources.specs.declared.phase.Started.{Started}
 use Rattle.scenario_sources.specs.declared.phase.Phase.{Phase}
@@ -19,23 +23,29 @@ use Rattle.scenario_sources.specs.Faults.{fault_in}
 use Rattle.scenario_sources.specs.Described.{identity_in}
 
 abbrev pub line_of : Described → GroupLine
-line_of said = record { info = said.info; origin = said.origin; delay = said.delay }
+line_of said = record { info = without_cipher said.info; origin = said.origin; delay = said.delay }
 
 -- a source that was started is as its steps leave it
 pub record StartedIs (own : List Step) (started : Started) : Type 0 where
   pub ident : option_map identity_in started.identity ≡ ident_of own
   pub setup : started.source.source.setup ≡ setup_of own
   pub under_way : is_unbegun own ≡ false
+  pub base : started.source.source.base ≡ base_of own
+  pub cipher : started.source.source.cipher ≡ cipher_of own
   pub calls : StandsFor (source_calls own) started.source
 
 -- a source that was not is described by its steps
 pub record DescribedIs (own : List Step) (said : Described) : Type 0 where
   pub group : group_of own ≡ Some (line_of said)
   pub ident : option_map identity_in said.identity ≡ ident_of own
+  pub cipher : said.info.cipher ≡ cipher_of own
+  pub base : said.base ≡ endpoint said.delay (subgroups_of own)
   pub calls : source_calls own ≡ []
 
 pub record AbsentIs (own : List Step) : Type 0 where
   pub ident : ident_of own ≡ None
+  pub cipher : cipher_of own ≡ None
+  pub lines : base_lines own ≡ []
   pub calls : source_calls own ≡ []
 
 abbrev pub PhaseIs : List Step → Phase → Type 0
@@ -59,6 +69,15 @@ Closes version own made new (Err (Refused reason)) = (fault_in version own made 
 Closes version own made new (Err OutletFault) = ⊥
 Closes version own made new (Err Memory) = Unit {0}
 
+-- the same of `terminate`, which also tells the PDU that ends the group
+abbrev pub Terminates : ℕ → List Step → ℕ → Phase → Result Terminated Stop → Type 0
+Terminates version own reason new (Ok ended) =
+    (fault_in version own (Terminate reason) ≡ None) × PhaseIs (Terminate reason ∷ own) new × (is_over own ≡ false → ended.closed ≡ open_event own)
+    × (ended.pdu ≡ end_pdu own reason)
+Terminates version own reason new (Err (Refused cause)) = (fault_in version own (Terminate reason) ≡ Some cause) × PhaseIs own new
+Terminates version own reason new (Err OutletFault) = ⊥
+Terminates version own reason new (Err Memory) = Unit {0}
+
 -- the same of `event`, which also tells the units that were left out
 abbrev pub Performs : ℕ → List Step → Phase → Result Performed Stop → Type 0
 Performs version own new (Ok performed) =
@@ -68,18 +87,24 @@ Performs version own new (Err (Refused reason)) = (fault_in version own Event �
 Performs version own new (Err OutletFault) = ⊥
 Performs version own new (Err Memory) = Unit {0}
 
--- it may be started, as far as it is not for its identity
+-- the BASE where no line said one
+abbrev pub PlainIs : List Step → Option Endpoint → Type 0
+PlainIs own None = has_subgroup own ≡ true
+PlainIs own (Some base) = base ≡ base_of own
+
+-- it may be started with this BASE or with the one that its lines said, as far as it is not for its identity
+abbrev pub MayStart : ℕ → ℕ → List Step → Option Endpoint → Type 0
+MayStart version first own plain = (fault_in version own (Start first) ≡ None) × PlainIs own plain
+
 abbrev pub IsReady : ℕ → ℕ → List Step → Result Ready Stop → Type 0
-IsReady version first own (Ok ready) =
-    (fault_in version own (Start first) ≡ None) × (phase_of own ≡ described) × DescribedIs own ready.described
-    × (ready.configured.ahead ≡ is_ahead_in version)
+IsReady version first own (Ok ready) = MayStart version first own ready.plain × (identity_in ready.identity ≡ identity_of own)
 IsReady version first own (Err (Refused reason)) = fault_in version own (Start first) ≡ Some reason
 IsReady version first own (Err OutletFault) = ⊥
 IsReady version first own (Err Memory) = Unit {0}
 
 -- it is started
-abbrev pub Begins : ℕ → List Step → Result Phase Stop → Type 0
-Begins first own (Ok phase) = PhaseIs (Start first ∷ own) phase
+abbrev pub Begins : ℕ → List Step → Result Started Stop → Type 0
+Begins first own (Ok started) = StartedIs (Start first ∷ own) started
 Begins first own (Err (Refused reason)) = ⊥
 Begins first own (Err OutletFault) = ⊥
 Begins first own (Err Memory) = Unit {0}

@@ -1,0 +1,260 @@
+-- The start of a source: why it is refused, and what it begins with.
+use Rattle.std.proofs.Common.{ℕ, ◌≡◌, ◌≤◌, ◌||◌, nat_lt, not, Bool, true, false, cond, List, [], ◌∷◌, length, Option, None, Some, Result, Ok, Err, refl, sym, ap, subst, is_some, ◌∙◌}
+use Rattle.std.specs.Option.{option_or}
+use Rattle.std.proofs.lemmas.Bool.{false≢true}
+use Rattle.std.proofs.lemmas.Option.{none-some}
+use Rattle.base_grammar.specs.Draft.{finish_fault, is_empty_last, last_of, size_fault}
+use Rattle.base_grammar.specs.Layout.{Endpoint, endpoint, spelling}
+use Rattle.base_grammar.specs.declared.fault.DraftFault.TheVariants as of_draft
+use Rattle.base_grammar.specs.declared.subgroup.Subgroup.{Subgroup}
+use Rattle.big_info.specs.Rows.{first_fault}
+use Rattle.big_info.specs.declared.info.BigInfo.{BigInfo}
+use Rattle.big_info.specs.declared.fault.GroupFault.{GroupFault}
+use Rattle.big_info.specs.declared.fault.GroupFault.TheVariants as of_group
+use Rattle.scenario_bases.specs.Plain.{plain_base_of}
+use Rattle.scenario_bases.proofs.Citable.{plain_is_small}
+use Rattle.source_machine.specs.Calls.{Call, Setup}
+use Rattle.source_machine.specs.Ciphers.{without_cipher}
+use Rattle.source_machine.specs.Faults.{ConfigureFails}
+use Rattle.source_machine.specs.declared.fault.ConfigureFault.{ConfigureFault}
+use Rattle.source_machine.specs.declared.fault.ConfigureFault.TheVariants.{BadGroup as Misfit, Memory as NoMemory}
+use Rattle.multi_source.specs.State.Broadcasts.{Broadcasting, StandsFor}
+use Rattle.transcript_text.specs.declared.refusal.Refusal.{Refusal}
+use Rattle.transcript_text.specs.declared.refusal.Refusal.TheVariants.{BadGroup, BaseTooLong, Order}
+use Rattle.transcript_text.specs.declared.stop.Stop.{Stop}
+use Rattle.transcript_text.specs.declared.stop.Stop.TheVariants.{Refused, OutletFault, Memory}
+use Rattle.scenario_text.specs.declared.step.Step.{Step}
+use Rattle.scenario_text.specs.declared.step.Step.TheVariants.{Start}
+use Rattle.scenario_history.specs.Bases.{base_from, base_of, has_subgroup, is_base_too_long, is_last_bare, subgroups_of}
+use Rattle.scenario_history.specs.Refusals.{checked_info, fault_refusal, group_refusal, horizon_in, refuse_if}
+use Rattle.scenario_history.specs.Source.{GroupLine, Phase, described, is_ahead_in, is_described_at, phase_of}
+use Rattle.scenario_history.specs.Steps.{is_unbegun_at, running, stage_of}
+use Rattle.scenario_sources.specs.Bases.{is_long}
+use Rattle.scenario_sources.specs.Faults.{fault_in}
+use Rattle.scenario_sources.specs.declared.phase.Described.{Described}
+use Rattle.scenario_sources.specs.declared.phase.Started.{Started}
+use Rattle.scenario_sources.specs.State.Phases.{Begins, DescribedIs, MayStart, StartedIs, line_of}
+use Rattle.scenario_sources.specs.State.Stops.{FinishStops, Finishes, StartStops}
+
+abbrev DescribedSo : List Step → Described → Type 0
+DescribedSo own said = (phase_of own ≡ described) × DescribedIs own said
+
+-- ---- the refusals
+
+checked_is : (own : List Step) (said : Described) → DescribedIs own said → checked_info own ≡ said.info
+checked_is own said is = rw (is.group, ← is.cipher) refl
+
+base_is : (own : List Step) (said : Described) → DescribedIs own said → base_of own ≡ base_from (line_of said) (subgroups_of own)
+base_is own said is = rw is.group refl
+
+start_fault : (version first horizon : ℕ) (own : List Step) (said : Described) (g : Option Refusal) → horizon ≡ horizon_in version → DescribedSo own said
+    → is_last_bare own ≡ false → g ≡ group_refusal (first_fault horizon said.info)
+    → fault_in version own (Start first) ≡ option_or g (refuse_if (is_base_too_long own) BaseTooLong)
+start_fault version first horizon own said g h is bare e =
+    rw (is.0, bare) (ap (λ (f : Option Refusal). option_or f (refuse_if (is_base_too_long own) BaseTooLong))
+        (ap (λ i. group_refusal (first_fault (horizon_in version) i)) (checked_is own said is.1) ∙ ap (λ n. group_refusal (first_fault n said.info)) (sym h) ∙ sym e))
+
+bare_own : (own : List Step) (said : Described) (bare : Bool) → DescribedIs own said → bare ≡ is_empty_last (last_of said.base.subgroups) → bare ≡ is_last_bare own
+bare_own own said bare is e = e ∙ ap (λ (v : Endpoint). is_empty_last (last_of v.subgroups)) is.base
+
+pub start_bare : (version first : ℕ) (own : List Step) (said : Described) (bare : Bool) → DescribedSo own said → bare ≡ is_empty_last (last_of said.base.subgroups)
+    → bare ≡ true → fault_in version own (Start first) ≡ Some Order
+start_bare version first own said bare is e t =
+    let open : is_last_bare own ≡ true = sym (bare_own own said bare is.1 e) ∙ t in rw (is.0, open) refl
+
+pub start_bad : (version first horizon : ℕ) (own : List Step) (said : Described) (bare : Bool) (reason : Refusal) → horizon ≡ horizon_in version → DescribedSo own said
+    → bare ≡ is_empty_last (last_of said.base.subgroups) → bare ≡ false → Some reason ≡ group_refusal (first_fault horizon said.info)
+    → fault_in version own (Start first) ≡ Some reason
+start_bad version first horizon own said bare reason h is e f g = start_fault version first horizon own said (Some reason) h is (sym (bare_own own said bare is.1 e) ∙ f) g
+
+-- ---- the size of its BASE
+
+last_there : (s : Subgroup) (others : List Subgroup) → is_some (last_of (s ∷ others)) ≡ true
+last_there s [] = refl
+last_there s (other ∷ others) = last_there other others
+
+long_sized : (long : Bool) → is_long (cond long (Some of_draft.TooLong) None) ≡ long
+long_sized true = refl
+long_sized false = refl
+
+long_closed : (bare : Bool) (octets : ℕ) → bare ≡ false → is_long (size_fault (cond bare (Some of_draft.NoBis) None) octets) ≡ nat_lt 252 octets
+long_closed true octets f = absurd (false≢true (sym f))
+long_closed false octets f = long_sized (nat_lt 252 octets)
+
+-- the draft of a BASE that was said has too many octets exactly where the BASE has
+long_said : (group : GroupLine) (ss : List Subgroup) → is_empty_last (last_of ss) ≡ false → is_some (last_of ss) ≡ true
+    → is_long (finish_fault (endpoint group.delay ss)) ≡ nat_lt 252 (length (spelling (base_from group ss)))
+long_said group [] bare has = absurd (false≢true has)
+long_said group (s ∷ others) bare has = long_closed (is_empty_last (last_of (s ∷ others))) (length (spelling (endpoint group.delay (s ∷ others)))) bare
+
+too_long : (group : GroupLine) (ss : List Subgroup) → is_empty_last (last_of ss) ≡ false → is_long (finish_fault (endpoint group.delay ss)) ≡ true
+    → nat_lt 252 (length (spelling (base_from group ss))) ≡ true
+too_long group [] bare long = absurd (false≢true long)
+too_long group (s ∷ others) bare long =
+    sym (long_closed (is_empty_last (last_of (s ∷ others))) (length (spelling (endpoint group.delay (s ∷ others)))) bare) ∙ long
+
+none_said : (group : GroupLine) (ss : List Subgroup) → group.info.num_bis ≤ 31 → is_some (last_of ss) ≡ false → nat_lt 252 (length (spelling (base_from group ss))) ≡ false
+none_said group [] few none = plain_is_small group.delay group.info.num_bis few
+none_said group (s ∷ others) few none = absurd (false≢true (sym none ∙ last_there s others))
+
+draft_is : (own : List Step) (said : Described) → DescribedIs own said → finish_fault said.base ≡ finish_fault (endpoint said.delay (subgroups_of own))
+draft_is own said is = ap finish_fault is.base
+
+pub start_long : (version first horizon : ℕ) (own : List Step) (said : Described) (bare long : Bool) → horizon ≡ horizon_in version → DescribedSo own said
+    → bare ≡ is_empty_last (last_of said.base.subgroups) → bare ≡ false → None ≡ group_refusal (first_fault horizon said.info)
+    → long ≡ is_long (finish_fault said.base) → long ≡ true → fault_in version own (Start first) ≡ Some BaseTooLong
+start_long version first horizon own said bare long h is e f g l t =
+    let closed : is_last_bare own ≡ false = sym (bare_own own said bare is.1 e) ∙ f in
+    let much : is_base_too_long own ≡ true =
+    ap (λ v. nat_lt 252 (length (spelling v))) (base_is own said is.1)
+    ∙ too_long (line_of said) (subgroups_of own) closed (sym (ap is_long (draft_is own said is.1)) ∙ sym l ∙ t) in
+    start_fault version first horizon own said None h is closed g ∙ ap (λ b. refuse_if b BaseTooLong) much
+
+-- ---- it may be started
+
+has_own : (own : List Step) (said : Described) (has : Bool) → DescribedIs own said → has ≡ is_some (last_of said.base.subgroups) → has ≡ has_subgroup own
+has_own own said has is e = e ∙ ap (λ (v : Endpoint). is_some (last_of v.subgroups)) is.base
+
+pub may_start_said : (version first horizon : ℕ) (own : List Step) (said : Described) (bare long has : Bool) → horizon ≡ horizon_in version → DescribedSo own said
+    → bare ≡ is_empty_last (last_of said.base.subgroups) → bare ≡ false → None ≡ group_refusal (first_fault horizon said.info)
+    → long ≡ is_long (finish_fault said.base) → long ≡ false → has ≡ is_some (last_of said.base.subgroups) → has ≡ true → MayStart version first own None
+may_start_said version first horizon own said bare long has h is e f g l n k t =
+    let closed : is_last_bare own ≡ false = sym (bare_own own said bare is.1 e) ∙ f in
+    let some : has_subgroup own ≡ true = sym (has_own own said has is.1 k) ∙ t in
+    let little : is_base_too_long own ≡ false =
+    ap (λ v. nat_lt 252 (length (spelling v))) (base_is own said is.1)
+    ∙ sym (long_said (line_of said) (subgroups_of own) closed some) ∙ sym (ap is_long (draft_is own said is.1)) ∙ sym l ∙ n in
+    (start_fault version first horizon own said None h is closed g ∙ ap (λ b. refuse_if b BaseTooLong) little, some)
+
+no_subgroups : (group : GroupLine) (ss : List Subgroup) → is_some (last_of ss) ≡ false → base_from group ss ≡ plain_base_of group.delay group.info.num_bis
+no_subgroups group [] none = refl
+no_subgroups group (s ∷ others) none = absurd (false≢true (sym none ∙ last_there s others))
+
+pub may_start_plain : (version first horizon : ℕ) (own : List Step) (said : Described) (bare has : Bool) (base : Endpoint) → said.info.num_bis ≤ 31 → horizon ≡ horizon_in version
+    → DescribedSo own said → bare ≡ is_empty_last (last_of said.base.subgroups) → bare ≡ false → None ≡ group_refusal (first_fault horizon said.info)
+    → has ≡ is_some (last_of said.base.subgroups) → has ≡ false → base ≡ plain_base_of said.delay said.info.num_bis → MayStart version first own (Some base)
+may_start_plain version first horizon own said bare has base few h is e f g k n b =
+    let closed : is_last_bare own ≡ false = sym (bare_own own said bare is.1 e) ∙ f in
+    let none : has_subgroup own ≡ false = sym (has_own own said has is.1 k) ∙ n in
+    let little : is_base_too_long own ≡ false =
+    ap (λ v. nat_lt 252 (length (spelling v))) (base_is own said is.1) ∙ none_said (line_of said) (subgroups_of own) few none in
+    (
+      start_fault version first horizon own said None h is closed g ∙ ap (λ b. refuse_if b BaseTooLong) little,
+      b ∙ sym (no_subgroups (line_of said) (subgroups_of own) none) ∙ sym (base_is own said is.1),
+    )
+
+-- ---- it begins
+
+neither_of : {A : Type 0} (a b : Option A) → option_or a b ≡ None → (a ≡ None) × (b ≡ None)
+neither_of None b none = (refl, none)
+neither_of (Some x) b none = absurd (none-some x (sym none))
+
+refused_not : (test : Bool) (reason : Refusal) → refuse_if test reason ≡ None → test ≡ false
+refused_not true reason none = absurd (none-some reason (sym none))
+refused_not false reason none = refl
+
+record Passes (version first : ℕ) (own : List Step) : Type 0 where
+  closed : is_last_bare own ≡ false
+  group : group_refusal (first_fault (horizon_in version) (checked_info own)) ≡ None
+  little : is_base_too_long own ≡ false
+
+passes : (version first : ℕ) (own : List Step) → phase_of own ≡ described → fault_in version own (Start first) ≡ None → Passes version first own
+passes version first own phase none =
+    let group : Option Refusal = group_refusal (first_fault (horizon_in version) (checked_info own)) in
+    let size : Option Refusal = refuse_if (is_base_too_long own) BaseTooLong in
+    let F : Phase → Type 0 = λ p. option_or (refuse_if (not (is_described_at p) || is_last_bare own) Order) (option_or group size) ≡ None in
+    let order = neither_of (refuse_if (is_last_bare own) Order) (option_or group size) (subst F phase none) in
+    let both = neither_of group size order.1 in
+    record { closed = refused_not (is_last_bare own) Order order.0; group = both.0; little = refused_not (is_base_too_long own) BaseTooLong both.1 }
+
+closed_none : (bare : Bool) (octets : ℕ) → bare ≡ false → nat_lt 252 octets ≡ false → size_fault (cond bare (Some of_draft.NoBis) None) octets ≡ None
+closed_none true octets f l = absurd (false≢true (sym f))
+closed_none false octets f l = ap (λ (b : Bool). cond b (Some of_draft.TooLong) None) l
+
+said_ends : (group : GroupLine) (ss : List Subgroup) → is_some (last_of ss) ≡ true → is_empty_last (last_of ss) ≡ false
+    → nat_lt 252 (length (spelling (base_from group ss))) ≡ false → finish_fault (endpoint group.delay ss) ≡ None
+said_ends group [] has bare little = absurd (false≢true has)
+said_ends group (s ∷ others) has bare little =
+    closed_none (is_empty_last (last_of (s ∷ others))) (length (spelling (endpoint group.delay (s ∷ others)))) bare little
+
+finish_none : (version first : ℕ) (own : List Step) (said : Described) → DescribedSo own said → MayStart version first own None → finish_fault said.base ≡ None
+finish_none version first own said is may =
+    let all = passes version first own is.0 may.0 in
+    draft_is own said is.1
+    ∙ said_ends (line_of said) (subgroups_of own) may.1 all.closed (sym (ap (λ v. nat_lt 252 (length (spelling v))) (base_is own said is.1)) ∙ all.little)
+
+pub finish_fails : (version first : ℕ) (own : List Step) (said : Described) (plain : Option Endpoint) (stop : Stop) → DescribedSo own said → MayStart version first own plain
+    → FinishStops said.base plain stop → Begins first own (Err stop)
+finish_fails version first own said None stop is may fails = absurd (none-some fails.0 (sym (finish_none version first own said is may) ∙ fails.1.0))
+finish_fails version first own said (Some plain) stop is may fails = absurd fails
+
+refused_for : (fault : GroupFault) → (fault ≡ of_group.Encrypted → ⊥) → fault_refusal fault ≡ Some (BadGroup fault)
+refused_for of_group.RangeIso other = refl
+refused_for of_group.RangeSdu other = refl
+refused_for of_group.RangePdu other = refl
+refused_for of_group.Bn other = refl
+refused_for of_group.NseNotMultiple other = refl
+refused_for of_group.Irc other = refl
+refused_for of_group.PhyNotSupported other = refl
+refused_for of_group.FramedPduSmall other = refl
+refused_for of_group.UnframedMultiple other = refl
+refused_for of_group.UnframedBn other = refl
+refused_for of_group.Horizon other = refl
+refused_for of_group.SubInterval other = refl
+refused_for of_group.SyncDelay other = refl
+refused_for of_group.Encrypted other = absurd (other refl)
+
+pub bad_refusal : (horizon : ℕ) (info : BigInfo) (fault : GroupFault) → first_fault horizon info ≡ Some fault → (fault ≡ of_group.Encrypted → ⊥)
+    → Some (BadGroup fault) ≡ group_refusal (first_fault horizon info)
+bad_refusal horizon info fault is other = sym (ap group_refusal is ∙ refused_for fault other)
+
+pub group_fails : (version first horizon : ℕ) (own : List Step) (said : Described) (plain : Option Endpoint) (fault : ConfigureFault) (stop : Stop) → horizon ≡ horizon_in version
+    → DescribedSo own said → MayStart version first own plain → ConfigureFails horizon said.info fault → StartStops fault stop → Begins first own (Err stop)
+group_fails version first horizon own said plain (Misfit fault) (Refused reason) h is may fails g =
+    let all = passes version first own is.0 may.0 in
+    let none : group_refusal (first_fault horizon said.info) ≡ None =
+    ap (λ n. group_refusal (first_fault n said.info)) h ∙ ap (λ i. group_refusal (first_fault (horizon_in version) i)) (sym (checked_is own said is.1)) ∙ all.group in
+    absurd (none-some (BadGroup fault) (sym none ∙ sym (bad_refusal horizon said.info fault fails.first fails.other)))
+group_fails version first horizon own said plain NoMemory (Refused reason) h is may fails g = absurd g
+group_fails version first horizon own said plain fault OutletFault h is may fails g = g
+group_fails version first horizon own said plain fault Memory h is may fails g = tt
+
+-- the BASE that it begins with
+said_base : (group : GroupLine) (ss : List Subgroup) → is_some (last_of ss) ≡ true → endpoint group.delay ss ≡ base_from group ss
+said_base group [] has = absurd (false≢true has)
+said_base group (s ∷ others) has = refl
+
+based : (version first : ℕ) (own : List Step) (said : Described) (plain : Option Endpoint) (base : Endpoint) → DescribedSo own said → MayStart version first own plain
+    → Finishes said.base plain base → base ≡ base_of own
+based version first own said None base is may finishes =
+    finishes.0 ∙ is.1.base ∙ said_base (line_of said) (subgroups_of own) may.1 ∙ sym (base_is own said is.1)
+based version first own said (Some plain) base is may finishes = finishes ∙ may.1
+
+delay_from : (group : GroupLine) (ss : List Subgroup) → (base_from group ss).delay ≡ group.delay
+delay_from group [] = refl
+delay_from group (s ∷ others) = refl
+
+setup_same : (i j : BigInfo) (o p d e first : ℕ) (f g : Bool) → i ≡ j → o ≡ p → d ≡ e → f ≡ g
+    → let one : Setup = record { info = i; origin = o; delay = d; first = first; ahead = f } in
+    let other : Setup = record { info = j; origin = p; delay = e; first = first; ahead = g } in one ≡ other
+setup_same i j o p d e first f g a b c h = rw (a, b, c, h) refl
+
+pub begins : (version first : ℕ) (ahead : Bool) (own : List Step) (said : Described) (plain : Option Endpoint) (base : Endpoint) (source : Broadcasting) → ahead ≡ is_ahead_in version
+    → stage_of own ≡ running version → DescribedSo own said → MayStart version first own plain → Finishes said.base plain base
+    → (let setup : Setup = record { info = without_cipher said.info; origin = said.origin; delay = base.delay; first = first; ahead = ahead } in source.source.setup ≡ setup)
+    → source.source.base ≡ base → source.source.cipher ≡ said.info.cipher → StandsFor [] source
+    → (let new : Started = record { identity = said.identity; source = source } in StartedIs (Start first ∷ own) new)
+begins version first ahead own said plain base source a stage is may finishes setup b c stands =
+    let same : base ≡ base_of own = based version first own said plain base is may finishes in
+    let delay : base.delay ≡ said.delay =
+    ap (λ (v : Endpoint). v.delay) (same ∙ base_is own said is.1) ∙ delay_from (line_of said) (subgroups_of own) in
+    record {
+      ident = is.1.ident;
+      setup = setup
+          ∙ setup_same (without_cipher said.info) (without_cipher said.info) said.origin said.origin base.delay said.delay first ahead (is_ahead_in version) refl refl delay a
+          ∙ rw (is.1.group, stage) refl;
+      under_way = ap is_unbegun_at stage;
+      base = b ∙ same;
+      cipher = c ∙ is.1.cipher;
+      calls = let P : List Call → Type 0 = λ calls. StandsFor calls source in subst P (sym is.1.calls) stands;
+    }
