@@ -83,3 +83,6 @@ put_is v new delay n bis v_is bis_is new_is =
     new_is ∙ ap (with_entry (record { bis = bis; config = [] })) v_is
     ∙ ap (λ b. with_entry (plain_entry b) (plain_base_of delay n)) bis_is
     ∙ ap (λ es. endpoint delay (record { codec = lc3; config = []; metadata = []; entries = es } ∷ [])) (sym (entries_more n))
+
+pub plain_is_small : (delay n : ℕ) → n ≤ 31 → ltb 252 (length (spelling (plain_base_of delay n))) ≡ false
+plain_is_small delay n most = le-ltb 252 (length (spelling (plain_base_of delay n))) (omega (arith, spelling_length delay n))

@@ -8,16 +8,17 @@ use Rattle.transcript_text.specs.declared.refusal.Refusal.TheVariants.{IdentTwic
 use Rattle.transcript_text.specs.declared.stop.Stop.{Stop}
 use Rattle.transcript_text.specs.declared.stop.Stop.TheVariants.{Refused, OutletFault, Memory}
 use Rattle.scenario_text.specs.declared.step.Step.{Step}
-use Rattle.scenario_text.specs.declared.step.Step.TheVariants.{Event, Start}
+use Rattle.scenario_text.specs.declared.step.Step.TheVariants.{Event, Start, Terminate}
 use Rattle.scenario_history.specs.Steps.{chosen_given, chosen_of, chosen_steps, is_of_source, other_of, steps_of_source}
 use Rattle.scenario_history.specs.Source as history
 use Rattle.scenario_history.specs.Source.{ident_of, identity_of, is_started, no_identity}
 use Rattle.scenario_history.specs.Refusals.{is_ident_twice, is_same_identity, refuse_if, twin_refusal}
 use Rattle.source_machine.specs.declared.setup.Identity.{Identity}
 use Rattle.scenario_sources.specs.declared.performed.Performed.{Performed}
+use Rattle.scenario_sources.specs.declared.terminated.Terminated.{Terminated}
 use Rattle.scenario_sources.specs.declared.phase.Phase.{Phase}
 use Rattle.scenario_sources.specs.declared.sources.Sources.{Sources}
-use Rattle.scenario_sources.specs.Answers.{Answers, Closes, Performs}
+use Rattle.scenario_sources.specs.Answers.{Answers, Closes, Performs, Terminates}
 use Rattle.scenario_sources.specs.Described.{identity_in, identity_or_none}
 use Rattle.scenario_sources.specs.Faults.{fault_in, fault_of}
 use Rattle.scenario_sources.specs.State.Phases.{Becomes, Begins, IsReady, PhaseAt, PhaseIs}
