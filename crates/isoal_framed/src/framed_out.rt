@@ -120,6 +120,7 @@ impl FramedOut {
     /// wait. A unit whose time is past the anchor doesn't start in it, and it and all behind it wait. A unit whose
     /// TimeOffset would pass 24 bits as its turn comes is left out as stale. Want of memory changes nothing.
     pub fn pack_event(&mut self, anchor: u64) -> Result<EventLaid, Memory>
+        ensures info { self.new.info ≡ self.old.info }
         ensures err { OnErr result (self.new ≡ self.old) }
         ensures count { IfOk result (λ event. length event.pdus ≡ self.old.info.bn) }
         ensures laid { (info : BigInfo) (calls : List Call) (air : Air) → StandsFor info calls air self.old
@@ -129,6 +130,7 @@ impl FramedOut {
     }
 
     fn pack_next(&mut self, anchor: u64) -> Result<EventLaid, Memory>
+        ensures info { self.new.info ≡ self.old.info }
         ensures err { OnErr result (self.new ≡ self.old) }
         ensures count { IfOk result (λ event. length event.pdus ≡ self.old.info.bn) }
         ensures laid { (units : List Timed) (earlier : List Act) → self.old.units ≡ drop (done earlier) units → self.old.sent ≡ sent_by earlier

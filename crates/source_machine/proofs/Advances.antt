@@ -1,14 +1,17 @@
 -- The streams of a source as events are laid.
-use Rattle.std.proofs.Common.{ℕ, ◌≡◌, ◌<◌, ◌≤◌, ◌+◌, ◌^◌, List, [], ◌∷◌, length, get_or, map, arith, ◌∙◌, ap, sym, refl, inl, inr}
-use Rattle.std.proofs.lemmas.Bool.{cases_lt}
+use Rattle.std.proofs.Common.{ℕ, ◌≡◌, ◌<◌, ◌≤◌, ◌+◌, ◌-◌, ◌*◌, ◌^◌, List, [], ◌∷◌, length, get_or, arith, ◌∙◌, ap, sym, refl, subst, inl, inr}
+use Rattle.std.proofs.lemmas.Bool.{cases_eq, cases_lt, eq-eqb, ne_eqb}
+use Rattle.std.proofs.lemmas.Nat.{mul-le}
 use Rattle.std.proofs.lemmas.List.Elements.{AllZip-get_or, length_all_zip}
-use Rattle.std.specs.List.{All, AllZip, range_with_len}
+use Rattle.std.specs.List.{All, AllZip}
 use Rattle.big_info.specs.Schedule.{horizon_of}
-use Rattle.source_machine.specs.Calls.{Setup, Call, event, laid_with, stream_calls}
-use Rattle.source_machine.specs.State.Sources.{Source, Stream, kept_of, stream_after, stream_of}
-use Rattle.source_machine.specs.State.Streams.{Grows, IsLaid, IsReady, IsSource, Lays}
+use Rattle.big_info.specs.Time.{iso_us_of}
 use Rattle.isoal_unframed.specs.Calls.{lays}
-use Rattle.source_machine.proofs.Lists.{zip_map}
+use Rattle.source_machine.specs.Calls.{Setup, Call, event, events, framed_calls, framed_lays, laid_before, laid_with, lay_anchor, next_of, stream_calls}
+use Rattle.source_machine.specs.Setups.{IsChecked}
+use Rattle.source_machine.specs.State.Sources.{Source, Stream, StreamIs, StreamStands, StreamsAre, info_in, kept_of}
+use Rattle.source_machine.specs.State.Streams.{Grows, IsLaid, IsReady, IsSource, Lays, LaysNext}
+use Rattle.source_machine.specs.declared.laying.Laying.{Laying}
 
 stream_grown : (setup : Setup) (next : ℕ) (old new : Stream) → IsReady setup next old → Grows old new → IsReady setup next new
 stream_grown setup next old new ready grows = record {
@@ -22,11 +25,11 @@ ready_grown setup next old new ready grows = λ k none within.
     let before : k < length old = omega arith in
     stream_grown setup next (get_or old k none) (get_or new k none) (ready k none before) (AllZip-get_or Grows old new k none none grows before)
 
-stream_next : (setup : Setup) (next count : ℕ) (old new : Stream) → setup.first ≤ next
+stream_next : (setup : Setup) (next anchor iso_us count : ℕ) (old new : Stream) → setup.first ≤ next
     → (next ≡ setup.first → count ≡ horizon_of setup.info + 1) → (setup.first < next → count ≡ 1)
-    → IsReady setup next old → Lays count old new → IsReady setup (next + 1) new
-stream_next setup next count old new order first later ready laying =
-    let room : kept_of old.info ≡ horizon_of setup.info + 1 = ap kept_of ready.info in
+    → IsReady setup next old → Lays anchor iso_us count old new → IsReady setup (next + 1) new
+stream_next setup next anchor iso_us count old new order first later ready laying =
+    let room : kept_of (info_in old) ≡ horizon_of setup.info + 1 = ap kept_of ready.info in
     record {
       info = laying.grows.info ∙ ready.info;
       kept = λ some. elim (cases_lt setup.first next) [
@@ -35,26 +38,67 @@ stream_next setup next count old new order first later ready laying =
       ];
     }
 
-pub ready_next : (setup : Setup) (next count : ℕ) (old new : List Stream) → setup.first ≤ next
+ready_next : (setup : Setup) (next anchor iso_us count : ℕ) (old new : List Stream) → setup.first ≤ next
     → (next ≡ setup.first → count ≡ horizon_of setup.info + 1) → (setup.first < next → count ≡ 1)
-    → All (IsReady setup next) old → AllZip (Lays count) old new → All (IsReady setup (next + 1)) new
-ready_next setup next count old new order first later ready laying = λ k none within.
-    let same = length_all_zip (Lays count) old new laying in
+    → All (IsReady setup next) old → AllZip (Lays anchor iso_us count) old new → All (IsReady setup (next + 1)) new
+ready_next setup next anchor iso_us count old new order first later ready laying = λ k none within.
+    let same = length_all_zip (Lays anchor iso_us count) old new laying in
     let before : k < length old = omega arith in
-    stream_next setup next count (get_or old k none) (get_or new k none) order first later (ready k none before)
-    (AllZip-get_or (Lays count) old new k none none laying before)
+    stream_next setup next anchor iso_us count (get_or old k none) (get_or new k none) order first later (ready k none before)
+    (AllZip-get_or (Lays anchor iso_us count) old new k none none laying before)
 
-pub streams_next : (setup : Setup) (calls : List Call) (count n : ℕ) (new : List Stream) → count ≡ laid_with setup.info calls
-    → AllZip (Lays count) (map (stream_of setup calls) (range_with_len 1 n)) new → new ≡ map (stream_of setup (event ∷ calls)) (range_with_len 1 n)
-streams_next setup calls count n new is laying =
-    zip_map (Lays count) (stream_of setup calls) (stream_of setup (event ∷ calls)) 1 n new
-    (λ bis stream laid. laid.stands setup.info (stream_calls setup.info bis calls) refl
-    ∙ ap (λ k. stream_after setup.info (lays k (stream_calls setup.info bis calls))) is) laying
+-- what is laid with the next event, by the calls so far
+pub record IsNext (setup : Setup) (calls : List Call) (laying : Laying) : Type 0 where
+  pub count : laying.count ≡ laid_with setup.info calls
+  pub anchor : laying.anchor ≡ lay_anchor setup (laid_before setup.info calls)
+  pub iso_us : laying.iso_us ≡ iso_us_of setup.info
+
+pub is_next : (source : Source) (calls : List Call) (laying : Laying) → source.next ≡ next_of source.setup calls → LaysNext source laying → IsNext source.setup calls laying
+is_next source calls laying at next = elim (cases_eq (events calls) 0) [
+  | inl none ↦
+      let first = next.first (omega (arith, none, at)) in
+      record {
+        count = rw (eq-eqb (events calls) 0 none) first.0;
+        anchor = rw (eq-eqb (events calls) 0 none) (omega (arith, first.1));
+        iso_us = next.iso_us;
+      }
+  | inr some ↦
+      let later = next.later (omega (arith, some, at)) in
+      let before : source.next - source.setup.first + horizon_of source.setup.info ≡ events calls + horizon_of source.setup.info = omega (arith, at) in
+      record {
+        count = rw (ne_eqb (events calls) 0 some) later.0;
+        anchor = rw (ne_eqb (events calls) 0 some) (later.1 ∙ ap (λ n. source.setup.origin + n * iso_us_of source.setup.info) before);
+        iso_us = next.iso_us;
+      }
+]
+
+pub streams_next : (setup : Setup) (calls : List Call) (laying : Laying) (old new : List Stream) → IsChecked setup.info → IsNext setup calls laying
+    → AllZip (Lays laying.anchor laying.iso_us laying.count) old new → StreamsAre setup calls old → StreamsAre setup (event ∷ calls) new
+streams_next setup calls laying old new checked next laid are = λ k none within.
+    let same = length_all_zip (Lays laying.anchor laying.iso_us laying.count) old new laid in
+    let before : k < length old = omega arith in
+    let plain = stream_calls setup.info (k + 1) calls in
+    let timed = framed_calls setup (k + 1) calls in
+    let one = AllZip-get_or (Lays laying.anchor laying.iso_us laying.count) old new k none none laid before in
+    let stands = one.stands setup.info (k + 1) plain timed checked (are k none before) in
+    subst (λ n. StreamStands setup.info (k + 1) (lays n plain) (framed_lays (lay_anchor setup (laid_before setup.info calls)) (iso_us_of setup.info) n timed) (get_or new k none)) next.count
+    (subst (λ a. StreamStands setup.info (k + 1) (lays laying.count plain) (framed_lays a (iso_us_of setup.info) laying.count timed) (get_or new k none)) next.anchor
+    (subst (λ i. StreamStands setup.info (k + 1) (lays laying.count plain) (framed_lays laying.anchor i laying.count timed) (get_or new k none)) next.iso_us stands))
+
+ready_of : (source : Source) (laying : Laying) (new : List Stream) → IsSource source → LaysNext source laying
+    → AllZip (Lays laying.anchor laying.iso_us laying.count) source.streams new → All (IsReady source.setup (source.next + 1)) new
+ready_of source laying new is next laid =
+    ready_next source.setup source.next laying.anchor laying.iso_us laying.count source.streams new is.first (λ first. (next.first first).0) (λ later. (next.later later).0) is.ready laid
+
+-- the anchor of an event that is laid ahead has room
+pub anchor_fits : (origin first at iso_us : ℕ) → origin ≤ 2 ^ 48 → at ≤ 2 ^ 39 + 31 → iso_us ≤ 4000000 → origin + (at - first) * iso_us < 2 ^ 63
+anchor_fits origin first at iso_us low near short =
+    let least : at - first ≤ 2 ^ 39 + 31 = omega (arith, near) in
+    omega (arith, low, mul-le (at - first) iso_us (2 ^ 39 + 31) 4000000 least short)
 
 pub source_grown : (source : Source) (new : List Stream) → IsSource source → AllZip Grows source.streams new
     → IsSource (record source { streams = new })
 source_grown source new is grows = record {
-  unframed = is.unframed;
   origin = is.origin;
   delay = is.delay;
   first = is.first;
@@ -63,35 +107,32 @@ source_grown source new is grows = record {
   ready = ready_grown source.setup source.next source.streams new is.ready grows;
 }
 
-pub source_next : (source : Source) (count : ℕ) (new : List Stream) → IsSource source → source.next < 2 ^ 39
-    → (source.next ≡ source.setup.first → count ≡ horizon_of source.setup.info + 1) → (source.setup.first < source.next → count ≡ 1)
-    → AllZip (Lays count) source.streams new
+pub source_next : (source : Source) (laying : Laying) (new : List Stream) → IsSource source → source.next < 2 ^ 39 → LaysNext source laying
+    → AllZip (Lays laying.anchor laying.iso_us laying.count) source.streams new
     → IsSource (record source { next = source.next + 1; streams = new })
-source_next source count new is below first later laying = record {
-  unframed = is.unframed;
+source_next source laying new is below next laid = record {
   origin = is.origin;
   delay = is.delay;
   first = omega (arith, is.first);
   last = omega (arith, below);
-  streams = sym (length_all_zip (Lays count) source.streams new laying) ∙ is.streams;
-  ready = ready_next source.setup source.next count source.streams new is.first first later is.ready laying;
+  streams = sym (length_all_zip (Lays laying.anchor laying.iso_us laying.count) source.streams new laid) ∙ is.streams;
+  ready = ready_of source laying new is next laid;
 }
 
-grown_by : (count : ℕ) (old new : List Stream) → AllZip (Lays count) old new → AllZip Grows old new
-grown_by count [] [] all = tt
-grown_by count [] (y ∷ new) all = absurd all
-grown_by count (x ∷ old) [] all = absurd all
-grown_by count (x ∷ old) (y ∷ new) all = (all.0.grows, grown_by count old new all.1)
+grown_by : (anchor iso_us count : ℕ) (old new : List Stream) → AllZip (Lays anchor iso_us count) old new → AllZip Grows old new
+grown_by anchor iso_us count [] [] all = tt
+grown_by anchor iso_us count [] (y ∷ new) all = absurd all
+grown_by anchor iso_us count (x ∷ old) [] all = absurd all
+grown_by anchor iso_us count (x ∷ old) (y ∷ new) all = (all.0.grows, grown_by anchor iso_us count old new all.1)
 
 -- the streams after laying, where no event is counted
-pub source_laid : (source : Source) (count : ℕ) (new : List Stream) → IsSource source → AllZip (Lays count) source.streams new
-    → IsSource (record source { streams = new })
-source_laid source count new is laying = source_grown source new is (grown_by count source.streams new laying)
+pub source_laid : (source : Source) (laying : Laying) (new : List Stream) → IsSource source
+    → AllZip (Lays laying.anchor laying.iso_us laying.count) source.streams new → IsSource (record source { streams = new })
+source_laid source laying new is laid = source_grown source new is (grown_by laying.anchor laying.iso_us laying.count source.streams new laid)
 
 -- each stream has the next event and the H events behind it
-pub streams_laid : (source : Source) (count : ℕ) (new : List Stream) → IsSource source
-    → (source.next ≡ source.setup.first → count ≡ horizon_of source.setup.info + 1) → (source.setup.first < source.next → count ≡ 1)
-    → AllZip (Lays count) source.streams new → All (IsLaid source.setup.info) new
-streams_laid source count new is first later laying = λ k none within.
-    let ready = ready_next source.setup source.next count source.streams new is.first first later is.ready laying k none within in
+pub streams_laid : (source : Source) (laying : Laying) (new : List Stream) → IsSource source → LaysNext source laying
+    → AllZip (Lays laying.anchor laying.iso_us laying.count) source.streams new → All (IsLaid source.setup.info) new
+streams_laid source laying new is next laid = λ k none within.
+    let ready = ready_of source laying new is next laid k none within in
     record { group = ready.info; kept = ready.kept (omega (arith, is.first)) }

@@ -1,18 +1,12 @@
--- What the calls of a source say of its streams.
-use Rattle.std.proofs.Common.{ℕ, ◌≡◌, ◌≢◌, ◌<◌, ◌≤◌, ◌+◌, ◌-◌, zero, suc, Option, Some, List, [], ◌∷◌, ◌++◌, length, map, arith, ◌∙◌, ap, sym, refl, inl, inr}
+-- What the calls of a source say of its streams in an unframed group.
+use Rattle.std.proofs.Common.{ℕ, ◌≡◌, ◌≢◌, ◌<◌, ◌≤◌, ◌+◌, zero, suc, Option, List, [], ◌∷◌, ◌++◌, length, arith, ◌∙◌, ap, refl, inl, inr}
 use Rattle.std.proofs.lemmas.Bool.{cases_eq, eq-eqb, ne_eqb}
-use Rattle.std.proofs.lemmas.List.{length-drop}
-use Rattle.std.proofs.lemmas.List.FromFn.{get_or-map-range_with_len, length-map-range_with_len}
-use Rattle.std.proofs.lemmas.Option.{slice_get-get_or}
-use Rattle.std.specs.List.{AllZip, range_with_len, slice_get}
 use Rattle.big_info.specs.declared.info.BigInfo.{BigInfo}
 use Rattle.big_info.specs.Schedule.{horizon_of}
-use Rattle.isoal_base.specs.Air.{Air, begun_in, event_at}
+use Rattle.isoal_base.specs.Air.{begun_in, event_at}
 use Rattle.isoal_unframed.specs.Air.{unframed_air}
 use Rattle.isoal_unframed.specs.Calls.{Call as StreamCall, accept, lay, lays, accepted, begun, events as laid_events}
-use Rattle.source_machine.specs.Airs.{AreAirs, IsAir, airs_of, begun_of, waiting_of}
-use Rattle.source_machine.specs.Calls.{Setup, Call, give, event, events, given, stream_calls, laid_with}
-use Rattle.source_machine.specs.State.Sources.{stream_of}
+use Rattle.source_machine.specs.Calls.{Call, give, event, events, given, stream_calls, laid_with}
 
 lays_accepted : (calls : List StreamCall) (n : ℕ) → accepted (lays n calls) ≡ accepted calls
 lays_accepted calls zero = refl
@@ -75,48 +69,10 @@ air_length info (accept octets ∷ calls) = air_length info calls
 air_length info (lay ∷ calls) = ap suc (air_length info calls)
 
 -- the newest entry says how many units have begun
-begun_is : (info : BigInfo) (calls : List StreamCall) → begun_in (unframed_air info calls) ≡ begun info calls
+pub begun_is : (info : BigInfo) (calls : List StreamCall) → begun_in (unframed_air info calls) ≡ begun info calls
 begun_is info [] = refl
 begun_is info (accept octets ∷ calls) = begun_is info calls
 begun_is info (lay ∷ calls) = refl
-
-pub air_at : (setup : Setup) (calls : List Call) (bis : ℕ) → 1 ≤ bis → bis ≤ setup.info.num_bis
-    → slice_get (airs_of setup calls) (bis - 1) ≡ Some (unframed_air setup.info (stream_calls setup.info bis calls))
-air_at setup calls bis least within =
-    let f : ℕ → Air = λ b. unframed_air setup.info (stream_calls setup.info b calls) in
-    let long : length (airs_of setup calls) ≡ setup.info.num_bis = length-map-range_with_len f 1 setup.info.num_bis in
-    slice_get-get_or (airs_of setup calls) (bis - 1) [] (omega arith)
-    ∙ ap (λ air. Some air) (get_or-map-range_with_len f 1 setup.info.num_bis (bis - 1) bis [] (omega arith) (omega arith))
-
--- as many units wait as were accepted and have not begun
-pub waiting_is : (setup : Setup) (calls : List Call) (bis : ℕ) → 1 ≤ bis → bis ≤ setup.info.num_bis
-    → waiting_of calls (airs_of setup calls) bis ≡ length (stream_of setup calls bis).waiting
-waiting_is setup calls bis least within =
-    let sent = stream_calls setup.info bis calls in
-    ap (λ air. length (given bis calls) - begun_of air) (air_at setup calls bis least within)
-    ∙ ap (λ n. length (given bis calls) - n) (begun_is setup.info sent)
-    ∙ ap (λ units. length units - begun setup.info sent) (sym (accepted_are setup.info bis calls))
-    ∙ sym (length-drop (begun setup.info sent) (accepted sent))
-
-each_is : (setup : Setup) (calls : List Call) (indices : List ℕ)
-    → AllZip (IsAir setup calls) indices (map (λ bis. unframed_air setup.info (stream_calls setup.info bis calls)) indices)
-each_is setup calls [] = tt
-each_is setup calls (bis ∷ indices) = (record { unframed = λ unframed. refl }, each_is setup calls indices)
-
-pub are_airs : (setup : Setup) (calls : List Call) → AreAirs setup calls (airs_of setup calls)
-are_airs setup calls = each_is setup calls (range_with_len 1 setup.info.num_bis)
-
-each_only : (setup : Setup) (calls : List Call) (indices : List ℕ) (airs : List Air) → setup.info.framing ≡ 0 → AllZip (IsAir setup calls) indices airs
-    → airs ≡ map (λ bis. unframed_air setup.info (stream_calls setup.info bis calls)) indices
-each_only setup calls [] [] unframed are = refl
-each_only setup calls [] (air ∷ airs) unframed are = absurd are
-each_only setup calls (bis ∷ indices) [] unframed are = absurd are
-each_only setup calls (bis ∷ indices) (air ∷ airs) unframed are =
-    ap (λ x. x ∷ airs) (are.0.unframed unframed)
-    ∙ ap (λ xs. unframed_air setup.info (stream_calls setup.info bis calls) ∷ xs) (each_only setup calls indices airs unframed are.1)
-
-pub airs_only : (setup : Setup) (calls : List Call) (airs : List Air) → setup.info.framing ≡ 0 → AreAirs setup calls airs → airs ≡ airs_of setup calls
-airs_only setup calls airs unframed are = each_only setup calls (range_with_len 1 setup.info.num_bis) airs unframed are
 
 -- what was laid stays whatever is laid behind it
 lays_keep : (info : BigInfo) (calls : List StreamCall) (n e : ℕ) → e < laid_events calls
@@ -126,8 +82,8 @@ lays_keep info calls (suc n) e below =
     let count : length (unframed_air info (lays n calls)) ≡ n + laid_events calls = air_length info (lays n calls) ∙ lays_events calls n in
     rw (ne_eqb (length (unframed_air info (lays n calls))) e (λ same. omega (arith, same, count, below))) (lays_keep info calls n e below)
 
-call_keeps : (info : BigInfo) (bis e : ℕ) (call : Call) (calls : List Call) → e < laid_events (stream_calls info bis calls)
-    → (e < laid_events (stream_calls info bis (call ∷ calls)))
+pub call_keeps : (info : BigInfo) (bis e : ℕ) (call : Call) (calls : List Call) → e < length (unframed_air info (stream_calls info bis calls))
+    → (e < length (unframed_air info (stream_calls info bis (call ∷ calls))))
     × (event_at (unframed_air info (stream_calls info bis (call ∷ calls))) e ≡ event_at (unframed_air info (stream_calls info bis calls)) e)
 call_keeps info bis e (give stream time octets) calls below =
     elim (cases_eq stream bis) [
@@ -136,14 +92,8 @@ call_keeps info bis e (give stream time octets) calls below =
     ]
 call_keeps info bis e event calls below =
     let sent = stream_calls info bis calls in
+    let all : length (unframed_air info sent) ≡ laid_events sent = air_length info sent in
+    let more : length (unframed_air info (lays (laid_with info calls) sent)) ≡ laid_events (lays (laid_with info calls) sent) =
+    air_length info (lays (laid_with info calls) sent) in
     let count : laid_events (lays (laid_with info calls) sent) ≡ laid_with info calls + laid_events sent = lays_events sent (laid_with info calls) in
-    (omega (arith, count, below), lays_keep info sent (laid_with info calls) e below)
-
-pub calls_keep : (info : BigInfo) (bis e : ℕ) (later calls : List Call) → e < laid_events (stream_calls info bis calls)
-    → (e < laid_events (stream_calls info bis (later ++ calls)))
-    × (event_at (unframed_air info (stream_calls info bis (later ++ calls))) e ≡ event_at (unframed_air info (stream_calls info bis calls)) e)
-calls_keep info bis e [] calls below = (below, refl)
-calls_keep info bis e (call ∷ later) calls below =
-    let before = calls_keep info bis e later calls below in
-    let here = call_keeps info bis e call (later ++ calls) before.0 in
-    (here.0, here.1 ∙ before.1)
+    (omega (arith, count, below, all, more), lays_keep info sent (laid_with info calls) e (omega (arith, below, all)))

@@ -1,10 +1,13 @@
 -- Facts of all items of lists, place by place.
-use Rattle.std.proofs.Common.{ℕ, ◌≡◌, ◌<◌, ◌≤◌, ◌+◌, zero, suc, List, [], ◌∷◌, length, get_or, set, map}
+use Rattle.std.proofs.Common.{ℕ, ◌≡◌, ◌<◌, ◌≤◌, ◌+◌, zero, suc, List, [], ◌∷◌, ◌++◌, length, get_or, set, take, append_assoc, Some}
 use Rattle.std.proofs.Common.{arith, ◌∙◌, ap, sym, refl, subst, inl, inr, get_or-set_same, get_or-set_other, length-set, Result, Ok, Err}
-use Rattle.std.specs.List.{AllZip, range_with_len}
-use Rattle.std.specs.Result.{IfErr, IsErrAnd, OnErr}
-use Rattle.std.proofs.lemmas.List.{get_or_default}
+use Rattle.std.specs.List.{AllZip, flat_map, range_with_len, slice_get}
+use Rattle.std.specs.Result.{IfErr, IsErrAnd, OnErr, OnOk}
+use Rattle.std.proofs.lemmas.List.{append-nil, get_or_default, map_more}
+use Rattle.std.proofs.lemmas.Option.{none-some, same_Some, slice_get-get_or, slice_get_past}
 use Rattle.std.proofs.lemmas.Bool.{cases_eq, cases_lt}
+use Rattle.source_machine.specs.Airs.{stale_on}
+use Rattle.source_machine.specs.declared.sent.Stale.{Stale}
 
 pub on_err : {T E P : Type 0} (r : Result T E) → P → OnErr r P
 on_err (Ok x) p = tt
@@ -18,14 +21,42 @@ zip_all R (x ∷ xs) [] same each = absurd (omega (arith, same))
 zip_all R (x ∷ xs) (y ∷ ys) same each =
     (each 0 x (omega arith), zip_all R xs ys (omega (arith, same)) (λ k none below. each (suc k) none (omega (arith, below))))
 
--- items that are made one after the other from those of a list that is mapped over a range
-pub zip_map : {A : Type 0} (R : A → A → Type 0) (f g : ℕ → A) (start n : ℕ) (ys : List A) → ((i : ℕ) (y : A) → R (f i) y → y ≡ g i)
-    → AllZip R (map f (range_with_len start n)) ys → ys ≡ map g (range_with_len start n)
-zip_map R f g start zero [] is all = refl
-zip_map R f g start zero (y ∷ ys) is all = absurd all
-zip_map R f g start (suc n) [] is all = absurd all
-zip_map R f g start (suc n) (y ∷ ys) is all =
-    ap (λ z. z ∷ ys) (is start y all.0) ∙ ap (λ zs. g start ∷ zs) (zip_map R f g (start + 1) n ys is all.1)
+-- lists joined over a range
+pub flat_same : {A : Type 0} (f g : ℕ → List A) (start n : ℕ) → ((i : ℕ) → start ≤ i → i < start + n → f i ≡ g i)
+    → flat_map f (range_with_len start n) ≡ flat_map g (range_with_len start n)
+flat_same f g start zero same = refl
+flat_same f g start (suc n) same =
+    ap (λ xs. xs ++ flat_map f (range_with_len (start + 1) n)) (same start (omega arith) (omega arith))
+    ∙ ap (λ xs. g start ++ xs) (flat_same f g (start + 1) n (λ i least below. same i (omega (arith, least)) (omega (arith, below))))
+
+flat_next : {A : Type 0} (f : ℕ → List A) (start n : ℕ)
+    → flat_map f (range_with_len start (suc n)) ≡ flat_map f (range_with_len start n) ++ f (start + n)
+flat_next f start zero = let at : start ≡ start + 0 = omega arith in append-nil (f start) ∙ ap f at
+flat_next f start (suc n) =
+    let at : start + 1 + n ≡ start + suc n = omega arith in
+    ap (λ xs. f start ++ xs) (flat_next f (start + 1) n)
+    ∙ sym (append_assoc (f start) (flat_map f (range_with_len (start + 1) n)) (f (start + 1 + n)))
+    ∙ ap (λ k. f start ++ flat_map f (range_with_len (start + 1) n) ++ f k) at
+
+pub flat_more : {A : Type 0} (f : ℕ → List A) (start n : ℕ)
+    → flat_map f (range_with_len start (n + 1)) ≡ flat_map f (range_with_len start n) ++ f (start + n)
+flat_more f start n =
+    let next : n + 1 ≡ suc n = omega arith in
+    ap (λ k. flat_map f (range_with_len start k)) next ∙ flat_next f start n
+
+-- one more unit is told
+pub stale_more : (bis : ℕ) (times : List ℕ) (i time : ℕ) (told now_told : List Stale) → now_told ≡ told ++ stale_on bis (take i times) → slice_get times i ≡ Some time
+    → now_told ++ record { bis = bis; time = time } ∷ [] ≡ told ++ stale_on bis (take (i + 1) times)
+stale_more bis times i time told now_told is at =
+    let within : i < length times = elim (cases_lt i (length times)) [
+      | inl below ↦ below
+      | inr past ↦ absurd (none-some time (sym (slice_get_past times i past) ∙ at))
+    ] in
+    let item : get_or times i 0 ≡ time = same_Some (get_or times i 0) time (sym (slice_get-get_or times i 0 within) ∙ at) in
+    ap (λ xs. xs ++ record { bis = bis; time = time } ∷ []) is
+    ∙ append_assoc told (stale_on bis (take i times)) (record { bis = bis; time = time } ∷ [])
+    ∙ ap (λ t. told ++ (stale_on bis (take i times) ++ record { bis = bis; time = t } ∷ [])) (sym item)
+    ∙ ap (λ xs. told ++ xs) (sym (map_more (λ t. record { bis = bis; time = t }) times i 0 within))
 
 -- a loop over the items: those before this place are made, the others are as they were
 pub each_done : {A : Type 0} (R : A → A → Type 0) (xs ys : List A) (i : ℕ) (new : A) → i < length ys
@@ -60,3 +91,7 @@ zip_broken R xs ys i new long within none_changes done same item made =
 pub on_err_of : {T E : Type 0} (P : E → Type 0) (r : Result T E) (fault : E) → IsErrAnd r (λ e. e ≡ fault) → P fault → IfErr r P
 on_err_of P (Ok x) fault is p = tt
 on_err_of P (Err e) fault is p = subst P (sym is) p
+
+pub on_ok : {T E P Q : Type 0} (r : Result T E) → OnOk r P → (P → Q) → OnOk r Q
+on_ok (Ok x) p more = more p
+on_ok (Err e) p more = tt

@@ -10,15 +10,16 @@ use Rattle.std.specs.Option.{option_and_then}
 use Rattle.big_info.specs.declared.info.BigInfo.{BigInfo}
 use Rattle.big_info.specs.Schedule.{group_count, horizon_of}
 use Rattle.isoal_base.specs.Air.{Air, Laid, event_at, pdu_at}
-use Rattle.isoal_unframed.specs.Air.{laid_u, unframed_air}
+use Rattle.isoal_unframed.specs.Air.{laid_u}
 use Rattle.isoal_unframed.specs.Calls.{events as laid_events}
 use Rattle.radio_schedule.specs.PayloadNumber.{ahead_of, payload_number}
-use Rattle.source_machine.specs.Airs.{airs_of, content_at, pdu_of}
+use Rattle.source_machine.specs.Airs.{air_of, airs_of, content_at, pdu_of}
 use Rattle.iso_pdu.specs.Spelling.{pdu as spelled}
-use Rattle.source_machine.specs.Calls.{Setup, Call, events, next_of, stream_calls}
-use Rattle.source_machine.specs.State.Sources.{kept_of, last_laid, pdus_at, pdus_in, stream_of}
+use Rattle.source_machine.specs.Calls.{Setup, Call, events, framed_calls, next_of, stream_calls}
+use Rattle.source_machine.specs.State.Sources.{Stream, StreamIs, info_in, kept_of, last_laid, pdus_at, pdus_in}
 use Rattle.source_machine.specs.State.Streams.{sent_of}
-use Rattle.source_machine.proofs.Histories.{ahead_laid, air_at, air_length, calls_keep}
+use Rattle.source_machine.proofs.Framings.{air_at, calls_keep, info_is, laid_count}
+use Rattle.source_machine.proofs.Histories.{ahead_laid}
 
 pub event_of_number : (info : BigInfo) (event subevent : ℕ) → 1 ≤ info.bn
     → payload_number info event subevent / info.bn ≡ event + ahead_of info (subevent / info.bn)
@@ -43,23 +44,35 @@ last_laid_at count air i event within at =
     slice_get-get_or (last_laid count air) i [] (omega arith)
     ∙ ap (λ pdus. Some pdus) (get_or-map-range_with_len (pdus_at air) (length air - count) (min count (length air)) i event [] within at)
 
+-- what a stream keeps, by its group
+sent_kept : (info : BigInfo) (stream : Stream) (subevent : ℕ) → info_in stream ≡ info
+    → sent_of stream subevent ≡ option_and_then (λ pdus. slice_get pdus (payload_number info 0 subevent % info.bn))
+    (slice_get stream.laid (length stream.laid + payload_number info 0 subevent / info.bn - kept_of info))
+sent_kept info stream subevent is =
+    ap (λ (i : BigInfo). option_and_then (λ pdus. slice_get pdus (payload_number i 0 subevent % i.bn))
+    (slice_get stream.laid (length stream.laid + payload_number i 0 subevent / i.bn - kept_of i))) is
+
 -- a stream that performed an event keeps it with the H events behind it
-pub sent_is : (setup : Setup) (calls : List Call) (bis subevent : ℕ) (pdu : List ℕ) → 1 ≤ setup.info.bn
+pub sent_is : (setup : Setup) (calls : List Call) (bis subevent : ℕ) (stream : Stream) (pdu : List ℕ) → 1 ≤ setup.info.bn
     → 1 ≤ bis → bis ≤ setup.info.num_bis → 0 < events calls
     → ahead_of setup.info (subevent / setup.info.bn) ≤ horizon_of setup.info
-    → sent_of (stream_of setup calls bis) subevent ≡ Some pdu
+    → StreamIs setup calls bis stream → sent_of stream subevent ≡ Some pdu
     → pdu_of setup (airs_of setup calls) (next_of setup calls - 1) bis subevent ≡ Some pdu
-sent_is setup calls bis subevent pdu some least within performed ahead is =
+sent_is setup calls bis subevent stream pdu some least within performed ahead stands is =
     let info = setup.info in
     let bn = info.bn in
-    let air = unframed_air info (stream_calls info bis calls) in
+    let air = air_of setup calls bis in
     let kept = kept_of info in
     let e : ℕ = next_of setup calls - 1 - setup.first in
     let a : ℕ = ahead_of info (subevent / bn) in
+    let own : option_and_then (λ pdus. slice_get pdus (payload_number info 0 subevent % bn))
+    (slice_get (last_laid kept air) (length (last_laid kept air) + payload_number info 0 subevent / bn - kept)) ≡ Some pdu =
+    ap (λ laid. option_and_then (λ pdus. slice_get pdus (payload_number info 0 subevent % bn))
+    (slice_get laid (length laid + payload_number info 0 subevent / bn - kept))) (sym stands.laid)
+    ∙ sym (sent_kept info stream subevent (info_is info (stream_calls info bis calls) (framed_calls setup bis calls) stream.sender stands.sender)) ∙ is in
     let place : payload_number info 0 subevent % bn ≡ payload_number info e subevent % bn =
     place_of_number info 0 subevent some ∙ sym (place_of_number info e subevent some) in
-    let length_is : length air ≡ events calls + horizon_of info =
-    air_length info (stream_calls info bis calls) ∙ ahead_laid info bis calls (omega arith) in
+    let length_is : length air ≡ events calls + horizon_of info = laid_count setup calls bis (omega arith) in
     let long : length (last_laid kept air) ≡ min kept (length air) = length-map-range_with_len (pdus_at air) (length air - kept) (min kept (length air)) in
     let here : payload_number info 0 subevent / bn ≡ 0 + a = event_of_number info 0 subevent some in
     let there : payload_number info e subevent / bn ≡ e + a = event_of_number info e subevent some in
@@ -68,7 +81,7 @@ sent_is setup calls bis subevent pdu some least within performed ahead is =
     last_laid_at kept air i (payload_number info e subevent / bn) (omega arith) (omega arith) in
     let sent : slice_get (pdus_at air (payload_number info e subevent / bn)) (payload_number info e subevent % bn) ≡ Some pdu =
     ap (λ k. slice_get (pdus_at air (payload_number info e subevent / bn)) k) (sym place)
-    ∙ sym (ap (option_and_then (λ pdus. slice_get pdus (payload_number info 0 subevent % bn))) event) ∙ is in
+    ∙ sym (ap (option_and_then (λ pdus. slice_get pdus (payload_number info 0 subevent % bn))) event) ∙ own in
     ap (option_and_then (λ stream. pdu_at bn stream (payload_number info e subevent))) (air_at setup calls bis least within)
     ∙ of_event (event_at air (payload_number info e subevent / bn)) (payload_number info e subevent % bn) pdu sent
 
@@ -84,17 +97,25 @@ ahead_within info subevent some whole within =
           rw (le-ltb g info.irc later) (omega arith)
     ]
 
+-- the event of a payload that an event carries
+carried_in : (setup : Setup) (calls : List Call) (event subevent count : ℕ) → 1 ≤ setup.info.bn
+    → group_count setup.info * setup.info.bn ≡ setup.info.nse → setup.first ≤ event → event < next_of setup calls → subevent < setup.info.nse
+    → count ≡ events calls + horizon_of setup.info
+    → payload_number setup.info (event - setup.first) subevent / setup.info.bn < count
+carried_in setup calls event subevent count some whole least past within all =
+    let info = setup.info in
+    let near : ahead_of info (subevent / info.bn) ≤ horizon_of info = ahead_within info subevent some whole within in
+    let at : payload_number info (event - setup.first) subevent / info.bn ≡ event - setup.first + ahead_of info (subevent / info.bn) =
+    event_of_number info (event - setup.first) subevent some in
+    omega arith
+
 -- the events of the payloads that an event carries are laid with it
 pub carried_is_laid : (setup : Setup) (calls : List Call) (event bis subevent : ℕ) → 1 ≤ setup.info.bn
     → group_count setup.info * setup.info.bn ≡ setup.info.nse → setup.first ≤ event → event < next_of setup calls → subevent < setup.info.nse
     → payload_number setup.info (event - setup.first) subevent / setup.info.bn < laid_events (stream_calls setup.info bis calls)
 carried_is_laid setup calls event bis subevent some whole least past within =
-    let info = setup.info in
-    let near : ahead_of info (subevent / info.bn) ≤ horizon_of info = ahead_within info subevent some whole within in
-    let at : payload_number info (event - setup.first) subevent / info.bn ≡ event - setup.first + ahead_of info (subevent / info.bn) =
-    event_of_number info (event - setup.first) subevent some in
-    let all : laid_events (stream_calls info bis calls) ≡ events calls + horizon_of info = ahead_laid info bis calls (omega arith) in
-    omega arith
+    carried_in setup calls event subevent (laid_events (stream_calls setup.info bis calls)) some whole least past within
+    (ahead_laid setup.info bis calls (omega (arith, least, past)))
 
 pub sent_stays : (setup : Setup) (later calls : List Call) (event bis subevent : ℕ) → 1 ≤ setup.info.bn
     → group_count setup.info * setup.info.bn ≡ setup.info.nse → setup.first ≤ event → event < next_of setup calls
@@ -103,7 +124,8 @@ pub sent_stays : (setup : Setup) (later calls : List Call) (event bis subevent :
 sent_stays setup later calls event bis subevent some whole least past bis_least bis_within within =
     let info = setup.info in
     let number : ℕ = payload_number info (event - setup.first) subevent in
-    let kept = calls_keep info bis (number / info.bn) later calls (carried_is_laid setup calls event bis subevent some whole least past within) in
+    let kept = calls_keep setup bis (number / info.bn) later calls
+    (carried_in setup calls event subevent (length (air_of setup calls bis)) some whole least past within (laid_count setup calls bis (omega (arith, least, past)))) in
     ap (option_and_then (λ air. pdu_at info.bn air number)) (air_at setup (later ++ calls) bis bis_least bis_within)
     ∙ ap (option_and_then (λ laid. slice_get laid.pdus (number % info.bn))) kept.1
     ∙ sym (ap (option_and_then (λ air. pdu_at info.bn air number)) (air_at setup calls bis bis_least bis_within))

@@ -11,19 +11,14 @@ use Rattle.big_info.specs.Schedule.{group_count}
 use Rattle.isoal_base.proofs.Citable.{map_append}
 use Rattle.source_machine.specs.Airs.{Sends, airs_of}
 use Rattle.source_machine.specs.Calls.{Setup, Call, events, next_of}
-use Rattle.source_machine.specs.State.Sources.{Stream, stream_of}
+use Rattle.source_machine.specs.State.Sources.{Stream, StreamIs, StreamsAre}
 use Rattle.source_machine.specs.State.Streams.{sent_at, sent_of}
+use Rattle.source_machine.specs.declared.sender.Sender.TheVariants.{Unframed}
 use Rattle.source_machine.proofs.Payloads.{ahead_within, sent_is}
 
 unwrapped : {A : Type 0} (item want : Option A) → option_map Some item ≡ Some want → item ≡ want
 unwrapped None want is = absurd (none-some want is)
 unwrapped (Some x) want is = same_Some (Some x) want is
-
-range_at : {A : Type 0} (f : ℕ → A) (n bis : ℕ) → 1 ≤ bis → bis ≤ n → slice_get (map f (range_with_len 1 n)) (bis - 1) ≡ Some (f bis)
-range_at f n bis least within =
-    let long : length (map f (range_with_len 1 n)) ≡ n = length-map-range_with_len f 1 n in
-    slice_get-get_or (map f (range_with_len 1 n)) (bis - 1) (f bis) (omega arith)
-    ∙ ap Some (get_or-map-range_with_len f 1 n (bis - 1) bis (f bis) (omega arith) (omega arith))
 
 -- one more item of a list that is gathered by place
 pub one_more : {A : Type 0} (f : ℕ → Option A) (items : List A) (item : A) (n : ℕ)
@@ -47,30 +42,35 @@ gathered_at f items n i is below =
 pub gathered_count : {A : Type 0} (f : ℕ → Option A) (items : List A) (n : ℕ) → map Some items ≡ map f (range_with_len 0 n) → length items ≡ n
 gathered_count f items n is = sym (length-map items Some) ∙ ap length is ∙ length-map-range_with_len f 0 n
 
+nothing_of : Setup → Stream
+nothing_of setup = record { bis = 0; sender = Unframed (record { info = setup.info; waiting = [] }); laid = [] }
+
 -- what is gathered from streams that performed an event is what the event sends
 pub event_sends : (setup : Setup) (calls : List Call) (streams : List Stream) (pdus : List (List ℕ)) → 1 ≤ setup.info.bn
     → group_count setup.info * setup.info.bn ≡ setup.info.nse → 0 < events calls
-    → streams ≡ map (stream_of setup calls) (range_with_len 1 setup.info.num_bis)
+    → length streams ≡ setup.info.num_bis → StreamsAre setup calls streams
     → map Some pdus ≡ map (sent_at setup.info streams) (range_with_len 0 (setup.info.num_bis * setup.info.nse))
     → Sends setup (airs_of setup calls) (next_of setup calls - 1) pdus
-event_sends setup calls streams pdus some whole performed are gathered =
+event_sends setup calls streams pdus some whole performed all are gathered =
     let info = setup.info in
     let count : length pdus ≡ info.num_bis * info.nse = gathered_count (sent_at info streams) pdus (info.num_bis * info.nse) gathered in
     record {
       count = count;
       each = λ bis subevent least within below.
+          let none : Stream = nothing_of setup in
+          let own : Stream = get_or streams (bis - 1) none in
+          let stands : StreamIs setup calls bis own = subst (λ b. StreamIs setup calls b own) (omega (arith, least)) (are (bis - 1) none (omega arith)) in
           let place : ℕ = (bis - 1) * info.nse + subevent in
           let inside : place < info.num_bis * info.nse = omega (arith, mul-add-lt (bis - 1) info.nse subevent info.num_bis (omega arith) below) in
-          let stream : slice_get streams (bis - 1) ≡ Some (stream_of setup calls bis) =
-          ap (λ xs. slice_get xs (bis - 1)) are ∙ range_at (stream_of setup calls) info.num_bis bis least within in
-          let sent : slice_get pdus place ≡ sent_of (stream_of setup calls bis) subevent =
+          let stream : slice_get streams (bis - 1) ≡ Some own = slice_get-get_or streams (bis - 1) none (omega arith) in
+          let sent : slice_get pdus place ≡ sent_of own subevent =
           gathered_at (sent_at info streams) pdus (info.num_bis * info.nse) place gathered inside
           ∙ ap (λ k. option_and_then (λ s. sent_of s (place % info.nse)) (slice_get streams k)) (div-mul-add (bis - 1) info.nse subevent below)
           ∙ ap (λ k. option_and_then (λ s. sent_of s k) (slice_get streams (bis - 1))) (mod-mul-add (bis - 1) info.nse subevent below)
           ∙ ap (option_and_then (λ s. sent_of s subevent)) stream in
           let there : slice_get pdus place ≡ Some (get_or pdus place []) = slice_get-get_or pdus place [] (omega arith) in
-          there ∙ sym (sent_is setup calls bis subevent (get_or pdus place []) some least within performed
-          (ahead_within info subevent some whole below) (sym sent ∙ there));
+          there ∙ sym (sent_is setup calls bis subevent own (get_or pdus place []) some least within performed
+          (ahead_within info subevent some whole below) stands (sym sent ∙ there));
     }
 
 -- a place of the list of an event, by the stream that it is of and the subevent

@@ -1,50 +1,61 @@
 -- A source that stands for its calls.
-use Rattle.std.proofs.Common.{ℕ, ◌≡◌, ◌<◌, ◌≤◌, ◌+◌, ◌-◌, ◌*◌, ◌/◌, ◌^◌, Option, Some, None, List, [], ◌∷◌, false, length, map, get_or, set, replicate, arith, ◌∙◌, ap, sym, refl, subst, inl, inr}
-use Rattle.std.proofs.lemmas.Bool.{cases_eq, eq-eqb, ne_eqb, le-leb, lt-leb, le-ltb}
-use Rattle.std.proofs.lemmas.List.FromFn.{get_or-map-range_with_len}
-use Rattle.std.specs.Prelude.{nat_le, if◌then◌else◌}
-use Rattle.std.specs.List.{AllZip, range_with_len}
+use Rattle.std.proofs.Common.{ℕ, ◌≡◌, ◌<◌, ◌≤◌, ◌+◌, ◌-◌, ◌*◌, ◌^◌, Option, Some, None, List, [], ◌∷◌, ◌++◌, false, length, map, get_or, set, get_or-set_other, get_or-set_same, length-set, arith, ◌∙◌, ap, sym, refl, subst, inl, inr}
+use Rattle.std.proofs.lemmas.Bool.{cases_eq, cases_lt, le-ltb}
+use Rattle.std.proofs.lemmas.List.{get_or-append_right, get_or_append_left, length-append}
+use Rattle.big_info.specs.declared.info.BigInfo.{BigInfo}
+use Rattle.std.proofs.lemmas.List.Elements.{length_all_zip}
+use Rattle.std.specs.Prelude.{unwrap_or}
+use Rattle.std.specs.List.{AllZip, flat_map, range_with_len, slice_get}
 use Rattle.big_info.specs.Schedule.{group_count, horizon_of}
-use Rattle.isoal_base.proofs.Citable.{map_changed, map_constant}
 use Rattle.isoal_base.specs.Air.{Air}
-use Rattle.isoal_base.specs.declared.laid.PutFault.{PutFault}
-use Rattle.isoal_base.specs.declared.laid.PutFault.TheVariants.{Backlog as Full, Memory, TimeOrder, TooLong}
-use Rattle.isoal_unframed.specs.State.Sender.{PutFaultIs}
-use Rattle.source_machine.specs.Airs.{AreAirs, Sends, airs_of, waiting_of}
-use Rattle.source_machine.specs.Calls.{Setup, Call, give, event, events, laid_with, next_of, stream_calls}
-use Rattle.source_machine.specs.Faults.{event_fault, give_fault, of_sender, refused_unit}
-use Rattle.source_machine.specs.State.Sources.{Source, StandsFor, Stream, stream_after, stream_of}
-use Rattle.source_machine.specs.State.Streams.{Accepts, IsFit, IsSource, Lays, Performs, sender_of, sent_at}
+use Rattle.isoal_unframed.specs.Calls.{Call as PlainCall, accept}
+use Rattle.isoal_framed.specs.Calls.{Call as TimedCall, accept as accept_timed}
+use Rattle.source_machine.specs.Airs.{AreAirs, Sends, airs_of, air_of, stale_in, stale_of, stale_on}
+use Rattle.source_machine.specs.Calls.{Setup, Call, give, event, framed_calls, laid_before, laid_with, lay_anchor, next_of, stream_calls}
+use Rattle.source_machine.specs.Faults.{event_fault}
+use Rattle.source_machine.specs.Setups.{IsChecked}
+use Rattle.source_machine.specs.State.Sources.{Source, StandsFor, Stream, StreamIs, StreamStands, StreamsAre}
+use Rattle.source_machine.specs.State.Streams.{Accepts, AllTell, IsSource, Lays, LaysNext, Performs, sent_at, told_by}
+use Rattle.source_machine.specs.declared.laying.Laying.{Laying}
+use Rattle.source_machine.specs.declared.sent.Stale.{Stale}
 use Rattle.source_machine.specs.declared.setup.Identity.{Identity}
-use Rattle.source_machine.specs.declared.fault.GiveFault.TheVariants.{Backlog}
-use Rattle.source_machine.proofs.Advances.{streams_next}
+use Rattle.source_machine.proofs.Advances.{IsNext, is_next, streams_next}
+use Rattle.source_machine.proofs.FramedCalls.{timed_other, timed_same}
+use Rattle.source_machine.proofs.Framings.{air_at, airs_only}
+use Rattle.source_machine.proofs.Histories.{given_other, given_same}
+use Rattle.source_machine.proofs.Lists.{flat_same}
 use Rattle.source_machine.proofs.Sending.{event_sends, gathered_count}
-use Rattle.source_machine.proofs.Histories.{airs_only, given_other, given_same, waiting_is}
 
-pub stands_new : (setup : Setup) (streams : List Stream) → streams ≡ replicate setup.info.num_bis (stream_after setup.info [])
+pub stands_new : (setup : Setup) (streams : List Stream) → ((k : ℕ) (none : Stream) → k < length streams → StreamStands setup.info (k + 1) [] [] (get_or streams k none))
     → (identity : Identity) → StandsFor [] (record { identity = identity; setup = setup; next = setup.first; streams = streams; failed = false })
-stands_new setup streams are identity = record {
-  next = omega arith;
-  streams = are ∙ sym (map_constant (stream_of setup []) (stream_after setup.info []) 1 setup.info.num_bis (λ bis least below. refl));
-  works = refl;
-}
+stands_new setup streams are identity = record { next = omega arith; streams = are; works = refl }
 
-pub stands_event : (source : Source) (calls : List Call) (count : ℕ) (new : List Stream) → StandsFor calls source
-    → (source.next ≡ source.setup.first → count ≡ horizon_of source.setup.info + 1) → (source.setup.first < source.next → count ≡ 1)
-    → AllZip (Lays count) source.streams new
+-- one stream more
+pub one_more_stream : (info : BigInfo) (bis n : ℕ) (old new : List Stream) (stream : Stream) → length old ≡ n
+    → ((k : ℕ) (none : Stream) → k < n → StreamStands info (k + 1) [] [] (get_or old k none)) → new ≡ old ++ stream ∷ [] → bis ≡ n + 1
+    → StreamStands info bis [] [] stream
+    → (length new ≡ n + 1) × ((k : ℕ) (none : Stream) → k < n + 1 → StreamStands info (k + 1) [] [] (get_or new k none))
+one_more_stream info bis n old new stream count each is at stands =
+    let long : length (old ++ stream ∷ []) ≡ length old + 1 = length-append old (stream ∷ []) in (
+      ap length is ∙ long ∙ ap (λ m. m + 1) count,
+      λ k none below. rw is (elim (cases_lt k n) [
+        | inl before ↦ rw (get_or_append_left old (stream ∷ []) none k (omega (arith, before, count))) (each k none before)
+        | inr last ↦
+            let here : k - n ≡ 0 = omega (arith, below) in
+            let own : bis ≡ k + 1 = omega (arith, at, last, below) in
+            rw (get_or-append_right old (stream ∷ []) n k none count last, here)
+            (subst (λ b. StreamStands info b [] [] stream) own stands)
+      ]),
+    )
+
+pub stands_event : (source : Source) (calls : List Call) (laying : Laying) (new : List Stream) → IsChecked source.setup.info → StandsFor calls source → LaysNext source laying
+    → AllZip (Lays laying.anchor laying.iso_us laying.count) source.streams new
     → StandsFor (event ∷ calls) (record source { next = source.next + 1; streams = new })
-stands_event source calls count new stands first later laying =
-    let setup = source.setup in
-    let is : count ≡ laid_with setup.info calls =
-    elim (cases_eq (events calls) 0) [
-      | inl none ↦ rw (eq-eqb (events calls) 0 none) (first (omega (arith, none, stands.next)))
-      | inr some ↦ rw (ne_eqb (events calls) 0 some) (later (omega (arith, some, stands.next)))
-    ] in
-    record {
-      next = omega (arith, stands.next);
-      streams = streams_next setup calls count setup.info.num_bis new is (subst (λ streams. AllZip (Lays count) streams new) stands.streams laying);
-      works = stands.works;
-    }
+stands_event source calls laying new checked stands next laid = record {
+  next = omega (arith, stands.next);
+  streams = streams_next source.setup calls laying source.streams new checked (is_next source calls laying stands.next next) laid stands.streams;
+  works = stands.works;
+}
 
 pub has_numbers_left : (source : Source) (calls : List Call) → StandsFor calls source
     → (source.next + horizon_of source.setup.info + 1) * source.setup.info.bn ≤ 2 ^ 39 → event_fault source.setup calls ≡ None
@@ -54,84 +65,81 @@ has_numbers_left source calls stands room =
 
 -- a stream of the source
 pub stream_is : (source : Source) (calls : List Call) (bis : ℕ) (stream : Stream) → StandsFor calls source
-    → 1 ≤ bis → bis ≤ source.setup.info.num_bis → stream ≡ get_or source.streams (bis - 1) stream → stream ≡ stream_of source.setup calls bis
+    → 1 ≤ bis → bis ≤ length source.streams → stream ≡ get_or source.streams (bis - 1) stream → StreamIs source.setup calls bis stream
 stream_is source calls bis stream stands least within is =
-    is ∙ ap (λ streams. get_or streams (bis - 1) stream) stands.streams
-    ∙ get_or-map-range_with_len (stream_of source.setup calls) 1 source.setup.info.num_bis (bis - 1) bis stream (omega arith) (omega arith)
+    let at : bis - 1 + 1 ≡ bis = omega (arith, least) in
+    subst (StreamIs source.setup calls bis) (sym is)
+    (subst (λ b. StreamIs source.setup calls b (get_or source.streams (bis - 1) stream)) at (stands.streams (bis - 1) stream (omega (arith, least, within))))
 
-pub stands_give : (source : Source) (calls : List Call) (bis : ℕ) (time : Option ℕ) (octets : List ℕ) (old new : Stream) → StandsFor calls source
-    → 1 ≤ bis → bis ≤ source.setup.info.num_bis → old ≡ get_or source.streams (bis - 1) old → Accepts octets old new
+given_is : (setup : Setup) (calls : List Call) (bis : ℕ) (time : Option ℕ) (octets : List ℕ) (stream : Stream)
+    → StreamStands setup.info bis (accept octets ∷ stream_calls setup.info bis calls) (accept_timed (unwrap_or time 0) octets ∷ framed_calls setup bis calls) stream
+    → StreamIs setup (give bis time octets ∷ calls) bis stream
+given_is setup calls bis time octets stream stands =
+    subst (λ timed. StreamStands setup.info bis (stream_calls setup.info bis (give bis time octets ∷ calls)) timed stream) (sym (timed_same setup bis time octets calls))
+    (subst (λ plain. StreamStands setup.info bis plain (accept_timed (unwrap_or time 0) octets ∷ framed_calls setup bis calls) stream) (sym (given_same setup.info bis time octets calls)) stands)
+
+other_is : (setup : Setup) (calls : List Call) (bis index : ℕ) (time : Option ℕ) (octets : List ℕ) (stream : Stream) → (bis ≡ index → ⊥)
+    → StreamIs setup calls index stream → StreamIs setup (give bis time octets ∷ calls) index stream
+other_is setup calls bis index time octets stream other stands =
+    subst (λ timed. StreamStands setup.info index (stream_calls setup.info index (give bis time octets ∷ calls)) timed stream) (sym (timed_other setup index bis time octets calls other))
+    (subst (λ plain. StreamStands setup.info index plain (framed_calls setup index calls) stream) (sym (given_other setup.info index bis time octets calls other)) stands)
+
+pub stands_give : (source : Source) (calls : List Call) (bis : ℕ) (time limit : Option ℕ) (octets : List ℕ) (old new : Stream) → StandsFor calls source
+    → 1 ≤ bis → bis ≤ length source.streams → old ≡ get_or source.streams (bis - 1) old → Accepts time limit octets old new
     → StandsFor (give bis time octets ∷ calls) (record source { streams = set source.streams (bis - 1) new })
-stands_give source calls bis time octets old new stands least within is accepts =
+stands_give source calls bis time limit octets old new stands least within is accepts =
     let setup = source.setup in
-    let here : stream_of setup (give bis time octets ∷ calls) bis ≡ new =
-    ap (stream_after setup.info) (given_same setup.info bis time octets calls)
-    ∙ sym (accepts.stands setup.info (stream_calls setup.info bis calls) (stream_is source calls bis old stands least within is)) in
-    let at : 1 + (bis - 1) ≡ bis = omega arith in
     record {
       next = stands.next;
-      streams = ap (λ streams. set streams (bis - 1) new) stands.streams
-          ∙ sym (map_changed (stream_of setup calls) (stream_of setup (give bis time octets ∷ calls)) 1 setup.info.num_bis (bis - 1) new (omega arith)
-          (λ i first last other. sym (ap (stream_after setup.info) (given_other setup.info i bis time octets calls (λ e. other (omega (arith, e, at))))))
-          (ap (stream_of setup (give bis time octets ∷ calls)) at ∙ here));
+      streams = λ k none below.
+          let long : length (set source.streams (bis - 1) new) ≡ length source.streams = length-set source.streams (bis - 1) new in
+          elim (cases_eq k (bis - 1)) [
+            | inl here ↦
+                let at : bis ≡ k + 1 = omega (arith, least, here) in
+                subst (λ b. StreamIs setup (give bis time octets ∷ calls) b (get_or (set source.streams (bis - 1) new) k none)) at
+                (rw (here, get_or-set_same source.streams (bis - 1) new none (omega arith))
+                (given_is setup calls bis time octets new
+                (accepts.stands setup.info bis (stream_calls setup.info bis calls) (framed_calls setup bis calls) (stream_is source calls bis old stands least within is))))
+            | inr other ↦ rw (get_or-set_other source.streams (bis - 1) k new none other)
+                (other_is setup calls bis (k + 1) time octets (get_or source.streams k none) (λ e. other (omega (arith, e, least))) (stands.streams k none (omega arith)))
+          ];
       works = stands.works;
     }
 
-fit_fault : (setup : Setup) (calls : List Call) (airs : List Air) (bis : ℕ) (time : Option ℕ) (octets : List ℕ)
-    → setup.info.framing ≡ 0 → IsFit setup bis time octets
-    → give_fault setup calls airs bis time octets ≡ (if nat_le 16 (waiting_of calls airs bis) then Some Backlog else None)
-fit_fault setup calls airs bis time octets unframed fit =
-    rw (le-ltb setup.info.num_bis bis fit.has_stream, le-ltb setup.info.max_sdu (length octets) fit.short, eq-eqb setup.info.framing 0 unframed, fit.untimed) refl
+-- what the streams tell of an event is what its airs left out
+told_is : (setup : Setup) (calls : List Call) (laying : Laying) (streams : List Stream) (stale : List Stale) → IsChecked setup.info → IsNext setup calls laying
+    → length streams ≡ setup.info.num_bis → StreamsAre setup calls streams
+    → AllTell laying.anchor laying.iso_us laying.count streams (length streams) [] stale → stale ≡ stale_of setup calls (airs_of setup (event ∷ calls))
+told_is setup calls laying streams stale checked next long are tells =
+    let f : ℕ → List Stale = told_by setup calls laying.anchor laying.iso_us laying.count in
+    let g : ℕ → List Stale = λ bis. stale_on bis (stale_in (laid_with setup.info calls) (unwrap_or (slice_get (airs_of setup (event ∷ calls)) (bis - 1)) [])) in
+    tells setup calls checked are
+    ∙ ap (λ n. flat_map f (range_with_len 1 n)) long
+    ∙ flat_same f g 1 setup.info.num_bis (λ bis least below.
+    ap (λ n. told_by setup calls laying.anchor laying.iso_us n bis) next.count
+    ∙ ap (λ a. told_by setup calls a laying.iso_us (laid_with setup.info calls) bis) next.anchor
+    ∙ ap (λ i. told_by setup calls (lay_anchor setup (laid_before setup.info calls)) i (laid_with setup.info calls) bis) next.iso_us
+    ∙ ap (λ air. stale_on bis (stale_in (laid_with setup.info calls) (unwrap_or air []))) (sym (air_at setup (event ∷ calls) bis least (omega (arith, below)))))
 
-pub takes_unit : (source : Source) (calls : List Call) (airs : List Air) (bis : ℕ) (time : Option ℕ) (octets : List ℕ) (stream : Stream) → StandsFor calls source
-    → AreAirs source.setup calls airs → source.setup.info.framing ≡ 0 → IsFit source.setup bis time octets → 1 ≤ bis → stream ≡ get_or source.streams (bis - 1) stream
-    → length stream.waiting < 16 → give_fault source.setup calls airs bis time octets ≡ None
-takes_unit source calls airs bis time octets stream stands are unframed fit least is room =
-    let waits : waiting_of calls airs bis ≡ length stream.waiting =
-    ap (λ list. waiting_of calls list bis) (airs_only source.setup calls airs unframed are) ∙ waiting_is source.setup calls bis least fit.has_stream
-    ∙ sym (ap (λ (s : Stream). length s.waiting) (stream_is source calls bis stream stands least fit.has_stream is)) in
-    fit_fault source.setup calls airs bis time octets unframed fit
-    ∙ rw (waits, lt-leb 16 (length stream.waiting) room) refl
-
-pub backlog : (source : Source) (calls : List Call) (airs : List Air) (bis : ℕ) (time : Option ℕ) (octets : List ℕ) (stream : Stream) → StandsFor calls source
-    → AreAirs source.setup calls airs → source.setup.info.framing ≡ 0 → IsFit source.setup bis time octets → 1 ≤ bis → stream ≡ get_or source.streams (bis - 1) stream
-    → 16 ≤ length stream.waiting → give_fault source.setup calls airs bis time octets ≡ Some Backlog
-backlog source calls airs bis time octets stream stands are unframed fit least is full =
-    let waits : waiting_of calls airs bis ≡ length stream.waiting =
-    ap (λ list. waiting_of calls list bis) (airs_only source.setup calls airs unframed are) ∙ waiting_is source.setup calls bis least fit.has_stream
-    ∙ sym (ap (λ (s : Stream). length s.waiting) (stream_is source calls bis stream stands least fit.has_stream is)) in
-    fit_fault source.setup calls airs bis time octets unframed fit
-    ∙ rw (waits, le-leb 16 (length stream.waiting) full) refl
-
--- a sender's refusal says why the source refuses the unit
-pub put_refused : (source : Source) (calls : List Call) (airs : List Air) (bis : ℕ) (time : Option ℕ) (octets : List ℕ) (stream : Stream) (fault : PutFault) → StandsFor calls source
-    → AreAirs source.setup calls airs → source.setup.info.framing ≡ 0 → IsFit source.setup bis time octets → 1 ≤ bis → stream ≡ get_or source.streams (bis - 1) stream
-    → PutFaultIs (sender_of stream) octets fault
-    → give_fault source.setup calls airs bis time octets ≡ refused_unit (of_sender fault)
-put_refused source calls airs bis time octets stream TooLong stands are unframed fit least is fault =
-    let info = ap (λ (s : Stream). s.info.max_sdu) (stream_is source calls bis stream stands least fit.has_stream is) in
-    absurd (omega (arith, info, fit.short, fault))
-put_refused source calls airs bis time octets stream TimeOrder stands are unframed fit least is fault = absurd fault
-put_refused source calls airs bis time octets stream Full stands are unframed fit least is fault =
-    backlog source calls airs bis time octets stream stands are unframed fit least is (omega (arith, fault.1))
-put_refused source calls airs bis time octets stream Memory stands are unframed fit least is fault =
-    takes_unit source calls airs bis time octets stream stands are unframed fit least is fault.room
-
--- the next event was performed, where each stream laid so many events
-pub performs : (source : Source) (count : ℕ) (new : List Stream) (pdus : List (List ℕ)) → IsSource source → 1 ≤ source.setup.info.bn
-    → group_count source.setup.info * source.setup.info.bn ≡ source.setup.info.nse
-    → (source.next ≡ source.setup.first → count ≡ horizon_of source.setup.info + 1) → (source.setup.first < source.next → count ≡ 1)
-    → AllZip (Lays count) source.streams new
+-- the next event was performed, where each stream laid these events
+pub performs : (source : Source) (laying : Laying) (new : List Stream) (pdus : List (List ℕ)) (stale : List Stale) → IsSource source → IsChecked source.setup.info
+    → LaysNext source laying → AllZip (Lays laying.anchor laying.iso_us laying.count) source.streams new
+    → AllTell laying.anchor laying.iso_us laying.count source.streams (length source.streams) [] stale
     → map Some pdus ≡ map (sent_at source.setup.info new) (range_with_len 0 (source.setup.info.num_bis * source.setup.info.nse))
-    → Performs source (record source { next = source.next + 1; streams = new }) pdus
-performs source count new pdus is some whole first later laying gathered = record {
+    → Performs source (record source { next = source.next + 1; streams = new }) pdus stale
+performs source laying new pdus stale is checked next laid tells gathered = record {
   next = refl;
   failed = refl;
   count = gathered_count (sent_at source.setup.info new) pdus (source.setup.info.num_bis * source.setup.info.nse) gathered;
-  stands = λ calls stands. stands_event source calls count new stands first later laying;
+  stands = λ calls stands. stands_event source calls laying new checked stands next laid;
   sent = λ calls airs stands are.
-      let after = stands_event source calls count new stands first later laying in
-      subst (λ list. Sends source.setup list source.next pdus) (sym (airs_only source.setup (event ∷ calls) airs is.unframed are))
+      let after = stands_event source calls laying new checked stands next laid in
+      let long : length new ≡ source.setup.info.num_bis =
+      sym (length_all_zip (Lays laying.anchor laying.iso_us laying.count) source.streams new laid) ∙ is.streams in
+      subst (λ list. Sends source.setup list source.next pdus) (sym (airs_only source.setup (event ∷ calls) airs checked are))
       (subst (λ at. Sends source.setup (airs_of source.setup (event ∷ calls)) at pdus) (omega (arith, stands.next))
-      (event_sends source.setup (event ∷ calls) new pdus some whole (omega arith) after.streams gathered));
+      (event_sends source.setup (event ∷ calls) new pdus checked.bounds.bn checked.bounds.whole_groups (omega arith) long after.streams gathered));
+  told = λ calls airs stands are.
+      told_is source.setup calls laying source.streams stale checked (is_next source calls laying stands.next next) is.streams stands.streams tells
+      ∙ ap (stale_of source.setup calls) (sym (airs_only source.setup (event ∷ calls) airs checked are));
 }

@@ -115,7 +115,8 @@ fn carried(group: &Group, subevent: u8) -> (u32, usize)
 fn tell_stale(bis: Bis, times: &Times, stale: &mut StaleList) -> Result<(), Memory>
     ensures { OnOk result (stale.new ≡ stale.old ++ stale_on bis times.now) }
 {
-    'times: for &time in times.as_slice().iter() {
+    'times: for i in 0..times.count() {
+        let time = *times.item(i);
         stale.push(Stale { bis, time })?;
     }
     Ok(())

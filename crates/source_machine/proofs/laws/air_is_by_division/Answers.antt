@@ -7,8 +7,9 @@ use Rattle.isoal_unframed.specs.Air.{laid_u, unframed_air}
 use Rattle.isoal_unframed.specs.Calls.{events as laid_events}
 use Rattle.radio_schedule.specs.PayloadNumber.{payload_number}
 use Rattle.source_machine.specs.Airs.{pdu_of}
-use Rattle.source_machine.specs.Calls.{stream_calls}
-use Rattle.source_machine.proofs.Histories.{air_at, airs_only}
+use Rattle.source_machine.specs.Calls.{framed_calls, stream_calls}
+use Rattle.source_machine.proofs.Framings.{air_at, airs_only, plain_air}
+use Rattle.source_machine.proofs.AirLaws.{is_checked}
 use Rattle.source_machine.proofs.Payloads.{carried_is_laid, number_counted}
 use Rattle.source_machine.proofs.laws.air_is_by_division.Goals as goal
 
@@ -23,8 +24,9 @@ returns-clause-laid c = λ group setup calls airs event bis subevent of_group un
     let law : number / info.bn < laid_events sent → pdu_at info.bn (unframed_air info sent) number ≡ Some (laid_u info sent number) =
     subst (λ (i : BigInfo). number / i.bn < laid_events sent → pdu_at i.bn (unframed_air i sent) number ≡ Some (laid_u i sent number)) (sym of_group)
     (c.each_number_is_laid.ensures.laid group sent number) in
-    ap (λ list. pdu_of setup list event bis subevent) (airs_only setup calls airs unframed are)
+    ap (λ list. pdu_of setup list event bis subevent) (airs_only setup calls airs (is_checked group setup.info of_group) are)
     ∙ ap (option_and_then (λ air. pdu_at info.bn air number)) (air_at setup calls bis bis_least (rw of_group bis_within))
+    ∙ ap (λ air. pdu_at info.bn air number) (plain_air info sent (framed_calls setup bis calls) unframed)
     ∙ law (carried_is_laid setup calls event bis subevent some whole least past inside)
 
 pub returns-clause-counted : goal.returns-clause-counted

@@ -1,7 +1,9 @@
-use Rattle.std.proofs.Common.{◌≡◌, []}
-use Rattle.std.specs.Prelude.{replicate}
-use Rattle.source_machine.specs.State.Sources.{stream_after}
+use Rattle.std.proofs.Common.{ℕ, ◌≡◌, ◌<◌, ◌+◌, [], length, get_or}
+use Rattle.source_machine.specs.State.Sources.{Stream, StreamStands}
 use Rattle.source_machine.proofs.stream.new_streams.Given as goal
 
 abbrev pub invariant-streams : goal.invariant-streams
-invariant-streams l = l.streams.items ≡ replicate l.counter (stream_after l.group.info [])
+invariant-streams l = record {
+  count : length l.streams.items ≡ l.n;
+  new : (k : ℕ) (none : Stream) → k < l.n → StreamStands l.group.info (k + 1) [] [] (get_or l.streams.items k none);
+}

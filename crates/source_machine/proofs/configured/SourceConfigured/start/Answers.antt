@@ -8,6 +8,6 @@ returns-in-Ok-clause-ok c =
     rw (← c.self.view_is) (
       refl,
       refl,
-      stands_new (record { info = plan.group.info; origin = plan.origin; delay = plan.delay; first = c.args.first_event })
-          c.in-Ok.streams.items c.in-Ok.ensures plan.identity,
+      stands_new (record { info = plan.group.info; origin = plan.origin; delay = plan.delay; first = c.args.first_event; ahead = plan.ahead })
+          c.in-Ok.streams.items c.in-Ok.ensures.new plan.identity,
     )

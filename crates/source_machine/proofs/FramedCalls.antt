@@ -1,0 +1,122 @@
+-- What the calls of a source say of its streams in a framed group.
+use Rattle.std.proofs.Common.{ℕ, ◌≡◌, ◌≢◌, ◌<◌, ◌≤◌, ◌+◌, ◌-◌, zero, suc, Option, None, Some, List, [], ◌∷◌, ◌++◌, length, map, drop, arith, ◌∙◌, ap, sym, refl, inl, inr}
+use Rattle.std.specs.Prelude.{unwrap_or}
+use Rattle.std.proofs.lemmas.Bool.{cases_eq, eq-eqb, ne_eqb}
+use Rattle.std.proofs.lemmas.List.{length-drop, length-map, map-append}
+use Rattle.big_info.specs.declared.info.BigInfo.{BigInfo}
+use Rattle.big_info.specs.Schedule.{horizon_of}
+use Rattle.big_info.specs.Time.{iso_us_of}
+use Rattle.isoal_base.specs.Air.{Air, begun_in, event_at}
+use Rattle.isoal_framed.specs.Air.{IsAirOf, begun_by}
+use Rattle.isoal_framed.specs.Calls.{Call as TimedCall, Timed, accept, lay, accepted}
+use Rattle.isoal_framed.specs.Filling.{framed_air}
+use Rattle.isoal_framed.specs.Places.{Act, done, sent}
+use Rattle.isoal_framed.specs.State.Senders.{Sender, StandsFor, waiting, waiting_of}
+use Rattle.source_machine.specs.Calls.{Setup, Call, give, event, events, framed_calls, framed_lays, given, laid_before, laid_with, lay_anchor}
+
+lays_length : (info : BigInfo) (anchor iso_us n : ℕ) (calls : List TimedCall)
+    → length (framed_air info (framed_lays anchor iso_us n calls)) ≡ n + length (framed_air info calls)
+lays_length info anchor iso_us zero calls = omega arith
+lays_length info anchor iso_us (suc n) calls = omega (arith, lays_length info anchor iso_us n calls)
+
+lays_accepted : (anchor iso_us n : ℕ) (calls : List TimedCall) → accepted (framed_lays anchor iso_us n calls) ≡ accepted calls
+lays_accepted anchor iso_us zero calls = refl
+lays_accepted anchor iso_us (suc n) calls = lays_accepted anchor iso_us n calls
+
+pub timed_same : (setup : Setup) (bis : ℕ) (time : Option ℕ) (octets : List ℕ) (calls : List Call)
+    → framed_calls setup bis (give bis time octets ∷ calls) ≡ accept (unwrap_or time 0) octets ∷ framed_calls setup bis calls
+timed_same setup bis time octets calls = rw (eq-eqb bis bis refl) refl
+
+pub timed_other : (setup : Setup) (bis stream : ℕ) (time : Option ℕ) (octets : List ℕ) (calls : List Call) → stream ≢ bis
+    → framed_calls setup bis (give stream time octets ∷ calls) ≡ framed_calls setup bis calls
+timed_other setup bis stream time octets calls other = rw (ne_eqb stream bis other) refl
+
+-- the units accepted are those that were given
+pub timed_octets : (setup : Setup) (bis : ℕ) (calls : List Call) → map (λ (unit : Timed). unit.octets) (accepted (framed_calls setup bis calls)) ≡ given bis calls
+timed_octets setup bis [] = refl
+timed_octets setup bis (give stream time octets ∷ calls) =
+    let units = accepted (framed_calls setup bis calls) in
+    let unit : Timed = record { time = unwrap_or time 0; octets = octets } in
+    elim (cases_eq stream bis) [
+      | inl same ↦ rw (eq-eqb stream bis same)
+          (map-append (λ (u : Timed). u.octets) units (unit ∷ []) ∙ ap (λ xs. xs ++ octets ∷ []) (timed_octets setup bis calls))
+      | inr different ↦ rw (ne_eqb stream bis different) (timed_octets setup bis calls)
+    ]
+timed_octets setup bis (event ∷ calls) =
+    ap (map (λ (u : Timed). u.octets))
+    (lays_accepted (lay_anchor setup (laid_before setup.info calls)) (iso_us_of setup.info) (laid_with setup.info calls) (framed_calls setup bis calls))
+    ∙ timed_octets setup bis calls
+
+pub timed_count : (setup : Setup) (bis : ℕ) (calls : List Call) → length (accepted (framed_calls setup bis calls)) ≡ length (given bis calls)
+timed_count setup bis calls =
+    sym (length-map (accepted (framed_calls setup bis calls)) (λ (u : Timed). u.octets)) ∙ ap length (timed_octets setup bis calls)
+
+-- before the first event nothing is laid
+pub timed_none : (setup : Setup) (bis : ℕ) (calls : List Call) → events calls ≡ 0 → length (framed_air setup.info (framed_calls setup bis calls)) ≡ 0
+timed_none setup bis [] none = refl
+timed_none setup bis (give stream time octets ∷ calls) none =
+    elim (cases_eq stream bis) [
+      | inl same ↦ rw (eq-eqb stream bis same) (timed_none setup bis calls none)
+      | inr other ↦ rw (ne_eqb stream bis other) (timed_none setup bis calls none)
+    ]
+timed_none setup bis (event ∷ calls) none = absurd (omega (arith, none))
+
+-- with an event, the H events behind it are laid
+pub timed_ahead : (setup : Setup) (bis : ℕ) (calls : List Call) → 1 ≤ events calls
+    → length (framed_air setup.info (framed_calls setup bis calls)) ≡ events calls + horizon_of setup.info
+timed_ahead setup bis [] some = absurd (omega (arith, some))
+timed_ahead setup bis (give stream time octets ∷ calls) some =
+    elim (cases_eq stream bis) [
+      | inl same ↦ rw (eq-eqb stream bis same) (timed_ahead setup bis calls some)
+      | inr other ↦ rw (ne_eqb stream bis other) (timed_ahead setup bis calls some)
+    ]
+timed_ahead setup bis (event ∷ calls) some =
+    lays_length setup.info (lay_anchor setup (laid_before setup.info calls)) (iso_us_of setup.info) (laid_with setup.info calls) (framed_calls setup bis calls)
+    ∙ elim (cases_eq (events calls) 0) [
+      | inl first ↦ rw (eq-eqb (events calls) 0 first, timed_none setup bis calls first) (omega (arith, first))
+      | inr later ↦
+          let before : 1 ≤ events calls = omega (arith, later) in
+          rw (ne_eqb (events calls) 0 later, timed_ahead setup bis calls before) (omega arith)
+    ]
+
+-- the newest entry says how many units have begun
+begun_last : (info : BigInfo) (calls : List TimedCall) (acts : List Act) (air : Air) → IsAirOf info calls acts air → begun_in air ≡ begun_by acts
+begun_last info [] acts air is = ap begun_in is.1 ∙ ap begun_by (sym is.0)
+begun_last info (accept time octets ∷ calls) acts air is = begun_last info calls acts air is
+begun_last info (lay anchor ∷ calls) acts air (earlier, before, own, is_before, own_is, acts_is, air_is) = ap begun_in air_is
+
+-- as many units wait as were accepted and have not begun
+pub timed_waiting : (info : BigInfo) (calls : List TimedCall) (air : Air) (sender : Sender) → StandsFor info calls air sender
+    → length (accepted calls) - begun_in air ≡ waiting sender
+timed_waiting info calls air sender stands =
+    let units : length sender.units ≡ length (accepted calls) - done stands.acts =
+    ap length stands.units ∙ length-drop (done stands.acts) (accepted calls) in
+    let begun : begun_in air ≡ begun_by stands.acts = begun_last info calls stands.acts air stands.air_is in
+    let now : waiting sender ≡ waiting_of (sent stands.acts) sender.units = ap (λ n. waiting_of n sender.units) stands.sent in
+    rw (begun, now) (elim (cases_eq (sent stands.acts) 0) [
+      | inl none ↦ rw (eq-eqb (sent stands.acts) 0 none) (omega (arith, units))
+      | inr some ↦ rw (ne_eqb (sent stands.acts) 0 some) (omega (arith, units))
+    ])
+
+lays_keep : (info : BigInfo) (anchor iso_us n e : ℕ) (calls : List TimedCall) → e < length (framed_air info calls)
+    → event_at (framed_air info (framed_lays anchor iso_us n calls)) e ≡ event_at (framed_air info calls) e
+lays_keep info anchor iso_us zero e calls below = refl
+lays_keep info anchor iso_us (suc n) e calls below =
+    let air = framed_air info (framed_lays anchor iso_us n calls) in
+    rw (ne_eqb (length air) e (λ same. omega (arith, same, lays_length info anchor iso_us n calls, below))) (lays_keep info anchor iso_us n e calls below)
+
+-- what was laid stays whatever is laid behind it
+pub timed_keeps : (setup : Setup) (bis e : ℕ) (call : Call) (calls : List Call) → e < length (framed_air setup.info (framed_calls setup bis calls))
+    → (e < length (framed_air setup.info (framed_calls setup bis (call ∷ calls))))
+    × (event_at (framed_air setup.info (framed_calls setup bis (call ∷ calls))) e ≡ event_at (framed_air setup.info (framed_calls setup bis calls)) e)
+timed_keeps setup bis e (give stream time octets) calls below =
+    elim (cases_eq stream bis) [
+      | inl same ↦ rw (eq-eqb stream bis same) (below, refl)
+      | inr other ↦ rw (ne_eqb stream bis other) (below, refl)
+    ]
+timed_keeps setup bis e event calls below =
+    let anchor : ℕ = lay_anchor setup (laid_before setup.info calls) in
+    let iso_us : ℕ = iso_us_of setup.info in
+    let n : ℕ = laid_with setup.info calls in
+    let before = framed_calls setup bis calls in
+    (omega (arith, lays_length setup.info anchor iso_us n before, below), lays_keep setup.info anchor iso_us n e before below)

@@ -1,0 +1,6 @@
+use Rattle.std.proofs.Common.{◌≡◌, ◌++◌, take}
+use Rattle.source_machine.specs.Airs.{stale_on}
+use Rattle.source_machine.proofs.stream.tell_stale.Given as goal
+
+abbrev pub invariant-times : goal.invariant-times
+invariant-times l = l.stale ≡ l.initial.stale ++ stale_on l.bis (take l.i l.times)
