@@ -1,7 +1,8 @@
-pub mod Handing
-pub mod Numbers
-pub mod OneStream
-pub mod Opened
+mod Handing
+mod Numbers
+mod OneStream
+mod Opened
+mod Receivers
 mod Sets
-pub mod Standing
+mod Standing
 pub mod Citable

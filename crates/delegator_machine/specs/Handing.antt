@@ -1,17 +1,23 @@
--- What a sink hands up as events are over (Core 5.2, volume 6 part G, section 2.1): for each stream that it takes, by rising
--- index, the units of its open event, where that is over.
+-- What a sink hands up as events are over (Core 5.2, volume 6 part G, sections 2.1 and 2.2): for each stream that it takes,
+-- by rising index, what the close of its open event hands, where that is over.
 use Rattle.std.specs.Prelude.{ℕ, nat_le, ◌==◌, List, [], ◌∷◌, ◌++◌, Option, Some, None, if◌then◌else◌}
 use Rattle.std.specs.List.{filter, flat_map}
 use Rattle.unit_outlets.specs.Handed.{Handed, valid, lost}
 use Rattle.isoal_base.specs.Stays as stays
 use Rattle.isoal_base.specs.Stays.{Stay, opened}
 use Rattle.isoal_unframed.specs.Histories.{units_of}
+use Rattle.isoal_framed.specs.Histories.{gained}
 use Rattle.delegator_machine.specs.Calls.{Tuning, Call, tune, hear, tick, place}
 use Rattle.delegator_machine.specs.Streams.{stay_on, stream_calls, streams_of}
 
--- the units of a stream's open event, where all events up to this one are over
+-- what the next close of a stream hands: of an unframed one the units of the open event, of a framed one those that it
+-- decides
+abbrev pub units_at_close : Stay → List stays.Call → List Handed
+units_at_close stay calls = if stay.info.framing == 0 then units_of stay calls (opened stay calls) else gained stay calls
+
+-- the same, where all events up to this one are over
 abbrev pub units_by : ℕ → Stay → List stays.Call → List Handed
-units_by event stay calls = if nat_le (opened stay calls) event then units_of stay calls (opened stay calls) else []
+units_by event stay calls = if nat_le (opened stay calls) event then units_at_close stay calls else []
 
 abbrev pub units_on : ℕ → List Call → Tuning → ℕ → List Handed
 units_on event calls tuning bis = units_by event (stay_on tuning bis) (stream_calls (stay_on tuning bis) calls)

@@ -1,2 +1,3 @@
+pub mod Receivers
 pub mod Sinks
 pub mod Steps

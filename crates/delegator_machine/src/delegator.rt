@@ -38,7 +38,7 @@ impl Delegator {
         Delegator { alloc, group: None }
     }
 
-    /// Puts the sink on an unframed group, with this event as the first one, whose anchor is given in µs, and this
+    /// Puts the sink on a group, with this event as the first one, whose anchor is given in µs, and this
     /// presentation delay in µs. It leaves what it was on, and what it held is dropped.
     ///
     /// After want of memory the sink is as before.
@@ -50,7 +50,6 @@ impl Delegator {
         anchor: u64,
         delay: u32,
     ) -> Result<(), Memory>
-        requires unframed { group.now.info.framing ≡ 0 }
         requires event { event ≤ 2 ^ 39 }
         requires anchor { anchor ≤ 2 ^ 61 }
         requires delay { delay < 2 ^ 24 }

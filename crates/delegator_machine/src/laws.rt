@@ -5,6 +5,7 @@ ghost use Rattle.std.specs.List.Sorted.{IsStrictlyIncreasing};
 ghost use Rattle.bcast_base.specs.Bis.{Has};
 ghost use Rattle.isoal_base.specs.Stays.{opened};
 ghost use Rattle.isoal_unframed.specs.Histories.{handed};
+ghost use Rattle.isoal_framed.specs.Histories.{decided};
 ghost use Rattle.delegator_machine.specs.Calls.{Call, Tuning, place};
 ghost use Rattle.delegator_machine.specs.Handing.{handed_since, of_stream};
 ghost use Rattle.delegator_machine.specs.Streams.{closes, stay_on, stream_calls, streams_of};
@@ -21,8 +22,10 @@ pub fn one_event_is_open()
 {}
 
 /// Since a sink was put on its group, its ticks handed of each stream that it takes what the closes of the stream's stay
-/// hand, in order, and nothing of any other stream.
+/// hand, in order: of an unframed stream the units of its closed events, of a framed one those that its closed events
+/// decide. Of any other stream they handed nothing.
 pub fn each_stream_hands_its_units()
-    ensures taken { (tuning : Tuning) (calls : List Call) (bis : ℕ) → place calls ≡ Some tuning → Contains (streams_of tuning.which) bis → of_stream bis (handed_since calls) ≡ handed (stay_on tuning bis) (stream_calls (stay_on tuning bis) calls) }
+    ensures unframed { (tuning : Tuning) (calls : List Call) (bis : ℕ) → tuning.info.framing ≡ 0 → place calls ≡ Some tuning → Contains (streams_of tuning.which) bis → of_stream bis (handed_since calls) ≡ handed (stay_on tuning bis) (stream_calls (stay_on tuning bis) calls) }
+    ensures framed { (tuning : Tuning) (calls : List Call) (bis : ℕ) → tuning.info.framing ≡ 1 → place calls ≡ Some tuning → Contains (streams_of tuning.which) bis → of_stream bis (handed_since calls) ≡ decided (stay_on tuning bis) (stream_calls (stay_on tuning bis) calls) }
     ensures others { (tuning : Tuning) (calls : List Call) (bis : ℕ) → place calls ≡ Some tuning → ¬ Contains (streams_of tuning.which) bis → of_stream bis (handed_since calls) ≡ [] }
 {}

@@ -4,6 +4,7 @@
 mod delegator;
 mod laws;
 mod on_group;
+mod receiver;
 mod refuser;
 mod streams;
 #[cfg(test)]

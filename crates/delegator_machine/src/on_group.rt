@@ -5,11 +5,11 @@ ghost use Rattle.unit_outlets.specs.Handed.{Caused};
 ghost use Rattle.isoal_unframed.specs.State.Windows.{HandsOver};
 ghost use Rattle.delegator_machine.specs.State.Steps.{answer_on, fresh_on, hear_on, owed_by, owed_on, tick_at, tick_on};
 
+use crate::receiver::Receiver;
 use crate::streams::{close_by, hear_in, skip_by, stream_of};
 use bcast_base::{Bis, BisSet, Memory};
 use big_info::Group;
 use isoal_base::Hearing;
-use isoal_unframed::UnframedIn;
 use std::alloc::Global;
 use std::marker::Model;
 use unit_outlets::{TakerFault, UnitTaker};
@@ -18,18 +18,18 @@ use unit_outlets::{TakerFault, UnitTaker};
 #[derive(Drop)]
 pub(crate) struct SinkOnGroup {
     group: Group,
-    streams: Vec<Option<UnframedIn>>,
+    streams: Vec<Option<Receiver>>,
 }
 
 impl Model for SinkOnGroup {
-    ghost use Rattle.std.specs.Prelude.{vec_len};
-    ghost use Rattle.delegator_machine.specs.State.Sinks.{OnGroup, Keeps};
+    ghost use Rattle.std.specs.Prelude.{◌≡◌, vec_len};
+    ghost use Rattle.delegator_machine.specs.State.Sinks.{OnGroup};
 
     ghost Value = { OnGroup };
 
     ghost view = { λ a. record { info = a.group.info; streams = a.streams.items } };
 
-    ghost invariant = { λ a. Keeps a.group.info (vec_len a.streams) };
+    ghost invariant = { λ a. vec_len a.streams ≡ 31 };
 }
 
 impl SinkOnGroup {
@@ -42,7 +42,6 @@ impl SinkOnGroup {
         anchor: u64,
         delay: u32,
     ) -> Result<SinkOnGroup, Memory>
-        requires unframed { group.now.info.framing ≡ 0 }
         requires event { event ≤ 2 ^ 39 }
         requires anchor { anchor ≤ 2 ^ 61 }
         requires delay { delay < 2 ^ 24 }
@@ -81,7 +80,6 @@ impl SinkOnGroup {
         ensures hands { HandsOver (owed_on event self.old) (T.calls taker.old) (T.calls taker.new) result }
         ensures cause { Caused (T.counts taker.old) (T.counts taker.new) result }
         ensures bounds { Bounds self.old.info }
-        ensures plain { self.old.info.framing ≡ 0 }
     {
         close_all(&mut self.streams, event, taker)
     }
@@ -89,7 +87,7 @@ impl SinkOnGroup {
 
 /// Closes the open event of each stream where it is at most this event. The units are handed up to the first refusal.
 fn close_all<T: UnitTaker>(
-    streams: &mut Vec<Option<UnframedIn>>,
+    streams: &mut Vec<Option<Receiver>>,
     event: u64,
     taker: &mut T,
 ) -> Result<(), TakerFault>

@@ -5,11 +5,11 @@ ghost use Rattle.isoal_unframed.specs.State.Windows.{HandsOver};
 ghost use Rattle.delegator_machine.specs.State.Steps.{answer_at, fresh_at, hear_at, owed_by, tick_at};
 ghost use Rattle.delegator_machine.specs.Streams.{number_of};
 
+use crate::receiver::Receiver;
 use crate::refuser::Refuser;
 use bcast_base::{Bis, BisSet, Memory};
 use big_info::Group;
 use isoal_base::Hearing;
-use isoal_unframed::UnframedIn;
 use radio_schedule::payload_of;
 use std::alloc::Global;
 use unit_outlets::{TakerFault, UnitTaker};
@@ -23,8 +23,7 @@ pub(crate) fn stream_of(
     event: u64,
     anchor: u64,
     delay: u32,
-) -> Result<Option<UnframedIn>, Memory>
-    requires unframed { group.now.info.framing ≡ 0 }
+) -> Result<Option<Receiver>, Memory>
     requires event { event ≤ 2 ^ 39 }
     requires anchor { anchor ≤ 2 ^ 61 }
     requires delay { delay < 2 ^ 24 }
@@ -33,13 +32,13 @@ pub(crate) fn stream_of(
     if !which.has(bis) {
         return Ok(None);
     }
-    let stream = UnframedIn::new(alloc, group, bis, event, anchor, delay)?;
+    let stream = Receiver::new(alloc, group, bis, event, anchor, delay)?;
     Ok(Some(stream))
 }
 
 /// Hears a PDU in a subevent of an event.
 pub(crate) fn hear_in(
-    stream: &mut Option<UnframedIn>,
+    stream: &mut Option<Receiver>,
     group: &Group,
     event: u64,
     subevent: u8,
@@ -69,7 +68,7 @@ fn number(group: &Group, event: u64, subevent: u8) -> Option<u64>
 
 /// Closes the open event where it is at most this event, and hands its units.
 pub(crate) fn close_by<T: UnitTaker>(
-    stream: &mut Option<UnframedIn>,
+    stream: &mut Option<Receiver>,
     event: u64,
     taker: &mut T,
 ) -> Result<(), TakerFault>
@@ -91,7 +90,7 @@ pub(crate) fn close_by<T: UnitTaker>(
 }
 
 /// Closes the open event where it is at most this event, and drops its units.
-pub(crate) fn skip_by(stream: &mut Option<UnframedIn>, event: u64)
+pub(crate) fn skip_by(stream: &mut Option<Receiver>, event: u64)
     requires { event < 2 ^ 39 }
     ensures { stream.new ≡ tick_at event stream.old }
 {

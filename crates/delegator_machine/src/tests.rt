@@ -126,6 +126,54 @@ fn the_first_pdu_heard_counts(rt: HostRuntime) -> Result<(), Fail> {
 }
 
 #[test]
+fn a_framed_unit_over_two_events_has_the_time_of_its_start(rt: HostRuntime) -> Result<(), Fail> {
+    let info = BigInfo {
+        max_pdu: 10,
+        sdu_interval: 10884,
+        max_sdu: 8,
+        framing: 1,
+        ..ONE_STREAM
+    };
+    assert!(rt; info.fits());
+    let group = check_group(&info)?;
+    let first = Bis::new(1).ok_or("no stream")?;
+    let mut sink = Delegator::new(rt.alloc());
+    sink.tune(&group, BisSet::new().with(first), 1, 30000, 40000)?;
+    let mut taken = Taken {
+        alloc: rt.alloc(),
+        units: Vec::new(rt.alloc()),
+    };
+    let crossing = [
+        0x02, 0x0a, 0x03, 0x02, 0xd5, 0xd6, 0x00, 0x04, 0x88, 0x13, 0x00, 0xe0,
+    ];
+    assert_eq!(rt;
+        sink.hear(1, first, 0, &[0, 0]),
+        Hearing::Heard(Heard::WrongKind)
+    );
+    assert_eq!(rt;
+        sink.hear(1, first, 0, crossing.as_slice()),
+        Hearing::Heard(Heard::Kept)
+    );
+    sink.tick(1, &mut taken)?;
+    assert_eq!(rt; taken.units.len(), 0);
+    let last = [0x02, 0x04, 0x03, 0x02, 0xe1, 0xe2];
+    assert_eq!(rt;
+        sink.hear(2, first, 0, last.as_slice()),
+        Hearing::Heard(Heard::Kept)
+    );
+    sink.tick(2, &mut taken)?;
+    assert_eq!(rt; taken.units.len(), 1);
+    assert_eq!(rt; taken.units[0].time, 85968);
+    assert!(rt;
+        taken.units[0]
+            .octets
+            .as_ref()
+            .is_some_and(|unit| unit.as_slice() == [0xe0, 0xe1, 0xe2].as_slice())
+    );
+    Ok(())
+}
+
+#[test]
 fn a_refusal_closes_the_event_of_each_stream(rt: HostRuntime) -> Result<(), Fail> {
     let group = check_group(&ONE_STREAM)?;
     let first = Bis::new(1).ok_or("no stream")?;

@@ -54,29 +54,29 @@ event_below bn event number some below =
     (div-lt_iff_lt-mul some).1 (subst (λ most. number < most) (sym top) below)
 
 -- a hear changes nothing of an event before the open one
-hear_event : (stay : Stay) (calls : List Call) (number : ℕ) (octets : List ℕ) (event : ℕ) → 1 ≤ stay.info.bn → event < opened stay calls
+hear_event : (stay : Stay) (calls : List Call) (number : ℕ) (octets : List ℕ) (event : ℕ) → event < opened stay calls
     → event_tokens stay (hear number octets ∷ calls) event ≡ event_tokens stay calls event
-hear_event stay calls number octets event some before =
+hear_event stay calls number octets event before =
     flat_same (λ at. tokens_of stay event (heard_in stay (hear number octets ∷ calls) at)) (λ at. tokens_of stay event (heard_in stay calls at))
     (event * stay.info.bn) stay.info.bn
     (λ at least below. ap (tokens_of stay event) (heard_same (read_as segmented stay.info.max_pdu) stay (hear number octets) calls at
     (entry_outside (read_as segmented stay.info.max_pdu) stay (opened stay calls) at number octets
     (λ within.
-    let under : at / stay.info.bn < event + 1 = event_below stay.info.bn event at some below in
+    let under : at / stay.info.bn < event + 1 = event_below stay.info.bn event at (omega arith) below in
     let low : opened stay calls ≤ at / stay.info.bn = within.0 in
     absurd (omega arith)))))
 
-pub closed_hear : (stay : Stay) (calls : List Call) (number : ℕ) (octets : List ℕ) → 1 ≤ stay.info.bn
+pub closed_hear : (stay : Stay) (calls : List Call) (number : ℕ) (octets : List ℕ)
     → closed_tokens stay (hear number octets ∷ calls) ≡ closed_tokens stay calls
-closed_hear stay calls number octets some =
+closed_hear stay calls number octets =
     let first : stay.first ≤ opened stay calls = opened_least stay calls in
     flat_same (event_tokens stay (hear number octets ∷ calls)) (event_tokens stay calls) stay.first (opened stay calls - stay.first)
-    (λ event least below. hear_event stay calls number octets event some (omega arith))
+    (λ event least below. hear_event stay calls number octets event (omega arith))
 
-pub decides_nothing : (stay : Stay) → Bounds stay.info → (calls : List Call) (number : ℕ) (octets : List ℕ)
+pub decides_nothing : (stay : Stay) (calls : List Call) (number : ℕ) (octets : List ℕ)
     → decided stay (hear number octets ∷ calls) ≡ decided stay calls
-decides_nothing stay bounds calls number octets =
-    ap (units stay.info.max_sdu stay.bis) (closed_hear stay calls number octets bounds.bn)
+decides_nothing stay calls number octets =
+    ap (units stay.info.max_sdu stay.bis) (closed_hear stay calls number octets)
 
 close_event : (stay : Stay) (calls : List Call) (event : ℕ) → event_tokens stay (close ∷ calls) event ≡ event_tokens stay calls event
 close_event stay calls event =
@@ -122,7 +122,7 @@ pub hear_stands : (window : Window) (number : ℕ) (octets : List ℕ) → Bound
     → (calls : List Call) → Stands calls window → Stands (hear number octets ∷ calls) (after_hear number octets window)
 hear_stands window number octets bounds calls stands = record {
   hearing = stands_hear segmented window.stay calls window.event window.kept number octets bounds.bn stands.hearing;
-  run = stands.run ∙ ap (undecided_run window.stay.info.max_sdu) (sym (closed_hear window.stay calls number octets bounds.bn));
+  run = stands.run ∙ ap (undecided_run window.stay.info.max_sdu) (sym (closed_hear window.stay calls number octets));
 }
 
 pub close_stands : (window : Window) → Bounds window.stay.info

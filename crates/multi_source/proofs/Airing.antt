@@ -6,7 +6,6 @@ use Rattle.std.proofs.lemmas.Option.{none-some, slice_get-get_or}
 use Rattle.std.specs.List.{slice_get}
 use Rattle.std.specs.Option.{option_and_then}
 use Rattle.circular_buffer.specs.Buffer.{keep_last}
-use Rattle.big_info.specs.Bounds.{Bounds}
 use Rattle.isoal_base.specs.Air.{Air}
 use Rattle.radio_schedule.specs.OnAir.{OnAir, fault_at, pdu_at}
 use Rattle.radio_schedule.specs.declared.air.AirFault.TheVariants.{NoSuchBis as NoStream, NoSuchSubevent as NoSubevent, NotOnAir as Gone}
@@ -14,6 +13,7 @@ use Rattle.source_machine.specs.Airs.{AreAirs, Sends, airs_of, pdu_of}
 use Rattle.source_machine.specs.Calls.{Setup, Call, give, event, events, next_of}
 use Rattle.source_machine.specs.Faults.{air_fault}
 use Rattle.source_machine.proofs.Citable.{airs_exist, sends_stay}
+use Rattle.source_machine.specs.Setups.{IsChecked}
 use Rattle.source_machine.specs.State.Sources.{Source, AfterFault as SourceFault}
 use Rattle.source_machine.specs.declared.fault.EventFault.{EventFault}
 use Rattle.source_machine.specs.declared.fault.EventFault.TheVariants.{CounterEnds, Memory}
@@ -53,22 +53,22 @@ silent setup air group none =
     record { group = group; count = omega arith; sent = λ back airs below are. absurd (omega arith) }
 
 -- a unit changes nothing on the air
-pub given_on_air : (setup : Setup) (calls : List Call) (air : OnAir) (bis : ℕ) (time : Option ℕ) (octets : List ℕ) → Bounds setup.info → setup.info.framing ≡ 0
+pub given_on_air : (setup : Setup) (calls : List Call) (air : OnAir) (bis : ℕ) (time : Option ℕ) (octets : List ℕ) → IsChecked setup.info
     → IsOnAir setup calls air → IsOnAir setup (give bis time octets ∷ calls) air
-given_on_air setup calls air bis time octets bounds unframed on = record {
+given_on_air setup calls air bis time octets checked on = record {
   group = on.group;
   count = on.count;
   sent = λ back airs below are.
       let known : length air.events ≡ min 32 (events calls) = on.count in
       sends_stay setup (give bis time octets) calls (airs_of setup calls) airs (next_of setup calls - 1 - back) (get_or air.events (length air.events - 1 - back) [])
-      bounds unframed (airs_exist setup calls) are (omega arith) (omega arith) (on.sent back (airs_of setup calls) below (airs_exist setup calls));
+      checked (airs_exist setup calls checked) are (omega arith) (omega arith) (on.sent back (airs_of setup calls) below (airs_exist setup calls checked));
 }
 
 -- an event is put on the air
-pub event_on_air : (setup : Setup) (calls : List Call) (air : OnAir) (pdus : List (List ℕ)) → Bounds setup.info → setup.info.framing ≡ 0
+pub event_on_air : (setup : Setup) (calls : List Call) (air : OnAir) (pdus : List (List ℕ)) → IsChecked setup.info
     → IsOnAir setup calls air → ((airs : List Air) → AreAirs setup (event ∷ calls) airs → Sends setup airs (next_of setup calls) pdus)
     → IsOnAir setup (event ∷ calls) (record air { events = keep_last 32 (air.events ++ pdus ∷ []) })
-event_on_air setup calls air pdus bounds unframed on sends =
+event_on_air setup calls air pdus checked on sends =
     let known : length air.events ≡ min 32 (events calls) = on.count in
     let long = kept_length air.events pdus in
     let all : List (List (List ℕ)) = keep_last 32 (air.events ++ pdus ∷ []) in
@@ -88,7 +88,7 @@ event_on_air setup calls air pdus bounds unframed on sends =
             subst (λ e. Sends setup airs e (get_or all (length all - 1 - back) [])) at
             (subst (Sends setup airs (next_of setup calls - 1 - before)) (sym here)
             (sends_stay setup event calls (airs_of setup calls) airs (next_of setup calls - 1 - before) (get_or air.events (length air.events - 1 - before) [])
-            bounds unframed (airs_exist setup calls) are (omega arith) (omega arith) (on.sent before (airs_of setup calls) (omega arith) (airs_exist setup calls))))
+            checked (airs_exist setup calls checked) are (omega arith) (omega arith) (on.sent before (airs_of setup calls) (omega arith) (airs_exist setup calls checked))))
       ];
     }
 

@@ -1,15 +1,14 @@
 -- A source that was started, in its place beside the other one.
 use Rattle.std.proofs.Common.{ℕ, ◌≡◌, ◌∙◌, [], ◌∷◌, ◌++◌, List, Option, Some, None, ap, sym, refl, subst}
 use Rattle.radio_schedule.specs.OnAir.{OnAir, silence}
-use Rattle.source_machine.specs.declared.setup.Setup.{Setup as Configured}
 use Rattle.source_machine.specs.Calls.{Setup, Call, event, next_of}
-use Rattle.source_machine.specs.Setups.{started}
+use Rattle.source_machine.specs.Setups.{Configured, IsChecked, started}
 use Rattle.source_machine.specs.State.Sources.{Source, StandsFor as SourceStands}
 use Rattle.std.proofs.lemmas.Option.{same_Some}
 use Rattle.circular_buffer.specs.Buffer.{keep_last}
-use Rattle.big_info.specs.Bounds.{Bounds}
 use Rattle.isoal_base.specs.Air.{Air}
-use Rattle.source_machine.specs.Airs.{AreAirs, Sends}
+use Rattle.source_machine.specs.Airs.{AreAirs, Sends, stale_of}
+use Rattle.source_machine.specs.declared.sent.Stale.{Stale}
 use Rattle.source_machine.specs.Faults.{event_fault}
 use Rattle.multi_source.specs.declared.field.Begun.{Begun}
 use Rattle.multi_source.specs.State.Broadcasts.{IsOfGroup, IsOnAir}
@@ -37,7 +36,7 @@ starts setup first place since source begun source_is begun_is identity setup_is
 }
 
 -- a source and its air after its next event
-pub performed : (setup : Setup) (calls : List Call) (old new : Source) (before after : Begun) (pdus : List (List ℕ)) → Bounds old.setup.info × (old.setup.info.framing ≡ 0)
+pub performed : (setup : Setup) (calls : List Call) (old new : Source) (before after : Begun) (pdus : List (List ℕ)) → IsChecked old.setup.info
     → new.setup ≡ old.setup → after.air ≡ record before.air { events = keep_last 32 (before.air.events ++ pdus ∷ []) }
     → ((c : List Call) → SourceStands c old → (event_fault old.setup c ≡ None) × SourceStands (event ∷ c) new)
     → ((c : List Call) (airs : List Air) → SourceStands c old → AreAirs old.setup (event ∷ c) airs → Sends old.setup airs old.next pdus)
@@ -59,9 +58,19 @@ performed setup calls old new before after pdus checked same pushed stands sends
         begun = after;
         begun_is = refl;
         air = subst (IsOnAir setup (event ∷ calls)) (sym pushed)
-            (event_on_air setup calls before.air pdus (subst (λ (s : Setup). Bounds s.info) setup_is checked.0) (subst (λ (s : Setup). s.info.framing ≡ 0) setup_is checked.1) on
+            (event_on_air setup calls before.air pdus (subst (λ (s : Setup). IsChecked s.info) setup_is checked) on
             (λ airs are. subst (λ at. Sends setup airs at pdus) next
             (subst (λ (s : Setup). Sends s airs old.next pdus) setup_is
             (sends calls airs standing (subst (λ s. AreAirs s (event ∷ calls) airs) (sym setup_is) are)))));
       },
     )
+
+-- what is told of it as left out
+pub tells : (setup : Setup) (calls : List Call) (airs : List Air) (old : Source) (since : Option Begun) (told : List Stale)
+    → ((c : List Call) (all : List Air) → SourceStands c old → AreAirs old.setup (event ∷ c) all → told ≡ stale_of old.setup c all)
+    → Sending setup calls (Some old) since → AreAirs setup (event ∷ calls) airs → told ≡ stale_of setup calls airs
+tells setup calls airs old since told says sending are =
+    let source : sending.source ≡ old = sym (same_Some old sending.source sending.source_is) in
+    let setup_is : old.setup ≡ setup = sym (ap (λ (s : Source). s.setup) source) ∙ sending.setup_is in
+    let standing : SourceStands calls old = subst (SourceStands calls) source sending.stands in
+    subst (λ s. told ≡ stale_of s calls airs) setup_is (says calls airs standing (subst (λ s. AreAirs s (event ∷ calls) airs) (sym setup_is) are))

@@ -1,9 +1,9 @@
 ghost use Rattle.std.specs.Prelude.{◌≡◌, ◌≤◌, ◌<◌, ◌+◌, ◌-◌, ◌^◌, ◌∷◌, [], List, Some, None, true, IfOk, IfErr, IfSome, OnOk, OnErr};
 ghost use Rattle.isoal_base.specs.Air.{Air as StreamAir};
-ghost use Rattle.source_machine.specs.Airs.{AreAirs, pdu_of};
+ghost use Rattle.source_machine.specs.Airs.{AreAirs, pdu_of, stale_of};
 ghost use Rattle.source_machine.specs.Calls.{Call, give as gives, event as performs, last_of, next_anchor_of, next_of};
 ghost use Rattle.source_machine.specs.Faults.{air_fault, event_fault, give_fault, refused_event, refused_unit};
-ghost use Rattle.source_machine.specs.Setups.{started};
+ghost use Rattle.source_machine.specs.Setups.{IsChecked, started};
 ghost use Rattle.multi_source.specs.State.Broadcasts.{AfterFault, StandsFor};
 
 use bcast_base::{Bis, Memory};
@@ -64,6 +64,7 @@ impl Broadcast {
         ensures err { OnErr result (self.new ≡ self.old) }
         ensures cause { IfErr result (λ fault. (calls : List Call) (airs : List StreamAir) → StandsFor calls self.old → AreAirs self.old.source.setup calls airs
             → give_fault self.old.source.setup calls airs bis time octets.now ≡ refused_unit fault) }
+        ensures checked { IsChecked self.old.source.setup.info }
     {
         self.source.give(bis, time, octets)
     }
@@ -74,12 +75,14 @@ impl Broadcast {
         ensures setup { self.new.source.setup ≡ self.old.source.setup }
         ensures ok { OnOk result ((calls : List Call) → StandsFor calls self.old
             → (event_fault self.old.source.setup calls ≡ None) × StandsFor (performs ∷ calls) self.new) }
-        ensures stale { IfOk result (λ stale. stale ≡ []) }
+        ensures stale { IfOk result (λ stale. (calls : List Call) (airs : List StreamAir) → StandsFor calls self.old → AreAirs self.old.source.setup (performs ∷ calls) airs
+            → stale ≡ stale_of self.old.source.setup calls airs) }
         ensures cause { IfErr result (λ fault. (calls : List Call) → StandsFor calls self.old
             → event_fault self.old.source.setup calls ≡ refused_event fault) }
         ensures err { IfErr result (λ fault. AfterFault fault self.old self.new) }
         ensures next { OnOk result (self.new.source.next ≡ self.old.source.next + 1) }
         ensures same { OnErr result (self.new.source.next ≡ self.old.source.next) }
+        ensures checked { IsChecked self.old.source.setup.info }
     {
         match self.source.event() {
             Ok(sent) => {
@@ -101,7 +104,9 @@ impl Broadcast {
             × (pdu_of self.now.source.setup airs (next_of self.now.source.setup calls - 1 - back) bis subevent ≡ Some pdu.now)) }
         ensures err { IfErr result (λ fault. (calls : List Call) → StandsFor calls self.now
             → air_fault self.now.source.setup calls back bis subevent ≡ Some fault) }
+        ensures checked { IsChecked self.now.source.setup.info }
     {
+        let _group = self.source.group();
         self.air.heard_at(back, bis, subevent)
     }
 
@@ -114,8 +119,7 @@ impl Broadcast {
 
     /// The group.
     pub fn group(&self) -> &Group
-        ensures info { result.now.info ≡ self.now.source.setup.info }
-        ensures unframed { result.now.info.framing ≡ 0 }
+        ensures { result.now.info ≡ self.now.source.setup.info }
     {
         self.source.group()
     }

@@ -2,8 +2,11 @@ ghost use Rattle.std.specs.Prelude.{◌≡◌, ◌≤◌, ◌<◌, ◌-◌, ◌^
 ghost use Rattle.circular_buffer.specs.Buffer.{keep_last};
 ghost use Rattle.big_info.specs.Widths.{FitsWidths};
 ghost use Rattle.big_info.specs.Rows.{first_fault};
+ghost use Rattle.isoal_base.specs.Air.{Air as StreamAir};
+ghost use Rattle.source_machine.specs.Airs.{AreAirs, stale_of};
 ghost use Rattle.source_machine.specs.Calls.{Setup as Fixed, Call, event as performs};
 ghost use Rattle.source_machine.specs.Faults.{event_fault, refused_event};
+ghost use Rattle.source_machine.specs.Setups.{configured};
 ghost use Rattle.multi_source.specs.State.Fields.{EventLeaves, HasOwnAir, Sending, fault_of, is_same as is_same_source, is_taken};
 
 use bcast_base::{Bis, EventPdus};
@@ -75,7 +78,7 @@ impl Field {
         }
     }
 
-    /// Starts a source of an unframed group with this first event. Nothing is on its air.
+    /// Starts a source with this first event. Nothing is on its air.
     ///
     /// The first refusal that holds is answered: BadGroup where a row of the group check holds by these limits, IdentTwice
     /// where the other source was started with the same address type, SID and Broadcast_ID, be it stopped or not. A
@@ -91,11 +94,10 @@ impl Field {
         requires unbegun { begun_of self.old s ≡ None }
         requires widths { FitsWidths setup.info }
         requires horizon { limits.horizon ≤ 31 }
-        requires unframed { setup.info.framing ≡ 0 }
         requires origin { setup.origin ≤ 2 ^ 48 }
         requires delay { setup.delay < 2 ^ 24 }
         requires first { first < 2 ^ 39 }
-        ensures ok { OnOk result (Starts setup first (source_of self.new s) (begun_of self.new s)) }
+        ensures ok { OnOk result (Starts (configured setup limits.ahead) first (source_of self.new s) (begun_of self.new s)) }
         ensures checked { OnOk result (first_fault limits.horizon setup.info ≡ None) }
         ensures single { OnOk result (is_taken setup.identity (begun_of self.old (1 - s)) ≡ false) }
         ensures others { OnOk result (OthersStay s self.old self.new) }
@@ -149,7 +151,8 @@ impl Field {
         requires own_air { HasOwnAir (source_of self.old s) (begun_of self.old s) }
         ensures ok { OnOk result ((setup : Fixed) (calls : List Call) → Sending setup calls (source_of self.old s) (begun_of self.old s)
             → (event_fault setup calls ≡ None) × Sending setup (performs ∷ calls) (source_of self.new s) (begun_of self.new s)) }
-        ensures stale { IfOk result (λ stale. stale ≡ []) }
+        ensures stale { IfOk result (λ stale. (setup : Fixed) (calls : List Call) (airs : List StreamAir) → Sending setup calls (source_of self.old s) (begun_of self.old s)
+            → AreAirs setup (performs ∷ calls) airs → stale ≡ stale_of setup calls airs) }
         ensures cause { IfErr result (λ fault. (setup : Fixed) (calls : List Call) → Sending setup calls (source_of self.old s) (begun_of self.old s)
             → event_fault setup calls ≡ refused_event fault) }
         ensures left { IfErr result (λ fault. EventLeaves fault (source_of self.old s) (source_of self.new s)) }
@@ -241,7 +244,8 @@ fn perform(
     requires { HasOwnAir place.old since.old }
     ensures ok { OnOk result ((setup : Fixed) (calls : List Call) → Sending setup calls place.old since.old
         → (event_fault setup calls ≡ None) × Sending setup (performs ∷ calls) place.new since.new) }
-    ensures stale { IfOk result (λ stale. stale ≡ []) }
+    ensures stale { IfOk result (λ stale. (setup : Fixed) (calls : List Call) (airs : List StreamAir) → Sending setup calls place.old since.old
+        → AreAirs setup (performs ∷ calls) airs → stale ≡ stale_of setup calls airs) }
     ensures cause { IfErr result (λ fault. (setup : Fixed) (calls : List Call) → Sending setup calls place.old since.old
         → event_fault setup calls ≡ refused_event fault) }
     ensures left { IfErr result (λ fault. EventLeaves fault place.old place.new) }

@@ -38,7 +38,7 @@ rest_of text left' front over read =
 took_as : (starts ends : List Account) (us vs : List SinkUnit) → us ≡ vs → Took starts ends us → Took starts ends vs
 took_as starts ends us vs e t = let P : List SinkUnit → Type 0 = λ u. Took starts ends u in subst P e t
 
-whole_at : (text : List ℕ) (starts ends : List Account) (left' kept kept' : Option (List ℕ)) (status : Status) → Ended status starts ends (Some text) left' kept kept' → IsWhole status
+whole_at : (text : List ℕ) (starts ends : List Account) (left' kept kept' : Option (List ℕ)) (status : Status) → Ended airs_of status starts ends (Some text) left' kept kept' → IsWhole status
     → Took starts ends (units_of airs_of starts (lines_of true text))
 whole_at text starts ends left' kept kept' statuses.Done d whole =
     let r = rest_of text left' d.text true d.read in
@@ -54,16 +54,16 @@ whole_at text starts ends left' kept kept' statuses.OutletFault d whole = absurd
 whole_at text starts ends left' kept kept' statuses.Memory d whole = absurd whole
 
 left_at : (status : Status) (text : List ℕ) (starts ends : List Account) (left left' kept kept' : Option (List ℕ)) → left ≡ Some text
-    → Ended status starts ends left left' kept kept' → Ended status starts ends (Some text) left' kept kept'
-left_at status text starts ends left left' kept kept' is e = let P : Option (List ℕ) → Type 0 = λ l. Ended status starts ends l left' kept kept' in subst P is e
+    → Ended airs_of status starts ends left left' kept kept' → Ended airs_of status starts ends (Some text) left' kept kept'
+left_at status text starts ends left left' kept kept' is e = let P : Option (List ℕ) → Type 0 = λ l. Ended airs_of status starts ends l left' kept kept' in subst P is e
 
-pub ended_whole : (text : List ℕ) (starts ends : List Account) (left left' kept kept' : Option (List ℕ)) (status : Status) → Ended status starts ends left left' kept kept'
+pub ended_whole : (text : List ℕ) (starts ends : List Account) (left left' kept kept' : Option (List ℕ)) (status : Status) → Ended airs_of status starts ends left left' kept kept'
     → left ≡ Some text → IsWhole status → Took starts ends (units_of airs_of starts (lines_of true text))
 ended_whole text starts ends left left' kept kept' status e is whole =
     whole_at text starts ends left' kept kept' status (left_at status text starts ends left left' kept kept' is e) whole
 
-pub ended_ahead : (status : Status) (starts ends : List Account) (left left' kept kept' : Option (List ℕ)) → Ended status starts ends left left' kept kept'
-    → AheadOf status starts ends left left' kept kept'
+pub ended_ahead : (status : Status) (starts ends : List Account) (left left' kept kept' : Option (List ℕ)) → Ended airs_of status starts ends left left' kept kept'
+    → AheadOf airs_of status starts ends left left' kept kept'
 ended_ahead statuses.Done starts ends left left' kept kept' e = tt
 ended_ahead (statuses.Refused line reason) starts ends left left' kept kept' e = e.1
 ended_ahead statuses.Usage starts ends left left' kept kept' e = tt
@@ -72,9 +72,9 @@ ended_ahead statuses.WriteFault starts ends left left' kept kept' e = e.1
 ended_ahead statuses.OutletFault starts ends left left' kept kept' e = tt
 ended_ahead statuses.Memory starts ends left left' kept kept' e = tt
 
-pub ended_at : (status other : Status) (starts ends : List Account) (left left' kept kept' : Option (List ℕ)) → Ended status starts ends left left' kept kept'
-    → status ≡ other → Ended other starts ends left left' kept kept'
-ended_at status other starts ends left left' kept kept' e is = let P : Status → Type 0 = λ s. Ended s starts ends left left' kept kept' in subst P is e
+pub ended_at : (status other : Status) (starts ends : List Account) (left left' kept kept' : Option (List ℕ)) → Ended airs_of status starts ends left left' kept kept'
+    → status ≡ other → Ended airs_of other starts ends left left' kept kept'
+ended_at status other starts ends left left' kept kept' e is = let P : Status → Type 0 = λ s. Ended airs_of s starts ends left left' kept kept' in subst P is e
 
 -- ---- the box that failed
 
@@ -110,7 +110,7 @@ valid_here unit bis time octets rest is =
     ap (λ b. onto_valid b unit.unit (valid_for unit.box rest)) (eq-eqb unit.box unit.box refl)
     ∙ ap (λ u. onto_valid true u (valid_for unit.box rest)) is
 
-failure : (text : List ℕ) (starts ends : List Account) (left' kept kept' : Option (List ℕ)) → OutletFaulted starts ends (Some text) left' kept kept'
+failure : (text : List ℕ) (starts ends : List Account) (left' kept kept' : Option (List ℕ)) → OutletFaulted airs_of starts ends (Some text) left' kept kept'
     → Failure starts ends (units_of airs_of starts (lines_of true text))
 failure text starts ends left' kept kept' o =
     let f = o.fails in
@@ -144,7 +144,8 @@ failure text starts ends left' kept kept' o =
       rest = valid_for place (f.rest ++ more.0);
       split = ap (valid_for place) all
           ∙ valid_append place us (f.done ++ (f.unit ∷ (f.rest ++ more.0)))
-          ∙ ap (λ units. valid_for place us ++ units) (valid_append place f.done (f.unit ∷ (f.rest ++ more.0)) ∙ ap (λ units. valid_for place f.done ++ units) (valid_here f.unit f.bis f.time f.octets (f.rest ++ more.0) f.is_valid))
+          ∙ ap (λ units. valid_for place us ++ units) (valid_append place f.done (f.unit ∷ (f.rest ++ more.0)) ∙ ap (λ units. valid_for place f.done ++ units)
+          (valid_here f.unit f.bis f.time f.octets (f.rest ++ more.0) f.is_valid))
           ∙ sym (append_assoc (valid_for place us) (valid_for place f.done) (f.octets ∷ valid_for place (f.rest ++ more.0)));
       no_room = λ sound fits.
           let P : Account → Type 0 = λ a. IsTrue a.is_sound → ¬ Fits f.octets a in
@@ -171,7 +172,7 @@ no_room starts ends units f room =
 -- ---- completeness
 
 module _ (text : List ℕ) (starts ends : List Account) (left' kept kept' : Option (List ℕ)) (read read' write write' : ℕ) where
-  through_at : (status : Status) → Ended status starts ends (Some text) left' kept kept'
+  through_at : (status : Status) → Ended airs_of status starts ends (Some text) left' kept kept'
       → (status ≡ statuses.ReadFault → Rose read read') → (status ≡ statuses.WriteFault → Rose write write')
       → transcript_end airs_of starts (lines_of true text) ≡ through
       → ¬ Rose read read' → ¬ Rose write write' → NoneFailed starts ends → IsDoneOrMemory status
@@ -187,14 +188,14 @@ module _ (text : List ℕ) (starts ends : List Account) (left' kept kept' : Opti
       absurd (no_failure starts ends (units_of airs_of starts (lines_of true text)) (failure text starts ends left' kept kept' e) none)
   through_at statuses.Memory e r w t no_read no_write none = tt
 
-  room_at : (status : Status) → Ended status starts ends (Some text) left' kept kept' → RoomForText starts text → status ≢ statuses.OutletFault
+  room_at : (status : Status) → Ended airs_of status starts ends (Some text) left' kept kept' → RoomForText airs_of starts text → status ≢ statuses.OutletFault
   room_at status e room is =
       no_room starts ends (units_of airs_of starts (lines_of true text))
       (failure text starts ends left' kept kept' (ended_at status statuses.OutletFault starts ends (Some text) left' kept kept' e is)) room
 
-  no_fault_at : (status : Status) → Ended status starts ends (Some text) left' kept kept'
+  no_fault_at : (status : Status) → Ended airs_of status starts ends (Some text) left' kept kept'
       → (status ≡ statuses.ReadFault → Rose read read') → (status ≡ statuses.WriteFault → Rose write write')
-      → RoomForText starts text → ¬ Rose read read' → ¬ Rose write write' → IsNoFault status
+      → RoomForText airs_of starts text → ¬ Rose read read' → ¬ Rose write write' → IsNoFault status
   no_fault_at statuses.Done e r w room no_read no_write = tt
   no_fault_at (statuses.Refused line reason) e r w room no_read no_write = tt
   no_fault_at statuses.Usage e r w room no_read no_write = absurd e
@@ -204,9 +205,9 @@ module _ (text : List ℕ) (starts ends : List Account) (left' kept kept' : Opti
   no_fault_at statuses.Memory e r w room no_read no_write = tt
 
 pub ended_complete : (text : List ℕ) (starts ends : List Account) (left left' kept kept' : Option (List ℕ)) (read read' write write' : ℕ) (status : Status)
-    → Ended status starts ends left left' kept kept' → left ≡ Some text
+    → Ended airs_of status starts ends left left' kept kept' → left ≡ Some text
     → (status ≡ statuses.ReadFault → Rose read read') → (status ≡ statuses.WriteFault → Rose write write')
-    → Complete text starts ends read read' write write' status
+    → Complete airs_of text starts ends read read' write write' status
 ended_complete text starts ends left left' kept kept' read read' write write' status e is r w =
     let at = left_at status text starts ends left left' kept kept' is e in
     record {

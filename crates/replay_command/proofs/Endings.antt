@@ -165,7 +165,7 @@ front_none kept xs = AppendsFront-nothing kept kept xs (keeps_same kept)
 -- ---- the end of the text, and a fault of the source
 
 pub ends_done : (starts : List Account) (history : List TextLine) (left left' kept kept' : Option (List ℕ)) (machine : Machine) (accounts : List Account)
-    → TextIs left left' history true → RunTo starts history kept kept' machine accounts → is_over (steps_of history) ≡ true → Done starts accounts left left' kept kept'
+    → TextIs left left' history true → RunTo starts history kept kept' machine accounts → is_over (steps_of history) ≡ true → Done airs_of starts accounts left left' kept kept'
 ends_done starts history left left' kept kept' machine accounts t r over = record {
   text = t.text;
   read = t.read;
@@ -176,7 +176,7 @@ ends_done starts history left left' kept kept' machine accounts t r over = recor
 }
 
 pub ends_faulted : (starts : List Account) (history : List TextLine) (left left' kept kept' : Option (List ℕ)) (machine : Machine) (accounts : List Account)
-    → TextIs left left' history false → RunTo starts history kept kept' machine accounts → ReadFaulted starts accounts left left' kept kept'
+    → TextIs left left' history false → RunTo starts history kept kept' machine accounts → ReadFaulted airs_of starts accounts left left' kept kept'
 ends_faulted starts history left left' kept kept' machine accounts t r = record {
   text = t.text;
   read = t.read;
@@ -186,12 +186,12 @@ ends_faulted starts history left left' kept kept' machine accounts t r = record 
 }
 
 -- nothing was read, for want of memory
-pub ends_at_once : (starts : List Account) (left kept : Option (List ℕ)) → Broken starts starts left left kept kept
+pub ends_at_once : (starts : List Account) (left kept : Option (List ℕ)) → Broken airs_of starts starts left left kept kept
 ends_at_once starts left kept = record {
   text = [];
   over = false;
   read = record { consumed = Consumes-nothing left; at_end = λ over. absurd (false≢true over) };
-  written = front_none kept (brought_by false starts []);
+  written = front_none kept (brought_by airs_of false starts []);
   boxes = inl (record { done = []; rest = units_of airs_of starts (lines_of false []); split = refl; boxes = took_all starts [] });
 }
 
@@ -216,7 +216,7 @@ module _ (starts : List Account) (history : List TextLine) (left left' kept mid 
       let f = follows refl in
       ap (λ b. lines_of b (t.text ++ more)) f.0 ∙ ap (λ rest. lines_of true (t.text ++ rest)) f.1 ∙ ap (lines_of true) (append-nil t.text)
 
-  broken_no_end : AppendsFront mid kept' (refusal_line number NoEnd) → Broken starts accounts left left' kept kept'
+  broken_no_end : AppendsFront mid kept' (refusal_line number NoEnd) → Broken airs_of starts accounts left left' kept kept'
   broken_no_end f = record {
     text = t.text;
     over = true;
@@ -230,7 +230,7 @@ module _ (starts : List Account) (history : List TextLine) (left left' kept mid 
     });
   }
 
-  pub ends_no_end : (status : Status) → Refuses number NoEnd mid kept' status → Ended status starts accounts left left' kept kept'
+  pub ends_no_end : (status : Status) → Refuses number NoEnd mid kept' status → Ended airs_of status starts accounts left left' kept kept'
   ends_no_end statuses.Done f = absurd f
   ends_no_end statuses.Usage f = absurd f
   ends_no_end statuses.ReadFault f = absurd f
@@ -249,7 +249,7 @@ module _ (starts : List Account) (history : List TextLine) (left left' kept mid 
     }),
   )
   ends_no_end (statuses.Refused line why) f =
-      let P : Status → Type 0 = λ s. Ended s starts accounts left left' kept kept' in
+      let P : Status → Type 0 = λ s. Ended airs_of s starts accounts left left' kept kept' in
       let at_line : P (statuses.Refused number NoEnd) = (
         record {
           text = t.text;

@@ -4,4 +4,5 @@ mod Endings
 mod LineEndings
 mod LineSteps
 mod Completing
+mod OtherAirs
 mod Promises

@@ -38,7 +38,7 @@ Brings starts history line octets =
 -- whatever comes after the line, the boxes took a front of the units
 abbrev CutFor : List Account → List TextLine → TextLine → List Account → Type 0
 CutFor starts history line accounts =
-    (later : List TextLine) → BoxesCut starts accounts (reverse history ++ line ∷ later) ⊎ BoxFailed starts accounts (reverse history ++ line ∷ later)
+    (later : List TextLine) → BoxesCut airs_of starts accounts (reverse history ++ line ∷ later) ⊎ BoxFailed airs_of starts accounts (reverse history ++ line ∷ later)
 
 -- ---- what a line brings
 
@@ -172,7 +172,7 @@ took_before starts accounts history accepted b =
     let P : List SinkUnit → Type 0 = λ u. Took starts accounts u in subst P (sym (units_all starts history accepted)) (took_history starts accounts history b)
 
 at_refused : (starts accounts : List Account) (history : List TextLine) (line : TextLine) (reason : Refusal) → Accepted (rules_of airs_of starts) history
-    → refusal_at starts history line ≡ Some reason → BoxesStand starts (steps_of history) accounts → BoxesAt starts accounts history line
+    → refusal_at starts history line ≡ Some reason → BoxesStand starts (steps_of history) accounts → BoxesAt airs_of starts accounts history line
 at_refused starts accounts history line reason accepted because b = record {
   accounts = accounts;
   before = took_before starts accounts history accepted b;
@@ -186,7 +186,7 @@ at_refused starts accounts history line reason accepted because b = record {
 
 at_front : (starts before after : List Account) (history : List TextLine) (line : TextLine) → Accepted (rules_of airs_of starts) history
     → refusal_at starts history line ≡ None → BoxesStand starts (steps_of history) before → TookFront (handed_on airs_of history line) before after
-    → BoxesAt starts after history line
+    → BoxesAt airs_of starts after history line
 at_front starts before after history line accepted none b front = record {
   accounts = before;
   before = took_before starts before history accepted b;
@@ -197,7 +197,7 @@ at_front starts before after history line accepted none b front = record {
 
 -- all units of the line were taken
 at_after : (starts accounts : List Account) (history : List TextLine) (line : TextLine) → Accepted (rules_of airs_of starts) history
-    → refusal_at starts history line ≡ None → BoxesStand starts (steps_of (line ∷ history)) accounts → BoxesAt starts accounts history line
+    → refusal_at starts history line ≡ None → BoxesStand starts (steps_of (line ∷ history)) accounts → BoxesAt airs_of starts accounts history line
 at_after starts accounts history line accepted none b =
     let all = handed_up airs_of (steps_of history) in
     let here = handed_on airs_of history line in
@@ -217,7 +217,7 @@ at_after starts accounts history line accepted none b =
 -- ---- a write that was cut short
 
 brought_front : (over : Bool) (starts : List Account) (kept kept' : Option (List ℕ)) (text : List ℕ) (octets rest : List ℕ)
-    → out_of airs_of starts (lines_of over text) ≡ octets ++ rest → AppendsFront kept kept' octets → AppendsFront kept kept' (brought_by over starts text)
+    → out_of airs_of starts (lines_of over text) ≡ octets ++ rest → AppendsFront kept kept' octets → AppendsFront kept kept' (brought_by airs_of over starts text)
 brought_front true starts kept kept' text octets rest is f =
     let last = last_line_after (end_after airs_of starts (lines_of true text)) (has_end (lines_of true text)) (length (lines_of true text) + 1) in
     let P : List ℕ → Type 0 = λ xs. AppendsFront kept kept' xs in
@@ -236,12 +236,12 @@ lines_now left left' history line c =
 pub ends_broken : (starts : List Account) (history : List TextLine) (line : TextLine) (left left' kept mid kept' : Option (List ℕ)) (accounts : List Account) (octets : List ℕ)
     → Comes left left' history line → Accepted (rules_of airs_of starts) history → Appends kept mid (brought (rules_of airs_of starts) history)
     → Brings starts history line octets → CutFor starts history line accounts → AppendsFront mid kept' octets
-    → Broken starts accounts left left' kept kept'
+    → Broken airs_of starts accounts left left' kept kept'
 ends_broken starts history line left left' kept mid kept' accounts octets c accepted written brings cut f =
     let now = lines_now left left' history line c in
     let more = brings now.0 in
     let so_far = brought (rules_of airs_of starts) history in
-    let P : List TextLine → Type 0 = λ ls. BoxesCut starts accounts ls ⊎ BoxFailed starts accounts ls in
+    let P : List TextLine → Type 0 = λ ls. BoxesCut airs_of starts accounts ls ⊎ BoxFailed airs_of starts accounts ls in
     record {
       text = c.text;
       over = c.over;
@@ -254,8 +254,8 @@ ends_broken starts history line left left' kept mid kept' accounts octets c acce
 
 ends_cut : (starts : List Account) (history : List TextLine) (line : TextLine) (left left' kept mid kept' : Option (List ℕ)) (accounts : List Account) (octets : List ℕ) (number : ℕ)
     → number ≡ length history + 1 → Comes left left' history line → Accepted (rules_of airs_of starts) history → Appends kept mid (brought (rules_of airs_of starts) history)
-    → Brings starts history line octets → BoxesAt starts accounts history line → AppendsShort mid kept' octets
-    → CutAt starts accounts left left' kept kept' number
+    → Brings starts history line octets → BoxesAt airs_of starts accounts history line → AppendsShort mid kept' octets
+    → CutAt airs_of starts accounts left left' kept kept' number
 ends_cut starts history line left left' kept mid kept' accounts octets number is_next c accepted written brings at s =
     let now = lines_now left left' history line c in
     let more = brings [] in
@@ -275,15 +275,25 @@ ends_cut starts history line left left' kept mid kept' accounts octets number is
       front = so_far ++ s.front;
       written = Appends-then kept mid kept' so_far s.front written s.appended;
       not_before = omega (arith, ap length (out_all starts history accepted), length-append so_far s.front);
-      longer = omega (arith, ap length with_line, length-append so_far (octets ++ more.0), length-append octets more.0, length-append so_far s.front, ap length s.whole, length-append s.front s.rest, s.some);
+      longer = omega (
+        arith,
+        ap length with_line,
+        length-append so_far
+            (octets ++ more.0),
+        length-append octets more.0,
+        length-append so_far s.front,
+        ap length s.whole,
+        length-append s.front s.rest,
+        s.some,
+      );
       boxes = at;
     }
 
 ends_write : (starts : List Account) (history : List TextLine) (line : TextLine) (left left' kept mid kept' : Option (List ℕ)) (accounts : List Account) (octets : List ℕ) (number : ℕ)
     → number ≡ length history + 1 → Comes left left' history line → ReadsAhead left left' number
     → Accepted (rules_of airs_of starts) history → Appends kept mid (brought (rules_of airs_of starts) history)
-    → Brings starts history line octets → CutFor starts history line accounts → BoxesAt starts accounts history line → AppendsShort mid kept' octets
-    → Ended statuses.WriteFault starts accounts left left' kept kept'
+    → Brings starts history line octets → CutFor starts history line accounts → BoxesAt airs_of starts accounts history line → AppendsShort mid kept' octets
+    → Ended airs_of statuses.WriteFault starts accounts left left' kept kept'
 ends_write starts history line left left' kept mid kept' accounts octets number is_next c ahead accepted written brings cut at s = (
   ends_broken starts history line left left' kept mid kept' accounts octets c accepted written brings cut (front_of_short mid kept' octets s),
   inl (number, ends_cut starts history line left left' kept mid kept' accounts octets number is_next c accepted written brings at s, ahead),
@@ -295,7 +305,7 @@ pub ends_refusal : (starts : List Account) (history : List TextLine) (line : Tex
     → number ≡ length history + 1 → Comes left left' history line → ReadsAhead left left' number
     → Accepted (rules_of airs_of starts) history → Appends kept mid (brought (rules_of airs_of starts) history) → BoxesStand starts (steps_of history) accounts
     → refusal_at starts history line ≡ Some reason
-    → (status : Status) → Refuses number reason mid kept' status → Ended status starts accounts left left' kept kept'
+    → (status : Status) → Refuses number reason mid kept' status → Ended airs_of status starts accounts left left' kept kept'
 ends_refusal starts history line left left' kept mid kept' accounts number reason is_next c ahead accepted written b because statuses.Done f = absurd f
 ends_refusal starts history line left left' kept mid kept' accounts number reason is_next c ahead accepted written b because statuses.Usage f = absurd f
 ends_refusal starts history line left left' kept mid kept' accounts number reason is_next c ahead accepted written b because statuses.ReadFault f = absurd f
@@ -309,7 +319,7 @@ ends_refusal starts history line left left' kept mid kept' accounts number reaso
     (at_refused starts accounts history line reason accepted because b) f
 ends_refusal starts history line left left' kept mid kept' accounts number reason is_next c ahead accepted written b because (statuses.Refused at why) f =
     let so_far = brought (rules_of airs_of starts) history in
-    let P : Status → Type 0 = λ s. Ended s starts accounts left left' kept kept' in
+    let P : Status → Type 0 = λ s. Ended airs_of s starts accounts left left' kept kept' in
     let at_line : P (statuses.Refused number reason) = (
       record {
         text = c.text;
@@ -339,7 +349,8 @@ ends_refusal starts history line left left' kept mid kept' accounts number reaso
 -- ---- a step
 
 -- what was put after a line that is accepted
-pub step_put : (starts : List Account) (history : List TextLine) (line : TextLine) (left left' kept mid kept' : Option (List ℕ)) (machine : Machine) (accounts : List Account) (number : ℕ) (octets : List ℕ)
+pub step_put : (starts : List Account) (history : List TextLine) (line : TextLine) (left left' kept mid kept' : Option (List ℕ)) (machine : Machine) (accounts : List Account) (number : ℕ)
+    (octets : List ℕ)
     → number ≡ length history + 1 → Comes left left' history line → ReadsAhead left left' number
     → Accepted (rules_of airs_of starts) history → Appends kept mid (brought (rules_of airs_of starts) history)
     → refusal_at starts history line ≡ None → LinesStand starts (line ∷ history) machine accounts → octets ≡ output_at starts history line
@@ -378,16 +389,16 @@ module _ (starts : List Account) (history : List TextLine) (line : TextLine) (le
       subst P (sym f.lines) (brings_units starts history line f.done (f.unit ∷ f.rest) accepted none f.split)
 
   pub outlet_put : (result : Option Status) → Puts told mid kept' result
-      → (status : Status) → result ≡ Some status ⊎ ((result ≡ None) × (status ≡ statuses.OutletFault)) → Ended status starts after left left' kept kept'
+      → (status : Status) → result ≡ Some status ⊎ ((result ≡ None) × (status ≡ statuses.OutletFault)) → Ended airs_of status starts after left left' kept kept'
   outlet_put result p status how = elim how [
     | inl is ↦ stopped status (let P : Option Status → Type 0 = λ r. Puts told mid kept' r in subst P is p)
     | inr is ↦
         let P : Option Status → Type 0 = λ r. Puts told mid kept' r in
-        let Q : Status → Type 0 = λ s. Ended s starts after left left' kept kept' in
+        let Q : Status → Type 0 = λ s. Ended airs_of s starts after left left' kept kept' in
         subst Q (sym is.1) (faulted (subst P is.0 p))
   ]
     where
-      faulted : Appends mid kept' told → OutletFaulted starts after left left' kept kept'
+      faulted : Appends mid kept' told → OutletFaulted airs_of starts after left left' kept kept'
       faulted p = record {
         earlier = history;
         line = line;
@@ -413,7 +424,7 @@ module _ (starts : List Account) (history : List TextLine) (line : TextLine) (le
         written = Appends-then kept mid kept' (brought (rules_of airs_of starts) history) told written p;
       }
 
-      stopped : (status : Status) → Puts told mid kept' (Some status) → Ended status starts after left left' kept kept'
+      stopped : (status : Status) → Puts told mid kept' (Some status) → Ended airs_of status starts after left left' kept kept'
       stopped statuses.WriteFault p =
           ends_write starts history line left left' kept mid kept' after told number is_next c ahead accepted written
           brings_told (cut_failed starts before after history line [] told accepted none b f)
@@ -432,7 +443,7 @@ pub step_memory : (starts : List Account) (history : List TextLine) (line : Text
     → Comes left left' history line → Accepted (rules_of airs_of starts) history → Appends kept mid (brought (rules_of airs_of starts) history)
     → BoxesStand starts (steps_of history) before
     → (after ≡ before) ⊎ ((refusal_at starts history line ≡ None) × CutShort (handed_on airs_of history line) before after)
-    → Broken starts after left left' kept mid
+    → Broken airs_of starts after left left' kept mid
 step_memory starts history line left left' kept mid before after c accepted written b how =
     ends_broken starts history line left left' kept mid mid after [] c accepted written (brings_nothing starts history line) (cut how) (front_none mid [])
   where

@@ -41,25 +41,26 @@ module _ (starts : List Account) (history : List TextLine) (line : TextLine) (le
       step_put starts history line left left' kept mid kept' new after number told is_next comes ahead run.accepted run.written m.0 m.1 m.2 put p
 
   pub run_refused : (reason : Refusal) (kept' : Option (List ℕ)) (status : Status) → result ≡ Err (Refused reason) → Refuses number reason mid kept' status
-      → Ended status starts after left left' kept kept'
+      → Ended airs_of status starts after left left' kept kept'
   run_refused reason kept' status is f =
       let m = met (Err (Refused reason)) is in
-      let P : List Account → Type 0 = λ a. Ended status starts a left left' kept kept' in
+      let P : List Account → Type 0 = λ a. Ended airs_of status starts a left left' kept kept' in
       subst P (sym m.2) (ends_refusal starts history line left left' kept mid kept' before number reason is_next comes ahead run.accepted run.written run.stands.boxes m.0 status f)
 
   pub run_failed : (kept' : Option (List ℕ)) (put : Option Status) → result ≡ Err OutletFault → Puts told mid kept' put
-      → (status : Status) → (put ≡ Some status) → Ended status starts after left left' kept kept'
+      → (status : Status) → (put ≡ Some status) → Ended airs_of status starts after left left' kept kept'
   run_failed kept' put is p status why =
       let m = met (Err OutletFault) is in
       outlet_put starts history line left left' kept mid kept' before after number told is_next comes ahead run.accepted run.written run.stands.boxes m.0 m.1 put p status (inl why)
 
   pub run_faulted : (kept' : Option (List ℕ)) (put : Option Status) → result ≡ Err OutletFault → Puts told mid kept' put
-      → (put ≡ None) → Ended statuses.OutletFault starts after left left' kept kept'
+      → (put ≡ None) → Ended airs_of statuses.OutletFault starts after left left' kept kept'
   run_faulted kept' put is p why =
       let m = met (Err OutletFault) is in
-      outlet_put starts history line left left' kept mid kept' before after number told is_next comes ahead run.accepted run.written run.stands.boxes m.0 m.1 put p statuses.OutletFault (inr (why, refl))
+      outlet_put starts history line left left' kept mid kept' before after number told is_next comes ahead run.accepted run.written run.stands.boxes m.0 m.1 put p statuses.OutletFault
+      (inr (why, refl))
 
-  pub run_memory : result ≡ Err Memory → Broken starts after left left' kept mid
+  pub run_memory : result ≡ Err Memory → Broken airs_of starts after left left' kept mid
   run_memory is =
       step_memory starts history line left left' kept mid before after comes run.accepted run.written run.stands.boxes (met (Err Memory) is)
 
@@ -74,13 +75,13 @@ ahead_at left left' m n e a = let P : ℕ → Type 0 = λ x. ReadsAhead left lef
 module _ (starts : List Account) (history : List TextLine) (left left' kept mid kept' : Option (List ℕ)) (machine : Machine) (accounts : List Account) (number : ℕ) (reader : Reading)
     (is_next : number ≡ length history + 1) (run : RunTo starts history kept mid machine accounts) where
   pub line_past : (status : Status) → NextIs left left' history reader (Ok TextTooLong) → Refuses number refusals.TextTooLong mid kept' status
-      → Ended status starts accounts left left' kept kept'
+      → Ended airs_of status starts accounts left left' kept kept'
   line_past status n f =
       ends_refusal starts history past left left' kept mid kept' accounts number refusals.TextTooLong is_next n.0 (ahead_at left left' (length history + 1) number (sym is_next) n.1)
       run.accepted run.written run.stands.boxes refl status f
 
   pub line_long : (status : Status) → NextIs left left' history reader (Ok LineTooLong) → Refuses number refusals.LineTooLong mid kept' status
-      → Ended status starts accounts left left' kept kept'
+      → Ended airs_of status starts accounts left left' kept kept'
   line_long status n f =
       ends_refusal starts history too_long left left' kept mid kept' accounts number refusals.LineTooLong is_next (comes_of left left' history too_long reader n)
       (ahead_at left left' (length (too_long ∷ history)) number (omega arith) (ahead_of left left' (too_long ∷ history) reader n))
@@ -133,17 +134,20 @@ bound_none reader new = let P : Reading → Type 0 = λ r. 1 + lines_left r ≤ 
 
 pub running_more : (starts before after : List Account) (left mid left' kept put kept' : Option (List ℕ)) (number next : ℕ) (old new : Reading) (machine machine' : Machine) (result : Option Status)
     → Running starts before left mid kept put number old machine → next ≡ number + 1 → result ≡ None
-    → ((lines : List TextLine) → number ≡ length lines + 1 → ReadTo left mid lines old → RunTo starts lines kept put machine before → LineRuns starts lines left left' kept kept' new machine' after result)
+    → ((lines : List TextLine) → number ≡ length lines + 1 → ReadTo left mid lines old → RunTo starts lines kept put machine before
+    → LineRuns starts lines left left' kept kept' new machine' after result)
     → Running starts after left left' kept kept' next new machine'
 running_more starts before after left mid left' kept put kept' number next old new machine machine' result r is none runs =
     let P : Option Status → Type 0 = λ x. LineRuns starts r.lines left left' kept kept' new machine' after x in
     let m = subst P none (runs r.lines r.is_next r.read r.run) in
     record { lines = m.0 ∷ r.lines; is_next = omega (arith, r.is_next); read = m.1; run = m.2 }
 
-pub running_ends : (starts before after : List Account) (left mid left' kept put kept' : Option (List ℕ)) (number : ℕ) (old new : Reading) (machine machine' : Machine) (result : Option Status) (status : Status)
+pub running_ends : (starts before after : List Account) (left mid left' kept put kept' : Option (List ℕ)) (number : ℕ) (old new : Reading) (machine machine' : Machine)
+    (result : Option Status) (status : Status)
     → Running starts before left mid kept put number old machine → result ≡ Some status
-    → ((lines : List TextLine) → number ≡ length lines + 1 → ReadTo left mid lines old → RunTo starts lines kept put machine before → LineRuns starts lines left left' kept kept' new machine' after result)
-    → Ended status starts after left left' kept kept'
+    → ((lines : List TextLine) → number ≡ length lines + 1 → ReadTo left mid lines old → RunTo starts lines kept put machine before
+    → LineRuns starts lines left left' kept kept' new machine' after result)
+    → Ended airs_of status starts after left left' kept kept'
 running_ends starts before after left mid left' kept put kept' number old new machine machine' result status r some runs =
     let P : Option Status → Type 0 = λ x. LineRuns starts r.lines left left' kept kept' new machine' after x in
     subst P some (runs r.lines r.is_next r.read r.run)

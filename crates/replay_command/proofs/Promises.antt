@@ -1,58 +1,101 @@
 -- What is promised of a call, from what its run did.
-use Rattle.std.proofs.Common.{◌≡◌, ◌≢◌, ℕ, List, [], refl}
+use Rattle.std.proofs.Common.{◌≡◌, ◌≢◌, ◌⊎◌, ◌∙◌, ℕ, List, refl, sym, subst, inl, inr}
+use Rattle.bcast_io.specs.TextLines.{TextLine}
+use Rattle.unit_outlets.specs.Account.{Account}
+use Rattle.replay_words.specs.declared.mode.Mode.{Mode}
+use Rattle.replay_words.specs.declared.mode.Mode.TheVariants as modes
+use Rattle.replay_command.specs.ByWords.{IsNone, PromisedIn}
 use Rattle.bcast_base.specs.Counts.{Rose}
 use Rattle.replay_command.specs.declared.status.Status.{Status}
 use Rattle.replay_command.specs.declared.status.Status.TheVariants as statuses
-use Rattle.replay_command.specs.Promised.{Promised, Did}
+use Rattle.replay_command.specs.Promised.{Promised, Did, DidOver}
 use Rattle.replay_command.specs.Replayed.{ReadsAtMost, read_limit}
+use Rattle.source_machine.specs.Airs.{airs_of}
+use Rattle.scenario_history.specs.Airs.{MeetAirs}
 use Rattle.scenario_history.specs.Laws.{UnitsLaw, OrderLaw}
+use Rattle.scenario_history.specs.Source.{Airs}
+use Rattle.scenario_history.specs.Transcript.{transcript_of}
 use Rattle.replay_command.specs.World.{World}
 use Rattle.replay_command.proofs.Completing.{ended_at, ended_whole, ended_ahead, ended_complete}
+use Rattle.replay_command.proofs.Endings.{ends_at_once}
+use Rattle.replay_command.proofs.OtherAirs.{Same, ahead_as, complete_as, ended_as, took_text_as}
 use Rattle.replay_command.proofs.ReadingOn.{none_within}
 
-module _ {W : Type 0} (words : List W) (old new : World) (status : Status) where
-  did : Did status old new → (other : Status) → status ≡ other → Did other old new
-  did e other is = ended_at status other old.boxes new.boxes old.left new.left old.taken new.taken e is
+-- any airs that meet their relation give the same transcripts
+abbrev pub AllSame : Type 0
+AllSame = (airs : Airs) → MeetAirs airs → Same airs_of airs
 
-  -- the words ask for a replay
-  pub promised_run : words ≡ [] → Did status old new → ReadsAtMost old.left new.left read_limit
+-- what holds of every scenario
+pub record Laws (boxes : List Account) : Type 0 where
+  pub same : AllSame
+  pub meet : MeetAirs airs_of
+  pub units : UnitsLaw boxes
+  pub order : OrderLaw boxes
+
+one_of : (boxes : List Account) → Laws boxes → (airs others : Airs) → MeetAirs airs → MeetAirs others → (lines : List TextLine) → transcript_of airs boxes lines ≡ transcript_of others boxes lines
+one_of boxes laws airs others meets meet_too lines = sym ((laws.same airs meets).octets boxes lines) ∙ (laws.same others meet_too).octets boxes lines
+
+module _ (old new : World) (status : Status) where
+  did : AllSame → DidOver airs_of status old new → (other : Status) → status ≡ other → Did other old new
+  did same e other is = λ airs meets.
+      ended_as airs_of airs (same airs meets) old.boxes new.boxes old.left new.left old.taken new.taken other
+      (ended_at status other old.boxes new.boxes old.left new.left old.taken new.taken e is)
+
+  pub promised_run : DidOver airs_of status old new → ReadsAtMost old.left new.left read_limit
       → (status ≡ statuses.ReadFault → Rose old.reads new.reads) → (status ≢ statuses.ReadFault → new.reads ≡ old.reads)
       → (status ≡ statuses.WriteFault → Rose old.writes new.writes) → (status ≢ statuses.WriteFault → new.writes ≡ old.writes)
-      → UnitsLaw old.boxes → OrderLaw old.boxes → Promised words old new status
-  promised_run none e within read no_read write no_write units order = record {
-    usage = (λ is. absurd (did e statuses.Usage is), λ some. absurd (some none));
-    done = did e statuses.Done;
-    refused = λ line reason is. did e (statuses.Refused line reason) is;
-    read_fault = λ is. (read is, did e statuses.ReadFault is);
-    write_fault = λ is. (write is, did e statuses.WriteFault is);
-    outlet_fault = did e statuses.OutletFault;
-    memory = did e statuses.Memory;
+      → Laws old.boxes → Promised old new status
+  promised_run e within read no_read write no_write laws = record {
+    no_usage = λ is. ended_at status statuses.Usage old.boxes new.boxes old.left new.left old.taken new.taken e is;
+    done = did laws.same e statuses.Done;
+    refused = λ line reason is. did laws.same e (statuses.Refused line reason) is;
+    read_fault = λ is. (read is, did laws.same e statuses.ReadFault is);
+    write_fault = λ is. (write is, did laws.same e statuses.WriteFault is);
+    outlet_fault = did laws.same e statuses.OutletFault;
+    memory = did laws.same e statuses.Memory;
     no_read_fault = no_read;
     no_write_fault = no_write;
-    boxes = λ text is whole. ended_whole text old.boxes new.boxes old.left new.left old.taken new.taken status e is whole;
-    complete = λ text is none. ended_complete text old.boxes new.boxes old.left new.left old.taken new.taken old.reads new.reads old.writes new.writes status e is read write;
-    reading_ahead = ended_ahead status old.boxes new.boxes old.left new.left old.taken new.taken e;
+    boxes = λ airs meets text is whole.
+        took_text_as airs_of airs (laws.same airs meets) old.boxes new.boxes old.left new.left old.taken new.taken text
+        (ended_whole text old.boxes new.boxes old.left new.left old.taken new.taken status e is whole);
+    complete = λ airs meets text is.
+        complete_as airs_of airs (laws.same airs meets) old.boxes new.boxes old.left new.left old.taken new.taken text old.reads new.reads old.writes new.writes status
+        (ended_complete text old.boxes new.boxes old.left new.left old.taken new.taken old.reads new.reads old.writes new.writes status e is read write);
+    reading_ahead = λ airs meets.
+        ahead_as airs_of airs (laws.same airs meets) old.boxes new.boxes old.left new.left old.taken new.taken status
+        (ended_ahead status old.boxes new.boxes old.left new.left old.taken new.taken e);
     reads_at_most = within;
-    units_law = units;
-    order_law = order;
+    some_airs = (airs_of, laws.meet);
+    one_transcript = one_of old.boxes laws;
+    units_law = laws.units;
+    order_law = laws.order;
   }
 
--- there is a word
-pub promised_usage : {W : Type 0} (words : List W) (old : World) → words ≢ [] → UnitsLaw old.boxes → OrderLaw old.boxes → Promised words old old statuses.Usage
-promised_usage words old some units order = record {
-  usage = (λ is. some, λ is. refl);
-  done = λ is. absurd cc;
-  refused = λ line reason is. absurd cc;
-  read_fault = λ is. absurd cc;
-  write_fault = λ is. absurd cc;
-  outlet_fault = λ is. absurd cc;
-  memory = λ is. absurd cc;
-  no_read_fault = λ other. refl;
-  no_write_fault = λ other. refl;
-  boxes = λ text is whole. absurd whole;
-  complete = λ text is none. absurd (some none);
-  reading_ahead = tt;
-  reads_at_most = none_within old.left;
-  units_law = units;
-  order_law = order;
+-- the call of words that mean replay
+pub in_replay : (mode : Mode) (old new : World) (status : Status) → mode ≡ modes.Replay → Promised old new status → PromisedIn mode old new status
+in_replay mode old new status is promised = record {
+  replay = λ again. promised;
+  usage = λ none. absurd (let P : Mode → Type 0 = λ m. IsNone m in subst P is none);
+}
+
+-- the call of words that ask for nothing
+pub in_none : (mode : Mode) (old : World) (status : Status) → IsNone mode → ((status ≡ statuses.Usage) ⊎ (status ≡ statuses.Memory)) → PromisedIn mode old old status
+in_none mode old status none is = record {
+  replay = λ replays. absurd (let P : Mode → Type 0 = λ m. IsNone m in subst P replays none);
+  usage = λ again. (is, refl);
+}
+
+pub none_of : (mode : Mode) → mode ≢ modes.Replay → IsNone mode
+none_of modes.Replay other = absurd (other refl)
+none_of modes.Migrate other = tt
+none_of modes.Toml other = tt
+none_of (modes.Generate seed events) other = tt
+none_of modes.Usage other = tt
+
+-- memory ran out before the words were read
+pub in_memory : (mode : Mode) (old : World) → Laws old.boxes → PromisedIn mode old old statuses.Memory
+in_memory mode old laws = record {
+  replay = λ replays. promised_run old old statuses.Memory (ends_at_once old.boxes old.left old.taken) (none_within old.left)
+      (λ e. absurd cc) (λ e. refl) (λ e. absurd cc) (λ e. refl) laws;
+  usage = λ none. (inr refl, refl);
 }

@@ -3,8 +3,8 @@ use Rattle.std.specs.Prelude.{ℕ, ◌≡◌, ◌≢◌, ◌<◌, ◌^◌, IsTru
 use Rattle.bcast_io.specs.TextLines.{lines_of}
 use Rattle.unit_outlets.specs.Account.{Account}
 use Rattle.bcast_base.specs.Counts.{Rose}
-use Rattle.source_machine.specs.Airs.{airs_of}
 use Rattle.transcript_text.specs.declared.refusal.Refusal.TheVariants.{NoEnd}
+use Rattle.scenario_history.specs.Source.{Airs}
 use Rattle.scenario_history.specs.Boxes.{SinkUnit, valid_for, with_units}
 use Rattle.line_runs.specs.Runs.{through}
 use Rattle.scenario_history.specs.Transcript.{transcript_end, units_of}
@@ -13,15 +13,15 @@ use Rattle.replay_command.specs.declared.status.Status.TheVariants as statuses
 use Rattle.replay_command.specs.Replayed.{Done, RefusedAt, ReadFaulted, Broken, OutletFaulted, ReadsAhead, WriteCut}
 
 -- what a call did that ended so
-abbrev pub Ended : Status → List Account → List Account → Option (List ℕ) → Option (List ℕ) → Option (List ℕ) → Option (List ℕ) → Type 0
-Ended statuses.Done starts ends left left' kept kept' = Done starts ends left left' kept kept'
-Ended (statuses.Refused line reason) starts ends left left' kept kept' =
-    RefusedAt starts ends left left' kept kept' line reason × (reason ≢ NoEnd → ReadsAhead left left' line)
-Ended statuses.Usage starts ends left left' kept kept' = ⊥
-Ended statuses.ReadFault starts ends left left' kept kept' = ReadFaulted starts ends left left' kept kept'
-Ended statuses.WriteFault starts ends left left' kept kept' = Broken starts ends left left' kept kept' × WriteCut starts ends left left' kept kept'
-Ended statuses.OutletFault starts ends left left' kept kept' = OutletFaulted starts ends left left' kept kept'
-Ended statuses.Memory starts ends left left' kept kept' = Broken starts ends left left' kept kept'
+abbrev pub Ended : Airs → Status → List Account → List Account → Option (List ℕ) → Option (List ℕ) → Option (List ℕ) → Option (List ℕ) → Type 0
+Ended airs statuses.Done starts ends left left' kept kept' = Done airs starts ends left left' kept kept'
+Ended airs (statuses.Refused line reason) starts ends left left' kept kept' =
+    RefusedAt airs starts ends left left' kept kept' line reason × (reason ≢ NoEnd → ReadsAhead left left' line)
+Ended airs statuses.Usage starts ends left left' kept kept' = ⊥
+Ended airs statuses.ReadFault starts ends left left' kept kept' = ReadFaulted airs starts ends left left' kept kept'
+Ended airs statuses.WriteFault starts ends left left' kept kept' = Broken airs starts ends left left' kept kept' × WriteCut airs starts ends left left' kept kept'
+Ended airs statuses.OutletFault starts ends left left' kept kept' = OutletFaulted airs starts ends left left' kept kept'
+Ended airs statuses.Memory starts ends left left' kept kept' = Broken airs starts ends left left' kept kept'
 
 -- the call ended by itself: no fault of the outside came
 abbrev pub IsDoneOrMemory : Status → Type 0
@@ -43,10 +43,10 @@ IsWhole _ = ⊥
 
 -- At most so many octets were read past the end of the line of a refusal other than NoEnd, and past that in whose octets
 -- a write was cut. What an outlet fault says of the line of its unit has the same.
-abbrev pub AheadOf : Status → List Account → List Account → Option (List ℕ) → Option (List ℕ) → Option (List ℕ) → Option (List ℕ) → Type 0
-AheadOf (statuses.Refused line reason) starts ends left left' kept kept' = reason ≢ NoEnd → ReadsAhead left left' line
-AheadOf statuses.WriteFault starts ends left left' kept kept' = WriteCut starts ends left left' kept kept'
-AheadOf _ starts ends left left' kept kept' = Unit {0}
+abbrev pub AheadOf : Airs → Status → List Account → List Account → Option (List ℕ) → Option (List ℕ) → Option (List ℕ) → Option (List ℕ) → Type 0
+AheadOf airs (statuses.Refused line reason) starts ends left left' kept kept' = reason ≢ NoEnd → ReadsAhead left left' line
+AheadOf airs statuses.WriteFault starts ends left left' kept kept' = WriteCut airs starts ends left left' kept kept'
+AheadOf airs _ starts ends left left' kept kept' = Unit {0}
 
 -- no box counted a fault, and none stands at the last number of its count
 abbrev pub NoneFailed : List Account → List Account → Type 0
@@ -64,13 +64,13 @@ RoomFor starts units =
     → IsTrue account.is_sound × Holds (with_units account (valid_for box units))
 
 -- each box has room for the valid units of a text
-abbrev pub RoomForText : List Account → List ℕ → Type 0
-RoomForText starts text = RoomFor starts (units_of airs_of starts (lines_of true text))
+abbrev pub RoomForText : Airs → List Account → List ℕ → Type 0
+RoomForText airs starts text = RoomFor starts (units_of airs starts (lines_of true text))
 
 -- Which statuses come for this text, by what became of the counts of the source (`read`), of the sink (`write`) and of the
 -- boxes, and by the room of the boxes.
-pub record Complete (text : List ℕ) (starts ends : List Account) (read read' write write' : ℕ) (status : Status) : Type 0 where
-  pub through_all : transcript_end airs_of starts (lines_of true text) ≡ through
+pub record Complete (airs : Airs) (text : List ℕ) (starts ends : List Account) (read read' write write' : ℕ) (status : Status) : Type 0 where
+  pub through_all : transcript_end airs starts (lines_of true text) ≡ through
       → ¬ Rose read read' → ¬ Rose write write' → NoneFailed starts ends → IsDoneOrMemory status
-  pub room : RoomForText starts text → status ≢ statuses.OutletFault
-  pub no_fault : RoomForText starts text → ¬ Rose read read' → ¬ Rose write write' → IsNoFault status
+  pub room : RoomForText airs starts text → status ≢ statuses.OutletFault
+  pub no_fault : RoomForText airs starts text → ¬ Rose read read' → ¬ Rose write write' → IsNoFault status

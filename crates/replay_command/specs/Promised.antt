@@ -1,12 +1,13 @@
--- What a call of `replay` promises of the outside before it and after it, by its words and its status. The program is
--- this project's own.
-use Rattle.std.specs.Prelude.{ℕ, ◌≡◌, ◌≢◌, ◌↔◌, true, List, [], Some}
+-- What a call of `replay` promises of the outside before it and after it, by its status, where its words mean replay. The
+-- program is this project's own.
+use Rattle.std.specs.Prelude.{ℕ, ◌≡◌, ◌≢◌, true, List, Some}
 use Rattle.bcast_base.specs.Counts.{Rose}
-use Rattle.bcast_io.specs.TextLines.{lines_of}
-use Rattle.source_machine.specs.Airs.{airs_of}
+use Rattle.bcast_io.specs.TextLines.{TextLine, lines_of}
 use Rattle.transcript_text.specs.declared.refusal.Refusal.{Refusal}
+use Rattle.scenario_history.specs.Airs.{MeetAirs}
 use Rattle.scenario_history.specs.Boxes.{Took}
-use Rattle.scenario_history.specs.Transcript.{units_of}
+use Rattle.scenario_history.specs.Source.{Airs}
+use Rattle.scenario_history.specs.Transcript.{transcript_of, units_of}
 use Rattle.replay_command.specs.declared.status.Status.{Status}
 use Rattle.replay_command.specs.declared.status.Status.TheVariants as statuses
 use Rattle.replay_command.specs.Ended.{AheadOf, Complete, Ended, IsWhole}
@@ -15,12 +16,16 @@ use Rattle.scenario_history.specs.Laws.{UnitsLaw, OrderLaw}
 use Rattle.replay_command.specs.World.{World}
 
 -- between these worlds a call read, wrote and handed to the boxes what this status says
-abbrev pub Did : Status → World → World → Type 0
-Did status old new = Ended status old.boxes new.boxes old.left new.left old.taken new.taken
+abbrev pub DidOver : Airs → Status → World → World → Type 0
+DidOver airs status old new = Ended airs status old.boxes new.boxes old.left new.left old.taken new.taken
 
-pub record Promised {W : Type 0} (words : List W) (old new : World) (status : Status) : Type 0 where
-  -- Any word is Usage, and nothing else is.
-  pub usage : (status ≡ statuses.Usage) ↔ (words ≢ [])
+-- whichever airs of the sources that meet the relation of their framing the scenario is taken over
+abbrev pub Did : Status → World → World → Type 0
+Did status old new = (airs : Airs) → MeetAirs airs → DidOver airs status old new
+
+pub record Promised (old new : World) (status : Status) : Type 0 where
+  -- Usage doesn't come.
+  pub no_usage : status ≢ statuses.Usage
   -- Done: the text was read to its end, no line of it is refused, and its transcript was written.
   pub done : status ≡ statuses.Done → Did statuses.Done old new
   -- Refused: the transcript ends with this refusal of this line, whatever follows what was read, and was written.
@@ -38,15 +43,21 @@ pub record Promised {W : Type 0} (words : List W) (old new : World) (status : St
   -- The sink's count stays with each status but WriteFault.
   pub no_write_fault : status ≢ statuses.WriteFault → new.writes ≡ old.writes
   -- The boxes took the units of the whole text, where the transcript was written to its end or to its refusal.
-  pub boxes : (text : List ℕ) → old.left ≡ Some text → IsWhole status → Took old.boxes new.boxes (units_of airs_of old.boxes (lines_of true text))
+  pub boxes : (airs : Airs) → MeetAirs airs → (text : List ℕ) → old.left ≡ Some text → IsWhole status
+      → Took old.boxes new.boxes (units_of airs old.boxes (lines_of true text))
   -- What the outside does decides which statuses can come.
-  pub complete : (text : List ℕ) → old.left ≡ Some text → words ≡ []
-      → Complete text old.boxes new.boxes old.reads new.reads old.writes new.writes status
+  pub complete : (airs : Airs) → MeetAirs airs → (text : List ℕ) → old.left ≡ Some text
+      → Complete airs text old.boxes new.boxes old.reads new.reads old.writes new.writes status
   -- At most 65,536 octets were read past the line of the status.
-  pub reading_ahead : AheadOf status old.boxes new.boxes old.left new.left old.taken new.taken
+  pub reading_ahead : (airs : Airs) → MeetAirs airs → AheadOf airs status old.boxes new.boxes old.left new.left old.taken new.taken
   -- No more is read than the longest text and the one read behind it that shows it too long.
   pub reads_at_most : ReadsAtMost old.left new.left read_limit
-  -- In a stay without injected PDUs each closed slot hands what the source's PDUs that were heard make of it.
+  -- Some airs of the sources meet the relation of their framing, and any two that do give the same transcript.
+  pub some_airs : (airs : Airs) × MeetAirs airs
+  pub one_transcript : (airs : Airs) → (others : Airs) → MeetAirs airs → MeetAirs others → (lines : List TextLine)
+      → transcript_of airs old.boxes lines ≡ transcript_of others old.boxes lines
+  -- In a stay without injected PDUs each closed slot, and each framed unit whose start was heard, hands what the source's PDUs
+  -- that were heard make of it.
   pub units_law : UnitsLaw old.boxes
   -- A sink's units are in the order of the source, and each comes at most once.
   pub order_law : OrderLaw old.boxes

@@ -7,10 +7,10 @@ use Rattle.bcast_io.specs.TextLines.{TextLine, lines_of, text_limit}
 use Rattle.bcast_io.specs.State.Reading.{MayFollow}
 use Rattle.bcast_io.specs.Writing.{AppendsFront}
 use Rattle.unit_outlets.specs.Account.{Account}
-use Rattle.source_machine.specs.Airs.{airs_of}
 use Rattle.transcript_text.specs.declared.refusal.Refusal.{Refusal}
 use Rattle.transcript_text.specs.declared.refusal.Refusal.TheVariants.{NoEnd}
 use Rattle.line_runs.specs.Runs.{through, refused, Accepted}
+use Rattle.scenario_history.specs.Source.{Airs}
 use Rattle.scenario_history.specs.Boxes.{SinkUnit, Took}
 use Rattle.scenario_history.specs.Lines.{rules_of, handed_on}
 use Rattle.scenario_history.specs.Transcript.{out_of, end_after, transcript_of, transcript_end, units_of}
@@ -30,54 +30,54 @@ pub record Comes (left left' : Option (List ℕ)) (earlier : List TextLine) (lin
       → (later : List TextLine) × (lines_of at_end (text ++ more) ≡ reverse earlier ++ line ∷ later)
 
 -- Done: the text was read to its end, its transcript has no refusal and was written, and the boxes took its units
-pub record Done (starts ends : List Account) (left left' kept kept' : Option (List ℕ)) : Type 0 where
+pub record Done (airs : Airs) (starts ends : List Account) (left left' kept kept' : Option (List ℕ)) : Type 0 where
   pub text : List ℕ
   pub read : TextRead left left' text true
-  pub through_all : transcript_end airs_of starts (lines_of true text) ≡ through
-  pub written : Appends kept kept' (transcript_of airs_of starts (lines_of true text))
-  pub boxes : Took starts ends (units_of airs_of starts (lines_of true text))
+  pub through_all : transcript_end airs starts (lines_of true text) ≡ through
+  pub written : Appends kept kept' (transcript_of airs starts (lines_of true text))
+  pub boxes : Took starts ends (units_of airs starts (lines_of true text))
 
 -- Refused: the transcript ends with this refusal at this line whatever follows the octets read, and was written. NoEnd
 -- comes only at the end of the input.
-pub record RefusedAt (starts ends : List Account) (left left' kept kept' : Option (List ℕ)) (line : ℕ) (reason : Refusal) : Type 0 where
+pub record RefusedAt (airs : Airs) (starts ends : List Account) (left left' kept kept' : Option (List ℕ)) (line : ℕ) (reason : Refusal) : Type 0 where
   pub text : List ℕ
   pub over : Bool
   pub read : TextRead left left' text over
   pub no_end : reason ≡ NoEnd → over ≡ true
-  pub ends_so : (at_end : Bool) (more : List ℕ) → MayFollow over at_end more → transcript_end airs_of starts (lines_of at_end (text ++ more)) ≡ refused line reason
+  pub ends_so : (at_end : Bool) (more : List ℕ) → MayFollow over at_end more → transcript_end airs starts (lines_of at_end (text ++ more)) ≡ refused line reason
   pub octets : List ℕ
-  pub transcript : (at_end : Bool) (more : List ℕ) → MayFollow over at_end more → transcript_of airs_of starts (lines_of at_end (text ++ more)) ≡ octets
+  pub transcript : (at_end : Bool) (more : List ℕ) → MayFollow over at_end more → transcript_of airs starts (lines_of at_end (text ++ more)) ≡ octets
   pub written : Appends kept kept' octets
   pub units : List SinkUnit
-  pub handed : (at_end : Bool) (more : List ℕ) → MayFollow over at_end more → units_of airs_of starts (lines_of at_end (text ++ more)) ≡ units
+  pub handed : (at_end : Bool) (more : List ℕ) → MayFollow over at_end more → units_of airs starts (lines_of at_end (text ++ more)) ≡ units
   pub boxes : Took starts ends units
 
 -- ReadFault: what the whole lines read bring was written, and none of them is refused
-pub record ReadFaulted (starts ends : List Account) (left left' kept kept' : Option (List ℕ)) : Type 0 where
+pub record ReadFaulted (airs : Airs) (starts ends : List Account) (left left' kept kept' : Option (List ℕ)) : Type 0 where
   pub text : List ℕ
   pub read : TextRead left left' text false
-  pub through_all : end_after airs_of starts (lines_of false text) ≡ through
-  pub written : Appends kept kept' (out_of airs_of starts (lines_of false text))
-  pub boxes : Took starts ends (units_of airs_of starts (lines_of false text))
+  pub through_all : end_after airs starts (lines_of false text) ≡ through
+  pub written : Appends kept kept' (out_of airs starts (lines_of false text))
+  pub boxes : Took starts ends (units_of airs starts (lines_of false text))
 
 -- what the lines of a text, or the whole lines of a front of it, bring
-abbrev pub brought_by : Bool → List Account → List ℕ → List ℕ
-brought_by true starts text = transcript_of airs_of starts (lines_of true text)
-brought_by false starts text = out_of airs_of starts (lines_of false text)
+abbrev pub brought_by : Airs → Bool → List Account → List ℕ → List ℕ
+brought_by airs true starts text = transcript_of airs starts (lines_of true text)
+brought_by airs false starts text = out_of airs starts (lines_of false text)
 
 -- the boxes took a front of the units of these lines
-pub record BoxesCut (starts ends : List Account) (lines : List TextLine) : Type 0 where
+pub record BoxesCut (airs : Airs) (starts ends : List Account) (lines : List TextLine) : Type 0 where
   pub done : List SinkUnit
   pub rest : List SinkUnit
-  pub split : units_of airs_of starts lines ≡ done ++ rest
+  pub split : units_of airs starts lines ≡ done ++ rest
   pub boxes : Took starts ends done
 
 -- the boxes took a front of the units of these lines, and then one of them failed at the next unit and counted it
-pub record BoxFailed (starts ends : List Account) (lines : List TextLine) : Type 0 where
+pub record BoxFailed (airs : Airs) (starts ends : List Account) (lines : List TextLine) : Type 0 where
   pub before : List SinkUnit
   pub behind : List SinkUnit
   pub units : List SinkUnit
-  pub split : units_of airs_of starts lines ≡ before ++ units ++ behind
+  pub split : units_of airs starts lines ≡ before ++ units ++ behind
   pub accounts : List Account
   pub boxes : Took starts accounts before
   pub text : List ℕ
@@ -86,12 +86,12 @@ pub record BoxFailed (starts ends : List Account) (lines : List TextLine) : Type
 
 -- WriteFault and Memory: a front of what the lines read bring was written, and the boxes took a front of their units;
 -- at most one box failed
-pub record Broken (starts ends : List Account) (left left' kept kept' : Option (List ℕ)) : Type 0 where
+pub record Broken (airs : Airs) (starts ends : List Account) (left left' kept kept' : Option (List ℕ)) : Type 0 where
   pub text : List ℕ
   pub over : Bool
   pub read : TextRead left left' text over
-  pub written : AppendsFront kept kept' (brought_by over starts text)
-  pub boxes : BoxesCut starts ends (lines_of over text) ⊎ BoxFailed starts ends (lines_of over text)
+  pub written : AppendsFront kept kept' (brought_by airs over starts text)
+  pub boxes : BoxesCut airs starts ends (lines_of over text) ⊎ BoxFailed airs starts ends (lines_of over text)
 
 -- At most so many octets were read past the end of this line, from 1: but for the last ones, the octets that a call took
 -- from its source hold no more lines.
@@ -114,16 +114,16 @@ read_limit = text_limit + 65536
 
 -- OutletFault: the lines before one were run, and none is refused; the box of a unit that this line hands up failed, and
 -- what was brought before that unit was written. No octet was read but for those that follow the line in one read ahead.
-pub record OutletFaulted (starts ends : List Account) (left left' kept kept' : Option (List ℕ)) : Type 0 where
+pub record OutletFaulted (airs : Airs) (starts ends : List Account) (left left' kept kept' : Option (List ℕ)) : Type 0 where
   pub earlier : List TextLine
   pub line : TextLine
   pub comes : Comes left left' earlier line
   pub ahead : ReadsAhead left left' (length earlier + 1)
-  pub accepted : Accepted (rules_of airs_of starts) (line ∷ earlier)
+  pub accepted : Accepted (rules_of airs starts) (line ∷ earlier)
   pub accounts : List Account
-  pub before : Took starts accounts (units_of airs_of starts (reverse earlier))
+  pub before : Took starts accounts (units_of airs starts (reverse earlier))
   pub told : List ℕ
-  pub fails : BoxFails (handed_on airs_of earlier line) (out_of airs_of starts (reverse earlier)) told accounts ends
+  pub fails : BoxFails (handed_on airs earlier line) (out_of airs starts (reverse earlier)) told accounts ends
   pub written : Appends kept kept' told
 
 -- the boxes took a front of these units, and then one of them may have failed at the next unit and counted it
@@ -131,16 +131,16 @@ abbrev pub TookFront : List SinkUnit → List Account → List Account → Type 
 TookFront units before after = CutShort units before after ⊎ ((told : List ℕ) × BoxFails units [] told before after)
 
 -- The boxes took all units of the lines before one, then a front of those that this line adds, and none of a later one.
-pub record BoxesAt (starts ends : List Account) (earlier : List TextLine) (line : TextLine) : Type 0 where
+pub record BoxesAt (airs : Airs) (starts ends : List Account) (earlier : List TextLine) (line : TextLine) : Type 0 where
   pub accounts : List Account
-  pub before : Took starts accounts (units_of airs_of starts (reverse earlier))
+  pub before : Took starts accounts (units_of airs starts (reverse earlier))
   pub units : List SinkUnit
-  pub added : units_of airs_of starts (reverse (line ∷ earlier)) ≡ units_of airs_of starts (reverse earlier) ++ units
+  pub added : units_of airs starts (reverse (line ∷ earlier)) ≡ units_of airs starts (reverse earlier) ++ units
   pub front : TookFront units accounts ends
 
 -- What was written ends within the octets that this line brings: it is the least line such that it and those before it
 -- bring more than what was written. The boxes took no unit of a later line.
-pub record CutAt (starts ends : List Account) (left left' kept kept' : Option (List ℕ)) (line : ℕ) : Type 0 where
+pub record CutAt (airs : Airs) (starts ends : List Account) (left left' kept kept' : Option (List ℕ)) (line : ℕ) : Type 0 where
   pub text : List ℕ
   pub over : Bool
   pub read : TextRead left left' text over
@@ -149,25 +149,25 @@ pub record CutAt (starts ends : List Account) (left left' kept kept' : Option (L
   pub later : List TextLine
   pub lines : lines_of over text ≡ reverse earlier ++ last ∷ later
   pub number : line ≡ length earlier + 1
-  pub accepted : Accepted (rules_of airs_of starts) earlier
+  pub accepted : Accepted (rules_of airs starts) earlier
   pub front : List ℕ
   pub written : Appends kept kept' front
-  pub not_before : length (out_of airs_of starts (reverse earlier)) ≤ length front
-  pub longer : length front < length (out_of airs_of starts (reverse (last ∷ earlier)))
-  pub boxes : BoxesAt starts ends earlier last
+  pub not_before : length (out_of airs starts (reverse earlier)) ≤ length front
+  pub longer : length front < length (out_of airs starts (reverse (last ∷ earlier)))
+  pub boxes : BoxesAt airs starts ends earlier last
 
 -- the line of NoEnd wasn't written whole; the boxes took all units
-pub record NoEndCut (starts ends : List Account) (left left' kept kept' : Option (List ℕ)) : Type 0 where
+pub record NoEndCut (airs : Airs) (starts ends : List Account) (left left' kept kept' : Option (List ℕ)) : Type 0 where
   pub text : List ℕ
   pub read : TextRead left left' text true
-  pub ends_so : transcript_end airs_of starts (lines_of true text) ≡ refused (length (lines_of true text) + 1) NoEnd
+  pub ends_so : transcript_end airs starts (lines_of true text) ≡ refused (length (lines_of true text) + 1) NoEnd
   pub front : List ℕ
   pub written : Appends kept kept' front
-  pub not_before : length (out_of airs_of starts (lines_of true text)) ≤ length front
-  pub boxes : Took starts ends (units_of airs_of starts (lines_of true text))
+  pub not_before : length (out_of airs starts (lines_of true text)) ≤ length front
+  pub boxes : Took starts ends (units_of airs starts (lines_of true text))
 
 -- WriteFault: what was written ends within what a line brings, and at most so many octets were read past the end of that
 -- line; or it ends within the line of NoEnd
-abbrev pub WriteCut : List Account → List Account → Option (List ℕ) → Option (List ℕ) → Option (List ℕ) → Option (List ℕ) → Type 0
-WriteCut starts ends left left' kept kept' =
-    ((line : ℕ) × CutAt starts ends left left' kept kept' line × ReadsAhead left left' line) ⊎ NoEndCut starts ends left left' kept kept'
+abbrev pub WriteCut : Airs → List Account → List Account → Option (List ℕ) → Option (List ℕ) → Option (List ℕ) → Option (List ℕ) → Type 0
+WriteCut airs starts ends left left' kept kept' =
+    ((line : ℕ) × CutAt airs starts ends left left' kept kept' line × ReadsAhead left left' line) ⊎ NoEndCut airs starts ends left left' kept kept'

@@ -9,13 +9,14 @@ ghost use Rattle.replay_steps.specs.Meets.{BoxesStand, Meets};
 ghost use Rattle.replay_steps.specs.Versions.{number_of};
 
 use crate::machine::Machine;
+use crate::stale::put_stale_units;
 use crate::version::{Stage, Version};
 use bcast_base::Octets;
 use transcript_text::Stop;
 use unit_outlets::Outlet;
 
 impl Machine {
-    /// `event`: closes the open event of the chosen source, and performs the next one.
+    /// `event`: closes the open event of the chosen source, performs the next one, and prints the units that it left out.
     pub(crate) fn event(
         &mut self,
         outlets: &mut Vec<Box<dyn Outlet>>,
@@ -24,12 +25,21 @@ impl Machine {
         ensures { (starts : List Account) (version : ℕ) (steps : List Step) → Stands steps self.old → stage_of steps ≡ running version
             → Meets starts steps EventStep self.new text.old text.new (map account outlets.old.items) (map account outlets.new.items) result }
     {
-        let closed = match self.sources.perform() {
-            Ok(closed) => closed,
+        let performed = match self.sources.perform() {
+            Ok(performed) => performed,
             Err(stop) => return Err(stop),
         };
-        self.sinks
-            .close(self.sources.chosen(), closed, outlets, text)
+        match self
+            .sinks
+            .close(self.sources.chosen(), performed.closed, outlets, text)
+        {
+            Ok(()) => {}
+            Err(stop) => return Err(stop),
+        }
+        match put_stale_units(text, performed.stale.as_slice()) {
+            Ok(()) => Ok(()),
+            Err(_) => Err(Stop::Memory),
+        }
     }
 
     /// `stop`: closes the open event of the chosen source, and stops it.

@@ -6,6 +6,7 @@ mod close_steps;
 mod machine;
 mod sink_steps;
 mod source_steps;
+mod stale;
 mod step;
 mod version;
 

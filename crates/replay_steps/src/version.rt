@@ -1,5 +1,6 @@
 ghost use Rattle.std.specs.Prelude.{◌≡◌, ◌≤◌};
 ghost use Rattle.scenario_history.specs.Refusals.{horizon_in};
+ghost use Rattle.scenario_history.specs.Source.{is_ahead_in};
 
 use big_info::Limits;
 
@@ -44,9 +45,10 @@ impl Version {
         }
     }
 
-    /// How far its groups may reach.
+    /// How far its groups may reach, and whether times may be ahead.
     pub(crate) fn limits(self) -> Limits
         ensures horizon { result.horizon ≡ horizon_in (number_of self) }
+        ensures ahead { result.ahead ≡ is_ahead_in (number_of self) }
         ensures least { result.horizon ≤ 31 }
     {
         match self {

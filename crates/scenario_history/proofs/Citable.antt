@@ -1,10 +1,12 @@
--- What crates above may cite: what the boxes took of the units of a scenario, and which boxes its sinks have.
-use Rattle.std.proofs.Common.{ℕ, ◌≡◌, ◌<◌, ◌+◌, List, ◌++◌, length, map, sum, Option, Some}
+-- What crates above may cite: what the boxes took of the units of a scenario, which boxes its sinks have, and where the steps
+-- of a source stand.
+use Rattle.std.proofs.Common.{ℕ, ◌≡◌, ◌<◌, ◌+◌, List, ◌++◌, length, map, sum, Some}
 use Rattle.unit_outlets.specs.Account.{Account}
 use Rattle.scenario_text.specs.declared.step.Step.{Step}
-use Rattle.scenario_history.specs.Steps.{sinks_made}
+use Rattle.scenario_history.specs.Steps.{sinks_made, stage_of, steps_of_source}
 use Rattle.scenario_history.specs.Boxes.{SinkUnit, Took, account_at, accounts_after, box_of, valid_for}
 use Rattle.scenario_history.proofs.BoxLaws as of_boxes
+use Rattle.scenario_history.proofs.Sources as of_sources
 use Rattle.scenario_history.proofs.Sums as of_sums
 
 -- boxes that take units one after the other took all of them
@@ -31,3 +33,7 @@ octets_add_up = of_sums.octets_add_up
 -- a sink has one of the boxes that were given out
 pub box_was_made : (n : ℕ) (steps : List Step) (box : ℕ) → box_of n steps ≡ Some box → box < sinks_made steps
 box_was_made = of_sums.box_was_made
+
+-- the scenario of a source's steps stands where that of all steps does
+pub stage_same : (s : ℕ) (made : List Step) → stage_of (steps_of_source s made) ≡ stage_of made
+stage_same = of_sources.stage_same

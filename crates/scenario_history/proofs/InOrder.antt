@@ -1,12 +1,12 @@
 -- The valid units that a sink hands up of a source are units that the source accepted, in order.
 use Rattle.std.proofs.Common.{ℕ, ◌≡◌, ◌<◌, ◌≤◌, ◌+◌, ◌==◌, ◌||◌, cond, leb, Bool, true, false, List, [], ◌∷◌, ◌++◌, length, map, Option, None, Some, refl, sym, ◌∙◌, ap, subst, arith, inl, inr}
-use Rattle.std.proofs.lemmas.Bool.{cases_Bool, leb-true, or_parts, false≢true}
+use Rattle.std.proofs.lemmas.Bool.{eq-eqb, cases_Bool, leb-true, or_parts, false≢true}
 use Rattle.std.proofs.lemmas.List.{append-nil}
 use Rattle.std.proofs.lemmas.List.Elements.{filter-append}
 use Rattle.std.proofs.lemmas.Option.{none-some}
-use Rattle.unit_outlets.specs.Account.{Account}
+use Rattle.big_info.specs.declared.info.BigInfo.{BigInfo}
 use Rattle.unit_outlets.specs.Handed.{Handed}
-use Rattle.isoal_unframed.specs.Calls.{accepted, events as laid_events}
+use Rattle.isoal_unframed.specs.Calls.{events as laid_events}
 use Rattle.isoal_unframed.specs.Histories.{units_of}
 use Rattle.source_machine.specs.Airs.{slots_of}
 use Rattle.source_machine.specs.Calls.{Setup, Call as SourceCall, events, stream_calls as source_stream}
@@ -21,8 +21,8 @@ use Rattle.scenario_history.specs.Source.{Airs, setup_of, source_calls, open_eve
 use Rattle.scenario_history.specs.Airs.{MeetAirs}
 use Rattle.scenario_history.specs.Sinks.{is_of, sink_calls, source_after, source_of, ticked, tuning_of, with_sink_call}
 use Rattle.scenario_history.specs.Boxes.{SinkUnit, handed_by}
-use Rattle.scenario_history.specs.Lines.{steps_of}
-use Rattle.scenario_history.specs.Laws.{InSourceOrder, OrderLaw, closed_by, handed_since, injected_since, is_injected, is_made, is_tuned, is_valid, of_sink, shown_since, valid_in}
+use Rattle.scenario_history.specs.Laws.{closed_by, handed_since, injected_since, is_injected, is_made, is_tuned, of_sink, shown_since}
+use Rattle.scenario_history.specs.SourceUnits.{InSourceOrder, is_valid, valid_in}
 use Rattle.scenario_history.proofs.Below.{Below}
 use Rattle.scenario_history.proofs.Legals.{Legal, legal}
 use Rattle.scenario_history.proofs.Sources.{lawful, true_not_false}
@@ -31,8 +31,8 @@ use Rattle.scenario_history.proofs.Stays.{IsOn, IsThere, OnSource, PutBy, TunedT
 use Rattle.scenario_history.proofs.UnitsLaw.{slot_short}
 use Rattle.scenario_history.proofs.Closings.{handed_open, shown_by, shown_if, step_shown}
 use Rattle.scenario_history.proofs.Ticks.{end_ticks, event_ticks, is_its}
-use Rattle.scenario_history.proofs.Closes.{Climb, climbs, closes_rise, closing, event_of, front, front_of, its_front, mine_in, moved, open_before}
-use Rattle.scenario_history.proofs.Shown.{shown_on, slots_are_shown, tick_hands, tick_others}
+use Rattle.scenario_history.proofs.Closes.{Climb, climbs, closing, event_of, front, front_of, its_front, mine_in, moved, open_before}
+use Rattle.scenario_history.proofs.Shown.{on_whole, shown_on, tick_hands, tick_others}
 use Rattle.scenario_history.proofs.Numbers.{laid_least, Ordered, ordered_none, ordered_later, ordered_more, close_batch}
 
 -- ---- no PDU was injected into the sink
@@ -74,7 +74,7 @@ clean_after airs s n (steps.Inject sink back bis subevent octets) earlier tuning
     ]
 clean_after airs s n step earlier tuning made_dirty tuned_dirty is clean before = still airs s n step earlier tuning made_dirty tuned_dirty (λ put. put) is clean before
 
-clean_stay : (airs : Airs) (s n : ℕ) (made : List Step) (tuning : Tuning) → IsOn airs s n made tuning → injected_since (is_made n) n made ≡ false → injected_since (is_tuned n) n made ≡ false
+pub clean_stay : (airs : Airs) (s n : ℕ) (made : List Step) (tuning : Tuning) → IsOn airs s n made tuning → injected_since (is_made n) n made ≡ false → injected_since (is_tuned n) n made ≡ false
 clean_stay airs s n [] tuning is clean = refl
 clean_stay airs s n (step ∷ earlier) tuning is clean =
     clean_after airs s n step earlier tuning (injected_since (is_made n) n earlier) (injected_since (is_tuned n) n earlier) is clean
@@ -104,6 +104,7 @@ pub record Ready (airs : Airs) (boxes s n bis : ℕ) (setup : Setup) (whole : Li
   pub legal_is : Legal airs boxes made
   pub within : Within setup whole (steps_of_source s made)
   pub clean : injected_since (is_made n) n made ≡ false
+  pub plain : setup.info.framing ≡ 0
   pub source_below : s ≤ 1
   pub sink_below : n ≤ 7
   pub least : 1 ≤ bis
@@ -129,12 +130,18 @@ closed_orders below airs meets boxes s n bis setup whole made ready event before
     let same : (setup_of own).first ≡ setup.first = ap (λ (setup' : Setup). setup'.first) setup_is in
     let more : events (source_calls own) ≤ events whole = subst (λ calls. events (source_calls own) ≤ events calls) (sym ready.within.calls.1) (events_more ready.within.calls.0 (source_calls own)) in
     let laid : events whole ≤ laid_events (source_stream setup.info bis whole) = laid_least setup.info bis whole in
-    let last = close_batch below airs meets boxes s n bis setup whole tuning made ready.legal_is ready.within on ready.least is (clean_stay airs s n made tuning is ready.clean) ready.fits
+    let last = close_batch below airs meets boxes s n bis setup whole tuning made ready.legal_is ready.within on ready.least is ready.plain (clean_stay airs s n made tuning is ready.clean) ready.fits
     (tuning.first + closes tuning (sink_calls airs n made)) (below.one_open tuning (sink_calls airs n made) bis) (omega arith) (omega (arith, over, before, same, more)) in
     subst (λ (us : List Handed). Ordered setup whole bis later (units ++ valid_in us)) (sym shown)
     (ordered_more setup whole bis (tuning.first + closes tuning (sink_calls airs n made)) later units
     (valid_in (units_of (stay_on tuning bis) (stream_calls (stay_on tuning bis) (sink_calls airs n made)) (tuning.first + closes tuning (sink_calls airs n made))))
     (omega (arith, on.first)) past (omega (arith, over, before, same, more, laid, on.first)) order last)
+
+tuned_plain : (airs : Airs) (boxes s n bis : ℕ) (setup : Setup) (whole : List SourceCall) (made : List Step) → Ready airs boxes s n bis setup whole made
+    → (tuning : Tuning) → place (sink_calls airs n made) ≡ Some tuning → source_of n made ≡ Some s → tuning.info.framing ≡ 0
+tuned_plain airs boxes s n bis setup whole made ready tuning is its =
+    ap (λ (i : BigInfo). i.framing)
+    (on_whole airs boxes s n setup whole made ready.legal_is ready.within (ap (is_of s) its ∙ eq-eqb s s refl) tuning is).info ∙ ready.plain
 
 event_orders : Below → (airs : Airs) → MeetAirs airs → (boxes s n bis : ℕ) (setup : Setup) (whole : List SourceCall) (made : List Step) → Ready airs boxes s n bis setup whole made
     → (event : ℕ) → event < next_in (steps_of_source s made) → source_of n made ≡ Some s → (p : Option Tuning) → place (sink_calls airs n made) ≡ p → (next later : ℕ)
@@ -155,7 +162,8 @@ event_orders below airs meets boxes s n bis setup whole made ready event before 
           let shown : of_stream bis (handed_at (sink_calls airs n made) event)
           ≡ cond (leb (tuning.first + closes tuning (sink_calls airs n made)) event)
           (units_of (stay_on tuning bis) (stream_calls (stay_on tuning bis) (sink_calls airs n made)) (tuning.first + closes tuning (sink_calls airs n made))) [] =
-          tick_hands below event (sink_calls airs n made) tuning bis is (is_member tuning.which bis ready.least ready.greatest taken)
+          tick_hands below event (sink_calls airs n made) tuning bis (tuned_plain airs boxes s n bis setup whole made ready tuning is its) is
+          (is_member tuning.which bis ready.least ready.greatest taken)
           ∙ ap (λ o. cond (leb o event) (units_of (stay_on tuning bis) (stream_calls (stay_on tuning bis) (sink_calls airs n made)) o) []) (below.one_open tuning (sink_calls airs n made) bis) in
           elim (cases_Bool (leb (tuning.first + closes tuning (sink_calls airs n made)) event)) [
             | inr not_over ↦ ordered_same setup whole bis (tuning.first + closes tuning (sink_calls airs n made)) later units (of_stream bis (handed_at (sink_calls airs n made) event)) front_is
@@ -226,7 +234,7 @@ again_orders setup whole s n bis next false units others order =
     subst (λ (us : List Handed). Ordered setup whole bis next us)
     (sym (ap valid_in (shown_on s n bis units others) ∙ filter-append is_valid (of_stream bis (of_sink s n units)) (of_stream bis (of_sink s n others)))) (order refl)
 
-clean_before : (again mine dirty : Bool) → cond again false (mine || dirty) ≡ false → again ≡ false → dirty ≡ false
+pub clean_before : (again mine dirty : Bool) → cond again false (mine || dirty) ≡ false → again ≡ false → dirty ≡ false
 clean_before true mine dirty clean not_again = absurd (false≢true (sym not_again))
 clean_before false mine dirty clean not_again = (or_parts mine dirty clean).1
 
@@ -242,6 +250,7 @@ orders below airs meets boxes s n bis setup whole (step ∷ earlier) ready =
       legal_is = legal_before;
       within = within_before airs boxes s setup whole earlier step ready.legal_is ready.within;
       clean = clean_before (is_made n step) (is_injected n step) (injected_since (is_made n) n earlier) ready.clean not_again;
+      plain = ready.plain;
       source_below = ready.source_below;
       sink_below = ready.sink_below;
       least = ready.least;
@@ -254,15 +263,17 @@ orders below airs meets boxes s n bis setup whole (step ∷ earlier) ready =
     (valid_in (shown_since (is_made n) airs s n bis earlier)) (orders below airs meets boxes s n bis setup whole earlier before)
     (climb_between (its_front airs s n earlier) (map event_of (closed_by airs s n earlier step)) (its_front airs s n (step ∷ earlier)) now.climbs_on)))
 
-units_in_order : Below → (airs : Airs) → MeetAirs airs → (boxes s n bis : ℕ) (made : List Step) → Legal airs boxes made → s ≤ 1 → n ≤ 7 → 1 ≤ bis → bis ≤ 31
+pub units_in_order : Below → (airs : Airs) → MeetAirs airs → (boxes s n bis : ℕ) (made : List Step) → Legal airs boxes made → (setup_of (steps_of_source s made)).info.framing ≡ 0 → s ≤ 1
+    → n ≤ 7 → 1 ≤ bis → bis ≤ 31
     → injected_since (is_made n) n made ≡ false
     → InSourceOrder (setup_of (steps_of_source s made)) (source_calls (steps_of_source s made)) bis (valid_in (shown_since (is_made n) airs s n bis made))
-units_in_order below airs meets boxes s n bis made legal source_below sink_below least greatest clean =
+units_in_order below airs meets boxes s n bis made legal plain source_below sink_below least greatest clean =
     let order : Ordered (setup_of (steps_of_source s made)) (source_calls (steps_of_source s made)) bis (its_front airs s n made) (valid_in (shown_since (is_made n) airs s n bis made)) =
     orders below airs meets boxes s n bis (setup_of (steps_of_source s made)) (source_calls (steps_of_source s made)) made (record {
       legal_is = legal;
       within = within_itself (steps_of_source s made);
       clean = clean;
+      plain = plain;
       source_below = source_below;
       sink_below = sink_below;
       least = least;
@@ -270,15 +281,3 @@ units_in_order below airs meets boxes s n bis made legal source_below sink_below
       fits = slot_short airs bis (steps_of_source s made) (lawful airs boxes s made legal);
     }) in
     record { numbers = order.numbers; rising = climbs 0 order.numbers order.high order.climb; given = order.given }
-
--- ---- the law
-
-pub order_law_holds : Below → (starts : List Account) → OrderLaw starts
-order_law_holds below starts airs meets lines accepted s n source_below =
-    let lawful_steps : Legal airs (length starts) (steps_of lines) = legal below.in_range airs starts lines accepted in
-    record {
-      rising = closes_rise airs (length starts) s n (steps_of lines) lawful_steps source_below;
-      slots = λ bis sink_below least greatest. slots_are_shown below airs (length starts) s n bis (steps_of lines) lawful_steps source_below sink_below least greatest;
-      in_source_order = λ bis sink_below least greatest clean.
-          units_in_order below airs meets (length starts) s n bis (steps_of lines) lawful_steps source_below sink_below least greatest clean;
-    }

@@ -6,14 +6,24 @@ mod Wholes
 mod Below
 mod Stays
 mod Hears
+mod Plains
 mod FromSources
 mod Closings
 mod Ticks
-mod UnitsLaw
 mod Closes
+mod FramedCalls
+mod SentUnits
+mod FramedSends
+mod FramedStays
+mod UnitsLaw
 mod Shown
 mod Numbers
 mod InOrder
-mod MetAirs
 mod OneTranscript
+mod Entries
+mod StaysInTurn
+mod UnitOrder
+mod StartOrder
+mod OrderLaw
+mod MetAirs
 pub mod Citable

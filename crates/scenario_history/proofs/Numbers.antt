@@ -16,7 +16,7 @@ use Rattle.isoal_base.specs.Stays.{Stay, opened}
 use Rattle.isoal_unframed.specs.Air.{before_event}
 use Rattle.isoal_unframed.specs.Calls.{Call as StreamCall, accept, lay, lays, accepted, begun, events as laid_events}
 use Rattle.isoal_unframed.specs.Histories.{handed, unit_at, units_of}
-use Rattle.isoal_unframed.specs.Struck.{IsStruck, Place, Struck, closed_slots}
+use Rattle.isoal_unframed.specs.Struck.{IsStruck, Place, Struck, air_at, closed_slots}
 use Rattle.isoal_unframed.specs.State.Windows.{time_of}
 use Rattle.source_machine.specs.Airs.{place_of, slots_of}
 use Rattle.source_machine.specs.Calls.{Setup, Call as SourceCall, give, event as perform, events, given, laid_with, next_of, stream_calls as source_stream}
@@ -28,13 +28,15 @@ use Rattle.scenario_history.specs.Steps.{steps_of_source}
 use Rattle.scenario_history.specs.Source.{Airs}
 use Rattle.scenario_history.specs.Airs.{MeetAirs}
 use Rattle.scenario_history.specs.Sinks.{sink_calls}
-use Rattle.scenario_history.specs.Laws.{IsGiven, injected_since, is_tuned, is_valid, time_in, valid_in, whole_stay}
+use Rattle.scenario_history.specs.Laws.{injected_since, is_tuned}
+use Rattle.scenario_history.specs.SourceUnits.{IsGiven, is_valid, time_in, valid_in, whole_stay}
 use Rattle.scenario_history.proofs.Below.{Below}
 use Rattle.scenario_history.proofs.Legals.{Legal}
 use Rattle.scenario_history.proofs.Sources.{Settled, bounds_in, lawful, settled}
 use Rattle.scenario_history.proofs.Wholes.{Within}
 use Rattle.scenario_history.proofs.Stays.{IsOn, OnSource, TunedTo, on_source}
 use Rattle.scenario_history.proofs.Hears.{Own, all_own}
+use Rattle.scenario_history.proofs.Plains.{sends_own}
 use Rattle.scenario_history.proofs.FromSources.{from_source}
 use Rattle.scenario_history.proofs.Closes.{Climb, climb_from, climb_on}
 use Rattle.scenario_history.proofs.Shown.{slot_time_is, zip_on}
@@ -280,22 +282,23 @@ last_batch setup whole tuning bis event sc on is past from_first performed_then 
 
 -- what the stay's next close hands on the stream
 pub close_batch : Below → (airs : Airs) → MeetAirs airs → (boxes s n bis : ℕ) (setup : Setup) (whole : List SourceCall) (tuning : Tuning) (made : List Step) → Legal airs boxes made
-    → Within setup whole (steps_of_source s made) → TunedTo setup tuning → 1 ≤ bis → IsOn airs s n made tuning → injected_since (is_tuned n) n made ≡ false
+    → Within setup whole (steps_of_source s made) → TunedTo setup tuning → 1 ≤ bis → IsOn airs s n made tuning → setup.info.framing ≡ 0 → injected_since (is_tuned n) n made ≡ false
     → ((event : ℕ) → (slot : ℕ) → (unit : List ℕ) → slots_of setup whole bis event slot ≡ Some unit → length unit ≤ setup.info.max_sdu)
     → (event : ℕ) → opened (stay_on tuning bis) (stream_calls (stay_on tuning bis) (sink_calls airs n made)) ≡ event → tuning.first ≤ event → event < next_of setup whole
     → Batch setup whole bis (first_in setup.info (source_stream setup.info bis whole) (event - setup.first)) (past_in setup.info (source_stream setup.info bis whole) (event - setup.first))
     (valid_in (units_of (stay_on tuning bis) (stream_calls (stay_on tuning bis) (sink_calls airs n made)) event))
-close_batch below airs meets boxes s n bis setup whole tuning made legal within on least is clean fits event opened_at past performed_then =
+close_batch below airs meets boxes s n bis setup whole tuning made legal within on least is plain_source clean fits event opened_at past performed_then =
     let own : List Step = steps_of_source s made in
     let settles : Settled own = settled airs own (lawful airs boxes s made legal) in
     let there : OnSource own tuning = on_source airs boxes s n made tuning legal is in
     let bounds : Bounds tuning.info = subst Bounds (sym there.tuned.info) (bounds_in own settles there.started) in
-    let plain : tuning.info.framing ≡ 0 = ap (λ (i : BigInfo). i.framing) there.tuned.info ∙ settles.plain in
+    let plain : tuning.info.framing ≡ 0 = ap (λ (i : BigInfo). i.framing) on.info ∙ plain_source in
     let calls : List stays.Call = stream_calls (stay_on tuning bis) (sink_calls airs n made) in
     let short : (e : ℕ) → (slot : ℕ) → (unit : List ℕ) → slots_of setup whole bis e slot ≡ Some unit → length unit ≤ tuning.info.max_sdu =
     λ e slot unit has. subst (λ (i : BigInfo). length unit ≤ i.max_sdu) (sym on.info) (fits e slot unit has) in
-    let all : AllByRecursion (Own (stay_on tuning bis) (slots_of setup whole bis)) calls =
-    all_own below airs meets setup whole tuning boxes s n bis made legal within on.info least is clean in
+    let all : AllByRecursion (Own (air_at (stay_on tuning bis) (slots_of setup whole bis))) calls =
+    all_own airs setup whole (air_at (stay_on tuning bis) (slots_of setup whole bis)) tuning boxes s n bis made
+    (λ part its_legal started inside. sends_own below airs meets setup whole tuning bis part its_legal started inside on.info plain_source) legal within least is clean in
     let before : Struck (stay_on tuning bis) (slots_of setup whole bis) calls (handed (stay_on tuning bis) calls) =
     below.struck (stay_on tuning bis) (slots_of setup whole bis) calls bounds plain short (from_source (stay_on tuning bis) (slots_of setup whole bis) calls all) in
     let now : Struck (stay_on tuning bis) (slots_of setup whole bis) (stays.close ∷ calls) (handed (stay_on tuning bis) (stays.close ∷ calls)) =

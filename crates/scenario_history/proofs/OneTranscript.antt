@@ -8,9 +8,10 @@ use Rattle.bcast_io.specs.TextLines.{TextLine}
 use Rattle.unit_outlets.specs.Account.{Account}
 use Rattle.isoal_base.specs.Air.{Air}
 use Rattle.line_runs.specs.Runs.{Accepted, End, accepted_of, accepted_unless, end_of, end_unless, out, out_unless}
-use Rattle.source_machine.specs.Airs.{AreAirs, pdu_of}
-use Rattle.source_machine.specs.Calls.{Setup, Call as SourceCall}
-use Rattle.source_machine.specs.Faults.{give_fault}
+use Rattle.source_machine.specs.Airs.{AreAirs, airs_of, pdu_of, stale_of}
+use Rattle.source_machine.specs.Calls.{Setup, Call as SourceCall, event as perform}
+use Rattle.source_machine.specs.Faults.{event_fault, give_fault}
+use Rattle.source_machine.specs.Setups.{IsChecked}
 use Rattle.delegator_machine.specs.Calls.{Call, hear}
 use Rattle.delegator_machine.specs.Hearings.{hearing_of}
 use Rattle.isoal_base.specs.declared.hearing.Hearing.TheVariants.{NotOnGroup}
@@ -20,22 +21,26 @@ use Rattle.transcript_text.specs.declared.refusal.Refusal.{Refusal}
 use Rattle.transcript_text.specs.declared.refusal.Refusal.TheVariants.{Order, AfterEnd}
 use Rattle.transcript_text.specs.Lines.{heard_line, pdu_line}
 use Rattle.scenario_history.specs.Steps.{chosen_of, chosen_steps, is_over, stage_of, steps_of_source}
-use Rattle.scenario_history.specs.Source.{Airs, event_back, is_started, open_event, pdu_in, setup_of, source_calls}
+use Rattle.scenario_history.specs.Source.{Airs, event_back, is_started, open_event, pdu_in, setup_of, source_calls, stale_in}
 use Rattle.scenario_history.specs.Airs.{MeetAirs}
 use Rattle.scenario_history.specs.Sinks.{Spot, hear_at, heard_on_air, is_lost, is_of, reaches, sink_calls, source_of, spot_at, spots_of, unless_lost, with_sink_call}
 use Rattle.scenario_history.specs.Boxes.{SinkUnit, box_of, closing, closing_at, closing_both, closing_by, handed_by, handed_up, sink_numbers}
 use Rattle.scenario_history.specs.Refusals.{give_refusal, is_misplaced, is_out_of_phase, refusal_of, refuse_if}
-use Rattle.scenario_history.specs.Output.{output_of, sum_if, sums_of, unit_lines}
-use Rattle.scenario_history.specs.Lines.{Said, a_step, nothing, unsaid, output_said, refusal_said, rules_of, said_after, steps_of}
+use Rattle.scenario_history.specs.Output.{output_of, stale_lines, sum_if, sums_of, unit_lines}
+use Rattle.scenario_history.specs.Lines.{Said, a_step, nothing, unsaid, handed_on, handed_said, output_said, refusal_said, rules_of, said_after, steps_of}
 use Rattle.scenario_history.specs.Transcript.{end_after, has_end, last_end_after, last_line_after, out_of, transcript_end, transcript_of, units_of}
 use Rattle.scenario_history.proofs.Legals.{Legal, LinesInRange, legal, permitted}
-use Rattle.scenario_history.proofs.Sources.{Lawful, lawful, not_false, sends, settled}
+use Rattle.scenario_history.proofs.Sources.{Lawful, are_accepted, checked, group_in, lawful, no_end, not_false, sends, settled}
 use Rattle.scenario_history.proofs.Hears.{its_airs}
 
 -- the relation has at most one solution
 abbrev pub OneAir : Type 0
-OneAir = (setup : Setup) → (calls : List SourceCall) → (airs : List Air) → (others : List Air) → setup.info.framing ≡ 0
+OneAir = (setup : Setup) → (calls : List SourceCall) → (airs : List Air) → (others : List Air) → IsChecked setup.info
     → AreAirs setup calls airs → AreAirs setup calls others → airs ≡ others
+
+-- and has one
+abbrev pub SomeAirs : Type 0
+SomeAirs = (setup : Setup) → (calls : List SourceCall) → IsChecked setup.info → AreAirs setup calls (airs_of setup calls)
 
 -- both airs meet the relation
 pub record Both (airs others : Airs) : Type 0 where
@@ -48,7 +53,7 @@ pub record Both (airs others : Airs) : Type 0 where
 its_same : (airs others : Airs) → Both airs others → (own : List Step) → Lawful airs own → Lawful others own → is_started own ≡ true
     → airs (setup_of own) (source_calls own) ≡ others (setup_of own) (source_calls own)
 its_same airs others both own legal legal_too started =
-    both.one (setup_of own) (source_calls own) (airs (setup_of own) (source_calls own)) (others (setup_of own) (source_calls own)) (settled airs own legal).plain
+    both.one (setup_of own) (source_calls own) (airs (setup_of own) (source_calls own)) (others (setup_of own) (source_calls own)) (checked (group_in own (settled airs own legal) started))
     (its_airs airs both.meets own legal started) (its_airs others both.meet_too own legal_too started)
 
 pdu_same : (airs others : Airs) (own : List Step) → airs (setup_of own) (source_calls own) ≡ others (setup_of own) (source_calls own) → (event bis subevent : ℕ)
@@ -156,9 +161,32 @@ handed_up_same airs others both boxes (step ∷ earlier) legal =
 
 -- ---- what is printed
 
+-- the airs after one more event
+performed_airs : (airs : Airs) → MeetAirs airs → (own : List Step) → Lawful airs own → is_started own ≡ true → event_fault (setup_of own) (source_calls own) ≡ None
+    → AreAirs (setup_of own) (perform ∷ source_calls own) (airs (setup_of own) (perform ∷ source_calls own))
+performed_airs airs meets own legal started none =
+    meets.meet (group_in own (settled airs own legal) started) (setup_of own) (perform ∷ source_calls own) refl (are_accepted airs own legal, none)
+
+stale_same : (airs others : Airs) → Both airs others → (boxes : ℕ) (made : List Step) → Twice airs others boxes made → refusal_of airs boxes made steps.Event ≡ None
+    → stale_in airs (chosen_steps made) ≡ stale_in others (chosen_steps made)
+stale_same airs others both boxes made twice none =
+    let own : List Step = chosen_steps made in
+    let permits = permitted airs boxes made steps.Event none in
+    let started : is_started own ≡ true = sends own permits.in_phase in
+    let goes_on : event_fault (setup_of own) (source_calls own) ≡ None = no_end (event_fault (setup_of own) (source_calls own)) permits.by_source in
+    let legal_here : Lawful airs own = lawful airs boxes (chosen_of made) made twice.here in
+    let legal_there : Lawful others own = lawful others boxes (chosen_of made) made twice.there in
+    ap (stale_of (setup_of own) (source_calls own))
+    (both.one (setup_of own) (perform ∷ source_calls own) (airs (setup_of own) (perform ∷ source_calls own)) (others (setup_of own) (perform ∷ source_calls own))
+    (checked (group_in own (settled airs own legal_here) started)) (performed_airs airs both.meets own legal_here started goes_on)
+    (performed_airs others both.meet_too own legal_there started goes_on))
+
 output_same : (airs others : Airs) → Both airs others → (starts : List Account) (made : List Step) (step : Step) → Legal airs (length starts) made
     → refusal_of airs (length starts) made step ≡ None → output_of airs starts made step ≡ output_of others starts made step
-output_same airs others both starts made steps.Event legal none = ap unit_lines (closing_same airs others both (length starts) (chosen_of made) made legal)
+output_same airs others both starts made steps.Event legal none =
+    ap (λ us. unit_lines us ++ stale_lines (stale_in airs (chosen_steps made))) (closing_same airs others both (length starts) (chosen_of made) made legal)
+    ∙ ap (λ us. unit_lines (closing others (chosen_of made) made) ++ stale_lines us)
+    (stale_same airs others both (length starts) made (record { here = legal; there = legal_too airs others both (length starts) made legal }) none)
 output_same airs others both starts made steps.Stop legal none = ap unit_lines (closing_same airs others both (length starts) (chosen_of made) made legal)
 output_same airs others both starts made steps.End legal none =
     ap (λ us. unit_lines us ++ sums_of starts (handed_up airs made ++ us) made) (closing_both_same airs others both (length starts) made legal)
@@ -267,3 +295,21 @@ units_same airs others told starts lines =
     handed_up_same airs others told.both (length starts) (steps_of (accepted_of (rules_of airs starts) [] lines))
     (legal told.ranged airs starts (accepted_of (rules_of airs starts) [] lines) runs.accepted)
     ∙ ap (λ history. handed_up others (steps_of history)) runs.same
+
+pub end_after_same : (airs others : Airs) → Told airs others → (starts : List Account) (lines : List TextLine) → end_after airs starts lines ≡ end_after others starts lines
+end_after_same airs others told starts lines = end_same airs others told starts [] lines tt
+
+pub accepted_same : (airs others : Airs) → Told airs others → (starts : List Account) (lines : List TextLine) → Accepted (rules_of airs starts) lines → Accepted (rules_of others starts) lines
+accepted_same airs others told starts [] accepted = tt
+accepted_same airs others told starts (line ∷ lines) accepted =
+    (accepted_same airs others told starts lines accepted.0, sym (refused_same airs others told starts lines line accepted.0) ∙ accepted.1)
+
+said_handed : (airs others : Airs) → Both airs others → (boxes : ℕ) (made : List Step) (said : Said) → Legal airs boxes made → handed_said airs made said ≡ handed_said others made said
+said_handed airs others both boxes made (a_step step) legal = handed_same airs others both boxes made step legal
+said_handed airs others both boxes made nothing legal = refl
+said_handed airs others both boxes made (unsaid reason) legal = refl
+
+pub handed_on_same : (airs others : Airs) → Told airs others → (starts : List Account) (lines : List TextLine) (line : TextLine) → Accepted (rules_of airs starts) lines
+    → handed_on airs lines line ≡ handed_on others lines line
+handed_on_same airs others told starts lines line accepted =
+    said_handed airs others told.both (length starts) (steps_of lines) (said_after lines line) (legal told.ranged airs starts lines accepted)

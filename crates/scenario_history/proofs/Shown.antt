@@ -28,8 +28,10 @@ use Rattle.scenario_history.specs.Steps.{chosen_of, steps_of_source}
 use Rattle.scenario_history.specs.Source.{Airs, open_event, setup_of, source_calls}
 use Rattle.scenario_history.specs.Sinks.{is_of, sink_calls, source_of}
 use Rattle.scenario_history.specs.Boxes.{SinkUnit, handed_by}
-use Rattle.scenario_history.specs.Laws.{Closed, IsOfSlot, closed_at, closed_by, closed_if, closed_in, closed_since}
-use Rattle.scenario_history.specs.Laws.{handed_since, is_made, of_sink, shown_since, slots_closed, slots_in, time_in, whole_stay}
+use Rattle.scenario_history.specs.Laws.{Closed, closed_at, closed_by, closed_if, closed_in, closed_since}
+use Rattle.scenario_history.specs.SourceUnits.{IsOfSlot}
+use Rattle.scenario_history.specs.Laws.{handed_since, is_made, of_sink, shown_since, slots_closed, slots_in}
+use Rattle.scenario_history.specs.SourceUnits.{time_in, whole_stay}
 use Rattle.scenario_history.proofs.Below.{Below}
 use Rattle.scenario_history.proofs.Legals.{Legal}
 use Rattle.scenario_history.proofs.Sources.{true_not_false}
@@ -44,18 +46,18 @@ close_hands : (stay : Stay) (over : Bool) (calls : List stays.Call) → handed s
 close_hands stay true calls = refl
 close_hands stay false calls = sym (append-nil (handed stay calls))
 
-pub tick_hands : Below → (event : ℕ) (calls : List Call) (tuning : Tuning) (bis : ℕ) → place calls ≡ Some tuning → Contains (streams_of tuning.which) bis
+pub tick_hands : Below → (event : ℕ) (calls : List Call) (tuning : Tuning) (bis : ℕ) → tuning.info.framing ≡ 0 → place calls ≡ Some tuning → Contains (streams_of tuning.which) bis
     → of_stream bis (handed_at calls event)
     ≡ cond (leb (opened (stay_on tuning bis) (stream_calls (stay_on tuning bis) calls)) event)
     (units_of (stay_on tuning bis) (stream_calls (stay_on tuning bis) calls) (opened (stay_on tuning bis) (stream_calls (stay_on tuning bis) calls))) []
-tick_hands below event calls tuning bis is taken =
+tick_hands below event calls tuning bis plain is taken =
     let stay = stay_on tuning bis in
     let sc = stream_calls stay calls in
     let all : of_stream bis (ticked_since calls) ++ of_stream bis (handed_at calls event) ≡ handed stay sc ++ cond (leb (opened stay sc) event) (units_of stay sc (opened stay sc)) [] =
     sym (filter-append (λ entry. eqb (bis_of entry) bis) (ticked_since calls) (handed_at calls event))
-    ∙ below.hands tuning (tick event ∷ calls) bis is taken ∙ close_hands stay (leb (opened stay sc) event) sc in
+    ∙ below.hands tuning (tick event ∷ calls) bis plain is taken ∙ close_hands stay (leb (opened stay sc) event) sc in
     append_cancel_left (handed stay sc) (of_stream bis (handed_at calls event)) _
-    (ap (λ xs. xs ++ of_stream bis (handed_at calls event)) (sym (below.hands tuning calls bis is taken)) ∙ all)
+    (ap (λ xs. xs ++ of_stream bis (handed_at calls event)) (sym (below.hands tuning calls bis plain is taken)) ∙ all)
 
 pub tick_others : Below → (event : ℕ) (calls : List Call) (tuning : Tuning) (bis : ℕ) → place calls ≡ Some tuning → ¬ Contains (streams_of tuning.which) bis
     → of_stream bis (handed_at calls event) ≡ []
@@ -124,13 +126,13 @@ taken_zip setup tuning bis calls count on taken true =
     (units_in_slots setup tuning bis calls (tuning.first + count) on (omega arith)))
 
 event_zip : Below → (setup : Setup) (bis event : ℕ) (calls : List Call) (p : Option Tuning) → place calls ≡ p → ((tuning : Tuning) → p ≡ Some tuning → TunedTo setup tuning)
-    → 1 ≤ bis → bis ≤ 31 → AllZip (IsOfSlot setup bis) (slots_closed setup bis (closed_in p calls event)) (of_stream bis (handed_at calls event))
-event_zip below setup bis event calls None is on least within = subst (λ q. AllZip (IsOfSlot setup bis) [] (of_stream bis (ticked_by event calls q))) (sym is) tt
-event_zip below setup bis event calls (Some tuning) is on least within = elim (cases_Bool (is_in tuning.which bis)) [
+    → setup.info.framing ≡ 0 → 1 ≤ bis → bis ≤ 31 → AllZip (IsOfSlot setup bis) (slots_closed setup bis (closed_in p calls event)) (of_stream bis (handed_at calls event))
+event_zip below setup bis event calls None is on plain least within = subst (λ q. AllZip (IsOfSlot setup bis) [] (of_stream bis (ticked_by event calls q))) (sym is) tt
+event_zip below setup bis event calls (Some tuning) is on plain least within = elim (cases_Bool (is_in tuning.which bis)) [
   | inl taken ↦
       let units : of_stream bis (handed_at calls event)
       ≡ cond (leb (tuning.first + closes tuning calls) event) (units_of (stay_on tuning bis) (stream_calls (stay_on tuning bis) calls) (tuning.first + closes tuning calls)) [] =
-      tick_hands below event calls tuning bis is (is_member tuning.which bis least within taken)
+      tick_hands below event calls tuning bis (ap (λ (i : BigInfo). i.framing) (on tuning refl).info ∙ plain) is (is_member tuning.which bis least within taken)
       ∙ ap (λ o. cond (leb o event) (units_of (stay_on tuning bis) (stream_calls (stay_on tuning bis) calls) o) []) (below.one_open tuning calls bis) in
       subst (λ shown. AllZip (IsOfSlot setup bis) (slots_closed setup bis (closed_in (Some tuning) calls event)) shown) (sym units)
       (taken_zip setup tuning bis (stream_calls (stay_on tuning bis) calls) (closes tuning calls) (on tuning refl) taken (leb (tuning.first + closes tuning calls) event))
@@ -145,14 +147,14 @@ event_zip below setup bis event calls (Some tuning) is on least within = elim (c
 -- ---- step by step
 
 open_zip : Below → (setup : Setup) (bis : ℕ) (calls : List Call) (last_open : Option ℕ) → ((tuning : Tuning) → place calls ≡ Some tuning → TunedTo setup tuning)
-    → 1 ≤ bis → bis ≤ 31 → AllZip (IsOfSlot setup bis) (slots_closed setup bis (closed_at calls last_open)) (of_stream bis (handed_open calls last_open))
-open_zip below setup bis calls None on least within = tt
-open_zip below setup bis calls (Some event) on least within = event_zip below setup bis event calls (place calls) refl on least within
+    → setup.info.framing ≡ 0 → 1 ≤ bis → bis ≤ 31 → AllZip (IsOfSlot setup bis) (slots_closed setup bis (closed_at calls last_open)) (of_stream bis (handed_open calls last_open))
+open_zip below setup bis calls None on plain least within = tt
+open_zip below setup bis calls (Some event) on plain least within = event_zip below setup bis event calls (place calls) refl on plain least within
 
 with_zip : Below → (setup : Setup) (bis : ℕ) (calls : List Call) (last_open : Option ℕ) (mine : Bool) → (mine ≡ true → (tuning : Tuning) → place calls ≡ Some tuning → TunedTo setup tuning)
-    → 1 ≤ bis → bis ≤ 31 → AllZip (IsOfSlot setup bis) (slots_closed setup bis (closed_if mine calls last_open)) (of_stream bis (shown_if mine calls last_open))
-with_zip below setup bis calls last_open true on least within = open_zip below setup bis calls last_open (on refl) least within
-with_zip below setup bis calls last_open false on least within = tt
+    → setup.info.framing ≡ 0 → 1 ≤ bis → bis ≤ 31 → AllZip (IsOfSlot setup bis) (slots_closed setup bis (closed_if mine calls last_open)) (of_stream bis (shown_if mine calls last_open))
+with_zip below setup bis calls last_open true on plain least within = open_zip below setup bis calls last_open (on refl) plain least within
+with_zip below setup bis calls last_open false on plain least within = tt
 
 zip_if : (setup : Setup) (bis : ℕ) (its : Bool) (closed : List Closed) (units : List Handed) → AllZip (IsOfSlot setup bis) (slots_closed setup bis closed) (of_stream bis units)
     → AllZip (IsOfSlot setup bis) (slots_closed setup bis (cond its closed [])) (of_stream bis (cond its units []))
@@ -160,17 +162,17 @@ zip_if setup bis true closed units all = all
 zip_if setup bis false closed units all = tt
 
 step_zip : Below → (airs : Airs) (s n bis : ℕ) (setup : Setup) (step : Step) (earlier : List Step)
-    → (is_of s (source_of n earlier) ≡ true → (tuning : Tuning) → place (sink_calls airs n earlier) ≡ Some tuning → TunedTo setup tuning) → 1 ≤ bis → bis ≤ 31
+    → (is_of s (source_of n earlier) ≡ true → (tuning : Tuning) → place (sink_calls airs n earlier) ≡ Some tuning → TunedTo setup tuning) → setup.info.framing ≡ 0 → 1 ≤ bis → bis ≤ 31
     → AllZip (IsOfSlot setup bis) (slots_closed setup bis (closed_by airs s n earlier step)) (of_stream bis (shown_by airs s n earlier step))
-step_zip below airs s n bis setup steps.Event earlier on least within =
+step_zip below airs s n bis setup steps.Event earlier on plain least within =
     zip_if setup bis (chosen_of earlier == s) _ _
-    (with_zip below setup bis (sink_calls airs n earlier) (open_event (steps_of_source s earlier)) (is_of s (source_of n earlier)) on least within)
-step_zip below airs s n bis setup steps.Stop earlier on least within =
+    (with_zip below setup bis (sink_calls airs n earlier) (open_event (steps_of_source s earlier)) (is_of s (source_of n earlier)) on plain least within)
+step_zip below airs s n bis setup steps.Stop earlier on plain least within =
     zip_if setup bis (chosen_of earlier == s) _ _
-    (with_zip below setup bis (sink_calls airs n earlier) (open_event (steps_of_source s earlier)) (is_of s (source_of n earlier)) on least within)
-step_zip below airs s n bis setup steps.End earlier on least within =
-    with_zip below setup bis (sink_calls airs n earlier) (open_event (steps_of_source s earlier)) (is_of s (source_of n earlier)) on least within
-step_zip below airs s n bis setup _ earlier on least within = tt
+    (with_zip below setup bis (sink_calls airs n earlier) (open_event (steps_of_source s earlier)) (is_of s (source_of n earlier)) on plain least within)
+step_zip below airs s n bis setup steps.End earlier on plain least within =
+    with_zip below setup bis (sink_calls airs n earlier) (open_event (steps_of_source s earlier)) (is_of s (source_of n earlier)) on plain least within
+step_zip below airs s n bis setup _ earlier on plain least within = tt
 
 stream_on : (bis : ℕ) (xs ys : List Handed) → of_stream bis (xs ++ ys) ≡ of_stream bis xs ++ of_stream bis ys
 stream_on bis xs ys = filter-append (λ entry. eqb (bis_of entry) bis) xs ys
@@ -196,17 +198,18 @@ on_whole airs boxes s n setup whole made legal within mine tuning is =
     subst (λ (setup' : Setup). TunedTo setup' tuning) (within.setup_is on.started) on.tuned
 
 slots_zip : Below → (airs : Airs) (boxes s n bis : ℕ) (setup : Setup) (whole : List SourceCall) (made : List Step) → Legal airs boxes made → Within setup whole (steps_of_source s made)
-    → s ≤ 1 → n ≤ 7 → 1 ≤ bis → bis ≤ 31 → AllZip (IsOfSlot setup bis) (slots_closed setup bis (closed_since airs s n made)) (shown_since (is_made n) airs s n bis made)
-slots_zip below airs boxes s n bis setup whole [] legal within s_within n_within least upper = tt
-slots_zip below airs boxes s n bis setup whole (step ∷ earlier) legal within s_within n_within least upper =
+    → setup.info.framing ≡ 0 → s ≤ 1 → n ≤ 7 → 1 ≤ bis → bis ≤ 31 → AllZip (IsOfSlot setup bis) (slots_closed setup bis (closed_since airs s n made)) (shown_since (is_made n) airs s n bis made)
+slots_zip below airs boxes s n bis setup whole [] legal within plain s_within n_within least upper = tt
+slots_zip below airs boxes s n bis setup whole (step ∷ earlier) legal within plain s_within n_within least upper =
     let before : Within setup whole (steps_of_source s earlier) = within_before airs boxes s setup whole earlier step legal within in
     again_zip s n bis setup (is_made n step) (closed_since airs s n earlier) (closed_by airs s n earlier step) (handed_since (is_made n) airs earlier) (handed_by airs earlier step)
-    (slots_zip below airs boxes s n bis setup whole earlier legal.0 before s_within n_within least upper)
+    (slots_zip below airs boxes s n bis setup whole earlier legal.0 before plain s_within n_within least upper)
     (subst (λ units. AllZip (IsOfSlot setup bis) (slots_closed setup bis (closed_by airs s n earlier step)) (of_stream bis units))
     (sym (step_shown airs boxes s n step earlier legal.0 s_within n_within))
-    (step_zip below airs s n bis setup step earlier (on_whole airs boxes s n setup whole earlier legal.0 before) least upper))
+    (step_zip below airs s n bis setup step earlier (on_whole airs boxes s n setup whole earlier legal.0 before) plain least upper))
 
-pub slots_are_shown : Below → (airs : Airs) (boxes s n bis : ℕ) (made : List Step) → Legal airs boxes made → s ≤ 1 → n ≤ 7 → 1 ≤ bis → bis ≤ 31
+pub slots_are_shown : Below → (airs : Airs) (boxes s n bis : ℕ) (made : List Step) → Legal airs boxes made → (setup_of (steps_of_source s made)).info.framing ≡ 0 → s ≤ 1 → n ≤ 7 → 1 ≤ bis → bis ≤ 31
     → AllZip (IsOfSlot (setup_of (steps_of_source s made)) bis) (slots_closed (setup_of (steps_of_source s made)) bis (closed_since airs s n made)) (shown_since (is_made n) airs s n bis made)
-slots_are_shown below airs boxes s n bis made legal s_within n_within least upper =
-    slots_zip below airs boxes s n bis (setup_of (steps_of_source s made)) (source_calls (steps_of_source s made)) made legal (within_itself (steps_of_source s made)) s_within n_within least upper
+slots_are_shown below airs boxes s n bis made legal plain s_within n_within least upper =
+    slots_zip below airs boxes s n bis (setup_of (steps_of_source s made)) (source_calls (steps_of_source s made)) made legal (within_itself
+    (steps_of_source s made)) plain s_within n_within least upper

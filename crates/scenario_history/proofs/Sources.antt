@@ -1,9 +1,9 @@
 -- The steps of one source of a scenario of which no line was refused: its group stands before its start, it takes calls only
 -- behind it, and what fixes it stays.
-use Rattle.std.proofs.Common.{ℕ, ◌≡◌, ◌⊎◌, ◌≤◌, ◌||◌, ◌&&◌, ◌==◌, not, cond, Bool, true, false, List, [], ◌∷◌, Option, None, Some, refl, sym, ◌∙◌, subst, arith, inl, inr}
+use Rattle.std.proofs.Common.{ℕ, zero, suc, ◌≡◌, ◌⊎◌, ◌<◌, ◌≤◌, ◌||◌, ◌&&◌, ◌==◌, not, cond, Bool, true, false, List, [], ◌∷◌, Option, None, Some, refl, sym, ◌∙◌, ap, subst, arith, inl, inr}
 use Rattle.std.specs.Prelude.{unwrap_or}
 use Rattle.std.specs.List.{find, AllByRecursion}
-use Rattle.std.proofs.lemmas.Bool.{eqb-true, false≢true}
+use Rattle.std.proofs.lemmas.Bool.{cases_Bool, eqb-true, false≢true}
 use Rattle.std.proofs.lemmas.Option.{none-some}
 use Rattle.big_info.specs.declared.info.BigInfo.{BigInfo}
 use Rattle.big_info.specs.declared.group.Group.{Group}
@@ -16,15 +16,16 @@ use Rattle.big_info.specs.Widths.{FitsWidths}
 use Rattle.big_info.proofs.Citable.{bounds_of, no_fault_within}
 use Rattle.source_machine.specs.declared.fault.EventFault.{EventFault}
 use Rattle.source_machine.specs.Faults.{event_fault, give_fault}
+use Rattle.source_machine.specs.Setups.{IsChecked}
 use Rattle.scenario_text.specs.declared.step.Step.{Step}
 use Rattle.scenario_text.specs.declared.step.Step.TheVariants as steps
 use Rattle.scenario_text.specs.Ranges.{IsInRange, GroupRanges}
 use Rattle.transcript_text.specs.declared.refusal.Refusal.TheVariants.{BadGroup}
-use Rattle.scenario_history.specs.Steps.{chosen_of, is_common, is_of_source, is_source_line, steps_of_source, version_of}
+use Rattle.scenario_history.specs.Steps.{chosen_of, is_common, is_of_source, is_source_line, is_unbegun_at, stage_after, stage_of, steps_of_source, version_of}
 use Rattle.scenario_history.specs.Source.{Airs, Phase, absent, described, sending, stopped, group_of, info_with, is_absent_at}
 use Rattle.scenario_history.specs.Source.{is_described_at, is_sending, is_sending_at, is_started, no_group, phase_of, setup_of, source_calls, start_of, was_started_at}
 use Rattle.scenario_history.specs.Airs.{AreAccepted}
-use Rattle.scenario_history.specs.Refusals.{counter_ends, give_refusal, horizon_in, is_out_of_phase, is_unbuilt, source_refusal}
+use Rattle.scenario_history.specs.Refusals.{counter_ends, give_refusal, horizon_in, is_misplaced, is_out_of_phase, is_unbuilt, source_refusal}
 use Rattle.scenario_history.proofs.Legals.{Legal, Permitted, maps_none, permitted}
 
 -- ---- tests
@@ -70,6 +71,7 @@ no_group_yet own is = absent_then (phase_of own) is
 -- the source takes the step after those before it
 pub record Allowed (airs : Airs) (own : List Step) (step : Step) : Type 0 where
   pub version : ℕ
+  pub in_place : is_misplaced (stage_of own) step ≡ false
   pub in_phase : is_out_of_phase own step ≡ false
   pub built : is_unbuilt step ≡ false
   pub by_source : source_refusal airs version own step ≡ None
@@ -79,10 +81,25 @@ abbrev pub Lawful : Airs → List Step → Type 0
 Lawful airs [] = Unit {0}
 Lawful airs (step ∷ own) = Lawful airs own × Allowed airs own step
 
-common_allowed : (airs : Airs) (own : List Step) (step : Step) → is_common step ≡ true → IsInRange step → Allowed airs own step
-common_allowed airs own (steps.Scenario number) common ranged = record { version = 1; in_phase = refl; built = refl; by_source = refl; ranged = ranged }
-common_allowed airs own steps.End common ranged = record { version = 1; in_phase = refl; built = refl; by_source = refl; ranged = ranged }
-common_allowed airs own _ common ranged = absurd (false≢true common)
+-- the scenario of a source's steps stands where that of all steps does
+stage_if : (own : List Step) (step : Step) (is_its : Bool) → stage_of (step ∷ own) ≡ stage_of own → stage_of (cond is_its (step ∷ own) own) ≡ stage_of own
+stage_if own step true same = same
+stage_if own step false same = refl
+
+stage_after_step : (s : ℕ) (earlier : List Step) (step : Step) → stage_of (steps_of_source s (step ∷ earlier)) ≡ stage_after step (stage_of (steps_of_source s earlier))
+stage_after_step s earlier (steps.Scenario version) = refl
+stage_after_step s earlier steps.End = refl
+stage_after_step s earlier step = stage_if (steps_of_source s earlier) step (is_of_source s earlier step) refl
+
+pub stage_same : (s : ℕ) (made : List Step) → stage_of (steps_of_source s made) ≡ stage_of made
+stage_same s [] = refl
+stage_same s (step ∷ earlier) = stage_after_step s earlier step ∙ ap (stage_after step) (stage_same s earlier)
+
+common_allowed : (airs : Airs) (own : List Step) (step : Step) → is_common step ≡ true → is_misplaced (stage_of own) step ≡ false → IsInRange step → Allowed airs own step
+common_allowed airs own (steps.Scenario number) common placed ranged =
+    record { version = 1; in_place = placed; in_phase = refl; built = refl; by_source = refl; ranged = ranged }
+common_allowed airs own steps.End common placed ranged = record { version = 1; in_place = placed; in_phase = refl; built = refl; by_source = refl; ranged = ranged }
+common_allowed airs own _ common placed ranged = absurd (false≢true common)
 
 of_source_parts : (a b c : Bool) → (a || (b && c)) ≡ true → (a ≡ true) ⊎ (c ≡ true)
 of_source_parts true b c is = inl refl
@@ -91,12 +108,14 @@ of_source_parts false false c is = absurd (false≢true is)
 
 pub its_step : (airs : Airs) (boxes s : ℕ) (earlier : List Step) (step : Step) → Permitted airs boxes earlier step → IsInRange step → is_of_source s earlier step ≡ true
     → Allowed airs (steps_of_source s earlier) step
-its_step airs boxes s earlier step permits ranged is = elim (of_source_parts (is_common step) (is_source_line step) (chosen_of earlier == s) is) [
-  | inl common ↦ common_allowed airs (steps_of_source s earlier) step common ranged
-  | inr chosen ↦
-      subst (λ t. Allowed airs (steps_of_source t earlier) step) (eqb-true (chosen_of earlier) s chosen)
-      (record { version = version_of earlier; in_phase = permits.in_phase; built = permits.built; by_source = permits.by_source; ranged = ranged })
-]
+its_step airs boxes s earlier step permits ranged is =
+    let placed : (t : ℕ) → is_misplaced (stage_of (steps_of_source t earlier)) step ≡ false = λ t. ap (λ stage. is_misplaced stage step) (stage_same t earlier) ∙ permits.in_place in
+    elim (of_source_parts (is_common step) (is_source_line step) (chosen_of earlier == s) is) [
+      | inl common ↦ common_allowed airs (steps_of_source s earlier) step common (placed s) ranged
+      | inr chosen ↦
+          subst (λ t. Allowed airs (steps_of_source t earlier) step) (eqb-true (chosen_of earlier) s chosen)
+          (record { version = version_of earlier; in_place = placed (chosen_of earlier); in_phase = permits.in_phase; built = permits.built; by_source = permits.by_source; ranged = ranged })
+    ]
 
 lawful_if : (airs : Airs) (own : List Step) (step : Step) (is_its : Bool) → Lawful airs own → (is_its ≡ true → Allowed airs own step) → Lawful airs (cond is_its (step ∷ own) own)
 lawful_if airs own step true before allows = (before, allows refl)
@@ -147,11 +166,11 @@ horizon_greatest false = omega arith
 -- ---- what holds of a source in its phase
 
 pub record Settled (own : List Step) : Type 0 where
-  pub plain : (unwrap_or (group_of own) no_group).info.framing ≡ 0
   pub widths : FitsWidths (unwrap_or (group_of own) no_group).info
   pub no_fault : is_started own ≡ true → NoFault 31 (unwrap_or (group_of own) no_group).info
   pub quiet : is_started own ≡ false → source_calls own ≡ []
   pub unbegun : is_started own ≡ false → unwrap_or (start_of own) 0 ≡ 0
+  pub under_way : is_started own ≡ true → is_unbegun_at (stage_of own) ≡ false
 
 widths_in : (framing origin delay iso sdu max_sdu max_pdu num_bis bn nse irc pto sub spacing phy : ℕ)
     → GroupRanges framing origin delay iso sdu max_sdu max_pdu num_bis bn nse irc pto sub spacing phy
@@ -201,61 +220,78 @@ no_widths = record {
   framing = omega arith;
 }
 
-eq_zero : (n : ℕ) → not (n == 0) ≡ false → n ≡ 0
-eq_zero n is = eqb-true n 0 (not_false (n == 0) is)
+begins : (own : List Step) → (is_started own ≡ true → is_unbegun_at (stage_of own) ≡ false) → not (is_unbegun_at (stage_of own)) ≡ false → is_started own ≡ false
+begins own before is = elim (cases_Bool (is_started own)) [
+  | inl started ↦ absurd (true_not_false (is_unbegun_at (stage_of own)) (not_false (is_unbegun_at (stage_of own)) is) (before started))
+  | inr idle ↦ idle
+]
 
 settled_after : (airs : Airs) (own : List Step) (step : Step) → Settled own → Allowed airs own step → Settled (step ∷ own)
 settled_after airs own (steps.Group framing origin delay iso sdu max_sdu max_pdu num_bis bn nse irc pto sub spacing phy) before allows = record {
-  plain = eq_zero framing allows.built;
   widths = widths_in framing origin delay iso sdu max_sdu max_pdu num_bis bn nse irc pto sub spacing phy allows.ranged;
   no_fault = λ started. absurd (false≢true started);
   quiet = λ idle. before.quiet (no_group_yet own allows.in_phase);
+  under_way = λ started. absurd (false≢true started);
   unbegun = λ idle. before.unbegun (no_group_yet own allows.in_phase);
 }
 settled_after airs own (steps.Start first) before allows = record {
-  plain = before.plain;
   widths = before.widths;
   no_fault = λ started. no_fault_within (horizon_in allows.version) (unwrap_or (group_of own) no_group).info (horizon_greatest (allows.version == 2))
       (no_fault_in (horizon_in allows.version) (unwrap_or (group_of own) no_group).info (maps_none BadGroup _ allows.by_source));
   quiet = λ idle. absurd (false≢true (sym idle));
+  under_way = λ started. allows.in_place;
   unbegun = λ idle. absurd (false≢true (sym idle));
 }
 settled_after airs own steps.Stop before allows = record {
-  plain = before.plain;
   widths = before.widths;
   no_fault = λ started. before.no_fault (sends own allows.in_phase);
   quiet = λ idle. absurd (false≢true (sym idle));
+  under_way = λ started. allows.in_place;
   unbegun = λ idle. absurd (false≢true (sym idle));
 }
 settled_after airs own (steps.Unit bis time octets) before allows = record {
-  plain = before.plain;
   widths = before.widths;
   no_fault = before.no_fault;
   quiet = λ idle. absurd (true_not_false (is_started own) (sends own allows.in_phase) idle);
+  under_way = λ started. allows.in_place;
   unbegun = before.unbegun;
 }
 settled_after airs own steps.Event before allows = record {
-  plain = before.plain;
   widths = before.widths;
   no_fault = before.no_fault;
   quiet = λ idle. absurd (true_not_false (is_started own) (sends own allows.in_phase) idle);
+  under_way = λ started. allows.in_place;
   unbegun = before.unbegun;
 }
-settled_after airs own _ before allows = record {
-  plain = before.plain;
+settled_after airs own (steps.Scenario version) before allows = record {
   widths = before.widths;
   no_fault = before.no_fault;
   quiet = before.quiet;
+  under_way = λ started. refl;
+  unbegun = before.unbegun;
+}
+settled_after airs own steps.End before allows = record {
+  widths = before.widths;
+  no_fault = before.no_fault;
+  quiet = before.quiet;
+  under_way = λ started. refl;
+  unbegun = before.unbegun;
+}
+settled_after airs own _ before allows = record {
+  widths = before.widths;
+  no_fault = before.no_fault;
+  quiet = before.quiet;
+  under_way = λ started. allows.in_place;
   unbegun = before.unbegun;
 }
 
 pub settled : (airs : Airs) (own : List Step) → Lawful airs own → Settled own
 settled airs [] legal = record {
-  plain = refl;
   widths = no_widths;
   no_fault = λ started. absurd (false≢true started);
   quiet = λ idle. refl;
   unbegun = λ idle. refl;
+  under_way = λ started. absurd (false≢true started);
 }
 settled airs (step ∷ own) legal = settled_after airs own step (settled airs own legal.0) legal.1
 
@@ -267,11 +303,17 @@ started_stays airs own (steps.Start first) allows started = refl
 started_stays airs own steps.Stop allows started = refl
 started_stays airs own _ allows started = started
 
-pub setup_stays : (airs : Airs) (own : List Step) (step : Step) → Allowed airs own step → is_started own ≡ true → setup_of (step ∷ own) ≡ setup_of own
-setup_stays airs own (steps.Group framing origin delay iso sdu max_sdu max_pdu num_bis bn nse irc pto sub spacing phy) allows started =
+pub setup_stays : (airs : Airs) (own : List Step) (step : Step) → Settled own → Allowed airs own step → is_started own ≡ true → setup_of (step ∷ own) ≡ setup_of own
+setup_stays airs own (steps.Group framing origin delay iso sdu max_sdu max_pdu num_bis bn nse irc pto sub spacing phy) is allows started =
     absurd (true_not_false (is_started own) started (no_group_yet own allows.in_phase))
-setup_stays airs own (steps.Start first) allows started = absurd (true_not_false (is_started own) started (not_started own allows.in_phase))
-setup_stays airs own _ allows started = refl
+setup_stays airs own (steps.Start first) is allows started = absurd (true_not_false (is_started own) started (not_started own allows.in_phase))
+setup_stays airs own (steps.Scenario version) is allows started = absurd (true_not_false (is_started own) started (begins own is.under_way allows.in_place))
+setup_stays airs own _ is allows started = refl
+
+one_or_none : (n : ℕ) → n < 2 → (n ≡ 0) ⊎ (n ≡ 1)
+one_or_none zero below = inl refl
+one_or_none (suc zero) below = inr refl
+one_or_none (suc (suc n)) below = absurd (omega (arith, below))
 
 -- the group of a source that was started
 abbrev pub group_in : (own : List Step) → Settled own → is_started own ≡ true → Group
@@ -282,12 +324,19 @@ group_in own is started = record {
   bounds = bounds_of (setup_of own).info (is.no_fault started);
 }
 
+-- a group is unframed or framed
+pub framings : (own : List Step) → Settled own → ((setup_of own).info.framing ≡ 0) ⊎ ((setup_of own).info.framing ≡ 1)
+framings own is = one_or_none (setup_of own).info.framing is.widths.framing
+
+pub checked : (group : Group) → IsChecked group.info
+checked group = record { bounds = group.bounds; framing = omega (arith, group.widths.framing) }
+
 pub bounds_in : (own : List Step) → Settled own → is_started own ≡ true → Bounds (setup_of own).info
 bounds_in own is started = bounds_of (setup_of own).info (is.no_fault started)
 
 -- ---- its calls were accepted
 
-no_end : (fault : Option EventFault) → counter_ends fault ≡ None → fault ≡ None
+pub no_end : (fault : Option EventFault) → counter_ends fault ≡ None → fault ≡ None
 no_end None none = refl
 no_end (Some fault) none = absurd (none-some _ (sym none))
 
@@ -303,6 +352,8 @@ accepted_after airs own (steps.Unit bis time octets) is allows before = (
   maps_none give_refusal (give_fault (setup_of own) (source_calls own) (airs (setup_of own) (source_calls own)) bis time octets) allows.by_source,
 )
 accepted_after airs own steps.Event is allows before = (before, no_end (event_fault (setup_of own) (source_calls own)) allows.by_source)
+accepted_after airs own (steps.Scenario version) is allows before =
+    subst (λ calls. AreAccepted airs (setup_of (steps.Scenario version ∷ own)) calls) (sym (is.quiet (begins own is.under_way allows.in_place))) tt
 accepted_after airs own _ is allows before = before
 
 pub are_accepted : (airs : Airs) (own : List Step) → Lawful airs own → AreAccepted airs (setup_of own) (source_calls own)

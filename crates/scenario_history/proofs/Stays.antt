@@ -7,10 +7,12 @@ use Rattle.source_machine.specs.Calls.{Setup}
 use Rattle.delegator_machine.specs.Calls.{Tuning, Call, tune, hear, place}
 use Rattle.scenario_text.specs.declared.step.Step.{Step}
 use Rattle.scenario_text.specs.declared.step.Step.TheVariants as steps
+use Rattle.transcript_text.specs.declared.refusal.Refusal.TheVariants.{NoSuchBis}
 use Rattle.scenario_history.specs.Steps.{chosen_of, chosen_steps, steps_of_source}
 use Rattle.scenario_history.specs.Source.{Airs, event_back, is_started, open_event, pdu_in, setup_of}
 use Rattle.scenario_history.specs.Sinks.{heard_on_air, is_lost, is_of, reaches, sink_calls, source_after, source_of, spot_at, spots_of, ticked, ticked_if, tuning_of, unless_lost, with_sink_call}
-use Rattle.scenario_history.proofs.Legals.{Legal, Permitted, permitted}
+use Rattle.scenario_history.specs.Refusals.{has_beyond}
+use Rattle.scenario_history.proofs.Legals.{Legal, Permitted, fails_not, permitted}
 use Rattle.scenario_history.proofs.Sources.{sends}
 use Rattle.scenario_history.proofs.Wholes.{goes}
 
@@ -106,6 +108,7 @@ on_before airs s n step earlier tuning is = there_before airs s n step earlier t
 pub record OnSource (own : List Step) (tuning : Tuning) : Type 0 where
   pub started : is_started own ≡ true
   pub tuned : TunedTo (setup_of own) tuning
+  pub streams : has_beyond (setup_of own).info.num_bis tuning.which ≡ false
 
 put_to : (airs : Airs) (boxes s n : ℕ) (step : Step) (earlier : List Step) (tuning : Tuning) → Permitted airs boxes earlier step → PutBy s n step earlier tuning
     → OnSource (steps_of_source s earlier) tuning
@@ -113,6 +116,8 @@ put_to airs boxes s n (steps.Tuned sink which) earlier tuning permits put =
     subst (λ t. OnSource (steps_of_source t earlier) tuning) put.1 (record {
       started = sends (chosen_steps earlier) permits.in_phase;
       tuned = subst (TunedTo (setup_of (chosen_steps earlier))) put.0 (record { info = refl; first = omega arith; anchor = refl; delay = refl });
+      streams = subst (λ (t : Tuning). has_beyond (setup_of (chosen_steps earlier)).info.num_bis t.which ≡ false) put.0
+          (fails_not (has_beyond (setup_of (chosen_steps earlier)).info.num_bis which) NoSuchBis permits.by_source);
     })
 put_to airs boxes s n _ earlier tuning permits put = absurd put
 
@@ -120,7 +125,11 @@ still_to : (airs : Airs) (boxes s : ℕ) (step : Step) (earlier : List Step) (tu
     → OnSource (steps_of_source s (step ∷ earlier)) tuning
 still_to airs boxes s step earlier tuning legal on =
     let more = goes airs boxes s earlier step legal on.started in
-    record { started = more.started; tuned = subst (λ (setup : Setup). TunedTo setup tuning) (sym more.setup_is) on.tuned }
+    record {
+      started = more.started;
+      tuned = subst (λ (setup : Setup). TunedTo setup tuning) (sym more.setup_is) on.tuned;
+      streams = subst (λ (setup : Setup). has_beyond setup.info.num_bis tuning.which ≡ false) (sym more.setup_is) on.streams;
+    }
 
 -- a sink on a group is on that of its source, which was started
 pub on_source : (airs : Airs) (boxes s n : ℕ) (made : List Step) (tuning : Tuning) → Legal airs boxes made → IsOn airs s n made tuning → OnSource (steps_of_source s made) tuning

@@ -12,7 +12,7 @@ use Rattle.unit_outlets.specs.Handed.{Handed}
 use Rattle.isoal_unframed.specs.Air.{before_event}
 use Rattle.isoal_unframed.specs.Calls.{Call as StreamCall, accept, lay, lays, accepted, begun, events as laid_events}
 use Rattle.isoal_unframed.specs.Histories.{handed}
-use Rattle.isoal_unframed.specs.Struck.{Struck}
+use Rattle.isoal_unframed.specs.Struck.{Struck, air_at}
 use Rattle.source_machine.specs.Airs.{slots_of}
 use Rattle.source_machine.specs.Calls.{Call as SourceCall, laid_with, stream_calls as source_stream}
 use Rattle.source_machine.specs.declared.fault.GiveFault.{GiveFault}
@@ -38,7 +38,9 @@ use Rattle.scenario_history.proofs.Sources.{Allowed, Lawful, Settled, bounds_in,
 use Rattle.scenario_history.proofs.Wholes.{within_itself}
 use Rattle.scenario_history.proofs.Stays.{IsOn, IsThere, OnSource, PutBy, on_before, on_source}
 use Rattle.scenario_history.proofs.Hears.{all_own}
+use Rattle.scenario_history.proofs.Plains.{sends_own}
 use Rattle.scenario_history.proofs.FromSources.{from_source}
+use Rattle.scenario_history.proofs.FramedStays.{framed_law}
 use Rattle.scenario_history.proofs.Closings.{handed_open, of_sink_on, shown_by, shown_with, step_shown}
 use Rattle.scenario_history.proofs.Ticks.{chosen_within, end_ticks, event_ticks}
 
@@ -118,20 +120,22 @@ slot_short airs bis own legal event slot unit has =
 -- ---- what the closes of a stay hand is struck
 
 pub stay_struck : Below → (airs : Airs) → MeetAirs airs → (boxes s n bis : ℕ) (made : List Step) (tuning : Tuning) → Legal airs boxes made
-    → IsOn airs s n made tuning → 1 ≤ bis → injected_since (is_tuned n) n made ≡ false
+    → IsOn airs s n made tuning → 1 ≤ bis → (setup_of (steps_of_source s made)).info.framing ≡ 0 → injected_since (is_tuned n) n made ≡ false
     → Struck (stay_on tuning bis) (slots_of (setup_of (steps_of_source s made)) (source_calls (steps_of_source s made)) bis)
     (calls_on airs made n tuning bis) (handed (stay_on tuning bis) (calls_on airs made n tuning bis))
-stay_struck below airs meets boxes s n bis made tuning legal is least clean =
+stay_struck below airs meets boxes s n bis made tuning legal is least plain_source clean =
     let own : List Step = steps_of_source s made in
     let own_legal : Lawful airs own = lawful airs boxes s made legal in
     let settles : Settled own = settled airs own own_legal in
     let on : OnSource own tuning = on_source airs boxes s n made tuning legal is in
     let bounds : Bounds tuning.info = subst Bounds (sym on.tuned.info) (bounds_in own settles on.started) in
-    let plain : tuning.info.framing ≡ 0 = ap (λ (i : BigInfo). i.framing) on.tuned.info ∙ settles.plain in
+    let plain : tuning.info.framing ≡ 0 = ap (λ (i : BigInfo). i.framing) on.tuned.info ∙ plain_source in
     below.struck (stay_on tuning bis) (slots_of (setup_of own) (source_calls own) bis) (calls_on airs made n tuning bis) bounds plain
     (λ event slot unit has. subst (λ (i : BigInfo). length unit ≤ i.max_sdu) (sym on.tuned.info) (slot_short airs bis own own_legal event slot unit has))
     (from_source (stay_on tuning bis) (slots_of (setup_of own) (source_calls own) bis) (calls_on airs made n tuning bis)
-    (all_own below airs meets (setup_of own) (source_calls own) tuning boxes s n bis made legal (within_itself own) on.tuned.info least is clean))
+    (all_own airs (setup_of own) (source_calls own) (air_at (stay_on tuning bis) (slots_of (setup_of own) (source_calls own) bis)) tuning boxes s n bis made
+    (λ part its_legal started within. sends_own below airs meets (setup_of own) (source_calls own) tuning bis part its_legal started within on.tuned.info plain_source)
+    legal (within_itself own) least is clean))
 
 -- ---- what a sink handed up in its stay is what its ticks handed
 
@@ -262,9 +266,15 @@ units_law_holds below starts airs meets lines accepted s n bis tuning there of_s
     let lawful_steps : Legal airs (length starts) (steps_of lines) = legal below.in_range airs starts lines accepted in
     let is : IsOn airs s n (steps_of lines) tuning = record { place_is = there; source_is = of_source } in
     let are : Numbers s n = numbers airs (length starts) s n (steps_of lines) tuning lawful_steps is in
-    let shown : of_stream bis (of_sink s n (handed_since (is_tuned n) airs (steps_of lines))) ≡ handed (stay_on tuning bis) (calls_on airs (steps_of lines) n tuning bis) =
-    ap (of_stream bis) (since airs (length starts) s n (steps_of lines) tuning lawful_steps are.source_within are.sink_within is)
-    ∙ below.hands tuning (sink_calls airs n (steps_of lines)) bis there taken in
-    subst (λ units. Struck (stay_on tuning bis) (slots_of (setup_of (steps_of_source s (steps_of lines))) (source_calls (steps_of_source s (steps_of lines))) bis)
-    (calls_on airs (steps_of lines) n tuning bis) units) (sym shown)
-    (stay_struck below airs meets (length starts) s n bis (steps_of lines) tuning lawful_steps is (member_is tuning.which bis taken).1 clean)
+    let ticks : of_stream bis (of_sink s n (handed_since (is_tuned n) airs (steps_of lines))) ≡ of_stream bis (ticked_since (sink_calls airs n (steps_of lines))) =
+    ap (of_stream bis) (since airs (length starts) s n (steps_of lines) tuning lawful_steps are.source_within are.sink_within is) in
+    let on : OnSource (steps_of_source s (steps_of lines)) tuning = on_source airs (length starts) s n (steps_of lines) tuning lawful_steps is in
+    let tuned_framing : tuning.info.framing ≡ (setup_of (steps_of_source s (steps_of lines))).info.framing = ap (λ (i : BigInfo). i.framing) on.tuned.info in
+    record {
+      unframed = λ plain.
+          subst (λ units. Struck (stay_on tuning bis) (slots_of (setup_of (steps_of_source s (steps_of lines))) (source_calls (steps_of_source s (steps_of lines))) bis)
+          (calls_on airs (steps_of lines) n tuning bis) units)
+          (sym (ticks ∙ below.hands tuning (sink_calls airs n (steps_of lines)) bis (tuned_framing ∙ plain) there taken))
+          (stay_struck below airs meets (length starts) s n bis (steps_of lines) tuning lawful_steps is (member_is tuning.which bis taken).1 plain clean);
+      framed = λ is_framed. framed_law below airs meets (length starts) s n bis (steps_of lines) tuning lawful_steps are.source_within is is_framed taken clean ticks;
+    }

@@ -25,18 +25,18 @@ extends_before whole own (steps.Unit bis time octets) more = extends_less whole 
 extends_before whole own steps.Event more = extends_less whole (source_calls own) perform more
 extends_before whole own _ more = more
 
-within_if : (airs : Airs) (setup : Setup) (whole : List SourceCall) (own : List Step) (step : Step) (is_its : Bool) → (is_its ≡ true → Allowed airs own step)
+within_if : (airs : Airs) (setup : Setup) (whole : List SourceCall) (own : List Step) (step : Step) (is_its : Bool) → Lawful airs own → (is_its ≡ true → Allowed airs own step)
     → Within setup whole (cond is_its (step ∷ own) own) → Within setup whole own
-within_if airs setup whole own step true allows within = record {
-  setup_is = λ started. sym (setup_stays airs own step (allows refl) started) ∙ within.setup_is (started_stays airs own step (allows refl) started);
+within_if airs setup whole own step true legal allows within = record {
+  setup_is = λ started. sym (setup_stays airs own step (settled airs own legal) (allows refl) started) ∙ within.setup_is (started_stays airs own step (allows refl) started);
   calls = extends_before whole own step within.calls;
 }
-within_if airs setup whole own step false allows within = within
+within_if airs setup whole own step false legal allows within = within
 
 pub within_before : (airs : Airs) (boxes s : ℕ) (setup : Setup) (whole : List SourceCall) (earlier : List Step) (step : Step) → Legal airs boxes (step ∷ earlier)
     → Within setup whole (steps_of_source s (step ∷ earlier)) → Within setup whole (steps_of_source s earlier)
 within_before airs boxes s setup whole earlier step legal within =
-    within_if airs setup whole (steps_of_source s earlier) step (is_of_source s earlier step)
+    within_if airs setup whole (steps_of_source s earlier) step (is_of_source s earlier step) (lawful airs boxes s earlier legal.0)
     (its_step airs boxes s earlier step (permitted airs boxes earlier step legal.1) legal.2) within
 
 pub within_itself : (own : List Step) → Within (setup_of own) (source_calls own) own
@@ -54,14 +54,19 @@ pub record Goes (before after : List Step) : Type 0 where
   pub started : is_started after ≡ true
   pub setup_is : setup_of after ≡ setup_of before
 
-goes_if : (airs : Airs) (own : List Step) (step : Step) (is_its : Bool) → (is_its ≡ true → Allowed airs own step) → is_started own ≡ true → Goes own (cond is_its (step ∷ own) own)
-goes_if airs own step true allows started = record { started = started_stays airs own step (allows refl) started; setup_is = setup_stays airs own step (allows refl) started }
-goes_if airs own step false allows started = record { started = started; setup_is = refl }
+goes_if : (airs : Airs) (own : List Step) (step : Step) (is_its : Bool) → Lawful airs own → (is_its ≡ true → Allowed airs own step) → is_started own ≡ true → Goes own (cond is_its (step ∷ own) own)
+goes_if airs own step true legal allows started = record {
+  started = started_stays airs own step (allows refl) started;
+  setup_is = setup_stays airs own step (settled airs own legal)
+      (allows refl) started;
+}
+goes_if airs own step false legal allows started = record { started = started; setup_is = refl }
 
 pub goes : (airs : Airs) (boxes s : ℕ) (earlier : List Step) (step : Step) → Legal airs boxes (step ∷ earlier) → is_started (steps_of_source s earlier) ≡ true
     → Goes (steps_of_source s earlier) (steps_of_source s (step ∷ earlier))
 goes airs boxes s earlier step legal started =
-    goes_if airs (steps_of_source s earlier) step (is_of_source s earlier step) (its_step airs boxes s earlier step (permitted airs boxes earlier step legal.1) legal.2) started
+    goes_if airs (steps_of_source s earlier) step (is_of_source s earlier step) (lawful airs boxes s earlier legal.0) (its_step airs boxes s earlier step
+    (permitted airs boxes earlier step legal.1) legal.2) started
 
 -- the next event of the source
 abbrev pub next_in : List Step → ℕ

@@ -26,7 +26,7 @@ use Rattle.scenario_history.specs.Airs.{MeetAirs}
 use Rattle.scenario_history.specs.Sinks.{is_of, sink_calls, source_of}
 use Rattle.scenario_history.specs.Boxes.{SinkUnit, handed_by}
 use Rattle.scenario_history.specs.Lines.{rules_of, steps_of}
-use Rattle.scenario_history.specs.SourceUnits.{AreOfStarts, AreSent, InSourceOrder, InUnitOrder, IsOfSlot, valid_in}
+use Rattle.scenario_history.specs.SourceUnits.{AreSent, InSourceOrder, InStartOrder, InUnitOrder, IsOfSlot, valid_in}
 
 -- ---- injected PDUs
 
@@ -152,23 +152,20 @@ slots_in setup bis closed =
 abbrev pub slots_closed : Setup → ℕ → List Closed → List Place
 slots_closed setup bis closed = flat_map (slots_in setup bis) closed
 
--- these events, where the stream was taken
-abbrev pub events_taken : ℕ → List Closed → List ℕ
-events_taken bis closed = map (λ (closed : Closed). closed.event) (filter (λ (closed : Closed). is_in closed.which bis) closed)
-
 -- Over all stays of a sink with one and the same source: the events of it that the sink closed since it was made rise, so
 -- that none is closed twice. What it handed up on an unframed stream of it is one entry for each slot of each of these events
--- that it took the stream in, in order, at the slot's time by the source's anchors; on a framed stream each entry belongs to
--- the event of its start, event by event, at the time by the source's anchor of that event and a TimeOffset. And where no PDU
--- was injected into the sink, its valid units of an unframed stream are, in order, units that the source accepted on the
--- stream, each at most once; and its entries of a framed stream, the valid ones with the unit's octets, are of such units
+-- that it took the stream in, in order, at the slot's time by the source's anchors; on a framed stream its entries are, in
+-- order, of starts in events that never fall, at the time by the source's anchors and a TimeOffset. And where no PDU was
+-- injected into the sink, its valid units of an unframed stream are, in order, units that the source accepted on the stream,
+-- each at most once; and its entries of a framed stream are, in order, of such units, each at most once: each at the time by
+-- the source's anchor of the event of its start and its TimeOffset, and the valid ones with the unit's octets
 pub record StaysInOrder (airs : Airs) (steps : List Step) (s n : ℕ) : Type 0 where
   pub rising : IsStrictlyIncreasing (map (λ (closed : Closed). closed.event) (closed_since airs s n steps))
   pub slots : (bis : ℕ) → n ≤ 7 → 1 ≤ bis → bis ≤ 31 → (setup_of (steps_of_source s steps)).info.framing ≡ 0
       → AllZip (IsOfSlot (setup_of (steps_of_source s steps)) bis)
       (slots_closed (setup_of (steps_of_source s steps)) bis (closed_since airs s n steps)) (shown_since (is_made n) airs s n bis steps)
   pub starts : (bis : ℕ) → n ≤ 7 → 1 ≤ bis → bis ≤ 31 → (setup_of (steps_of_source s steps)).info.framing ≡ 1
-      → AreOfStarts (setup_of (steps_of_source s steps)) bis (events_taken bis (closed_since airs s n steps)) (shown_since (is_made n) airs s n bis steps)
+      → InStartOrder (setup_of (steps_of_source s steps)) (source_calls (steps_of_source s steps)) bis (shown_since (is_made n) airs s n bis steps)
   pub in_source_order : (bis : ℕ) → n ≤ 7 → 1 ≤ bis → bis ≤ 31 → (setup_of (steps_of_source s steps)).info.framing ≡ 0
       → injected_since (is_made n) n steps ≡ false
       → InSourceOrder (setup_of (steps_of_source s steps)) (source_calls (steps_of_source s steps)) bis

@@ -1,8 +1,8 @@
 -- Units by the source's own anchors and numbers: which unit of the source an entry is that a sink hands up, and when it is
 -- due (Core 5.2, volume 6 part G, sections 2.1, 2.2 and 3.2). Lists of calls have the newest first; lists of events, of
 -- slots and of units have the oldest first.
-use Rattle.std.specs.Prelude.{ℕ, ◌+◌, ◌-◌, ◌*◌, ◌<◌, ◌≤◌, ◌≡◌, Bool, true, false, List, [], ◌∷◌, ◌++◌, map, Some, slice_get, unwrap_or}
-use Rattle.std.specs.List.{AllByRecursion, AllZip, filter}
+use Rattle.std.specs.Prelude.{ℕ, ◌+◌, ◌-◌, ◌*◌, ◌<◌, ◌≤◌, ◌≡◌, Bool, true, false, List, [], ◌∷◌, map, Some, slice_get}
+use Rattle.std.specs.List.{AllZip, filter}
 use Rattle.std.specs.List.Sorted.{IsStrictlyIncreasing}
 use Rattle.big_info.specs.Schedule.{per_event_of}
 use Rattle.big_info.specs.Time.{iso_us_of}
@@ -88,23 +88,30 @@ pub record AreSent (setup : Setup) (calls : List Call) (bis : ℕ) (air : Air) (
   pub sends : Sends setup.info (framed_calls setup bis calls) air in_air
   pub numbered : units ≡ map (by_payload setup) in_air
 
--- the entry is of the stream and of a start in this event: its time is the event's anchor less some TimeOffset, by the
--- synchronization reference of a framed unit, which is never below 0, and the presentation delay
-pub record IsOfStart (setup : Setup) (bis event : ℕ) (entry : Handed) : Type 0 where
+-- the entry is of the stream and of a start in this event, which was performed: its time is by the event's anchor, less some
+-- TimeOffset, by the synchronization reference of a framed unit, which is never below 0, and the presentation delay
+pub record IsOfStart (setup : Setup) (calls : List Call) (bis event : ℕ) (entry : Handed) : Type 0 where
+  pub least : setup.first ≤ event
+  pub performed : event < next_of setup calls
   pub stream : bis_of entry ≡ bis
   pub offset : ℕ
   pub time_is : time_in entry ≡ start_time (whole_stay setup bis) event offset
 
--- the entries are, event by event, of starts in these events, of each event some or none
-abbrev pub AreOfStarts : Setup → ℕ → List ℕ → List Handed → Type 0
-AreOfStarts setup bis [] entries = entries ≡ []
-AreOfStarts setup bis (event ∷ events) entries =
-    (own : List Handed) × (others : List Handed) × (entries ≡ own ++ others)
-    × AllByRecursion (IsOfStart setup bis event) own × AreOfStarts setup bis events others
+-- events that never fall, from this one on
+abbrev pub NeverFall : ℕ → List ℕ → Type 0
+NeverFall least [] = Unit {0}
+NeverFall least (event ∷ events) = (least ≤ event) × NeverFall event events
 
--- the entry is of the unit of this number among those that the source accepted on the stream: it has the time that the
--- unit's own time gives in an event that was performed, by the TimeOffset from it to the event's anchor; and if it is valid
--- it has the unit's octets
+-- there are events that never fall such that the entries are, in order, of starts in them
+pub record InStartOrder (setup : Setup) (calls : List Call) (bis : ℕ) (entries : List Handed) : Type 0 where
+  pub events : List ℕ
+  pub order : NeverFall setup.first events
+  pub each : AllZip (IsOfStart setup calls bis) events entries
+
+-- the entry is of the unit of this number among those that the source accepted on the stream, which starts in an event that
+-- was performed: its time is by that event's anchor, less the TimeOffset from the unit's own time to the anchor, by the
+-- synchronization reference of a framed unit, which is never below 0, and the presentation delay; if it is valid it has the
+-- unit's octets
 pub record IsOfUnit (setup : Setup) (calls : List Call) (bis number : ℕ) (entry : Handed) : Type 0 where
   pub event : ℕ
   pub unit : Timed

@@ -15,7 +15,6 @@ pub struct Joining {
     pub anchor: u64,
     /// The presentation delay in µs.
     pub delay: u32,
-    pub ghost unframed: { group.info.framing ≡ 0 },
     pub ghost event_is: { event ≤ 2 ^ 39 },
     pub ghost anchor_is: { anchor ≤ 2 ^ 61 },
     pub ghost delay_is: { delay < 2 ^ 24 },

@@ -4,8 +4,10 @@ use Rattle.source_machine.specs.Calls.{Call, Setup}
 use Rattle.multi_source.specs.State.Broadcasts.{StandsFor}
 use Rattle.scenario_text.specs.declared.step.Step.{Step}
 use Rattle.scenario_text.specs.declared.step.Step.TheVariants.{Scenario, Sink, Tuned, Hear, Air, Inject, Sniff, Drop, End}
-use Rattle.scenario_history.specs.Steps.{chosen_given, chosen_of, is_of_source, steps_of_source}
+use Rattle.scenario_history.specs.Steps.{chosen_given, chosen_of, is_of_source, is_unbegun, is_unbegun_at, stage_of, steps_of_source, unbegun}
 use Rattle.scenario_history.specs.Source.{group_of, ident_of, phase_of, setup_of, source_calls}
+use Rattle.std.proofs.lemmas.Bool.{false≢true}
+use Rattle.scenario_history.proofs.Citable.{stage_same}
 use Rattle.scenario_sources.specs.declared.phase.Phase.{Phase}
 use Rattle.scenario_sources.specs.declared.phase.Phase.TheVariants as phases
 use Rattle.scenario_sources.specs.declared.phase.Started.{Started}
@@ -19,13 +21,15 @@ pub record SaysNothing (made : Step) : Type 0 where
   pub phase : (own : List Step) → phase_of (made ∷ own) ≡ phase_of own
   pub group : (own : List Step) → group_of (made ∷ own) ≡ group_of own
   pub ident : (own : List Step) → ident_of (made ∷ own) ≡ ident_of own
-  pub setup : (own : List Step) → setup_of (made ∷ own) ≡ setup_of own
+  pub setup : (own : List Step) → is_unbegun own ≡ false → setup_of (made ∷ own) ≡ setup_of own
+  pub under_way : (own : List Step) → is_unbegun own ≡ false → is_unbegun (made ∷ own) ≡ false
   pub calls : (own : List Step) → source_calls (made ∷ own) ≡ source_calls own
 
 started_stays : (made : Step) (own : List Step) (started : Started) → SaysNothing made → StartedIs own started → StartedIs (made ∷ own) started
 started_stays made own started nothing is = record {
   ident = is.ident ∙ sym (nothing.ident own);
-  setup = is.setup ∙ sym (nothing.setup own);
+  setup = is.setup ∙ sym (nothing.setup own is.under_way);
+  under_way = nothing.under_way own is.under_way;
   calls = let P : List Call → Type 0 = λ calls. StandsFor calls started.source in subst P (sym (nothing.calls own)) is.calls;
 }
 
@@ -51,29 +55,43 @@ sources_stay made steps sources nothing stands = record {
   phases = λ s below. at_stays (is_of_source s steps made) made (steps_of_source s steps) (slice_get sources.phases.items s) nothing (stands.phases s below);
 }
 
-pub scenario_says : (version : ℕ) → SaysNothing (Scenario version)
-scenario_says version = record { chosen = refl; phase = λ own. refl; group = λ own. refl; ident = λ own. refl; setup = λ own. refl; calls = λ own. refl }
+-- the first step of a scenario comes before any start, and leaves the sources as they are
+phase_begins : (version : ℕ) (own : List Step) (phase : Phase) → stage_of own ≡ unbegun → PhaseIs own phase → PhaseIs (Scenario version ∷ own) phase
+phase_begins version own phases.Absent stage is = (is.0, record { ident = is.1.ident; calls = is.1.calls })
+phase_begins version own (phases.Described said) stage is = (is.0, record { group = is.1.group; ident = is.1.ident; calls = is.1.calls })
+phase_begins version own (phases.Sending started) stage is = absurd (false≢true (sym is.1.under_way ∙ ap is_unbegun_at stage))
+phase_begins version own (phases.Stopped started) stage is = absurd (false≢true (sym is.1.under_way ∙ ap is_unbegun_at stage))
+
+at_begins : (version : ℕ) (own : List Step) (o : Option Phase) → stage_of own ≡ unbegun → PhaseAt own o → PhaseAt (Scenario version ∷ own) o
+at_begins version own None stage is = is
+at_begins version own (Some phase) stage is = phase_begins version own phase stage is
+
+pub scenario_begins : (version : ℕ) (steps : List Step) (sources : Sources) → stage_of steps ≡ unbegun → SourcesStand steps sources → SourcesStand (Scenario version ∷ steps) sources
+scenario_begins version steps sources stage stands = record {
+  chosen = stands.chosen;
+  phases = λ s below. at_begins version (steps_of_source s steps) (slice_get sources.phases.items s) (stage_same s steps ∙ stage) (stands.phases s below);
+}
 
 pub sink_says : (sink streams slots : ℕ) (mtu : Option ℕ) → SaysNothing (Sink sink streams slots mtu)
-sink_says sink streams slots mtu = record { chosen = refl; phase = λ own. refl; group = λ own. refl; ident = λ own. refl; setup = λ own. refl; calls = λ own. refl }
+sink_says sink streams slots mtu = record { chosen = refl; phase = λ own. refl; group = λ own. refl; ident = λ own. refl; setup = λ own going. refl; under_way = λ own going. going; calls = λ own. refl }
 
 pub drop_says : (sink : ℕ) → SaysNothing (Drop sink)
-drop_says sink = record { chosen = refl; phase = λ own. refl; group = λ own. refl; ident = λ own. refl; setup = λ own. refl; calls = λ own. refl }
+drop_says sink = record { chosen = refl; phase = λ own. refl; group = λ own. refl; ident = λ own. refl; setup = λ own going. refl; under_way = λ own going. going; calls = λ own. refl }
 
 pub tuned_says : (sink which : ℕ) → SaysNothing (Tuned sink which)
-tuned_says sink which = record { chosen = refl; phase = λ own. refl; group = λ own. refl; ident = λ own. refl; setup = λ own. refl; calls = λ own. refl }
+tuned_says sink which = record { chosen = refl; phase = λ own. refl; group = λ own. refl; ident = λ own. refl; setup = λ own going. refl; under_way = λ own going. going; calls = λ own. refl }
 
 pub hear_says : (sink back bis subevent : ℕ) → SaysNothing (Hear sink back bis subevent)
-hear_says sink back bis subevent = record { chosen = refl; phase = λ own. refl; group = λ own. refl; ident = λ own. refl; setup = λ own. refl; calls = λ own. refl }
+hear_says sink back bis subevent = record { chosen = refl; phase = λ own. refl; group = λ own. refl; ident = λ own. refl; setup = λ own going. refl; under_way = λ own going. going; calls = λ own. refl }
 
 pub air_says : (sink lose : ℕ) → SaysNothing (Air sink lose)
-air_says sink lose = record { chosen = refl; phase = λ own. refl; group = λ own. refl; ident = λ own. refl; setup = λ own. refl; calls = λ own. refl }
+air_says sink lose = record { chosen = refl; phase = λ own. refl; group = λ own. refl; ident = λ own. refl; setup = λ own going. refl; under_way = λ own going. going; calls = λ own. refl }
 
 pub inject_says : (sink back bis subevent : ℕ) (octets : List ℕ) → SaysNothing (Inject sink back bis subevent octets)
-inject_says sink back bis subevent octets = record { chosen = refl; phase = λ own. refl; group = λ own. refl; ident = λ own. refl; setup = λ own. refl; calls = λ own. refl }
+inject_says sink back bis subevent octets = record { chosen = refl; phase = λ own. refl; group = λ own. refl; ident = λ own. refl; setup = λ own going. refl; under_way = λ own going. going; calls = λ own. refl }
 
 pub sniff_says : (back bis subevent : ℕ) → SaysNothing (Sniff back bis subevent)
-sniff_says back bis subevent = record { chosen = refl; phase = λ own. refl; group = λ own. refl; ident = λ own. refl; setup = λ own. refl; calls = λ own. refl }
+sniff_says back bis subevent = record { chosen = refl; phase = λ own. refl; group = λ own. refl; ident = λ own. refl; setup = λ own going. refl; under_way = λ own going. going; calls = λ own. refl }
 
 pub end_says : SaysNothing End
-end_says = record { chosen = refl; phase = λ own. refl; group = λ own. refl; ident = λ own. refl; setup = λ own. refl; calls = λ own. refl }
+end_says = record { chosen = refl; phase = λ own. refl; group = λ own. refl; ident = λ own. refl; setup = λ own going. refl; under_way = λ own going. refl; calls = λ own. refl }

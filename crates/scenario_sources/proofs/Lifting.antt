@@ -8,15 +8,16 @@ use Rattle.transcript_text.specs.declared.refusal.Refusal.TheVariants.{IdentTwic
 use Rattle.transcript_text.specs.declared.stop.Stop.{Stop}
 use Rattle.transcript_text.specs.declared.stop.Stop.TheVariants.{Refused, OutletFault, Memory}
 use Rattle.scenario_text.specs.declared.step.Step.{Step}
-use Rattle.scenario_text.specs.declared.step.Step.TheVariants.{Start}
+use Rattle.scenario_text.specs.declared.step.Step.TheVariants.{Event, Start}
 use Rattle.scenario_history.specs.Steps.{chosen_given, chosen_of, chosen_steps, is_of_source, other_of, steps_of_source}
 use Rattle.scenario_history.specs.Source as history
 use Rattle.scenario_history.specs.Source.{ident_of, identity_of, is_started, no_identity}
 use Rattle.scenario_history.specs.Refusals.{is_ident_twice, is_same_identity, refuse_if, twin_refusal}
 use Rattle.source_machine.specs.declared.setup.Identity.{Identity}
+use Rattle.scenario_sources.specs.declared.performed.Performed.{Performed}
 use Rattle.scenario_sources.specs.declared.phase.Phase.{Phase}
 use Rattle.scenario_sources.specs.declared.sources.Sources.{Sources}
-use Rattle.scenario_sources.specs.Answers.{Answers, Closes}
+use Rattle.scenario_sources.specs.Answers.{Answers, Closes, Performs}
 use Rattle.scenario_sources.specs.Described.{identity_in, identity_or_none}
 use Rattle.scenario_sources.specs.Faults.{fault_in, fault_of}
 use Rattle.scenario_sources.specs.State.Phases.{Becomes, Begins, IsReady, PhaseAt, PhaseIs}
@@ -152,6 +153,20 @@ closes version made steps at old new phase (Err (Refused reason)) means twin sam
     (fault_same version steps made twin (Some reason) b.0, again steps at old new phase same within two stands b.1 chosen set)
 closes version made steps at old new phase (Err OutletFault) means twin same within two stands b chosen set = b
 closes version made steps at old new phase (Err Memory) means twin same within two stands b chosen set = tt
+
+pub performs : (version : ℕ) (steps : List Step) (at : ℕ) (old new : Sources) (phase : Phase) (r : Result Performed Stop) → at ≡ old.chosen → old.chosen < 2
+    → length old.phases.items ≡ 2 → SourcesStand steps old → state.Performs version (chosen_steps steps) phase r → new.chosen ≡ old.chosen
+    → new.phases.items ≡ slice_set old.phases.items at phase → Performs version steps new r
+performs version steps at old new phase (Ok performed) same within two stands b chosen set = (
+  fault_same version steps Event refl None b.0,
+  lifted Event steps at old new phase (record { line = λ s steps. refl; chooses = refl }) same within two stands b.1 chosen set,
+  b.2,
+  b.3,
+)
+performs version steps at old new phase (Err (Refused reason)) same within two stands b chosen set =
+    (fault_same version steps Event refl (Some reason) b.0, again steps at old new phase same within two stands b.1 chosen set)
+performs version steps at old new phase (Err OutletFault) same within two stands b chosen set = b
+performs version steps at old new phase (Err Memory) same within two stands b chosen set = tt
 
 -- ---- start
 

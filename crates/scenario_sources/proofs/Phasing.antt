@@ -4,8 +4,9 @@ use Rattle.std.specs.Option.{option_or}
 use Rattle.big_info.specs.declared.fault.GroupFault.{GroupFault}
 use Rattle.big_info.specs.declared.info.BigInfo.{BigInfo}
 use Rattle.big_info.specs.Rows.{first_fault}
-use Rattle.source_machine.specs.Airs.{airs_of, pdu_of}
-use Rattle.source_machine.specs.Calls.{Call, Setup, give, next_of}
+use Rattle.source_machine.specs.Airs.{airs_of, pdu_of, stale_of}
+use Rattle.source_machine.specs.Calls.{Call, Setup, event as perform, give, next_of}
+use Rattle.source_machine.specs.declared.sent.Stale.{Stale}
 use Rattle.source_machine.specs.declared.fault.ConfigureFault.{ConfigureFault}
 use Rattle.source_machine.specs.declared.fault.ConfigureFault.TheVariants.{BadGroup as Misfit, Memory as NoMemory}
 use Rattle.source_machine.specs.declared.fault.GiveFault.{GiveFault}
@@ -17,7 +18,8 @@ use Rattle.transcript_text.specs.declared.stop.Stop.{Stop}
 use Rattle.transcript_text.specs.declared.stop.Stop.TheVariants.{Refused, OutletFault, Memory}
 use Rattle.scenario_text.specs.declared.step.Step.{Step}
 use Rattle.scenario_text.specs.declared.step.Step.TheVariants.{Ident, Start, Unit as UnitStep}
-use Rattle.scenario_history.specs.Source.{GroupLine, event_back, pdu_in, absent, described, sending, phase_of, ident_of, group_of, setup_of, setup_from, source_calls}
+use Rattle.scenario_history.specs.Source.{GroupLine, event_back, pdu_in, absent, described, sending, phase_of, ident_of, group_of, is_ahead_in, setup_of, setup_from, source_calls, stale_in}
+use Rattle.scenario_history.specs.Steps.{is_unbegun_at, running, stage_of}
 use Rattle.scenario_history.specs.Refusals.{air_refusal, give_refusal, horizon_in, no_place}
 use Rattle.source_machine.specs.declared.setup.Identity.{Identity}
 use Rattle.scenario_sources.specs.declared.phase.Described.{Described}
@@ -38,11 +40,11 @@ none_of (Some x) e = absurd (cc e)
 
 -- ---- group, ident
 
-pub describes : (version : ℕ) (own : List Step) (info : BigInfo) (origin delay : ℕ) (new : Described) → IsPlain info → info.framing ≡ 0
+pub describes : (version : ℕ) (own : List Step) (info : BigInfo) (origin delay : ℕ) (new : Described) → IsPlain info
     → (phase_of own ≡ absent) × AbsentIs own → new.info ≡ info → new.origin ≡ origin → new.delay ≡ delay → new.identity ≡ None
     → Becomes version own (group_step info origin delay) (phases.Described new) (Ok tt)
-describes version own info origin delay new plain unframed is i o d n = (
-  rw (is.0, unframed) refl,
+describes version own info origin delay new plain is i o d n = (
+  rw is.0 refl,
   (
     refl,
     record {
@@ -82,18 +84,20 @@ may_not_start version first horizon own said NoMemory (Refused reason) h is fail
 may_not_start version first horizon own said fault OutletFault h is fails g = g
 may_not_start version first horizon own said fault Memory h is fails g = tt
 
-pub starts : (first : ℕ) (own : List Step) (said : Described) (source : Broadcasting) → (phase_of own ≡ described) × DescribedIs own said
-    → (let setup : Setup = record { info = said.info; origin = said.origin; delay = said.delay; first = first } in source.source.setup ≡ setup) → StandsFor [] source
+pub starts : (version first : ℕ) (own : List Step) (said : Described) (source : Broadcasting) → stage_of own ≡ running version → (phase_of own ≡ described) × DescribedIs own said
+    → (let setup : Setup = record { info = said.info; origin = said.origin; delay = said.delay; first = first; ahead = is_ahead_in version } in source.source.setup ≡ setup) → StandsFor [] source
     → (let new : Started = record { identity = said.identity; source = source } in StartedIs (Start first ∷ own) new)
-starts first own said source is setup stands = record {
+starts version first own said source stage is setup stands = record {
   ident = is.1.ident;
-  setup = setup ∙ rw is.1.group refl;
+  setup = setup ∙ rw (is.1.group, stage) refl;
+  under_way = ap is_unbegun_at stage;
   calls = let P : List Call → Type 0 = λ calls. StandsFor calls source in subst P (sym is.1.calls) stands;
 }
 
-pub setup_same : (i j : BigInfo) (o p d e first : ℕ) → i ≡ j → o ≡ p → d ≡ e
-    → let one : Setup = record { info = i; origin = o; delay = d; first = first } in let other : Setup = record { info = j; origin = p; delay = e; first = first } in one ≡ other
-setup_same i j o p d e first a b c = rw (a, b, c) refl
+pub setup_same : (i j : BigInfo) (o p d e first : ℕ) (f g : Bool) → i ≡ j → o ≡ p → d ≡ e → f ≡ g
+    → let one : Setup = record { info = i; origin = o; delay = d; first = first; ahead = f } in
+    let other : Setup = record { info = j; origin = p; delay = e; first = first; ahead = g } in one ≡ other
+setup_same i j o p d e first f g a b c h = rw (a, b, c, h) refl
 
 -- ---- the air
 
@@ -125,7 +129,7 @@ gives version own old new bis time octets (Ok x) is identity g =
     let given = g.1 (source_calls own) is.1.calls in (
       rw is.0 (ap (λ (s : Setup). option_map give_refusal (give_fault s (source_calls own) (airs_of s (source_calls own)) bis time octets)) (sym is.1.setup)
           ∙ ap (option_map give_refusal) given.0),
-      (is.0, record { ident = ap (option_map identity_in) identity ∙ is.1.ident; setup = g.0 ∙ is.1.setup; calls = given.1 }),
+      (is.0, record { ident = ap (option_map identity_in) identity ∙ is.1.ident; setup = g.0 ∙ is.1.setup; under_way = is.1.under_way; calls = given.1 }),
     )
 gives version own old new bis time octets (Err (Refused reason)) is identity g = (
   rw is.0 (ap (λ (s : Setup). option_map give_refusal (give_fault s (source_calls own) (airs_of s (source_calls own)) bis time octets)) (sym is.1.setup)
@@ -135,9 +139,16 @@ gives version own old new bis time octets (Err (Refused reason)) is identity g =
     record {
       ident = ap (option_map identity_in) identity ∙ is.1.ident;
       setup = ap (λ (s : Broadcasting). s.source.setup) g.0 ∙ is.1.setup;
+      under_way = is.1.under_way;
       calls = let P : Broadcasting → Type 0 = λ s. StandsFor (source_calls own) s in subst P (sym g.0) is.1.calls;
     },
   ),
 )
 gives version own old new bis time octets (Err OutletFault) is identity g = g
 gives version own old new bis time octets (Err Memory) is identity g = tt
+
+-- ---- event
+
+pub left_out : (own : List Step) (setup : Setup) (stale : List Stale) → setup ≡ setup_of own
+    → stale ≡ stale_of setup (source_calls own) (airs_of setup (perform ∷ source_calls own)) → stale ≡ stale_in airs_of own
+left_out own setup stale same is = is ∙ ap (λ s. stale_of s (source_calls own) (airs_of s (perform ∷ source_calls own))) same

@@ -2,13 +2,16 @@
 use Rattle.std.specs.Prelude.{ℕ, ◌≡◌, ◌<◌, ◌^◌, ◌∷◌, true, false, List, Option, None, Some, Result, Ok, Err}
 use Rattle.std.specs.Option.{ForSome}
 use Rattle.big_info.specs.declared.group.Group.{Group}
+use Rattle.source_machine.specs.Airs.{airs_of}
 use Rattle.transcript_text.specs.declared.stop.Stop.{Stop}
 use Rattle.transcript_text.specs.declared.stop.Stop.TheVariants.{Refused, OutletFault, Memory}
 use Rattle.scenario_text.specs.declared.step.Step.{Step}
+use Rattle.scenario_text.specs.declared.step.Step.TheVariants.{Event}
 use Rattle.scenario_history.specs.Steps.{chosen_steps, is_over}
-use Rattle.scenario_history.specs.Source.{event_back, is_sending, is_started, open_event, performed, setup_of}
+use Rattle.scenario_history.specs.Source.{event_back, is_sending, is_started, open_event, performed, setup_of, stale_in}
 use Rattle.scenario_history.specs.Sinks.{tuning_of}
 use Rattle.scenario_history.specs.Refusals.{no_place}
+use Rattle.scenario_sources.specs.declared.performed.Performed.{Performed}
 use Rattle.scenario_sources.specs.declared.standpoint.Standpoint.{Standpoint}
 use Rattle.scenario_sources.specs.declared.sources.Sources.{Sources}
 use Rattle.scenario_sources.specs.Faults.{fault_of, tuning_at}
@@ -29,6 +32,16 @@ Closes version steps made new (Ok closed) =
 Closes version steps made new (Err (Refused reason)) = (fault_of version steps made ≡ Some reason) × SourcesStand steps new
 Closes version steps made new (Err OutletFault) = ⊥
 Closes version steps made new (Err Memory) = Unit {0}
+
+-- the same of `event`, which also tells the units that were left out
+abbrev pub Performs : ℕ → List Step → Sources → Result Performed Stop → Type 0
+Performs version steps new (Ok performed) =
+    (fault_of version steps Event ≡ None) × SourcesStand (Event ∷ steps) new
+    × (is_over (chosen_steps steps) ≡ false → performed.closed ≡ open_event (chosen_steps steps))
+    × (performed.stale ≡ stale_in airs_of (chosen_steps steps))
+Performs version steps new (Err (Refused reason)) = (fault_of version steps Event ≡ Some reason) × SourcesStand steps new
+Performs version steps new (Err OutletFault) = ⊥
+Performs version steps new (Err Memory) = Unit {0}
 
 -- where a source stands before its next event, where it is between its start and its stop; these are its steps
 abbrev pub StandsAt : List Step → Option Standpoint → Type 0

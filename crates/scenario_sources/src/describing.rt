@@ -4,7 +4,8 @@ ghost use Rattle.big_info.specs.Widths.{FitsWidths};
 ghost use Rattle.scenario_text.specs.declared.step.Step.{Step};
 ghost use Rattle.scenario_text.specs.declared.step.Step.TheVariants.{Ident as IdentStep};
 ghost use Rattle.scenario_history.specs.Refusals.{horizon_in, is_same_identity};
-ghost use Rattle.scenario_history.specs.Source.{identity_of, is_started};
+ghost use Rattle.scenario_history.specs.Source.{identity_of, is_ahead_in, is_started};
+ghost use Rattle.scenario_history.specs.Steps.{running, stage_of};
 ghost use Rattle.scenario_sources.specs.Described.{IsPlain, group_step, identity_in};
 ghost use Rattle.scenario_sources.specs.State.Phases.{Becomes, Begins, IsReady, PhaseIs};
 ghost use Rattle.scenario_sources.specs.State.Stops.{StartStops};
@@ -33,9 +34,6 @@ pub(crate) fn describe(
     let Phase::Absent = phase else {
         return Err(Stop::Refused(Refusal::Order));
     };
-    if info.framing != 0 {
-        return Err(Stop::Refused(Refusal::NotBuilt));
-    }
     *phase = Phase::Described(Described {
         info,
         origin,
@@ -63,7 +61,8 @@ pub(crate) fn identify(phase: &mut Phase, identity: Identity) -> Result<(), Stop
 /// Whether a source may be started, but for its identity.
 pub(crate) fn check_start(alloc: Global, phase: &Phase, limits: Limits) -> Result<Ready, Stop>
     requires { limits.horizon ≤ 31 }
-    ensures { (version first : ℕ) (own : List Step) → limits.horizon ≡ horizon_in version → PhaseIs own phase.now → IsReady version first own result }
+    ensures { (version first : ℕ) (own : List Step) → limits.horizon ≡ horizon_in version → limits.ahead ≡ is_ahead_in version → PhaseIs own phase.now
+        → IsReady version first own result }
 {
     let Phase::Described(described) = phase else {
         return Err(Stop::Refused(Refusal::Order));
@@ -108,7 +107,8 @@ pub(crate) fn is_twice(own: Identity, phase: &Phase) -> bool
 /// `start`: starts a source.
 pub(crate) fn begin(alloc: Global, ready: Ready, first: u64) -> Result<Phase, Stop>
     requires { first < 2 ^ 39 }
-    ensures { (own : List Step) → PhaseIs own (DescribedPhase ready.described) → Begins first own result }
+    ensures { (version : ℕ) (own : List Step) → stage_of own ≡ running version → ready.configured.ahead ≡ is_ahead_in version
+        → PhaseIs own (DescribedPhase ready.described) → Begins first own result }
 {
     let identity = ready.described.identity;
     match Broadcast::start(alloc, ready.configured, first) {

@@ -4,12 +4,14 @@
 
 mod describing;
 mod identity;
+mod performed;
 mod phase;
 mod place;
 mod sending;
 mod sources;
 mod standpoint;
 
+pub use performed::Performed;
 pub use place::Place;
 pub use source_machine::Identity;
 pub use sources::Sources;

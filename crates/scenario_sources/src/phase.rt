@@ -15,7 +15,6 @@ pub(crate) struct Described {
     pub(crate) delay: u32,
     pub(crate) identity: Option<Identity>,
     pub(crate) ghost widths: { FitsWidths info },
-    pub(crate) ghost unframed: { info.framing ≡ 0 },
     pub(crate) ghost origin_is: { origin ≤ 2 ^ 48 },
     pub(crate) ghost delay_is: { delay < 2 ^ 24 },
 }

@@ -2,13 +2,14 @@
 ghost use Rattle.std.specs.Prelude.{◌≡◌, ◌≤◌, ◌<◌, ◌^◌, ℕ, List, Option, false, IfOk};
 ghost use Rattle.std.specs.Option.{ForSome};
 ghost use Rattle.scenario_text.specs.declared.step.Step.{Step};
-ghost use Rattle.scenario_text.specs.declared.step.Step.TheVariants.{Unit as UnitStep, Event as EventStep, Stop as StopStep};
+ghost use Rattle.scenario_text.specs.declared.step.Step.TheVariants.{Unit as UnitStep, Stop as StopStep};
 ghost use Rattle.scenario_history.specs.Steps.{is_over};
 ghost use Rattle.scenario_history.specs.Source.{open_event};
-ghost use Rattle.scenario_sources.specs.State.Phases.{Becomes, Closes, PhaseIs};
+ghost use Rattle.scenario_sources.specs.State.Phases.{Becomes, Closes, Performs, PhaseIs};
 ghost use Rattle.scenario_sources.specs.Answers.{StandsAt};
 ghost use Rattle.scenario_sources.specs.State.Stops.{GiveStops, GivesTo};
 
+use crate::performed::Performed;
 use crate::phase::{Phase, Started};
 use crate::standpoint::Standpoint;
 use bcast_base::Bis;
@@ -55,17 +56,17 @@ fn give_stop(fault: GiveFault) -> Stop
     }
 }
 
-/// `event`: performs the next event of a source, and answers the one that it closes.
-pub(crate) fn perform(phase: &mut Phase) -> Result<Option<u64>, Stop>
-    ensures closes { (version : ℕ) (own : List Step) → PhaseIs own phase.old → Closes version own EventStep phase.new result }
-    ensures within { IfOk result (λ closed. ForSome closed (λ event. event < 2 ^ 39)) }
+/// `event`: performs the next event of a source, and answers the one that it closes, and the units that it left out.
+pub(crate) fn perform(phase: &mut Phase) -> Result<Performed, Stop>
+    ensures performs { (version : ℕ) (own : List Step) → PhaseIs own phase.old → Performs version own phase.new result }
+    ensures within { IfOk result (λ performed. ForSome performed.closed (λ event. event < 2 ^ 39)) }
 {
     let Phase::Sending(started) = phase else {
         return Err(Stop::Refused(Refusal::Order));
     };
     let closed = started.source.last_event();
     match started.source.event() {
-        Ok(_) => return Ok(closed),
+        Ok(stale) => return Ok(Performed { closed, stale }),
         Err(EventFault::CounterEnds) => return Err(Stop::Refused(Refusal::CounterEnds)),
         Err(EventFault::Memory) => return Err(Stop::Memory),
     }

@@ -4,6 +4,7 @@ ghost use Rattle.big_info.specs.Widths.{FitsWidths};
 
 use crate::describing::{begin, check_start, describe, identify, is_twice};
 use crate::identity::identity_or;
+use crate::performed::Performed;
 use crate::phase::Phase;
 use crate::place::{Place, event_in, group_in, heard_in, last_in};
 use crate::sending::{give, open, perform, standpoint_in, stop};
@@ -27,11 +28,11 @@ pub struct Sources {
 impl Sources {
     ghost use Rattle.source_machine.specs.Airs.{airs_of};
     ghost use Rattle.scenario_text.specs.declared.step.Step.{Step};
-    ghost use Rattle.scenario_text.specs.declared.step.Step.TheVariants.{Ident as IdentStep, Start as StartStep, Unit as UnitStep, Event as EventStep, Stop as StopStep, Source as SourceStep};
+    ghost use Rattle.scenario_text.specs.declared.step.Step.TheVariants.{Ident as IdentStep, Start as StartStep, Unit as UnitStep, Stop as StopStep, Source as SourceStep};
     ghost use Rattle.scenario_history.specs.Refusals.{horizon_in, no_place};
-    ghost use Rattle.scenario_history.specs.Source.{event_back, is_started, open_event, pdu_in};
-    ghost use Rattle.scenario_history.specs.Steps.{chosen_of, chosen_steps, is_over, steps_of_source};
-    ghost use Rattle.scenario_sources.specs.Answers.{Answers, Closes, GroupIs, LastIs, NoPlace, StandsAt};
+    ghost use Rattle.scenario_history.specs.Source.{event_back, is_ahead_in, is_started, open_event, pdu_in};
+    ghost use Rattle.scenario_history.specs.Steps.{chosen_of, chosen_steps, is_over, running, stage_of, steps_of_source};
+    ghost use Rattle.scenario_sources.specs.Answers.{Answers, Closes, GroupIs, LastIs, NoPlace, Performs, StandsAt};
     ghost use Rattle.scenario_sources.specs.Described.{IsPlain, group_step};
     ghost use Rattle.scenario_sources.specs.State.Standing.{SourcesStand};
 
@@ -65,8 +66,8 @@ impl Sources {
         self.chosen = source;
     }
 
-    /// `group`: describes the chosen source, once; else it is refused with Order, and a framed group with NotBuilt. The
-    /// anchor of the first event and the presentation delay are in µs. It takes no memory.
+    /// `group`: describes the chosen source, once; else it is refused with Order. The anchor of the first event and the
+    /// presentation delay are in µs. It takes no memory.
     pub fn describe(&mut self, info: BigInfo, origin: u64, delay: u32) -> Result<(), Stop>
         requires widths { FitsWidths info }
         requires origin { origin ≤ 2 ^ 48 }
@@ -96,8 +97,8 @@ impl Sources {
     pub fn start(&mut self, limits: Limits, first: u64) -> Result<(), Stop>
         requires limits { limits.horizon ≤ 31 }
         requires first { first < 2 ^ 39 }
-        ensures { (version : ℕ) (steps : List Step) → limits.horizon ≡ horizon_in version → SourcesStand steps self.old
-            → Answers version steps (StartStep first) self.new result }
+        ensures { (version : ℕ) (steps : List Step) → limits.horizon ≡ horizon_in version → limits.ahead ≡ is_ahead_in version → stage_of steps ≡ running version
+            → SourcesStand steps self.old → Answers version steps (StartStep first) self.new result }
     {
         let ready = match check_start(self.alloc, &self.phases[usize::from(self.chosen)], limits) {
             Ok(ready) => ready,
@@ -127,11 +128,12 @@ impl Sources {
         )
     }
 
-    /// `event`: performs the next event of the chosen source, and answers the one that it closes. The first refusal that
-    /// holds is answered: Order outside its start and its stop, CounterEnds. After want of memory the source has failed.
-    pub fn perform(&mut self) -> Result<Option<u64>, Stop>
-        ensures closes { (version : ℕ) (steps : List Step) → SourcesStand steps self.old → Closes version steps EventStep self.new result }
-        ensures within { IfOk result (λ closed. ForSome closed (λ event. event < 2 ^ 39)) }
+    /// `event`: performs the next event of the chosen source, and answers the one that it closes, and the units that its
+    /// streams left out. The first refusal that holds is answered: Order outside its start and its stop, CounterEnds. After
+    /// want of memory the source has failed.
+    pub fn perform(&mut self) -> Result<Performed, Stop>
+        ensures performs { (version : ℕ) (steps : List Step) → SourcesStand steps self.old → Performs version steps self.new result }
+        ensures within { IfOk result (λ performed. ForSome performed.closed (λ event. event < 2 ^ 39)) }
     {
         perform(&mut self.phases[usize::from(self.chosen)])
     }

@@ -1,41 +1,35 @@
 -- What each call makes of what a sink keeps.
-use Rattle.std.specs.Prelude.{ℕ, ◌-◌, nat_le, List, [], map, replicate, Option, Some, None, slice_index_or, slice_set, if◌then◌else◌}
+use Rattle.std.specs.Prelude.{ℕ, ◌-◌, nat_le, List, [], map, Option, Some, None, slice_index_or, slice_set, if◌then◌else◌}
 use Rattle.std.specs.List.{flat_map, range_with_len}
 use Rattle.unit_outlets.specs.Handed.{Handed}
 use Rattle.isoal_base.specs.declared.hearing.Hearing.{Hearing}
 use Rattle.isoal_base.specs.declared.hearing.Hearing.TheVariants as hearings
-use Rattle.isoal_base.specs.Hearing.{answer_of}
-use Rattle.isoal_base.specs.Stays.{Stay, window_of}
-use Rattle.isoal_unframed.specs.Units.{unframed}
-use Rattle.isoal_unframed.specs.State.Windows.{Window, after_hear, after_close, owed}
 use Rattle.delegator_machine.specs.Calls.{Tuning}
+use Rattle.delegator_machine.specs.State.Receivers.{fresh, open_of, answer_by, hear_by, owed_of, closed}
 use Rattle.delegator_machine.specs.State.Sinks.{OnGroup}
 use Rattle.delegator_machine.specs.Streams.{is_in, number_of, stay_on}
-
--- the window of a stream on which nothing was heard yet
-abbrev pub fresh : Stay → Window
-fresh stay = record { stay = stay; event = stay.first; kept = replicate (window_of stay.info) None }
+use Rattle.delegator_machine.specs.declared.receiver.Receiver.{Receiver}
 
 -- the place of a stream, and all of them, as the sink is put on the group
-abbrev pub fresh_at : Tuning → ℕ → Option Window
+abbrev pub fresh_at : Tuning → ℕ → Option Receiver
 fresh_at tuning bis = if is_in tuning.which bis then Some (fresh (stay_on tuning bis)) else None
 
 abbrev pub fresh_on : Tuning → OnGroup
 fresh_on tuning = record { info = tuning.info; streams = map (fresh_at tuning) (range_with_len 1 31) }
 
 -- what the place of a stream makes of a PDU
-abbrev pub answer_at : Option ℕ → List ℕ → Option Window → Hearing
+abbrev pub answer_at : Option ℕ → List ℕ → Option Receiver → Hearing
 answer_at number octets None = hearings.NotTaken
-answer_at None octets (Some window) = hearings.NoNumber
-answer_at (Some number) octets (Some window) = hearings.Heard (answer_of unframed window.stay.info window.event window.kept number octets)
+answer_at None octets (Some receiver) = hearings.NoNumber
+answer_at (Some number) octets (Some receiver) = hearings.Heard (answer_by number octets receiver)
 
-abbrev pub hear_at : Option ℕ → List ℕ → Option Window → Option Window
+abbrev pub hear_at : Option ℕ → List ℕ → Option Receiver → Option Receiver
 hear_at number octets None = None
-hear_at None octets (Some window) = Some window
-hear_at (Some number) octets (Some window) = Some (after_hear number octets window)
+hear_at None octets (Some receiver) = Some receiver
+hear_at (Some number) octets (Some receiver) = Some (hear_by number octets receiver)
 
 -- the place of a stream, by its index
-abbrev pub stream_at : OnGroup → ℕ → Option Window
+abbrev pub stream_at : OnGroup → ℕ → Option Receiver
 stream_at on bis = slice_index_or on.streams (bis - 1) None
 
 abbrev pub answer_on : ℕ → ℕ → ℕ → List ℕ → OnGroup → Hearing
@@ -46,13 +40,13 @@ hear_on event bis subevent octets on =
     record on { streams = slice_set on.streams (bis - 1) (hear_at (number_of on.info event subevent) octets (stream_at on bis)) }
 
 -- what a tick hands of the place of a stream, and what it leaves there
-abbrev pub owed_by : ℕ → Option Window → List Handed
+abbrev pub owed_by : ℕ → Option Receiver → List Handed
 owed_by event None = []
-owed_by event (Some window) = if nat_le window.event event then owed window else []
+owed_by event (Some receiver) = if nat_le (open_of receiver) event then owed_of receiver else []
 
-abbrev pub tick_at : ℕ → Option Window → Option Window
+abbrev pub tick_at : ℕ → Option Receiver → Option Receiver
 tick_at event None = None
-tick_at event (Some window) = if nat_le window.event event then Some (after_close window) else Some window
+tick_at event (Some receiver) = if nat_le (open_of receiver) event then Some (closed receiver) else Some receiver
 
 abbrev pub owed_on : ℕ → OnGroup → List Handed
 owed_on event on = flat_map (owed_by event) on.streams

@@ -3,9 +3,9 @@ use Rattle.std.specs.Prelude.{ℕ, ◌-◌, ◌≡◌, ◌==◌, ◌&&◌, true,
 use Rattle.big_info.specs.Rows.{first_fault}
 use Rattle.radio_schedule.specs.OnAir.{OnAir}
 use Rattle.source_machine.specs.declared.setup.Identity.{Identity}
-use Rattle.source_machine.specs.declared.setup.Setup.{Setup as Configured}
+use Rattle.source_machine.specs.declared.setup.Setup.{Setup as Given}
 use Rattle.source_machine.specs.Calls.{Setup, Call}
-use Rattle.source_machine.specs.Setups.{started}
+use Rattle.source_machine.specs.Setups.{Configured, started}
 use Rattle.source_machine.specs.State.Sources.{AfterFault, Source, StandsFor as SourceStands}
 use Rattle.source_machine.specs.declared.fault.ConfigureFault.{ConfigureFault}
 use Rattle.source_machine.specs.declared.fault.ConfigureFault.TheVariants.{BadGroup as Misfit, Memory as NoMemory}
@@ -63,7 +63,7 @@ pub record Starts (setup : Configured) (first : ℕ) (place : Option Source) (si
   pub begun : sending.begun.identity ≡ setup.identity
 
 -- why a source is not started, where a payload may be sent so many events ahead; nothing is said of want of memory
-abbrev pub StartFails : ℕ → Configured → Option Begun → FieldFault → Type 0
+abbrev pub StartFails : ℕ → Given → Option Begun → FieldFault → Type 0
 StartFails horizon setup other (BadGroup fault) = first_fault horizon setup.info ≡ Some fault
 StartFails horizon setup other IdentTwice = (first_fault horizon setup.info ≡ None) × (is_taken setup.identity other ≡ true)
 StartFails horizon setup other Memory = Unit {0}

@@ -71,10 +71,10 @@ Puts octets kept kept' (Some _) = ⊥
 -- a line after these was run, or the call ended at it
 abbrev pub StepRuns : List Account → List TextLine → Option (List ℕ) → Option (List ℕ) → Option (List ℕ) → Option (List ℕ) → Machine → List Account → Option Status → Type 0
 StepRuns starts lines left left' kept kept' machine accounts None = RunTo starts lines kept kept' machine accounts
-StepRuns starts lines left left' kept kept' machine accounts (Some status) = Ended status starts accounts left left' kept kept'
+StepRuns starts lines left left' kept kept' machine accounts (Some status) = Ended airs_of status starts accounts left left' kept kept'
 
 -- the next line was read and run, or the call ended
 abbrev pub LineRuns : List Account → List TextLine → Option (List ℕ) → Option (List ℕ) → Option (List ℕ) → Option (List ℕ) → Reading → Machine → List Account → Option Status → Type 0
 LineRuns starts lines left left' kept kept' reader machine accounts None =
     (line : TextLine) × ReadTo left left' (line ∷ lines) reader × RunTo starts (line ∷ lines) kept kept' machine accounts
-LineRuns starts lines left left' kept kept' reader machine accounts (Some status) = Ended status starts accounts left left' kept kept'
+LineRuns starts lines left left' kept kept' reader machine accounts (Some status) = Ended airs_of status starts accounts left left' kept kept'

@@ -10,7 +10,7 @@ pub struct Row {
     pub exit_code: u8,
 }
 
-pub const ROWS: [Row; 32] = [
+pub const ROWS: [Row; 44] = [
     Row {
         name: "least-path",
         boxes: 2,
@@ -234,5 +234,89 @@ pub const ROWS: [Row; 32] = [
         text: "scenario 2\ngroup unframed 20000 40000 8 10000 4 4 1 1 1 1 0 0 0 1\nsource 1\ngroup unframed 25000 40000 8 10000 4 4 1 1 1 1 0 0 0 1\nsource 0\nsink 0 1 1\nsink 1 1 1\nstart 0\ntuned 0 1\nunit 1 - aa\nevent\nsource 1\nstart 0\ntuned 1 1\nunit 1 - bb\nevent\nhear 0 0 1 0\nhear 1 0 1 0\nsource 0\nair 0 0\nend\n",
         transcript: "line 13: IdentTwice\n",
         exit_code: 1,
+    },
+    Row {
+        name: "framed",
+        boxes: 2,
+        text: "scenario 1\ngroup framed 20000 40000 8 10884 8 10 1 2 2 1 0 400 0 1\nsink 0 1 1\nstart 0\ntuned 0 1\nunit 1 15000 d0d1d2d3d4d5d6d7\nevent\nsniff 0 1 0\nsniff 0 1 1\nair 0 0\nend\n",
+        transcript: "pdu 0 1 0 020a0008881300d0d1d2d3d4\npdu 0 1 1 02050303d5d6d7\nunit 0 1 at 76368 valid 8 d0d1d2d3d4d5d6d7\nsum 0 1 8\n",
+        exit_code: 0,
+    },
+    Row {
+        name: "unit-over-two-events",
+        boxes: 2,
+        text: "scenario 1\ngroup framed 20000 40000 8 10884 8 10 1 1 1 1 0 0 0 1\nsink 0 1 1\nsink 1 1 1\nstart 0\ntuned 0 1\nunit 1 15000 d0d1d2d3d4d5d6\nevent\nhear 0 0 1 0\ntuned 1 1\nunit 1 25000 e0e1e2\nevent\nsniff 0 1 0\nhear 1 0 1 0\nevent\nsniff 0 1 0\nhear 0 0 1 0\nhear 1 0 1 0\nend\n",
+        transcript: "pdu 1 1 0 020a0302d5d60004881300e0\nunit 0 1 at 75968 lost\npdu 2 1 0 02040302e1e2\nunit 1 1 at 85968 valid 3 e0e1e2\nsum 0 0 0\nsum 1 1 3\n",
+        exit_code: 0,
+    },
+    Row {
+        name: "stale",
+        boxes: 2,
+        text: "scenario 1\ngroup framed 20000000 40000 8 10884 8 10 1 1 1 1 0 0 0 1\nstart 0\nunit 1 0 aa\nevent\nsniff 0 1 0\nend\n",
+        transcript: "stale 1 0\npdu 0 1 0 0200\n",
+        exit_code: 0,
+    },
+    Row {
+        name: "time-ahead",
+        boxes: 2,
+        text: "scenario 2\ngroup framed 20000 40000 8 10884 8 10 1 1 1 1 0 0 0 1\nsink 0 1 1\nstart 0\ntuned 0 1\nunit 1 25000 aa\nevent\nsniff 0 1 0\nevent\nsniff 0 1 0\nair 0 0\nend\n",
+        transcript: "pdu 0 1 0 0200\npdu 1 1 0 02060204881300aa\nunit 0 1 at 85968 valid 1 aa\nsum 0 1 1\n",
+        exit_code: 0,
+    },
+    Row {
+        name: "time-ahead-in-version-1",
+        boxes: 2,
+        text: "scenario 1\ngroup framed 20000 40000 8 10884 8 10 1 1 1 1 0 0 0 1\nsink 0 1 1\nstart 0\ntuned 0 1\nunit 1 25000 aa\nevent\nsniff 0 1 0\nevent\nsniff 0 1 0\nair 0 0\nend\n",
+        transcript: "line 6: TimeOrder\n",
+        exit_code: 1,
+    },
+    Row {
+        name: "inject-length-differs",
+        boxes: 2,
+        text: "scenario 1\ngroup framed 20000 40000 8 10884 8 10 1 1 1 1 0 0 0 1\nsink 0 1 1\nstart 0\ntuned 0 1\nevent\ninject 0 0 1 0 0205aa\nend\n",
+        transcript: "heard 0 Malformed 2\nsum 0 0 0\n",
+        exit_code: 0,
+    },
+    Row {
+        name: "inject-too-long",
+        boxes: 2,
+        text: "scenario 1\ngroup framed 20000 40000 8 10884 8 10 1 1 1 1 0 0 0 1\nsink 0 1 1\nstart 0\ntuned 0 1\nevent\ninject 0 0 1 0 020b0000000000000000000000\nend\n",
+        transcript: "heard 0 Malformed 3\nsum 0 0 0\n",
+        exit_code: 0,
+    },
+    Row {
+        name: "inject-header-alone",
+        boxes: 2,
+        text: "scenario 1\ngroup framed 20000 40000 8 10884 8 10 1 1 1 1 0 0 0 1\nsink 0 1 1\nstart 0\ntuned 0 1\nevent\ninject 0 0 1 0 020100\nend\n",
+        transcript: "heard 0 Malformed 4\nsum 0 0 0\n",
+        exit_code: 0,
+    },
+    Row {
+        name: "inject-segment-past-end",
+        boxes: 2,
+        text: "scenario 1\ngroup framed 20000 40000 8 10884 8 10 1 1 1 1 0 0 0 1\nsink 0 1 1\nstart 0\ntuned 0 1\nevent\ninject 0 0 1 0 02020105\nend\n",
+        transcript: "heard 0 Malformed 4\nsum 0 0 0\n",
+        exit_code: 0,
+    },
+    Row {
+        name: "inject-no-offset",
+        boxes: 2,
+        text: "scenario 1\ngroup framed 20000 40000 8 10884 8 10 1 1 1 1 0 0 0 1\nsink 0 1 1\nstart 0\ntuned 0 1\nevent\ninject 0 0 1 0 02040002aabb\nend\n",
+        transcript: "heard 0 Malformed 5\nsum 0 0 0\n",
+        exit_code: 0,
+    },
+    Row {
+        name: "inject-unframed-kind",
+        boxes: 2,
+        text: "scenario 1\ngroup framed 20000 40000 8 10884 8 10 1 1 1 1 0 0 0 1\nsink 0 1 1\nstart 0\ntuned 0 1\nevent\ninject 0 0 1 0 0000\nend\n",
+        transcript: "heard 0 WrongKind\nsum 0 0 0\n",
+        exit_code: 0,
+    },
+    Row {
+        name: "inject-padding",
+        boxes: 2,
+        text: "scenario 1\ngroup framed 20000 40000 8 10884 8 10 1 1 1 1 0 0 0 1\nsink 0 1 1\nstart 0\ntuned 0 1\nevent\ninject 0 0 1 0 0200\nend\n",
+        transcript: "heard 0 Kept\nsum 0 0 0\n",
+        exit_code: 0,
     },
 ];

@@ -6,9 +6,10 @@ use Rattle.transcript_text.specs.declared.refusal.Refusal.{Refusal}
 use Rattle.transcript_text.specs.declared.stop.Stop.{Stop}
 use Rattle.transcript_text.specs.declared.stop.Stop.TheVariants.{Refused, OutletFault, Memory}
 use Rattle.scenario_text.specs.declared.step.Step.{Step}
-use Rattle.scenario_text.specs.declared.step.Step.TheVariants.{Start}
-use Rattle.scenario_history.specs.Steps.{is_over}
-use Rattle.scenario_history.specs.Source.{GroupLine, absent, described, sending, stopped, group_of, ident_of, open_event, phase_of, setup_of, source_calls}
+use Rattle.scenario_text.specs.declared.step.Step.TheVariants.{Event, Start}
+use Rattle.scenario_history.specs.Steps.{is_over, is_unbegun}
+use Rattle.scenario_history.specs.Source.{GroupLine, absent, described, sending, stopped, group_of, ident_of, is_ahead_in, open_event, phase_of, setup_of, source_calls, stale_in}
+use Rattle.scenario_sources.specs.declared.performed.Performed.{Performed}
 use Rattle.scenario_sources.specs.declared.phase.Ready.{Ready}
 use Rattle.scenario_sources.specs.declared.phase.Described.{Described}
 use Rattle.scenario_sources.specs.declared.phase.Started.{Started}
@@ -24,6 +25,7 @@ line_of said = record { info = said.info; origin = said.origin; delay = said.del
 pub record StartedIs (own : List Step) (started : Started) : Type 0 where
   pub ident : option_map identity_in started.identity ≡ ident_of own
   pub setup : started.source.source.setup ≡ setup_of own
+  pub under_way : is_unbegun own ≡ false
   pub calls : StandsFor (source_calls own) started.source
 
 -- a source that was not is described by its steps
@@ -57,9 +59,20 @@ Closes version own made new (Err (Refused reason)) = (fault_in version own made 
 Closes version own made new (Err OutletFault) = ⊥
 Closes version own made new (Err Memory) = Unit {0}
 
+-- the same of `event`, which also tells the units that were left out
+abbrev pub Performs : ℕ → List Step → Phase → Result Performed Stop → Type 0
+Performs version own new (Ok performed) =
+    (fault_in version own Event ≡ None) × PhaseIs (Event ∷ own) new × (is_over own ≡ false → performed.closed ≡ open_event own)
+    × (performed.stale ≡ stale_in airs_of own)
+Performs version own new (Err (Refused reason)) = (fault_in version own Event ≡ Some reason) × PhaseIs own new
+Performs version own new (Err OutletFault) = ⊥
+Performs version own new (Err Memory) = Unit {0}
+
 -- it may be started, as far as it is not for its identity
 abbrev pub IsReady : ℕ → ℕ → List Step → Result Ready Stop → Type 0
-IsReady version first own (Ok ready) = (fault_in version own (Start first) ≡ None) × (phase_of own ≡ described) × DescribedIs own ready.described
+IsReady version first own (Ok ready) =
+    (fault_in version own (Start first) ≡ None) × (phase_of own ≡ described) × DescribedIs own ready.described
+    × (ready.configured.ahead ≡ is_ahead_in version)
 IsReady version first own (Err (Refused reason)) = fault_in version own (Start first) ≡ Some reason
 IsReady version first own (Err OutletFault) = ⊥
 IsReady version first own (Err Memory) = Unit {0}

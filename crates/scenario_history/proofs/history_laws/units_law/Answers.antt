@@ -10,8 +10,11 @@ returns c = λ starts.
       counted = c.air_is_by_division.ensures.counted;
       sent_stays = c.what_was_sent_stays.ensures;
       struck = c.units_are_struck.ensures;
+      framed_struck = c.framed_units_are_struck.ensures;
+      sends_units = c.a_framed_air_sends_units.ensures;
       one_open = c.one_event_is_open.ensures;
-      hands = c.each_stream_hands_its_units.ensures.taken;
+      hands = c.each_stream_hands_its_units.ensures.unframed;
+      framed_hands = c.each_stream_hands_its_units.ensures.framed;
       others = c.each_stream_hands_its_units.ensures.others;
     } in
     units_law_holds below starts

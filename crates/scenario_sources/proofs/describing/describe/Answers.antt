@@ -5,4 +5,4 @@ use Rattle.scenario_sources.proofs.describing.describe.Goals as goal
 
 pub returns : goal.returns
 returns c version own plain is =
-    describes version own c.args.info c.args.origin c.args.delay _ plain c.if-info-ne0.false (rw c.in-Absent.is at is) refl refl refl refl
+    describes version own c.args.info c.args.origin c.args.delay _ plain (rw c.in-Absent.is at is) refl refl refl refl

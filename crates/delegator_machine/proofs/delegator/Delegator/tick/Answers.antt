@@ -8,7 +8,7 @@ use Rattle.delegator_machine.proofs.delegator.Delegator.tick.Goals as goal
 pub returns-clause-hands : goal.returns-clause-hands
 returns-clause-hands g c calls stands =
     subst (λ units. HandsOver units (g.T.UnitTaker.calls c.args.taker.now) (g.T.UnitTaker.calls c.tick.new.taker) c.tick.result)
-    (some_hands calls c.args.event c.in-Some.on c.tick.ensures.bounds c.tick.ensures.plain
+    (some_hands calls c.args.event c.in-Some.on c.tick.ensures.bounds
     (subst (StandsFor calls) (sym c.self.view_is ∙ c.in-Some.is) stands))
     c.tick.ensures.hands
 

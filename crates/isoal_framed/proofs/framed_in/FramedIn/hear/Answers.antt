@@ -10,4 +10,4 @@ returns-clause-stands c calls stands =
     (hear_stands c.args.self.now c.args.number c.args.pdu.now c.take_in.ensures.bounds calls stands)
 
 pub returns-clause-decides : goal.returns-clause-decides
-returns-clause-decides c calls = decides_nothing c.args.self.now.stay c.take_in.ensures.bounds calls c.args.number c.args.pdu.now
+returns-clause-decides c calls = decides_nothing c.args.self.now.stay calls c.args.number c.args.pdu.now

@@ -12,11 +12,14 @@ returns-in-Ok-clause-ok c = rw (← c.self.view_is) (λ calls broadcast. (
     source = (c.in-Ok.ensures.ok calls broadcast.source).1;
     air = subst (λ setup. IsOnAir setup (event ∷ calls) c.push.new.self) (sym c.event.ensures.setup)
         (subst (IsOnAir c.self.inside.source.setup (event ∷ calls)) (sym c.push.ensures)
-        (event_on_air c.self.inside.source.setup calls c.self.inside.air c.in-Ok.sent.pdus c.event.ensures.checked.0 c.event.ensures.checked.1 broadcast.air
+        (event_on_air c.self.inside.source.setup calls c.self.inside.air c.in-Ok.sent.pdus c.event.ensures.checked broadcast.air
         (λ airs are. subst (λ at. Sends c.self.inside.source.setup airs at c.in-Ok.sent.pdus) (c.in-Ok.ensures.event.0 ∙ broadcast.source.next)
         (c.in-Ok.ensures.pdus calls airs broadcast.source are))));
   },
 ))
+
+pub returns-in-Ok-clause-stale : goal.returns-in-Ok-clause-stale
+returns-in-Ok-clause-stale c = rw (← c.self.view_is) (λ calls airs broadcast are. c.in-Ok.ensures.stale calls airs broadcast.source are)
 
 pub returns-in-Err-clause-err : goal.returns-in-Err-clause-err
 returns-in-Err-clause-err c = rw (← c.self.view_is) (refused c.self.inside.source c.event.new.self c.self.inside.air c.in-Err.fault c.in-Err.ensures.err)

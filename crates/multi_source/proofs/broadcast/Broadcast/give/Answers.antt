@@ -10,5 +10,5 @@ returns-clause-ok c = rw (← c.self.view_is) (on_ok c.give.result c.give.ensure
   source = stands calls broadcast.source;
   air = subst (λ setup. IsOnAir setup (give c.args.bis c.args.time c.args.octets.now ∷ calls) c.self.inside.air) (sym c.give.ensures.setup)
       (given_on_air c.self.inside.source.setup calls c.self.inside.air c.args.bis c.args.time c.args.octets.now
-      c.give.ensures.checked.0 c.give.ensures.checked.1 broadcast.air);
+      c.give.ensures.checked broadcast.air);
 }))

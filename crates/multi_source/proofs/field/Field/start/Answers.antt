@@ -2,18 +2,17 @@ use Rattle.std.proofs.Common.{ap, refl, ◌∙◌}
 use Rattle.big_info.specs.declared.info.BigInfo.{BigInfo}
 use Rattle.radio_schedule.specs.OnAir.{silence}
 use Rattle.source_machine.specs.Calls.{Setup}
-use Rattle.source_machine.specs.Setups.{started}
-use Rattle.source_machine.specs.declared.setup.Setup.{Setup as Configured}
+use Rattle.source_machine.specs.Setups.{Configured, configured, started}
 use Rattle.multi_source.proofs.Starting.{starts}
 use Rattle.multi_source.proofs.field.Field.start.Goals as goal
 
 pub returns-clause-ok : goal.returns-clause-ok
 returns-clause-ok c =
-    let configured = c.in-Ok.ensures.ok.0 in
+    let is = c.in-Ok.ensures.ok.0 in
     let ok = c.in-Ok-start.ensures.ok in
-    let setup_is = ok.1 ∙ ap (λ (s : Configured). started s c.args.first) configured in
-    starts c.args.setup c.args.first _ _ c.in-Ok-start.source
+    let setup_is = ok.1 ∙ ap (λ (s : Configured). started s c.args.first) is in
+    starts (configured c.args.setup c.args.limits.ahead) c.args.first _ _ c.in-Ok-start.source
     (record { identity = c.args.setup.identity; air = c.in-Ok-new.air })
     c.place.ensures.source c.place.ensures.begun
-    (ok.0 ∙ ap (λ (s : Configured). s.identity) configured) setup_is ok.2 refl
-    (c.in-Ok-new.ensures ∙ ap silence (c.group.ensures.info ∙ ap (λ (s : Setup). s.info) setup_is))
+    (ok.0 ∙ ap (λ (s : Configured). s.identity) is) setup_is ok.2 refl
+    (c.in-Ok-new.ensures ∙ ap silence (c.group.ensures ∙ ap (λ (s : Setup). s.info) setup_is))

@@ -1,23 +1,34 @@
 use Rattle.std.proofs.Common.{◌∷◌, refl}
-use Rattle.scenario_text.specs.declared.step.Step.TheVariants.{Event as EventStep, Stop as StopStep}
+use Rattle.scenario_text.specs.declared.step.Step.TheVariants.{Event as EventStep}
 use Rattle.replay_steps.specs.Machines.{past_of}
-use Rattle.replay_steps.proofs.Closing.{close_refused, closes_meet}
+use Rattle.replay_steps.proofs.Closing.{close_stops, closes_all, event_meets, event_refused, event_wants}
 use Rattle.replay_steps.proofs.machine.Machine.event.Goals as goal
 
 pub returns-in-Err : goal.returns-in-Err
 returns-in-Err g c starts version steps stands e =
-    close_refused starts version steps EventStep (record c.args.self.now { sources = c.perform.new.self }) c.args.text.now _ c.in-Err.stop (record {
-      stage = λ stage. refl;
-      placed = λ
-          v. refl;
-      refusal = λ boxes steps. refl;
-    }) e
-    (c.in-Err.ensures.closes version steps stands.sources)
+    event_refused starts version steps (record c.args.self.now { sources = c.perform.new.self }) c.args.text.now _ c.in-Err.stop
+    (record { stage = λ stage. refl; placed = λ v. refl; refusal = λ boxes steps. refl }) e (c.in-Err.ensures.performs version steps stands.sources)
 
-pub returns : goal.returns
-returns g c starts version steps stands e =
-    let performed = c.in-Ok.ensures.closes version steps stands.sources in
-    closes_meet starts version c.chosen.result steps EventStep c.in-Ok.closed c.args.self.now _ c.args.text.now c.close.new.text _ _ c.close.result
-    (record { stage = λ stage. refl; placed = λ v. refl; refusal = λ boxes steps. refl })
-    (record { past = λ steps. refl; handed = λ steps. refl; output = λ starts steps. refl })
-    stands e performed.0 performed.1 performed.2 (c.chosen.ensures.source (EventStep ∷ steps) performed.1) refl (c.close.ensures (past_of steps) stands.sinks)
+pub returns-in-Err-close : goal.returns-in-Err-close
+returns-in-Err-close g c starts version steps stands e =
+    let performed = c.in-Ok.ensures.performs version steps stands.sources in
+    close_stops starts version c.chosen.result steps EventStep c.in-Ok.performed.closed c.close.new.self _ c.args.text.now c.close.new.text _ _ c.in-Err-close.stop
+    (record { stage = λ stage. refl; placed = λ v. refl; refusal = λ boxes steps. refl }) (record { past = λ steps. refl; handed = λ steps. refl })
+    e performed.0 performed.2 (c.chosen.ensures.source (EventStep ∷ steps) performed.1) (c.in-Err-close.ensures (past_of steps) stands.sinks)
+
+pub returns-in-Ok-put_stale_units : goal.returns-in-Ok-put_stale_units
+returns-in-Ok-put_stale_units g c starts version steps stands e =
+    let performed = c.in-Ok.ensures.performs version steps stands.sources in
+    event_meets starts steps c.in-Ok.performed.stale _ c.args.text.now c.close.new.text c.put_stale_units.new.text _ _
+    (closes_all starts version c.chosen.result steps EventStep c.in-Ok.performed.closed c.args.self.now _ c.args.text.now c.close.new.text _ _
+    (record { stage = λ stage. refl; placed = λ v. refl; refusal = λ boxes steps. refl }) (record { past = λ steps. refl; handed = λ steps. refl })
+    stands e performed.0 performed.1 performed.2 (c.chosen.ensures.source (EventStep ∷ steps) performed.1) refl (c.in-Ok-close.ensures (past_of steps) stands.sinks))
+    performed.3 c.in-Ok-put_stale_units.ensures
+
+pub returns-in-Err-put_stale_units : goal.returns-in-Err-put_stale_units
+returns-in-Err-put_stale_units g c starts version steps stands e =
+    let performed = c.in-Ok.ensures.performs version steps stands.sources in
+    event_wants starts steps (record c.args.self.now { sources = c.perform.new.self; sinks = c.close.new.self }) _ c.args.text.now c.close.new.text c.put_stale_units.new.text _ _
+    (closes_all starts version c.chosen.result steps EventStep c.in-Ok.performed.closed c.args.self.now _ c.args.text.now c.close.new.text _ _
+    (record { stage = λ stage. refl; placed = λ v. refl; refusal = λ boxes steps. refl }) (record { past = λ steps. refl; handed = λ steps. refl })
+    stands e performed.0 performed.1 performed.2 (c.chosen.ensures.source (EventStep ∷ steps) performed.1) refl (c.in-Ok-close.ensures (past_of steps) stands.sinks))

@@ -13,4 +13,4 @@ returns c boxes steps stands e =
       refusal = λ boxes
           steps. refl;
     }) refl stands e refl refl
-    (c.start.ensures (number_of c.args.version) steps c.limits.ensures.horizon stands.sources)
+    (c.start.ensures (number_of c.args.version) steps c.limits.ensures.horizon c.limits.ensures.ahead e stands.sources)

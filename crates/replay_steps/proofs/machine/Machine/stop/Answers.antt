@@ -19,5 +19,5 @@ returns g c starts version steps stands e =
     let performed = c.in-Ok.ensures.closes version steps stands.sources in
     closes_meet starts version c.chosen.result steps StopStep c.in-Ok.closed c.args.self.now _ c.args.text.now c.close.new.text _ _ c.close.result
     (record { stage = λ stage. refl; placed = λ v. refl; refusal = λ boxes steps. refl })
-    (record { past = λ steps. refl; handed = λ steps. refl; output = λ starts steps. refl })
+    (record { past = λ steps. refl; handed = λ steps. refl }) refl
     stands e performed.0 performed.1 performed.2 (c.chosen.ensures.source (StopStep ∷ steps) performed.1) refl (c.close.ensures (past_of steps) stands.sinks)

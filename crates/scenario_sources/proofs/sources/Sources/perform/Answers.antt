@@ -1,12 +1,11 @@
 use Rattle.std.proofs.Common.{refl, sym, ◌∙◌, arith}
-use Rattle.scenario_text.specs.declared.step.Step.TheVariants.{Event as EventStep, Stop as StopStep}
 use Rattle.scenario_history.specs.Steps.{chosen_steps}
-use Rattle.scenario_sources.proofs.Lifting.{closes, chosen_read}
+use Rattle.scenario_sources.proofs.Lifting.{chosen_read, performs}
 use Rattle.scenario_sources.proofs.sources.Sources.perform.Goals as goal
 
-pub returns-clause-closes : goal.returns-clause-closes
-returns-clause-closes c version steps stands =
+pub returns-clause-performs : goal.returns-clause-performs
+returns-clause-performs c version steps stands =
     let two = sym c.args.self.now.phases.ok.0 ∙ c.args.self.now.two in
     let here = chosen_read steps c.from.result c.args.self.now c.index_mut.result.now c.from.ensures c.args.self.now.is_one two c.index_mut.ensures.value stands in
-    closes version EventStep steps c.from.result c.args.self.now _ c.perform.new.phase c.perform.result (record { line = λ s steps. refl; chooses = refl }) refl
-    c.from.ensures c.args.self.now.is_one two stands (c.perform.ensures.closes version (chosen_steps steps) here) refl refl
+    performs version steps c.from.result c.args.self.now _ c.perform.new.phase c.perform.result c.from.ensures c.args.self.now.is_one two stands
+    (c.perform.ensures.performs version (chosen_steps steps) here) refl refl

@@ -1,0 +1,122 @@
+-- What a source of a framed group lays: how many events, with which anchors, and that its units fit Max_SDU.
+use Rattle.std.proofs.Common.{ℕ, zero, suc, ◌≡◌, ◌⊎◌, ◌<◌, ◌≤◌, ◌+◌, ◌*◌, ◌==◌, cond, ltb, Bool, true, false, List, [], ◌∷◌, ◌++◌, length, Option, None, Some, refl, sym, ◌∙◌, ap, subst, arith, inl, inr}
+use Rattle.std.specs.Prelude.{slice_get, unwrap_or}
+use Rattle.std.specs.List.{AllByRecursion}
+use Rattle.std.proofs.Math.Nat.{add-mul}
+use Rattle.std.proofs.lemmas.Bool.{cases_eq, cond-false, eq-eqb, eqb-true, ltb-false, ne_eqb}
+use Rattle.std.proofs.lemmas.List.{length-append}
+use Rattle.std.proofs.lemmas.Option.{none-some, same_Some}
+use Rattle.big_info.specs.declared.info.BigInfo.{BigInfo}
+use Rattle.big_info.specs.Schedule.{horizon_of}
+use Rattle.big_info.specs.Time.{iso_us_of}
+use Rattle.isoal_base.specs.Air.{Air}
+use Rattle.isoal_framed.specs.Air.{IsAirOf, IsFramedAir}
+use Rattle.isoal_framed.specs.Calls.{Call as FramedCall, Timed, accept, lay, accepted, anchors_of}
+use Rattle.isoal_framed.specs.Places.{Act}
+use Rattle.source_machine.specs.declared.fault.GiveFault.{GiveFault}
+use Rattle.source_machine.specs.Calls.{Setup, Call, give, event, events, framed_calls, framed_lays, laid_before, laid_with, lay_anchor}
+use Rattle.scenario_history.specs.Source.{Airs}
+use Rattle.scenario_history.specs.Airs.{AreAccepted}
+
+-- ---- the events laid, by their anchors
+
+-- so many events are laid, and the n-th of them has its anchor
+pub record LaidBy (setup : Setup) (count : ℕ) (calls : List FramedCall) : Type 0 where
+  pub count_is : length (anchors_of calls) ≡ count
+  pub each : (n : ℕ) → (anchor : ℕ) → slice_get (anchors_of calls) n ≡ Some anchor → anchor ≡ lay_anchor setup n
+
+get_last : {A : Type 0} (xs : List A) (y : A) (n : ℕ) (x : A) → slice_get (xs ++ y ∷ []) n ≡ Some x → (slice_get xs n ≡ Some x) ⊎ ((n ≡ length xs) × (x ≡ y))
+get_last [] y zero x is = inr (refl, sym (same_Some y x is))
+get_last [] y (suc n) x is = absurd (none-some x is)
+get_last (z ∷ xs) y zero x is = inl is
+get_last (z ∷ xs) y (suc n) x is = elim (get_last xs y n x is) [ inl before ↦ inl before | inr last ↦ inr (omega (arith, last.0), last.1) ]
+
+lay_one : (setup : Setup) (count : ℕ) (calls : List FramedCall) (anchor : ℕ) → LaidBy setup count calls → anchor ≡ lay_anchor setup count → LaidBy setup (count + 1) (lay anchor ∷ calls)
+lay_one setup count calls anchor by is = record {
+  count_is = length-append (anchors_of calls) (anchor ∷ []) ∙ ap (λ n. n + 1) by.count_is;
+  each = λ n a at. elim (get_last (anchors_of calls) anchor n a at) [
+    | inl before ↦ by.each n a before
+    | inr last ↦ last.1 ∙ is ∙ ap (lay_anchor setup) (sym (last.0 ∙ by.count_is))
+  ];
+}
+
+lay_all : (setup : Setup) (base count : ℕ) (calls : List FramedCall) → LaidBy setup base calls
+    → LaidBy setup (base + count) (framed_lays (lay_anchor setup base) (iso_us_of setup.info) count calls)
+lay_all setup base zero calls by = subst (λ n. LaidBy setup n calls) (omega arith) by
+lay_all setup base (suc count) calls by =
+    let product : (base + count) * iso_us_of setup.info ≡ base * iso_us_of setup.info + count * iso_us_of setup.info = add-mul base count (iso_us_of setup.info) in
+    let more : base + count + 1 ≡ base + suc count = omega arith in
+    subst (λ n. LaidBy setup n (lay (lay_anchor setup base + count * iso_us_of setup.info) ∷ framed_lays (lay_anchor setup base) (iso_us_of setup.info) count calls)) more
+    (lay_one setup (base + count) (framed_lays (lay_anchor setup base) (iso_us_of setup.info) count calls) (lay_anchor setup base + count * iso_us_of setup.info)
+    (lay_all setup base count calls by) (omega (arith, product)))
+
+count_laid : (none : Bool) (h count : ℕ) → (none ≡ true → count ≡ 0) → cond none 0 (count + h) + cond none (h + 1) 1 ≡ suc count + h
+count_laid true h count is = omega (arith, is refl)
+count_laid false h count is = omega arith
+
+pub laid_some : (count h : ℕ) → 0 < count → cond (count == 0) 0 (count + h) ≡ count + h
+laid_some count h some = cond-false (count == 0) 0 (count + h) (ne_eqb count 0 (λ is. omega (arith, some, is)))
+
+none_yet : (count : ℕ) → (count == 0) ≡ true → count ≡ 0
+none_yet count is = eqb-true count 0 is
+
+pub laid_by : (setup : Setup) (bis : ℕ) (calls : List Call) → LaidBy setup (laid_before setup.info calls) (framed_calls setup bis calls)
+laid_by setup bis [] = record { count_is = refl; each = λ n anchor at. absurd (none-some anchor at) }
+laid_by setup bis (give stream time octets ∷ calls) = elim (cases_eq stream bis) [
+  | inl same ↦ rw (eq-eqb stream bis same)
+      (record { count_is = (laid_by setup bis calls).count_is; each = (laid_by setup bis calls).each })
+  | inr other ↦ rw (ne_eqb stream bis other) (laid_by setup bis calls)
+]
+laid_by setup bis (event ∷ calls) =
+    subst (λ n. LaidBy setup n (framed_calls setup bis (event ∷ calls)))
+    (count_laid (events calls == 0) (horizon_of setup.info) (events calls) (none_yet (events calls)) ∙ sym (laid_some (suc (events calls)) (horizon_of setup.info) (omega arith)))
+    (lay_all setup (laid_before setup.info calls) (laid_with setup.info calls) (framed_calls setup bis calls) (laid_by setup bis calls))
+
+-- an air has an entry for each event laid
+air_long : (info : BigInfo) (calls : List FramedCall) (acts : List Act) (air : Air) → IsAirOf info calls acts air → length air ≡ length (anchors_of calls)
+air_long info [] acts air is = ap length is.1
+air_long info (accept time octets ∷ calls) acts air is = air_long info calls acts air is
+air_long info (lay anchor ∷ calls) acts air is =
+    let before : length is.1 ≡ length (anchors_of calls) = air_long info calls is.0 is.1 is.3 in
+    ap length is.6 ∙ omega (arith, before, length-append (anchors_of calls) (anchor ∷ []))
+
+pub events_in : (setup : Setup) (bis : ℕ) (calls : List Call) (air : Air) → IsFramedAir setup.info (framed_calls setup bis calls) air → length air ≡ laid_before setup.info calls
+events_in setup bis calls air is = air_long setup.info (framed_calls setup bis calls) is.0 air is.1 ∙ (laid_by setup bis calls).count_is
+
+-- ---- no unit is longer than Max_SDU
+
+abbrev Short : ℕ → Timed → Type 0
+Short most unit = length unit.octets ≤ most
+
+all_push : {A : Type 0} (P : A → Type 0) (xs : List A) (x : A) → AllByRecursion P xs → P x → AllByRecursion P (xs ++ x ∷ [])
+all_push P [] x all last = (last, tt)
+all_push P (y ∷ xs) x all last = (all.0, all_push P xs x all.1 last)
+
+lays_accept : (anchor iso count : ℕ) (calls : List FramedCall) → accepted (framed_lays anchor iso count calls) ≡ accepted calls
+lays_accept anchor iso zero calls = refl
+lays_accept anchor iso (suc count) calls = lays_accept anchor iso count calls
+
+second_false : (a b : Bool) (x y : GiveFault) (rest : Option GiveFault) → cond a (Some x) (cond b (Some y) rest) ≡ None → b ≡ false
+second_false true b x y rest none = absurd (none-some x (sym none))
+second_false false true x y rest none = absurd (none-some y (sym none))
+second_false false false x y rest none = refl
+
+all_short : (airs : Airs) (setup : Setup) (bis : ℕ) (calls : List Call) → AreAccepted airs setup calls → AllByRecursion (Short setup.info.max_sdu) (accepted (framed_calls setup bis calls))
+all_short airs setup bis [] all = tt
+all_short airs setup bis (give stream time octets ∷ calls) all = elim (cases_eq stream bis) [
+  | inl same ↦ rw (eq-eqb stream bis same)
+      (all_push (Short setup.info.max_sdu) (accepted (framed_calls setup bis calls)) (record { time = unwrap_or time 0; octets = octets }) (all_short airs setup bis calls all.0)
+      (ltb-false setup.info.max_sdu (length octets) (second_false (ltb setup.info.num_bis stream) (ltb setup.info.max_sdu (length octets)) _ _ _ all.1)))
+  | inr other ↦ rw (ne_eqb stream bis other) (all_short airs setup bis calls all.0)
+]
+all_short airs setup bis (event ∷ calls) all =
+    subst (AllByRecursion (Short setup.info.max_sdu)) (sym (lays_accept _ _ (laid_with setup.info calls) (framed_calls setup bis calls))) (all_short airs setup bis calls all.0)
+
+one_of : (most : ℕ) (units : List Timed) (i : ℕ) (unit : Timed) → AllByRecursion (Short most) units → slice_get units i ≡ Some unit → Short most unit
+one_of most [] i unit all is = absurd (none-some unit is)
+one_of most (first ∷ units) zero unit all is = subst (Short most) (same_Some first unit is) all.0
+one_of most (first ∷ units) (suc i) unit all is = one_of most units i unit all.1 is
+
+pub unit_short : (airs : Airs) (setup : Setup) (bis : ℕ) (calls : List Call) → AreAccepted airs setup calls → (i : ℕ) (unit : Timed) → slice_get (accepted (framed_calls setup bis calls)) i ≡ Some unit
+    → length unit.octets ≤ setup.info.max_sdu
+unit_short airs setup bis calls all i unit is = one_of setup.info.max_sdu (accepted (framed_calls setup bis calls)) i unit (all_short airs setup bis calls all) is

@@ -1,0 +1,92 @@
+-- The units that a framed air sends, by payload numbers: the PDU of each number is theirs.
+use Rattle.std.proofs.Common.{ℕ, zero, suc, ◌≡◌, ◌<◌, ◌≤◌, ◌+◌, ◌-◌, ◌*◌, ◌/◌, ◌%◌, ◌&&◌, cond, eqb, Bool, List, [], ◌∷◌, ◌++◌, length, map, Option, None, Some, refl, sym, ◌∙◌, ap, subst, arith, inl, inr}
+use Rattle.std.specs.Prelude.{slice_get}
+use Rattle.std.specs.List.{range_with_len}
+use Rattle.std.specs.Option.{option_and_then}
+use Rattle.std.proofs.lemmas.Bool.{cases_eq, eq-eqb, ne_eqb}
+use Rattle.std.proofs.lemmas.Nat.{div-add-mod', mod_below}
+use Rattle.big_info.specs.declared.info.BigInfo.{BigInfo}
+use Rattle.iso_pdu.specs.Layout.{framed}
+use Rattle.iso_pdu.specs.Spelling.{pdu}
+use Rattle.isoal_base.specs.Air.{Air, Laid, event_at, pdu_at}
+use Rattle.isoal_framed.specs.Sends.{EventsAre}
+use Rattle.isoal_framed.specs.Struck.{Fit, InOrder, Sent, behind, carried, is_last, part_with, parts_at}
+
+-- ---- the PDU of a number
+
+get_mapped : {A : Type 0} (f : ℕ → A) (start count i : ℕ) → i < count → slice_get (map f (range_with_len start count)) i ≡ Some (f (start + i))
+get_mapped f start zero i below = absurd (omega (arith, below))
+get_mapped f start (suc count) zero below = ap (λ n. Some (f n)) (omega arith)
+get_mapped f start (suc count) (suc i) below =
+    get_mapped f (start + 1) count i (omega (arith, below)) ∙ ap (λ n. Some (f n)) (omega arith)
+
+in_event : (info : BigInfo) (entry : Laid) (earlier : Air) (units : List Sent) (number : ℕ) → 1 ≤ info.bn → length earlier ≡ number / info.bn
+    → entry.pdus ≡ map (λ n. pdu (framed (parts_at units n))) (range_with_len (length earlier * info.bn) info.bn)
+    → slice_get entry.pdus (number % info.bn) ≡ Some (pdu (framed (parts_at units number)))
+in_event info entry earlier units number some here are =
+    let split : number ≡ number / info.bn * info.bn + number % info.bn = sym (div-add-mod' number info.bn) in
+    ap (λ pdus. slice_get pdus (number % info.bn)) are
+    ∙ get_mapped (λ n. pdu (framed (parts_at units n))) (length earlier * info.bn) info.bn (number % info.bn) (mod_below number info.bn some)
+    ∙ ap (λ e. Some (pdu (framed (parts_at units (e * info.bn + number % info.bn))))) here
+    ∙ ap (λ n. Some (pdu (framed (parts_at units n)))) (sym split)
+
+pub each_sent : (info : BigInfo) (air : Air) (units : List Sent) (number : ℕ) → 1 ≤ info.bn → EventsAre info air units → number / info.bn < length air
+    → pdu_at info.bn air number ≡ Some (pdu (framed (parts_at units number)))
+each_sent info [] units number some are below = absurd (omega (arith, below))
+each_sent info (entry ∷ earlier) units number some are below = elim (cases_eq (length earlier) (number / info.bn)) [
+  | inl here ↦
+      ap (λ b. option_and_then (λ (event : Laid). slice_get event.pdus (number % info.bn)) (cond b (Some entry.event) (event_at earlier (number / info.bn)))) (eq-eqb (length earlier)
+      (number / info.bn) here)
+      ∙ in_event info entry.event earlier units number some here are.1
+  | inr apart ↦
+      ap (λ b. option_and_then (λ (event : Laid). slice_get event.pdus (number % info.bn)) (cond b (Some entry.event) (event_at earlier (number / info.bn)))) (ne_eqb (length earlier)
+      (number / info.bn) apart)
+      ∙ each_sent info earlier units number some are.0 (omega (arith, below, apart))
+]
+
+-- ---- numbers that begin further on
+
+abbrev pub moved_on : ℕ → Sent → Sent
+moved_on base unit = record { first = base + unit.first; offset = unit.offset; segments = unit.segments; whole = unit.whole }
+
+same_test : (base a b : ℕ) → eqb (base + a) (base + b) ≡ eqb a b
+same_test base a b = elim (cases_eq a b) [
+  | inl same ↦ eq-eqb (base + a) (base + b) (omega (arith, same)) ∙ sym (eq-eqb a b same)
+  | inr apart ↦ ne_eqb (base + a) (base + b) (λ is. apart (omega (arith, is))) ∙ sym (ne_eqb a b apart)
+]
+
+carried_on : (base from : ℕ) (offset : Option ℕ) (segments : List (List ℕ)) (whole : Bool) (number : ℕ)
+    → carried (base + from) offset segments whole (base + number) ≡ carried from offset segments whole number
+carried_on base from offset [] whole number = refl
+carried_on base from offset (octets ∷ segments) whole number =
+    let next : base + from + 1 ≡ base + (from + 1) = omega arith in
+    rw (same_test base from number)
+    (ap (λ rest. cond (eqb from number) (part_with offset (whole && is_last segments) octets ∷ []) rest)
+    (ap (λ f. carried f None segments whole (base + number)) next ∙ carried_on base (from + 1) None segments whole number))
+
+pub parts_on : (base : ℕ) (units : List Sent) (number : ℕ) → parts_at (map (moved_on base) units) (base + number) ≡ parts_at units number
+parts_on base [] number = refl
+parts_on base (unit ∷ units) number =
+    ap (λ parts. parts ++ parts_at (map (moved_on base) units) (base + number)) (carried_on base unit.first (Some unit.offset) unit.segments unit.whole number)
+    ∙ ap (λ parts. carried unit.first (Some unit.offset) unit.segments unit.whole number ++ parts) (parts_on base units number)
+
+no_more : (base : ℕ) (units : List Sent) → units ≡ [] → map (moved_on base) units ≡ []
+no_more base units none = ap (map (moved_on base)) none
+
+pub order_on : (base from laid : ℕ) (units : List Sent) → InOrder from laid units → InOrder (base + from) (base + laid) (map (moved_on base) units)
+order_on base from laid [] order = tt
+order_on base from laid (unit ∷ units) order =
+    let next : base + (behind unit - 1) ≡ behind (moved_on base unit) - 1 = omega (arith, order.1) in (
+      omega (arith, order.0),
+      order.1,
+      (λ partly. (no_more base units (order.2 partly).0, omega (arith, (order.2 partly).1))),
+      subst (λ f. InOrder f (base + laid) (map (moved_on base) units)) next (order_on base (behind unit - 1) laid units order.3),
+    )
+
+pub order_from : (from low laid : ℕ) (units : List Sent) → low ≤ from → InOrder from laid units → InOrder low laid units
+order_from from low laid [] more order = tt
+order_from from low laid (unit ∷ units) more order = (omega (arith, more, order.0), order.1, order.2, order.3)
+
+pub fit_on : (base most : ℕ) (units : List Sent) → Fit most units → Fit most (map (moved_on base) units)
+fit_on base most [] fit = tt
+fit_on base most (unit ∷ units) fit = (fit.0, fit_on base most units fit.1)
