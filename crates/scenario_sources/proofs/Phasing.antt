@@ -1,25 +1,23 @@
 -- One source after a step that means it.
-use Rattle.std.proofs.Common.{◌≡◌, ◌-◌, ℕ, ◌==◌, Bool, true, false, List, [], ◌∷◌, refl, sym, ◌∙◌, ap, subst, is_some, unwrap_or, option_map, eq-eqb, Option, None, Some, Result, Ok, Err}
-use Rattle.std.specs.Option.{option_or}
+use Rattle.std.proofs.Common.{◌≡◌, ◌-◌, ℕ, ◌==◌, Bool, false, List, [], ◌∷◌, refl, sym, ◌∙◌, ap, subst, is_some, unwrap_or, option_map, if◌then◌else◌, arith, Option, None, Some, Result, Ok, Err}
 use Rattle.big_info.specs.declared.fault.GroupFault.{GroupFault}
 use Rattle.big_info.specs.declared.info.BigInfo.{BigInfo}
 use Rattle.big_info.specs.Rows.{first_fault}
 use Rattle.source_machine.specs.Airs.{airs_of, pdu_of, stale_of}
-use Rattle.source_machine.specs.Calls.{Call, Setup, event as perform, give, next_of}
+use Rattle.source_machine.specs.Calls.{Call, Setup, event as perform, last_of, next_of}
 use Rattle.source_machine.specs.declared.sent.Stale.{Stale}
 use Rattle.source_machine.specs.declared.fault.ConfigureFault.{ConfigureFault}
 use Rattle.source_machine.specs.declared.fault.ConfigureFault.TheVariants.{BadGroup as Misfit, Memory as NoMemory}
 use Rattle.source_machine.specs.declared.fault.GiveFault.{GiveFault}
 use Rattle.source_machine.specs.Faults.{ConfigureFails, air_fault, give_fault, refused_unit}
 use Rattle.multi_source.specs.State.Broadcasts.{Broadcasting, StandsFor}
-use Rattle.transcript_text.specs.declared.refusal.Refusal.{Refusal}
 use Rattle.transcript_text.specs.declared.refusal.Refusal.TheVariants.{BadGroup}
 use Rattle.transcript_text.specs.declared.stop.Stop.{Stop}
 use Rattle.transcript_text.specs.declared.stop.Stop.TheVariants.{Refused, OutletFault, Memory}
 use Rattle.scenario_text.specs.declared.step.Step.{Step}
 use Rattle.scenario_text.specs.declared.step.Step.TheVariants.{Ident, Start, Unit as UnitStep}
-use Rattle.scenario_history.specs.Source.{GroupLine, event_back, pdu_in, absent, described, sending, phase_of, ident_of, group_of, is_ahead_in, setup_of, setup_from, source_calls, stale_in}
-use Rattle.scenario_history.specs.Steps.{is_unbegun_at, running, stage_of}
+use Rattle.scenario_history.specs.Source.{GroupLine, event_back, pdu_in, absent, described, sending, phase_of, ident_of, is_ahead_in, open_event, performed, setup_of, source_calls, stale_in}
+use Rattle.scenario_history.specs.Steps.{is_over, is_unbegun_at, running, stage_of}
 use Rattle.scenario_history.specs.Refusals.{air_refusal, give_refusal, horizon_in, no_place}
 use Rattle.source_machine.specs.declared.setup.Identity.{Identity}
 use Rattle.scenario_sources.specs.declared.phase.Described.{Described}
@@ -27,7 +25,7 @@ use Rattle.scenario_sources.specs.declared.phase.Phase.TheVariants as phases
 use Rattle.scenario_sources.specs.declared.phase.Started.{Started}
 use Rattle.scenario_sources.specs.Described.{IsPlain, group_step, identity_in}
 use Rattle.scenario_sources.specs.Faults.{fault_in}
-use Rattle.scenario_sources.specs.State.Phases.{AbsentIs, Becomes, DescribedIs, IsReady, PhaseIs, StartedIs, line_of}
+use Rattle.scenario_sources.specs.State.Phases.{AbsentIs, Becomes, DescribedIs, IsReady, StartedIs}
 use Rattle.scenario_sources.specs.State.Stops.{GivesTo, GiveStops, StartStops}
 
 same_line : (i j : BigInfo) (o p d e : ℕ) → i ≡ j → o ≡ p → d ≡ e
@@ -152,3 +150,10 @@ gives version own old new bis time octets (Err Memory) is identity g = tt
 pub left_out : (own : List Step) (setup : Setup) (stale : List Stale) → setup ≡ setup_of own
     → stale ≡ stale_of setup (source_calls own) (airs_of setup (perform ∷ source_calls own)) → stale ≡ stale_in airs_of own
 left_out own setup stale same is = is ∙ ap (λ s. stale_of s (source_calls own) (airs_of s (perform ∷ source_calls own))) same
+
+pub closed_is : (own : List Step) (setup : Setup) (closed : Option ℕ) → setup ≡ setup_of own → phase_of own ≡ sending → is_over own ≡ false
+    → closed ≡ last_of setup (source_calls own) → closed ≡ open_event own
+closed_is own setup closed same sends runs is =
+    let at : next_of (setup_of own) (source_calls own) - 1 ≡ event_back own 0 = omega arith in
+    is ∙ ap (λ s. last_of s (source_calls own)) same
+    ∙ rw (sends, runs) (ap (λ n. if performed own == 0 then None else Some n) at)
