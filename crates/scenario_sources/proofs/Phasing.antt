@@ -1,13 +1,12 @@
 -- One source after a step that means it.
-use Rattle.std.proofs.Common.{◌≡◌, ◌-◌, ℕ, ◌==◌, Bool, true, false, List, [], ◌∷◌, refl, sym, ◌∙◌, ap, subst, is_some, unwrap_or, option_map, eq-eqb, Option, None, Some, Result, Ok, Err}
-use Rattle.std.specs.Option.{option_or}
+use Rattle.std.proofs.Common.{◌≡◌, ◌-◌, ℕ, ◌==◌, Bool, true, false, List, [], ◌∷◌, refl, sym, ◌∙◌, ap, subst, is_some, unwrap_or, option_map, if◌then◌else◌, arith, Option, None, Some, Result, Ok, Err}
 use Rattle.base_grammar.specs.Layout.{endpoint}
 use Rattle.big_info.specs.declared.info.BigInfo.{BigInfo}
 use Rattle.big_info.specs.declared.info.Cipher.{Cipher}
 use Rattle.scenario_bases.specs.Lines.{subgroups_in}
 use Rattle.source_machine.specs.Ciphers.{with_cipher, without_cipher}
 use Rattle.source_machine.specs.Airs.{airs_of, pdu_of, stale_of}
-use Rattle.source_machine.specs.Calls.{Call, Setup, event as perform, give, next_of}
+use Rattle.source_machine.specs.Calls.{Call, Setup, event as perform, last_of, next_of}
 use Rattle.source_machine.specs.declared.sent.Stale.{Stale}
 use Rattle.source_machine.specs.declared.fault.GiveFault.{GiveFault}
 use Rattle.source_machine.specs.Faults.{air_fault, give_fault, refused_unit}
@@ -18,7 +17,8 @@ use Rattle.transcript_text.specs.declared.stop.Stop.TheVariants.{Refused, Outlet
 use Rattle.scenario_text.specs.declared.step.Step.{Step}
 use Rattle.scenario_text.specs.declared.step.Step.TheVariants.{Cipher as CipherLine, Ident, Unit as UnitStep}
 use Rattle.scenario_history.specs.Bases.{subgroups_of}
-use Rattle.scenario_history.specs.Source.{GroupLine, cipher_of, event_back, pdu_in, absent, described, sending, phase_of, ident_of, is_ciphered, setup_of, source_calls, stale_in, takes_units}
+use Rattle.scenario_history.specs.Source.{GroupLine, cipher_of, event_back, pdu_in, absent, described, sending, phase_of, ident_of, is_ciphered, open_event, performed, setup_of, source_calls, stale_in, takes_units}
+use Rattle.scenario_history.specs.Steps.{is_over}
 use Rattle.scenario_history.specs.Refusals.{air_refusal, give_refusal, no_place}
 use Rattle.source_machine.specs.declared.setup.Identity.{Identity}
 use Rattle.scenario_sources.specs.declared.phase.Described.{Described}
@@ -170,3 +170,10 @@ uncoded own started is none = let plain : is_ciphered own ≡ false = ap is_some
 pub left_out : (own : List Step) (setup : Setup) (stale : List Stale) → setup ≡ setup_of own
     → stale ≡ stale_of setup (source_calls own) (airs_of setup (perform ∷ source_calls own)) → stale ≡ stale_in airs_of own
 left_out own setup stale same is = is ∙ ap (λ s. stale_of s (source_calls own) (airs_of s (perform ∷ source_calls own))) same
+
+pub closed_is : (own : List Step) (setup : Setup) (closed : Option ℕ) → setup ≡ setup_of own → phase_of own ≡ sending → is_over own ≡ false
+    → closed ≡ last_of setup (source_calls own) → closed ≡ open_event own
+closed_is own setup closed same sends runs is =
+    let at : next_of (setup_of own) (source_calls own) - 1 ≡ event_back own 0 = omega arith in
+    is ∙ ap (λ s. last_of s (source_calls own)) same
+    ∙ rw (sends, runs) (ap (λ n. if performed own == 0 then None else Some n) at)
