@@ -46,19 +46,16 @@ fn keeps_what_was_sent(rt: HostRuntime) -> Result<(), Fail> {
     assert!(rt; TWICE.fits());
     let mut air = Air::new(rt.alloc(), &check_group(&TWICE)?)?;
     let second = Bis::new(2).ok_or("no stream")?;
-    assert_eq!(rt; air.heard_at(0, second, 0).err(), Some(AirFault::NotOnAir));
+    assert!(rt; air.heard_at(0, second, 0).err() == Some(AirFault::NotOnAir));
 
     air.push(event(rt.alloc(), [10, 11, 20, 21])?);
     air.push(event(rt.alloc(), [12, 13, 22, 23])?);
-    assert_eq!(rt; air.heard_at(0, second, 1)?, [23].as_slice());
-    assert_eq!(rt; air.heard_at(1, second, 0)?, [20].as_slice());
+    assert!(rt; air.heard_at(0, second, 1)? == [23].as_slice());
+    assert!(rt; air.heard_at(1, second, 0)? == [20].as_slice());
 
     let third = Bis::new(3).ok_or("no stream")?;
-    assert_eq!(rt; air.heard_at(9, third, 9).err(), Some(AirFault::NoSuchBis));
-    assert_eq!(rt;
-        air.heard_at(9, second, 9).err(),
-        Some(AirFault::NoSuchSubevent)
-    );
+    assert!(rt; air.heard_at(9, third, 9).err() == Some(AirFault::NoSuchBis));
+    assert!(rt; air.heard_at(9, second, 9).err() == Some(AirFault::NoSuchSubevent));
     Ok(())
 }
 
@@ -73,11 +70,8 @@ fn numbers_the_worked_payloads(rt: HostRuntime) -> Result<(), Fail> {
     assert!(rt; info.fits());
     let group = check_group(&info)?;
     let first = [0, 1, 2, 3, 4].map(|subevent| payload_of(&group, 0, subevent));
-    assert_eq!(rt; first, [Some(0), Some(0), Some(1), Some(2), None]);
+    assert!(rt; first == [Some(0), Some(0), Some(1), Some(2), None]);
     let last = [0, 1, 2, 3, 4].map(|subevent| payload_of(&group, (1 << 39) - 1, subevent));
-    assert_eq!(rt;
-        last,
-        [Some(549755813887), Some(549755813887), None, None, None]
-    );
+    assert!(rt; last == [Some(549755813887), Some(549755813887), None, None, None]);
     Ok(())
 }
