@@ -23,3 +23,5 @@ mod pdus;
 mod states;
 #[cfg(test)]
 mod takes;
+#[cfg(test)]
+mod trains;
