@@ -79,7 +79,7 @@ mod tests {
         let mut calls = Calls::new(rt.alloc());
         calls.push(7)?;
         calls.push(9)?;
-        assert!(rt; calls.as_slice() == [7, 9].as_slice());
+        assert_eq!(rt; calls.as_slice(), [7, 9].as_slice());
         Ok(())
     }
 }

@@ -35,9 +35,9 @@ mod tests {
     // The Broadcast_ID of the Add Source row: octets 56 34 12 are 0x123456.
     #[test]
     fn the_least_octet_comes_first(rt: HostRuntime) {
-        assert!(rt; read_le(&[0x56, 0x34, 0x12]) == 0x12_3456);
+        assert_eq!(rt; read_le(&[0x56, 0x34, 0x12]), 0x12_3456);
         let mut octets = [0u8; 3];
         write_le(0x12_3456, &mut octets);
-        assert!(rt; octets == [0x56, 0x34, 0x12]);
+        assert_eq!(rt; octets, [0x56, 0x34, 0x12]);
     }
 }

@@ -102,9 +102,9 @@ mod tests {
         octets.push(3)?;
         octets.append(&[4, 5])?;
         let mut again = octets.copy_again()?;
-        assert!(rt; again.as_slice() == [1, 2, 3, 4, 5].as_slice());
+        assert_eq!(rt; again.as_slice(), [1, 2, 3, 4, 5].as_slice());
         again.truncate(2);
-        assert!(rt; again.as_slice() == [1, 2].as_slice());
+        assert_eq!(rt; again.as_slice(), [1, 2].as_slice());
         Ok(())
     }
 }

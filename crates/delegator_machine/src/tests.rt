@@ -88,22 +88,34 @@ fn the_first_pdu_heard_counts(rt: HostRuntime) -> Result<(), Fail> {
     let first = Bis::new(1).ok_or("no stream")?;
     let other = Bis::new(2).ok_or("no stream")?;
     let mut sink = Delegator::new(rt.alloc());
-    assert!(rt; sink.hear(0, first, 0, &[0, 0]) == Hearing::NotOnGroup);
+    assert_eq!(rt; sink.hear(0, first, 0, &[0, 0]), Hearing::NotOnGroup);
     sink.tune(&group, BisSet::new().with(first), 0, 20000, 40000)?;
-    assert!(rt; sink.hear(0, other, 0, &[0, 0]) == Hearing::NotTaken);
-    assert!(rt; sink.hear(0, first, 1, &[0, 0]) == Hearing::NoNumber);
-    assert!(rt; sink.hear(0, first, 0, &[0]) == Hearing::Heard(Heard::Malformed(PduFault::Short)));
-    assert!(rt; sink.hear(0, first, 0, &[2, 0]) == Hearing::Heard(Heard::WrongKind));
-    assert!(rt; sink.hear(0, first, 0, &[0, 1, 0xee]) == Hearing::Heard(Heard::Kept));
-    assert!(rt; sink.hear(0, first, 0, &[0, 1, 0xff]) == Hearing::Heard(Heard::Repeat));
+    assert_eq!(rt; sink.hear(0, other, 0, &[0, 0]), Hearing::NotTaken);
+    assert_eq!(rt; sink.hear(0, first, 1, &[0, 0]), Hearing::NoNumber);
+    assert_eq!(rt;
+        sink.hear(0, first, 0, &[0]),
+        Hearing::Heard(Heard::Malformed(PduFault::Short))
+    );
+    assert_eq!(rt;
+        sink.hear(0, first, 0, &[2, 0]),
+        Hearing::Heard(Heard::WrongKind)
+    );
+    assert_eq!(rt;
+        sink.hear(0, first, 0, &[0, 1, 0xee]),
+        Hearing::Heard(Heard::Kept)
+    );
+    assert_eq!(rt;
+        sink.hear(0, first, 0, &[0, 1, 0xff]),
+        Hearing::Heard(Heard::Repeat)
+    );
     let mut taken = Taken {
         alloc: rt.alloc(),
         units: Vec::new(rt.alloc()),
     };
     sink.tick(0, &mut taken)?;
-    assert!(rt; taken.units.len() == 1);
-    assert!(rt; taken.units[0].bis.get() == 1);
-    assert!(rt; taken.units[0].time == 60060);
+    assert_eq!(rt; taken.units.len(), 1);
+    assert_eq!(rt; taken.units[0].bis.get(), 1);
+    assert_eq!(rt; taken.units[0].time, 60060);
     assert!(rt;
         taken.units[0]
             .octets
@@ -126,8 +138,14 @@ fn a_refusal_closes_the_event_of_each_stream(rt: HostRuntime) -> Result<(), Fail
         20000,
         40000,
     )?;
-    assert!(rt; sink.tick(0, &mut Refuser) == Err(TakerFault::Failed));
-    assert!(rt; sink.hear(0, first, 0, &[0, 0]) == Hearing::Heard(Heard::Late));
-    assert!(rt; sink.hear(0, other, 0, &[0, 0]) == Hearing::Heard(Heard::Late));
+    assert_eq!(rt; sink.tick(0, &mut Refuser), Err(TakerFault::Failed));
+    assert_eq!(rt;
+        sink.hear(0, first, 0, &[0, 0]),
+        Hearing::Heard(Heard::Late)
+    );
+    assert_eq!(rt;
+        sink.hear(0, other, 0, &[0, 0]),
+        Hearing::Heard(Heard::Late)
+    );
     Ok(())
 }

@@ -8,8 +8,8 @@ fn the_last_two_of_three_units_are_kept(rt: HostRuntime) -> Result<(), Fail> {
     for unit in [[0xaa], [0xbb], [0xcc]] {
         last.take(&unit)?;
     }
-    assert!(rt; last.last(0).is_some_and(|unit| unit == [0xcc].as_slice()));
-    assert!(rt; last.last(1).is_some_and(|unit| unit == [0xbb].as_slice()));
+    assert!(rt; last.last(0) == Some([0xcc].as_slice()));
+    assert!(rt; last.last(1) == Some([0xbb].as_slice()));
     assert!(rt; last.last(2).is_none());
     assert!(rt; (last.units(), last.octets()) == (3, 3));
     Ok(())

@@ -51,8 +51,7 @@ fn what_is_held_is_lost_after_a_gap(rt: HostRuntime) -> Result<(), Fail> {
     assert!(rt; receiver.held() == 0);
     assert!(rt; receiver.open_event() == 2);
     assert!(rt; taken.units.len() == 1);
-    assert!(rt; taken.units[0].time == 75968);
-    assert!(rt; taken.units[0].octets.is_none());
+    assert!(rt; taken.has(0, 75968, None));
     Ok(())
 }
 
@@ -72,13 +71,7 @@ fn a_unit_over_two_events_is_handed_at_the_second_close(rt: HostRuntime) -> Resu
     assert!(rt; receiver.hear(2, last.as_slice()) == Heard::Kept);
     receiver.close(&mut taken)?;
     assert!(rt; taken.units.len() == 1);
-    assert!(rt; taken.units[0].time == 85968);
-    assert!(rt;
-        taken.units[0]
-            .octets
-            .as_ref()
-            .is_some_and(|unit| unit.as_slice() == [0xe0, 0xe1, 0xe2].as_slice())
-    );
+    assert!(rt; taken.has(0, 85968, Some(&[0xe0, 0xe1, 0xe2])));
     Ok(())
 }
 

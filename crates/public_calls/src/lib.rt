@@ -30,3 +30,5 @@ mod taken;
 mod times;
 #[cfg(test)]
 mod transcripts;
+#[cfg(test)]
+mod two_sources;

@@ -46,13 +46,7 @@ fn what_is_held_is_handed_at_the_close(rt: HostRuntime) -> Result<(), Fail> {
     assert!(rt; receiver.held() == 0);
     assert!(rt; receiver.open_event() == 1);
     assert!(rt; taken.units.len() == 1);
-    assert!(rt; taken.units[0].time == 60460);
-    assert!(rt;
-        taken.units[0]
-            .octets
-            .as_ref()
-            .is_some_and(|unit| unit.as_slice() == [1, 2, 3, 4].as_slice())
-    );
+    assert!(rt; taken.has(0, 60460, Some(&[1, 2, 3, 4])));
     Ok(())
 }
 
@@ -72,13 +66,7 @@ fn each_pdu_gets_the_first_answer_that_holds(rt: HostRuntime) -> Result<(), Fail
     assert!(rt; receiver.hear(0, &[0, 1, 0xee]) == Heard::Late);
     receiver.close(&mut taken)?;
     assert!(rt; taken.units.len() == 2);
-    assert!(rt;
-        taken.units[0]
-            .octets
-            .as_ref()
-            .is_some_and(|unit| unit.as_slice() == [0xee].as_slice())
-    );
-    assert!(rt; taken.units[1].time == 70460);
-    assert!(rt; taken.units[1].octets.is_none());
+    assert!(rt; taken.has(0, 60460, Some(&[0xee])));
+    assert!(rt; taken.has(1, 70460, None));
     Ok(())
 }

@@ -1,6 +1,7 @@
 mod ReadingOn
 mod RefusalLaws
 mod Endings
+mod Bringing
 mod LineEndings
 mod LineSteps
 mod Completing

@@ -107,7 +107,7 @@ fn any_word_is_usage_and_writes_nothing(rt: HostRuntime) -> Result<(), Fail> {
     let mut words = Words::new(rt.alloc());
     words.push(String::from_str(rt.alloc(), "x")?)?;
     let status = run_with(rt.alloc(), &words, &mut source, &mut sink, &mut outlets);
-    assert!(rt; status == Status::Usage);
-    assert!(rt; sink.taken() == [].as_slice());
+    assert_eq!(rt; status, Status::Usage);
+    assert_eq!(rt; sink.taken(), [].as_slice());
     Ok(())
 }
