@@ -4,9 +4,8 @@ ghost use Rattle.big_info.specs.Widths.{FitsWidths};
 ghost use Rattle.big_info.specs.Rows.{first_fault};
 ghost use Rattle.source_machine.specs.Calls.{Setup as Fixed, Call, event as performs};
 ghost use Rattle.source_machine.specs.Faults.{event_fault, refused_event};
-ghost use Rattle.multi_source.specs.State.Fields.{EventLeaves, HasOwnAir, Sending, fault_of, is_taken};
+ghost use Rattle.multi_source.specs.State.Fields.{EventLeaves, HasOwnAir, Sending, fault_of, is_same as is_same_source, is_taken};
 
-use crate::identity::are_twins;
 use bcast_base::{Bis, EventPdus};
 use big_info::{GroupFault, Limits};
 use radio_schedule::{Air, AirFault};
@@ -278,7 +277,17 @@ fn is_twin(identity: Identity, other: &Option<Begun>) -> bool
     ensures { result ≡ is_taken identity other.now }
 {
     match other {
-        Some(begun) => are_twins(begun.identity, identity),
+        Some(begun) => is_same(begun.identity, identity),
         None => false,
     }
+}
+
+/// Whether two sources have the same address type, SID and Broadcast_ID.
+#[tactic(auto, unfolding(crate::specs::State::Fields::is_same))]
+fn is_same(one: Identity, other: Identity) -> bool
+    ensures { result ≡ is_same_source one other }
+{
+    one.address_type == other.address_type
+        && one.sid == other.sid
+        && one.broadcast_id == other.broadcast_id
 }

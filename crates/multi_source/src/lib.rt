@@ -3,8 +3,6 @@
 
 mod broadcast;
 mod field;
-mod identity;
 
 pub use broadcast::Broadcast;
 pub use field::{Field, FieldFault};
-pub use identity::are_twins;

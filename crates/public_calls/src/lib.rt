@@ -30,5 +30,3 @@ mod taken;
 mod times;
 #[cfg(test)]
 mod transcripts;
-#[cfg(test)]
-mod two_sources;

@@ -8,7 +8,7 @@ use source_machine::{EventFault, GiveFault, Identity, Setup, SourceIdle, SourceS
 use std::alloc::Global;
 
 /// One stream of a unit every 10 ms in PDUs of at most 4 octets on LE 2M.
-pub(crate) fn info(max_sdu: u16, bn: u8, nse: u8, irc: u8, pto: u8) -> BigInfo
+fn info(max_sdu: u16, bn: u8, nse: u8, irc: u8, pto: u8) -> BigInfo
     ensures { result.framing ≡ 0 }
 {
     BigInfo {
@@ -36,7 +36,7 @@ pub(crate) fn info(max_sdu: u16, bn: u8, nse: u8, irc: u8, pto: u8) -> BigInfo
 }
 
 /// The source of a group: no name, the first event at 20 ms, presented 40 ms later.
-pub(crate) fn setup(info: BigInfo) -> Setup
+fn setup(info: BigInfo) -> Setup
     ensures info { result.info ≡ info }
     ensures origin { result.origin ≡ 20000 }
     ensures delay { result.delay ≡ 40000 }

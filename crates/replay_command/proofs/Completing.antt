@@ -1,6 +1,5 @@
 -- Which statuses come, and what the boxes took of a text that its source tells.
-use Rattle.std.proofs.Common.{◌≡◌, ◌≢◌, ℕ, ◌+◌, ◌^◌, ◌<◌, zero, suc, Bool, true, eq-eqb, List, [], ◌∷◌, ◌++◌, length, reverse, map}
-use Rattle.std.proofs.Common.{refl, sym, ap, subst, ◌∙◌, append_assoc, arith, Option, None, Some, slice_get, slice_set, length-append, IsTrue}
+use Rattle.std.proofs.Common.{◌≡◌, ◌≢◌, ℕ, ◌+◌, ◌^◌, ◌<◌, zero, suc, Bool, true, eq-eqb, List, [], ◌∷◌, ◌++◌, length, reverse, map, refl, sym, ap, subst, ◌∙◌, append_assoc, arith, Option, None, Some, slice_get, slice_set, length-append, IsTrue}
 use Rattle.std.specs.Prelude.{option_map, sum}
 use Rattle.std.proofs.lemmas.List.{append-nil, map-append}
 use Rattle.std.proofs.lemmas.List.Sums.{sum_by-cons, sum_by-append}
@@ -21,7 +20,7 @@ use Rattle.replay_command.specs.declared.status.Status.TheVariants as statuses
 use Rattle.replay_command.specs.Replayed.{TextRead, OutletFaulted}
 use Rattle.replay_command.specs.Ended.{Ended, IsDoneOrMemory, IsNoFault, IsWhole, AheadOf, NoneFailed, Holds, RoomFor, RoomForText, Complete}
 use Rattle.replay_command.proofs.Endings.{units_all}
-use Rattle.replay_command.proofs.Bringing.{units_line}
+use Rattle.replay_command.proofs.LineEndings.{units_line}
 
 -- ---- a source that tells its text
 
@@ -145,8 +144,7 @@ failure text starts ends left' kept kept' o =
       rest = valid_for place (f.rest ++ more.0);
       split = ap (valid_for place) all
           ∙ valid_append place us (f.done ++ (f.unit ∷ (f.rest ++ more.0)))
-          ∙ ap (λ units. valid_for place us ++ units) (valid_append place f.done (f.unit ∷ (f.rest ++ more.0))
-          ∙ ap (λ units. valid_for place f.done ++ units) (valid_here f.unit f.bis f.time f.octets (f.rest ++ more.0) f.is_valid))
+          ∙ ap (λ units. valid_for place us ++ units) (valid_append place f.done (f.unit ∷ (f.rest ++ more.0)) ∙ ap (λ units. valid_for place f.done ++ units) (valid_here f.unit f.bis f.time f.octets (f.rest ++ more.0) f.is_valid))
           ∙ sym (append_assoc (valid_for place us) (valid_for place f.done) (f.octets ∷ valid_for place (f.rest ++ more.0)));
       no_room = λ sound fits.
           let P : Account → Type 0 = λ a. IsTrue a.is_sound → ¬ Fits f.octets a in

@@ -1,7 +1,6 @@
 mod ReadingOn
 mod RefusalLaws
 mod Endings
-mod Bringing
 mod LineEndings
 mod LineSteps
 mod Completing

@@ -22,8 +22,7 @@ use Rattle.scenario_text.specs.Steps.{read_of}
 use Rattle.scenario_history.specs.Steps.{chosen_steps, version_of, is_over, sinks_made}
 use Rattle.scenario_history.specs.Source.{setup_of, source_calls, performed}
 use Rattle.scenario_history.specs.Boxes.{box_of}
-use Rattle.scenario_history.specs.Refusals.{refuse_if, no_sink, no_place, has_beyond, is_ident_twice, is_out_of_order, is_unbuilt}
-use Rattle.scenario_history.specs.Refusals.{give_refusal, air_refusal, counter_ends, sink_refusal, source_refusal, twin_refusal, own_refusal, phase_refusal, refusal_of}
+use Rattle.scenario_history.specs.Refusals.{refuse_if, no_sink, no_place, has_beyond, is_ident_twice, is_out_of_order, is_unbuilt, give_refusal, air_refusal, counter_ends, sink_refusal, source_refusal, twin_refusal, own_refusal, phase_refusal, refusal_of}
 use Rattle.scenario_history.specs.Lines.{said_by, said_in, steps_of, refusal_said}
 use Rattle.replay_steps.specs.LineMeets.{refusal_at}
 

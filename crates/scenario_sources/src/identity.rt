@@ -2,7 +2,6 @@ ghost use Rattle.std.specs.Prelude.{◌≡◌};
 ghost use Rattle.scenario_history.specs.Refusals.{is_same_identity};
 ghost use Rattle.scenario_sources.specs.Described.{identity_in, identity_or_none};
 
-use multi_source::are_twins;
 use source_machine::Identity;
 
 /// The identity of a source, all 0 where none was said.
@@ -20,10 +19,12 @@ pub(crate) fn identity_or(said: Option<Identity>) -> Identity
     }
 }
 
-/// Whether two sources are one to their receivers.
-#[tactic(auto, unfolding(scenario_history::specs::Refusals::is_same_identity, multi_source::specs::State::Fields::is_same))]
+/// Whether two sources have the same address type, SID and Broadcast_ID.
+#[tactic(auto, unfolding(scenario_history::specs::Refusals::is_same_identity))]
 pub(crate) fn is_same(one: Identity, other: Identity) -> bool
     ensures { result ≡ is_same_identity (identity_in one) (identity_in other) }
 {
-    are_twins(one, other)
+    one.address_type == other.address_type
+        && one.sid == other.sid
+        && one.broadcast_id == other.broadcast_id
 }

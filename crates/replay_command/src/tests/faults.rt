@@ -2,9 +2,9 @@
 
 use crate::status::Status;
 use crate::tests::{LEAST_PATH, LEAST_PATH_TRANSCRIPT, run_with};
-use crate::words::Words;
 use bcast_base::{Calls, Octets};
 use bcast_io::{MemorySink, MemorySource};
+use replay_words::Words;
 use std::alloc::Global;
 use std::process::Abort;
 use std::test::*;
@@ -34,7 +34,7 @@ fn run_with_faults(
     let status = run_with(rt.alloc(), &words, &mut source, &mut sink, &mut outlets);
     assert!(rt; LEAST_PATH_TRANSCRIPT.as_bytes().starts_with(sink.taken()));
     if status == Status::Done {
-        assert!(rt; sink.taken() == LEAST_PATH_TRANSCRIPT.as_bytes());
+        assert_eq!(rt; sink.taken(), LEAST_PATH_TRANSCRIPT.as_bytes());
     }
     Ok(status)
 }
@@ -44,11 +44,11 @@ fn each_read_that_fails_is_a_read_fault(rt: HostRuntime) -> Result<(), Fail> {
     for call in 1..=4 {
         let reads = one_call(rt.alloc(), call)?;
         let status = run_with_faults(&rt, reads, Calls::new(rt.alloc()), Calls::new(rt.alloc()))?;
-        assert!(rt; status == Status::ReadFault);
+        assert_eq!(rt; status, Status::ReadFault);
     }
     let none = one_call(rt.alloc(), 5)?;
     let status = run_with_faults(&rt, none, Calls::new(rt.alloc()), Calls::new(rt.alloc()))?;
-    assert!(rt; status == Status::Done);
+    assert_eq!(rt; status, Status::Done);
     Ok(())
 }
 
@@ -57,11 +57,11 @@ fn each_write_that_fails_is_a_write_fault(rt: HostRuntime) -> Result<(), Fail> {
     for call in 1..=3 {
         let writes = one_call(rt.alloc(), call)?;
         let status = run_with_faults(&rt, Calls::new(rt.alloc()), writes, Calls::new(rt.alloc()))?;
-        assert!(rt; status == Status::WriteFault);
+        assert_eq!(rt; status, Status::WriteFault);
     }
     let none = one_call(rt.alloc(), 4)?;
     let status = run_with_faults(&rt, Calls::new(rt.alloc()), none, Calls::new(rt.alloc()))?;
-    assert!(rt; status == Status::Done);
+    assert_eq!(rt; status, Status::Done);
     Ok(())
 }
 
@@ -69,9 +69,9 @@ fn each_write_that_fails_is_a_write_fault(rt: HostRuntime) -> Result<(), Fail> {
 fn each_take_that_fails_is_an_outlet_fault(rt: HostRuntime) -> Result<(), Fail> {
     let takes = one_call(rt.alloc(), 1)?;
     let status = run_with_faults(&rt, Calls::new(rt.alloc()), Calls::new(rt.alloc()), takes)?;
-    assert!(rt; status == Status::OutletFault);
+    assert_eq!(rt; status, Status::OutletFault);
     let none = one_call(rt.alloc(), 2)?;
     let status = run_with_faults(&rt, Calls::new(rt.alloc()), Calls::new(rt.alloc()), none)?;
-    assert!(rt; status == Status::Done);
+    assert_eq!(rt; status, Status::Done);
     Ok(())
 }
