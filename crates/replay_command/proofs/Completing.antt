@@ -144,7 +144,8 @@ failure text starts ends left' kept kept' o =
       rest = valid_for place (f.rest ++ more.0);
       split = ap (valid_for place) all
           ∙ valid_append place us (f.done ++ (f.unit ∷ (f.rest ++ more.0)))
-          ∙ ap (λ units. valid_for place us ++ units) (valid_append place f.done (f.unit ∷ (f.rest ++ more.0)) ∙ ap (λ units. valid_for place f.done ++ units) (valid_here f.unit f.bis f.time f.octets (f.rest ++ more.0) f.is_valid))
+          ∙ ap (λ units. valid_for place us ++ units) (valid_append place f.done (f.unit ∷ (f.rest ++ more.0)) ∙ ap (λ units. valid_for place f.done ++ units)
+          (valid_here f.unit f.bis f.time f.octets (f.rest ++ more.0) f.is_valid))
           ∙ sym (append_assoc (valid_for place us) (valid_for place f.done) (f.octets ∷ valid_for place (f.rest ++ more.0)));
       no_room = λ sound fits.
           let P : Account → Type 0 = λ a. IsTrue a.is_sound → ¬ Fits f.octets a in

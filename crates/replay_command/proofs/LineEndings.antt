@@ -275,7 +275,17 @@ ends_cut starts history line left left' kept mid kept' accounts octets number is
       front = so_far ++ s.front;
       written = Appends-then kept mid kept' so_far s.front written s.appended;
       not_before = omega (arith, ap length (out_all starts history accepted), length-append so_far s.front);
-      longer = omega (arith, ap length with_line, length-append so_far (octets ++ more.0), length-append octets more.0, length-append so_far s.front, ap length s.whole, length-append s.front s.rest, s.some);
+      longer = omega (
+        arith,
+        ap length with_line,
+        length-append so_far
+            (octets ++ more.0),
+        length-append octets more.0,
+        length-append so_far s.front,
+        ap length s.whole,
+        length-append s.front s.rest,
+        s.some,
+      );
       boxes = at;
     }
 
@@ -339,7 +349,8 @@ ends_refusal starts history line left left' kept mid kept' accounts number reaso
 -- ---- a step
 
 -- what was put after a line that is accepted
-pub step_put : (starts : List Account) (history : List TextLine) (line : TextLine) (left left' kept mid kept' : Option (List ℕ)) (machine : Machine) (accounts : List Account) (number : ℕ) (octets : List ℕ)
+pub step_put : (starts : List Account) (history : List TextLine) (line : TextLine) (left left' kept mid kept' : Option (List ℕ)) (machine : Machine) (accounts : List Account) (number : ℕ)
+    (octets : List ℕ)
     → number ≡ length history + 1 → Comes left left' history line → ReadsAhead left left' number
     → Accepted (rules_of airs_of starts) history → Appends kept mid (brought (rules_of airs_of starts) history)
     → refusal_at starts history line ≡ None → LinesStand starts (line ∷ history) machine accounts → octets ≡ output_at starts history line

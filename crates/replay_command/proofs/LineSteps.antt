@@ -57,7 +57,8 @@ module _ (starts : List Account) (history : List TextLine) (line : TextLine) (le
       → (put ≡ None) → Ended airs_of statuses.OutletFault starts after left left' kept kept'
   run_faulted kept' put is p why =
       let m = met (Err OutletFault) is in
-      outlet_put starts history line left left' kept mid kept' before after number told is_next comes ahead run.accepted run.written run.stands.boxes m.0 m.1 put p statuses.OutletFault (inr (why, refl))
+      outlet_put starts history line left left' kept mid kept' before after number told is_next comes ahead run.accepted run.written run.stands.boxes m.0 m.1 put p statuses.OutletFault
+      (inr (why, refl))
 
   pub run_memory : result ≡ Err Memory → Broken airs_of starts after left left' kept mid
   run_memory is =
@@ -133,16 +134,19 @@ bound_none reader new = let P : Reading → Type 0 = λ r. 1 + lines_left r ≤ 
 
 pub running_more : (starts before after : List Account) (left mid left' kept put kept' : Option (List ℕ)) (number next : ℕ) (old new : Reading) (machine machine' : Machine) (result : Option Status)
     → Running starts before left mid kept put number old machine → next ≡ number + 1 → result ≡ None
-    → ((lines : List TextLine) → number ≡ length lines + 1 → ReadTo left mid lines old → RunTo starts lines kept put machine before → LineRuns starts lines left left' kept kept' new machine' after result)
+    → ((lines : List TextLine) → number ≡ length lines + 1 → ReadTo left mid lines old → RunTo starts lines kept put machine before
+    → LineRuns starts lines left left' kept kept' new machine' after result)
     → Running starts after left left' kept kept' next new machine'
 running_more starts before after left mid left' kept put kept' number next old new machine machine' result r is none runs =
     let P : Option Status → Type 0 = λ x. LineRuns starts r.lines left left' kept kept' new machine' after x in
     let m = subst P none (runs r.lines r.is_next r.read r.run) in
     record { lines = m.0 ∷ r.lines; is_next = omega (arith, r.is_next); read = m.1; run = m.2 }
 
-pub running_ends : (starts before after : List Account) (left mid left' kept put kept' : Option (List ℕ)) (number : ℕ) (old new : Reading) (machine machine' : Machine) (result : Option Status) (status : Status)
+pub running_ends : (starts before after : List Account) (left mid left' kept put kept' : Option (List ℕ)) (number : ℕ) (old new : Reading) (machine machine' : Machine)
+    (result : Option Status) (status : Status)
     → Running starts before left mid kept put number old machine → result ≡ Some status
-    → ((lines : List TextLine) → number ≡ length lines + 1 → ReadTo left mid lines old → RunTo starts lines kept put machine before → LineRuns starts lines left left' kept kept' new machine' after result)
+    → ((lines : List TextLine) → number ≡ length lines + 1 → ReadTo left mid lines old → RunTo starts lines kept put machine before
+    → LineRuns starts lines left left' kept kept' new machine' after result)
     → Ended airs_of status starts after left left' kept kept'
 running_ends starts before after left mid left' kept put kept' number old new machine machine' result status r some runs =
     let P : Option Status → Type 0 = λ x. LineRuns starts r.lines left left' kept kept' new machine' after x in

@@ -77,7 +77,8 @@ closes_all starts version source steps made closed old new text told before afte
     }
 
 -- the sinks stopped as they closed it
-pub close_stops : (starts : List Account) (version source : ℕ) (steps : List Step) (made : Step) (closed : Option ℕ) (sinks_then : Sinks) (new : Machine) (text told : List ℕ) (before after : List Account)
+pub close_stops : (starts : List Account) (version source : ℕ) (steps : List Step) (made : Step) (closed : Option ℕ) (sinks_then : Sinks) (new : Machine) (text told : List ℕ)
+    (before after : List Account)
     (stop : Stop) → GoesOn made → ClosesChosen made → stage_of steps ≡ running version → fault_of version steps made ≡ None
     → (is_over (chosen_steps steps) ≡ false → closed ≡ open_event (chosen_steps steps)) → source ≡ chosen_of steps
     → sinks.Closes (past_of steps) source closed sinks_then text told before after (Err stop) → Meets starts steps made new text told before after (Err stop)

@@ -71,7 +71,8 @@ lost_has stay heard closed number unit start least true is =
       },
     )
 
-by_missing : (stay : Stay) (heard : ℕ → Bool) (closed : ℕ) (unit : Sent) → heard unit.first ≡ true → 1 ≤ length unit.segments → (missing : Option ℕ) → first_missing heard unit.first unit.segments ≡ missing
+by_missing : (stay : Stay) (heard : ℕ → Bool) (closed : ℕ) (unit : Sent) → heard unit.first ≡ true → 1 ≤ length unit.segments → (missing : Option ℕ)
+    → first_missing heard unit.first unit.segments ≡ missing
     → HasEntry stay heard closed unit (entry_by stay closed unit missing)
 by_missing stay heard closed unit start some None is = valid_has stay heard closed unit start some (unit.whole && ltb (behind unit - 1) closed) refl
 by_missing stay heard closed unit start some (Some number) is =
@@ -104,7 +105,8 @@ numbered_from R low more (n ∷ ns) [] least all = absurd all
 numbered_from R low more [] (unit ∷ units) least all = absurd all
 numbered_from R low more (n ∷ ns) (unit ∷ units) least all = (omega (arith, least, all.0), all.1, all.2)
 
-numbering : (bn : ℕ) (anchors : List ℕ) (get : ℕ → Option Timed) (base : ℕ) (accepted : List Timed) (units : List Sent) → ((i : ℕ) → get (base + i) ≡ slice_get accepted i) → AreOf bn anchors accepted units
+numbering : (bn : ℕ) (anchors : List ℕ) (get : ℕ → Option Timed) (base : ℕ) (accepted : List Timed) (units : List Sent) → ((i : ℕ) → get (base + i) ≡ slice_get accepted i)
+    → AreOf bn anchors accepted units
     → (ns : List ℕ) × Numbered (λ n unit. (one : Timed) × (get n ≡ Some one) × IsOf bn anchors one unit) base ns units
 numbering bn anchors get base [] [] at are = ([], tt)
 numbering bn anchors get base (one ∷ accepted) [] at are = ([], tt)
@@ -191,7 +193,8 @@ one_batch E low until n ns unit units entries entry rest one below least is more
   each = subst (λ xs. AllZip E (n ∷ more.numbers) (xs ++ rest)) (sym one) (is, more.each);
 }
 
-pub batch : (R : ℕ → Sent → Type 0) (E : ℕ → Handed → Type 0) (from until : ℕ) (f : Sent → List Handed) → Gives R E from until f → from ≤ until → (at low least laid : ℕ) (ns : List ℕ) (units : List Sent)
+pub batch : (R : ℕ → Sent → Type 0) (E : ℕ → Handed → Type 0) (from until : ℕ) (f : Sent → List Handed) → Gives R E from until f → from ≤ until
+    → (at low least laid : ℕ) (ns : List ℕ) (units : List Sent)
     → Numbered R least ns units → InOrder at laid units → Ahead from low ns units → Batch E low until ns units (flat_map f units)
 batch R E from until f gives more at low least laid [] [] all order ahead = none_batch E low until [] [] [] refl tt
 batch R E from until f gives more at low least laid (n ∷ ns) [] all order ahead = absurd all
@@ -234,7 +237,8 @@ ordered_on R E middle from until at laid f ns units entries all order gives firs
       };
     }
 
-pub ordered_later : (E : ℕ → Handed → Type 0) (until later : ℕ) (ns : List ℕ) (units : List Sent) (entries : List Handed) → until ≤ later → Ordered E until ns units entries → Ordered E later ns units entries
+pub ordered_later : (E : ℕ → Handed → Type 0) (until later : ℕ) (ns : List ℕ) (units : List Sent) (entries : List Handed) → until ≤ later → Ordered E until ns units entries
+    → Ordered E later ns units entries
 ordered_later E until later ns units entries more before = record {
   all = record {
     numbers = before.all.numbers;

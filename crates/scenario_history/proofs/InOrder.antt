@@ -162,7 +162,8 @@ event_orders below airs meets boxes s n bis setup whole made ready event before 
           let shown : of_stream bis (handed_at (sink_calls airs n made) event)
           ≡ cond (leb (tuning.first + closes tuning (sink_calls airs n made)) event)
           (units_of (stay_on tuning bis) (stream_calls (stay_on tuning bis) (sink_calls airs n made)) (tuning.first + closes tuning (sink_calls airs n made))) [] =
-          tick_hands below event (sink_calls airs n made) tuning bis (tuned_plain airs boxes s n bis setup whole made ready tuning is its) is (is_member tuning.which bis ready.least ready.greatest taken)
+          tick_hands below event (sink_calls airs n made) tuning bis (tuned_plain airs boxes s n bis setup whole made ready tuning is its) is
+          (is_member tuning.which bis ready.least ready.greatest taken)
           ∙ ap (λ o. cond (leb o event) (units_of (stay_on tuning bis) (stream_calls (stay_on tuning bis) (sink_calls airs n made)) o) []) (below.one_open tuning (sink_calls airs n made) bis) in
           elim (cases_Bool (leb (tuning.first + closes tuning (sink_calls airs n made)) event)) [
             | inr not_over ↦ ordered_same setup whole bis (tuning.first + closes tuning (sink_calls airs n made)) later units (of_stream bis (handed_at (sink_calls airs n made) event)) front_is
@@ -262,7 +263,8 @@ orders below airs meets boxes s n bis setup whole (step ∷ earlier) ready =
     (valid_in (shown_since (is_made n) airs s n bis earlier)) (orders below airs meets boxes s n bis setup whole earlier before)
     (climb_between (its_front airs s n earlier) (map event_of (closed_by airs s n earlier step)) (its_front airs s n (step ∷ earlier)) now.climbs_on)))
 
-pub units_in_order : Below → (airs : Airs) → MeetAirs airs → (boxes s n bis : ℕ) (made : List Step) → Legal airs boxes made → (setup_of (steps_of_source s made)).info.framing ≡ 0 → s ≤ 1 → n ≤ 7 → 1 ≤ bis → bis ≤ 31
+pub units_in_order : Below → (airs : Airs) → MeetAirs airs → (boxes s n bis : ℕ) (made : List Step) → Legal airs boxes made → (setup_of (steps_of_source s made)).info.framing ≡ 0 → s ≤ 1
+    → n ≤ 7 → 1 ≤ bis → bis ≤ 31
     → injected_since (is_made n) n made ≡ false
     → InSourceOrder (setup_of (steps_of_source s made)) (source_calls (steps_of_source s made)) bis (valid_in (shown_since (is_made n) airs s n bis made))
 units_in_order below airs meets boxes s n bis made legal plain source_below sink_below least greatest clean =

@@ -35,10 +35,12 @@ pub each_sent : (info : BigInfo) (air : Air) (units : List Sent) (number : ℕ) 
 each_sent info [] units number some are below = absurd (omega (arith, below))
 each_sent info (entry ∷ earlier) units number some are below = elim (cases_eq (length earlier) (number / info.bn)) [
   | inl here ↦
-      ap (λ b. option_and_then (λ (event : Laid). slice_get event.pdus (number % info.bn)) (cond b (Some entry.event) (event_at earlier (number / info.bn)))) (eq-eqb (length earlier) (number / info.bn) here)
+      ap (λ b. option_and_then (λ (event : Laid). slice_get event.pdus (number % info.bn)) (cond b (Some entry.event) (event_at earlier (number / info.bn)))) (eq-eqb (length earlier)
+      (number / info.bn) here)
       ∙ in_event info entry.event earlier units number some here are.1
   | inr apart ↦
-      ap (λ b. option_and_then (λ (event : Laid). slice_get event.pdus (number % info.bn)) (cond b (Some entry.event) (event_at earlier (number / info.bn)))) (ne_eqb (length earlier) (number / info.bn) apart)
+      ap (λ b. option_and_then (λ (event : Laid). slice_get event.pdus (number % info.bn)) (cond b (Some entry.event) (event_at earlier (number / info.bn)))) (ne_eqb (length earlier)
+      (number / info.bn) apart)
       ∙ each_sent info earlier units number some are.0 (omega (arith, below, apart))
 ]
 

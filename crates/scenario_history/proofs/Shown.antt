@@ -211,4 +211,5 @@ slots_zip below airs boxes s n bis setup whole (step ∷ earlier) legal within p
 pub slots_are_shown : Below → (airs : Airs) (boxes s n bis : ℕ) (made : List Step) → Legal airs boxes made → (setup_of (steps_of_source s made)).info.framing ≡ 0 → s ≤ 1 → n ≤ 7 → 1 ≤ bis → bis ≤ 31
     → AllZip (IsOfSlot (setup_of (steps_of_source s made)) bis) (slots_closed (setup_of (steps_of_source s made)) bis (closed_since airs s n made)) (shown_since (is_made n) airs s n bis made)
 slots_are_shown below airs boxes s n bis made legal plain s_within n_within least upper =
-    slots_zip below airs boxes s n bis (setup_of (steps_of_source s made)) (source_calls (steps_of_source s made)) made legal (within_itself (steps_of_source s made)) plain s_within n_within least upper
+    slots_zip below airs boxes s n bis (setup_of (steps_of_source s made)) (source_calls (steps_of_source s made)) made legal (within_itself
+    (steps_of_source s made)) plain s_within n_within least upper

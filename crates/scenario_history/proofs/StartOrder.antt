@@ -126,7 +126,8 @@ told_on stay low middle high xs ys most first rest = record {
   each = zip_on (AtStart stay) first.events rest.events xs ys first.each rest.each;
 }
 
-events_told : (stay : Stay) (calls : List stays.Call) (max_sdu first count : ℕ) → Told stay first (first + count) (units max_sdu stay.bis (flat_map (event_tokens stay calls) (range_with_len first count)))
+events_told : (stay : Stay) (calls : List stays.Call) (max_sdu first count : ℕ)
+    → Told stay first (first + count) (units max_sdu stay.bis (flat_map (event_tokens stay calls) (range_with_len first count)))
 events_told stay calls max_sdu first zero = record { events = []; rise = omega arith; each = tt }
 events_told stay calls max_sdu first (suc count) =
     let own = event_units stay first max_sdu (event_tokens stay calls first) (flat_map (event_tokens stay calls) (range_with_len (first + 1) count))
@@ -154,7 +155,8 @@ record Claim (setup : Setup) (calls : List SourceCall) (bis : ℕ) (e : ℕ) (cl
   pub rise : RiseTo setup.first events (setup.first + e)
   pub each : AllZip (IsOfStart setup calls bis) events entries
 
-by_source : (setup : Setup) (calls : List SourceCall) (tuning : Tuning) (bis low high : ℕ) (events : List ℕ) (entries : List Handed) → TunedTo setup tuning → tuning.first ≤ low → high ≤ next_of setup calls
+by_source : (setup : Setup) (calls : List SourceCall) (tuning : Tuning) (bis low high : ℕ) (events : List ℕ) (entries : List Handed) → TunedTo setup tuning → tuning.first ≤ low
+    → high ≤ next_of setup calls
     → RiseTo low events high → AllZip (AtStart (stay_on tuning bis)) events entries → AllZip (IsOfStart setup calls bis) events entries
 by_source setup calls tuning bis low high [] [] on least most rise all = tt
 by_source setup calls tuning bis low high [] (entry ∷ entries) on least most rise all = absurd all
@@ -170,7 +172,8 @@ by_source setup calls tuning bis low high (event ∷ events) (entry ∷ entries)
   by_source setup calls tuning bis event high events entries on (omega (arith, least, rise.0)) most rise.2 all.1,
 )
 
-claim_more : (setup : Setup) (calls : List SourceCall) (bis e later : ℕ) (closed more : List Closed) (entries : List Handed) → e ≤ later → Claim setup calls bis e closed entries → Claim setup calls bis later more entries
+claim_more : (setup : Setup) (calls : List SourceCall) (bis e later : ℕ) (closed more : List Closed) (entries : List Handed) → e ≤ later → Claim setup calls bis e closed entries
+    → Claim setup calls bis later more entries
 claim_more setup calls bis e later closed more entries most claim =
     record { events = claim.events; rise = rise_more setup.first claim.events (setup.first + e) (setup.first + later) (omega (arith, most)) claim.rise; each = claim.each }
 
@@ -206,7 +209,8 @@ over below airs boxes s n bis setup calls source_within sink_within least greate
             rise = rise_on setup.first claim.events tuning.first told.events (setup.first + (next_in own - setup.first)) (omega (arith, first_opens, opens, high))
                 (subst (RiseTo setup.first claim.events) low claim.rise) rises;
             each = zip_on (IsOfStart setup calls bis) claim.events told.events entries (decided (stay_on tuning bis) (calls_on airs made n tuning bis)) claim.each
-                (by_source setup calls tuning bis tuning.first (opened (stay_on tuning bis) (calls_on airs made n tuning bis)) told.events (decided (stay_on tuning bis) (calls_on airs made n tuning bis)) to
+                (by_source setup calls tuning bis tuning.first (opened (stay_on tuning bis) (calls_on airs made n tuning bis)) told.events (decided (stay_on tuning bis)
+                (calls_on airs made n tuning bis)) to
                 (omega arith) (omega (arith, opens, most)) told.rise told.each);
           })
     ]

@@ -125,7 +125,8 @@ more_list : {A : Type 0} (all past now more : List A) (mine : Bool) → all ≡ 
 more_list all past now more true is none = ap (λ xs. xs ++ more) is ∙ append_assoc past now more
 more_list all past now more false is none = ap (λ xs. all ++ xs) (none refl) ∙ append-nil all ∙ is
 
-goes_on : (Q : ℕ → List Closed → List Handed → Type 0) → Rises Q → (s n bis : ℕ) (mine : Bool) (p : Option Tuning) (next later : ℕ) (closed now more : List Closed) (units units_now others : List SinkUnit)
+goes_on : (Q : ℕ → List Closed → List Handed → Type 0) → Rises Q
+    → (s n bis : ℕ) (mine : Bool) (p : Option Tuning) (next later : ℕ) (closed now more : List Closed) (units units_now others : List SinkUnit)
     → next ≤ later → (mine ≡ false → more ≡ []) → (mine ≡ false → shown s n bis others ≡ []) → InTurn Q s n bis mine p next closed now units units_now
     → InTurn Q s n bis mine p later (closed ++ more) (now ++ more) (units ++ others) (units_now ++ others)
 goes_on Q rises s n bis mine p next later closed now more units units_now others on no_more no_others before = record {
@@ -268,7 +269,8 @@ all_past Q Fine airs boxes s n bis turns earlier fine all later more =
     (turns.rises (next_in (steps_of_source s earlier)) later (closed_from (is_made n) airs s n earlier) (shown s n bis (handed_since (is_made n) airs earlier)) more
     (at_end Q Fine airs boxes s n bis turns earlier fine (mine_in s n earlier) refl (place (sink_calls airs n earlier)) refl all)))
 
-made_turn : (Q : ℕ → List Closed → List Handed → Type 0) → ((e : ℕ) → Q e [] []) → (s n bis : ℕ) (again : Bool) (source : Option ℕ) (calls : List Call) (next : ℕ) (closed now : List Closed) (units units_now : List SinkUnit)
+made_turn : (Q : ℕ → List Closed → List Handed → Type 0) → ((e : ℕ) → Q e [] [])
+    → (s n bis : ℕ) (again : Bool) (source : Option ℕ) (calls : List Call) (next : ℕ) (closed now : List Closed) (units units_now : List SinkUnit)
     → InTurn Q s n bis (is_of s source) (place calls) next closed now units units_now
     → InTurn Q s n bis (is_of s (cond again None source)) (place (cond again [] calls)) next (cond again [] closed) now (cond again [] units) units_now
 made_turn Q none s n bis true source calls next closed now units units_now all = anew Q none s n bis None next now units_now
@@ -280,12 +282,14 @@ drop_turn : (Q : ℕ → List Closed → List Handed → Type 0) → (s n bis : 
 drop_turn Q s n bis true source calls next closed now units units_now past all = begins_anew Q s n bis false None next closed now units units_now past refl refl
 drop_turn Q s n bis false source calls next closed now units units_now past all = all
 
-put_claim : (Q : ℕ → List Closed → List Handed → Type 0) (mine : Bool) (on : Tuning) (next : ℕ) (closed : List Closed) (entries : List Handed) → ((later : ℕ) → (mine ≡ true → later ≡ on.first) → (mine ≡ false → later ≡ next) → Q later closed entries)
+put_claim : (Q : ℕ → List Closed → List Handed → Type 0) (mine : Bool) (on : Tuning) (next : ℕ) (closed : List Closed) (entries : List Handed) → ((later : ℕ) → (mine ≡ true
+    → later ≡ on.first) → (mine ≡ false → later ≡ next) → Q later closed entries)
     → Q (first_of (cond mine (Some on) None) next) closed entries
 put_claim Q true on next closed entries past = past on.first (λ is. refl) (λ is. absurd (false≢true (sym is)))
 put_claim Q false on next closed entries past = past next (λ is. absurd (false≢true is)) (λ is. refl)
 
-put_turn : (Q : ℕ → List Closed → List Handed → Type 0) → (s n bis : ℕ) (put : Bool) (chosen : ℕ) (on : Tuning) (source : Option ℕ) (calls : List Call) (next : ℕ) (closed now : List Closed) (units units_now : List SinkUnit)
+put_turn : (Q : ℕ → List Closed → List Handed → Type 0) → (s n bis : ℕ) (put : Bool) (chosen : ℕ) (on : Tuning) (source : Option ℕ) (calls : List Call) (next : ℕ)
+    (closed now : List Closed) (units units_now : List SinkUnit)
     → ((later : ℕ) → ((chosen == s) ≡ true → later ≡ on.first) → ((chosen == s) ≡ false → later ≡ next) → Q later closed (shown s n bis units))
     → InTurn Q s n bis (is_of s source) (place calls) next closed now units units_now
     → InTurn Q s n bis (is_of s (cond put (Some chosen) source)) (place (cond put (tune on ∷ calls) calls)) next closed (cond put [] now) units (cond put [] units_now)
@@ -329,7 +333,8 @@ turn_after Q Fine airs boxes s n bis turns steps.Stop earlier before = kept_ther
 turn_after Q Fine airs boxes s n bis turns steps.End earlier before = kept_there Q Fine airs boxes s n bis turns steps.End earlier before refl refl refl
 turn_after Q Fine airs boxes s n bis turns step earlier before = kept Q Fine airs boxes s n bis turns step earlier before
 
-made_again : (Q : ℕ → List Closed → List Handed → Type 0) → ((e : ℕ) → Q e [] []) → (s n bis : ℕ) (again : Bool) → again ≡ true → (source : Option ℕ) (calls : List Call) (next : ℕ) (closed now : List Closed) (units units_now : List SinkUnit)
+made_again : (Q : ℕ → List Closed → List Handed → Type 0) → ((e : ℕ) → Q e [] []) → (s n bis : ℕ) (again : Bool) → again ≡ true
+    → (source : Option ℕ) (calls : List Call) (next : ℕ) (closed now : List Closed) (units units_now : List SinkUnit)
     → InTurn Q s n bis (is_of s (cond again None source)) (place (cond again [] calls)) next (cond again [] closed) now (cond again [] units) units_now
 made_again Q none s n bis true is source calls next closed now units units_now = anew Q none s n bis None next now units_now
 made_again Q none s n bis false is source calls next closed now units units_now = absurd (false≢true is)
@@ -341,7 +346,8 @@ made_none Q Fine airs boxes s n bis turns (steps.Sink sink streams slots mtu) ea
     (closed_from (is_made n) airs s n earlier ++ []) (closed_from (is_tuned n) airs s n earlier ++ []) (handed_since (is_made n) airs earlier ++ []) (handed_since (is_tuned n) airs earlier ++ [])
 made_none Q Fine airs boxes s n bis turns _ earlier made = absurd (false≢true made)
 
-turn : (Q : ℕ → List Closed → List Handed → Type 0) (Fine : List Step → Type 0) (airs : Airs) (boxes s n bis : ℕ) → Turns Q Fine airs boxes s n bis → (made : List Step) → Fine made → InTurnAt Q airs s n bis made
+turn : (Q : ℕ → List Closed → List Handed → Type 0) (Fine : List Step → Type 0) (airs : Airs) (boxes s n bis : ℕ) → Turns Q Fine airs boxes s n bis → (made : List Step) → Fine made
+    → InTurnAt Q airs s n bis made
 turn Q Fine airs boxes s n bis turns [] fine = anew Q turns.none s n bis None (next_in []) [] []
 turn Q Fine airs boxes s n bis turns (step ∷ earlier) fine = elim (cases_Bool (is_made n step)) [
   | inl made ↦ made_none Q Fine airs boxes s n bis turns step earlier made

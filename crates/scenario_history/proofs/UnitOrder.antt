@@ -85,7 +85,8 @@ event_below event number opens bn least below = elim (le_total opens event) [
   | inr above ↦ above
 ]
 
-entry_stream : (bis time : ℕ) (octets : List ℕ) (whole : Type 0) (entry : Handed) → ((entry ≡ lost bis time) ⊎ (whole × (entry ≡ valid bis time octets))) → (bis_of entry ≡ bis) × (time_in entry ≡ time)
+entry_stream : (bis time : ℕ) (octets : List ℕ) (whole : Type 0) (entry : Handed) → ((entry ≡ lost bis time) ⊎ (whole × (entry ≡ valid bis time octets)))
+    → (bis_of entry ≡ bis) × (time_in entry ≡ time)
 entry_stream bis time octets whole entry is = elim is [
   | inl gone ↦ (ap bis_of gone, ap time_in gone)
   | inr here ↦ (ap bis_of here.1, ap time_in here.1)
@@ -144,7 +145,8 @@ one_entry setup whole tuning bis n one entry calls some on opens numbered is =
           is_of.octets is.is;
     }
 
-stay_gives : (setup : Setup) (whole : List SourceCall) (tuning : Tuning) (bis : ℕ) (calls : List stays.Call) → 1 ≤ setup.info.bn → TunedTo setup tuning → opened (stay_on tuning bis) calls ≤ next_of setup whole
+stay_gives : (setup : Setup) (whole : List SourceCall) (tuning : Tuning) (bis : ℕ) (calls : List stays.Call) → 1 ≤ setup.info.bn → TunedTo setup tuning
+    → opened (stay_on tuning bis) calls ≤ next_of setup whole
     → Gives (IsSent setup whole bis) (IsOfUnit setup whole bis) (tuning.first * tuning.info.bn) (closed_end (stay_on tuning bis) calls)
     (entry_of (stay_on tuning bis) (is_heard (stay_on tuning bis) calls) (closed_end (stay_on tuning bis) calls))
 stay_gives setup whole tuning bis calls some on opens n unit sent long =
@@ -173,7 +175,8 @@ record Fine (airs : Airs) (boxes s n : ℕ) (setup : Setup) (whole : List Source
 abbrev Claim : Setup → List SourceCall → ℕ → List ℕ → List Sent → ℕ → List Closed → List Handed → Type 0
 Claim setup whole bis ns units e closed entries = Ordered (IsOfUnit setup whole bis) (e * setup.info.bn) ns units entries
 
-over : Below → (airs : Airs) → MeetAirs airs → (boxes s n bis : ℕ) (setup : Setup) (whole : List SourceCall) (all_started : Type 0) (ns : List ℕ) (units : List Sent) → s ≤ 1 → n ≤ 7 → 1 ≤ bis → bis ≤ 31
+over : Below → (airs : Airs) → MeetAirs airs → (boxes s n bis : ℕ) (setup : Setup) (whole : List SourceCall) (all_started : Type 0) (ns : List ℕ) (units : List Sent) → s ≤ 1 → n ≤ 7
+    → 1 ≤ bis → bis ≤ 31
     → setup.info.framing ≡ 1 → Numbered (IsSent setup whole bis) 0 ns units → (all_started → bis ≤ setup.info.num_bis → FramedWhole airs setup whole bis units)
     → OverStay (Claim setup whole bis ns units) (Fine airs boxes s n setup whole all_started) airs s n bis
 over below airs meets boxes s n bis setup whole all_started ns units source_within sink_within least greatest is_framed numbered facts made fine tuning is past entries claim =

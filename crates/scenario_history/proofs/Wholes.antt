@@ -55,13 +55,18 @@ pub record Goes (before after : List Step) : Type 0 where
   pub setup_is : setup_of after ≡ setup_of before
 
 goes_if : (airs : Airs) (own : List Step) (step : Step) (is_its : Bool) → Lawful airs own → (is_its ≡ true → Allowed airs own step) → is_started own ≡ true → Goes own (cond is_its (step ∷ own) own)
-goes_if airs own step true legal allows started = record { started = started_stays airs own step (allows refl) started; setup_is = setup_stays airs own step (settled airs own legal) (allows refl) started }
+goes_if airs own step true legal allows started = record {
+  started = started_stays airs own step (allows refl) started;
+  setup_is = setup_stays airs own step (settled airs own legal)
+      (allows refl) started;
+}
 goes_if airs own step false legal allows started = record { started = started; setup_is = refl }
 
 pub goes : (airs : Airs) (boxes s : ℕ) (earlier : List Step) (step : Step) → Legal airs boxes (step ∷ earlier) → is_started (steps_of_source s earlier) ≡ true
     → Goes (steps_of_source s earlier) (steps_of_source s (step ∷ earlier))
 goes airs boxes s earlier step legal started =
-    goes_if airs (steps_of_source s earlier) step (is_of_source s earlier step) (lawful airs boxes s earlier legal.0) (its_step airs boxes s earlier step (permitted airs boxes earlier step legal.1) legal.2) started
+    goes_if airs (steps_of_source s earlier) step (is_of_source s earlier step) (lawful airs boxes s earlier legal.0) (its_step airs boxes s earlier step
+    (permitted airs boxes earlier step legal.1) legal.2) started
 
 -- the next event of the source
 abbrev pub next_in : List Step → ℕ
