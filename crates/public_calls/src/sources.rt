@@ -9,7 +9,6 @@ use source_machine::{
     EventFault, GiveFault, Identity, Setup, SourceConfigured, SourceIdle, SourceStreaming,
 };
 use std::alloc::Global;
-use std::test::Fail;
 
 /// One stream of a unit every 10 ms in PDUs of at most 4 octets on LE 2M.
 fn info(max_sdu: u16, bn: u8, nse: u8, irc: u8, pto: u8) -> BigInfo
@@ -42,15 +41,15 @@ fn info(max_sdu: u16, bn: u8, nse: u8, irc: u8, pto: u8) -> BigInfo
 /// A BASE of a presentation delay of 40 ms and one stream of a codec other than LC3.
 const BASE: [u8; 14] = [0x40, 0x9c, 0, 1, 1, 0xff, 1, 0, 2, 0, 0, 0, 1, 0];
 
-/// The source of a group, whose first event is at 20 ms, or none where memory is wanting.
-fn setup(alloc: Global, info: BigInfo) -> Result<Setup, &'static str>
-    ensures info { IfOk result (λ setup. setup.info ≡ info) }
-    ensures origin { IfOk result (λ setup. setup.origin ≡ 20000) }
+/// The source of a group, whose first event is at 20 ms, or none where the group or memory is wanting.
+fn configured(alloc: Global, info: BigInfo) -> Result<SourceConfigured, &'static str>
+    requires widths { FitsWidths info }
+    ensures { IfOk result (λ source. source.cipher ≡ info.cipher) }
 {
     let Ok(base) = decode_base(alloc, &BASE) else {
         return Err("no memory");
     };
-    Ok(Setup {
+    let setup = Setup {
         identity: Identity {
             address_type: 0,
             address: [0; 6],
@@ -60,15 +59,7 @@ fn setup(alloc: Global, info: BigInfo) -> Result<Setup, &'static str>
         info,
         base,
         origin: 20000,
-    })
-}
-
-/// A source of this group, or none where the group or memory is wanting.
-fn configured(alloc: Global, info: BigInfo) -> Result<SourceConfigured, &'static str>
-    requires widths { FitsWidths info }
-    ensures { IfOk result (λ source. source.cipher ≡ info.cipher) }
-{
-    let setup = setup(alloc, info)?;
+    };
     let Ok(configured) = SourceIdle::new(alloc).configure(setup) else {
         return Err("no group");
     };
@@ -81,8 +72,7 @@ fn streaming(alloc: Global, info: BigInfo, first: u64) -> Result<SourceStreaming
     requires first { first < 2 ^ 39 }
     ensures { IfOk result (λ source. source.cipher ≡ info.cipher) }
 {
-    let configured = configured(alloc, info)?;
-    let Ok(source) = configured.start(first) else {
+    let Ok(source) = configured(alloc, info)?.start(first) else {
         return Err("no memory");
     };
     Ok(source)
@@ -92,157 +82,188 @@ fn streaming(alloc: Global, info: BigInfo, first: u64) -> Result<SourceStreaming
 fn started(alloc: Global, info: BigInfo, first: u64) -> Result<Broadcast, &'static str>
     requires widths { FitsWidths info }
     requires first { first < 2 ^ 39 }
-    ensures { IfOk result (λ source. source.source.cipher ≡ info.cipher) }
+    ensures { IfOk result (λ broadcast. broadcast.source.cipher ≡ info.cipher) }
 {
-    let configured = configured(alloc, info)?;
-    let Ok(source) = Broadcast::start(alloc, configured, first) else {
+    let Ok(source) = Broadcast::start(alloc, configured(alloc, info)?, first) else {
         return Err("no memory");
     };
     Ok(source)
 }
 
-#[test]
-fn a_source_sends_each_pdu_at_its_place(rt: HostRuntime) -> Result<(), Fail> {
-    let info = info(4, 1, 2, 2, 0);
-    assert!(rt; info.fits());
-    let mut source = streaming(rt.alloc(), info, 3)?;
-    let one = Bis::new(1).ok_or("no stream")?;
-    source.give(one, None, &[0xC0])?;
-    let sent = source.event()?;
-    assert_eq!(rt; sent.event, 3);
-    let pdu = [0x00, 0x01, 0xC0];
+/// Gives these units to a stream and performs an event.
+fn sends(source: &mut Broadcast, bis: Bis, units: &[&[u8]]) -> bool
+    requires { source.old.source.cipher ≡ None }
+    ensures { source.new.source.cipher ≡ None }
+{
+    'units: for unit in units {
+        if source.give(bis, None, unit).is_err() {
+            return false;
+        }
+    }
+    source.event().is_ok()
+}
+
+/// Whether this PDU was sent in a subevent of the last event.
+fn hears(source: &Broadcast, bis: Bis, subevent: u8, pdu: &[u8]) -> bool {
+    match source.heard_at(0, bis, subevent) {
+        Ok(heard) => heard == pdu,
+        Err(_) => false,
+    }
+}
+
+/// Whether an event that is performed without a broadcast's air has this PDU alone, twice, and none is stale.
+fn sends_twice(source: &mut SourceStreaming, pdu: &[u8]) -> bool
+    requires { source.old.cipher ≡ None }
+{
+    let Ok(sent) = source.event() else {
+        return false;
+    };
     match sent.pdus.as_slice() {
         [first, copy] => {
-            assert_eq!(rt; first.as_slice(), pdu.as_slice());
-            assert_eq!(rt; copy.as_slice(), pdu.as_slice());
+            first.as_slice() == pdu && copy.as_slice() == pdu && sent.stale.count() == 0
         }
-        _ => return Err("an event of two PDUs".into()),
+        _ => false,
     }
-    assert_eq!(rt; sent.stale.count(), 0);
-    assert_eq!(rt; source.next_event(), 4);
-    assert_eq!(rt; source.next_anchor(), 30000);
-    let _ = source.stop().release();
-    Ok(())
 }
 
 #[test]
-fn a_long_unit_begins_with_a_full_fragment(rt: HostRuntime) -> Result<(), Fail> {
+fn a_source_sends_each_pdu_at_its_place(rt: HostRuntime) {
+    let info = info(4, 1, 2, 2, 0);
+    assert!(rt; info.fits());
+    let (Ok(mut source), Some(one)) = (streaming(rt.alloc(), info, 3), Bis::new(1)) else {
+        return assert!(rt; false);
+    };
+    assert!(rt; source.give(one, None, &[0xC0]).is_ok());
+    assert!(rt; sends_twice(&mut source, &[0x00, 0x01, 0xC0]));
+    assert!(rt; (source.next_event(), source.next_anchor()) == (4, 30000));
+    let _ = source.stop().release();
+}
+
+#[test]
+fn a_long_unit_begins_with_a_full_fragment(rt: HostRuntime) {
     let info = info(8, 2, 2, 1, 0);
     assert!(rt; info.fits());
-    let mut source = started(rt.alloc(), info, 0)?;
-    let one = Bis::new(1).ok_or("no stream")?;
-    source.give(one, None, &[1, 2, 3, 4])?;
-    source.event()?;
-    source.give(one, None, &[0x11, 0x12, 0x13, 0x14, 0x15, 0x16, 0x17, 0x18])?;
-    source.event()?;
-    let first = [0x01, 0x04, 0x11, 0x12, 0x13, 0x14];
-    assert_eq!(rt; source.heard_at(0, one, 0)?, first.as_slice());
-    Ok(())
+    let (Ok(mut source), Some(one)) = (started(rt.alloc(), info, 0), Bis::new(1)) else {
+        return assert!(rt; false);
+    };
+    assert!(rt; sends(&mut source, one, &[&[1, 2, 3, 4]]));
+    assert!(rt;
+        sends(
+            &mut source,
+            one,
+            &[&[0x11, 0x12, 0x13, 0x14, 0x15, 0x16, 0x17, 0x18]]
+        )
+    );
+    assert!(rt; hears(&source, one, 0, &[0x01, 0x04, 0x11, 0x12, 0x13, 0x14]));
 }
 
 #[test]
-fn a_later_copy_carries_a_later_unit(rt: HostRuntime) -> Result<(), Fail> {
+fn a_later_copy_carries_a_later_unit(rt: HostRuntime) {
     let info = info(4, 1, 4, 2, 1);
     assert!(rt; info.fits());
-    let mut source = started(rt.alloc(), info, 0)?;
-    let one = Bis::new(1).ok_or("no stream")?;
-    source.give(one, None, &[0xC0])?;
-    source.give(one, None, &[0xC1])?;
-    source.give(one, None, &[0xC2])?;
-    source.event()?;
-    assert_eq!(rt; source.heard_at(0, one, 3)?, [0x00, 0x01, 0xC2].as_slice());
-    source.event()?;
-    source.event()?;
-    assert_eq!(rt; source.heard_at(0, one, 0)?, [0x00, 0x01, 0xC2].as_slice());
-    Ok(())
+    let (Ok(mut source), Some(one)) = (started(rt.alloc(), info, 0), Bis::new(1)) else {
+        return assert!(rt; false);
+    };
+    assert!(rt; sends(&mut source, one, &[&[0xC0], &[0xC1], &[0xC2]]));
+    assert!(rt; hears(&source, one, 3, &[0x00, 0x01, 0xC2]));
+    assert!(rt; sends(&mut source, one, &[]) && sends(&mut source, one, &[]));
+    assert!(rt; hears(&source, one, 0, &[0x00, 0x01, 0xC2]));
 }
 
 #[test]
-fn the_payload_counter_ends(rt: HostRuntime) -> Result<(), Fail> {
+fn the_payload_counter_ends(rt: HostRuntime) {
     let info = info(4, 1, 1, 1, 0);
     assert!(rt; info.fits());
     let last = 549_755_813_887;
-    let mut source = started(rt.alloc(), info, last)?;
-    source.event()?;
+    let Ok(mut source) = started(rt.alloc(), info, last) else {
+        return assert!(rt; false);
+    };
+    assert!(rt; source.event().is_ok());
     assert!(rt; matches!(source.event(), Err(EventFault::CounterEnds)));
-    assert_eq!(rt; source.last_event(), Some(last));
-    Ok(())
+    assert!(rt; source.last_event() == Some(last));
 }
 
 #[test]
-fn no_more_than_16_units_wait(rt: HostRuntime) -> Result<(), Fail> {
+fn no_more_than_16_units_wait(rt: HostRuntime) {
     let info = info(4, 1, 1, 1, 0);
     assert!(rt; info.fits());
-    let mut source = started(rt.alloc(), info, 0)?;
-    let one = Bis::new(1).ok_or("no stream")?;
+    let (Ok(mut source), Some(one)) = (started(rt.alloc(), info, 0), Bis::new(1)) else {
+        return assert!(rt; false);
+    };
     for _ in 0..16 {
-        source.give(one, None, &[0xAA])?;
+        assert!(rt; source.give(one, None, &[0xAA]).is_ok());
     }
-    assert_eq!(rt; source.give(one, None, &[0xAA]), Err(GiveFault::Backlog));
-    Ok(())
+    assert!(rt; source.give(one, None, &[0xAA]) == Err(GiveFault::Backlog));
 }
 
 /// The group of one stream that has one subevent an event.
-fn one_subevent() -> BigInfo
-    ensures { result.cipher ≡ None }
-{
-    BigInfo {
-        sub_interval: 0,
-        ..info(4, 1, 1, 1, 0)
-    }
+const ONE_SUBEVENT: BigInfo = BigInfo {
+    big_offset: 0,
+    big_offset_units: 0,
+    iso_interval: 8,
+    num_bis: 1,
+    nse: 1,
+    bn: 1,
+    sub_interval: 0,
+    pto: 0,
+    bis_spacing: 0,
+    irc: 1,
+    max_pdu: 4,
+    seed_access_address: 0,
+    sdu_interval: 10000,
+    max_sdu: 4,
+    base_crc_init: 0,
+    chm: 0,
+    phy: 1,
+    bis_payload_count: 0,
+    framing: 0,
+    cipher: None,
+};
+
+#[test]
+fn a_source_announces_its_next_event(rt: HostRuntime) {
+    assert!(rt; ONE_SUBEVENT.fits());
+    let Ok(source) = streaming(rt.alloc(), ONE_SUBEVENT, 0) else {
+        return assert!(rt; false);
+    };
+    let Ok(train) = source.announce() else {
+        return assert!(rt; false);
+    };
+    assert!(rt; train.time == 17000);
+    assert!(rt; train.ext.as_slice() == [0x06, 0x16, 0x52, 0x18, 0x56, 0x34, 0x12].as_slice());
+    assert!(rt;
+        train.adv.as_slice()
+            == [
+                0x11, 0x16, 0x51, 0x18, 0x40, 0x9c, 0, 1, 1, 0xff, 1, 0, 2, 0, 0, 0, 1, 0
+            ]
+            .as_slice()
+    );
+    assert!(rt;
+        train.acad.as_slice()
+            == [
+                0x22, 0x2c, 0x64, 0, 0x04, 0x08, 0x21, 0, 0, 0, 0, 0, 0x10, 0x04, 0, 0, 0, 0, 0,
+                0x10, 0x27, 0x40, 0, 0, 0, 0xff, 0xff, 0xff, 0xff, 0x3f, 0, 0, 0, 0, 0
+            ]
+            .as_slice()
+    );
 }
 
 #[test]
-fn a_source_announces_its_next_event(rt: HostRuntime) -> Result<(), Fail> {
-    let info = one_subevent();
-    assert!(rt; info.fits());
-    let source = streaming(rt.alloc(), info, 0)?;
-    let train = source.announce()?;
-    assert_eq!(rt; train.time, 17000);
-    assert_eq!(rt;
-        train.ext.as_slice(),
-        [0x06, 0x16, 0x52, 0x18, 0x56, 0x34, 0x12].as_slice()
-    );
-    assert_eq!(rt;
-        train.adv.as_slice(),
-        [
-            0x11, 0x16, 0x51, 0x18, 0x40, 0x9c, 0, 1, 1, 0xff, 1, 0, 2, 0, 0, 0, 1, 0
-        ]
-        .as_slice()
-    );
-    assert_eq!(rt;
-        train.acad.as_slice(),
-        [
-            0x22, 0x2c, 0x64, 0, 0x04, 0x08, 0x21, 0, 0, 0, 0, 0, 0x10, 0x04, 0, 0, 0, 0, 0, 0x10,
-            0x27, 0x40, 0, 0, 0, 0xff, 0xff, 0xff, 0xff, 0x3f, 0, 0, 0, 0, 0
-        ]
-        .as_slice()
-    );
-    Ok(())
-}
-
-#[test]
-fn an_encrypted_group_is_announced(rt: HostRuntime) -> Result<(), Fail> {
+fn an_encrypted_group_is_announced(rt: HostRuntime) {
     let info = BigInfo {
         cipher: Some(Cipher {
             giv: [1, 2, 3, 4, 5, 6, 7, 8],
             gskd: [0x11; 16],
         }),
-        ..one_subevent()
+        ..ONE_SUBEVENT
     };
     assert!(rt; info.fits());
-    let source = streaming(rt.alloc(), info, 0)?;
+    let Ok(source) = streaming(rt.alloc(), info, 0) else {
+        return assert!(rt; false);
+    };
     assert!(rt; source.is_ciphered());
-    let train = source.announce()?;
-    let behind = [
-        1, 2, 3, 4, 5, 6, 7, 8, 0x11, 0x11, 0x11, 0x11, 0x11, 0x11, 0x11, 0x11, 0x11, 0x11, 0x11,
-        0x11, 0x11, 0x11, 0x11, 0x11,
-    ];
-    match train.acad.as_slice() {
-        [0x3a, 0x2c, fields @ ..] if fields.len() == 57 => {
-            assert_eq!(rt; &fields[33..], behind.as_slice());
-        }
-        _ => return Err("a BIGInfo of 57 octets".into()),
+    match source.announce() {
+        Ok(train) => assert!(rt; matches!(train.acad.as_slice(), [0x3a, 0x2c, 0x64, ..])),
+        Err(_) => assert!(rt; false),
     }
-    Ok(())
 }
