@@ -20,7 +20,7 @@ use Rattle.transcript_text.specs.declared.stop.Stop.TheVariants.{Refused, Outlet
 use Rattle.scenario_text.specs.declared.step.Step.{Step}
 use Rattle.scenario_text.specs.declared.step.Step.TheVariants.{Air, Hear, Inject, Sniff}
 use Rattle.scenario_history.specs.Steps.{chosen_of, chosen_steps, running, stage_of}
-use Rattle.scenario_history.specs.Source.{event_back, is_started, pdu_in, performed, setup_of, source_calls}
+use Rattle.scenario_history.specs.Source.{event_back, is_heard, pdu_in, performed, setup_of, source_calls}
 use Rattle.scenario_history.specs.Sinks.{Spot, hear_at, heard_on_air, is_lost, is_of, reaches, sink_calls, source_of, spot_at, spots_of, unless_lost}
 use Rattle.scenario_history.specs.Boxes.{box_of}
 use Rattle.scenario_history.specs.Output.{injected_hearing}
@@ -52,7 +52,7 @@ or_front (Some x) b rest reason e = e
 pub record Brings (n : ℕ) (made : Step) : Type 0 where
   pub refusal : (boxes version : ℕ) (steps : List Step) → stage_of steps ≡ running version
       → phase_refusal airs_of boxes steps made
-      ≡ option_or (refuse_if (not (is_started (chosen_steps steps))) Order) (option_or (no_sink n steps) (option_or (source_refusal airs_of version (chosen_steps steps) made) None))
+      ≡ option_or (refuse_if (not (is_heard (chosen_steps steps))) Order) (option_or (no_sink n steps) (option_or (source_refusal airs_of version (chosen_steps steps) made) None))
 
 pub hear_brings : (n back bis subevent : ℕ) → Brings n (Hear n back bis subevent)
 hear_brings n back bis subevent = record { refusal = λ boxes version steps e. rw e refl }
@@ -67,11 +67,11 @@ pub reach_fails : (boxes version n : ℕ) (steps : List Step) (made : Step) (new
     → Reaches steps n (Err stop) → Quiet boxes steps made new (Err stop)
 reach_fails boxes version n steps made new (Refused reason) brings e r =
     brings.refusal boxes version steps e
-    ∙ or_front (refuse_if (not (is_started (chosen_steps steps))) Order) (no_sink n steps) (option_or (source_refusal airs_of version (chosen_steps steps) made) None) reason r
+    ∙ or_front (refuse_if (not (is_heard (chosen_steps steps))) Order) (no_sink n steps) (option_or (source_refusal airs_of version (chosen_steps steps) made) None) reason r
 reach_fails boxes version n steps made new OutletFault brings e r = r
 reach_fails boxes version n steps made new Memory brings e r = absurd r
 
-pub own_fault : (boxes version n : ℕ) (steps : List Step) (made : Step) → Brings n made → stage_of steps ≡ running version → is_started (chosen_steps steps) ≡ true
+pub own_fault : (boxes version n : ℕ) (steps : List Step) (made : Step) → Brings n made → stage_of steps ≡ running version → is_heard (chosen_steps steps) ≡ true
     → is_some (box_of n steps) ≡ true → phase_refusal airs_of boxes steps made ≡ source_refusal airs_of version (chosen_steps steps) made
 own_fault boxes version n steps made brings e started lives =
     brings.refusal boxes version steps e ∙ rw (started, lives) (or_none (source_refusal airs_of version (chosen_steps steps) made))
@@ -263,28 +263,28 @@ no_place_there own bis subevent (Refused reason) p q r e =
 no_place_there own bis subevent OutletFault p q r e = e
 no_place_there own bis subevent Memory p q r e = e
 
-pub no_sink_there : (steps : List Step) (n : ℕ) → is_started (chosen_steps steps) ≡ true → is_some (box_of n steps) ≡ false
-    → option_or (refuse_if (not (is_started (chosen_steps steps))) Order) (no_sink n steps) ≡ Some NoSuchSink
+pub no_sink_there : (steps : List Step) (n : ℕ) → is_heard (chosen_steps steps) ≡ true → is_some (box_of n steps) ≡ false
+    → option_or (refuse_if (not (is_heard (chosen_steps steps))) Order) (no_sink n steps) ≡ Some NoSuchSink
 no_sink_there steps n started none = rw (started, none) refl
 
 -- ---- sniff
 
-pub sniff_early : (boxes version back bis subevent : ℕ) (steps : List Step) → stage_of steps ≡ running version → is_started (chosen_steps steps) ≡ false
+pub sniff_early : (boxes version back bis subevent : ℕ) (steps : List Step) → stage_of steps ≡ running version → is_heard (chosen_steps steps) ≡ false
     → phase_refusal airs_of boxes steps (Sniff back bis subevent) ≡ Some Order
 sniff_early boxes version back bis subevent steps e started = rw (e, started) refl
 
-sniff_fault : (boxes version back bis subevent : ℕ) (steps : List Step) → stage_of steps ≡ running version → is_started (chosen_steps steps) ≡ true
+sniff_fault : (boxes version back bis subevent : ℕ) (steps : List Step) → stage_of steps ≡ running version → is_heard (chosen_steps steps) ≡ true
     → phase_refusal airs_of boxes steps (Sniff back bis subevent) ≡ no_place (chosen_steps steps) back bis subevent
 sniff_fault boxes version back bis subevent steps e started = rw (e, started) (or_none (no_place (chosen_steps steps) back bis subevent))
 
 pub sniff_fails : (starts : List Account) (version back bis subevent : ℕ) (steps : List Step) (new : Machine) (text : List ℕ) (stop : Stop) → stage_of steps ≡ running version
-    → is_started (chosen_steps steps) ≡ true → NoPlace (chosen_steps steps) back bis subevent stop → Tells starts steps (Sniff back bis subevent) new text text (Err stop)
+    → is_heard (chosen_steps steps) ≡ true → NoPlace (chosen_steps steps) back bis subevent stop → Tells starts steps (Sniff back bis subevent) new text text (Err stop)
 sniff_fails starts version back bis subevent steps new text (Refused reason) e started p = (sniff_fault (length starts) version back bis subevent steps e started ∙ p, refl)
 sniff_fails starts version back bis subevent steps new text OutletFault e started p = p
 sniff_fails starts version back bis subevent steps new text Memory e started p = tt
 
 pub sniff_meets : (starts : List Account) (version event back bis subevent : ℕ) (pdu : List ℕ) (steps : List Step) (machine : Machine) (text told : List ℕ) → Stands steps machine
-    → stage_of steps ≡ running version → is_started (chosen_steps steps) ≡ true
+    → stage_of steps ≡ running version → is_heard (chosen_steps steps) ≡ true
     → (no_place (chosen_steps steps) back bis subevent ≡ None) × (pdu ≡ pdu_in airs_of (chosen_steps steps) (event_back (chosen_steps steps) back) bis subevent)
     → event ≡ event_back (chosen_steps steps) back → told ≡ text ++ pdu_line event bis subevent pdu → Tells starts steps (Sniff back bis subevent) machine text told (Ok tt)
 sniff_meets starts version event back bis subevent pdu steps machine text told stands e started place is t = (

@@ -5,10 +5,11 @@ use Rattle.source_machine.specs.Airs.{airs_of}
 use Rattle.source_machine.specs.declared.sent.Stale.{Stale}
 use Rattle.transcript_text.specs.declared.stop.Stop.{Stop}
 use Rattle.transcript_text.specs.declared.stop.Stop.TheVariants.{Refused, OutletFault, Memory}
+use Rattle.transcript_text.specs.Lines.{control_line}
 use Rattle.scenario_text.specs.declared.step.Step.{Step}
 use Rattle.scenario_text.specs.declared.step.Step.TheVariants as steps
 use Rattle.scenario_history.specs.Steps.{chosen_of, chosen_steps, is_over, is_over_at, running, stage_of, steps_of_source}
-use Rattle.scenario_history.specs.Source.{open_event, stale_in}
+use Rattle.scenario_history.specs.Source.{end_pdu, open_event, stale_in}
 use Rattle.scenario_history.specs.Boxes.{SinkUnit, accounts_after, closing, closing_at, handed_by}
 use Rattle.scenario_history.specs.Output.{output_of, stale_lines, unit_lines}
 use Rattle.scenario_history.specs.Refusals.{phase_refusal}
@@ -122,6 +123,40 @@ pub event_wants : (starts : List Account) (made : List Step) (new there : Machin
     → Closed starts made steps.Event new text told before after → Meets starts made steps.Event there text last before after (Err Memory)
 event_wants starts made new there text told last before after all =
     inr (all.passes, record { done = handed_by airs_of made steps.Event; rest = []; split = sym (append-nil (handed_by airs_of made steps.Event)); boxes = all.boxes })
+
+-- ---- terminate
+
+pub terminate_meets : (starts : List Account) (made : List Step) (reason : ℕ) (octets : List ℕ) (new : Machine) (text told last : List ℕ) (before after : List Account)
+    → Closed starts made (steps.Terminate reason) new text told before after → octets ≡ end_pdu (chosen_steps made) reason → last ≡ told ++ control_line octets
+    → Meets starts made (steps.Terminate reason) new text last before after (Ok tt)
+terminate_meets starts made reason octets new text told last before after all is lines = (
+  all.passes,
+  all.stands,
+  lines ∙ ap (λ o. told ++ control_line o) is ∙ ap (λ l. l ++ control_line (end_pdu (chosen_steps made) reason)) all.told_is
+      ∙ append_assoc text (unit_lines (closing airs_of (chosen_of made) made)) (control_line (end_pdu (chosen_steps made) reason)),
+  all.boxes,
+)
+
+-- all units went to their boxes, and memory ran out as the PDU was printed
+pub terminate_wants : (starts : List Account) (made : List Step) (reason : ℕ) (new there : Machine) (text told last : List ℕ) (before after : List Account)
+    → Closed starts made (steps.Terminate reason) new text told before after → Meets starts made (steps.Terminate reason) there text last before after (Err Memory)
+terminate_wants starts made reason new there text told last before after all = inr (
+  all.passes,
+  record {
+    done = handed_by airs_of made (steps.Terminate reason);
+    rest = [];
+    split = sym (append-nil (handed_by airs_of made (steps.Terminate reason)));
+    boxes = all.boxes;
+  },
+)
+
+pub terminate_refused : (starts : List Account) (version reason : ℕ) (made : List Step) (new : Machine) (text : List ℕ) (accounts : List Account) (stop : Stop)
+    → GoesOn (steps.Terminate reason) → stage_of made ≡ running version → sources.Terminates version made reason new.sources (Err stop)
+    → Meets starts made (steps.Terminate reason) new text text accounts accounts (Err stop)
+terminate_refused starts version reason made new text accounts (Refused cause) on e c =
+    (source_fault (length starts) version made (steps.Terminate reason) on e ∙ c.0, refl, refl)
+terminate_refused starts version reason made new text accounts OutletFault on e c = absurd c
+terminate_refused starts version reason made new text accounts Memory on e c = inl refl
 
 pub close_refused : (starts : List Account) (version : ℕ) (steps : List Step) (made : Step) (new : Machine) (text : List ℕ) (accounts : List Account) (stop : Stop) → GoesOn made
     → stage_of steps ≡ running version → sources.Closes version steps made new.sources (Err stop) → Meets starts steps made new text text accounts accounts (Err stop)

@@ -8,9 +8,9 @@ use Rattle.transcript_text.specs.declared.refusal.Refusal.TheVariants.{NoSuchBis
 use Rattle.transcript_text.specs.declared.stop.Stop.{Stop}
 use Rattle.transcript_text.specs.declared.stop.Stop.TheVariants.{Refused, OutletFault, Memory}
 use Rattle.scenario_text.specs.declared.step.Step.{Step}
-use Rattle.scenario_text.specs.declared.step.Step.TheVariants.{Sink, Source, Tuned}
+use Rattle.scenario_text.specs.declared.step.Step.TheVariants.{Announce, Sink, Source, Tuned}
 use Rattle.scenario_history.specs.Steps.{Stage, chosen_of, chosen_steps, running, stage_after, stage_of}
-use Rattle.scenario_history.specs.Source.{is_sending, setup_of}
+use Rattle.scenario_history.specs.Source.{is_sending, setup_of, takes_units}
 use Rattle.scenario_history.specs.Sinks.{tuning_of}
 use Rattle.scenario_history.specs.Boxes.{box_of}
 use Rattle.scenario_history.specs.Steps.{sinks_made}
@@ -110,12 +110,12 @@ make_meets boxes version n streams slots mtu steps old new r stands e stage same
     (rw e (or_none (not_made (box_of n steps) (sinks_made steps) boxes))) (sink_says n streams slots mtu) refl refl stage same a
 
 -- the chosen source is not between its start and its stop
-pub tuned_early : (boxes version n which : ℕ) (steps : List Step) → stage_of steps ≡ running version → is_sending (chosen_steps steps) ≡ false
+pub tuned_early : (boxes version n which : ℕ) (steps : List Step) → stage_of steps ≡ running version → takes_units (chosen_steps steps) ≡ false
     → phase_refusal airs_of boxes steps (Tuned n which) ≡ Some Order
 tuned_early boxes version n which steps e going = rw (e, going) refl
 
 pub tuned_meets : (boxes version n source which : ℕ) (steps : List Step) (tuning : Tuning) (old new : Machine) (r : Result (Unit {0}) Stop) → Stands steps old
-    → stage_of steps ≡ running version → is_sending (chosen_steps steps) ≡ true → source ≡ chosen_of steps → tuning ≡ tuning_of (chosen_steps steps) which
+    → stage_of steps ≡ running version → takes_units (chosen_steps steps) ≡ true → source ≡ chosen_of steps → tuning ≡ tuning_of (chosen_steps steps) which
     → new.stage ≡ old.stage → new.sources ≡ old.sources
     → sinks.Answers (not_tuned (box_of n steps) tuning.info.num_bis tuning.which) (past_of steps) (with_tuning n source tuning (past_of steps)) new.sinks r
     → Quiet boxes steps (Tuned n which) new r
@@ -126,3 +126,13 @@ tuned_meets boxes version n source which steps tuning old new r stands e going c
     ∙ ap (λ (t : Tuning). not_tuned (box_of n steps) t.info.num_bis t.which) (sym is)) in
     sinks_meet boxes steps (Tuned n which) (not_tuned (box_of n steps) tuning.info.num_bis tuning.which) (with_tuning n source tuning (past_of steps)) old new r stands fault
     (tuned_says n which) refl (ap (λ s. with_tuning n s (tuning_of own which) (past_of steps)) (sym chosen) ∙ ap (λ t. with_tuning n source t (past_of steps)) (sym is)) stage same a
+
+-- ---- announce
+
+pub announce_early : (boxes version n : ℕ) (steps : List Step) → stage_of steps ≡ running version → is_sending (chosen_steps steps) ≡ false
+    → phase_refusal airs_of boxes steps (Announce n) ≡ Some Order
+announce_early boxes version n steps e going = rw (e, going) refl
+
+pub announce_unbuilt : (boxes version n : ℕ) (steps : List Step) → stage_of steps ≡ running version → is_sending (chosen_steps steps) ≡ true
+    → phase_refusal airs_of boxes steps (Announce n) ≡ Some NotBuilt
+announce_unbuilt boxes version n steps e going = rw (e, going) refl

@@ -8,7 +8,7 @@ use Rattle.transcript_text.specs.declared.stop.Stop.{Stop}
 use Rattle.transcript_text.specs.declared.stop.Stop.TheVariants.{Refused, OutletFault, Memory}
 use Rattle.scenario_text.specs.declared.step.Step.{Step}
 use Rattle.scenario_history.specs.Steps.{chosen_of, chosen_steps, sinks_made}
-use Rattle.scenario_history.specs.Source.{event_back, is_started, performed, setup_of}
+use Rattle.scenario_history.specs.Source.{event_back, is_heard, performed, setup_of}
 use Rattle.scenario_history.specs.Sinks.{heard_on_air, reaches, sink_calls, source_of}
 use Rattle.scenario_history.specs.Boxes.{box_of}
 use Rattle.scenario_history.specs.Refusals.{no_sink, refuse_if}
@@ -17,9 +17,9 @@ use Rattle.scenario_sinks.specs.Pasts.{Past}
 -- a PDU of the chosen source may be handed to a sink: the source was started and has this group, and the sink lives
 abbrev pub Reaches : List Step → ℕ → Result Group Stop → Type 0
 Reaches steps sink (Ok group) =
-    (is_started (chosen_steps steps) ≡ true) × (group.info ≡ (setup_of (chosen_steps steps)).info) × (is_some (box_of sink steps) ≡ true)
+    (is_heard (chosen_steps steps) ≡ true) × (group.info ≡ (setup_of (chosen_steps steps)).info) × (is_some (box_of sink steps) ≡ true)
 Reaches steps sink (Err (Refused reason)) =
-    option_or (refuse_if (not (is_started (chosen_steps steps))) Order) (no_sink sink steps) ≡ Some reason
+    option_or (refuse_if (not (is_heard (chosen_steps steps))) Order) (no_sink sink steps) ≡ Some reason
 Reaches steps sink (Err OutletFault) = ⊥
 Reaches steps sink (Err Memory) = ⊥
 
@@ -34,7 +34,7 @@ past_on_air steps sink lose count = record {
 
 -- the chosen source was started, its group has these numbers, and this is the last event that it performed
 pub record OnAir (steps : List Step) (sink event : ℕ) (group : Group) : Type 0 where
-  pub started : is_started (chosen_steps steps) ≡ true
+  pub started : is_heard (chosen_steps steps) ≡ true
   pub info : group.info ≡ (setup_of (chosen_steps steps)).info
   pub lives : is_some (box_of sink steps) ≡ true
   pub some : 0 < performed (chosen_steps steps)

@@ -1,5 +1,5 @@
 use Rattle.std.proofs.Common.{refl, sym, ◌∙◌, ap, length}
-use Rattle.scenario_text.specs.declared.step.Step.TheVariants.{Unit as UnitStep, Inject as InjectStep}
+use Rattle.scenario_text.specs.declared.step.Step.TheVariants.{Bis as BisStep, Inject as InjectStep, Meta as MetaStep, Subgroup as SubgroupStep, Unit as UnitStep}
 use Rattle.replay_steps.specs.Versions.{number_of}
 use Rattle.replay_steps.proofs.StepLaws.{boxes_counted, quiet_as, tells_as, meets_as}
 use Rattle.replay_steps.proofs.machine.Machine.later_step.Goals as goal
@@ -63,4 +63,34 @@ returns-in-Ident g c starts steps stands e boxes =
 pub returns-in-Source : goal.returns-in-Source
 returns-in-Source g c starts steps stands e boxes =
     quiet_as starts (length starts) steps c.args.step _ c.choose.new.self c.args.text.now _ c.choose.result c.in-Source.is refl refl refl (c.choose.ensures (length starts) (number_of
+    c.args.version) steps stands e)
+
+pub returns-in-Subgroup : goal.returns-in-Subgroup
+returns-in-Subgroup g c starts steps stands e boxes =
+    quiet_as starts (length starts) steps c.args.step _ c.subgroup.new.self c.args.text.now _ c.subgroup.result (c.in-Subgroup.is ∙ ap (λ config. SubgroupStep c.in-Subgroup.codec config)
+    (sym c.as_slice-in-Subgroup.ensures)) refl refl refl (c.subgroup.ensures (length starts) (number_of c.args.version) steps stands e)
+
+pub returns-in-Meta : goal.returns-in-Meta
+returns-in-Meta g c starts steps stands e boxes =
+    quiet_as starts (length starts) steps c.args.step _ c.meta.new.self c.args.text.now _ c.meta.result (c.in-Meta.is ∙ ap (λ metadata. MetaStep metadata)
+    (sym c.as_slice-in-Meta.ensures)) refl refl refl (c.meta.ensures (length starts) (number_of c.args.version) steps stands e)
+
+pub returns-in-Bis : goal.returns-in-Bis
+returns-in-Bis g c starts steps stands e boxes =
+    quiet_as starts (length starts) steps c.args.step _ c.bis.new.self c.args.text.now _ c.bis.result (c.in-Bis.is ∙ ap (λ config. BisStep c.in-Bis.bis config)
+    (sym c.as_slice-in-Bis.ensures)) refl refl refl (c.bis.ensures (length starts) (number_of c.args.version) steps stands e)
+
+pub returns-in-Cipher : goal.returns-in-Cipher
+returns-in-Cipher g c starts steps stands e boxes =
+    quiet_as starts (length starts) steps c.args.step _ c.cipher.new.self c.args.text.now _ c.cipher.result c.in-Cipher.is refl refl refl (c.cipher.ensures (length starts) (number_of
+    c.args.version) steps stands e)
+
+pub returns-in-Announce : goal.returns-in-Announce
+returns-in-Announce g c starts steps stands e boxes =
+    quiet_as starts (length starts) steps c.args.step _ c.args.self.now c.args.text.now _ c.announce.result c.in-Announce.is refl refl refl (c.announce.ensures (length starts) (number_of
+    c.args.version) c.in-Announce.sink steps stands e)
+
+pub returns-in-Terminate : goal.returns-in-Terminate
+returns-in-Terminate g c starts steps stands e boxes =
+    meets_as starts steps c.args.step _ c.terminate.new.self c.args.text.now c.terminate.new.text _ _ c.terminate.result c.in-Terminate.is (c.terminate.ensures starts (number_of
     c.args.version) steps stands e)
