@@ -3,7 +3,9 @@ use big_info::GroupFault;
 use iso_pdu::PduFault;
 use isoal_base::{Heard, Hearing};
 use std::test::Fail;
-use transcript_text::{Refusal, put_heard, put_lost, put_pdu, put_refusal, put_sum, put_valid};
+use transcript_text::{
+    Refusal, put_control, put_heard, put_lost, put_pdu, put_refusal, put_sum, put_valid,
+};
 
 #[test]
 fn units_are_put_with_ample_memory(rt: HostRuntime) -> Result<(), Fail> {
@@ -21,8 +23,10 @@ fn units_are_put_with_ample_memory(rt: HostRuntime) -> Result<(), Fail> {
 fn pdus_and_sums_are_put_with_ample_memory(rt: HostRuntime) -> Result<(), Fail> {
     let mut text = Octets::new(rt.alloc());
     put_pdu(&mut text, 1, 1, 0, &[0x01, 0x00])?;
+    put_control(&mut text, &[0x03, 0x04, 0x01, 0x13, 0x00, 0x00])?;
     put_sum(&mut text, 0, 1, 4)?;
-    assert!(rt; text.as_slice() == b"pdu 1 1 0 0100\nsum 0 1 4\n".as_slice());
+    let lines = b"pdu 1 1 0 0100\ncontrol 030401130000\nsum 0 1 4\n";
+    assert!(rt; text.as_slice() == lines.as_slice());
     Ok(())
 }
 

@@ -10,7 +10,7 @@ pub struct Row {
     pub exit_code: u8,
 }
 
-pub const ROWS: [Row; 44] = [
+pub const ROWS: [Row; 50] = [
     Row {
         name: "least-path",
         boxes: 2,
@@ -318,5 +318,47 @@ pub const ROWS: [Row; 44] = [
         text: "scenario 1\ngroup framed 20000 40000 8 10884 8 10 1 1 1 1 0 0 0 1\nsink 0 1 1\nstart 0\ntuned 0 1\nevent\ninject 0 0 1 0 0200\nend\n",
         transcript: "heard 0 Kept\nsum 0 0 0\n",
         exit_code: 0,
+    },
+    Row {
+        name: "refusal-base-too-long",
+        boxes: 2,
+        text: "scenario 1\ngroup unframed 20000 40000 8 10000 4 4 1 1 1 1 0 0 0 1\nsubgroup ff01000200 efff00000000000000000000000000000000000000000000000000000000000000000000000000000000000000000000000000000000000000000000000000000000000000000000000000000000000000000000000000000000000000000000000000000000000000000000000000000000000000000000000000000000000000000000000000000000000000000000000000000000000000000000000000000000000000000000000000000000000000000000000000000000000000000000000000000000000000000000000000000000000000000000000000000000000000000000000000000000000000000000\nbis 1 -\nstart 0\n",
+        transcript: "line 5: BaseTooLong\n",
+        exit_code: 1,
+    },
+    Row {
+        name: "a-group-is-ended",
+        boxes: 2,
+        text: "scenario 1\ngroup unframed 20000 40000 8 10000 4 4 1 1 1 1 0 0 0 1\nsubgroup 0600000000 020103\nmeta 03020400\nbis 1 -\nmeta -\nsink 0 1 1\nstart 65535\ntuned 0 1\nunit 1 - 0a0b0c\nevent\nair 0 0\nterminate 19\nair 0 0\nend\n",
+        transcript: "unit 0 1 at 60060 valid 3 0a0b0c\ncontrol 030401130000\nsum 0 1 3\n",
+        exit_code: 0,
+    },
+    Row {
+        name: "an-encrypted-group-is-ended",
+        boxes: 2,
+        text: "scenario 1\ngroup unframed 20000 40000 8 10000 4 4 1 1 1 1 0 0 0 1\ncipher 0102030405060708 11111111111111111111111111111111\nstart 7\nterminate 22\nend\n",
+        transcript: "control 030401160700\n",
+        exit_code: 0,
+    },
+    Row {
+        name: "an-encrypted-group-takes-no-unit",
+        boxes: 2,
+        text: "scenario 1\ngroup unframed 20000 40000 8 10000 4 4 1 1 1 1 0 0 0 1\ncipher 0102030405060708 11111111111111111111111111111111\nstart 0\nunit 1 - aa\n",
+        transcript: "line 5: Order\n",
+        exit_code: 1,
+    },
+    Row {
+        name: "an-index-stands-twice",
+        boxes: 2,
+        text: "scenario 1\ngroup unframed 20000 40000 8 10000 4 4 1 1 1 1 0 0 0 1\nsubgroup 0600000000 -\nbis 1 -\nsubgroup ff01000200 -\nbis 1 -\n",
+        transcript: "line 6: NoSuchBis\n",
+        exit_code: 1,
+    },
+    Row {
+        name: "a-subgroup-without-a-stream",
+        boxes: 2,
+        text: "scenario 1\ngroup unframed 20000 40000 8 10000 4 4 1 1 1 1 0 0 0 1\nsubgroup 0600000000 -\nmeta -\nstart 0\n",
+        transcript: "line 5: Order\n",
+        exit_code: 1,
     },
 ];
