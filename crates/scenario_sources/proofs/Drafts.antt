@@ -1,8 +1,10 @@
 -- A source whose BASE is put together, after a line that says something of it.
 use Rattle.std.proofs.Common.{ℕ, ◌≡◌, ◌||◌, ◌++◌, ◌⊎◌, inl, inr, nat_lt, Bool, true, false, cond, List, [], ◌∷◌, length, Option, None, Some, Result, Ok, Err, refl, sym, ap, subst, is_some, not, unwrap_or, option_map, ◌∙◌}
+use Rattle.std.specs.Option.{ForSome}
+use Rattle.ltv_codec.specs.Layout.{AreLtvs}
 use Rattle.big_info.specs.declared.info.BigInfo.{BigInfo}
 use Rattle.base_grammar.specs.Draft.{Refuses, empty_fault, entry_fault, finish_fault, is_empty_last, last_of, metadata_fault, opened, size_fault, subgroup_fault, with_entry, with_last, with_metadata, with_subgroup}
-use Rattle.base_grammar.specs.Layout.{Endpoint, endpoint, indices, spelling, stands_in}
+use Rattle.base_grammar.specs.Layout.{Endpoint, IsConfig, endpoint, indices, is_lc3, spelling, stands_in}
 use Rattle.base_grammar.specs.declared.fault.DraftFault.{DraftFault}
 use Rattle.base_grammar.specs.declared.fault.DraftFault.TheVariants as of_draft
 use Rattle.base_grammar.specs.declared.subgroup.BaseEntry.{BaseEntry}
@@ -66,6 +68,14 @@ entry_refuses : (ss : List Subgroup) (bis : ℕ) (fault : DraftFault) → is_som
     → ((stands_in (indices ss) bis ≡ true) × (fault ≡ of_draft.IndexTwice)) ⊎ (fault ≡ of_draft.Memory)
 entry_refuses [] bis fault has refuses = absurd cc
 entry_refuses (s ∷ others) bis fault has refuses = stands_refuses (stands_in (indices (s ∷ others)) bis) fault refuses
+
+-- a configuration that is an LTV list is one for each codec
+list_in : (last : Option Subgroup) (config : List ℕ) → AreLtvs config → ForSome last (λ s. IsConfig (is_lc3 s.codec) config)
+list_in None config list = tt
+list_in (Some s) config list = λ is_list. list
+
+pub list_for : (ss : List Subgroup) (config : List ℕ) → AreLtvs config → ForSome (last_of ss) (λ s. IsConfig (is_lc3 s.codec) config)
+list_for ss config list = list_in (last_of ss) config list
 
 -- ---- what would be refused at its end
 
@@ -150,9 +160,9 @@ opens_not version own codec config said new fault stop is keeps refuses base sto
     subst (λ s. Becomes version own (SubgroupStep codec config) (phases.Described new) (Err s)) (sym stops)
     (elim (open_refuses (is_empty_last (last_of said.base.subgroups)) fault refuses) [
       | inl bare ↦
-          let open : is_last_bare own ≡ true = ap (λ ss. is_empty_last (last_of ss)) (sym are) ∙ bare.0 in
+          let lacks : is_last_bare own ≡ true = ap (λ ss. is_empty_last (last_of ss)) (sym are) ∙ bare.0 in
           subst (λ f. Becomes version own (SubgroupStep codec config) (phases.Described new) (Err (stop_of f))) (sym bare.1)
-          (rw (is.0, open) refl, (is.0, kept own said new is.1 keeps base))
+          (rw (is.0, lacks) refl, (is.0, kept own said new is.1 keeps base))
       | inr wanting ↦ subst (λ f. Becomes version own (SubgroupStep codec config) (phases.Described new) (Err (stop_of f))) (sym wanting) tt
     ])
 
@@ -201,9 +211,8 @@ no_subgroup_yet version own bis config said is none =
     (rw (is.0, has) refl, is)
 
 pub adds_early : (version : ℕ) (own : List Step) (bis : ℕ) (config : List ℕ) (said : Described) (has : Bool) → (phase_of own ≡ described) × DescribedIs own said
-    → has ≡ is_some (last_of said.base.subgroups) → not has ≡ true → Becomes version own (Bis bis config) (phases.Described said) (Err (Refused Order))
-adds_early version own bis config said true is same none = absurd (cc none)
-adds_early version own bis config said false is same none = no_subgroup_yet version own bis config said is (sym same)
+    → has ≡ is_some (last_of said.base.subgroups) → has ≡ false → Becomes version own (Bis bis config) (phases.Described said) (Err (Refused Order))
+adds_early version own bis config said has is same none = no_subgroup_yet version own bis config said is (sym same ∙ none)
 
 pub adds_beyond : (version : ℕ) (own : List Step) (bis : ℕ) (config : List ℕ) (said : Described) → (phase_of own ≡ described) × DescribedIs own said
     → is_some (last_of said.base.subgroups) ≡ true → nat_lt said.info.num_bis bis ≡ true → Becomes version own (Bis bis config) (phases.Described said) (Err (Refused NoSuchBis))

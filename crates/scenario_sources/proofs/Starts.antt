@@ -1,5 +1,5 @@
 -- The start of a source: why it is refused, and what it begins with.
-use Rattle.std.proofs.Common.{ℕ, ◌≡◌, ◌≤◌, ◌||◌, nat_lt, not, Bool, true, false, cond, List, [], ◌∷◌, length, Option, None, Some, Result, Ok, Err, refl, sym, ap, subst, is_some, ◌∙◌}
+use Rattle.std.proofs.Common.{ℕ, ◌≡◌, ◌≤◌, ◌||◌, nat_lt, not, Bool, true, false, cond, List, [], ◌∷◌, length, Option, None, Some, Result, Ok, Err, refl, sym, ap, subst, is_some, unwrap_or, ◌∙◌}
 use Rattle.std.specs.Option.{option_or}
 use Rattle.std.proofs.lemmas.Bool.{false≢true}
 use Rattle.std.proofs.lemmas.Option.{none-some}
@@ -27,13 +27,17 @@ use Rattle.scenario_text.specs.declared.step.Step.{Step}
 use Rattle.scenario_text.specs.declared.step.Step.TheVariants.{Start}
 use Rattle.scenario_history.specs.Bases.{base_from, base_of, has_subgroup, is_base_too_long, is_last_bare, subgroups_of}
 use Rattle.scenario_history.specs.Refusals.{checked_info, fault_refusal, group_refusal, horizon_in, refuse_if}
-use Rattle.scenario_history.specs.Source.{GroupLine, Phase, described, is_ahead_in, is_described_at, phase_of}
+use Rattle.scenario_history.specs.Source as history
+use Rattle.scenario_history.specs.Source.{GroupLine, Phase, described, identity_of, is_ahead_in, is_described_at, no_identity, phase_of}
 use Rattle.scenario_history.specs.Steps.{is_unbegun_at, running, stage_of}
 use Rattle.scenario_sources.specs.Bases.{is_long}
 use Rattle.scenario_sources.specs.Faults.{fault_in}
+use Rattle.source_machine.specs.declared.setup.Identity.{Identity}
+use Rattle.scenario_sources.specs.Described.{identity_in, identity_or_none}
 use Rattle.scenario_sources.specs.declared.phase.Described.{Described}
+use Rattle.scenario_sources.specs.declared.phase.Phase.{Phase as Phases}
 use Rattle.scenario_sources.specs.declared.phase.Started.{Started}
-use Rattle.scenario_sources.specs.State.Phases.{Begins, DescribedIs, MayStart, StartedIs, line_of}
+use Rattle.scenario_sources.specs.State.Phases.{Becomes, Begins, DescribedIs, MayStart, StartedIs, line_of}
 use Rattle.scenario_sources.specs.State.Stops.{FinishStops, Finishes, StartStops}
 
 abbrev DescribedSo : List Step → Described → Type 0
@@ -60,7 +64,7 @@ bare_own own said bare is e = e ∙ ap (λ (v : Endpoint). is_empty_last (last_o
 pub start_bare : (version first : ℕ) (own : List Step) (said : Described) (bare : Bool) → DescribedSo own said → bare ≡ is_empty_last (last_of said.base.subgroups)
     → bare ≡ true → fault_in version own (Start first) ≡ Some Order
 start_bare version first own said bare is e t =
-    let open : is_last_bare own ≡ true = sym (bare_own own said bare is.1 e) ∙ t in rw (is.0, open) refl
+    let lacks : is_last_bare own ≡ true = sym (bare_own own said bare is.1 e) ∙ t in rw (is.0, lacks) refl
 
 pub start_bad : (version first horizon : ℕ) (own : List Step) (said : Described) (bare : Bool) (reason : Refusal) → horizon ≡ horizon_in version → DescribedSo own said
     → bare ≡ is_empty_last (last_of said.base.subgroups) → bare ≡ false → Some reason ≡ group_refusal (first_fault horizon said.info)
@@ -185,7 +189,7 @@ finish_none version first own said is may =
 
 pub finish_fails : (version first : ℕ) (own : List Step) (said : Described) (plain : Option Endpoint) (stop : Stop) → DescribedSo own said → MayStart version first own plain
     → FinishStops said.base plain stop → Begins first own (Err stop)
-finish_fails version first own said None stop is may fails = absurd (none-some fails.0 (sym (finish_none version first own said is may) ∙ fails.1.0))
+finish_fails version first own said None stop is may fails = absurd (none-some fails.0 (sym (finish_none version first own said is may) ∙ fails.1))
 finish_fails version first own said (Some plain) stop is may fails = absurd fails
 
 refused_for : (fault : GroupFault) → (fault ≡ of_group.Encrypted → ⊥) → fault_refusal fault ≡ Some (BadGroup fault)
@@ -258,3 +262,12 @@ begins version first ahead own said plain base source a stage is may finishes se
       cipher = c ∙ is.1.cipher;
       calls = let P : List Call → Type 0 = λ calls. StandsFor calls source in subst P (sym is.1.calls) stands;
     }
+
+pub begin_stops : (version first : ℕ) (own : List Step) (phase : Phases) (stop : Stop) → Begins first own (Err stop) → Becomes version own (Start first) phase (Err stop)
+begin_stops version first own phase (Refused reason) b = absurd b
+begin_stops version first own phase OutletFault b = b
+begin_stops version first own phase Memory b = tt
+
+pub identity_is : (own : List Step) (said : Described) (identity : Identity) → DescribedIs own said → identity_in identity ≡ identity_or_none said.identity
+    → identity_in identity ≡ identity_of own
+identity_is own said identity is e = e ∙ ap (λ (o : Option history.Identity). unwrap_or o no_identity) is.ident

@@ -51,7 +51,8 @@ pub(crate) fn add_stream(phase: &mut Phase, bis: Bis, config: &[u8]) -> Result<(
     if !has_subgroup(&described.base) {
         return Err(Stop::Refused(Refusal::Order));
     }
-    if bis.get() > described.info.num_bis {
+    let is_beyond = bis.get() > described.info.num_bis;
+    if is_beyond {
         return Err(Stop::Refused(Refusal::NoSuchBis));
     }
     match described.base.bis(bis, config) {

@@ -45,8 +45,9 @@ pub(crate) fn check_start(alloc: Global, phase: &Phase, limits: Limits) -> Resul
     if is_last_bare(&described.base) {
         return Err(Stop::Refused(Refusal::Order));
     }
-    if let Some(reason) = group_fault(&described.info, limits) {
-        return Err(Stop::Refused(reason));
+    match group_fault(&described.info, limits) {
+        Some(reason) => return Err(Stop::Refused(reason)),
+        None => {}
     }
     if is_too_long(&described.base) {
         return Err(Stop::Refused(Refusal::BaseTooLong));

@@ -1,4 +1,5 @@
 use Rattle.std.proofs.Common.{refl}
+use Rattle.ltv_codec.proofs.Citable.{are_read}
 use Rattle.scenario_sources.proofs.Drafts.{gives_metadata, gives_no_metadata}
 use Rattle.scenario_sources.proofs.basing.give_metadata.Goals as goal
 
@@ -11,3 +12,6 @@ pub returns-in-Err : goal.returns-in-Err
 returns-in-Err c version own is =
     gives_no_metadata version own c.args.metadata.now c.in-Described.described _ c.in-Err.fault c.draft_stop.result (rw c.in-Described.is at is)
     (record { info = refl; origin = refl; delay = refl; identity = refl }) c.in-Err.ensures.refuses c.in-Err.ensures.err c.draft_stop.ensures
+
+pub metadata-requires : goal.metadata-requires
+metadata-requires c = are_read c.args.metadata.now c.type_inv.metadata c.requires

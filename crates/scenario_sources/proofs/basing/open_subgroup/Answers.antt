@@ -1,4 +1,5 @@
 use Rattle.std.proofs.Common.{refl}
+use Rattle.ltv_codec.proofs.Citable.{are_read}
 use Rattle.scenario_sources.proofs.Drafts.{opens, opens_not}
 use Rattle.scenario_sources.proofs.basing.open_subgroup.Goals as goal
 
@@ -11,3 +12,6 @@ pub returns-in-Err : goal.returns-in-Err
 returns-in-Err c version own is =
     opens_not version own c.args.codec c.args.config.now c.in-Described.described _ c.in-Err.fault c.draft_stop.result (rw c.in-Described.is at is)
     (record { info = refl; origin = refl; delay = refl; identity = refl }) c.in-Err.ensures.refuses c.in-Err.ensures.err c.draft_stop.ensures
+
+pub subgroup-requires : goal.subgroup-requires
+subgroup-requires c is_list = are_read c.args.config.now c.type_inv.config c.requires
