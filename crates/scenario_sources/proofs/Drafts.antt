@@ -1,5 +1,6 @@
 -- A source whose BASE is put together, after a line that says something of it.
-use Rattle.std.proofs.Common.{ℕ, ◌≡◌, ◌||◌, ◌++◌, ◌⊎◌, inl, inr, nat_lt, Bool, true, false, cond, List, [], ◌∷◌, length, Option, None, Some, Result, Ok, Err, refl, sym, ap, subst, is_some, not, unwrap_or, option_map, ◌∙◌}
+use Rattle.std.proofs.Common.{ℕ, ◌≡◌, ◌≤◌, ◌<◌, ◌||◌, ◌++◌, ◌⊎◌, inl, inr, nat_lt, Bool, true, false, cond, List, [], ◌∷◌, length, Option, None, Some, Result, Ok, Err, refl, sym, ap, subst, is_some, not, unwrap_or, option_map, ◌∙◌, arith}
+use Rattle.std.proofs.lemmas.Bool.{le-ltb, lt-ltb}
 use Rattle.std.specs.Option.{ForSome}
 use Rattle.ltv_codec.specs.Layout.{AreLtvs}
 use Rattle.big_info.specs.declared.info.BigInfo.{BigInfo}
@@ -70,12 +71,8 @@ entry_refuses [] bis fault has refuses = absurd cc
 entry_refuses (s ∷ others) bis fault has refuses = stands_refuses (stands_in (indices (s ∷ others)) bis) fault refuses
 
 -- a configuration that is an LTV list is one for each codec
-list_in : (last : Option Subgroup) (config : List ℕ) → AreLtvs config → ForSome last (λ s. IsConfig (is_lc3 s.codec) config)
-list_in None config list = tt
-list_in (Some s) config list = λ is_list. list
-
 pub list_for : (ss : List Subgroup) (config : List ℕ) → AreLtvs config → ForSome (last_of ss) (λ s. IsConfig (is_lc3 s.codec) config)
-list_for ss config list = list_in (last_of ss) config list
+list_for ss config list = λ s is is_list. list
 
 -- ---- what would be refused at its end
 
@@ -214,17 +211,23 @@ pub adds_early : (version : ℕ) (own : List Step) (bis : ℕ) (config : List �
     → has ≡ is_some (last_of said.base.subgroups) → has ≡ false → Becomes version own (Bis bis config) (phases.Described said) (Err (Refused Order))
 adds_early version own bis config said has is same none = no_subgroup_yet version own bis config said is (sym same ∙ none)
 
-pub adds_beyond : (version : ℕ) (own : List Step) (bis : ℕ) (config : List ℕ) (said : Described) → (phase_of own ≡ described) × DescribedIs own said
-    → is_some (last_of said.base.subgroups) ≡ true → nat_lt said.info.num_bis bis ≡ true → Becomes version own (Bis bis config) (phases.Described said) (Err (Refused NoSuchBis))
-adds_beyond version own bis config said is some beyond =
+pub some_then : (has some : Bool) → has ≡ some → has ≡ true → some ≡ true
+some_then has some same is = sym same ∙ is
+
+pub adds_beyond : (version : ℕ) (own : List Step) (bis number : ℕ) (config : List ℕ) (said : Described) → (phase_of own ≡ described) × DescribedIs own said
+    → is_some (last_of said.base.subgroups) ≡ true → number ≡ bis → said.info.num_bis < number
+    → Becomes version own (Bis bis config) (phases.Described said) (Err (Refused NoSuchBis))
+adds_beyond version own bis number config said is some same above =
+    let beyond : nat_lt said.info.num_bis bis ≡ true = lt-ltb said.info.num_bis bis (omega (arith, same, above)) in
     let has : has_subgroup own ≡ true = ap (λ ss. is_some (last_of ss)) (sym (subgroups_are own said is.1)) ∙ some in
     (rw (is.0, has, is.1.group, beyond) refl, is)
 
-pub adds : (version : ℕ) (own : List Step) (bis : ℕ) (config : List ℕ) (said new : Described) → (phase_of own ≡ described) × DescribedIs own said → Keeps said new
-    → is_some (last_of said.base.subgroups) ≡ true → nat_lt said.info.num_bis bis ≡ false → Refuses (entry_fault said.base.subgroups bis) (Ok tt)
+pub adds : (version : ℕ) (own : List Step) (bis number : ℕ) (config : List ℕ) (said new : Described) → (phase_of own ≡ described) × DescribedIs own said → Keeps said new
+    → is_some (last_of said.base.subgroups) ≡ true → number ≡ bis → number ≤ said.info.num_bis → Refuses (entry_fault said.base.subgroups bis) (Ok tt)
     → (let e : BaseEntry = record { bis = bis; config = config } in new.base ≡ with_entry e said.base)
     → Becomes version own (Bis bis config) (phases.Described new) (Ok tt)
-adds version own bis config said new is keeps some within refuses base =
+adds version own bis number config said new is keeps some same below refuses base =
+    let within : nat_lt said.info.num_bis bis ≡ false = le-ltb said.info.num_bis bis (omega (arith, same, below)) in
     let e : BaseEntry = record { bis = bis; config = config } in
     let are = subgroups_are own said is.1 in
     let has : has_subgroup own ≡ true = ap (λ ss. is_some (last_of ss)) (sym are) ∙ some in
@@ -243,10 +246,11 @@ adds version own bis config said new is keeps some within refuses base =
       ),
     )
 
-pub adds_not : (version : ℕ) (own : List Step) (bis : ℕ) (config : List ℕ) (said new : Described) (fault : DraftFault) (stop : Stop) → (phase_of own ≡ described) × DescribedIs own said
-    → Keeps said new → is_some (last_of said.base.subgroups) ≡ true → nat_lt said.info.num_bis bis ≡ false → Refuses (entry_fault said.base.subgroups bis) (Err fault)
+pub adds_not : (version : ℕ) (own : List Step) (bis number : ℕ) (config : List ℕ) (said new : Described) (fault : DraftFault) (stop : Stop) → (phase_of own ≡ described) × DescribedIs own said
+    → Keeps said new → is_some (last_of said.base.subgroups) ≡ true → number ≡ bis → number ≤ said.info.num_bis → Refuses (entry_fault said.base.subgroups bis) (Err fault)
     → new.base ≡ said.base → stop ≡ stop_of fault → Becomes version own (Bis bis config) (phases.Described new) (Err stop)
-adds_not version own bis config said new fault stop is keeps some within refuses base stops =
+adds_not version own bis number config said new fault stop is keeps some same below refuses base stops =
+    let within : nat_lt said.info.num_bis bis ≡ false = le-ltb said.info.num_bis bis (omega (arith, same, below)) in
     let are = subgroups_are own said is.1 in
     let has : has_subgroup own ≡ true = ap (λ ss. is_some (last_of ss)) (sym are) ∙ some in
     subst (λ s. Becomes version own (Bis bis config) (phases.Described new) (Err s)) (sym stops)

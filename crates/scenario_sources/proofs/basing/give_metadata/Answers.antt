@@ -1,4 +1,4 @@
-use Rattle.std.proofs.Common.{refl}
+use Rattle.std.proofs.Common.{refl, arith}
 use Rattle.ltv_codec.proofs.Citable.{are_read}
 use Rattle.scenario_sources.proofs.Drafts.{gives_metadata, gives_no_metadata}
 use Rattle.scenario_sources.proofs.basing.give_metadata.Goals as goal
@@ -14,4 +14,4 @@ returns-in-Err c version own is =
     (record { info = refl; origin = refl; delay = refl; identity = refl }) c.in-Err.ensures.refuses c.in-Err.ensures.err c.draft_stop.ensures
 
 pub metadata-requires : goal.metadata-requires
-metadata-requires c = are_read c.args.metadata.now c.type_inv.metadata c.requires
+metadata-requires c = are_read c.args.metadata.now (λ i. omega (arith, c.type_inv.metadata i)) c.requires

@@ -1,4 +1,4 @@
-use Rattle.std.proofs.Common.{refl}
+use Rattle.std.proofs.Common.{refl, arith}
 use Rattle.ltv_codec.proofs.Citable.{are_read}
 use Rattle.scenario_sources.proofs.Drafts.{opens, opens_not}
 use Rattle.scenario_sources.proofs.basing.open_subgroup.Goals as goal
@@ -14,4 +14,4 @@ returns-in-Err c version own is =
     (record { info = refl; origin = refl; delay = refl; identity = refl }) c.in-Err.ensures.refuses c.in-Err.ensures.err c.draft_stop.ensures
 
 pub subgroup-requires : goal.subgroup-requires
-subgroup-requires c is_list = are_read c.args.config.now c.type_inv.config c.requires
+subgroup-requires c is_list = are_read c.args.config.now (λ i. omega (arith, c.type_inv.config i)) c.requires
