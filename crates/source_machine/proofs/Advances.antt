@@ -1,5 +1,5 @@
 -- The streams of a source as events are laid.
-use Rattle.std.proofs.Common.{ℕ, ◌≡◌, ◌<◌, ◌≤◌, ◌+◌, ◌-◌, ◌*◌, ◌^◌, List, [], ◌∷◌, length, get_or, arith, ◌∙◌, ap, sym, refl, subst, inl, inr}
+use Rattle.std.proofs.Common.{ℕ, ◌≡◌, ◌<◌, ◌≤◌, ◌+◌, ◌-◌, ◌*◌, ◌^◌, List, [], ◌∷◌, length, get_or, arith, ◌∙◌, ap, sym, subst, inl, inr}
 use Rattle.std.proofs.lemmas.Bool.{cases_eq, cases_lt, eq-eqb, ne_eqb}
 use Rattle.std.proofs.lemmas.Nat.{mul-le}
 use Rattle.std.proofs.lemmas.List.Elements.{AllZip-get_or, length_all_zip}
@@ -9,7 +9,7 @@ use Rattle.big_info.specs.Time.{iso_us_of}
 use Rattle.isoal_unframed.specs.Calls.{lays}
 use Rattle.source_machine.specs.Calls.{Setup, Call, event, events, framed_calls, framed_lays, laid_before, laid_with, lay_anchor, next_of, stream_calls}
 use Rattle.source_machine.specs.Setups.{IsChecked}
-use Rattle.source_machine.specs.State.Sources.{Source, Stream, StreamIs, StreamStands, StreamsAre, info_in, kept_of}
+use Rattle.source_machine.specs.State.Sources.{Source, Stream, StreamStands, StreamsAre, info_in, kept_of}
 use Rattle.source_machine.specs.State.Streams.{Grows, IsLaid, IsReady, IsSource, Lays, LaysNext}
 use Rattle.source_machine.specs.declared.laying.Laying.{Laying}
 

@@ -1,17 +1,17 @@
 -- Why a source refuses a unit, by what its stream's sender says.
 use Rattle.std.proofs.Common.{ℕ, ◌≡◌, ◌<◌, ◌≤◌, ◌-◌, Bool, true, false, not, Option, Some, None, List, length, get_or, arith, ◌∙◌, ap, sym, refl, subst, inl, inr}
 use Rattle.std.proofs.lemmas.Bool.{cases_lt, eq-eqb, ne_eqb, le-leb, lt-leb, le-ltb, lt-ltb}
-use Rattle.std.specs.Prelude.{◌&&◌, ◌||◌, is_none, nat_le, if◌then◌else◌}
+use Rattle.std.specs.Prelude.{◌&&◌, ◌||◌, nat_le, if◌then◌else◌}
 use Rattle.big_info.specs.declared.info.BigInfo.{BigInfo}
 use Rattle.sync_reference.specs.Reference.{anchor_of}
 use Rattle.big_info.specs.Time.{iso_us_of}
 use Rattle.isoal_base.specs.Air.{Air}
 use Rattle.isoal_base.specs.declared.laid.PutFault.{PutFault}
 use Rattle.isoal_base.specs.declared.laid.PutFault.TheVariants.{Backlog as Full, Memory, TimeOrder, TooLong}
-use Rattle.isoal_framed.specs.State.Senders.{Above, InOrder, NotPast, Sender as TimedSender}
-use Rattle.source_machine.specs.Airs.{AreAirs, airs_of, waiting_of}
+use Rattle.isoal_framed.specs.State.Senders.{Above, NotPast}
+use Rattle.source_machine.specs.Airs.{AreAirs, waiting_of}
 use Rattle.source_machine.specs.Calls.{Setup, Call, framed_calls, last_time_of, next_anchor_of, stream_calls}
-use Rattle.source_machine.specs.Faults.{give_fault, has_its_time, is_above, is_in_time, of_sender, refused_unit}
+use Rattle.source_machine.specs.Faults.{give_fault, has_its_time, is_above, of_sender, refused_unit}
 use Rattle.source_machine.specs.Setups.{IsChecked}
 use Rattle.source_machine.specs.State.Senders.{HasTime, PutStops, SenderStands, info_of, waiting_in}
 use Rattle.source_machine.specs.State.Sources.{Source, StandsFor, Stream, StreamIs}

@@ -6,11 +6,10 @@ use Rattle.big_info.specs.declared.info.BigInfo.{BigInfo}
 use Rattle.std.proofs.lemmas.List.Elements.{length_all_zip}
 use Rattle.std.specs.Prelude.{unwrap_or}
 use Rattle.std.specs.List.{AllZip, flat_map, range_with_len, slice_get}
-use Rattle.big_info.specs.Schedule.{group_count, horizon_of}
-use Rattle.isoal_base.specs.Air.{Air}
-use Rattle.isoal_unframed.specs.Calls.{Call as PlainCall, accept}
-use Rattle.isoal_framed.specs.Calls.{Call as TimedCall, accept as accept_timed}
-use Rattle.source_machine.specs.Airs.{AreAirs, Sends, airs_of, air_of, stale_in, stale_of, stale_on}
+use Rattle.big_info.specs.Schedule.{horizon_of}
+use Rattle.isoal_unframed.specs.Calls.{accept}
+use Rattle.isoal_framed.specs.Calls.{accept as accept_timed}
+use Rattle.source_machine.specs.Airs.{Sends, airs_of, stale_in, stale_of, stale_on}
 use Rattle.source_machine.specs.Calls.{Setup, Call, give, event, framed_calls, laid_before, laid_with, lay_anchor, next_of, stream_calls}
 use Rattle.source_machine.specs.Faults.{event_fault}
 use Rattle.source_machine.specs.Setups.{IsChecked}

@@ -73,11 +73,7 @@ impl Sender {
 }
 
 /// Gives a unit to the sender of an unframed stream, where it has no time of its own.
-fn put_unframed(
-    out: &mut UnframedOut,
-    time: Option<u64>,
-    octets: &[u8],
-) -> Result<(), PutFault>
+fn put_unframed(out: &mut UnframedOut, time: Option<u64>, octets: &[u8]) -> Result<(), PutFault>
     ensures ok { OnOk result ((time ≡ None) × (length out.old.waiting < 16) × (out.new.info ≡ out.old.info)) }
     ensures stands { OnOk result ((info : BigInfo) (calls : List PlainCall) → PlainStands info calls out.old → PlainStands info (accept octets.now ∷ calls) out.new) }
     ensures err { OnErr result (out.new ≡ out.old) }

@@ -136,11 +136,7 @@ pub(crate) fn lay_all(
 }
 
 /// Lays the next events of each stream.
-fn lay_each(
-    streams: &mut [Stream],
-    laying: Laying,
-    stale: &mut StaleList,
-) -> Result<(), Memory>
+fn lay_each(streams: &mut [Stream], laying: Laying, stale: &mut StaleList) -> Result<(), Memory>
     ensures ok { OnOk result (AllZip (Lays laying.anchor laying.iso_us laying.count) streams.old streams.new) }
     ensures told { OnOk result (AllTell laying.anchor laying.iso_us laying.count streams.old (length streams.old) stale.old stale.new) }
     ensures err { OnErr result (AllZip Grows streams.old streams.new) }

@@ -1,6 +1,6 @@
 -- The sender of a stream of either framing, and how it stands for its calls (Core 5.2, volume 6 part G, section 2). Of two
 -- lists of calls the one of its framing counts.
-use Rattle.std.specs.Prelude.{ℕ, ◌≡◌, ◌≤◌, ◌<◌, List, [], ◌∷◌, length, Option, None, Some}
+use Rattle.std.specs.Prelude.{ℕ, ◌≡◌, ◌≤◌, ◌<◌, List, length, Option, None, Some}
 use Rattle.big_info.specs.declared.info.BigInfo.{BigInfo}
 use Rattle.isoal_base.specs.declared.laid.PutFault.{PutFault}
 use Rattle.isoal_base.specs.declared.laid.PutFault.TheVariants.{TooLong, TimeOrder, Backlog, Memory}

@@ -6,7 +6,6 @@ use Rattle.big_info.specs.Schedule.{horizon_of}
 use Rattle.big_info.specs.Time.{iso_us_of}
 use Rattle.sync_reference.specs.Reference.{anchor_of}
 use Rattle.isoal_base.specs.Air.{Air}
-use Rattle.isoal_base.specs.declared.laid.EventLaid.{EventLaid}
 use Rattle.isoal_unframed.specs.Calls.{Call as PlainCall, accept, lay, lays}
 use Rattle.isoal_framed.specs.Calls.{Call as TimedCall, accept as accept_timed, lay as lay_at}
 use Rattle.radio_schedule.specs.PayloadNumber.{payload_number}

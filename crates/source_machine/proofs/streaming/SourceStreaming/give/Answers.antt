@@ -1,4 +1,4 @@
-use Rattle.std.proofs.Common.{◌≡◌, ◌-◌, get_or, arith, subst, sym}
+use Rattle.std.proofs.Common.{◌≡◌, ◌-◌, get_or, arith, subst}
 use Rattle.source_machine.specs.Faults.{of_sender}
 use Rattle.source_machine.specs.State.Senders.{HasTime, PutStops}
 use Rattle.source_machine.proofs.AirLaws.{group_is_checked}
