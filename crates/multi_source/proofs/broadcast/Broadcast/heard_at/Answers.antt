@@ -12,4 +12,4 @@ returns-clause-ok c = rw (← c.self.view_is) (if_ok c.heard_at.result c.heard_a
 
 pub returns-clause-checked : goal.returns-clause-checked
 returns-clause-checked c =
-    rw (← c.self.view_is) (is_checked c.group.result.now c.self.inside.source.setup.info (sym c.group.ensures))
+    rw (← c.self.view_is) (is_checked c.group-group.result.now c.self.inside.source.setup.info (sym c.group-group.ensures))
