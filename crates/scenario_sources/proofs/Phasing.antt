@@ -1,26 +1,26 @@
 -- One source after a step that means it.
-use Rattle.std.proofs.Common.{◌≡◌, ◌-◌, ℕ, ◌==◌, Bool, true, false, List, [], ◌∷◌, refl, sym, ◌∙◌, ap, subst, is_some, unwrap_or, option_map, eq-eqb, Option, None, Some, Result, Ok, Err}
+use Rattle.std.proofs.Common.{arith, if◌then◌else◌, ◌≡◌, ◌-◌, ℕ, ◌==◌, Bool, true, false, List, [], ◌∷◌, refl, sym, ◌∙◌, ap, subst, is_some, unwrap_or, option_map, eq-eqb, Option, None, Some, Result, Ok, Err}
 use Rattle.std.specs.Option.{option_or}
 use Rattle.big_info.specs.declared.fault.GroupFault.{GroupFault}
 use Rattle.big_info.specs.declared.info.BigInfo.{BigInfo}
 use Rattle.big_info.specs.Rows.{first_fault}
 use Rattle.source_machine.specs.Airs.{airs_of, pdu_of, stale_of}
-use Rattle.source_machine.specs.Calls.{Call, Setup, event as perform, give, next_of}
+use Rattle.source_machine.specs.Calls.{Call, Setup, event as perform, events, give, last_of, next_of}
 use Rattle.source_machine.specs.declared.sent.Stale.{Stale}
 use Rattle.source_machine.specs.declared.fault.ConfigureFault.{ConfigureFault}
 use Rattle.source_machine.specs.declared.fault.ConfigureFault.TheVariants.{BadGroup as Misfit, Memory as NoMemory}
 use Rattle.source_machine.specs.declared.fault.GiveFault.{GiveFault}
-use Rattle.source_machine.specs.Faults.{ConfigureFails, air_fault, give_fault, refused_unit}
+use Rattle.source_machine.specs.Faults.{ConfigureFails, air_fault, event_fault, give_fault, refused_unit}
 use Rattle.multi_source.specs.State.Broadcasts.{Broadcasting, StandsFor}
 use Rattle.transcript_text.specs.declared.refusal.Refusal.{Refusal}
 use Rattle.transcript_text.specs.declared.refusal.Refusal.TheVariants.{BadGroup}
 use Rattle.transcript_text.specs.declared.stop.Stop.{Stop}
 use Rattle.transcript_text.specs.declared.stop.Stop.TheVariants.{Refused, OutletFault, Memory}
 use Rattle.scenario_text.specs.declared.step.Step.{Step}
-use Rattle.scenario_text.specs.declared.step.Step.TheVariants.{Ident, Start, Unit as UnitStep}
-use Rattle.scenario_history.specs.Source.{GroupLine, event_back, pdu_in, absent, described, sending, phase_of, ident_of, group_of, is_ahead_in, setup_of, setup_from, source_calls, stale_in}
-use Rattle.scenario_history.specs.Steps.{is_unbegun_at, running, stage_of}
-use Rattle.scenario_history.specs.Refusals.{air_refusal, give_refusal, horizon_in, no_place}
+use Rattle.scenario_text.specs.declared.step.Step.TheVariants.{Event as EventStep, Ident, Start, Unit as UnitStep}
+use Rattle.scenario_history.specs.Source.{GroupLine, event_back, pdu_in, absent, described, sending, phase_of, ident_of, group_of, is_ahead_in, open_event, setup_of, setup_from, source_calls, stale_in}
+use Rattle.scenario_history.specs.Steps.{is_over, is_unbegun_at, running, stage_of}
+use Rattle.scenario_history.specs.Refusals.{air_refusal, counter_ends, give_refusal, horizon_in, no_place}
 use Rattle.source_machine.specs.declared.setup.Identity.{Identity}
 use Rattle.scenario_sources.specs.declared.phase.Described.{Described}
 use Rattle.scenario_sources.specs.declared.phase.Phase.TheVariants as phases
@@ -152,3 +152,23 @@ gives version own old new bis time octets (Err Memory) is identity g = tt
 pub left_out : (own : List Step) (setup : Setup) (stale : List Stale) → setup ≡ setup_of own
     → stale ≡ stale_of setup (source_calls own) (airs_of setup (perform ∷ source_calls own)) → stale ≡ stale_in airs_of own
 left_out own setup stale same is = is ∙ ap (λ s. stale_of s (source_calls own) (airs_of s (perform ∷ source_calls own))) same
+
+last_open : (setup : Setup) (calls : List Call) → last_of setup calls ≡ (if events calls == 0 then None else Some (next_of setup calls - 1 - 0))
+last_open setup calls =
+    let same : next_of setup calls - 1 ≡ next_of setup calls - 1 - 0 = omega arith in
+    ap (λ (n : ℕ). if events calls == 0 then None else Some n) same
+
+-- a source that performed its next event, by what it answered
+pub record Performed (version : ℕ) (own : List Step) (new : Started) (closed : Option ℕ) : Type 0 where
+  pub passes : fault_in version own EventStep ≡ None
+  pub started : StartedIs (EventStep ∷ own) new
+  pub closes : is_over own ≡ false → closed ≡ open_event own
+
+pub performs : (version : ℕ) (own : List Step) (old new : Started) (closed : Option ℕ) → (phase_of own ≡ sending) × StartedIs own old → new.identity ≡ old.identity
+    → new.source.source.setup ≡ old.source.source.setup → (event_fault old.source.source.setup (source_calls own) ≡ None) × StandsFor (perform ∷ source_calls own) new.source
+    → closed ≡ last_of old.source.source.setup (source_calls own) → Performed version own new closed
+performs version own old new closed is identity setup stands last = record {
+  passes = rw is.0 (ap (λ (s : Setup). counter_ends (event_fault s (source_calls own))) (sym is.1.setup) ∙ ap counter_ends stands.0);
+  started = record { ident = ap (option_map identity_in) identity ∙ is.1.ident; setup = setup ∙ is.1.setup; under_way = is.1.under_way; calls = stands.1 };
+  closes = λ going. last ∙ ap (λ (s : Setup). last_of s (source_calls own)) is.1.setup ∙ last_open (setup_of own) (source_calls own) ∙ rw (is.0, going) refl;
+}
