@@ -1,0 +1,5 @@
+mod Changes
+mod Serving
+mod Slots
+mod Spelled
+mod Standing

@@ -1,0 +1,80 @@
+//! Looking for a slot, and for an unused Source_ID.
+ghost use Rattle.std.specs.Prelude.{◌≡◌, ◌≤◌, ◌<◌, ◌+◌, length, IfSome};
+ghost use Rattle.std.specs.Str.{bytes_eq};
+ghost use Rattle.delegator_states.specs.Writes.{slot_where, unused_from};
+ghost use Rattle.scan_delegator.specs.State.Slots.{meets};
+
+use crate::slot::Slot;
+
+/// What a slot is looked for by.
+#[derive(Clone, Copy)]
+pub(crate) enum Sought {
+    /// It is empty.
+    Empty,
+    SourceId(u8),
+    /// Its source has this identity.
+    Identity {
+        address_type: u8,
+        sid: u8,
+        broadcast_id: [u8; 3],
+    },
+}
+
+/// The first slot that is what is sought.
+pub(crate) fn find_slot(slots: &[Option<Slot>], sought: &Sought) -> Option<u8>
+    requires { length slots.now ≤ 8 }
+    ensures first { result ≡ slot_where (meets sought.now) 0 slots.now }
+    ensures within { IfSome result (λ slot. slot < length slots.now) }
+{
+    'slots: for place in 0..slots.len() {
+        if is_sought(&slots[place], sought) {
+            return Some(place as u8);
+        }
+    }
+    None
+}
+
+/// Whether the slot is what is sought.
+fn is_sought(slot: &Option<Slot>, sought: &Sought) -> bool
+    ensures { result ≡ meets sought.now slot.now }
+{
+    let Some(filled) = slot else {
+        return matches!(sought, Sought::Empty);
+    };
+    let source = filled.source();
+    match sought {
+        Sought::Empty => false,
+        Sought::SourceId(source_id) => source.source_id == *source_id,
+        Sought::Identity {
+            address_type,
+            sid,
+            broadcast_id,
+        } => {
+            source.address_type == *address_type
+                && source.sid == *sid
+                && are_same(&source.broadcast_id, broadcast_id)
+        }
+    }
+}
+
+/// Whether the Broadcast_IDs are the same.
+fn are_same(id: &[u8; 3], other: &[u8; 3]) -> bool
+    ensures { result ≡ bytes_eq id.now other.now }
+{
+    id.as_slice() == other.as_slice()
+}
+
+/// The least Source_ID that no slot has.
+#[tactic(auto, unfolding(delegator_states::specs::Writes::unused_from))]
+pub(crate) fn unused_id(slots: &[Option<Slot>]) -> u8
+    requires { length slots.now ≤ 8 }
+    ensures { result ≡ unused_from (length slots.now) 0 slots.now }
+{
+    let count = slots.len() as u8;
+    'ids: for source_id in 0..count {
+        if find_slot(slots, &Sought::SourceId(source_id)).is_none() {
+            return source_id;
+        }
+    }
+    count
+}
