@@ -1,6 +1,6 @@
 -- What a train is answered that is heard, and what it does (Basic Audio Profile 1.0, sections 3.7.2 and 6.5.4). The order of
 -- the answers, and which streams are taken first, are this project's own.
-use Rattle.std.specs.Prelude.{ℕ, ◌+◌, ◌-◌, ◌*◌, ◌/◌, ◌^◌, ◌==◌, ◌&&◌, not, Bool, true, false, List, [], ◌∷◌, length, map, take, sum, Option, Some, None, is_some, is_none, nat_le, Result, Ok, Err, if◌then◌else◌}
+use Rattle.std.specs.Prelude.{ℕ, ◌+◌, ◌-◌, ◌*◌, ◌/◌, ◌^◌, ◌==◌, ◌&&◌, not, Bool, true, false, List, [], ◌∷◌, length, map, take, bit_or, Option, Some, None, is_some, is_none, nat_le, Result, Ok, Err, if◌then◌else◌}
 use Rattle.std.specs.Int.{bit_at}
 use Rattle.std.specs.List.{filter, range_with_len}
 use Rattle.base_grammar.specs.declared.fault.BaseFault.{BaseFault}
@@ -66,9 +66,14 @@ is_candidate capability base num_bis bits subgroup bis =
 abbrev pub candidates : Capability → Endpoint → ℕ → ℕ → Subgroup → List ℕ
 candidates capability base num_bis bits subgroup = filter (is_candidate capability base num_bis bits subgroup) (range_with_len 1 31)
 
--- a set of streams: bit n stands for the index n + 1
-abbrev pub set_of : List ℕ → ℕ
-set_of streams = sum (map (λ bis. 2 ^ (bis - 1)) streams)
+-- a set with these streams too: bit n stands for the index n + 1
+abbrev pub set_with : ℕ → List ℕ → ℕ
+set_with set [] = set
+set_with set (bis ∷ streams) = set_with (bit_or set (2 ^ (bis - 1))) streams
+
+abbrev pub sets_with : ℕ → List (List ℕ) → ℕ
+sets_with set [] = set
+sets_with set (streams ∷ others) = sets_with (set_with set streams) others
 
 -- the candidates of the wanted subgroups in order, of each subgroup those that are among the first so many
 abbrev pub first_candidates : Capability → Endpoint → ℕ → ℕ → List Wish → List Subgroup → List (List ℕ)
@@ -108,8 +113,8 @@ joining_of train base info which = record {
 
 abbrev pub by_streams : ℕ → Train → Endpoint → BigInfo → Bool → List (List ℕ) → Brought
 by_streams slot train base info encrypted streams =
-    let which = sum (map set_of streams) in
-    if which == 0 then heard slot answers.NoneTaken (Some encrypted) else taken slot (map set_of streams) encrypted (joining_of train base info which)
+    let which = sets_with 0 streams in
+    if which == 0 then heard slot answers.NoneTaken (Some encrypted) else taken slot (map (set_with 0) streams) encrypted (joining_of train base info which)
 
 abbrev pub by_group : Setup → Capability → List Wish → ℕ → Train → Endpoint → BigInfo → Bool → Option GroupFault → Brought
 by_group setup capability wishes slot train base info encrypted (Some fault) = heard slot (answers.BadGroup fault) (Some encrypted)

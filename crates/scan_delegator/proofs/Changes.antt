@@ -1,8 +1,9 @@
 -- Which values a step changes, and so its notices.
 use Rattle.std.proofs.Common.{ℕ, zero, suc, ◌≡◌, ◌≢◌, ◌+◌, ◌<◌, Bool, true, false, List, [], ◌∷◌, ◌++◌, length, get_or, set, Option, Some, None, refl, sym, ap, ◌∙◌, subst, arith}
 use Rattle.std.specs.Prelude.{◌==◌, ◌&&◌, option_map, slice_set, if◌then◌else◌}
+use Rattle.std.specs.List.{flat_map, range_with_len}
 use Rattle.std.proofs.lemmas.Bool.{eqb-true, ne_eqb}
-use Rattle.std.proofs.lemmas.List.{append-nil, get_or-set_same, get_or-set_other}
+use Rattle.std.proofs.lemmas.List.{append-nil, get_or-set_same, get_or-set_other, get_or_default}
 use Rattle.delegator_states.specs.declared.notice.Notice.{Notice}
 use Rattle.delegator_states.specs.Notices.{change, changes}
 use Rattle.delegator_states.specs.Sights.{Entry, Place, Sight, idle, on_train, on_group, slot_of, is_slot, is_on, is_on_group, entry_at}
@@ -112,3 +113,52 @@ filled_value slot sight entry None within =
 filled_value slot sight entry (Some now) within =
     let after : Sight = placed (Some now) None None sight in
     ap (λ e. value (option_map (received (status_of after.place after.encrypted after.taken slot)) e)) (get_or-set_same sight.slots slot entry None within)
+
+-- ---- the notice of a change of the place
+
+slots_stay : (given : Option Place) (sight : Sight) → (placed given None None sight).slots ≡ sight.slots
+slots_stay None sight = refl
+slots_stay (Some now) sight = refl
+
+pub note_done : (n slot place : ℕ) (sight : Sight) (waiting : List Notice) (moves : Move) (slot_now : Option Entry) (status : Status) (before now : List ℕ)
+    → slot_of sight.place ≡ Some slot → slot < n → slot < length sight.slots → place ≡ slot
+    → slot_now ≡ get_or sight.slots place slot_now → before ≡ value_at sight slot
+    → status ≡ status_of (placed (place_by sight.place moves) None None sight).place (placed (place_by sight.place moves) None None sight).encrypted (placed (place_by sight.place moves) None None sight).taken slot
+    → now ≡ value (option_map (received status) slot_now)
+    → waiting ++ change slot before now ≡ waiting ++ changes n sight (placed (place_by sight.place moves) None None sight)
+note_done n slot place sight waiting moves slot_now status before now is within there at held was stands will =
+    let after : Sight = placed (place_by sight.place moves) None None sight in
+    let entry : slot_now ≡ entry_at after.slots slot =
+    held ∙ get_or_default sight.slots place slot_now None (subst (λ k. k < length sight.slots) (sym at) there)
+    ∙ ap (λ k. get_or sight.slots k None) at ∙ ap (λ slots. entry_at slots slot) (sym (slots_stay (place_by sight.place moves) sight)) in
+    let value_now : now ≡ value_at after slot = will ∙ (λ i. value (option_map (received (stands i)) (entry i))) in
+    ap (λ more. waiting ++ more) ((λ i. change slot (was i) (value_now i)) ∙ sym (moved_one n slot sight moves is within))
+
+-- ---- a place stays within the slots
+
+left_below : (place : Place) (n : ℕ) (now : Place) → place_left place ≡ Some now → ((s : ℕ) → slot_of place ≡ Some s → s < n) → (s : ℕ) → slot_of now ≡ Some s → s < n
+left_below idle n now e within s is = absurd cc
+left_below (on_train slot) n now e within s is = absurd cc
+left_below (on_group None) n now e within s is = let same : idle ≡ now = cc in absurd (none_some s (ap slot_of same ∙ is))
+  where
+    none_some : (s : ℕ) → None ≡ Some s → ⊥
+    none_some s e = cc
+left_below (on_group (Some slot)) n now e within s is = let same : on_train slot ≡ now = cc in within s (ap slot_of same ∙ is)
+
+pub moves_below : (sight : Sight) (moves : Move) (n : ℕ) → ((s : ℕ) → slot_of sight.place ≡ Some s → s < n)
+    → (s : ℕ) → slot_of (placed (place_by sight.place moves) None None sight).place ≡ Some s → s < n
+moves_below sight Stay n within s is = within s is
+moves_below sight Off n within s is = absurd cc
+moves_below sight OffGroup n within s is = go (place_left sight.place) refl is
+  where
+    go : (given : Option Place) → place_left sight.place ≡ given → slot_of (placed given None None sight).place ≡ Some s → s < n
+    go None e is = within s is
+    go (Some now) e is = left_below sight.place n now e within s is
+
+-- ---- what is put on a group of no slot has the values of one that is idle
+
+pub tuned_changes : (n : ℕ) (sight : Sight) → changes n sight (placed (Some idle) None None sight) ≡ changes n sight (placed (Some (on_group None)) None None sight)
+tuned_changes n sight =
+    let same : (i : ℕ) → value_at (placed (Some idle) None None sight) i ≡ value_at (placed (Some (on_group None)) None None sight) i =
+    λ i. elsewhere (placed (Some idle) None None sight) (placed (Some (on_group None)) None None sight) i refl refl refl in
+    λ j. flat_map (λ i. change i (value_at sight i) (same i j)) (range_with_len 0 n)

@@ -3,3 +3,4 @@ mod Serving
 mod Slots
 mod Spelled
 mod Standing
+mod Written

@@ -15,7 +15,7 @@ use Rattle.delegator_states.specs.declared.replies.Reply.TheVariants.{Accepted}
 use Rattle.delegator_states.specs.Notices.{change, changes}
 use Rattle.delegator_states.specs.Sights as sights
 use Rattle.delegator_states.specs.Sights.{Wanted, Entry, Sight, is_on, entry_at}
-use Rattle.delegator_states.specs.Steps.{Done, nothing, added, modified, removed, after, placed, place_given, wanting}
+use Rattle.delegator_states.specs.Steps.{Done, nothing, added, modified, removed, after, placed, place_given, place_wanted, wanting}
 use Rattle.delegator_states.specs.Values.{received, status_of, state_at, value, value_at}
 use Rattle.delegator_states.specs.Writes.{slot_where, has_source, slot_with, empty_slot, least_unused, entry_of, operated, value_written, is_synced, cause_read, reply_by, done_read}
 use Rattle.scan_delegator.specs.declared.place.Move.{Move}
@@ -97,11 +97,13 @@ modify_long sight modify slot long there value =
     ap (λ o. if is_none o then Some causes.SourceUnknown else (if nat_lt 512 (length (value_written sight (modified (unwrap_or o 0) (wanted_by modify)))) then Some causes.ValueTooLong else None)) there
     ∙ ap (λ b. if b then Some causes.ValueTooLong else None) value
 
-pub code_unknown : (sight : Sight) (source_id : ℕ) (code : List ℕ) → slot_with source_id sight.slots ≡ None → cause_read sight (Ok (Code source_id code)) ≡ Some causes.SourceUnknown
-code_unknown sight source_id code none = ap (λ o. if is_none o then Some causes.SourceUnknown else Some causes.NoDecrypt) none
+pub code_unknown : (sight : Sight) (source_id : ℕ) (found : Option ℕ) (code : List ℕ) → found ≡ slot_with source_id sight.slots → is_none found ≡ true
+    → cause_read sight (Ok (Code source_id code)) ≡ Some causes.SourceUnknown
+code_unknown sight source_id found code is none = ap (λ b. if b then Some causes.SourceUnknown else Some causes.NoDecrypt) (ap is_none (sym is) ∙ none)
 
-pub code_known : (sight : Sight) (source_id slot : ℕ) (code : List ℕ) → slot_with source_id sight.slots ≡ Some slot → cause_read sight (Ok (Code source_id code)) ≡ Some causes.NoDecrypt
-code_known sight source_id slot code there = ap (λ o. if is_none o then Some causes.SourceUnknown else Some causes.NoDecrypt) there
+pub code_known : (sight : Sight) (source_id : ℕ) (found : Option ℕ) (code : List ℕ) → found ≡ slot_with source_id sight.slots → is_none found ≡ false
+    → cause_read sight (Ok (Code source_id code)) ≡ Some causes.NoDecrypt
+code_known sight source_id found code is some = ap (λ b. if b then Some causes.SourceUnknown else Some causes.NoDecrypt) (ap is_none (sym is) ∙ some)
 
 pub remove_unknown : (sight : Sight) (source_id : ℕ) → slot_with source_id sight.slots ≡ None → cause_read sight (Ok (Remove source_id)) ≡ Some causes.SourceUnknown
 remove_unknown sight source_id none =
@@ -131,3 +133,69 @@ filled_done m slot entry moves done value_now within there on does is =
     ∙ ap (change slot (value_at m.sight slot)) (filled_value slot m.sight entry (place_by m.sight.place moves) there ∙ sym is) in
     (λ i. record m { sight = end; waiting = m.waiting ++ sym one i })
     ∙ (λ i. record m { sight = sym does i; waiting = m.waiting ++ changes m.setup.slots m.sight (sym does i) })
+
+-- a slot that changes, and the place stays
+slot_done : (m now : Machine) (slot : ℕ) (entry : Option Entry) (slots : List (Option Entry)) (waiting : List Notice) (done : Done) (value_now : List ℕ) → slot < m.setup.slots → slot < length m.sight.slots
+    → now ≡ record m { sight = record m.sight { slots = slots }; waiting = waiting }
+    → slots ≡ set m.sight.slots slot entry → waiting ≡ m.waiting ++ change slot (value_at m.sight slot) value_now
+    → after done m.sight ≡ record m.sight { slots = set m.sight.slots slot entry }
+    → value_now ≡ value (option_map (received (status_of m.sight.place m.sight.encrypted m.sight.taken slot)) entry)
+    → now ≡ moved done m
+slot_done m now slot entry slots waiting done value_now within there is filled waits does will =
+    is
+    ∙ (λ i. record m { sight = record m.sight { slots = filled i }; waiting = waits i })
+    ∙ filled_done m slot entry Stay done value_now within there (λ place e. absurd cc) does will
+
+pub add_done : (m now : Machine) (add : AddSource) (slot : ℕ) (slots : List (Option Entry)) (waiting : List Notice) → empty_slot m.sight.slots ≡ Some slot
+    → slot < m.setup.slots → slot < length m.sight.slots
+    → now ≡ record m { sight = record m.sight { slots = slots }; waiting = waiting }
+    → slots ≡ set m.sight.slots slot (Some (entry_of (least_unused m.sight.slots) add))
+    → waiting ≡ m.waiting ++ change slot (value_at m.sight slot) (spelling (received (status_of m.sight.place m.sight.encrypted m.sight.taken slot) (entry_of (least_unused m.sight.slots) add)))
+    → now ≡ moved (operated m.sight.slots (Add add)) m
+add_done m now add slot slots waiting empty within there is filled waits =
+    let entry : Entry = entry_of (least_unused m.sight.slots) add in
+    slot_done m now slot (Some entry) slots waiting (added slot entry) (spelling (received (status_of m.sight.place m.sight.encrypted m.sight.taken slot) entry)) within there is filled waits refl refl
+    ∙ ap (λ o. moved (added (unwrap_or o 0) entry) m) (sym empty)
+
+pub remove_done : (m now : Machine) (source_id slot : ℕ) (slots : List (Option Entry)) (waiting : List Notice) → slot_with source_id m.sight.slots ≡ Some slot
+    → slot < m.setup.slots → slot < length m.sight.slots
+    → now ≡ record m { sight = record m.sight { slots = slots }; waiting = waiting }
+    → slots ≡ set m.sight.slots slot None → waiting ≡ m.waiting ++ change slot (value_at m.sight slot) []
+    → now ≡ moved (operated m.sight.slots (Remove source_id)) m
+remove_done m now source_id slot slots waiting held within there is emptied waits =
+    slot_done m now slot None slots waiting (removed slot) [] within there is emptied waits refl refl
+    ∙ ap (λ o. moved (removed (unwrap_or o 0)) m) (sym held)
+
+-- a slot that is modified, and a sink that moves
+pub modified_is : (sight : Sight) (slot : ℕ) (entry : Entry) (wanted : Wanted) (moves : Move) → entry_at sight.slots slot ≡ Some entry
+    → place_by sight.place moves ≡ place_given sight (modified slot wanted)
+    → after (modified slot wanted) sight ≡ placed (place_by sight.place moves) None None (record sight { slots = set sight.slots slot (Some (record entry { wanted = wanted })) })
+modified_is sight slot entry wanted moves held same =
+    λ i. placed (sym same i) None None (record sight { slots = set sight.slots slot (wanting wanted (held i)) })
+
+stays_on : (b : Bool) (place : Option sights.Place) (now : sights.Place) → (if b then place else None) ≡ Some now → b ≡ true
+stays_on true place now e = refl
+stays_on false place now e = absurd cc
+
+pub modify_value : (sight : Sight) (slot : ℕ) (entry : Entry) (wanted : Wanted) (moves : Move) → slot < length sight.slots → entry_at sight.slots slot ≡ Some entry
+    → place_by sight.place moves ≡ place_given sight (modified slot wanted)
+    → value_at (after (modified slot wanted) sight) slot
+    ≡ spelling (received (status_of (placed (place_by sight.place moves) None None sight).place (placed (place_by sight.place moves) None None sight).encrypted (placed (place_by sight.place moves) None None sight).taken slot) (record entry { wanted = wanted }))
+modify_value sight slot entry wanted moves there held same =
+    ap (λ s. value_at s slot) (modified_is sight slot entry wanted moves held same)
+    ∙ filled_value slot sight (Some (record entry { wanted = wanted })) (place_by sight.place moves) there
+
+pub modify_done : (m now : Machine) (modify : ModifySource) (slot : ℕ) (entry : Entry) (moves : Move) (slots : List (Option Entry)) (waiting : List Notice)
+    → slot_with modify.source_id m.sight.slots ≡ Some slot → slot < m.setup.slots → slot < length m.sight.slots
+    → entry_at m.sight.slots slot ≡ Some entry → place_by m.sight.place moves ≡ place_given m.sight (modified slot (wanted_by modify))
+    → now ≡ record m { sight = placed (place_by m.sight.place moves) None None (record m.sight { slots = slots }); waiting = waiting }
+    → slots ≡ set m.sight.slots slot (Some (record entry { wanted = wanted_by modify }))
+    → waiting ≡ m.waiting ++ change slot (value_at m.sight slot) (spelling (received (status_of (placed (place_by m.sight.place moves) None None m.sight).place (placed (place_by m.sight.place moves) None None m.sight).encrypted (placed (place_by m.sight.place moves) None None m.sight).taken slot) (record entry { wanted = wanted_by modify })))
+    → now ≡ moved (operated m.sight.slots (Modify modify)) m
+modify_done m now modify slot entry moves slots waiting found within there held same is filled waits =
+    is
+    ∙ (λ i. record m { sight = placed (place_by m.sight.place moves) None None (record m.sight { slots = filled i }); waiting = waits i })
+    ∙ filled_done m slot (Some (record entry { wanted = wanted_by modify })) moves (modified slot (wanted_by modify)) _ within there
+    (λ place e. stays_on (is_on m.sight.place slot) (place_wanted m.sight slot (wanted_by modify)) place (sym same ∙ e))
+    (modified_is m.sight slot entry (wanted_by modify) moves held same) refl
+    ∙ ap (λ o. moved (modified (unwrap_or o 0) (wanted_by modify)) m) (sym found)

@@ -1,5 +1,5 @@
 //! What operations that were read do to a sink.
-ghost use Rattle.std.specs.Prelude.{◌≡◌, ◌<◌, ℕ, List, vec_len, Some, Ok};
+ghost use Rattle.std.specs.Prelude.{◌≡◌, ◌<◌, ℕ, List, length, nat_lt, vec_len, Some, Ok};
 ghost use Rattle.bass_operations.specs.declared.operation.Operation.TheVariants as ops;
 ghost use Rattle.delegator_states.specs.Sights.{Sight, entry_at};
 ghost use Rattle.delegator_states.specs.Steps.{modified, place_given, same_streams};
@@ -45,10 +45,11 @@ impl ScanDelegator {
     fn refuse_code(&self, source_id: u8) -> Reply
         ensures { (code : List ℕ) → result ≡ reply_by (cause_read (machine self.now).sight (Ok (ops.Code source_id code))) }
     {
-        match find_slot(&self.slots, &Sought::SourceId(source_id)) {
-            None => refused(Cause::SourceUnknown),
-            Some(_) => refused(Cause::NoDecrypt),
+        let found = find_slot(&self.slots, &Sought::SourceId(source_id));
+        if found.is_none() {
+            return refused(Cause::SourceUnknown);
         }
+        refused(Cause::NoDecrypt)
     }
 
     // Add Source.
@@ -61,25 +62,28 @@ impl ScanDelegator {
             sid: add.sid,
             broadcast_id: add.broadcast_id,
         };
-        if find_slot(&self.slots, &identity).is_some() {
+        let known = find_slot(&self.slots, &identity);
+        if known.is_some() {
             return Ok(refused(Cause::Known));
         }
-        let Some(slot) = find_slot(&self.slots, &Sought::Empty) else {
+        let empty = find_slot(&self.slots, &Sought::Empty);
+        let Some(slot) = empty else {
             return Ok(refused(Cause::NoRoom));
         };
         let filled = slot_of(unused_id(&self.slots), add);
-        if self.put(slot, filled, Move::Stay)? {
-            Ok(Reply::Accepted)
-        } else {
-            Ok(refused(Cause::ValueTooLong))
+        let fits = self.put(slot, filled, Move::Stay)?;
+        if !fits {
+            return Ok(refused(Cause::ValueTooLong));
         }
+        Ok(Reply::Accepted)
     }
 
     // Remove Source.
     fn remove(&mut self, source_id: u8) -> Result<Reply, Memory>
         ensures { Serves (ops.Remove source_id) (machine self.old) (machine self.new) result }
     {
-        let Some(slot) = find_slot(&self.slots, &Sought::SourceId(source_id)) else {
+        let found = find_slot(&self.slots, &Sought::SourceId(source_id));
+        let Some(slot) = found else {
             return Ok(refused(Cause::SourceUnknown));
         };
         if self.place.is_on(slot) {
@@ -96,7 +100,8 @@ impl ScanDelegator {
         requires { OpFits (ops.Modify modify) }
         ensures { Serves (ops.Modify modify) (machine self.old) (machine self.new) result }
     {
-        let Some(slot) = find_slot(&self.slots, &Sought::SourceId(modify.source_id)) else {
+        let found = find_slot(&self.slots, &Sought::SourceId(modify.source_id));
+        let Some(slot) = found else {
             return Ok(refused(Cause::SourceUnknown));
         };
         let Some(held) = &self.slots[usize::from(slot)] else {
@@ -104,12 +109,12 @@ impl ScanDelegator {
         };
         let moves = move_wanted(&self.place, slot, held, modify.pa_sync, &modify.wishes);
         let filled = Slot::new(held.source(), modify.pa_sync, modify.wishes);
-        if self.put(slot, filled, moves)? {
-            make_move(&mut self.place, moves);
-            Ok(Reply::Accepted)
-        } else {
-            Ok(refused(Cause::ValueTooLong))
+        let fits = self.put(slot, filled, moves)?;
+        if !fits {
+            return Ok(refused(Cause::ValueTooLong));
         }
+        make_move(&mut self.place, moves);
+        Ok(Reply::Accepted)
     }
 
     // Fills a slot, and puts the notice of its value as it is after this change of the place, where it changes. Nothing
@@ -123,13 +128,20 @@ impl ScanDelegator {
         let before = self.read_state(slot)?;
         let status = status_after(&self.place, slot, moves);
         let after = value_filled(self.alloc, &filled, &status)?;
-        if after.as_slice().len() > GREATEST_VALUE {
+        if is_too_long(&after) {
             return Ok(false);
         }
         note(&mut self.waiting, slot, &before, after)?;
         self.slots[usize::from(slot)] = Some(filled);
         Ok(true)
     }
+}
+
+/// Whether the value has more octets than an attribute can have.
+fn is_too_long(value: &Octets) -> bool
+    ensures { result ≡ nat_lt 512 (length value.now) }
+{
+    value.as_slice().len() > GREATEST_VALUE
 }
 
 /// What a Modify Source of a slot does to the place of the sink.

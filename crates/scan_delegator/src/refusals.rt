@@ -1,6 +1,7 @@
 ghost use Rattle.std.specs.Prelude.{◌≡◌, Some};
-ghost use Rattle.delegator_states.specs.Writes.{reply_by};
+ghost use Rattle.delegator_states.specs.Writes.{cause_of_fault, reply_by};
 
+use bass_operations::OpFault;
 use delegator_states::{Cause, Reply};
 
 /// Opcode Not Supported.
@@ -22,4 +23,18 @@ pub(crate) fn refused(cause: Cause) -> Reply
         _ => REJECTED,
     };
     Reply::Refused { code, cause }
+}
+
+/// The cause of octets that are no operation; `None` for want of memory.
+pub(crate) fn cause_of(fault: OpFault) -> Option<Cause>
+    ensures { result ≡ cause_of_fault fault }
+{
+    match fault {
+        OpFault::Empty => Some(Cause::Empty),
+        OpFault::Opcode => Some(Cause::Opcode),
+        OpFault::Length => Some(Cause::Length),
+        OpFault::Rfu { place: _ } => Some(Cause::Rfu),
+        OpFault::BisTwice { bis: _ } => Some(Cause::BisTwice),
+        OpFault::Memory => None,
+    }
 }

@@ -5,13 +5,13 @@ ghost use Rattle.scan_delegator.specs.State.Places.{IsWithin};
 
 use crate::control::heard_control;
 use crate::place::{Move, Place, SinkIdle, join, make_move};
-use crate::refusals::refused;
+use crate::refusals::{cause_of, refused};
 use crate::slot::Slot;
 use crate::values::{note, status_after, value_as};
-use bass_operations::{OpFault, decode_operation};
+use bass_operations::decode_operation;
 use bcast_base::{Memory, Octets};
 use big_info::Limits;
-use delegator_states::{Cause, ControlHeard, Notice, Reply};
+use delegator_states::{ControlHeard, Notice, Reply};
 use pacs_records::{Capability, Records};
 use std::alloc::Global;
 use std::collections::VecDeque;
@@ -85,7 +85,7 @@ impl ScanDelegator {
         ensures answer { IfOk result (λ reply. reply ≡ reply_of (machine self.old).sight write.now) }
         ensures step { OnOk result (machine self.new ≡ moved (done_by_write (machine self.old).sight write.now) (machine self.old)) }
         ensures err { OnErr result (machine self.new ≡ machine self.old) }
-        ensures stands { (steps : List Step) (link : ℕ) → StandsFor steps (machine self.old) → OnOk result (StandsFor (written link write.now ∷ steps) (machine self.new)) }
+        ensures stands { OnOk result ((steps : List Step) (link : ℕ) → StandsFor steps (machine self.old) → StandsFor (written link write.now ∷ steps) (machine self.new)) }
     {
         self.serve_write(write)
     }
@@ -94,7 +94,7 @@ impl ScanDelegator {
     pub fn lost(&mut self) -> Result<(), Memory>
         ensures step { OnOk result (machine self.new ≡ moved lost (machine self.old)) }
         ensures err { OnErr result (machine self.new ≡ machine self.old) }
-        ensures stands { (steps : List Step) → StandsFor steps (machine self.old) → OnOk result (StandsFor (train_lost ∷ steps) (machine self.new)) }
+        ensures stands { OnOk result ((steps : List Step) → StandsFor steps (machine self.old) → StandsFor (train_lost ∷ steps) (machine self.new)) }
     {
         self.go(Move::Off)
     }
@@ -103,7 +103,7 @@ impl ScanDelegator {
     pub fn tune(&mut self) -> Result<(), Memory>
         ensures step { OnOk result (machine self.new ≡ moved tuned (machine self.old)) }
         ensures err { OnErr result (machine self.new ≡ machine self.old) }
-        ensures stands { (steps : List Step) (source : ℕ) (joining : Joining) → StandsFor steps (machine self.old) → OnOk result (StandsFor (put_on source joining ∷ steps) (machine self.new)) }
+        ensures stands { OnOk result ((steps : List Step) (source : ℕ) (joining : Joining) → StandsFor steps (machine self.old) → StandsFor (put_on source joining ∷ steps) (machine self.new)) }
     {
         self.put_on_group()
     }
@@ -114,7 +114,7 @@ impl ScanDelegator {
         ensures answer { IfOk result (λ heard. heard ≡ control_heard (machine self.old).sight.place pdu.now) }
         ensures step { OnOk result (machine self.new ≡ moved (done_by_control (machine self.old).sight.place pdu.now) (machine self.old)) }
         ensures err { OnErr result (machine self.new ≡ machine self.old) }
-        ensures stands { (steps : List Step) → StandsFor steps (machine self.old) → OnOk result (StandsFor (controlled pdu.now ∷ steps) (machine self.new)) }
+        ensures stands { OnOk result ((steps : List Step) → StandsFor steps (machine self.old) → StandsFor (controlled pdu.now ∷ steps) (machine self.new)) }
     {
         self.hear_control(pdu)
     }
@@ -145,12 +145,10 @@ impl ScanDelegator {
     {
         match decode_operation(self.alloc, write) {
             Ok(op) => self.operate(op),
-            Err(OpFault::Memory) => Err(Memory),
-            Err(OpFault::Empty) => Ok(refused(Cause::Empty)),
-            Err(OpFault::Opcode) => Ok(refused(Cause::Opcode)),
-            Err(OpFault::Length) => Ok(refused(Cause::Length)),
-            Err(OpFault::Rfu { place: _ }) => Ok(refused(Cause::Rfu)),
-            Err(OpFault::BisTwice { bis: _ }) => Ok(refused(Cause::BisTwice)),
+            Err(fault) => match cause_of(fault) {
+                Some(cause) => Ok(refused(cause)),
+                None => Err(Memory),
+            },
         }
     }
 

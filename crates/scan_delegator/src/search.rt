@@ -1,7 +1,7 @@
 //! Looking for a slot, and for an unused Source_ID.
-ghost use Rattle.std.specs.Prelude.{◌≡◌, ◌≤◌, ◌<◌, ◌+◌, length, IfSome};
+ghost use Rattle.std.specs.Prelude.{◌≡◌, ◌≤◌, ◌<◌, length, vec_len, IfSome};
 ghost use Rattle.std.specs.Str.{bytes_eq};
-ghost use Rattle.delegator_states.specs.Writes.{slot_where, unused_from};
+ghost use Rattle.delegator_states.specs.Writes.{least_unused, slot_where};
 ghost use Rattle.scan_delegator.specs.State.Slots.{meets};
 
 use crate::slot::Slot;
@@ -21,7 +21,16 @@ pub(crate) enum Sought {
 }
 
 /// The first slot that is what is sought.
-pub(crate) fn find_slot(slots: &[Option<Slot>], sought: &Sought) -> Option<u8>
+pub(crate) fn find_slot(slots: &Vec<Option<Slot>>, sought: &Sought) -> Option<u8>
+    requires { vec_len slots.now ≤ 8 }
+    ensures first { result ≡ slot_where (meets sought.now) 0 slots.now.items }
+    ensures within { IfSome result (λ slot. slot < vec_len slots.now) }
+{
+    find_in(slots.as_slice(), sought)
+}
+
+/// The same among slots.
+fn find_in(slots: &[Option<Slot>], sought: &Sought) -> Option<u8>
     requires { length slots.now ≤ 8 }
     ensures first { result ≡ slot_where (meets sought.now) 0 slots.now }
     ensures within { IfSome result (λ slot. slot < length slots.now) }
@@ -66,13 +75,14 @@ fn are_same(id: &[u8; 3], other: &[u8; 3]) -> bool
 
 /// The least Source_ID that no slot has.
 #[tactic(auto, unfolding(delegator_states::specs::Writes::unused_from))]
-pub(crate) fn unused_id(slots: &[Option<Slot>]) -> u8
-    requires { length slots.now ≤ 8 }
-    ensures { result ≡ unused_from (length slots.now) 0 slots.now }
+pub(crate) fn unused_id(slots: &Vec<Option<Slot>>) -> u8
+    requires { vec_len slots.now ≤ 8 }
+    ensures { result ≡ least_unused slots.now.items }
 {
     let count = slots.len() as u8;
     'ids: for source_id in 0..count {
-        if find_slot(slots, &Sought::SourceId(source_id)).is_none() {
+        let used = find_slot(slots, &Sought::SourceId(source_id));
+        if used.is_none() {
             return source_id;
         }
     }

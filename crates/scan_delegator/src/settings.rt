@@ -21,7 +21,7 @@ impl ScanDelegator {
         ensures refused { IfErr result (λ fault. RefusesPush fault (machine self.old).sight.capability.entries entry) }
         ensures step { OnOk result (machine self.new ≡ moved (recorded entry) (machine self.old)) }
         ensures err { OnErr result (machine self.new ≡ machine self.old) }
-        ensures stands { (steps : List Step) → StandsFor steps (machine self.old) → OnOk result (StandsFor (record_added entry ∷ steps) (machine self.new)) }
+        ensures stands { OnOk result ((steps : List Step) → StandsFor steps (machine self.old) → StandsFor (record_added entry ∷ steps) (machine self.new)) }
     {
         self.capability.entries.push(entry)
     }

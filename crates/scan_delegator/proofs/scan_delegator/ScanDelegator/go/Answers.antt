@@ -1,0 +1,13 @@
+use Rattle.std.proofs.Common.{◌≡◌, ◌∙◌, ap, subst, None}
+use Rattle.delegator_states.specs.Sights.{Sight}
+use Rattle.delegator_states.specs.Steps.{placed}
+use Rattle.scan_delegator.specs.State.Machines.{Machine, machine}
+use Rattle.scan_delegator.specs.State.Places.{place_by}
+use Rattle.scan_delegator.proofs.Changes.{moves_below}
+use Rattle.scan_delegator.proofs.scan_delegator.ScanDelegator.go.Goals as goal
+
+pub returns-clause-step : goal.returns-clause-step
+returns-clause-step c =
+    let mid : Machine = machine c.note_move.new.self in
+    ap (λ (s : Sight). record mid { sight = s }) (c.make_move.ensures mid.sight)
+    ∙ ap (λ (a : Machine). record a { sight = placed (place_by a.sight.place c.args.moves) None None a.sight }) c.in_ok-note_move.ensures.ok

@@ -1,0 +1,14 @@
+use Rattle.std.proofs.Common.{◌≡◌, ◌++◌, ◌∙◌, ap, Some, None}
+use Rattle.delegator_states.specs.Sights.{Sight, on_group}
+use Rattle.delegator_states.specs.Steps.{placed}
+use Rattle.scan_delegator.specs.State.Machines.{Machine, machine}
+use Rattle.scan_delegator.proofs.Changes.{tuned_changes}
+use Rattle.scan_delegator.proofs.scan_delegator.ScanDelegator.put_on_group.Goals as goal
+
+pub returns-clause-step : goal.returns-clause-step
+returns-clause-step c =
+    let m : Machine = machine c.args.self.now in
+    let mid : Machine = machine c.note_move.new.self in
+    ap (λ (s : Sight). record mid { sight = s }) (c.join.ensures mid.sight)
+    ∙ ap (λ (a : Machine). record a { sight = placed (Some (on_group None)) None None a.sight }) c.in_ok-note_move.ensures.ok
+    ∙ (λ i. record m { sight = placed (Some (on_group None)) None None m.sight; waiting = m.waiting ++ tuned_changes m.setup.slots m.sight i })
