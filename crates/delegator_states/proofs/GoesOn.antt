@@ -14,7 +14,7 @@ use Rattle.delegator_states.specs.Steps.{place_given, place_after, encryption_gi
 use Rattle.delegator_states.specs.Trains.{Setup}
 use Rattle.delegator_states.specs.States.{Answered, Step, answered, done_by, sight_in, sight_of, place_in, encrypted_in, encrypted_where, taken_in}
 use Rattle.delegator_states.specs.States.{source_by, wanted_by, entry_from, unwanted, source_in, wanted_in, entry_in, records_in, capability_in}
-use Rattle.delegator_states.proofs.Lists.{map_changes, map_at}
+use Rattle.delegator_states.proofs.Lists.{map_changes_first, map_at}
 use Rattle.delegator_states.proofs.Places.{place_goes_on, encryption_goes_on, taken_goes_on, not_on}
 
 -- ---- a slot
@@ -62,22 +62,25 @@ modified_here steps before slot wanted =
     (unwrap_or (option_or (if_so (slot == slot) (Some wanted) None (eq-eqb slot slot refl) i) (last_given (λ step. wanted_by slot step.done) steps)) unwanted))
     ∙ wanting_source (source_in steps slot) wanted (wanted_in steps slot)
 
+zero_more : (slot : ℕ) → 0 + slot ≡ slot
+zero_more slot = omega arith
+
 slots_go_on : (n : ℕ) (steps : List Answered) (before : Sight) (done : Done)
     → map (entry_in (record { before = before; done = done } ∷ steps)) (range_with_len 0 n) ≡ slots_after done (map (entry_in steps) (range_with_len 0 n))
 slots_go_on n steps before nothing = refl
 slots_go_on n steps before (added slot entry) =
-    map_changes (entry_in steps) (entry_in (record { before = before; done = added slot entry } ∷ steps)) 0 n slot (Some entry)
+    map_changes_first (entry_in steps) (entry_in (record { before = before; done = added slot entry } ∷ steps)) n slot (Some entry)
     (λ i other. same_entry steps before (added slot entry) i
     (if_not (slot == i) (Some (Some entry.source)) None (not_eq slot i (λ is. other (sym is))))
     (if_not (slot == i) (Some entry.wanted) None (not_eq slot i (λ is. other (sym is)))))
     (λ below. added_here steps before slot entry)
 slots_go_on n steps before (modified slot wanted) =
-    map_changes (entry_in steps) (entry_in (record { before = before; done = modified slot wanted } ∷ steps)) 0 n slot
+    map_changes_first (entry_in steps) (entry_in (record { before = before; done = modified slot wanted } ∷ steps)) n slot
     (wanting wanted (entry_at (map (entry_in steps) (range_with_len 0 n)) slot))
     (λ i other. same_entry steps before (modified slot wanted) i refl (if_not (slot == i) (Some wanted) None (not_eq slot i (λ is. other (sym is)))))
-    (λ below. modified_here steps before slot wanted ∙ ap (wanting wanted) (sym (map_at (entry_in steps) 0 n slot None below)))
+    (λ below. modified_here steps before slot wanted ∙ ap (wanting wanted) (sym (map_at (entry_in steps) 0 n slot None below ∙ ap (entry_in steps) (zero_more slot))))
 slots_go_on n steps before (removed slot) =
-    map_changes (entry_in steps) (entry_in (record { before = before; done = removed slot } ∷ steps)) 0 n slot None
+    map_changes_first (entry_in steps) (entry_in (record { before = before; done = removed slot } ∷ steps)) n slot None
     (λ i other. same_entry steps before (removed slot) i (if_not (slot == i) (Some None) None (not_eq slot i (λ is. other (sym is)))) refl)
     (λ below. removed_here steps before slot)
 slots_go_on n steps before tuned = refl

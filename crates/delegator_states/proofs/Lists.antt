@@ -25,6 +25,13 @@ map_changes f g start (suc n) (suc at) new same here =
     ∙ ap (λ xs. f start ∷ xs)
     (map_changes f g (start + 1) n at new (λ i other. same i (λ is. other (omega arith))) (λ below. subst (λ i. g i ≡ new) (sym next) (here (omega arith))))
 
+-- the same over the numbers from 0 on
+pub map_changes_first : {A : Type 0} (f g : ℕ → A) (n at : ℕ) (new : A)
+    → ((i : ℕ) → i ≢ at → g i ≡ f i) → (at < n → g at ≡ new) → map g (range_with_len 0 n) ≡ set (map f (range_with_len 0 n)) at new
+map_changes_first f g n at new same here =
+    let there : at ≡ 0 + at = omega arith in
+    map_changes f g 0 n at new (λ i other. same i (λ is. other (is ∙ there))) (λ below. subst (λ i. g i ≡ new) there (here below))
+
 -- what stands at a place
 pub map_at : {A : Type 0} (f : ℕ → A) (start n at : ℕ) (d : A) → at < n → get_or (map f (range_with_len start n)) at d ≡ f (start + at)
 map_at f start zero at d below = absurd (omega arith)

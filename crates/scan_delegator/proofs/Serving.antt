@@ -23,6 +23,8 @@ use Rattle.scan_delegator.specs.declared.place.Move.TheVariants.{Stay}
 use Rattle.scan_delegator.specs.Serving.{Replies}
 use Rattle.scan_delegator.specs.State.Machines.{Machine, moved}
 use Rattle.scan_delegator.specs.State.Places.{place_by}
+use Rattle.scan_delegator.specs.State.Puts.{Puts}
+use Rattle.scan_delegator.specs.State.Statuses.{status_at}
 use Rattle.scan_delegator.proofs.Changes.{filled_one, filled_value}
 use Rattle.scan_delegator.proofs.Spelled.{synced_is_on}
 use Rattle.scan_delegator.proofs.Standing.{moved_nothing}
@@ -199,3 +201,82 @@ modify_done m now modify slot entry moves slots waiting found within there held 
     (λ place e. stays_on (is_on m.sight.place slot) (place_wanted m.sight slot (wanted_by modify)) place (sym same ∙ e))
     (modified_is m.sight slot entry (wanted_by modify) moves held same) refl
     ∙ ap (λ o. moved (modified (unwrap_or o 0) (wanted_by modify)) m) (sym found)
+
+-- ---- a slot that was put, or not
+
+pub puts_no : (v : List ℕ) (slot : ℕ) (entry : Entry) (before : List ℕ) (slots slots_now : List (Option Entry)) (waiting waiting_now : List Notice) (fits : Bool) → fits ≡ false
+    → Puts v slot entry before slots slots_now waiting waiting_now (Ok fits) → (nat_lt 512 (length v) ≡ true) × (slots_now ≡ slots) × (waiting_now ≡ waiting)
+puts_no v slot entry before slots slots_now waiting waiting_now true is puts = absurd cc
+puts_no v slot entry before slots slots_now waiting waiting_now false is puts = puts
+
+pub puts_yes : (v : List ℕ) (slot : ℕ) (entry : Entry) (before : List ℕ) (slots slots_now : List (Option Entry)) (waiting waiting_now : List Notice) (fits : Bool) → fits ≡ true
+    → Puts v slot entry before slots slots_now waiting waiting_now (Ok fits)
+    → (nat_lt 512 (length v) ≡ false) × (slots_now ≡ set slots slot (Some entry)) × (waiting_now ≡ waiting ++ change slot before v)
+puts_yes v slot entry before slots slots_now waiting waiting_now true is puts = puts
+puts_yes v slot entry before slots slots_now waiting waiting_now false is puts = absurd cc
+
+-- nothing changed
+pub same_rest : (m now : Machine) (slots : List (Option Entry)) (waiting : List Notice) → now ≡ record m { sight = record m.sight { slots = slots }; waiting = waiting }
+    → slots ≡ m.sight.slots → waiting ≡ m.waiting → now ≡ m
+same_rest m now slots waiting is slots_same waiting_same = is ∙ (λ i. record m { sight = record m.sight { slots = slots_same i }; waiting = waiting_same i })
+
+pub add_refused : (m now : Machine) (add : AddSource) (known : Option ℕ) (slot : ℕ) (filled : Entry) (reply : Reply)
+    → known ≡ slot_where (has_source add.address_type add.sid add.broadcast_id) 0 m.sight.slots → is_some known ≡ false
+    → empty_slot m.sight.slots ≡ Some slot → slot < length m.sight.slots → filled ≡ entry_of (least_unused m.sight.slots) add
+    → nat_lt 512 (length (spelling (received (status_of m.sight.place m.sight.encrypted m.sight.taken slot) filled))) ≡ true
+    → now ≡ m → reply ≡ reply_by (Some causes.ValueTooLong) → Replies (Add add) m now reply
+add_refused m now add known slot filled reply is none empty there fills long same told =
+    let wide = subst (λ (f : Entry). nat_lt 512 (length (spelling (received (status_of m.sight.place m.sight.encrypted m.sight.taken slot) f))) ≡ true) fills long in
+    subst (λ (k : Machine). Replies (Add add) m k reply) (sym same)
+    (refused (Add add) m causes.ValueTooLong reply (add_long m.sight add known slot true is none empty there wide) told)
+
+pub add_accepted : (m now : Machine) (add : AddSource) (known : Option ℕ) (slot : ℕ) (filled : Entry) (slots : List (Option Entry)) (waiting : List Notice)
+    → known ≡ slot_where (has_source add.address_type add.sid add.broadcast_id) 0 m.sight.slots → is_some known ≡ false
+    → empty_slot m.sight.slots ≡ Some slot → slot < m.setup.slots → slot < length m.sight.slots → filled ≡ entry_of (least_unused m.sight.slots) add
+    → nat_lt 512 (length (spelling (received (status_of m.sight.place m.sight.encrypted m.sight.taken slot) filled))) ≡ false
+    → now ≡ record m { sight = record m.sight { slots = slots }; waiting = waiting } → slots ≡ set m.sight.slots slot (Some filled)
+    → waiting ≡ m.waiting ++ change slot (value_at m.sight slot) (spelling (received (status_of m.sight.place m.sight.encrypted m.sight.taken slot) filled))
+    → Replies (Add add) m now Accepted
+add_accepted m now add known slot filled slots waiting is none empty within there fills short does filled_so waits =
+    let status = status_of m.sight.place m.sight.encrypted m.sight.taken slot in
+    let narrow = subst (λ (f : Entry). nat_lt 512 (length (spelling (received (status_of m.sight.place m.sight.encrypted m.sight.taken slot) f))) ≡ false) fills short in
+    accepted (Add add) m now Accepted (add_long m.sight add known slot false is none empty there narrow) refl
+    (add_done m now add slot slots waiting empty within there does (filled_so ∙ ap (λ f. set m.sight.slots slot (Some f)) fills)
+    (waits ∙ ap (λ f. m.waiting ++ change slot (value_at m.sight slot) (spelling (received status f))) fills))
+
+pub remove_accepted : (m now : Machine) (source_id slot : ℕ) (entry : Entry) (slots : List (Option Entry)) (waiting : List Notice)
+    → slot_with source_id m.sight.slots ≡ Some slot → entry_at m.sight.slots slot ≡ Some entry → is_on m.sight.place slot ≡ false
+    → slot < m.setup.slots → slot < length m.sight.slots
+    → now ≡ record m { sight = record m.sight { slots = slots }; waiting = waiting } → slots ≡ set m.sight.slots slot None
+    → waiting ≡ m.waiting ++ change slot (value_at m.sight slot) [] → Replies (Remove source_id) m now Accepted
+remove_accepted m now source_id slot entry slots waiting found held off within there does emptied waits =
+    accepted (Remove source_id) m now Accepted (remove_synced m.sight source_id slot entry false found held off) refl
+    (remove_done m now source_id slot slots waiting found within there does emptied waits)
+
+pub modify_refused : (m now : Machine) (modify : ModifySource) (slot : ℕ) (entry : Entry) (moves : Move) (filled : Entry) (reply : Reply)
+    → slot_with modify.source_id m.sight.slots ≡ Some slot → slot < length m.sight.slots → entry_at m.sight.slots slot ≡ Some entry
+    → place_by m.sight.place moves ≡ place_given m.sight (modified slot (wanted_by modify)) → filled ≡ record entry { wanted = wanted_by modify }
+    → nat_lt 512 (length (spelling (received (status_at slot (placed (place_by m.sight.place moves) None None m.sight)) filled))) ≡ true
+    → now ≡ m → reply ≡ reply_by (Some causes.ValueTooLong) → Replies (Modify modify) m now reply
+modify_refused m now modify slot entry moves filled reply found there held same fills long unchanged told =
+    let wide : nat_lt 512 (length (value_at (after (modified slot (wanted_by modify)) m.sight) slot)) ≡ true =
+    ap (λ v. nat_lt 512 (length v)) (modify_value m.sight slot entry (wanted_by modify) moves there held same
+    ∙ ap (λ f. spelling (received (status_at slot (placed (place_by m.sight.place moves) None None m.sight)) f)) (sym fills)) ∙ long in
+    subst (λ (k : Machine). Replies (Modify modify) m k reply) (sym unchanged)
+    (refused (Modify modify) m causes.ValueTooLong reply (modify_long m.sight modify slot true found wide) told)
+
+pub modify_accepted : (m now : Machine) (modify : ModifySource) (slot : ℕ) (entry : Entry) (moves : Move) (filled : Entry) (slots : List (Option Entry)) (waiting : List Notice)
+    → slot_with modify.source_id m.sight.slots ≡ Some slot → slot < m.setup.slots → slot < length m.sight.slots → entry_at m.sight.slots slot ≡ Some entry
+    → place_by m.sight.place moves ≡ place_given m.sight (modified slot (wanted_by modify)) → filled ≡ record entry { wanted = wanted_by modify }
+    → nat_lt 512 (length (spelling (received (status_at slot (placed (place_by m.sight.place moves) None None m.sight)) filled))) ≡ false
+    → now ≡ record m { sight = placed (place_by m.sight.place moves) None None (record m.sight { slots = slots }); waiting = waiting }
+    → slots ≡ set m.sight.slots slot (Some filled)
+    → waiting ≡ m.waiting ++ change slot (value_at m.sight slot) (spelling (received (status_at slot (placed (place_by m.sight.place moves) None None m.sight)) filled))
+    → Replies (Modify modify) m now Accepted
+modify_accepted m now modify slot entry moves filled slots waiting found within there held same fills short does filled_so waits =
+    let narrow : nat_lt 512 (length (value_at (after (modified slot (wanted_by modify)) m.sight) slot)) ≡ false =
+    ap (λ v. nat_lt 512 (length v)) (modify_value m.sight slot entry (wanted_by modify) moves there held same
+    ∙ ap (λ f. spelling (received (status_at slot (placed (place_by m.sight.place moves) None None m.sight)) f)) (sym fills)) ∙ short in
+    accepted (Modify modify) m now Accepted (modify_long m.sight modify slot false found narrow) refl
+    (modify_done m now modify slot entry moves slots waiting found within there held same does (filled_so ∙ ap (λ f. set m.sight.slots slot (Some f)) fills)
+    (waits ∙ ap (λ f. m.waiting ++ change slot (value_at m.sight slot) (spelling (received (status_at slot (placed (place_by m.sight.place moves) None None m.sight)) f))) fills))

@@ -2,7 +2,7 @@
 use Rattle.std.proofs.Common.{ℕ, zero, suc, ◌≡◌, ◌+◌, ◌-◌, ◌<◌, ◌≤◌, Bool, true, false, List, [], ◌∷◌, length, get_or, drop, drop-cons, add-one, Option, Some, None, refl, sym, ap, ◌∙◌, subst, arith}
 use Rattle.std.specs.Prelude.{is_none, if◌then◌else◌}
 use Rattle.delegator_states.specs.Sights.{Entry, entry_at}
-use Rattle.delegator_states.specs.Writes.{slot_where, has, has_id}
+use Rattle.delegator_states.specs.Writes.{slot_where, has, has_id, slot_with}
 
 -- a slot that is found stands among the slots, and is what is sought
 pub record Found (test : Option Entry → Bool) (start : ℕ) (slots : List (Option Entry)) (slot : ℕ) : Type 0 where
@@ -30,3 +30,8 @@ found test start (s ∷ slots) slot e = first test start s slots slot (test s) r
 pub filled : (source_id : ℕ) (slot : Option Entry) → has_id source_id slot ≡ true → (entry : Entry) × (slot ≡ Some entry)
 filled source_id None e = absurd cc
 filled source_id (Some entry) e = (entry, refl)
+
+pub held_slot : (source_id : ℕ) (slots : List (Option Entry)) (slot : ℕ) → slot_with source_id slots ≡ Some slot → (entry : Entry) × (entry_at slots slot ≡ Some entry)
+held_slot source_id slots slot e =
+    let all : slot - 0 ≡ slot = omega arith in
+    filled source_id (entry_at slots slot) (ap (λ k. has_id source_id (get_or slots k None)) (sym all) ∙ (found (has_id source_id) 0 slots slot e).meets)

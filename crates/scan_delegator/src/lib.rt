@@ -11,8 +11,6 @@ mod search;
 mod settings;
 mod slot;
 mod taken_bits;
-#[cfg(test)]
-mod tests;
 mod values;
 
 pub use scan_delegator::ScanDelegator;

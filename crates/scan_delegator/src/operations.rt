@@ -57,10 +57,11 @@ impl ScanDelegator {
         requires { OpFits (ops.Add add) }
         ensures { Serves (ops.Add add) (machine self.old) (machine self.new) result }
     {
+        let broadcast_id = add.broadcast_id;
         let identity = Sought::Identity {
             address_type: add.address_type,
             sid: add.sid,
-            broadcast_id: add.broadcast_id,
+            broadcast_id,
         };
         let known = find_slot(&self.slots, &identity);
         if known.is_some() {
@@ -179,12 +180,14 @@ fn slot_of(source_id: u8, add: AddSource) -> Slot
     requires { EntryFits (entry_of source_id add) }
     ensures { result ≡ entry_of source_id add }
 {
+    let address = add.address;
+    let broadcast_id = add.broadcast_id;
     let source = Source {
         source_id,
         address_type: add.address_type,
-        address: add.address,
+        address,
         sid: add.sid,
-        broadcast_id: add.broadcast_id,
+        broadcast_id,
     };
     Slot::new(source, add.pa_sync, add.wishes)
 }

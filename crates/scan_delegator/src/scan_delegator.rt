@@ -131,7 +131,7 @@ impl ScanDelegator {
     /// The value of a slot, which exists (Broadcast Audio Scan Service 1.0, section 3.2).
     pub fn read_state(&self, slot: u8) -> Result<Octets, Memory>
         requires { slot < vec_len self.now.slots }
-        ensures value { IfOk result (λ octets. octets ≡ value_at (machine self.now).sight slot) }
+        ensures { IfOk result (λ octets. octets ≡ value_at (machine self.now).sight slot) }
     {
         let status = status_after(&self.place, slot, Move::Stay);
         value_as(self.alloc, &self.slots[usize::from(slot)], &status)

@@ -72,12 +72,14 @@ pub(crate) fn value_filled(
     ensures { IfOk result (λ octets. octets ≡ spelling (received (status_seen status.now) slot.now)) }
 {
     let source = slot.source();
+    let address = source.address;
+    let broadcast_id = source.broadcast_id;
     let state = ReceiveState {
         source_id: source.source_id,
         address_type: source.address_type,
-        address: source.address,
+        address,
         sid: source.sid,
-        broadcast_id: source.broadcast_id,
+        broadcast_id,
         pa_sync_state: if status.is_synced { 2 } else { 0 },
         encryption: encryption(status.is_encrypted),
         groups: groups_of(alloc, slot.wishes(), status.bits)?,

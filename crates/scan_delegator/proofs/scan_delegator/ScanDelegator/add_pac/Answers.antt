@@ -5,7 +5,7 @@ use Rattle.delegator_states.specs.States.{record_added}
 use Rattle.delegator_states.specs.Steps.{recorded}
 use Rattle.scan_delegator.specs.State.Machines.{Machine, machine, moved}
 use Rattle.scan_delegator.proofs.Standing.{moved_setting, stands_done}
-use Rattle.scan_delegator.proofs.settings.ScanDelegator.add_pac.Goals as goal
+use Rattle.scan_delegator.proofs.scan_delegator.ScanDelegator.add_pac.Goals as goal
 
 with_records : Machine → List PacRecord → Machine
 with_records m entries = record m { sight = record m.sight { capability = record m.sight.capability { entries = entries } } }

@@ -3,7 +3,7 @@ use Rattle.delegator_states.specs.States.{contexts_set}
 use Rattle.delegator_states.specs.Steps.{opened}
 use Rattle.scan_delegator.specs.State.Machines.{machine}
 use Rattle.scan_delegator.proofs.Standing.{moved_setting, stands_done}
-use Rattle.scan_delegator.proofs.settings.ScanDelegator.set_contexts.Goals as goal
+use Rattle.scan_delegator.proofs.scan_delegator.ScanDelegator.set_contexts.Goals as goal
 
 pub returns-clause-step : goal.returns-clause-step
 returns-clause-step c = moved_setting (machine c.args.self.now) (opened c.args.bits) (λ i. refl)

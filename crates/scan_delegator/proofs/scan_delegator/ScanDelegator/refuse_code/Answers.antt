@@ -2,7 +2,7 @@ use Rattle.std.proofs.Common.{◌∙◌, ap, sym}
 use Rattle.delegator_states.specs.Writes.{reply_by}
 use Rattle.scan_delegator.specs.State.Machines.{machine}
 use Rattle.scan_delegator.proofs.Serving.{code_unknown, code_known}
-use Rattle.scan_delegator.proofs.operations.ScanDelegator.refuse_code.Goals as goal
+use Rattle.scan_delegator.proofs.scan_delegator.ScanDelegator.refuse_code.Goals as goal
 
 pub returns-then-is_none : goal.returns-then-is_none
 returns-then-is_none c code =

@@ -5,7 +5,7 @@ use Rattle.delegator_states.specs.Notices.{change}
 use Rattle.delegator_states.specs.Values.{received}
 use Rattle.scan_delegator.specs.State.Machines.{Machine, machine}
 use Rattle.scan_delegator.specs.State.Written.{written_value}
-use Rattle.scan_delegator.proofs.operations.ScanDelegator.put.Goals as goal
+use Rattle.scan_delegator.proofs.scan_delegator.ScanDelegator.put.Goals as goal
 
 pub returns-then-is_too_long-clause-puts : goal.returns-then-is_too_long-clause-puts
 returns-then-is_too_long-clause-puts c =
