@@ -136,13 +136,13 @@ note_done n slot place sight waiting moves slot_now status before now is within 
 
 -- ---- a place stays within the slots
 
+pub none_some : {A : Type 0} (x : A) → ◌≡◌ {A = Option A} None (Some x) → ⊥
+none_some x e = cc
+
 left_below : (place : Place) (n : ℕ) (now : Place) → place_left place ≡ Some now → ((s : ℕ) → slot_of place ≡ Some s → s < n) → (s : ℕ) → slot_of now ≡ Some s → s < n
 left_below idle n now e within s is = absurd cc
 left_below (on_train slot) n now e within s is = absurd cc
 left_below (on_group None) n now e within s is = let same : idle ≡ now = cc in absurd (none_some s (ap slot_of same ∙ is))
-  where
-    none_some : (s : ℕ) → None ≡ Some s → ⊥
-    none_some s e = cc
 left_below (on_group (Some slot)) n now e within s is = let same : on_train slot ≡ now = cc in within s (ap slot_of same ∙ is)
 
 pub moves_below : (sight : Sight) (moves : Move) (n : ℕ) → ((s : ℕ) → slot_of sight.place ≡ Some s → s < n)

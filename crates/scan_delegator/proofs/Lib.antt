@@ -1,6 +1,7 @@
-mod Changes
-mod Serving
-mod Slots
-mod Spelled
-mod Standing
-mod Written
+pub mod Changes
+pub mod Serving
+pub mod Slots
+pub mod Spelled
+pub mod Standing
+pub mod Streams
+pub mod Written

@@ -99,13 +99,16 @@ modify_long sight modify slot long there value =
     ap (λ o. if is_none o then Some causes.SourceUnknown else (if nat_lt 512 (length (value_written sight (modified (unwrap_or o 0) (wanted_by modify)))) then Some causes.ValueTooLong else None)) there
     ∙ ap (λ b. if b then Some causes.ValueTooLong else None) value
 
-pub code_unknown : (sight : Sight) (source_id : ℕ) (found : Option ℕ) (code : List ℕ) → found ≡ slot_with source_id sight.slots → is_none found ≡ true
-    → cause_read sight (Ok (Code source_id code)) ≡ Some causes.SourceUnknown
-code_unknown sight source_id found code is none = ap (λ b. if b then Some causes.SourceUnknown else Some causes.NoDecrypt) (ap is_none (sym is) ∙ none)
+code_by : (found : Option ℕ) (some : Bool) → is_some found ≡ some → (if is_none found then Some causes.SourceUnknown else Some causes.NoDecrypt) ≡ (if some then Some causes.NoDecrypt else Some causes.SourceUnknown)
+code_by None true is = absurd cc
+code_by None false is = refl
+code_by (Some slot) true is = refl
+code_by (Some slot) false is = absurd cc
 
-pub code_known : (sight : Sight) (source_id : ℕ) (found : Option ℕ) (code : List ℕ) → found ≡ slot_with source_id sight.slots → is_none found ≡ false
-    → cause_read sight (Ok (Code source_id code)) ≡ Some causes.NoDecrypt
-code_known sight source_id found code is some = ap (λ b. if b then Some causes.SourceUnknown else Some causes.NoDecrypt) (ap is_none (sym is) ∙ some)
+pub code_cause : (sight : Sight) (source_id : ℕ) (found : Option ℕ) (some : Bool) (code : List ℕ) → found ≡ slot_with source_id sight.slots → is_some found ≡ some
+    → cause_read sight (Ok (Code source_id code)) ≡ (if some then Some causes.NoDecrypt else Some causes.SourceUnknown)
+code_cause sight source_id found some code is holds =
+    ap (λ o. if is_none o then Some causes.SourceUnknown else Some causes.NoDecrypt) (sym is) ∙ code_by found some holds
 
 pub remove_unknown : (sight : Sight) (source_id : ℕ) → slot_with source_id sight.slots ≡ None → cause_read sight (Ok (Remove source_id)) ≡ Some causes.SourceUnknown
 remove_unknown sight source_id none =
@@ -280,3 +283,13 @@ modify_accepted m now modify slot entry moves filled slots waiting found within 
     accepted (Modify modify) m now Accepted (modify_long m.sight modify slot false found narrow) refl
     (modify_done m now modify slot entry moves slots waiting found within there held same does (filled_so ∙ ap (λ f. set m.sight.slots slot (Some f)) fills)
     (waits ∙ ap (λ f. m.waiting ++ change slot (value_at m.sight slot) (spelling (received (status_at slot (placed (place_by m.sight.place moves) None None m.sight)) f))) fills))
+
+code_does : (sight : Sight) (source_id : ℕ) (code : List ℕ) (cause : Option Cause) → done_read sight (Ok (Code source_id code)) cause ≡ nothing
+code_does sight source_id code None = refl
+code_does sight source_id code (Some cause) = refl
+
+pub code_replies : (m : Machine) (source_id : ℕ) (code : List ℕ) (reply : Reply) → reply ≡ reply_by (cause_read m.sight (Ok (Code source_id code))) → Replies (Code source_id code) m m reply
+code_replies m source_id code reply is = record {
+  reply = is;
+  step = sym (ap (λ done. moved done m) (code_does m.sight source_id code (cause_read m.sight (Ok (Code source_id code)))) ∙ moved_nothing m);
+}

@@ -35,7 +35,7 @@ not_reserved set small = ap (λ b. b && not (set == all_bits)) (le-ltb 214748364
 none_reserved : (place : ℕ) (bits : List ℕ) (wishes : List Wish) → AreSets bits
     → NoneReserved (flat_map subgroup_fields (map group_of (groups_from place bits wishes)))
 none_reserved place bits [] h = tt
-none_reserved place bits (wish ∷ wishes) h = (not_reserved (get_or bits place 0) (set_at bits h place), refl, refl, none_reserved (place + 1) bits wishes h)
+none_reserved place bits (wish ∷ wishes) h = (not_reserved (get_or bits place 0) (set_at bits h place), (refl, (refl, none_reserved (place + 1) bits wishes h)))
 
 synced_small : (b : Bool) → nat_lt 4 (if b then 2 else 0) ≡ false
 synced_small true = refl
@@ -51,15 +51,19 @@ has_octets status entry sets fits = record {
   metadata = metadata_fits 0 status.bits entry.wanted.wishes fits.metadata;
   values = (
     refl,
-    le-ltb 1 entry.source.address_type fits.address_type,
-    refl,
-    le-ltb 15 entry.source.sid fits.sid,
-    refl,
-    synced_small status.is_synced,
-    encryption_small status.is_encrypted,
-    refl,
-    refl,
-    none_reserved 0 status.bits entry.wanted.wishes sets,
+    (
+      le-ltb 1 entry.source.address_type fits.address_type,
+      (
+        refl,
+        (
+          le-ltb 15 entry.source.sid fits.sid,
+          (
+            refl,
+            (synced_small status.is_synced, (encryption_small status.is_encrypted, (refl, (refl, none_reserved 0 status.bits entry.wanted.wishes sets)))),
+          ),
+        ),
+      ),
+    ),
   );
 }
 

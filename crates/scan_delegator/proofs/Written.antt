@@ -1,5 +1,5 @@
 -- A write is an operation that is served, or no operation.
-use Rattle.std.proofs.Common.{ℕ, ◌≡◌, ◌≤◌, Bool, true, false, List, [], ◌∷◌, length, Option, Some, None, Result, Ok, Err, refl, sym, ap, ◌∙◌, subst}
+use Rattle.std.proofs.Common.{ℕ, zero, suc, ◌≡◌, ◌≤◌, Bool, true, false, List, [], ◌∷◌, length, Option, Some, None, Result, Ok, Err, refl, sym, ap, ◌∙◌, subst}
 use Rattle.std.specs.Prelude.{IfOk, OnOk, OnErr, nat_lt}
 use Rattle.std.specs.List.{AllByRecursion}
 use Rattle.std.proofs.lemmas.Bool.{ltb-false}
@@ -8,7 +8,7 @@ use Rattle.bass_operations.specs.declared.fault.OpFault.TheVariants as faults
 use Rattle.bass_operations.specs.declared.operation.Operation.{Operation}
 use Rattle.bass_operations.specs.declared.operation.Operation.TheVariants.{ScanStopped, ScanStarted, Add, Modify, Code, Remove}
 use Rattle.bass_operations.specs.declared.wishes.Wish.{Wish}
-use Rattle.bass_operations.specs.Layout.{OpIs, WishFits}
+use Rattle.bass_operations.specs.Layout.{OpIs, WishFits, fields}
 use Rattle.bass_operations.specs.Reading.{Fails, op_of}
 use Rattle.bcast_base.specs.declared.memory.Memory.{Memory}
 use Rattle.octet_fields.specs.Layout.{Field, NoneReserved}
@@ -56,24 +56,33 @@ fault_step m octets fault cause fails is =
 
 -- ---- what an operation keeps to
 
-first_free : (field : Field) (fields : List Field) → NoneReserved (field ∷ fields) → field.reserved ≡ false
-first_free field fields h = h.0
+-- the field at a place has no reserved value
+is_reserved_at : ℕ → List Field → Bool
+is_reserved_at place [] = false
+is_reserved_at zero (field ∷ fields) = field.reserved
+is_reserved_at (suc place) (field ∷ fields) = is_reserved_at place fields
 
-others_free : (field : Field) (fields : List Field) → NoneReserved (field ∷ fields) → NoneReserved fields
-others_free field fields h = h.1
+reserved_at : (place : ℕ) (fields : List Field) → NoneReserved fields → is_reserved_at place fields ≡ false
+unfolding is_reserved_at
+reserved_at zero [] h = refl
+reserved_at (suc place) [] h = refl
+reserved_at zero (field ∷ fields) h = h.0
+reserved_at (suc place) (field ∷ fields) h = reserved_at place fields h.1
 
 short : (wishes : List Wish) → AllByRecursion WishFits wishes → AllByRecursion (λ wish. length wish.metadata ≤ 255) wishes
 short [] h = tt
 short (wish ∷ wishes) h = (h.0.metadata, short wishes h.1)
 
 pub op_fits : (op : Operation) (octets : List ℕ) → OpIs op octets → OpFits op
+unfolding is_reserved_at
 op_fits ScanStopped octets is = tt
 op_fits ScanStarted octets is = tt
 op_fits (Add add) octets is =
-    let behind = others_free _ _ is.values in
+    let kind : nat_lt 1 add.address_type ≡ false = reserved_at 1 (fields (Add add)) is.values in
+    let sid : nat_lt 15 add.sid ≡ false = reserved_at 3 (fields (Add add)) is.values in
     λ source_id. record {
-      address_type = ltb-false 1 add.address_type (first_free _ _ behind);
-      sid = ltb-false 15 add.sid (first_free _ _ (others_free _ _ (others_free _ _ behind)));
+      address_type = ltb-false 1 add.address_type kind;
+      sid = ltb-false 15 add.sid sid;
       few = is.layout.widths.wishes.0;
       metadata = short add.wishes is.layout.widths.wishes.1;
     }

@@ -7,8 +7,8 @@ use Rattle.delegator_states.specs.Writes.{cause_read, reply_by, done_read}
 use Rattle.scan_delegator.specs.State.Machines.{Machine, moved}
 
 -- the reply by the first cause that holds; an accepted operation is done, and a refused one changes nothing
-pub record Replies (op : Operation) (before after : Machine) (reply : Reply) : Type 0 where
-  pub reply : reply ≡ reply_by (cause_read before.sight (Ok op))
+pub record Replies (op : Operation) (before after : Machine) (told : Reply) : Type 0 where
+  pub reply : told ≡ reply_by (cause_read before.sight (Ok op))
   pub step : after ≡ moved (done_read before.sight (Ok op) (cause_read before.sight (Ok op))) before
 
 -- or memory ran out, and nothing changed

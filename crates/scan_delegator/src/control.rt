@@ -1,7 +1,8 @@
 //! What a PDU is answered that is heard as a control PDU.
-ghost use Rattle.std.specs.Prelude.{◌≡◌};
+ghost use Rattle.std.specs.Prelude.{◌≡◌, if◌then◌else◌};
 ghost use Rattle.iso_pdu.specs.Control.{control_of};
-ghost use Rattle.delegator_states.specs.Controls.{control_heard, told_by};
+ghost use Rattle.delegator_states.specs.Controls.{control_heard, done_heard, told_by};
+ghost use Rattle.delegator_states.specs.Steps.{left, nothing};
 ghost use Rattle.scan_delegator.specs.State.Places.{place_of};
 
 use crate::place::Place;
@@ -39,5 +40,20 @@ fn told(payload: &[u8]) -> ControlHeard
         ) => ControlHeard::Left,
         Err(ControlFault::Opcode) => ControlHeard::UnknownOpcode,
         Err(ControlFault::ControlLength) => ControlHeard::ControlLength,
+    }
+}
+
+/// Whether it takes the sink off its group.
+pub(crate) fn leaves(heard: ControlHeard) -> bool
+    ensures { done_heard heard ≡ (if result then left else nothing) }
+{
+    match heard {
+        ControlHeard::Left => true,
+        ControlHeard::NotOnGroup
+        | ControlHeard::Malformed(_)
+        | ControlHeard::NotControl
+        | ControlHeard::UnknownOpcode
+        | ControlHeard::ControlLength
+        | ControlHeard::MapIgnored => false,
     }
 }

@@ -1,10 +1,10 @@
 //! What operations that were read do to a sink.
-ghost use Rattle.std.specs.Prelude.{◌≡◌, ◌<◌, ℕ, List, length, nat_lt, vec_len, Some, Ok};
+ghost use Rattle.std.specs.Prelude.{◌≡◌, ◌<◌, ◌+◌, ◌&&◌, ℕ, List, drop, length, nat_lt, vec_len, Some, Ok};
 ghost use Rattle.bass_operations.specs.declared.operation.Operation.TheVariants as ops;
 ghost use Rattle.delegator_states.specs.Sights.{Sight, entry_at};
 ghost use Rattle.delegator_states.specs.Steps.{modified, place_given, same_streams};
 ghost use Rattle.delegator_states.specs.Values.{value_at};
-ghost use Rattle.delegator_states.specs.Writes.{cause_read, entry_of, reply_by};
+ghost use Rattle.delegator_states.specs.Writes.{cause_read, entry_of, reply_by, slot_with};
 ghost use Rattle.scan_delegator.specs.Serving.{Serves};
 ghost use Rattle.scan_delegator.specs.State.Machines.{machine};
 ghost use Rattle.scan_delegator.specs.State.Places.{place_by, place_of, standing};
@@ -46,10 +46,10 @@ impl ScanDelegator {
         ensures { (code : List ℕ) → result ≡ reply_by (cause_read (machine self.now).sight (Ok (ops.Code source_id code))) }
     {
         let found = find_slot(&self.slots, &Sought::SourceId(source_id));
-        if found.is_none() {
-            return refused(Cause::SourceUnknown);
+        if found.is_some() {
+            return refused(Cause::NoDecrypt);
         }
-        refused(Cause::NoDecrypt)
+        refused(Cause::SourceUnknown)
     }
 
     // Add Source.
@@ -105,6 +105,16 @@ impl ScanDelegator {
         let Some(slot) = found else {
             return Ok(refused(Cause::SourceUnknown));
         };
+        self.modify_held(slot, modify)
+    }
+
+    // Modify Source of a slot that is filled.
+    fn modify_held(&mut self, slot: u8, modify: ModifySource) -> Result<Reply, Memory>
+        requires fits { OpFits (ops.Modify modify) }
+        requires found { slot_with modify.source_id self.old.slots.items ≡ Some slot }
+        requires within { slot < vec_len self.old.slots }
+        ensures { Serves (ops.Modify modify) (machine self.old) (machine self.new) result }
+    {
         let Some(held) = &self.slots[usize::from(slot)] else {
             unreachable!()
         };
@@ -168,11 +178,23 @@ fn are_same_streams(wishes: &Wishes, others: &Wishes) -> bool
         return false;
     }
     'wishes: for place in 0..wishes.count() {
-        if wishes.item(place).bis_sync != others.item(place).bis_sync {
+        if !are_same_at(wishes, others, place) {
             return false;
         }
     }
     true
+}
+
+/// Whether the same streams are wanted of the subgroup at this place.
+#[tactic(auto, using(crate::proofs::Streams::same_next))]
+fn are_same_at(wishes: &Wishes, others: &Wishes, place: usize) -> bool
+    requires here { place < length wishes.now }
+    requires there { place < length others.now }
+    ensures { same_streams (drop place wishes.now) (drop place others.now) ≡ (result && same_streams (drop (place + 1) wishes.now) (drop (place + 1) others.now)) }
+{
+    let wish = wishes.item(place);
+    let other = others.item(place);
+    wish.bis_sync == other.bis_sync
 }
 
 /// A slot with the source of an Add Source.

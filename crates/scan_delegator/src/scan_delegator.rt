@@ -1,9 +1,8 @@
-ghost use Rattle.std.specs.Prelude.{◌≡◌, ◌≤◌, ◌<◌, ◌++◌, vec_len, map, None, Option, IfOk, OnOk, OnErr, MatchOption};
-ghost use Rattle.std.specs.List.{range_with_len};
+ghost use Rattle.std.specs.Prelude.{◌≡◌, ◌≤◌, ◌<◌, ◌++◌, vec_len, option_map, replicate, slice_get, None, Option, IfOk, OnOk, OnErr, MatchOption};
 ghost use Rattle.delegator_states.specs.Notices.{handed_out};
 ghost use Rattle.scan_delegator.specs.State.Places.{IsWithin};
 
-use crate::control::heard_control;
+use crate::control::{heard_control, leaves};
 use crate::place::{Move, Place, SinkIdle, join, make_move};
 use crate::refusals::{cause_of, refused};
 use crate::slot::Slot;
@@ -169,9 +168,10 @@ impl ScanDelegator {
         ensures err { OnErr result (machine self.new ≡ machine self.old) }
     {
         let heard = heard_control(&self.place, pdu);
-        if let ControlHeard::Left = heard {
-            self.go(Move::OffGroup)?;
+        if !leaves(heard) {
+            return Ok(heard);
         }
+        self.go(Move::OffGroup)?;
         Ok(heard)
     }
 
@@ -223,12 +223,14 @@ fn cut(notice: Notice, mtu: Option<u16>) -> Notice
 
 // So many empty slots.
 fn empty_slots(alloc: Global, count: u8) -> Result<Vec<Option<Slot>>, Memory>
-    ensures items { IfOk result (λ slots. slots.items ≡ map (λ slot. None) (range_with_len 0 count)) }
-    ensures len { IfOk result (λ slots. vec_len slots ≡ count) }
+    ensures { IfOk result (λ slots. slots.items ≡ replicate count None) }
 {
-    let mut slots = Vec::with_capacity(alloc, usize::from(count))?;
-    'slots: for _ in 0..count {
-        slots.push(None)?;
+    let mut slots = Vec::new(alloc);
+    'places: for _ in 0..count {
+        match slots.push(None) {
+            Ok(()) => continue 'places,
+            Err(_) => return Err(Memory),
+        }
     }
     Ok(slots)
 }

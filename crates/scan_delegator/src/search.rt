@@ -1,7 +1,7 @@
 //! Looking for a slot, and for an unused Source_ID.
-ghost use Rattle.std.specs.Prelude.{◌≡◌, ◌≤◌, ◌<◌, length, vec_len, IfSome};
+ghost use Rattle.std.specs.Prelude.{◌≡◌, ◌≤◌, ◌<◌, is_some, length, vec_len, IfSome};
 ghost use Rattle.std.specs.Str.{bytes_eq};
-ghost use Rattle.delegator_states.specs.Writes.{least_unused, slot_where};
+ghost use Rattle.delegator_states.specs.Writes.{least_unused, slot_where, slot_with};
 ghost use Rattle.scan_delegator.specs.State.Slots.{meets};
 
 use crate::slot::Slot;
@@ -74,17 +74,23 @@ fn are_same(id: &[u8; 3], other: &[u8; 3]) -> bool
 }
 
 /// The least Source_ID that no slot has.
-#[tactic(auto, unfolding(delegator_states::specs::Writes::unused_from))]
 pub(crate) fn unused_id(slots: &Vec<Option<Slot>>) -> u8
     requires { vec_len slots.now ≤ 8 }
     ensures { result ≡ least_unused slots.now.items }
 {
     let count = slots.len() as u8;
     'ids: for source_id in 0..count {
-        let used = find_slot(slots, &Sought::SourceId(source_id));
-        if used.is_none() {
+        if !is_used(slots, source_id) {
             return source_id;
         }
     }
     count
+}
+
+/// Whether a slot has the Source_ID.
+fn is_used(slots: &Vec<Option<Slot>>, source_id: u8) -> bool
+    requires { vec_len slots.now ≤ 8 }
+    ensures { result ≡ is_some (slot_with source_id slots.now.items) }
+{
+    find_slot(slots, &Sought::SourceId(source_id)).is_some()
 }

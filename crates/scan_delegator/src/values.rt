@@ -1,12 +1,12 @@
 //! The values of slots, and the notices of their changes.
-ghost use Rattle.std.specs.Prelude.{◌≡◌, ◌++◌, get_or, option_map, None, IfOk, OnOk, OnErr};
+ghost use Rattle.std.specs.Prelude.{◌≡◌, ◌<◌, ◌+◌, ◌++◌, ◌∷◌, drop, length, if◌then◌else◌, get_or, option_map, None, IfOk, OnOk, OnErr};
 ghost use Rattle.receive_state.specs.Layout.{spelling};
 ghost use Rattle.delegator_states.specs.Notices.{change};
 ghost use Rattle.delegator_states.specs.Sights.{Sight};
 ghost use Rattle.delegator_states.specs.Steps.{placed};
 ghost use Rattle.delegator_states.specs.Values.{encryption_of, groups_from, received, value};
 ghost use Rattle.scan_delegator.specs.State.Places.{place_by, place_of, standing};
-ghost use Rattle.scan_delegator.specs.State.Slots.{AreSets};
+ghost use Rattle.scan_delegator.specs.State.Slots.{AreSets, EntryFits};
 ghost use Rattle.scan_delegator.specs.State.Statuses.{status_at, status_seen};
 
 use crate::place::{Move, Place};
@@ -71,20 +71,36 @@ pub(crate) fn value_filled(
     requires { AreSets status.now.bits.now }
     ensures { IfOk result (λ octets. octets ≡ spelling (received (status_seen status.now) slot.now)) }
 {
+    let state = state_of(alloc, slot, status)?;
+    encode_state(alloc, Some(&state))
+}
+
+/// The state of a slot that is filled.
+fn state_of(alloc: Global, slot: &Slot, status: &Status<'_>) -> Result<ReceiveState, Memory>
+    ensures same { IfOk result (λ state. state ≡ received (status_seen status.now) slot.now) }
+    ensures fits { EntryFits slot.now }
+{
     let source = slot.source();
     let address = source.address;
     let broadcast_id = source.broadcast_id;
-    let state = ReceiveState {
+    let groups = groups_of(alloc, slot.wishes(), status.bits)?;
+    Ok(ReceiveState {
         source_id: source.source_id,
         address_type: source.address_type,
         address,
         sid: source.sid,
         broadcast_id,
-        pa_sync_state: if status.is_synced { 2 } else { 0 },
+        pa_sync_state: sync_state(status.is_synced),
         encryption: encryption(status.is_encrypted),
-        groups: groups_of(alloc, slot.wishes(), status.bits)?,
-    };
-    encode_state(alloc, Some(&state))
+        groups,
+    })
+}
+
+/// Synchronised, or not synchronised.
+fn sync_state(is_synced: bool) -> u8
+    ensures { result ≡ (if is_synced then 2 else 0) }
+{
+    if is_synced { 2 } else { 0 }
 }
 
 /// Code required, or not encrypted.
@@ -103,13 +119,24 @@ fn groups_of(alloc: Global, wishes: &Wishes, bits: &[u32]) -> Result<GroupStates
     ensures { IfOk result (λ groups. groups ≡ groups_from 0 bits.now wishes.now) }
 {
     let mut groups = GroupStates::new(alloc);
-    'wishes: for place in 0..wishes.count() {
-        groups.push(GroupState {
-            bis_sync_state: bits_at(bits, place),
-            metadata: wishes.item(place).metadata.copy_again()?,
-        })?;
+    'subgroups: for place in 0..wishes.count() {
+        let group = group_at(wishes, bits, place)?;
+        groups.push(group)?;
     }
     Ok(groups)
+}
+
+/// What is received of the subgroup at this place.
+fn group_at(wishes: &Wishes, bits: &[u32], place: usize) -> Result<GroupState, Memory>
+    requires { place < length wishes.now }
+    ensures { IfOk result (λ group. groups_from place bits.now (drop place wishes.now) ≡ group ∷ groups_from (place + 1) bits.now (drop (place + 1) wishes.now)) }
+{
+    let wish = wishes.item(place);
+    let metadata = wish.metadata.copy_again()?;
+    Ok(GroupState {
+        bis_sync_state: bits_at(bits, place),
+        metadata,
+    })
 }
 
 /// The streams of the subgroup at this place; none past the end.

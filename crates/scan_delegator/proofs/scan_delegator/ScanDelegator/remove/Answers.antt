@@ -20,8 +20,8 @@ returns-then-is_on c =
     let m : Machine = machine c.args.self.now in
     let found : slot_with c.args.source_id m.sight.slots ≡ Some c.in-Some.slot = sym c.find_slot-found.ensures.first ∙ c.in-Some.is in
     let held = held_slot c.args.source_id m.sight.slots c.in-Some.slot found in
-    refused (Remove c.args.source_id) m causes.StillSynced c.refused.result
-    (remove_synced m.sight c.args.source_id c.in-Some.slot held.0 true found held.1 (sym c.is_on.ensures ∙ c.if-is_on.true)) c.refused.ensures
+    refused (Remove c.args.source_id) m causes.StillSynced c.refused-then-is_on.result
+    (remove_synced m.sight c.args.source_id c.in-Some.slot held.0 true found held.1 (sym c.is_on.ensures ∙ c.if-is_on.true)) c.refused-then-is_on.ensures
 
 pub returns : goal.returns
 returns c =
