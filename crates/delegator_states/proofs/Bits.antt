@@ -6,8 +6,8 @@ use Rattle.std.proofs.lemmas.Bool.{eqb-true}
 use Rattle.bass_operations.specs.declared.wishes.Wish.{Wish}
 use Rattle.receive_state.specs.declared.state.GroupState.{GroupState}
 use Rattle.receive_state.specs.declared.state.ReceiveState.{ReceiveState}
-use Rattle.delegator_states.specs.Sights.{Entry, Place, Sight, idle, on_train, on_group, is_on_group, entry_at}
-use Rattle.delegator_states.specs.Values.{Status, status_of, groups_from, received, state_at, HasBit}
+use Rattle.delegator_states.specs.Sights.{Entry, Place, idle, on_train, on_group}
+use Rattle.delegator_states.specs.Values.{status_of, groups_from, received, HasBit}
 
 -- no bit is set where none is taken
 none_set : (place : ℕ) (wishes : List Wish) (k : ℕ) (group : GroupState) → k < length (groups_from place [] wishes)

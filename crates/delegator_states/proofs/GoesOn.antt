@@ -1,6 +1,6 @@
 -- What is looked back for goes on by what each step does.
-use Rattle.std.proofs.Common.{ℕ, ◌≡◌, ◌≢◌, ◌+◌, ◌<◌, Bool, true, false, List, [], ◌∷◌, ◌++◌, map, set, get_or, Option, Some, None, refl, sym, ap, ◌∙◌, subst, arith}
-use Rattle.std.specs.Prelude.{◌==◌, unwrap_or, slice_set, if◌then◌else◌}
+use Rattle.std.proofs.Common.{ℕ, ◌≡◌, ◌≢◌, ◌+◌, Bool, true, false, List, [], ◌∷◌, ◌++◌, map, Option, Some, None, refl, sym, ap, ◌∙◌, arith}
+use Rattle.std.specs.Prelude.{◌==◌, unwrap_or, if◌then◌else◌}
 use Rattle.std.specs.Option.{option_or}
 use Rattle.std.specs.List.{range_with_len}
 use Rattle.std.proofs.lemmas.Bool.{eqb-true, eq-eqb}
@@ -10,7 +10,7 @@ use Rattle.delegator_states.specs.declared.source.Source.{Source}
 use Rattle.delegator_states.specs.LastGiven.{last_given}
 use Rattle.delegator_states.specs.Sights.{Wanted, Entry, Place, Sight, slot_of, is_on, entry_at}
 use Rattle.delegator_states.specs.Steps.{Done, nothing, added, modified, removed, tuned, followed, joined, lost, left, recorded, located, opened}
-use Rattle.delegator_states.specs.Steps.{place_given, place_after, encryption_given, taken_given, wanting, slots_after, capability_after, placed, after}
+use Rattle.delegator_states.specs.Steps.{place_given, encryption_given, taken_given, wanting, slots_after, capability_after, placed, after}
 use Rattle.delegator_states.specs.Trains.{Setup}
 use Rattle.delegator_states.specs.States.{Answered, Step, answered, done_by, sight_in, sight_of, place_in, encrypted_in, encrypted_where, taken_in}
 use Rattle.delegator_states.specs.States.{source_by, wanted_by, entry_from, unwanted, source_in, wanted_in, entry_in, records_in, capability_in}

@@ -10,7 +10,7 @@ use Rattle.iso_pdu.specs.Layout.{Content, control}
 use Rattle.iso_pdu.specs.Reading.{read_of}
 use Rattle.delegator_states.specs.declared.train_heard.ControlHeard.{ControlHeard}
 use Rattle.delegator_states.specs.declared.train_heard.ControlHeard.TheVariants.{NotOnGroup, Malformed, NotControl, UnknownOpcode, ControlLength, MapIgnored, Left}
-use Rattle.delegator_states.specs.Sights.{Place, idle, on_train, on_group}
+use Rattle.delegator_states.specs.Sights.{Place, on_group}
 use Rattle.delegator_states.specs.Steps.{Done, nothing, left}
 
 abbrev pub told_by : Result Control ControlFault → ControlHeard

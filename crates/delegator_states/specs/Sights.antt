@@ -1,7 +1,7 @@
 -- What a Scan Delegator has at a time (Basic Audio Profile 1.0, section 6.5.3; Broadcast Audio Scan Service 1.0, sections
 -- 3.1.1 and 3.2): the sources in its slots with what is wanted of them, and the train or the group that it is on. Slots count
 -- from 0.
-use Rattle.std.specs.Prelude.{ℕ, ◌==◌, Bool, true, false, List, Option, Some, None, slice_index_or}
+use Rattle.std.specs.Prelude.{ℕ, ◌==◌, Bool, false, List, Option, Some, None, slice_index_or}
 use Rattle.bass_operations.specs.declared.wishes.Wish.{Wish}
 use Rattle.pacs_records.specs.declared.capability.Capability.{Capability}
 use Rattle.delegator_states.specs.declared.source.Source.{Source}

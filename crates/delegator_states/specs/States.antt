@@ -1,14 +1,14 @@
 -- Receive states, looked back for field by field (Broadcast Audio Scan Service 1.0, section 3.2): each is what the last
 -- answered step says that says something of it. Steps are listed with the newest first.
-use Rattle.std.specs.Prelude.{ℕ, ◌==◌, Bool, true, false, List, [], ◌∷◌, ◌++◌, map, Option, Some, None, unwrap_or, if◌then◌else◌}
+use Rattle.std.specs.Prelude.{ℕ, ◌==◌, Bool, false, List, [], ◌∷◌, ◌++◌, map, Option, Some, None, unwrap_or, if◌then◌else◌}
 use Rattle.std.specs.List.{range_with_len}
 use Rattle.pacs_records.specs.declared.capability.Capability.{Capability}
 use Rattle.pacs_records.specs.declared.record.PacRecord.{PacRecord}
 use Rattle.delegator_states.specs.declared.source.Source.{Source}
 use Rattle.delegator_states.specs.Controls.{done_by_control}
 use Rattle.delegator_states.specs.LastGiven.{last_given}
-use Rattle.delegator_states.specs.Sights.{Wanted, Entry, Place, idle, on_train, on_group, Sight, slot_of, is_on}
-use Rattle.delegator_states.specs.Steps.{Done, nothing, added, modified, removed, tuned, followed, joined, lost, left, recorded, located, opened, place_given, place_after, encryption_given, taken_given}
+use Rattle.delegator_states.specs.Sights.{Wanted, Entry, Place, idle, on_group, Sight, slot_of, is_on}
+use Rattle.delegator_states.specs.Steps.{Done, nothing, added, modified, removed, tuned, lost, recorded, located, opened, place_given, place_after, encryption_given, taken_given}
 use Rattle.delegator_states.specs.Trains.{Joining, Setup, Train, brought_by, done_brought}
 use Rattle.delegator_states.specs.Writes.{done_by_write}
 

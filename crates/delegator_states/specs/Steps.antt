@@ -1,6 +1,6 @@
 -- What a Scan Delegator does, step by step, and what a step makes of what it has. What a Modify Source does to the place of
 -- the sink is this project's own.
-use Rattle.std.specs.Prelude.{ℕ, ◌==◌, ◌&&◌, not, Bool, true, false, List, [], ◌∷◌, ◌++◌, map, Option, Some, None, unwrap_or, slice_set, if◌then◌else◌}
+use Rattle.std.specs.Prelude.{ℕ, ◌==◌, ◌&&◌, not, Bool, false, List, [], ◌∷◌, ◌++◌, map, Option, Some, None, unwrap_or, slice_set, if◌then◌else◌}
 use Rattle.std.specs.Str.{bytes_eq}
 use Rattle.bass_operations.specs.declared.wishes.Wish.{Wish}
 use Rattle.pacs_records.specs.declared.capability.Capability.{Capability}

@@ -1,6 +1,6 @@
 -- What a train is answered that is heard, and what it does (Basic Audio Profile 1.0, sections 3.7.2 and 6.5.4). The order of
 -- the answers, and which streams are taken first, are this project's own.
-use Rattle.std.specs.Prelude.{ℕ, ◌+◌, ◌-◌, ◌*◌, ◌/◌, ◌^◌, ◌==◌, ◌&&◌, not, Bool, true, false, List, [], ◌∷◌, length, map, take, bit_or, Option, Some, None, is_some, is_none, nat_le, Result, Ok, Err, if◌then◌else◌}
+use Rattle.std.specs.Prelude.{ℕ, ◌+◌, ◌-◌, ◌*◌, ◌/◌, ◌^◌, ◌==◌, ◌&&◌, not, Bool, false, List, [], ◌∷◌, length, map, take, bit_or, Option, Some, None, is_none, nat_le, Result, Ok, Err, if◌then◌else◌}
 use Rattle.std.specs.Int.{bit_at}
 use Rattle.std.specs.List.{filter, range_with_len}
 use Rattle.base_grammar.specs.declared.fault.BaseFault.{BaseFault}
@@ -21,7 +21,7 @@ use Rattle.pacs_records.specs.declared.capability.Capability.{Capability}
 use Rattle.pacs_records.specs.Reasons.{stream_not_taken}
 use Rattle.delegator_states.specs.declared.train_heard.TrainHeard.{TrainHeard}
 use Rattle.delegator_states.specs.declared.train_heard.TrainHeard.TheVariants as answers
-use Rattle.delegator_states.specs.Sights.{Entry, Place, Sight, idle, on_train, on_group, is_on, is_on_group, entry_at}
+use Rattle.delegator_states.specs.Sights.{Entry, Place, Sight, idle, on_train, on_group, is_on_group, entry_at}
 use Rattle.delegator_states.specs.Steps.{Done, nothing, followed, joined, wishes_at}
 use Rattle.delegator_states.specs.Writes.{has, has_source, slot_where}
 

@@ -288,8 +288,12 @@ code_does : (sight : Sight) (source_id : ℕ) (code : List ℕ) (cause : Option 
 code_does sight source_id code None = refl
 code_does sight source_id code (Some cause) = refl
 
-pub code_replies : (m : Machine) (source_id : ℕ) (code : List ℕ) (reply : Reply) → reply ≡ reply_by (cause_read m.sight (Ok (Code source_id code))) → Replies (Code source_id code) m m reply
+code_replies : (m : Machine) (source_id : ℕ) (code : List ℕ) (reply : Reply) → reply ≡ reply_by (cause_read m.sight (Ok (Code source_id code))) → Replies (Code source_id code) m m reply
 code_replies m source_id code reply is = record {
   reply = is;
   step = sym (ap (λ done. moved done m) (code_does m.sight source_id code (cause_read m.sight (Ok (Code source_id code)))) ∙ moved_nothing m);
 }
+
+pub code_case : (op : Operation) (source_id : ℕ) (code : List ℕ) (m : Machine) (reply : Reply) → op ≡ Code source_id code
+    → ((other : List ℕ) → reply ≡ reply_by (cause_read m.sight (Ok (Code source_id other)))) → Replies op m m reply
+code_case op source_id code m reply is told = subst (λ (o : Operation). Replies o m m reply) (sym is) (code_replies m source_id code reply (told code))

@@ -4,7 +4,7 @@ use Rattle.bass_operations.specs.declared.operation.Operation.TheVariants.{ScanS
 use Rattle.delegator_states.specs.declared.replies.Reply.TheVariants.{Accepted}
 use Rattle.scan_delegator.specs.Serving.{Replies}
 use Rattle.scan_delegator.specs.State.Machines.{Machine, machine}
-use Rattle.scan_delegator.proofs.Serving.{accepted, code_replies}
+use Rattle.scan_delegator.proofs.Serving.{accepted, code_case}
 use Rattle.scan_delegator.proofs.Standing.{moved_nothing}
 use Rattle.scan_delegator.proofs.scan_delegator.ScanDelegator.operate.Goals as goal
 
@@ -19,6 +19,4 @@ returns-in-ScanStarted c =
     subst (λ (op : Operation). Replies op m m Accepted) (sym c.in-ScanStarted.is) (accepted ScanStarted m m Accepted refl refl (sym (moved_nothing m)))
 
 pub returns-in-Code : goal.returns-in-Code
-returns-in-Code c =
-    let m : Machine = machine c.args.self.now in
-    subst (λ (op : Operation). Replies op m m c.refuse_code.result) (sym c.in-Code.is) (code_replies m c.in-Code.source_id _ c.refuse_code.result (c.refuse_code.ensures _))
+returns-in-Code c = code_case c.args.op c.in-Code.source_id _ (machine c.args.self.now) c.refuse_code.result c.in-Code.is c.refuse_code.ensures
