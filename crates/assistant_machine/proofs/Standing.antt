@@ -6,7 +6,8 @@ use Rattle.std.proofs.lemmas.List.{length-set}
 use Rattle.std.proofs.lemmas.Option.{slice_get_within}
 use Rattle.receive_state.specs.declared.state.ReceiveState.{ReceiveState}
 use Rattle.assistant_machine.specs.Calls.{Call, limited, put, sent, told, all_asked, asked, read, mtu_of, sent_of, writes_of}
-use Rattle.assistant_machine.specs.Views.{asks, if_slot, reading_of, view_of, waits_of}
+use Rattle.notice_links.specs.Cuts.{asks}
+use Rattle.assistant_machine.specs.Views.{if_slot, reading_of, view_of, waits_of}
 use Rattle.assistant_machine.specs.State.Assistants.{Assistant, IsLowest, StandsFor, after_notice, after_read, joined, with_read, with_reading, with_write}
 
 get_set_here : {A : Type 0} (xs : List A) (i : ℕ) (x : A) → i < length xs → slice_get (slice_set xs i x) i ≡ Some x

@@ -1,15 +1,11 @@
 -- What an assistant knows of the slots of a server (Broadcast Audio Scan Service 1.0, section 3.2; a notice is cut to MTU - 3
 -- octets by Core 5.2, volume 3 part F, section 3.4.7.1, and a longer value has to be read). Lists of calls have the newest first.
-use Rattle.std.specs.Prelude.{ℕ, ◌-◌, ◌==◌, ◌&&◌, nat_le, not, Bool, true, false, List, [], ◌∷◌, length, Option, Some, None, Result, Ok, Err, unwrap_or}
+use Rattle.std.specs.Prelude.{ℕ, ◌==◌, ◌&&◌, not, Bool, true, false, List, [], ◌∷◌, Option, Some, None, Result, Ok, Err, unwrap_or}
+use Rattle.notice_links.specs.Cuts.{asks}
 use Rattle.receive_state.specs.Reading.{state_of}
 use Rattle.receive_state.specs.declared.fault.StateFault.{StateFault}
 use Rattle.receive_state.specs.declared.state.ReceiveState.{ReceiveState}
 use Rattle.assistant_machine.specs.Calls.{Call, told, all_asked, asked, read, mtu_of}
-
--- a value that may have been cut asks for a read of its slot; any other tells what the slot has
-abbrev pub asks : Option ℕ → List ℕ → Bool
-asks None value = false
-asks (Some mtu) value = nat_le (mtu - 3) (length value)
 
 -- what a slot has, where the octets are a value: a state, or no source
 abbrev pub told_of : Result (Option ReceiveState) StateFault → Option (Option ReceiveState)

@@ -9,3 +9,4 @@ mod word;
 
 pub use cursor::Cursor;
 pub use fault::LineFault;
+pub use word::decimal_within;
