@@ -7,7 +7,7 @@ mod replies;
 mod source;
 mod train_heard;
 
-pub use laws::{bits_stand_on_the_group, last_given_is_last};
+pub use laws::{a_step_goes_on, bits_stand_on_the_group, last_given_is_last};
 pub use notice::Notice;
 pub use replies::{Cause, Reply};
 pub use source::Source;
