@@ -2,6 +2,7 @@
 #![tactic(auto)]
 
 mod first_lines;
+mod fitting;
 mod later_lines;
 mod laws;
 mod line;

@@ -12,11 +12,11 @@ use scenario_words::{Cursor, LineFault};
 use std::alloc::Global;
 
 /// The most octets of an operation, and those of an Add Source and of a Modify Source before their subgroups.
-const MOST_OF_OPERATION: usize = 512;
+pub(crate) const MOST_OF_OPERATION: usize = 512;
 
-const BEFORE_ADD: usize = 16;
+pub(crate) const BEFORE_ADD: usize = 16;
 
-const BEFORE_MODIFY: usize = 6;
+pub(crate) const BEFORE_MODIFY: usize = 6;
 
 pub fn pac(alloc: Global, words: &mut Cursor<'_>) -> Result<Step, LineFault>
     ensures in_range { IfOk result IsInRange }

@@ -7,5 +7,5 @@ mod digits;
 mod fault;
 mod word;
 
-pub use cursor::Cursor;
+pub use cursor::{Cursor, octets_of_wishes};
 pub use fault::LineFault;

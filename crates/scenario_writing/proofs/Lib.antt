@@ -1,0 +1,4 @@
+mod Putting
+mod Lines
+mod Rows
+mod Laws
