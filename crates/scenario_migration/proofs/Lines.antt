@@ -92,3 +92,18 @@ pub blank_first : (text line rest : List ℕ) → lines_of text ≡ line ∷ lin
 unfolding migrated
 blank_first text line rest split blank =
     rw (split, blank) (ap (λ (l : List ℕ). line ++ l) (behind_some (migrated_lines (lines_of rest)) (some_migrated (lines_of rest) (some_line rest))))
+
+-- what was put so far, and what follows it
+pub ends_first : (whole now line out left : List ℕ) (rest : Option (Bor (List ℕ))) → migrated whole ≡ now ++ migrated left → lines_of left ≡ line ∷ lines_after rest → is_blank line ≡ false
+    → out ≡ (now ++ migrated_line line) ++ text_after rest → out ≡ migrated whole
+ends_first whole now line out left rest so_far split first put =
+    put ∙ (append_assoc now (migrated_line line) (text_after rest) ∙ (ap (λ (l : List ℕ). now ++ l) (sym (first_migrated left line rest split first)) ∙ sym so_far))
+
+pub ends_blank : (whole now line out left : List ℕ) → migrated whole ≡ now ++ migrated left → lines_of left ≡ line ∷ [] → is_blank line ≡ true → out ≡ now ++ line → out ≡ migrated whole
+ends_blank whole now line out left so_far split blank put = put ∙ (ap (λ (l : List ℕ). now ++ l) (sym (blank_last left line split blank)) ∙ sym so_far)
+
+pub goes_on : (whole now line out left rest : List ℕ) → migrated whole ≡ now ++ migrated left → lines_of left ≡ line ∷ lines_of rest → is_blank line ≡ true → out ≡ (now ++ line) ++ 10 ∷ []
+    → migrated whole ≡ out ++ migrated rest
+goes_on whole now line out left rest so_far split blank put =
+    so_far ∙ (ap (λ (l : List ℕ). now ++ l) (blank_first left line rest split blank) ∙ sym (ap (λ (l : List ℕ). l ++ migrated rest) put
+    ∙ (append_assoc (now ++ line) (10 ∷ []) (migrated rest) ∙ append_assoc now line (10 ∷ migrated rest))))

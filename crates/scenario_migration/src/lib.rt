@@ -1,6 +1,6 @@
 //! A scenario of version 1 as one of version 2.
 #![tactic(auto)]
 
-mod migrate;
+mod migration;
 
-pub use migrate::migrate;
+pub use migration::migrate;

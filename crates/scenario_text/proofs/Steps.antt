@@ -179,6 +179,11 @@ said_in_range version line made e =
     let is = so_says version line made e in
     says_within is.row.places is.row.build made is.words is.spelled (row_within version is.first is.row is.known)
 
+pub is_in_range : (version : ℕ) (line : List ℕ) (r : Result (Option Step) LineFault) → Gives (λ read. read) r (read_of version line) → IfOk r (λ read. IfSome read IsInRange)
+is_in_range version line (Ok (Some made)) given = said_in_range version line made given
+is_in_range version line (Ok None) given = tt
+is_in_range version line (Err e) given = tt
+
 pub is_found : (version : ℕ) (line : List ℕ) (r : Result (Option Step) LineFault) → Gives (λ read. read) r (read_of version line) → IfOk r (λ read. IfSome read (λ made. LineIs version made line))
 is_found version line (Ok (Some made)) given = line_says version line made given
 is_found version line (Ok None) given = tt

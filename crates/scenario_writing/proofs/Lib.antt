@@ -1,4 +1,4 @@
 mod Putting
 mod Lines
 mod Rows
-mod Laws
+mod Said

@@ -18,11 +18,11 @@ pub fn two_octets(n: u16) -> [u8; 2]
 
 /// A number in 4 octets, the least octet first.
 #[tactic(auto, using(octet_fields::proofs::Citable::number_once))]
-pub fn four_octets(n: u32) -> [u8; 4]
-    ensures { result ≡ number 4 n }
+pub fn four_octets(bits: u32) -> [u8; 4]
+    ensures { result ≡ number 4 bits }
 {
     let mut octets = [0; 4];
-    write_le(n as u64, &mut octets);
+    write_le(bits as u64, &mut octets);
     octets
 }
 

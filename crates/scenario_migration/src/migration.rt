@@ -40,7 +40,7 @@ fn in_version_2(line: &[u8]) -> &[u8]
 
 /// Puts what follows a line behind it, with the end of the line.
 fn put_after(text: &mut Octets, rest: Option<&[u8]>) -> Result<(), Memory>
-    ensures { OnOk result (text.new ≡ text.old ++ text_after rest) }
+    ensures { OnOk result (text.new ≡ text.old ++ text_after rest.entry) }
 {
     match rest {
         None => Ok(()),
@@ -66,10 +66,12 @@ pub fn migrate(alloc: Global, text: &[u8]) -> Result<Octets, Memory>
             return Ok(migrated);
         }
         migrated.append(line)?;
-        let Some(rest) = rest else {
-            return Ok(migrated);
-        };
-        migrated.push(b'\n')?;
-        left = rest;
+        match rest {
+            None => return Ok(migrated),
+            Some(after) => {
+                migrated.push(b'\n')?;
+                left = after;
+            }
+        }
     }
 }

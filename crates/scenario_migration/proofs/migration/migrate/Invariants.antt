@@ -1,6 +1,6 @@
 use Rattle.std.proofs.Common.{◌≡◌, ◌++◌, length}
 use Rattle.scenario_migration.specs.Migrated.{migrated}
-use Rattle.scenario_migration.proofs.migrate.migrate.Given as goal
+use Rattle.scenario_migration.proofs.migration.migrate.Given as goal
 
 abbrev pub invariant-blanks : goal.invariant-blanks
 invariant-blanks l = migrated l.text ≡ l.migrated ++ migrated l.left

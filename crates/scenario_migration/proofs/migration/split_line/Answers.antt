@@ -1,7 +1,7 @@
 use Rattle.std.proofs.Common.{◌+◌, add-one}
 use Rattle.std.proofs.lemmas.List.{take_rest}
 use Rattle.scenario_migration.proofs.Lines.{no_end, first_end}
-use Rattle.scenario_migration.proofs.migrate.split_line.Goals as goal
+use Rattle.scenario_migration.proofs.migration.split_line.Goals as goal
 
 pub returns-in-None-clause-lines : goal.returns-in-None-clause-lines
 returns-in-None-clause-lines c = no_end c.args.text.now c.in-None.ensures
