@@ -19,3 +19,5 @@ mod pacs;
 mod states;
 #[cfg(test)]
 mod takes;
+#[cfg(test)]
+mod trains;

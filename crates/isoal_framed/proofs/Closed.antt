@@ -7,10 +7,11 @@ use Rattle.std.proofs.lemmas.List.{append-nil}
 use Rattle.std.proofs.lemmas.List.Folds.{flat_map-map}
 use Rattle.big_info.specs.Bounds.{Bounds}
 use Rattle.big_info.specs.Schedule.{horizon_of}
+use Rattle.unit_outlets.specs.Handed.{Handed}
 use Rattle.isoal_base.specs.Stays.{Stay, Call, hear, close, opened, window_of}
 use Rattle.isoal_base.specs.Hearing.{read_as}
 use Rattle.isoal_base.proofs.Citable.{heard_same, entry_outside, map_part, stands_new, stands_hear, stands_close}
-use Rattle.isoal_framed.specs.Histories.{heard_in, event_tokens, closed_tokens, decided, gained}
+use Rattle.isoal_framed.specs.Histories.{heard_in, event_tokens, closed_tokens, decided, gained, undecided_in}
 use Rattle.isoal_framed.specs.Tokens.{segmented, tokens_of}
 use Rattle.isoal_framed.specs.Units.{units, undecided_run}
 use Rattle.isoal_framed.specs.State.Joining.{hands, run_after}
@@ -134,23 +135,30 @@ close_stands window bounds calls stands = record {
       ∙ ap (undecided_run window.stay.info.max_sdu) (sym (closed_close window.stay calls));
 }
 
--- what the decided units gain is what is owed
-decided_more : (window : Window) → Bounds window.stay.info → (calls : List Call) → Stands calls window
-    → decided window.stay (close ∷ calls) ≡ decided window.stay calls ++ owed window
-decided_more window bounds calls stands =
-    ap (units window.stay.info.max_sdu window.stay.bis) (closed_close window.stay calls)
-    ∙ units_more window.stay.info.max_sdu window.stay.bis (closed_tokens window.stay calls) (event_tokens window.stay calls (opened window.stay calls))
-    ∙ ap (λ run. decided window.stay calls ++ hands window.stay.info.max_sdu window.stay.bis run (event_tokens window.stay calls (opened window.stay calls))) (sym stands.run)
-    ∙ ap (λ tokens. decided window.stay calls ++ hands window.stay.info.max_sdu window.stay.bis window.run tokens)
-    (sym (tokens_are window bounds.bn calls stands))
+-- a close adds to the units that are decided
+close_adds : (stay : Stay) (calls : List Call) → decided stay (close ∷ calls)
+    ≡ decided stay calls ++ hands stay.info.max_sdu stay.bis (undecided_in stay calls) (event_tokens stay calls (opened stay calls))
+close_adds stay calls =
+    ap (units stay.info.max_sdu stay.bis) (closed_close stay calls)
+    ∙ units_more stay.info.max_sdu stay.bis (closed_tokens stay calls) (event_tokens stay calls (opened stay calls))
+
+pub close_gains : (stay : Stay) (calls : List Call) → decided stay (close ∷ calls) ≡ decided stay calls ++ gained stay calls
+close_gains stay calls =
+    let added : List Handed = hands stay.info.max_sdu stay.bis (undecided_in stay calls) (event_tokens stay calls (opened stay calls)) in
+    close_adds stay calls
+    ∙ ap (λ xs. decided stay calls ++ xs)
+    (sym (ap (drop (length (decided stay calls))) (close_adds stay calls) ∙ drop-append_seam (decided stay calls) added))
+
+-- what they gain is what is owed
+owed_added : (window : Window) → Bounds window.stay.info → (calls : List Call) → Stands calls window
+    → hands window.stay.info.max_sdu window.stay.bis (undecided_in window.stay calls) (event_tokens window.stay calls (opened window.stay calls)) ≡ owed window
+owed_added window bounds calls stands =
+    ap (λ run. hands window.stay.info.max_sdu window.stay.bis run (event_tokens window.stay calls (opened window.stay calls))) (sym stands.run)
+    ∙ ap (hands window.stay.info.max_sdu window.stay.bis window.run) (sym (tokens_are window bounds.bn calls stands))
 
 pub owed_is : (window : Window) → Bounds window.stay.info → (calls : List Call) → Stands calls window
     → owed window ≡ gained window.stay calls
 owed_is window bounds calls stands =
-    sym (ap (drop (length (decided window.stay calls))) (decided_more window bounds calls stands)
+    sym (ap (drop (length (decided window.stay calls)))
+    (close_adds window.stay calls ∙ ap (λ xs. decided window.stay calls ++ xs) (owed_added window bounds calls stands))
     ∙ drop-append_seam (decided window.stay calls) (owed window))
-
-pub gains : (window : Window) → Bounds window.stay.info → (calls : List Call) → Stands calls window
-    → decided window.stay (close ∷ calls) ≡ decided window.stay calls ++ gained window.stay calls
-gains window bounds calls stands =
-    decided_more window bounds calls stands ∙ ap (λ xs. decided window.stay calls ++ xs) (owed_is window bounds calls stands)

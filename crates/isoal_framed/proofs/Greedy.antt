@@ -5,9 +5,9 @@ use Rattle.std.proofs.lemmas.Option.{none-some}
 use Rattle.isoal_base.proofs.Citable.{cases_option}
 use Rattle.isoal_framed.specs.Calls.{Timed}
 use Rattle.isoal_framed.specs.Places.{Act, carries, leaves_out, ends, Place, overhead, least_room, HasTurn, IsStale, IsSegment, Comes}
-use Rattle.isoal_framed.specs.State.Greedy.{sends, unless_stale, unless_early, act_for, act_of}
+use Rattle.isoal_framed.specs.Greedy.{sends, unless_stale, unless_early, act_for, act_of}
 
-cases_low : (m n : ℕ) → (m ≤ n) ⊎ (n < m)
+pub cases_low : (m n : ℕ) → (m ≤ n) ⊎ (n < m)
 cases_low m n = elim (cases_Bool (leb m n)) [
   | inl low ↦ inl (leb-true m n low)
   | inr high ↦ inr (leb-false m n high)
@@ -24,12 +24,12 @@ pub record Partly (sent : ℕ) (unit : Timed) : Type 0 where
   pub within : sent ≤ length unit.octets
   pub less : 1 ≤ sent → sent < length unit.octets
 
-same_due : (due : Option Timed) (unit other : Timed) → due ≡ Some unit → due ≡ Some other → other ≡ unit
+pub same_due : (due : Option Timed) (unit other : Timed) → due ≡ Some unit → due ≡ Some other → other ≡ unit
 same_due due unit other is also =
     let same : Some other ≡ Some unit = sym also ∙ is in cc
 
 -- the least room is at least that of a segment's overhead, and one more where the unit has octets
-least_over : (sent count : ℕ) → overhead sent ≤ least_room sent count
+pub least_over : (sent count : ℕ) → overhead sent ≤ least_room sent count
 least_over sent count = omega arith
 
 least_some : (sent count : ℕ) → 1 ≤ count → overhead sent + 1 ≤ least_room sent count

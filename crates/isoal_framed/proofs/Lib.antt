@@ -1,5 +1,9 @@
-pub mod Closed
+mod Begun
+mod Carried
+mod Closed
+mod Entries
 mod Fates
+mod Filling
 mod Greedy
 mod Handing
 mod Joins
@@ -7,8 +11,11 @@ mod Only
 mod Packings
 mod Rings
 mod Runs
+mod Segments
 mod Senders
+mod Sendings
 mod Sends
 mod Stays
 mod Struck
 mod Walks
+pub mod Citable

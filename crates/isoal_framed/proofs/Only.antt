@@ -7,7 +7,7 @@ use Rattle.isoal_base.specs.Air.{Air}
 use Rattle.isoal_framed.specs.Air.{AllCome, pdus_ended, IsEvent, event_of, begun_by, IsAirOf}
 use Rattle.isoal_framed.specs.Calls.{Call, accept, lay, Timed, accepted}
 use Rattle.isoal_framed.specs.Places.{Act, carries, leaves_out, ends, place_of, room, sent, done}
-use Rattle.isoal_framed.specs.State.Greedy.{act_of}
+use Rattle.isoal_framed.specs.Greedy.{act_of}
 use Rattle.isoal_framed.proofs.Greedy.{only_act}
 
 -- so many acts of the greedy filling

@@ -10,7 +10,7 @@ use Rattle.isoal_base.proofs.Citable.{cases_option}
 use Rattle.isoal_framed.specs.Air.{pdus_ended, open_parts, pdus_of, stale_of, part_of, time_in}
 use Rattle.isoal_framed.specs.Calls.{Timed}
 use Rattle.isoal_framed.specs.Places.{Act, carries, leaves_out, ends, Place, place_of, Comes, done, sent, room, overhead}
-use Rattle.isoal_framed.specs.State.Greedy.{act_for, act_of}
+use Rattle.isoal_framed.specs.Greedy.{act_for, act_of}
 use Rattle.isoal_framed.specs.State.Packings.{Carried, Changes, Placed}
 use Rattle.isoal_framed.specs.State.Senders.{Going, IsPartly}
 use Rattle.isoal_framed.specs.declared.packing.Packing.{Packing}
@@ -27,7 +27,7 @@ get_behind (x ∷ items) (suc n) i =
     let more : suc n + i ≡ suc (n + i) = omega arith in
     get_behind items n i ∙ ap (slice_get (x ∷ items)) (sym more)
 
-comes_act : (place : Place) → ((unit : Timed) → place.due ≡ Some unit → Partly place.sent unit)
+pub comes_act : (place : Place) → ((unit : Timed) → place.due ≡ Some unit → Partly place.sent unit)
     → Comes place (act_of place.anchor place.room place.sent place.due)
 comes_act place partly = elim (cases_option place.due) [
   | inl none ↦ subst (Comes place) (ap (act_of place.anchor place.room place.sent) (sym none)) (comes_none place none)

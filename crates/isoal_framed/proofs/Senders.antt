@@ -16,7 +16,7 @@ room_between max_pdu info (accept time octets ∷ calls) acts air is = room_betw
 room_between max_pdu info (lay anchor ∷ calls) acts air (earlier, before, own, is_before, event, acts_is, air_is) = ap (room max_pdu) acts_is
 
 -- no more units are done than were accepted
-done_come : (max_pdu : ℕ) (units : List Timed) (anchor : ℕ) (earlier acts : List Act) → AllCome max_pdu units anchor earlier acts
+pub done_come : (max_pdu : ℕ) (units : List Timed) (anchor : ℕ) (earlier acts : List Act) → AllCome max_pdu units anchor earlier acts
     → done earlier ≤ length units → done (acts ++ earlier) ≤ length units
 done_come max_pdu units anchor earlier [] come within = within
 done_come max_pdu units anchor earlier (carries count true ∷ acts) come within =

@@ -13,7 +13,9 @@ use Rattle.isoal_framed.specs.State.Joining.{hands}
 use Rattle.isoal_framed.specs.Struck.{Fit, Sent, behind, carried, parts_at, InOrder, FromSource, is_heard, closed_end, entry_of, struck}
 use Rattle.isoal_framed.proofs.Closed.{flat_same, opened_least}
 use Rattle.isoal_framed.proofs.Joins.{units_are}
-use Rattle.isoal_framed.proofs.Struck.{tok, toks, toks_same, shown_from, carried_later, entry_missed}
+use Rattle.isoal_framed.proofs.Carried.{tok, toks, toks_same, carried_later}
+use Rattle.isoal_framed.proofs.Entries.{entry_missed}
+use Rattle.isoal_framed.proofs.Struck.{shown_from}
 
 -- a range of numbers in two parts, and events as one range
 flat_append : {A : Type 0} (f : ℕ → List A) (start m n : ℕ)

@@ -1,5 +1,7 @@
 pub mod Air
 pub mod Calls
+pub mod Filling
+pub mod Greedy
 pub mod Histories
 pub mod Places
 pub mod Sends

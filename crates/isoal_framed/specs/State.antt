@@ -1,6 +1,5 @@
 -- How the states of a receiver and of a sender stand for their histories.
 pub mod Buffers
-pub mod Greedy
 pub mod Joining
 pub mod Nexts
 pub mod Packings

@@ -6,6 +6,7 @@ ghost use Rattle.big_info.specs.declared.info.BigInfo.{BigInfo};
 ghost use Rattle.isoal_base.specs.Air.{Air};
 ghost use Rattle.isoal_framed.specs.Air.{IsFramedAir};
 ghost use Rattle.isoal_framed.specs.Calls.{Call, Timed, accepted};
+ghost use Rattle.isoal_framed.specs.Filling.{framed_air};
 ghost use Rattle.isoal_framed.specs.Sends.{Sends};
 ghost use Rattle.isoal_framed.specs.State.Senders.{Sender, StandsFor};
 ghost use Rattle.isoal_framed.specs.Struck.{Sent};
@@ -14,6 +15,11 @@ ghost use Rattle.isoal_framed.specs.Worked.{LeftOut, OverTwoEvents, OverTwoPdus}
 /// The conditions on the places of its PDUs fix what is laid: a list of calls lays at most one air.
 pub fn one_framed_air()
     ensures { (info : BigInfo) (calls : List Call) (one other : Air) → IsFramedAir info calls one → IsFramedAir info calls other → one ≡ other }
+{}
+
+/// They lay one: that which is laid act by act, where a group has a PDU in an event and PDUs have room for a start.
+pub fn a_framed_air_is_there()
+    ensures { (info : BigInfo) (calls : List Call) → 1 ≤ info.bn → 8 ≤ info.max_pdu → IsFramedAir info calls (framed_air info calls) }
 {}
 
 /// What a sender laid in its calls meets these conditions.

@@ -18,10 +18,11 @@ mod store;
 mod stream;
 
 pub use air_laws::{
-    a_framed_air_sends_units, a_sender_lays_a_framed_air, one_framed_air, worked_events,
+    a_framed_air_is_there, a_framed_air_sends_units, a_sender_lays_a_framed_air, one_framed_air,
+    worked_events,
 };
 pub use framed_in::FramedIn;
 pub use framed_out::FramedOut;
 pub use in_call::InCall;
-pub use laws::{fate_is_decided, framed_units_are_struck};
+pub use laws::{a_close_gains_units, fate_is_decided, framed_units_are_struck};
 pub use run::run_calls;

@@ -1,5 +1,5 @@
 ghost use Rattle.std.specs.Prelude.{◌≡◌};
-ghost use Rattle.isoal_framed.specs.State.Greedy.{act_for};
+ghost use Rattle.isoal_framed.specs.Greedy.{act_for};
 ghost use Rattle.isoal_framed.specs.State.Nexts.{act_in};
 
 use bcast_base::Unit;

@@ -5,6 +5,8 @@
 #[cfg(test)]
 mod air;
 #[cfg(test)]
+mod assistants;
+#[cfg(test)]
 mod boxes;
 #[cfg(test)]
 mod framed_receivers;

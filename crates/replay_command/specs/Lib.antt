@@ -2,5 +2,6 @@ pub mod World
 pub mod Replayed
 pub mod Ended
 pub mod Promised
+pub mod ByWords
 pub mod Statuses
 pub mod State

@@ -1,6 +1,6 @@
--- What a call of `replay` promises of the outside before it and after it, by its words and its status. The program is
--- this project's own.
-use Rattle.std.specs.Prelude.{ℕ, ◌≡◌, ◌≢◌, ◌↔◌, true, List, [], Some}
+-- What a call of `replay` promises of the outside before it and after it, by its status, where its words mean replay. The
+-- program is this project's own.
+use Rattle.std.specs.Prelude.{ℕ, ◌≡◌, ◌≢◌, true, List, Some}
 use Rattle.bcast_base.specs.Counts.{Rose}
 use Rattle.bcast_io.specs.TextLines.{lines_of}
 use Rattle.source_machine.specs.Airs.{airs_of}
@@ -18,9 +18,9 @@ use Rattle.replay_command.specs.World.{World}
 abbrev pub Did : Status → World → World → Type 0
 Did status old new = Ended status old.boxes new.boxes old.left new.left old.taken new.taken
 
-pub record Promised {W : Type 0} (words : List W) (old new : World) (status : Status) : Type 0 where
-  -- Any word is Usage, and nothing else is.
-  pub usage : (status ≡ statuses.Usage) ↔ (words ≢ [])
+pub record Promised (old new : World) (status : Status) : Type 0 where
+  -- Usage doesn't come.
+  pub no_usage : status ≢ statuses.Usage
   -- Done: the text was read to its end, no line of it is refused, and its transcript was written.
   pub done : status ≡ statuses.Done → Did statuses.Done old new
   -- Refused: the transcript ends with this refusal of this line, whatever follows what was read, and was written.
@@ -40,7 +40,7 @@ pub record Promised {W : Type 0} (words : List W) (old new : World) (status : St
   -- The boxes took the units of the whole text, where the transcript was written to its end or to its refusal.
   pub boxes : (text : List ℕ) → old.left ≡ Some text → IsWhole status → Took old.boxes new.boxes (units_of airs_of old.boxes (lines_of true text))
   -- What the outside does decides which statuses can come.
-  pub complete : (text : List ℕ) → old.left ≡ Some text → words ≡ []
+  pub complete : (text : List ℕ) → old.left ≡ Some text
       → Complete text old.boxes new.boxes old.reads new.reads old.writes new.writes status
   -- At most 65,536 octets were read past the line of the status.
   pub reading_ahead : AheadOf status old.boxes new.boxes old.left new.left old.taken new.taken

@@ -5,17 +5,16 @@ mod replay;
 mod status;
 #[cfg(test)]
 mod tests;
-mod words;
 
 use bcast_base::Memory;
 use bcast_io::{ReadSource, WriteSink};
 use replay::replay;
+use replay_words::Words;
 use status::Status;
 use std::process::ExitCode;
 use std::rt::Env;
 use std::{env, io};
 use unit_outlets::{Outlet, Tally};
-use words::Words;
 
 /// How many boxes the program has.
 const BOXES: usize = 8;
@@ -34,7 +33,9 @@ fn main(rt: HostRuntime) -> ExitCode {
 /// Runs the program over standard input and output, with a box for each sink that may live.
 fn run<R: Input + Print + Env + AllocGlobal>(rt: &R) -> Result<Status, Memory> {
     let alloc = rt.alloc();
-    let words = words_of(rt)?;
+    let Some(words) = words_of(rt)? else {
+        return Ok(Status::Usage);
+    };
     let mut outlets: Vec<Box<dyn Outlet>> = Vec::new(alloc);
     for _ in 0..BOXES {
         outlets.push(Box::new(alloc, Tally::new())?)?;
@@ -44,14 +45,16 @@ fn run<R: Input + Print + Env + AllocGlobal>(rt: &R) -> Result<Status, Memory> {
     Ok(replay(alloc, &words, &mut source, &mut sink, &mut outlets))
 }
 
-/// The words of the command line, without the program's name.
-fn words_of<R: Env + AllocGlobal>(rt: &R) -> Result<Words, Memory> {
-    let mut words = Words::new(rt.alloc());
-    let Ok(args) = env::args(rt) else {
-        return Err(Memory);
+/// The words of the command line, without the program's name. `None` where one of them is no text.
+fn words_of<R: Env + AllocGlobal>(rt: &R) -> Result<Option<Words>, Memory> {
+    let args = match env::args(rt) {
+        Ok(args) => args,
+        Err(error) if error.kind() == io::ErrorKind::InvalidData => return Ok(None),
+        Err(_) => return Err(Memory),
     };
+    let mut words = Words::new(rt.alloc());
     for word in args.skip(1) {
         words.push(word)?;
     }
-    Ok(words)
+    Ok(Some(words))
 }

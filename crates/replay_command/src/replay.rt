@@ -1,21 +1,21 @@
 //! The run of a scenario, line by line.
-ghost use Rattle.std.specs.Prelude.{◌≡◌, ◌≢◌, ◌<◌, ◌+◌, ◌∷◌, ℕ, List, Option, None, Some, Ok, length, map, true, IfNone, IfOk, OnOk, OnErr, IsSome};
+ghost use Rattle.std.specs.Prelude.{◌≡◌, ◌≢◌, ◌<◌, ◌+◌, ◌∷◌, ℕ, List, Option, None, Some, Ok, length, map, string_bytes, true, IfNone, IfOk, OnOk, OnErr, IsSome};
 ghost use Rattle.bcast_base.specs.Counts.{Rose};
 ghost use Rattle.bcast_io.specs.TextLines.{TextLine, plain};
 ghost use Rattle.bcast_io.specs.State.Reading.{lines_left};
 ghost use Rattle.bcast_io.specs.State.Answering.{GoesOn};
 ghost use Rattle.unit_outlets.specs.Account.{Account};
 ghost use Rattle.replay_command.specs.World.{world_of};
-ghost use Rattle.replay_command.specs.Promised.{Promised};
+ghost use Rattle.replay_command.specs.ByWords.{PromisedFor};
 ghost use Rattle.replay_command.specs.Replayed.{Comes, ReadsAhead, ReadsAtMost, read_limit};
 ghost use Rattle.replay_command.specs.Ended.{Ended};
 ghost use Rattle.replay_command.specs.State.Between.{ReadTo, TextIs, NextIs, RunTo, Refuses, Puts, StepRuns, LineRuns};
 
 use crate::status::Status;
-use crate::words::{Mode, Words, mode_of};
-use bcast_base::Octets;
+use bcast_base::{Memory, Octets};
 use bcast_io::{ByteSink, ByteSource, Failed, LineRead, LineReader, SinkFault, write_whole};
 use replay_steps::Machine;
+use replay_words::{Mode, Words, mode_of};
 use scenario_history::{order_law, units_law};
 use std::alloc::Global;
 use transcript_text::{Refusal, Stop, put_refusal};
@@ -25,7 +25,7 @@ use unit_outlets::Outlet;
 /// takes the next box of the list. The lines of a step are written before the next line is read.
 ///
 /// `Done` comes where the text was read to its end and no line is refused. `Refused` has the line, from 1, and the reason;
-/// the line of the refusal was written, and nothing behind it was run. `Usage` comes for any word. `ReadFault`,
+/// the line of the refusal was written, and nothing behind it was run. `Usage` comes for words that ask for nothing built. `ReadFault`,
 /// `WriteFault` and `OutletFault` come only where the count of the source, of the sink or of a box rose. After `Memory` a
 /// front of the transcript was written.
 pub fn replay<S: ByteSource, K: ByteSink>(
@@ -38,7 +38,7 @@ pub fn replay<S: ByteSource, K: ByteSink>(
     // What the call did to the source, to the sink and to the boxes, and which status comes.
     ensures promised { let old = world_of S.left S.faults K.contents K.faults source.old sink.old (map account outlets.old.items) in
         let new = world_of S.left S.faults K.contents K.faults source.new sink.new (map account outlets.new.items) in
-        Promised words.now old new result }
+        PromisedFor (map string_bytes words.now) old new result }
 
     // For Usage nothing is read or written, and no box is called.
     ensures unread { result ≡ Status.Usage → source.new ≡ source.old }
@@ -47,9 +47,10 @@ pub fn replay<S: ByteSource, K: ByteSink>(
 {
     units_law();
     order_law();
-    match mode_of(words) {
-        Mode::Usage => Status::Usage,
-        Mode::Replay => run(alloc, source, sink, outlets),
+    match mode_of(alloc, words) {
+        Ok(Mode::Replay) => run(alloc, source, sink, outlets),
+        Ok(_) => Status::Usage,
+        Err(Memory) => Status::Memory,
     }
 }
 

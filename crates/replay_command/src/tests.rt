@@ -6,12 +6,13 @@ mod boxes;
 mod faults;
 mod limits;
 mod rows;
+mod word_rows;
 
 use crate::replay::replay;
 use crate::status::Status;
-use crate::words::Words;
 use bcast_base::Octets;
 use bcast_io::{ByteSink, ByteSource, FaithfulSink, FaithfulSource};
+use replay_words::Words;
 use rows::{ROWS, Row};
 use std::alloc::Global;
 use std::process::Abort;
@@ -97,17 +98,4 @@ fn each_row_reads_the_same_an_octet_a_call(rt: HostRuntime) -> Result<(), Fail> 
 #[test]
 fn each_row_reads_the_same_seven_octets_a_call(rt: HostRuntime) -> Result<(), Fail> {
     run_rows(&rt, 7)
-}
-
-#[test]
-fn any_word_is_usage_and_writes_nothing(rt: HostRuntime) -> Result<(), Fail> {
-    let mut source = text_source(rt.alloc(), LEAST_PATH, 64)?;
-    let mut sink = FaithfulSink::new(rt.alloc());
-    let mut outlets = tallies(rt.alloc(), 0)?;
-    let mut words = Words::new(rt.alloc());
-    words.push(String::from_str(rt.alloc(), "x")?)?;
-    let status = run_with(rt.alloc(), &words, &mut source, &mut sink, &mut outlets);
-    assert_eq!(rt; status, Status::Usage);
-    assert_eq!(rt; sink.taken(), [].as_slice());
-    Ok(())
 }

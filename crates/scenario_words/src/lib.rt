@@ -9,3 +9,4 @@ mod word;
 
 pub use cursor::{Cursor, octets_of_wishes};
 pub use fault::LineFault;
+pub use word::decimal_within;

@@ -5,7 +5,7 @@ use Rattle.iso_pdu.specs.State.Packing.{room_in}
 use Rattle.isoal_framed.specs.Air.{part_of}
 use Rattle.isoal_framed.specs.Calls.{Timed}
 use Rattle.isoal_framed.specs.Places.{Act, carries, leaves_out, ends, overhead}
-use Rattle.isoal_framed.specs.State.Greedy.{act_of}
+use Rattle.isoal_framed.specs.Greedy.{act_of}
 use Rattle.isoal_framed.specs.declared.packing.Packing.{Packing}
 
 -- a segment of this unit

@@ -2,8 +2,8 @@
 
 use crate::status::Status;
 use crate::tests::{LEAST_PATH, LEAST_PATH_TRANSCRIPT, run_with, text_source};
-use crate::words::Words;
 use bcast_io::FaithfulSink;
+use replay_words::Words;
 use std::process::Abort;
 use std::test::*;
 use unit_outlets::{LastUnits, Outlet, Tally};

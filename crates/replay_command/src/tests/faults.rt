@@ -2,9 +2,9 @@
 
 use crate::status::Status;
 use crate::tests::{LEAST_PATH, LEAST_PATH_TRANSCRIPT, run_with};
-use crate::words::Words;
 use bcast_base::{Calls, Octets};
 use bcast_io::{MemorySink, MemorySource};
+use replay_words::Words;
 use std::alloc::Global;
 use std::process::Abort;
 use std::test::*;

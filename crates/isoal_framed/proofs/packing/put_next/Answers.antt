@@ -1,6 +1,6 @@
 use Rattle.std.proofs.Common.{◌+◌, ◌∙◌, sym, ap, refl, true}
 use Rattle.isoal_framed.specs.Places.{carries, leaves_out}
-use Rattle.isoal_framed.specs.State.Greedy.{act_for}
+use Rattle.isoal_framed.specs.Greedy.{act_for}
 use Rattle.isoal_framed.proofs.Packings.{placed_by, partly_at, partly_left, part_left, part_within}
 use Rattle.isoal_framed.proofs.packing.put_next.Goals as goal
 

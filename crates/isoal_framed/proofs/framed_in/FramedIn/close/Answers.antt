@@ -1,7 +1,7 @@
 use Rattle.std.proofs.Common.{◌∷◌, sym, subst}
 use Rattle.isoal_base.specs.Stays.{close}
 use Rattle.isoal_framed.specs.State.Windows.{Stands, HandsOver}
-use Rattle.isoal_framed.proofs.Closed.{close_stands, gains, owed_is}
+use Rattle.isoal_framed.proofs.Closed.{close_stands, close_gains, owed_is}
 use Rattle.isoal_framed.proofs.framed_in.FramedIn.close.Goals as goal
 
 pub returns-clause-stands : goal.returns-clause-stands
@@ -15,4 +15,4 @@ returns-clause-units g c calls stands =
     (owed_is c.args.self.now c.hand_units.ensures.bounds calls stands) c.hand_units.ensures.hands
 
 pub returns-clause-gains : goal.returns-clause-gains
-returns-clause-gains g c calls stands = gains c.args.self.now c.hand_units.ensures.bounds calls stands
+returns-clause-gains g c calls stands = close_gains c.args.self.now.stay calls

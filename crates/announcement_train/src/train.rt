@@ -1,0 +1,115 @@
+ghost use Rattle.std.specs.Prelude.{◌≡◌, ◌≤◌, ◌<◌, ◌*◌, ◌^◌, ℕ, List, length, IfOk};
+ghost use Rattle.ltv_codec.specs.Layout.{structure};
+ghost use Rattle.big_info.specs.Layout.{Spells};
+ghost use Rattle.big_info.specs.Widths.{FitsWidths};
+ghost use Rattle.announcement_train.specs.Layout.{IsTrain, announced, info_ad, lead, service_ad};
+
+use base_grammar::{Base, encode_base, write_ad};
+use bcast_base::{Memory, Octets};
+use big_info::{BigInfo, encode_big_info};
+use octet_fields::put_number;
+use std::alloc::Global;
+
+/// The AD type of Service Data of a 16-bit UUID.
+const SERVICE_DATA: u8 = 0x16;
+
+/// The AD type of the BIGInfo.
+const BIG_INFO: u8 = 0x2c;
+
+/// The UUID of the Broadcast Audio Announcement Service.
+const BROADCAST_AUDIO_ANNOUNCEMENT: u16 = 0x1852;
+
+/// The UUID of the Basic Audio Announcement Service.
+const BASIC_AUDIO_ANNOUNCEMENT: u16 = 0x1851;
+
+/// From a train to the anchor that it tells of, in µs.
+const LEAD: u64 = 3_000;
+
+/// What a source announces for an event: when, in µs, and the AD lists of the extended advertising, the periodic
+/// advertising and its ACAD.
+#[derive(Drop)]
+pub struct Train {
+    pub time: u64,
+    pub ext: Octets,
+    pub adv: Octets,
+    pub acad: Octets,
+}
+
+impl Train {
+    /// The train of a source for the event with this number and this anchor in µs, which is 3,000 at least.
+    ///
+    /// It comes 3,000 µs before the anchor. EXT has the Broadcast_ID (Basic Audio Profile 1.0, section 3.7.2.1), ADV the
+    /// BASE (section 3.7.2.2), and ACAD the BIGInfo (Core 5.2, volume 6 part B, section 4.4.6.11) with the payload count of
+    /// the event, which is below 2^39.
+    pub fn of_event(
+        alloc: Global,
+        broadcast_id: [u8; 3],
+        base: &Base,
+        info: &BigInfo,
+        event: u64,
+        anchor: u64,
+    ) -> Result<Train, Memory>
+        requires widths { FitsWidths info.now }
+        requires count { event * info.now.bn < 2 ^ 39 }
+        requires anchor { lead ≤ anchor }
+        ensures { IfOk result (λ train. IsTrain broadcast_id base.now info.now event anchor train) }
+    {
+        let base = encode_base(alloc, base)?;
+        Ok(Train {
+            time: anchor - LEAD,
+            ext: service_list(alloc, BROADCAST_AUDIO_ANNOUNCEMENT, &broadcast_id)?,
+            adv: service_list(alloc, BASIC_AUDIO_ANNOUNCEMENT, base.as_slice())?,
+            acad: info_list(alloc, info, event)?,
+        })
+    }
+}
+
+/// An AD list of one structure: Service Data of this UUID.
+fn service_list(alloc: Global, uuid: u16, content: &[u8]) -> Result<Octets, Memory>
+    requires { length content.now ≤ 252 }
+    ensures { IfOk result (λ octets. octets ≡ structure (service_ad uuid content.now)) }
+{
+    let mut value = Octets::new(alloc);
+    put_number(&mut value, u64::from(uuid), 2)?;
+    value.append(content)?;
+    one_structure(alloc, SERVICE_DATA, value.as_slice())
+}
+
+/// An AD list of one structure: the BIGInfo that announces this event.
+fn info_list(alloc: Global, info: &BigInfo, event: u64) -> Result<Octets, Memory>
+    requires widths { FitsWidths info.now }
+    requires count { event * info.now.bn < 2 ^ 39 }
+    ensures { IfOk result (λ octets. (spelled : List ℕ) × Spells (announced info.now event) 0 spelled × (octets ≡ structure (info_ad spelled))) }
+{
+    let mut octets = [0u8; 57];
+    let count = encode_big_info(&announced_info(info, event), &mut octets);
+    one_structure(alloc, BIG_INFO, &octets[..count])
+}
+
+/// The BIGInfo that announces this event: it begins 100 × 30 µs behind the train.
+fn announced_info(info: &BigInfo, event: u64) -> BigInfo
+    requires widths { FitsWidths info.now }
+    requires count { event * info.now.bn < 2 ^ 39 }
+    ensures is { result ≡ announced info.now event }
+    ensures widths { FitsWidths result }
+{
+    BigInfo {
+        big_offset: 100,
+        big_offset_units: 0,
+        seed_access_address: 0,
+        base_crc_init: 0,
+        chm: (1 << 37) - 1,
+        bis_payload_count: event * u64::from(info.bn),
+        ..*info
+    }
+}
+
+/// An AD list of one structure.
+fn one_structure(alloc: Global, kind: u8, value: &[u8]) -> Result<Octets, Memory>
+    requires { length value.now ≤ 254 }
+    ensures { IfOk result (λ octets. octets ≡ structure (record { kind = kind; value = value.now })) }
+{
+    let mut octets = Octets::new(alloc);
+    write_ad(&mut octets, kind, value)?;
+    Ok(octets)
+}

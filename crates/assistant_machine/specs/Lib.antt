@@ -1,0 +1,4 @@
+pub mod Calls
+pub mod Views
+pub mod Answers
+pub mod State

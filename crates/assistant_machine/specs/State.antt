@@ -1,0 +1,2 @@
+-- How the state of an assistant stands for its calls.
+pub mod Assistants

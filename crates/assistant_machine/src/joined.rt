@@ -1,0 +1,322 @@
+ghost use Rattle.std.specs.Prelude.{ℕ, ◌≡◌, ◌≢◌, ◌≤◌, ◌<◌, ◌∷◌, [], true, false, length, replicate, drop, slice_get, slice_set, slice_index_or, option_copied, option_to_list, Option, Some, None, List, ◌++◌, Ok, Err, IfOk, IfErr, IfSome, IfNone, OnSome, OnOk, OnErr};
+ghost use Rattle.bass_operations.specs.Layout.{MetadataFits, spelling, wishes_of};
+ghost use Rattle.receive_state.specs.Reading.{state_of};
+ghost use Rattle.bass_operations.specs.declared.operation.Operation.TheVariants as operations;
+ghost use Rattle.assistant_machine.specs.Answers.{IsCause, answer_of, by_reading};
+ghost use Rattle.assistant_machine.specs.Calls.{Call, limited, put, sent, told, all_asked, asked, read as gives};
+ghost use Rattle.notice_links.specs.Cuts.{asks};
+ghost use Rattle.assistant_machine.specs.Views.{reading_of, view_of};
+ghost use Rattle.assistant_machine.specs.State.Assistants.{IsLowest, NoneWaits, StandsFor, after_notice, after_read, joined, with_reading, with_write};
+ghost use Rattle.assistant_machine.specs.declared.fault.NoticeTaken.TheVariants.{View};
+ghost use Rattle.assistant_machine.specs.declared.fault.NoticeFault.TheVariants.{Memory as NoMemory};
+
+use crate::apart::AssistApart;
+use crate::fault::{NoticeFault, NoticeTaken};
+use bass_operations::{AddSource, ModifySource, Operation, encode_operation};
+use bcast_base::{Memory, Octets};
+use receive_state::{ReceiveState, StateFault, decode_state};
+use std::alloc::Global;
+use std::collections::VecDeque;
+use std::marker::Model;
+
+/// An assistant on a link to a server (Broadcast Audio Scan Service 1.0, section 3): the writes that wait to be sent, and
+/// of each slot what it was told last and whether a read of it waits.
+#[derive(Drop)]
+pub struct AssistJoined {
+    alloc: Global,
+    mtu: Option<u16>,
+    writes: VecDeque<Octets>,
+    views: Vec<Option<ReceiveState>>,
+    reads: Vec<bool>,
+}
+
+impl Model for AssistJoined {
+    ghost use Rattle.std.specs.Prelude.{vec_len};
+    ghost use Rattle.assistant_machine.specs.State.Assistants.{Assistant, Keeps};
+
+    ghost Value = { Assistant };
+
+    ghost view = { λ a. record {
+      mtu = a.mtu;
+      writes = a.writes.items;
+      views = a.views.items;
+      reads = a.reads.items;
+    } };
+
+    ghost invariant = { λ a. Keeps (vec_len a.views) (vec_len a.reads) };
+}
+
+impl AssistJoined {
+    /// An assistant that just joined a server of so many slots.
+    pub(crate) fn of(alloc: Global, slots: u8) -> Result<AssistJoined, Memory>
+        ensures joined { IfOk result (λ assistant. assistant ≡ joined slots) }
+        ensures stands { IfOk result (λ assistant. StandsFor slots [] assistant) }
+    {
+        let (views, reads) = empty_slots(alloc, slots)?;
+        Ok(AssistJoined {
+            alloc,
+            mtu: None,
+            writes: VecDeque::new(alloc),
+            views,
+            reads,
+        })
+    }
+
+    /// From now on notices are cut to `mtu` - 3 octets, `mtu` being from 23 to 517. It takes no memory.
+    pub fn set_mtu(&mut self, mtu: u16)
+        requires least { 23 ≤ mtu }
+        requires greatest { mtu ≤ 517 }
+        ensures value { self.new ≡ record self.old { mtu = Some mtu } }
+        ensures stands { (slots : ℕ) (calls : List Call) → StandsFor slots calls self.old → StandsFor slots (limited mtu ∷ calls) self.new }
+    {
+        self.mtu = Some(mtu);
+    }
+
+    /// An Add Source waits as the last write. Each metadata has at most 255 octets.
+    #[tactic(auto, using(crate::proofs::Standing::put_stands))]
+    pub fn add(&mut self, op: AddSource) -> Result<(), Memory>
+        requires { MetadataFits op.wishes }
+        ensures ok { OnOk result (self.new ≡ with_write (spelling (operations.Add op)) self.old) }
+        ensures stands { OnOk result ((slots : ℕ) (calls : List Call) → StandsFor slots calls self.old
+            → StandsFor slots (put (spelling (operations.Add op)) ∷ calls) self.new) }
+        ensures err { OnErr result (self.new ≡ self.old) }
+    {
+        self.put_operation(&Operation::Add(op))
+    }
+
+    /// A Modify Source waits as the last write. Each metadata has at most 255 octets.
+    #[tactic(auto, using(crate::proofs::Standing::put_stands))]
+    pub fn modify(&mut self, op: ModifySource) -> Result<(), Memory>
+        requires { MetadataFits op.wishes }
+        ensures ok { OnOk result (self.new ≡ with_write (spelling (operations.Modify op)) self.old) }
+        ensures stands { OnOk result ((slots : ℕ) (calls : List Call) → StandsFor slots calls self.old
+            → StandsFor slots (put (spelling (operations.Modify op)) ∷ calls) self.new) }
+        ensures err { OnErr result (self.new ≡ self.old) }
+    {
+        self.put_operation(&Operation::Modify(op))
+    }
+
+    /// A Remove Source waits as the last write.
+    #[tactic(auto, using(crate::proofs::Standing::put_stands))]
+    pub fn remove(&mut self, source_id: u8) -> Result<(), Memory>
+        ensures ok { OnOk result (self.new ≡ with_write (spelling (operations.Remove source_id)) self.old) }
+        ensures stands { OnOk result ((slots : ℕ) (calls : List Call) → StandsFor slots calls self.old
+            → StandsFor slots (put (spelling (operations.Remove source_id)) ∷ calls) self.new) }
+        ensures err { OnErr result (self.new ≡ self.old) }
+    {
+        self.put_operation(&Operation::Remove { source_id })
+    }
+
+    /// A Set Broadcast_Code waits as the last write.
+    #[tactic(auto, using(crate::proofs::Standing::put_stands))]
+    pub fn code(&mut self, source_id: u8, code: [u8; 16]) -> Result<(), Memory>
+        ensures ok { OnOk result (self.new ≡ with_write (spelling (operations.Code source_id code)) self.old) }
+        ensures stands { OnOk result ((slots : ℕ) (calls : List Call) → StandsFor slots calls self.old
+            → StandsFor slots (put (spelling (operations.Code source_id code)) ∷ calls) self.new) }
+        ensures err { OnErr result (self.new ≡ self.old) }
+    {
+        self.put_operation(&Operation::Code { source_id, code })
+    }
+
+    /// These octets wait as the last write, whatever they are.
+    #[tactic(auto, using(crate::proofs::Standing::put_stands))]
+    pub fn raw(&mut self, octets: &[u8]) -> Result<(), Memory>
+        ensures ok { OnOk result (self.new ≡ with_write octets.now self.old) }
+        ensures stands { OnOk result ((slots : ℕ) (calls : List Call) → StandsFor slots calls self.old
+            → StandsFor slots (put octets.now ∷ calls) self.new) }
+        ensures err { OnErr result (self.new ≡ self.old) }
+    {
+        let octets = Octets::copy(self.alloc, octets)?;
+        self.put(octets)
+    }
+
+    /// The first write that waits, which waits no longer; `None` exactly where none waits. It takes no memory.
+    #[tactic(auto, using(crate::proofs::Standing::sent_stands))]
+    pub fn next_write(&mut self) -> Option<Octets>
+        ensures write { self.old.writes ≡ option_to_list result ++ self.new.writes }
+        ensures none { IfNone result (self.old.writes ≡ []) }
+        ensures rest { self.new ≡ record self.old { writes = drop 1 self.old.writes } }
+        ensures stands { OnSome result ((slots : ℕ) (calls : List Call) → StandsFor slots calls self.old
+            → StandsFor slots (sent ∷ calls) self.new) }
+    {
+        self.writes.pop_front()
+    }
+
+    /// Takes a notice of a slot. Where an MTU is set and the value has at least MTU - 3 octets, it may have been cut: a read
+    /// of the slot waits then. Else the value is the view of the slot.
+    ///
+    /// The first refusal that holds is answered: NoSuchSlot where the slot is not below the number of slots; BadNotice
+    /// where the octets are no value. A refused notice changes nothing.
+    pub fn notice(&mut self, slot: u8, value: &[u8]) -> Result<NoticeTaken, NoticeFault>
+        ensures answer { IfOk result (λ taken. answer_of (length self.old.views) self.old.mtu slot value.now ≡ Ok taken) }
+        ensures cause { IfErr result (λ fault. IsCause fault (answer_of (length self.old.views) self.old.mtu slot value.now)) }
+        ensures step { result ≢ Err NoMemory → self.new ≡ after_notice slot value.now self.old }
+        ensures err { OnErr result (self.new ≡ self.old) }
+        ensures stands { result ≢ Err NoMemory → (slots : ℕ) (calls : List Call) → StandsFor slots calls self.old
+            → StandsFor slots (told slot value.now ∷ calls) self.new }
+    {
+        self.hear(slot, value)
+    }
+
+    /// The lowest slot of which a read waits. It waits no longer. `None` exactly where none waits. It takes no memory.
+    #[tactic(auto, using(crate::proofs::Standing::asked_stands))]
+    pub fn next_read(&mut self) -> Option<u8>
+        ensures lowest { IfSome result (λ slot. IsLowest self.old.reads slot) }
+        ensures none { IfNone result (NoneWaits self.old.reads) }
+        ensures same { IfNone result (self.new ≡ self.old) }
+        ensures step { IfSome result (λ slot. self.new ≡ record self.old { reads = slice_set self.old.reads slot false }) }
+        ensures stands { IfSome result (λ slot. (slots : ℕ) (calls : List Call) → StandsFor slots calls self.old
+            → StandsFor slots (asked slot ∷ calls) self.new) }
+    {
+        self.make_read()
+    }
+
+    /// Takes the value that a read of a slot gave: it is the view of the slot.
+    ///
+    /// NoSuchSlot comes where the slot is not below the number of slots, BadNotice where the octets are no value. A refused
+    /// value changes nothing.
+    pub fn answer_read(&mut self, slot: u8, value: &[u8]) -> Result<(), NoticeFault>
+        ensures ok { OnOk result (answer_of (length self.old.views) None slot value.now ≡ Ok View) }
+        ensures cause { IfErr result (λ fault. IsCause fault (answer_of (length self.old.views) None slot value.now)) }
+        ensures step { result ≢ Err NoMemory → self.new ≡ after_read slot value.now self.old }
+        ensures err { OnErr result (self.new ≡ self.old) }
+        ensures stands { result ≢ Err NoMemory → (slots : ℕ) (calls : List Call) → StandsFor slots calls self.old
+            → StandsFor slots (gives slot value.now ∷ calls) self.new }
+    {
+        self.keep(slot, value)
+    }
+
+    /// A read of each slot waits. It takes no memory.
+    pub fn ask_all(&mut self)
+        ensures step { self.new ≡ record self.old { reads = replicate (length self.old.reads) true } }
+        ensures stands { (slots : ℕ) (calls : List Call) → StandsFor slots calls self.old → StandsFor slots (all_asked ∷ calls) self.new }
+    {
+        self.reads.fill(true);
+    }
+
+    /// The view of a slot; `None` exactly where it is empty or there is no such slot.
+    pub fn view(&self, slot: u8) -> Option<&ReceiveState>
+        ensures view { option_copied result ≡ slice_index_or self.now.views slot None }
+        ensures calls { (slots : ℕ) (calls : List Call) → StandsFor slots calls self.now → slot < slots → option_copied result ≡ view_of slot calls }
+    {
+        self.views.get(usize::from(slot))?.as_ref()
+    }
+
+    /// Leaves the server: what waits and all views are gone. It takes no memory.
+    pub fn leave(self) -> AssistApart {
+        AssistApart { alloc: self.alloc }
+    }
+
+    /// Takes a notice of a slot.
+    fn hear(&mut self, slot: u8, value: &[u8]) -> Result<NoticeTaken, NoticeFault>
+        ensures answer { IfOk result (λ taken. answer_of (length self.old.views) self.old.mtu slot value.now ≡ Ok taken) }
+        ensures cause { IfErr result (λ fault. IsCause fault (answer_of (length self.old.views) self.old.mtu slot value.now)) }
+        ensures step { result ≢ Err NoMemory → self.new ≡ after_notice slot value.now self.old }
+        ensures err { OnErr result (self.new ≡ self.old) }
+    {
+        let place = usize::from(slot);
+        if place >= self.views.len() {
+            return Err(NoticeFault::NoSuchSlot);
+        }
+        if self.asks(value) {
+            self.reads[place] = true;
+            return Ok(NoticeTaken::ReadWaits);
+        }
+        self.take(place, value)?;
+        Ok(NoticeTaken::View)
+    }
+
+    /// Takes the value that a read of a slot gave.
+    fn keep(&mut self, slot: u8, value: &[u8]) -> Result<(), NoticeFault>
+        ensures ok { OnOk result (answer_of (length self.old.views) None slot value.now ≡ Ok View) }
+        ensures cause { IfErr result (λ fault. IsCause fault (answer_of (length self.old.views) None slot value.now)) }
+        ensures step { result ≢ Err NoMemory → self.new ≡ after_read slot value.now self.old }
+        ensures err { OnErr result (self.new ≡ self.old) }
+    {
+        let place = usize::from(slot);
+        if place >= self.views.len() {
+            return Err(NoticeFault::NoSuchSlot);
+        }
+        self.take(place, value)
+    }
+
+    /// The lowest slot of which a read waits, which waits no longer.
+    fn make_read(&mut self) -> Option<u8>
+        ensures lowest { IfSome result (λ slot. IsLowest self.old.reads slot) }
+        ensures none { IfNone result (NoneWaits self.old.reads) }
+        ensures same { IfNone result (self.new ≡ self.old) }
+        ensures step { IfSome result (λ slot. self.new ≡ record self.old { reads = slice_set self.old.reads slot false }) }
+    {
+        let slot = self.reads.iter().position(|waits| *waits)?;
+        self.reads[slot] = false;
+        Some(slot as u8)
+    }
+
+    /// Whether a value may have been cut.
+    fn asks(&self, value: &[u8]) -> bool
+        ensures { result ≡ asks self.now.mtu value.now }
+    {
+        match self.mtu {
+            None => false,
+            Some(mtu) => value.len() + 3 >= usize::from(mtu),
+        }
+    }
+
+    /// Puts an operation behind the writes that wait.
+    fn put_operation(&mut self, op: &Operation) -> Result<(), Memory>
+        requires { MetadataFits (wishes_of op.now) }
+        ensures ok { OnOk result (self.new ≡ with_write (spelling op.now) self.old) }
+        ensures err { OnErr result (self.new ≡ self.old) }
+    {
+        let octets = encode_operation(self.alloc, op)?;
+        self.put(octets)
+    }
+
+    /// Puts octets behind the writes that wait.
+    fn put(&mut self, octets: Octets) -> Result<(), Memory>
+        ensures ok { OnOk result (self.new ≡ with_write octets self.old) }
+        ensures err { OnErr result (self.new ≡ self.old) }
+    {
+        self.writes.push_back(octets)?;
+        Ok(())
+    }
+
+    /// Takes octets as the view of a slot, where they are a value.
+    fn take(&mut self, place: usize, value: &[u8]) -> Result<(), NoticeFault>
+        requires { place < length self.old.views }
+        ensures ok { OnOk result (by_reading (state_of value.now) ≡ Ok View) }
+        ensures cause { IfErr result (λ fault. IsCause fault (by_reading (state_of value.now))) }
+        ensures step { result ≢ Err NoMemory → self.new ≡ with_reading place (reading_of value.now) self.old }
+        ensures err { OnErr result (self.new ≡ self.old) }
+    {
+        let view = view_in(self.alloc, value)?;
+        self.views[place] = view;
+        Ok(())
+    }
+}
+
+/// What a slot has by its octets: a state, or no source.
+fn view_in(alloc: Global, value: &[u8]) -> Result<Option<ReceiveState>, NoticeFault>
+    ensures ok { IfOk result (λ view. state_of value.now ≡ Ok view) }
+    ensures cause { IfErr result (λ fault. IsCause fault (by_reading (state_of value.now))) }
+{
+    match decode_state(alloc, value) {
+        Ok(view) => Ok(view),
+        Err(StateFault::Memory) => Err(NoticeFault::Memory),
+        Err(fault) => Err(NoticeFault::BadNotice(fault)),
+    }
+}
+
+/// Empty views of so many slots, and no read of them that waits.
+fn empty_slots(alloc: Global, slots: u8) -> Result<(Vec<Option<ReceiveState>>, Vec<bool>), Memory>
+    ensures views { IfOk result (λ made. made.0.items ≡ replicate slots None) }
+    ensures reads { IfOk result (λ made. made.1.items ≡ replicate slots false) }
+{
+    let mut views = Vec::with_capacity(alloc, usize::from(slots))?;
+    let mut reads = Vec::with_capacity(alloc, usize::from(slots))?;
+    'slots: for _ in 0..slots {
+        views.push(None)?;
+        reads.push(false)?;
+    }
+    Ok((views, reads))
+}

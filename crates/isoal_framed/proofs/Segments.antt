@@ -1,0 +1,371 @@
+-- What an act adds to the units that were sent: a start, a further segment, a unit left out, the end of a PDU.
+use Rattle.std.proofs.Common.{ℕ, ◌≡◌, ◌+◌, ◌-◌, ◌*◌, ◌<◌, ◌≤◌, inl, inr, true, false, Bool, eqb, cond, List, [], ◌∷◌, ◌++◌, length, take, drop}
+use Rattle.std.proofs.Common.{Option, Some, None, refl, sym, ap, ◌∙◌, subst, arith, length-append}
+use Rattle.std.specs.List.{slice_get}
+use Rattle.std.proofs.lemmas.Bool.{cond-true, cond-false, eq-eqb, ne_eqb, false≢true}
+use Rattle.std.proofs.lemmas.List.{append-nil, length-take, take_all}
+use Rattle.std.proofs.Math.Seq.{take-add}
+use Rattle.iso_pdu.specs.Layout.{Part, start, more}
+use Rattle.isoal_framed.specs.Air.{part_of}
+use Rattle.isoal_framed.specs.Calls.{Timed}
+use Rattle.isoal_framed.specs.Places.{Act, carries, leaves_out, ends, Comes, IsSegment, place_of, overhead, least_room, done, sent, room}
+use Rattle.isoal_framed.specs.Sends.{IsTimed, AreOf}
+use Rattle.isoal_framed.specs.Struck.{Sent, octets_in, behind, carried, parts_at}
+use Rattle.isoal_framed.proofs.Stays.{carried_past}
+use Rattle.isoal_framed.proofs.Carried.{carried_before, carried_here}
+use Rattle.isoal_framed.proofs.Sendings.{chain_more, Open, are_more, are_snoc, take_next, octets_snoc, get_same, Sending, at_least, Stable, parts_last, fit_more, and_yes, snoc_before, snoc_here, chain_past, Grown}
+
+-- a start
+new_part : (units : List Timed) (anchor : ℕ) (acts : List Act) (count : ℕ) (complete : Bool) (unit : Timed) → slice_get units (done acts) ≡ Some unit → sent acts ≡ 0
+    → part_of anchor (sent acts) (slice_get units (done acts)) count complete ≡ start (anchor - unit.time) complete (take count unit.octets)
+new_part units anchor acts count complete unit due fresh =
+    ap (λ item. part_of anchor (sent acts) item count complete) due
+    ∙ cond-true (eqb (sent acts) 0) (start (anchor - unit.time) complete (take count unit.octets)) (more complete (take count (drop (sent acts) unit.octets)))
+    (eq-eqb (sent acts) 0 fresh)
+
+new_here : (number offset : ℕ) (octets : List ℕ) (complete : Bool) (closed : List Sent) (parts : List Part) (part : Part) → parts ≡ parts_at closed number
+    → part ≡ start offset complete octets
+    → parts ++ part ∷ [] ≡ parts_at (closed ++ record { first = number; offset = offset; segments = octets ∷ []; whole = complete } ∷ []) number
+new_here number offset octets complete closed parts part here is =
+    ap (λ xs. xs ++ part ∷ []) here ∙ ap (λ x. parts_at closed number ++ x ∷ []) (is ∙ ap (λ flag. start offset flag octets) (sym (and_yes complete)))
+    ∙ ap (λ xs. parts_at closed number ++ xs) (sym (carried_here number (Some offset) octets [] complete))
+    ∙ sym (parts_last closed (record { first = number; offset = offset; segments = octets ∷ []; whole = complete }) number)
+
+new_stable : (number offset : ℕ) (octets : List ℕ) (complete : Bool) (closed : List Sent)
+    → Stable number (closed ++ record { first = number; offset = offset; segments = octets ∷ []; whole = complete } ∷ []) closed
+new_stable number offset octets complete closed q before =
+    parts_last closed (record { first = number; offset = offset; segments = octets ∷ []; whole = complete }) q
+    ∙ ap (λ xs. parts_at closed q ++ xs) (carried_before number q (Some offset) (octets ∷ []) complete before)
+    ∙ append-nil (parts_at closed q)
+
+take_fits : (count most : ℕ) (octets : List ℕ) → count ≤ most → length (take count octets ++ []) ≤ most
+take_fits count most octets within = omega (arith, length-append (take count octets) [], length-take count octets)
+
+start_step : (max_pdu max_sdu bn : ℕ) (anchors : List ℕ) (units : List Timed) (anchor number : ℕ) (acts : List Act) (parts : List Part) (closed : List Sent) (count : ℕ) (complete : Bool)
+    (unit : Timed)
+    → Sending max_pdu max_sdu bn anchors units number acts parts closed None → slice_get units (done acts) ≡ Some unit → length unit.octets ≤ max_sdu
+    → IsSegment (place_of max_pdu units anchor acts) unit count complete
+    → IsTimed bn anchors unit (record { first = number; offset = anchor - unit.time; segments = take count unit.octets ∷ []; whole = complete })
+    → Grown max_pdu max_sdu bn anchors units number (carries count complete ∷ acts)
+    (parts ++ part_of anchor (sent acts) (slice_get units (done acts)) count complete ∷ []) closed None
+start_step max_pdu max_sdu bn anchors units anchor number acts parts closed count true unit sending due fits segment timed =
+    let within : sent acts + count ≤ length unit.octets = segment.within in (
+      closed ++ record { first = number; offset = anchor - unit.time; segments = take count unit.octets ∷ []; whole = true } ∷ [],
+      None,
+      record {
+        low = number;
+        chain = chain_more 0 sending.low number closed (record { first = number; offset = anchor - unit.time; segments = take count unit.octets ∷ []; whole = true })
+            sending.chain sending.low_is (omega arith) refl (omega arith);
+        low_is = omega arith;
+        open_is = refl;
+        due = λ some. absurd (omega arith);
+        here = new_here number (anchor - unit.time) (take count unit.octets) true closed parts
+            (part_of anchor (sent acts) (slice_get units (done acts)) count true) sending.here
+            (new_part units anchor acts count true unit due sending.open_is);
+        fit = fit_more max_sdu closed (record { first = number; offset = anchor - unit.time; segments = take count unit.octets ∷ []; whole = true }) sending.fit
+            (take_fits count max_sdu unit.octets (omega arith));
+        closed_of = subst (λ xs. AreOf bn anchors xs
+            (closed ++ record { first = number; offset = anchor - unit.time; segments = take count unit.octets ∷ []; whole = true } ∷ []))
+            (sym (take_next units (done acts) unit due))
+            (are_snoc bn anchors (take (done acts) units) closed unit
+            (record { first = number; offset = anchor - unit.time; segments = take count unit.octets ∷ []; whole = true }) sending.closed_of
+            (record {
+              octets = λ whole. append-nil (take count unit.octets) ∙ take_all count unit.octets
+                  (let end : sent acts + count ≡ length unit.octets = segment.complete_is.0 refl in
+                  let fresh : sent acts ≡ 0 = sending.open_is in omega arith);
+              timed = timed;
+            }));
+        open_of = tt;
+      },
+      new_stable number (anchor - unit.time) (take count unit.octets) true closed,
+    )
+start_step max_pdu max_sdu bn anchors units anchor number acts parts closed count false unit sending due fits segment timed =
+    let within : sent acts + count ≤ length unit.octets = segment.within in
+    let fills : overhead (sent acts) + count ≡ room max_pdu acts = segment.fills refl in
+    let some : 1 ≤ count = at_least count (λ none. false≢true (segment.complete_is.1
+    (let nothing : length unit.octets ≡ 0 = segment.some none in let fresh : sent acts ≡ 0 = sending.open_is in omega arith))) in (
+      closed,
+      Some (record { first = number; offset = anchor - unit.time; segments = take count unit.octets ∷ []; whole = false }),
+      record {
+        low = sending.low;
+        chain = sending.chain;
+        low_is = sending.low_is;
+        open_is = record {
+          part = refl;
+          least = sending.low_is;
+          some = omega arith;
+          begun = omega arith;
+          place = inr (omega arith, omega arith);
+          octets = take_fits count (sent acts + count) unit.octets (omega arith);
+        };
+        due = λ begun. (unit, due, within);
+        here = new_here number (anchor - unit.time) (take count unit.octets) false closed parts
+            (part_of anchor (sent acts) (slice_get units (done acts)) count false) sending.here
+            (new_part units anchor acts count false unit due sending.open_is);
+        fit = sending.fit;
+        closed_of = sending.closed_of;
+        open_of = (
+          unit,
+          due,
+          append-nil (take count unit.octets) ∙ ap (λ n. take n unit.octets) (let fresh : sent acts ≡ 0 = sending.open_is in omega arith),
+          timed,
+        );
+      },
+      new_stable number (anchor - unit.time) (take count unit.octets) false closed,
+    )
+
+-- a further segment
+further_part : (units : List Timed) (anchor : ℕ) (acts : List Act) (count : ℕ) (complete : Bool) (unit : Timed) → slice_get units (done acts) ≡ Some unit → 1 ≤ sent acts
+    → part_of anchor (sent acts) (slice_get units (done acts)) count complete ≡ more complete (take count (drop (sent acts) unit.octets))
+further_part units anchor acts count complete unit due begun =
+    ap (λ item. part_of anchor (sent acts) item count complete) due
+    ∙ cond-false (eqb (sent acts) 0) (start (anchor - unit.time) complete (take count unit.octets)) (more complete (take count (drop (sent acts) unit.octets)))
+    (ne_eqb (sent acts) 0 (λ none. omega arith))
+
+abbrev longer : List ℕ → Bool → Sent → Sent
+longer octets complete unit = record { first = unit.first; offset = unit.offset; segments = unit.segments ++ octets ∷ []; whole = complete }
+
+further_here : (number : ℕ) (octets : List ℕ) (complete : Bool) (closed : List Sent) (unit : Sent) (parts : List Part) (part : Part)
+    → parts ≡ parts_at (closed ++ unit ∷ []) number → part ≡ more complete octets → 1 ≤ length unit.segments → behind unit ≡ number
+    → parts ++ part ∷ [] ≡ parts_at (closed ++ longer octets complete unit ∷ []) number
+further_here number octets complete closed unit parts part here is some at =
+    ap (λ xs. xs ++ part ∷ []) (here ∙ parts_last closed unit number
+    ∙ ap (λ xs. parts_at closed number ++ xs) (carried_past unit.first number (Some unit.offset) unit.segments unit.whole (omega (arith, at)))
+    ∙ append-nil (parts_at closed number))
+    ∙ ap (λ x. parts_at closed number ++ x ∷ []) (is ∙ ap (λ flag. more flag octets) (sym (and_yes complete)))
+    ∙ ap (λ xs. parts_at closed number ++ xs) (sym (snoc_here unit.first number (Some unit.offset) unit.segments octets complete some at))
+    ∙ sym (parts_last closed (longer octets complete unit) number)
+
+further_stable : (number : ℕ) (octets : List ℕ) (complete : Bool) (closed : List Sent) (unit : Sent) → unit.whole ≡ false → behind unit ≡ number
+    → Stable number (closed ++ longer octets complete unit ∷ []) (closed ++ unit ∷ [])
+further_stable number octets complete closed unit part at q before =
+    parts_last closed (longer octets complete unit) q
+    ∙ ap (λ xs. parts_at closed q ++ xs) (snoc_before unit.first q (Some unit.offset) unit.segments octets complete (omega (arith, at))
+    ∙ ap (λ whole. carried unit.first (Some unit.offset) unit.segments whole q) (sym part))
+    ∙ sym (parts_last closed unit q)
+
+longer_octets : (octets : List ℕ) (segments : List (List ℕ)) → length (octets_in (segments ++ octets ∷ [])) ≡ length (octets_in segments) + length octets
+longer_octets octets [] = length-append octets [] ∙ omega arith
+longer_octets octets (segment ∷ segments) =
+    length-append segment (octets_in (segments ++ octets ∷ []))
+    ∙ ap (λ n. length segment + n) (longer_octets octets segments)
+    ∙ (let before : length (segment ++ octets_in segments) ≡ length segment + length (octets_in segments) = length-append segment (octets_in segments) in omega arith)
+
+further_fits : (count most : ℕ) (octets : List ℕ) (unit : Sent) (complete : Bool) → length (octets_in unit.segments) + count ≤ most
+    → length (octets_in (longer (take count octets) complete unit).segments) ≤ most
+further_fits count most octets unit complete within =
+    let sum : length (octets_in (unit.segments ++ take count octets ∷ [])) ≡ length (octets_in unit.segments) + length (take count octets) =
+    longer_octets (take count octets) unit.segments in
+    omega (arith, length-take count octets)
+
+-- there is room for a further segment
+three : (sent_now count room_now : ℕ) → 1 ≤ sent_now → 1 ≤ count → least_room sent_now count ≤ room_now → 3 ≤ room_now
+three sent_now count room_now begun some roomy =
+    let two : cond (eqb sent_now 0) 5 2 ≡ 2 = cond-false (eqb sent_now 0) 5 2 (ne_eqb sent_now 0 (λ none. omega arith)) in
+    let one : cond (eqb count 0) 0 1 ≡ 1 = cond-false (eqb count 0) 0 1 (ne_eqb count 0 (λ none. omega arith)) in
+    let low : 2 + cond (eqb count 0) 0 1 ≤ room_now = subst (λ n. n + cond (eqb count 0) 0 1 ≤ room_now) two roomy in
+    subst (λ n. 2 + n ≤ room_now) one low
+
+-- a unit with one more segment
+longer_is : (units : List Timed) (acts : List Act) (count : ℕ) (before : Sent) (unit timed : Timed) → slice_get units (done acts) ≡ Some timed
+    → slice_get units (done acts) ≡ Some unit → octets_in before.segments ≡ take (sent acts) timed.octets
+    → octets_in (before.segments ++ take count (drop (sent acts) unit.octets) ∷ []) ≡ take (sent acts + count) unit.octets
+longer_is units acts count before unit timed is due octets =
+    octets_snoc before.segments (take count (drop (sent acts) unit.octets))
+    ∙ ap (λ xs. xs ++ take count (drop (sent acts) unit.octets)) (octets ∙ ap (λ t. take (sent acts) t.octets) (get_same units (done acts) timed unit is due))
+    ∙ sym (take-add (sent acts) count unit.octets)
+
+longer_timed : (bn : ℕ) (anchors : List ℕ) (units : List Timed) (acts : List Act) (octets : List ℕ) (complete : Bool) (before : Sent) (unit timed : Timed)
+    → slice_get units (done acts) ≡ Some timed → slice_get units (done acts) ≡ Some unit → IsTimed bn anchors timed before
+    → IsTimed bn anchors unit (longer octets complete before)
+longer_timed bn anchors units acts octets complete before unit timed is due was =
+    let same : timed ≡ unit = get_same units (done acts) timed unit is due in
+    record {
+      event = was.event;
+      least = was.least;
+      below = was.below;
+      anchor = was.anchor;
+      anchor_is = was.anchor_is;
+      ready = subst (λ t. t.time ≤ was.anchor) same was.ready;
+      offset = subst (λ t. before.offset ≡ was.anchor - t.time) same was.offset;
+    }
+
+pub in_place : (max_pdu max_sdu low number sent_now room_now : ℕ) (unit : Sent) → Open max_pdu max_sdu low number sent_now room_now unit → 3 ≤ room_now
+    → behind unit ≡ number
+in_place max_pdu max_sdu low number sent_now room_now unit open_is roomy = elim open_is.place [
+  | inl here ↦ here.0
+  | inr full ↦ (let less : room_now < 3 = full.1 in absurd (omega arith))
+]
+
+goes_on_step : (max_pdu max_sdu bn : ℕ) (anchors : List ℕ) (units : List Timed) (anchor number : ℕ) (acts : List Act) (parts : List Part) (closed : List Sent) (before : Sent)
+    (count : ℕ) (complete : Bool) (unit : Timed)
+    → Sending max_pdu max_sdu bn anchors units number acts parts closed (Some before) → slice_get units (done acts) ≡ Some unit → length unit.octets ≤ max_sdu
+    → 3 ≤ room max_pdu acts → IsSegment (place_of max_pdu units anchor acts) unit count complete
+    → Grown max_pdu max_sdu bn anchors units number (carries count complete ∷ acts)
+    (parts ++ part_of anchor (sent acts) (slice_get units (done acts)) count complete ∷ []) closed (Some before)
+goes_on_step max_pdu max_sdu bn anchors units anchor number acts parts closed before count true unit sending due fits roomy segment =
+    let within : sent acts + count ≤ length unit.octets = segment.within in
+    let at : behind before ≡ number = in_place max_pdu max_sdu sending.low number (sent acts) (room max_pdu acts) before sending.open_is roomy in
+    let few : length (octets_in before.segments) ≤ sent acts = sending.open_is.octets in
+    let some : 1 ≤ length before.segments = sending.open_is.some in
+    let begun : 1 ≤ sent acts = sending.open_is.begun in
+    let more_segments : length (before.segments ++ take count (drop (sent acts) unit.octets) ∷ []) ≡ length before.segments + 1 =
+    length-append before.segments (take count (drop (sent acts) unit.octets) ∷ []) in (
+      closed ++ longer (take count (drop (sent acts) unit.octets)) true before ∷ [],
+      None,
+      record {
+        low = number;
+        chain = chain_more 0 sending.low number closed (longer (take count (drop (sent acts) unit.octets)) true before) sending.chain sending.open_is.least
+            (omega arith) refl (omega (arith, at));
+        low_is = omega arith;
+        open_is = refl;
+        due = λ some_sent. absurd (omega arith);
+        here = further_here number (take count (drop (sent acts) unit.octets)) true closed before parts
+            (part_of anchor (sent acts) (slice_get units (done acts)) count true) sending.here
+            (further_part units anchor acts count true unit due begun) some at;
+        fit = fit_more max_sdu closed (longer (take count (drop (sent acts) unit.octets)) true before) sending.fit
+            (further_fits count max_sdu (drop (sent acts) unit.octets) before true (omega arith));
+        closed_of = subst (λ xs. AreOf bn anchors xs (closed ++ longer (take count (drop (sent acts) unit.octets)) true before ∷ []))
+            (sym (take_next units (done acts) unit due))
+            (are_snoc bn anchors (take (done acts) units) closed unit (longer (take count (drop (sent acts) unit.octets)) true before) sending.closed_of
+            (record {
+              octets = λ whole. longer_is units acts count before unit sending.open_of.0 sending.open_of.1 due sending.open_of.2
+                  ∙ take_all (sent acts + count) unit.octets (let end : sent acts + count ≡ length unit.octets = segment.complete_is.0 refl in omega arith);
+              timed = longer_timed bn anchors units acts (take count (drop (sent acts) unit.octets)) true before unit sending.open_of.0 sending.open_of.1 due sending.open_of.3;
+            }));
+        open_of = tt;
+      },
+      further_stable number (take count (drop (sent acts) unit.octets)) true closed before sending.open_is.part at,
+    )
+goes_on_step max_pdu max_sdu bn anchors units anchor number acts parts closed before count false unit sending due fits roomy segment =
+    let within : sent acts + count ≤ length unit.octets = segment.within in
+    let fills : overhead (sent acts) + count ≡ room max_pdu acts = segment.fills refl in
+    let at : behind before ≡ number = in_place max_pdu max_sdu sending.low number (sent acts) (room max_pdu acts) before sending.open_is roomy in
+    let few : length (octets_in before.segments) ≤ sent acts = sending.open_is.octets in
+    let some : 1 ≤ length before.segments = sending.open_is.some in
+    let begun : 1 ≤ sent acts = sending.open_is.begun in
+    let more_segments : length (before.segments ++ take count (drop (sent acts) unit.octets) ∷ []) ≡ length before.segments + 1 =
+    length-append before.segments (take count (drop (sent acts) unit.octets) ∷ []) in (
+      closed,
+      Some (longer (take count (drop (sent acts) unit.octets)) false before),
+      record {
+        low = sending.low;
+        chain = sending.chain;
+        low_is = sending.low_is;
+        open_is = record {
+          part = refl;
+          least = sending.open_is.least;
+          some = omega arith;
+          begun = omega arith;
+          place = inr (omega (arith, at), omega arith);
+          octets = further_fits count (sent acts + count) (drop (sent acts) unit.octets) before false (omega arith);
+        };
+        due = λ some_sent. (unit, due, within);
+        here = further_here number (take count (drop (sent acts) unit.octets)) false closed before parts
+            (part_of anchor (sent acts) (slice_get units (done acts)) count false) sending.here
+            (further_part units anchor acts count false unit due begun) some at;
+        fit = sending.fit;
+        closed_of = sending.closed_of;
+        open_of = (
+          unit,
+          due,
+          longer_is units acts count before unit sending.open_of.0 sending.open_of.1 due sending.open_of.2,
+          longer_timed bn anchors units acts (take count (drop (sent acts) unit.octets)) false before unit sending.open_of.0 sending.open_of.1 due sending.open_of.3,
+        );
+      },
+      further_stable number (take count (drop (sent acts) unit.octets)) false closed before sending.open_is.part at,
+    )
+
+-- a unit that is partly sent goes on at the head of a PDU
+goes_on_here : (max_pdu : ℕ) (units : List Timed) (anchor : ℕ) (acts : List Act) → 1 ≤ sent acts → 8 ≤ max_pdu → room max_pdu acts ≡ max_pdu
+    → (unit : Timed) × (slice_get units (done acts) ≡ Some unit) × (sent acts ≤ length unit.octets) → Comes (place_of max_pdu units anchor acts) ends → ⊥
+goes_on_here max_pdu units anchor acts begun wide whole (unit, due, within) comes =
+    let two : cond (eqb (sent acts) 0) 5 2 ≡ 2 = cond-false (eqb (sent acts) 0) 5 2 (ne_eqb (sent acts) 0 (λ none. omega arith)) in
+    let one : cond (eqb (length unit.octets) 0) 0 1 ≡ 1 = cond-false (eqb (length unit.octets) 0) 0 1 (ne_eqb (length unit.octets) 0 (λ none. omega arith)) in
+    let low : 2 + cond (eqb (length unit.octets) 0) 0 1 ≤ room max_pdu acts = subst (λ n. 2 + n ≤ room max_pdu acts) (sym one) (omega arith) in
+    let roomy : least_room (sent acts) (length unit.octets) ≤ room max_pdu acts =
+    subst (λ n. n + cond (eqb (length unit.octets) 0) 0 1 ≤ room max_pdu acts) (sym two) low in
+    comes unit (record { due = due; ready = λ fresh. absurd (omega arith); room = roomy })
+
+-- the end of a PDU
+pub ends_step : (max_pdu max_sdu bn : ℕ) (anchors : List ℕ) (units : List Timed) (anchor number : ℕ) (acts : List Act) (parts : List Part) (closed : List Sent) (opened : Option Sent) → 8 ≤ max_pdu
+    → Sending max_pdu max_sdu bn anchors units number acts parts closed opened → Comes (place_of max_pdu units anchor acts) ends
+    → Sending max_pdu max_sdu bn anchors units (number + 1) (ends ∷ acts) [] closed opened
+ends_step max_pdu max_sdu bn anchors units anchor number acts parts closed None wide sending comes =
+    let low : sending.low ≤ number = sending.low_is in
+    record {
+      low = sending.low;
+      chain = sending.chain;
+      low_is = omega arith;
+      open_is = sending.open_is;
+      due = sending.due;
+      here = sym (chain_past 0 sending.low (number + 1) closed sending.chain (omega arith));
+      fit = sending.fit;
+      closed_of = sending.closed_of;
+      open_of = tt;
+    }
+ends_step max_pdu max_sdu bn anchors units anchor number acts parts closed (Some unit) wide sending comes =
+    let low : sending.low ≤ number = sending.low_is in
+    let begun : 1 ≤ sent acts = sending.open_is.begun in
+    let next : behind unit ≡ number + 1 = elim sending.open_is.place [
+      | inr full ↦ full.0
+      | inl here ↦ absurd (goes_on_here max_pdu units anchor acts begun wide here.1 (sending.due begun) comes)
+    ] in
+    record {
+      low = sending.low;
+      chain = sending.chain;
+      low_is = omega arith;
+      open_is = record {
+        part = sending.open_is.part;
+        least = sending.open_is.least;
+        some = sending.open_is.some;
+        begun = begun;
+        place = inl (next, refl);
+        octets = sending.open_is.octets;
+      };
+      due = sending.due;
+      here = sym (parts_last closed unit (number + 1)
+          ∙ ap (λ xs. xs ++ carried unit.first (Some unit.offset) unit.segments unit.whole (number + 1))
+          (chain_past 0 sending.low (number + 1) closed sending.chain (omega arith))
+          ∙ carried_past unit.first (number + 1) (Some unit.offset) unit.segments unit.whole (omega (arith, next)));
+      fit = sending.fit;
+      closed_of = sending.closed_of;
+      open_of = sending.open_of;
+    }
+
+-- a unit that is left out
+pub leaves_step : (max_pdu max_sdu bn : ℕ) (anchors : List ℕ) (units : List Timed) (number : ℕ) (acts : List Act) (parts : List Part) (closed : List Sent) (opened : Option Sent)
+    → Sending max_pdu max_sdu bn anchors units number acts parts closed opened → sent acts ≡ 0
+    → Sending max_pdu max_sdu bn anchors units number (leaves_out ∷ acts) parts closed opened
+leaves_step max_pdu max_sdu bn anchors units number acts parts closed None sending fresh = record {
+  low = sending.low;
+  chain = sending.chain;
+  low_is = sending.low_is;
+  open_is = refl;
+  due = λ some. absurd (omega arith);
+  here = sending.here;
+  fit = sending.fit;
+  closed_of = subst (λ xs. AreOf bn anchors xs closed) (sym (take-add (done acts) 1 units))
+      (are_more bn anchors (take (done acts) units) (take 1 (drop (done acts) units)) closed sending.closed_of);
+  open_of = tt;
+}
+leaves_step max_pdu max_sdu bn anchors units number acts parts closed (Some unit) sending fresh =
+    let begun : 1 ≤ sent acts = sending.open_is.begun in
+    absurd (omega arith)
+
+-- a segment
+pub carries_step : (max_pdu max_sdu bn : ℕ) (anchors : List ℕ) (units : List Timed) (anchor number : ℕ) (acts : List Act) (parts : List Part) (closed : List Sent) (opened : Option Sent)
+    (count : ℕ) (complete : Bool)
+    → ((i : ℕ) → (unit : Timed) → slice_get units i ≡ Some unit → length unit.octets ≤ max_sdu)
+    → (event : ℕ) → event * bn ≤ number → number < event * bn + bn → slice_get anchors event ≡ Some anchor
+    → Sending max_pdu max_sdu bn anchors units number acts parts closed opened → Comes (place_of max_pdu units anchor acts) (carries count complete)
+    → Grown max_pdu max_sdu bn anchors units number (carries count complete ∷ acts)
+    (parts ++ part_of anchor (sent acts) (slice_get units (done acts)) count complete ∷ []) closed opened
+carries_step max_pdu max_sdu bn anchors units anchor number acts parts closed None count complete fits event least below anchor_is sending (unit, turn, not_stale, segment) =
+    start_step max_pdu max_sdu bn anchors units anchor number acts parts closed count complete unit sending turn.due (fits (done acts) unit turn.due) segment
+    (record { event = event; least = least; below = below; anchor = anchor; anchor_is = anchor_is; ready = turn.ready sending.open_is; offset = refl })
+carries_step max_pdu max_sdu bn anchors units anchor number acts parts closed (Some before) count complete fits event least below anchor_is sending (unit, turn, not_stale, segment) =
+    let begun : 1 ≤ sent acts = sending.open_is.begun in
+    let within : sent acts + count ≤ length unit.octets = segment.within in
+    goes_on_step max_pdu max_sdu bn anchors units anchor number acts parts closed before count complete unit sending turn.due (fits (done acts) unit turn.due)
+    (three (sent acts) (length unit.octets) (room max_pdu acts) begun (omega arith) turn.room) segment

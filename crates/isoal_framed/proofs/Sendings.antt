@@ -1,0 +1,244 @@
+-- How the units that acts have sent stand for these acts, and what later calls leave of it.
+use Rattle.std.proofs.Common.{ℕ, zero, suc, ◌≡◌, ◌+◌, ◌-◌, ◌<◌, ◌≤◌, ◌⊎◌, inl, inr, true, false, Bool, ◌&&◌, eqb, cond, List, [], ◌∷◌, ◌++◌, length, take}
+use Rattle.std.proofs.Common.{Option, Some, None, refl, sym, ap, ◌∙◌, subst, arith}
+use Rattle.std.specs.List.{slice_get}
+use Rattle.std.proofs.lemmas.Bool.{cond-false, ne_eqb}
+use Rattle.std.proofs.lemmas.Grind.{flat_map-append}
+use Rattle.std.proofs.lemmas.List.{append-nil}
+use Rattle.std.proofs.lemmas.Option.{none-some, slice_get_past}
+use Rattle.iso_pdu.specs.Layout.{Part, more}
+use Rattle.isoal_framed.specs.Calls.{Timed}
+use Rattle.isoal_framed.specs.Places.{Act, done, sent, room}
+use Rattle.isoal_framed.specs.Sends.{IsTimed, IsOf, AreOf}
+use Rattle.isoal_framed.specs.Struck.{Sent, Fit, octets_in, behind, carried, is_last, part_with, parts_at}
+use Rattle.isoal_framed.proofs.Stays.{carried_past}
+use Rattle.isoal_framed.proofs.Carried.{carried_here, carried_later}
+
+-- units that are wholly sent, and the one that is partly sent
+abbrev pub all : List Sent → Option Sent → List Sent
+all closed None = closed
+all closed (Some unit) = closed ++ unit ∷ []
+
+abbrev pub Chain : ℕ → ℕ → List Sent → Type 0
+Chain from to [] = from ≤ to
+Chain from to (unit ∷ units) = (from ≤ unit.first) × (1 ≤ length unit.segments) × (unit.whole ≡ true) × Chain (behind unit - 1) to units
+
+pub chain_more : (from to next : ℕ) (units : List Sent) (unit : Sent) → Chain from to units → to ≤ unit.first → 1 ≤ length unit.segments → unit.whole ≡ true
+    → behind unit - 1 ≤ next → Chain from next (units ++ unit ∷ [])
+chain_more from to next [] unit chain least some whole below = ((let low : from ≤ to = chain in omega arith), some, whole, below)
+chain_more from to next (first ∷ units) unit chain least some whole below =
+    (chain.0, chain.1, chain.2, chain_more (behind first - 1) to next units unit chain.3 least some whole below)
+
+-- the unit that is partly sent goes on in this PDU, or has filled it
+pub record Open (max_pdu max_sdu low number sent_now room_now : ℕ) (unit : Sent) : Type 0 where
+  pub part : unit.whole ≡ false
+  pub least : low ≤ unit.first
+  pub some : 1 ≤ length unit.segments
+  pub begun : 1 ≤ sent_now
+  pub place : ((behind unit ≡ number) × (room_now ≡ max_pdu)) ⊎ ((behind unit ≡ number + 1) × (room_now < 3))
+  pub octets : length (octets_in unit.segments) ≤ sent_now
+
+abbrev pub OpenIs : ℕ → ℕ → ℕ → ℕ → ℕ → ℕ → Option Sent → Type 0
+OpenIs max_pdu max_sdu low number sent_now room_now None = sent_now ≡ 0
+OpenIs max_pdu max_sdu low number sent_now room_now (Some unit) = Open max_pdu max_sdu low number sent_now room_now unit
+
+-- one more accepted unit
+pub get_more : {A : Type 0} (items : List A) (last : A) (i : ℕ) (item : A) → slice_get items i ≡ Some item → slice_get (items ++ last ∷ []) i ≡ Some item
+get_more [] last i item is = absurd (none-some item (sym (slice_get_past [] i (omega arith)) ∙ is))
+get_more (x ∷ items) last zero item is = is
+get_more (x ∷ items) last (suc i) item is = get_more items last i item is
+
+-- the unit that is partly sent is the due one
+abbrev pub OpenOf : ℕ → List ℕ → List Timed → List Act → Option Sent → Type 0
+OpenOf bn anchors units acts None = Unit {0}
+OpenOf bn anchors units acts (Some unit) =
+    (timed : Timed) × (slice_get units (done acts) ≡ Some timed) × (octets_in unit.segments ≡ take (sent acts) timed.octets) × IsTimed bn anchors timed unit
+
+-- units of accepted ones, and one more
+pub are_more : (bn : ℕ) (anchors : List ℕ) (xs ys : List Timed) (units : List Sent) → AreOf bn anchors xs units → AreOf bn anchors (xs ++ ys) units
+are_more bn anchors xs ys [] are = tt
+are_more bn anchors [] ys (unit ∷ units) are = absurd are
+are_more bn anchors (x ∷ xs) ys (unit ∷ units) (inl (here, rest)) = inl (here, are_more bn anchors xs ys units rest)
+are_more bn anchors (x ∷ xs) ys (unit ∷ units) (inr rest) = inr (are_more bn anchors xs ys (unit ∷ units) rest)
+
+are_last : (bn : ℕ) (anchors : List ℕ) (xs : List Timed) (last : Timed) (unit : Sent) → IsOf bn anchors last unit → AreOf bn anchors (xs ++ last ∷ []) (unit ∷ [])
+are_last bn anchors [] last unit is = inl (is, tt)
+are_last bn anchors (x ∷ xs) last unit is = inr (are_last bn anchors xs last unit is)
+
+pub are_snoc : (bn : ℕ) (anchors : List ℕ) (xs : List Timed) (units : List Sent) (last : Timed) (unit : Sent) → AreOf bn anchors xs units → IsOf bn anchors last unit
+    → AreOf bn anchors (xs ++ last ∷ []) (units ++ unit ∷ [])
+are_snoc bn anchors xs [] last unit are is = are_last bn anchors xs last unit is
+are_snoc bn anchors [] (first ∷ units) last unit are is = absurd are
+are_snoc bn anchors (x ∷ xs) (first ∷ units) last unit (inl (here, rest)) is = inl (here, are_snoc bn anchors xs units last unit rest is)
+are_snoc bn anchors (x ∷ xs) (first ∷ units) last unit (inr rest) is = inr (are_snoc bn anchors xs (first ∷ units) last unit rest is)
+
+-- one more event
+timed_more : (bn : ℕ) (anchors : List ℕ) (anchor : ℕ) (timed : Timed) (unit : Sent) → IsTimed bn anchors timed unit → IsTimed bn (anchors ++ anchor ∷ []) timed unit
+timed_more bn anchors anchor timed unit is = record {
+  event = is.event;
+  least = is.least;
+  below = is.below;
+  anchor = is.anchor;
+  anchor_is = get_more anchors anchor is.event is.anchor is.anchor_is;
+  ready = is.ready;
+  offset = is.offset;
+}
+
+are_anchored : (bn : ℕ) (anchors : List ℕ) (anchor : ℕ) (xs : List Timed) (units : List Sent) → AreOf bn anchors xs units → AreOf bn (anchors ++ anchor ∷ []) xs units
+are_anchored bn anchors anchor xs [] are = tt
+are_anchored bn anchors anchor [] (unit ∷ units) are = absurd are
+are_anchored bn anchors anchor (x ∷ xs) (unit ∷ units) (inl (here, rest)) =
+    inl (record { octets = here.octets; timed = timed_more bn anchors anchor x unit here.timed }, are_anchored bn anchors anchor xs units rest)
+are_anchored bn anchors anchor (x ∷ xs) (unit ∷ units) (inr rest) = inr (are_anchored bn anchors anchor xs (unit ∷ units) rest)
+
+open_anchored : (bn : ℕ) (anchors : List ℕ) (anchor : ℕ) (units : List Timed) (acts : List Act) (opened : Option Sent) → OpenOf bn anchors units acts opened
+    → OpenOf bn (anchors ++ anchor ∷ []) units acts opened
+open_anchored bn anchors anchor units acts None is = tt
+open_anchored bn anchors anchor units acts (Some unit) (timed, due, octets, is) = (timed, due, octets, timed_more bn anchors anchor timed unit is)
+
+open_more : (bn : ℕ) (anchors : List ℕ) (units : List Timed) (last : Timed) (acts : List Act) (opened : Option Sent) → OpenOf bn anchors units acts opened
+    → OpenOf bn anchors (units ++ last ∷ []) acts opened
+open_more bn anchors units last acts None is = tt
+open_more bn anchors units last acts (Some unit) (timed, due, octets, is) = (timed, get_more units last (done acts) timed due, octets, is)
+
+-- lists of accepted units
+pub take_next : {A : Type 0} (items : List A) (n : ℕ) (item : A) → slice_get items n ≡ Some item → take (n + 1) items ≡ take n items ++ item ∷ []
+take_next [] n item is = absurd (none-some item (sym (slice_get_past [] n (omega arith)) ∙ is))
+take_next (x ∷ items) zero item is = cc
+take_next (x ∷ items) (suc n) item is =
+    let more : suc n + 1 ≡ suc (n + 1) = omega arith in
+    ap (λ k. take k (x ∷ items)) more ∙ ap (λ xs. x ∷ xs) (take_next items n item is)
+
+take_more_of : {A : Type 0} (n : ℕ) (xs ys : List A) → (zs : List A) × (take n (xs ++ ys) ≡ take n xs ++ zs)
+take_more_of zero xs ys = ([], refl)
+take_more_of (suc n) [] ys = (take (suc n) ys, refl)
+take_more_of {A = A} (suc n) (x ∷ xs) ys =
+    let rest : (zs : List A) × (take n (xs ++ ys) ≡ take n xs ++ zs) = take_more_of n xs ys in
+    (rest.0, ap (λ zs. x ∷ zs) rest.1)
+
+pub octets_snoc : (segments : List (List ℕ)) (octets : List ℕ) → octets_in (segments ++ octets ∷ []) ≡ octets_in segments ++ octets
+octets_snoc segments octets =
+    flat_map-append (λ xs. xs) segments (octets ∷ []) ∙ ap (λ xs. octets_in segments ++ xs) (append-nil octets)
+
+pub get_same : (units : List Timed) (n : ℕ) (one other : Timed) → slice_get units n ≡ Some one → slice_get units n ≡ Some other → one ≡ other
+get_same units n one other is also = let same : Some one ≡ Some other = sym is ∙ also in cc
+
+pub record Sending (max_pdu max_sdu bn : ℕ) (anchors : List ℕ) (units : List Timed) (number : ℕ) (acts : List Act) (parts : List Part) (closed : List Sent) (opened : Option Sent) : Type 0 where
+  pub low : ℕ
+  pub chain : Chain 0 low closed
+  pub low_is : low ≤ number
+  pub open_is : OpenIs max_pdu max_sdu low number (sent acts) (room max_pdu acts) opened
+  pub due : 1 ≤ sent acts → (unit : Timed) × (slice_get units (done acts) ≡ Some unit) × (sent acts ≤ length unit.octets)
+  pub here : parts ≡ parts_at (all closed opened) number
+  pub fit : Fit max_sdu closed
+  pub closed_of : AreOf bn anchors (take (done acts) units) closed
+  pub open_of : OpenOf bn anchors units acts opened
+
+chain_low : (from to : ℕ) (units : List Sent) → Chain from to units → from ≤ to
+chain_low from to [] chain = chain
+chain_low from to (unit ∷ units) chain =
+    let below : behind unit - 1 ≤ to = chain_low (behind unit - 1) to units chain.3 in
+    let least : from ≤ unit.first = chain.0 in
+    let some : 1 ≤ length unit.segments = chain.1 in
+    omega arith
+
+pub at_least : (n : ℕ) → (n ≡ 0 → ⊥) → 1 ≤ n
+at_least zero some = absurd (some refl)
+at_least (suc n) some = omega arith
+
+-- what stays of the PDUs before
+abbrev pub Stable : ℕ → List Sent → List Sent → Type 0
+Stable number now before = (q : ℕ) → q < number → parts_at now q ≡ parts_at before q
+
+pub parts_last : (units : List Sent) (unit : Sent) (number : ℕ)
+    → parts_at (units ++ unit ∷ []) number ≡ parts_at units number ++ carried unit.first (Some unit.offset) unit.segments unit.whole number
+parts_last units unit number =
+    flat_map-append (λ u. carried u.first (Some u.offset) u.segments u.whole number) units (unit ∷ [])
+    ∙ ap (λ parts. parts_at units number ++ parts) (append-nil (carried unit.first (Some unit.offset) unit.segments unit.whole number))
+
+pub fit_more : (max_sdu : ℕ) (units : List Sent) (unit : Sent) → Fit max_sdu units → length (octets_in unit.segments) ≤ max_sdu → Fit max_sdu (units ++ unit ∷ [])
+fit_more max_sdu [] unit fit here = (here, tt)
+fit_more max_sdu (first ∷ units) unit fit here = (fit.0, fit_more max_sdu units unit fit.1 here)
+
+-- a further segment
+and_no : (a b : Bool) → b ≡ false → (a && b) ≡ false
+and_no true b is = is
+and_no false b is = refl
+
+pub and_yes : (a : Bool) → (a && true) ≡ a
+and_yes true = refl
+and_yes false = refl
+
+not_last : (segments : List (List ℕ)) (octets : List ℕ) → is_last (segments ++ octets ∷ []) ≡ false
+not_last [] octets = refl
+not_last (segment ∷ segments) octets = refl
+
+pub snoc_before : (first number : ℕ) (offset : Option ℕ) (segments : List (List ℕ)) (octets : List ℕ) (whole : Bool) → number < first + length segments
+    → carried first offset (segments ++ octets ∷ []) whole number ≡ carried first offset segments false number
+snoc_before first number offset [] octets whole below =
+    cond-false (eqb first number) (part_with offset (whole && true) octets ∷ []) [] (ne_eqb first number (λ same. omega arith))
+snoc_before first number offset (segment ∷ segments) octets whole below =
+    ap (λ flag. cond (eqb first number) (part_with offset flag segment ∷ []) (carried (first + 1) None (segments ++ octets ∷ []) whole number))
+    (ap (λ last. whole && last) (not_last segments octets) ∙ and_no whole false refl)
+    ∙ ap (λ rest. cond (eqb first number) (part_with offset false segment ∷ []) rest)
+    (snoc_before (first + 1) number None segments octets whole (omega arith))
+
+pub snoc_here : (first number : ℕ) (offset : Option ℕ) (segments : List (List ℕ)) (octets : List ℕ) (whole : Bool) → 1 ≤ length segments
+    → first + length segments ≡ number → carried first offset (segments ++ octets ∷ []) whole number ≡ more (whole && true) octets ∷ []
+snoc_here first number offset [] octets whole some at = absurd (omega arith)
+snoc_here first number offset (segment ∷ []) octets whole some at =
+    let next : number ≡ first + 1 = omega arith in
+    carried_later first number offset segment (octets ∷ []) whole (omega arith)
+    ∙ ap (carried (first + 1) None (octets ∷ []) whole) next
+    ∙ carried_here (first + 1) None octets [] whole
+snoc_here first number offset (segment ∷ next ∷ segments) octets whole some at =
+    carried_later first number offset segment (next ∷ (segments ++ octets ∷ [])) whole (omega arith)
+    ∙ snoc_here (first + 1) number None (next ∷ segments) octets whole (omega arith) (omega arith)
+
+-- units behind whose last number a PDU stands
+pub chain_past : (from to number : ℕ) (units : List Sent) → Chain from to units → to < number → parts_at units number ≡ []
+chain_past from to number [] chain past = refl
+chain_past from to number (unit ∷ units) chain past =
+    let below : behind unit - 1 ≤ to = chain_low (behind unit - 1) to units chain.3 in
+    let some : 1 ≤ length unit.segments = chain.1 in
+    ap (λ parts. parts ++ parts_at units number) (carried_past unit.first number (Some unit.offset) unit.segments unit.whole (omega arith))
+    ∙ chain_past (behind unit - 1) to number units chain.3 past
+
+abbrev pub Grown : ℕ → ℕ → ℕ → List ℕ → List Timed → ℕ → List Act → List Part → List Sent → Option Sent → Type 0
+Grown max_pdu max_sdu bn anchors units number acts parts closed opened =
+    (closed' : List Sent) × (opened' : Option Sent) × Sending max_pdu max_sdu bn anchors units number acts parts closed' opened'
+    × Stable number (all closed' opened') (all closed opened)
+
+pub accepted_more : (max_pdu max_sdu bn : ℕ) (anchors : List ℕ) (units : List Timed) (last : Timed) (number : ℕ) (acts : List Act) (parts : List Part) (closed : List Sent) (opened : Option Sent)
+    → Sending max_pdu max_sdu bn anchors units number acts parts closed opened → Sending max_pdu max_sdu bn anchors (units ++ last ∷ []) number acts parts closed opened
+accepted_more max_pdu max_sdu bn anchors units last number acts parts closed opened sending = record {
+  low = sending.low;
+  chain = sending.chain;
+  low_is = sending.low_is;
+  open_is = sending.open_is;
+  due = λ some. (
+    (sending.due some).0,
+    get_more units last (done acts) (sending.due some).0 (sending.due some).1,
+    (sending.due some).2,
+  );
+  here = sending.here;
+  fit = sending.fit;
+  closed_of =
+      (let taken : (zs : List Timed) × (take (done acts) (units ++ last ∷ []) ≡ take (done acts) units ++ zs) = take_more_of (done acts) units (last ∷ []) in
+      subst (λ xs. AreOf bn anchors xs closed) (sym taken.1) (are_more bn anchors (take (done acts) units) taken.0 closed sending.closed_of));
+  open_of = open_more bn anchors units last acts opened sending.open_of;
+}
+
+pub anchored_more : (max_pdu max_sdu bn : ℕ) (anchors : List ℕ) (units : List Timed) (anchor : ℕ) (number : ℕ) (acts : List Act) (parts : List Part) (closed : List Sent) (opened : Option Sent)
+    → Sending max_pdu max_sdu bn anchors units number acts parts closed opened → Sending max_pdu max_sdu bn (anchors ++ anchor ∷ []) units number acts parts closed opened
+anchored_more max_pdu max_sdu bn anchors units anchor number acts parts closed opened sending = record {
+  low = sending.low;
+  chain = sending.chain;
+  low_is = sending.low_is;
+  open_is = sending.open_is;
+  due = sending.due;
+  here = sending.here;
+  fit = sending.fit;
+  closed_of = are_anchored bn anchors anchor (take (done acts) units) closed sending.closed_of;
+  open_of = open_anchored bn anchors anchor units acts opened sending.open_of;
+}

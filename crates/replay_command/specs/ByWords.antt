@@ -1,0 +1,25 @@
+-- What a call of `replay` promises by its words: what they mean says which promises hold. The program is this project's own.
+use Rattle.std.specs.Prelude.{ℕ, ◌≡◌, ◌≢◌, ◌⊎◌, List}
+use Rattle.replay_words.specs.Words.{mode_of}
+use Rattle.replay_words.specs.declared.mode.Mode.{Mode}
+use Rattle.replay_words.specs.declared.mode.Mode.TheVariants as modes
+use Rattle.replay_command.specs.declared.status.Status.{Status}
+use Rattle.replay_command.specs.declared.status.Status.TheVariants as statuses
+use Rattle.replay_command.specs.Promised.{Promised}
+use Rattle.replay_command.specs.World.{World}
+
+-- nothing is run for words of this mode: they are Usage, or ask for a mode that isn't built
+abbrev pub IsNone : Mode → Type 0
+IsNone modes.Replay = ⊥
+IsNone _ = Unit {0}
+
+-- what is promised of a call by what its words mean
+pub record PromisedIn (mode : Mode) (old new : World) (status : Status) : Type 0 where
+  -- Words that mean replay: the scenario of the source is run.
+  pub replay : mode ≡ modes.Replay → Promised old new status
+  -- All other words are Usage. Where memory ran out before they were read, the status is Memory; nothing happened then either.
+  pub usage : IsNone mode → ((status ≡ statuses.Usage) ⊎ (status ≡ statuses.Memory)) × (new ≡ old)
+
+-- the same by the words, each as its octets
+abbrev pub PromisedFor : List (List ℕ) → World → World → Status → Type 0
+PromisedFor words old new status = PromisedIn (mode_of words) old new status

@@ -1,0 +1,99 @@
+//! Words of the command line, each list over the row of one unit that is heard.
+
+use crate::tests::{LEAST_PATH, run_with, tallies, text_source};
+use bcast_io::FaithfulSink;
+use replay_words::Words;
+use std::alloc::Global;
+use std::process::Abort;
+use std::test::*;
+
+/// Words, a space between each two, with so many boxes; what they write, and the exit status of their end.
+#[derive(Clone, Copy)]
+pub struct WordRow {
+    pub name: &'static str,
+    pub words: &'static str,
+    pub boxes: usize,
+    pub transcript: &'static str,
+    pub exit_code: u8,
+}
+
+pub const WORD_ROWS: [WordRow; 7] = [
+    WordRow {
+        name: "word-unknown",
+        words: "x",
+        boxes: 2,
+        transcript: "",
+        exit_code: 2,
+    },
+    WordRow {
+        name: "usage-seed-alone",
+        words: "--seed 1",
+        boxes: 2,
+        transcript: "",
+        exit_code: 2,
+    },
+    WordRow {
+        name: "usage-events-alone",
+        words: "--events 5",
+        boxes: 2,
+        transcript: "",
+        exit_code: 2,
+    },
+    WordRow {
+        name: "usage-no-events",
+        words: "--seed 1 --events 0",
+        boxes: 2,
+        transcript: "",
+        exit_code: 2,
+    },
+    WordRow {
+        name: "usage-seed-too-great",
+        words: "--seed 2147483648 --events 1",
+        boxes: 2,
+        transcript: "",
+        exit_code: 2,
+    },
+    WordRow {
+        name: "usage-seed-twice",
+        words: "--seed 1 --seed 1 --events 1",
+        boxes: 2,
+        transcript: "",
+        exit_code: 2,
+    },
+    WordRow {
+        name: "dashes-alone",
+        words: "--",
+        boxes: 2,
+        transcript: "",
+        exit_code: 2,
+    },
+];
+
+/// The words of a row.
+fn words_of(alloc: Global, text: &str) -> Result<Words, Fail> {
+    let mut words = Words::new(alloc);
+    for word in text.split(' ') {
+        words.push(String::from_str(alloc, word)?)?;
+    }
+    Ok(words)
+}
+
+#[test]
+fn each_list_of_words_does_what_it_means(rt: HostRuntime) -> Result<(), Fail> {
+    for WordRow {
+        name,
+        words,
+        boxes,
+        transcript,
+        exit_code,
+    } in WORD_ROWS {
+        let mut source = text_source(rt.alloc(), LEAST_PATH, 64)?;
+        let mut sink = FaithfulSink::new(rt.alloc());
+        let mut outlets = tallies(rt.alloc(), boxes)?;
+        let words = words_of(rt.alloc(), words)?;
+        let status = run_with(rt.alloc(), &words, &mut source, &mut sink, &mut outlets);
+        assert_eq!(rt; sink.taken(), transcript.as_bytes(), "{name}");
+        assert_eq!(rt; status.exit_code(), exit_code, "{name}");
+    }
+    Ok(())
+}
