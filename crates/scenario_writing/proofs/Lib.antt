@@ -1,3 +1,4 @@
+mod Numbers
 mod Putting
 mod Lines
 mod Rows

@@ -1,6 +1,6 @@
 -- The line that is written for a step is a line of the table, and each line of the table has values that have words.
 use Rattle.std.proofs.Common.{◌≡◌, ℕ, Bool, true, false, cond, nat_eq, ◌||◌, not, List, [], ◌∷◌, ◌++◌, Option, None, Some, refl, ap, subst}
-use Rattle.std.specs.Prelude.{bytes_eq}
+use Rattle.std.specs.Prelude.{bytes_eq, ⊤}
 use Rattle.scenario_words.specs.Places.{Place, one, perhaps, rising, wishes, PlaceValue}
 use Rattle.scenario_values.specs.Lines.{Values, AllHaveWords, all_words}
 use Rattle.scenario_values.proofs.Citable.{EndsAt, words_fit, words_spelled, words_unspaced, NoSpace, NoSpaces, is_unspaced, joined_split, more_unspaced, unspaced}
@@ -51,15 +51,15 @@ all_unspaced (place ∷ places) values small h =
 -- ---- what is said
 
 -- values that have words make the step
-pub record Valued (places : List Place) (build : Build places) (step : Step) : Type 0 where
+pub record Valued (places : List Place) (build : Build places) (made_of : Step) : Type 0 where
   pub values : Values places
   pub have : AllHaveWords places values
-  pub make : made places build values ≡ step
+  pub make : made places build values ≡ made_of
 
-pub said : (places : List Place) (build : Build places) (step : Step) (words : List (List ℕ)) → Says places build step words → Valued places build step
-said [] build step words h = record { values = tt; have = tt; make = h.0 }
-said (place ∷ places) build step words h =
-    let others = said places (build h.0) step h.1 h.3 in
+pub said : (places : List Place) (build : Build places) (made_of : Step) (words : List (List ℕ)) → Says places build made_of words → Valued places build made_of
+said [] build made_of words h = record { values = tt; have = tt; make = h.0 }
+said (place ∷ places) build made_of words h =
+    let others = said places (build h.0) made_of h.1 h.3 in
     record { values = (h.0, others.values); have = (words_fit place h.0 words h.1 h.2, others.have); make = others.make }
 
 -- the values of a row that have words make steps that fit
@@ -67,7 +67,7 @@ abbrev pub RowFits : Row → Type 0
 RowFits row = (values : Values row.places) → AllHaveWords row.places values → Fits (made row.places row.build values)
 
 abbrev pub AllFit : List Row → Type 0
-AllFit [] = Unit {0}
+AllFit [] = ⊤
 AllFit (row ∷ rows) = RowFits row × AllFit rows
 
 unit_fits : RowFits rows.unit_row

@@ -1,29 +1,24 @@
-ghost use Rattle.std.specs.Prelude.{◌≡◌, ◌≤◌};
-ghost use Rattle.octet_fields.specs.Spelling.{number};
+ghost use Rattle.std.specs.Prelude.{◌≡◌};
+ghost use Rattle.octet_fields.specs.Spelling.{number as number_in};
 ghost use Rattle.scenario_values.specs.Words.{framing_name, time_name};
 ghost use Rattle.printed_words.specs.Words.{spelled};
 
-use bcast_base::write_le;
 use printed_words::Word;
 
 /// A number in 2 octets, the least octet first.
-#[tactic(auto, using(octet_fields::proofs::Citable::number_once))]
-pub fn two_octets(n: u16) -> [u8; 2]
-    ensures { result ≡ number 2 n }
+#[tactic(auto, using(crate::proofs::Numbers::two_low_first))]
+pub fn two_octets(number: u16) -> [u8; 2]
+    ensures { result ≡ number_in 2 number }
 {
-    let mut octets = [0; 2];
-    write_le(n as u64, &mut octets);
-    octets
+    number.to_le_bytes()
 }
 
 /// A number in 4 octets, the least octet first.
-#[tactic(auto, using(octet_fields::proofs::Citable::number_once))]
+#[tactic(auto, using(crate::proofs::Numbers::four_low_first))]
 pub fn four_octets(bits: u32) -> [u8; 4]
-    ensures { result ≡ number 4 bits }
+    ensures { result ≡ number_in 4 bits }
 {
-    let mut octets = [0; 4];
-    write_le(bits as u64, &mut octets);
-    octets
+    bits.to_le_bytes()
 }
 
 /// The name of a framing: `unframed` for 0, and else `framed`.

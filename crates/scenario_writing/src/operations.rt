@@ -1,4 +1,4 @@
-ghost use Rattle.std.specs.Prelude.{◌≡◌, ◌++◌, OnOk, IfOk};
+ghost use Rattle.std.specs.Prelude.{◌≡◌, ◌++◌, ◌∷◌, [], OnOk, IfOk};
 ghost use Rattle.printed_words.specs.Lines.{behind};
 ghost use Rattle.scenario_values.specs.Words.{wish_words};
 ghost use Rattle.scenario_text.specs.declared.step.Step.TheVariants.{Add, Modify};

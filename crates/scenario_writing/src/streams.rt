@@ -1,4 +1,4 @@
-ghost use Rattle.std.specs.Prelude.{◌≡◌, ◌++◌, OnOk, IfOk, map, decimal};
+ghost use Rattle.std.specs.Prelude.{◌≡◌, ◌≤◌, ◌++◌, OnOk, IfOk, map, decimal};
 ghost use Rattle.printed_words.specs.Lines.{behind};
 ghost use Rattle.scenario_values.specs.Words.{streams_from, streams_in};
 ghost use Rattle.scenario_text.specs.declared.step.Step.TheVariants.{Tuned};
@@ -19,14 +19,24 @@ fn put_stream(line: &mut Octets, which: BisSet, bis: Bis) -> Result<(), Memory>
     }
 }
 
+/// As `put_stream`, for an index from 1 to 31.
+fn put_index(line: &mut Octets, which: BisSet, index: u8) -> Result<(), Memory>
+    requires least { 1 ≤ index }
+    requires greatest { index ≤ 31 }
+    ensures { OnOk result (line.new ≡ line.old ++ behind (map decimal (streams_from which index 1))) }
+{
+    match Bis::new(index) {
+        None => Ok(()),
+        Some(bis) => put_stream(line, which, bis),
+    }
+}
+
 /// Puts the indices of all streams of the set behind a line, rising.
 fn put_streams(line: &mut Octets, which: BisSet) -> Result<(), Memory>
     ensures { OnOk result (line.new ≡ line.old ++ behind (map decimal (streams_in which))) }
 {
     'indices: for index in 1u8..32 {
-        if let Some(bis) = Bis::new(index) {
-            put_stream(line, which, bis)?;
-        }
+        put_index(line, which, index)?;
     }
     Ok(())
 }
