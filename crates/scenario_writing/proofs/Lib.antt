@@ -1,4 +1,4 @@
-mod Numbers
+mod LowFirst
 mod Putting
 mod Lines
 mod Rows

@@ -6,7 +6,7 @@ ghost use Rattle.printed_words.specs.Words.{spelled};
 use printed_words::Word;
 
 /// A number in 2 octets, the least octet first.
-#[tactic(auto, using(crate::proofs::Numbers::two_low_first))]
+#[tactic(auto, using(crate::proofs::LowFirst::two_low_first))]
 pub fn two_octets(number: u16) -> [u8; 2]
     ensures { result ≡ number_in 2 number }
 {
@@ -14,7 +14,7 @@ pub fn two_octets(number: u16) -> [u8; 2]
 }
 
 /// A number in 4 octets, the least octet first.
-#[tactic(auto, using(crate::proofs::Numbers::four_low_first))]
+#[tactic(auto, using(crate::proofs::LowFirst::four_low_first))]
 pub fn four_octets(bits: u32) -> [u8; 4]
     ensures { result ≡ number_in 4 bits }
 {
