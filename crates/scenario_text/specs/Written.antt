@@ -18,7 +18,10 @@ pub record Parts : Type 0 where
 
 abbrev pub parts_of : Step → Parts
 parts_of (Scenario version) = record { row = rows.scenario_row; values = version ▸ tt }
-parts_of (Group framing origin delay iso sdu max_sdu max_pdu num_bis bn nse irc pto sub spacing phy) = record { row = rows.group_row; values = framing ▸ origin ▸ delay ▸ iso ▸ sdu ▸ max_sdu ▸ max_pdu ▸ num_bis ▸ bn ▸ nse ▸ irc ▸ pto ▸ sub ▸ spacing ▸ phy ▸ tt }
+parts_of (Group framing origin delay iso sdu max_sdu max_pdu num_bis bn nse irc pto sub spacing phy) = record {
+  row = rows.group_row;
+  values = framing ▸ origin ▸ delay ▸ iso ▸ sdu ▸ max_sdu ▸ max_pdu ▸ num_bis ▸ bn ▸ nse ▸ irc ▸ pto ▸ sub ▸ spacing ▸ phy ▸ tt;
+}
 parts_of (Ident address_type address sid broadcast_id) = record { row = rows.ident_row; values = address_type ▸ address ▸ sid ▸ broadcast_id ▸ tt }
 parts_of (Subgroup codec config) = record { row = rows.subgroup_row; values = codec ▸ config ▸ tt }
 parts_of (Meta metadata) = record { row = rows.meta_row; values = metadata ▸ tt }

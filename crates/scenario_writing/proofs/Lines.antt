@@ -1,19 +1,15 @@
 -- The line that is written for a step is a line of the table, and each line of the table has values that have words.
-use Rattle.std.proofs.Common.{◌≡◌, ℕ, Bool, true, false, cond, nat_eq, ◌||◌, not, List, [], ◌∷◌, ◌++◌, Option, None, Some, refl, ap, subst}
+use Rattle.std.proofs.Common.{◌≡◌, ℕ, Bool, true, false, cond, ◌||◌, not, List, [], ◌∷◌, Option, None, Some, refl, subst}
 use Rattle.std.specs.Prelude.{bytes_eq, ⊤}
-use Rattle.scenario_words.specs.Places.{Place, one, perhaps, rising, wishes, PlaceValue}
+use Rattle.scenario_words.specs.Places.{Place, one, perhaps, rising, wishes}
 use Rattle.scenario_values.specs.Lines.{Values, AllHaveWords, all_words}
-use Rattle.scenario_values.proofs.Citable.{EndsAt, words_fit, words_spelled, words_unspaced, NoSpace, NoSpaces, is_unspaced, joined_split, more_unspaced, unspaced}
+use Rattle.scenario_values.proofs.Citable.{EndsAt, words_fit, words_spelled, words_unspaced, NoSpaces, more_unspaced}
 use Rattle.scenario_text.specs.declared.step.Step.{Step}
-use Rattle.scenario_text.specs.declared.step.Step.TheVariants.{Scenario, Group, Ident, Subgroup, Meta, Bis, Cipher, Start, Sink, Pac, Locate, Context, Tuned}
-use Rattle.scenario_text.specs.declared.step.Step.TheVariants.{Unit, Event, Hear, Air, Inject, Sniff, Announce, Train, Write, Add, Modify, Remove, Code, Serve}
-use Rattle.scenario_text.specs.declared.step.Step.TheVariants.{Tell, Read, Drain, Show, Lose, Drop, Terminate, Control, Forge, Stop, End, Assist, Apart, AWrite}
-use Rattle.scenario_text.specs.declared.step.Step.TheVariants.{AServe, ATell, ARead, ADrain, AShow, Source, Relay}
 use Rattle.scenario_text.specs.Table as rows
 use Rattle.scenario_text.specs.Table.{Build, Row, row_in, row_of, row_of_2, sink_row_of, source_row_of, first_rows, source_rows, sink_rows, rows_of_2}
-use Rattle.scenario_text.specs.Lines.{Says, LineIs}
-use Rattle.scenario_text.specs.Written.{parts_of, Fits, line_of}
-use Rattle.scenario_text.proofs.Citable.{all_small, and_parts, is_fine, is_word, none_more, of_table, takes_all, takes_all_last}
+use Rattle.scenario_text.specs.Lines.{Says}
+use Rattle.scenario_text.specs.Written.{Fits}
+use Rattle.scenario_text.proofs.Citable.{all_small, and_parts, none_more, takes_all, takes_all_last}
 
 -- the step that values at places make
 abbrev pub made : (places : List Place) → Build places → Values places → Step
@@ -215,13 +211,19 @@ relay_fits : RowFits rows.relay_row
 relay_fits values h = h
 
 first_fit : AllFit (first_rows 2)
-first_fit = (unit_fits, (event_fits, (hear_fits, (tuned_fits, (scenario_fits, (group_fits, (start_fits, (sink_fits, (air_fits, (inject_fits, (sniff_fits, (drop_fits, (stop_fits, (end_fits, tt))))))))))))))
+first_fit =
+    let rest : AllFit (rows.air_row ∷ rows.inject_row ∷ rows.sniff_row ∷ rows.drop_row ∷ rows.stop_row ∷ rows.end_row ∷ []) =
+    (air_fits, (inject_fits, (sniff_fits, (drop_fits, (stop_fits, (end_fits, tt)))))) in
+    (unit_fits, (event_fits, (hear_fits, (tuned_fits, (scenario_fits, (group_fits, (start_fits, (sink_fits, rest))))))))
 
 sources_fit : AllFit source_rows
 sources_fit = (ident_fits, (subgroup_fits, (meta_fits, (bis_fits, (cipher_fits, (announce_fits, (train_fits, (terminate_fits, tt))))))))
 
 sinks_fit : AllFit sink_rows
-sinks_fit = (pac_fits, (locate_fits, (context_fits, (write_fits, (add_fits, (modify_fits, (remove_fits, (code_fits, (serve_fits, (tell_fits, (read_fits, (drain_fits, (show_fits, (lose_fits, (control_fits, (forge_fits, tt))))))))))))))))
+sinks_fit =
+    let rest : AllFit (rows.serve_row ∷ rows.tell_row ∷ rows.read_row ∷ rows.drain_row ∷ rows.show_row ∷ rows.lose_row ∷ rows.control_row ∷ rows.forge_row ∷ []) =
+    (serve_fits, (tell_fits, (read_fits, (drain_fits, (show_fits, (lose_fits, (control_fits, (forge_fits, tt)))))))) in
+    (pac_fits, (locate_fits, (context_fits, (write_fits, (add_fits, (modify_fits, (remove_fits, (code_fits, rest))))))))
 
 later_fit : AllFit rows_of_2
 later_fit = (assist_fits, (apart_fits, (awrite_fits, (aserve_fits, (atell_fits, (aread_fits, (adrain_fits, (ashow_fits, (source_fits, (relay_fits, tt))))))))))

@@ -5,7 +5,7 @@ use Rattle.scenario_text.specs.declared.step.Step.TheVariants.{Scenario, Group, 
 use Rattle.scenario_text.specs.declared.step.Step.TheVariants.{Unit, Event, Hear, Air, Inject, Sniff, Announce, Train, Write, Add, Modify, Remove, Code, Serve}
 use Rattle.scenario_text.specs.declared.step.Step.TheVariants.{Tell, Read, Drain, Show, Lose, Drop, Terminate, Control, Forge, Stop, End, Assist, Apart, AWrite}
 use Rattle.scenario_text.specs.declared.step.Step.TheVariants.{AServe, ATell, ARead, ADrain, AShow, Source, Relay}
-use Rattle.scenario_text.specs.Table.{row_in, row_of, row_of_2, sink_row_of, source_row_of}
+use Rattle.scenario_text.specs.Table.{row_of, row_of_2, sink_row_of, source_row_of}
 use Rattle.scenario_text.specs.Written.{Parts, parts_of}
 use Rattle.scenario_values.proofs.Citable.{is_unspaced}
 use Rattle.scenario_writing.proofs.Lines.{made}

@@ -1,5 +1,5 @@
 -- The line of a step says it where it fits, and a step that a line says fits.
-use Rattle.std.proofs.Common.{◌≡◌, ℕ, List, refl, ap, sym, subst, ◌∙◌}
+use Rattle.std.proofs.Common.{ℕ, List, subst}
 use Rattle.scenario_values.specs.Lines.{all_words}
 use Rattle.scenario_values.proofs.Citable.{joined_split, unspaced}
 use Rattle.scenario_text.specs.declared.step.Step.{Step}

@@ -1,4 +1,3 @@
-use Rattle.std.proofs.Common.{◌≡◌}
 use Rattle.scenario_text.specs.Written.{line_of}
 use Rattle.scenario_writing.proofs.Said.{its_line, it_fits}
 use Rattle.scenario_writing.proofs.laws.a_step_has_a_line_where_it_fits.Goals as goal
