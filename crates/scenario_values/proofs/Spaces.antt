@@ -5,7 +5,7 @@ use Rattle.hex.specs.Hex.{encode_with, lower_digits, encode_lower}
 use Rattle.octet_fields.specs.Spelling.{IsOctets}
 use Rattle.octet_fields.proofs.Citable.{IsOctets-rest}
 use Rattle.scenario_words.specs.Words.{words_of}
-use Rattle.scenario_words.proofs.Decimals.{own}
+use Rattle.scenario_words.proofs.Citable.{own}
 use Rattle.std.proofs.lemmas.Fmt.{digits_decimal}
 use Rattle.printed_words.specs.Digits.{digits}
 use Rattle.printed_words.specs.Lines.{behind, joined}
