@@ -21,8 +21,6 @@ mod octets_in_and_out;
 #[cfg(test)]
 mod receivers;
 #[cfg(test)]
-mod scan_delegators;
-#[cfg(test)]
 mod senders;
 #[cfg(test)]
 mod sources;
@@ -32,3 +30,5 @@ mod taken;
 mod times;
 #[cfg(test)]
 mod transcripts;
+#[cfg(test)]
+mod written_lines;
