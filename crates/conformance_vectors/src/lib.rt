@@ -8,13 +8,17 @@ mod base;
 #[cfg(test)]
 mod bluez;
 #[cfg(test)]
-mod calls;
+mod fields;
 #[cfg(test)]
-mod group_info;
+mod group_octets;
+#[cfg(test)]
+mod ltvs;
 #[cfg(test)]
 mod operations;
 #[cfg(test)]
 mod pacs;
+#[cfg(test)]
+mod pdus;
 #[cfg(test)]
 mod states;
 #[cfg(test)]

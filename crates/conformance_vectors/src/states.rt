@@ -1,78 +1,127 @@
 //! Receive states: worked examples, and each fault of the decoder.
-use receive_state::{Encryption, StateFault, decode_state};
+use bcast_base::Octets;
+use receive_state::{
+    Encryption, GroupState, GroupStates, ReceiveState, StateFault, decode_state, encode_state,
+};
 use std::alloc::Global;
-use std::test::Fail;
 
 // A source of 11:22:33:44:55:66, SID 3 and Broadcast_ID 0x123456 to which the server isn't synchronised, with one subgroup.
 const STATE: [u8; 20] = [
     0, 0, 0x66, 0x55, 0x44, 0x33, 0x22, 0x11, 3, 0x56, 0x34, 0x12, 0, 0, 1, 0, 0, 0, 0, 0,
 ];
 
+// The same source, synchronised, with two subgroups of which the second has metadata.
+const TWO_GROUPS: [u8; 29] = [
+    0, 0, 0x66, 0x55, 0x44, 0x33, 0x22, 0x11, 3, 0x56, 0x34, 0x12, 2, 0, 2, 1, 0, 0, 0, 0, 2, 0, 0,
+    0, 4, 3, 2, 4, 0,
+];
+
+fn spells(alloc: Global, state: &ReceiveState, octets: &[u8]) -> bool {
+    if !state.fits() {
+        return false;
+    }
+    match encode_state(alloc, Some(state)) {
+        Ok(spelled) => spelled.as_slice() == octets,
+        Err(_) => false,
+    }
+}
+
+fn is_written_as_read(alloc: Global, octets: &[u8]) -> bool {
+    match decode_state(alloc, octets) {
+        Ok(Some(state)) => spells(alloc, &state, octets),
+        _ => false,
+    }
+}
+
+#[test]
+fn states_are_written_as_they_were_read(rt: HostRuntime) {
+    assert!(rt; is_written_as_read(rt.alloc(), &STATE));
+    assert!(rt; is_written_as_read(rt.alloc(), &TWO_GROUPS));
+}
+
+fn is_not_synchronised(state: &ReceiveState) -> bool {
+    (
+        state.source_id,
+        state.address_type,
+        state.sid,
+        state.pa_sync_state,
+    ) == (0, 0, 3, 0)
+        && matches!(&state.encryption, Encryption::None)
+        && state.groups.count() == 1
+        && state.groups.item(0).bis_sync_state == 0
+}
+
+#[test]
+fn a_state_tells_its_fields(rt: HostRuntime) {
+    match decode_state(rt.alloc(), &STATE) {
+        Ok(Some(state)) => assert!(rt; is_not_synchronised(&state)),
+        _ => assert!(rt; false),
+    }
+}
+
 // The same state, cut to as many octets as the place in this list and one more, is short from there on.
 const CUTS: [usize; 19] = [
     1, 2, 2, 2, 2, 2, 2, 8, 9, 9, 9, 12, 13, 14, 15, 15, 15, 15, 19,
 ];
 
-fn fault(alloc: Global, octets: &[u8]) -> Option<StateFault> {
+fn has_fault(alloc: Global, octets: &[u8], wanted: StateFault) -> bool {
     match decode_state(alloc, octets) {
-        Ok(_value) => None,
-        Err(fault) => Some(fault),
+        Ok(_) => false,
+        Err(fault) => fault == wanted,
     }
-}
-
-#[test]
-fn a_state_tells_its_fields(rt: HostRuntime) -> Result<(), Fail> {
-    match decode_state(rt.alloc(), &STATE)? {
-        Some(state) => {
-            assert_eq!(rt;
-                (
-                    state.source_id,
-                    state.address_type,
-                    state.sid,
-                    state.pa_sync_state
-                ),
-                (0, 0, 3, 0)
-            );
-            assert!(rt; matches!(&state.encryption, Encryption::None));
-            assert_eq!(rt; state.groups.count(), 1);
-            assert_eq!(rt; state.groups.item(0).bis_sync_state, 0);
-        }
-        None => assert!(rt; false),
-    }
-    Ok(())
 }
 
 #[test]
 fn a_state_that_is_cut_is_short_at_the_field_that_is_cut(rt: HostRuntime) {
     for (i, place) in CUTS.iter().enumerate() {
-        assert_eq!(rt;
-            fault(rt.alloc(), &STATE[..i + 1]),
-            Some(StateFault::Short { place: *place })
+        assert!(rt;
+            has_fault(
+                rt.alloc(),
+                &STATE[..i + 1],
+                StateFault::Short { place: *place }
+            )
         );
     }
 }
+
+// Each change of an octet brings a fault that comes before those of the earlier changes.
+const CHANGES: [(usize, u8, StateFault); 4] = [
+    (20, 0, StateFault::Trailing { place: 20 }),
+    (18, 0x80, StateFault::Rfu { place: 15 }),
+    (13, 4, StateFault::Rfu { place: 13 }),
+    (1, 2, StateFault::Rfu { place: 1 }),
+];
 
 #[test]
 fn a_reserved_value_comes_before_octets_that_are_left(rt: HostRuntime) {
     let mut octets = [0; 21];
     octets[..20].copy_from_slice(&STATE);
-    assert_eq!(rt;
-        fault(rt.alloc(), &octets),
-        Some(StateFault::Trailing { place: 20 })
-    );
-    octets[18] = 0x80;
-    assert_eq!(rt;
-        fault(rt.alloc(), &octets),
-        Some(StateFault::Rfu { place: 15 })
-    );
-    octets[13] = 4;
-    assert_eq!(rt;
-        fault(rt.alloc(), &octets),
-        Some(StateFault::Rfu { place: 13 })
-    );
-    octets[1] = 2;
-    assert_eq!(rt;
-        fault(rt.alloc(), &octets),
-        Some(StateFault::Rfu { place: 1 })
-    );
+    for (place, octet, fault) in CHANGES {
+        if place < octets.len() {
+            octets[place] = octet;
+        }
+        assert!(rt; has_fault(rt.alloc(), &octets, fault));
+    }
+}
+
+const METADATA: [u8; 4] = [3, 2, 4, 0];
+
+fn is_pushed(alloc: Global) -> bool {
+    let mut groups = GroupStates::new(alloc);
+    let Ok(metadata) = Octets::copy(alloc, &METADATA) else {
+        return false;
+    };
+    let group = GroupState {
+        bis_sync_state: 1,
+        metadata,
+    };
+    match groups.push(group) {
+        Ok(()) => groups.item(0).bis_sync_state == 1,
+        Err(_) => false,
+    }
+}
+
+#[test]
+fn a_subgroup_is_pushed(rt: HostRuntime) {
+    assert!(rt; is_pushed(rt.alloc()));
 }

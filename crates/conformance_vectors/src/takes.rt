@@ -1,8 +1,8 @@
 //! Which streams a sink takes: rows of the match.
-use base_grammar::{Base, decode_base};
+use base_grammar::decode_base;
 use bcast_base::Bis;
 use pacs_records::{Capability, NotTaken, decode_pacs, takes};
-use std::test::Fail;
+use std::alloc::Global;
 
 // One record of LC3: 16 kHz, 7.5 and 10 ms, 30 to 155 octets of a frame, no metadata.
 const RECORD: [u8; 21] = [
@@ -28,57 +28,68 @@ const BARE: [u8; 14] = [0x40, 0x9c, 0, 1, 1, 6, 0, 0, 0, 0, 0, 0, 1, 0];
 // A stream of the vendor's codec.
 const VENDOR: [u8; 14] = [0x40, 0x9c, 0, 1, 1, 0xff, 1, 0, 2, 0, 0, 0, 1, 0];
 
-// What a sink answers to stream 1, if the BASE has it.
-fn answer_of(cap: &Capability, base: &Base) -> Option<Result<(), NotTaken>> {
-    let bis = Bis::new(1)?;
-    base.effective(bis)?;
-    Some(takes(cap, base, bis))
+// A PAC value, the locations and the contexts of a sink, a BASE, and what the sink answers to its stream 1.
+#[derive(Clone, Copy)]
+struct Row {
+    pacs: &'static [u8],
+    locations: u32,
+    contexts: u16,
+    base: &'static [u8],
+    answer: Result<(), NotTaken>,
 }
 
-#[test]
-fn level_2_fits(rt: HostRuntime) -> Result<(), Fail> {
-    let cap = Capability {
-        entries: decode_pacs(rt.alloc(), &RECORD)?,
+const ROWS: [Row; 4] = [
+    Row {
+        pacs: &RECORD,
         locations: 0,
         contexts: 0xffff,
-    };
-    let base = decode_base(rt.alloc(), &LEVEL_2)?;
-    assert_eq!(rt; answer_of(&cap, &base), Some(Ok(())));
-    Ok(())
-}
-
-#[test]
-fn level_3_comes_first(rt: HostRuntime) -> Result<(), Fail> {
-    let cap = Capability {
-        entries: decode_pacs(rt.alloc(), &RECORD)?,
+        base: &LEVEL_2,
+        answer: Ok(()),
+    },
+    Row {
+        pacs: &RECORD,
         locations: 0,
         contexts: 0xffff,
-    };
-    let base = decode_base(rt.alloc(), &LEVEL_3)?;
-    assert_eq!(rt; answer_of(&cap, &base), Some(Err(NotTaken::Frequency)));
-    Ok(())
-}
-
-#[test]
-fn a_sink_without_records_takes_nothing(rt: HostRuntime) -> Result<(), Fail> {
-    let cap = Capability {
-        entries: decode_pacs(rt.alloc(), &[0])?,
+        base: &LEVEL_3,
+        answer: Err(NotTaken::Frequency),
+    },
+    Row {
+        pacs: &[0],
         locations: 0,
         contexts: 0xffff,
-    };
-    let base = decode_base(rt.alloc(), &BARE)?;
-    assert_eq!(rt; answer_of(&cap, &base), Some(Err(NotTaken::Codec)));
-    Ok(())
-}
-
-#[test]
-fn another_codec_has_no_other_requirement(rt: HostRuntime) -> Result<(), Fail> {
-    let cap = Capability {
-        entries: decode_pacs(rt.alloc(), &VENDOR_RECORD)?,
+        base: &BARE,
+        answer: Err(NotTaken::Codec),
+    },
+    Row {
+        pacs: &VENDOR_RECORD,
         locations: 1,
         contexts: 0,
+        base: &VENDOR,
+        answer: Ok(()),
+    },
+];
+
+fn holds(alloc: Global, row: &Row) -> bool {
+    let Ok(entries) = decode_pacs(alloc, row.pacs) else {
+        return false;
     };
-    let base = decode_base(rt.alloc(), &VENDOR)?;
-    assert_eq!(rt; answer_of(&cap, &base), Some(Ok(())));
-    Ok(())
+    let Ok(base) = decode_base(alloc, row.base) else {
+        return false;
+    };
+    let cap = Capability {
+        entries,
+        locations: row.locations,
+        contexts: row.contexts,
+    };
+    match Bis::new(1) {
+        Some(bis) if base.effective(bis).is_some() => takes(&cap, &base, bis) == row.answer,
+        _ => false,
+    }
+}
+
+#[test]
+fn each_row_of_the_match_holds(rt: HostRuntime) {
+    for row in &ROWS {
+        assert!(rt; holds(rt.alloc(), row));
+    }
 }

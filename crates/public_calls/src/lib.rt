@@ -32,3 +32,5 @@ mod taken;
 mod times;
 #[cfg(test)]
 mod transcripts;
+#[cfg(test)]
+mod written_lines;

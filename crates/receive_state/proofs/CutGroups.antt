@@ -13,7 +13,7 @@ use Rattle.receive_state.specs.Reading.{end_in}
 use Rattle.octet_fields.specs.Tries.{◌>>=◌, needed}
 use Rattle.receive_state.specs.Steps.{field_in}
 use Rattle.receive_state.proofs.Cuts.{ends_here, ends_more, ends_nowhere, zeros, octets_with, filled, length-filled, more-zeros}
-use Rattle.receive_state.proofs.CutHeads.{told_octet, told_octets, find_octet, find_octets}
+use Rattle.receive_state.proofs.CutSteps.{told_octet, told_octets, find_octet, find_octets}
 
 -- ---- a subgroup and those behind it, field by field
 

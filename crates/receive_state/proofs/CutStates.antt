@@ -14,7 +14,8 @@ use Rattle.receive_state.specs.Layout.{StateFields, fields, StateIs}
 use Rattle.receive_state.specs.Reading.{head_in, end_in, subgroups_of, state_from, first_fault, answered, behind, judged, judged_of, lifted, state_of, Fails, Answers}
 use Rattle.receive_state.proofs.Causes.{lifted_err, reserved_found, reserved_told, trailing_found, trailing_told}
 use Rattle.receive_state.proofs.CutGroups.{found_groups, told_groups}
-use Rattle.receive_state.proofs.CutHeads.{IsCut, found_head, told_head}
+use Rattle.receive_state.proofs.HeadsFound.{found_head}
+use Rattle.receive_state.proofs.HeadsTold.{IsCut, told_head}
 use Rattle.receive_state.proofs.Cuts.{ends_more}
 use Rattle.receive_state.proofs.Judged.{read_is}
 use Rattle.receive_state.proofs.Heads.{before, before-length, head_takes}

@@ -1,9 +1,0 @@
--- A text that was put in part, as where memory runs out before its end.
-use Rattle.std.specs.Prelude.{ℕ, ◌≡◌, List, ◌++◌}
-
--- a front of the text stands at the end of what was there
-pub record AFront (old new text : List ℕ) : Type 0 where
-  pub front : List ℕ
-  pub rest : List ℕ
-  pub whole : text ≡ front ++ rest
-  pub put : new ≡ old ++ front
