@@ -44,25 +44,22 @@ fn a_stream_of_another_codec(rt: HostRuntime) -> Result<(), Fail> {
     assert!(rt; ONE_STREAM.fits());
     let base = [0x40, 0x9c, 0, 1, 1, 0xff, 1, 0, 2, 0, 0, 0, 1, 0];
     let train = train(rt.alloc(), &base, &ONE_STREAM)?;
-    assert_eq!(rt; train.time, 17_000);
-    assert_eq!(rt;
-        train.ext.as_slice(),
-        [0x06, 0x16, 0x52, 0x18, 0x56, 0x34, 0x12].as_slice()
+    assert!(rt; train.time == 17_000);
+    assert!(rt; train.ext.as_slice() == [0x06, 0x16, 0x52, 0x18, 0x56, 0x34, 0x12].as_slice());
+    assert!(rt;
+        train.adv.as_slice()
+            == [
+                0x11, 0x16, 0x51, 0x18, 0x40, 0x9c, 0, 1, 1, 0xff, 1, 0, 2, 0, 0, 0, 1, 0
+            ]
+            .as_slice()
     );
-    assert_eq!(rt;
-        train.adv.as_slice(),
-        [
-            0x11, 0x16, 0x51, 0x18, 0x40, 0x9c, 0, 1, 1, 0xff, 1, 0, 2, 0, 0, 0, 1, 0
-        ]
-        .as_slice()
-    );
-    assert_eq!(rt;
-        train.acad.as_slice(),
-        [
-            0x22, 0x2c, 0x64, 0, 0x04, 0x08, 0x21, 0, 0, 0, 0, 0, 0x10, 0x04, 0, 0, 0, 0, 0, 0x10,
-            0x27, 0x40, 0, 0, 0, 0xff, 0xff, 0xff, 0xff, 0x3f, 0, 0, 0, 0, 0
-        ]
-        .as_slice()
+    assert!(rt;
+        train.acad.as_slice()
+            == [
+                0x22, 0x2c, 0x64, 0, 0x04, 0x08, 0x21, 0, 0, 0, 0, 0, 0x10, 0x04, 0, 0, 0, 0, 0,
+                0x10, 0x27, 0x40, 0, 0, 0, 0xff, 0xff, 0xff, 0xff, 0x3f, 0, 0, 0, 0, 0
+            ]
+            .as_slice()
     );
     Ok(())
 }
@@ -86,21 +83,22 @@ fn two_streams_of_lc3(rt: HostRuntime) -> Result<(), Fail> {
         6, 5, 3, 1, 0, 0, 0, 2, 6, 5, 3, 2, 0, 0, 0,
     ];
     let train = train(rt.alloc(), &base, &info)?;
-    assert_eq!(rt;
-        train.adv.as_slice(),
-        [
-            0x2d, 0x16, 0x51, 0x18, 0x40, 0x9c, 0, 1, 2, 6, 0, 0, 0, 0, 10, 2, 1, 8, 2, 2, 1, 3, 4,
-            100, 0, 4, 3, 2, 4, 0, 1, 6, 5, 3, 1, 0, 0, 0, 2, 6, 5, 3, 2, 0, 0, 0
-        ]
-        .as_slice()
+    assert!(rt;
+        train.adv.as_slice()
+            == [
+                0x2d, 0x16, 0x51, 0x18, 0x40, 0x9c, 0, 1, 2, 6, 0, 0, 0, 0, 10, 2, 1, 8, 2, 2, 1,
+                3, 4, 100, 0, 4, 3, 2, 4, 0, 1, 6, 5, 3, 1, 0, 0, 0, 2, 6, 5, 3, 2, 0, 0, 0
+            ]
+            .as_slice()
     );
-    assert_eq!(rt;
-        train.acad.as_slice(),
-        [
-            0x22, 0x2c, 0x64, 0, 0x04, 0x10, 0x23, 0x58, 0x02, 0x10, 0x08, 0x07, 0x20, 0x64, 0, 0,
-            0, 0, 0, 0x10, 0x27, 0x40, 0x06, 0, 0, 0xff, 0xff, 0xff, 0xff, 0x3f, 0, 0, 0, 0, 0
-        ]
-        .as_slice()
+    assert!(rt;
+        train.acad.as_slice()
+            == [
+                0x22, 0x2c, 0x64, 0, 0x04, 0x10, 0x23, 0x58, 0x02, 0x10, 0x08, 0x07, 0x20, 0x64, 0,
+                0, 0, 0, 0, 0x10, 0x27, 0x40, 0x06, 0, 0, 0xff, 0xff, 0xff, 0xff, 0x3f, 0, 0, 0, 0,
+                0
+            ]
+            .as_slice()
     );
     Ok(())
 }
@@ -117,15 +115,15 @@ fn an_encrypted_group(rt: HostRuntime) -> Result<(), Fail> {
     assert!(rt; info.fits());
     let base = [0x40, 0x9c, 0, 1, 1, 6, 0, 0, 0, 0, 0, 0, 1, 0];
     let train = train(rt.alloc(), &base, &info)?;
-    assert_eq!(rt;
-        train.acad.as_slice(),
-        [
-            0x3a, 0x2c, 0x64, 0, 0x04, 0x08, 0x21, 0, 0, 0, 0, 0, 0x10, 0x04, 0, 0, 0, 0, 0, 0x10,
-            0x27, 0x40, 0, 0, 0, 0xff, 0xff, 0xff, 0xff, 0x3f, 0, 0, 0, 0, 0, 1, 2, 3, 4, 5, 6, 7,
-            8, 0x11, 0x11, 0x11, 0x11, 0x11, 0x11, 0x11, 0x11, 0x11, 0x11, 0x11, 0x11, 0x11, 0x11,
-            0x11, 0x11
-        ]
-        .as_slice()
+    assert!(rt;
+        train.acad.as_slice()
+            == [
+                0x3a, 0x2c, 0x64, 0, 0x04, 0x08, 0x21, 0, 0, 0, 0, 0, 0x10, 0x04, 0, 0, 0, 0, 0,
+                0x10, 0x27, 0x40, 0, 0, 0, 0xff, 0xff, 0xff, 0xff, 0x3f, 0, 0, 0, 0, 0, 1, 2, 3, 4,
+                5, 6, 7, 8, 0x11, 0x11, 0x11, 0x11, 0x11, 0x11, 0x11, 0x11, 0x11, 0x11, 0x11, 0x11,
+                0x11, 0x11, 0x11, 0x11
+            ]
+            .as_slice()
     );
     Ok(())
 }

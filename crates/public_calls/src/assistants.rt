@@ -29,15 +29,15 @@ fn an_assistant_writes_and_keeps_views_where_there_is_memory(rt: HostRuntime) ->
     let expected = [
         2, 0, 1, 2, 3, 4, 5, 6, 3, 0x0a, 0x0b, 0x0c, 2, 0xff, 0xff, 0,
     ];
-    assert_eq!(rt; added.as_slice(), expected.as_slice());
-    assert_eq!(rt; assistant.notice(1, &STATE), Ok(NoticeTaken::View));
+    assert!(rt; added.as_slice() == expected.as_slice());
+    assert!(rt; assistant.notice(1, &STATE) == Ok(NoticeTaken::View));
     assert!(rt; assistant.view(1).is_some_and(|state| state.source_id == 7));
     assistant.set_mtu(23);
-    assert_eq!(rt; assistant.notice(0, &[0; 20]), Ok(NoticeTaken::ReadWaits));
-    assert_eq!(rt; assistant.next_read(), Some(0));
-    assert_eq!(rt;
-        assistant.answer_read(0, &[0; 2]),
-        Err(NoticeFault::BadNotice(StateFault::Short { place: 2 }))
+    assert!(rt; assistant.notice(0, &[0; 20]) == Ok(NoticeTaken::ReadWaits));
+    assert!(rt; assistant.next_read() == Some(0));
+    assert!(rt;
+        assistant.answer_read(0, &[0; 2])
+            == Err(NoticeFault::BadNotice(StateFault::Short { place: 2 }))
     );
     Ok(())
 }

@@ -8,10 +8,10 @@ fn the_last_two_of_three_units_are_kept(rt: HostRuntime) -> Result<(), Fail> {
     for unit in [[0xaa], [0xbb], [0xcc]] {
         last.take(&unit)?;
     }
-    assert!(rt; last.last(0).is_some_and(|unit| unit == [0xcc].as_slice()));
-    assert!(rt; last.last(1).is_some_and(|unit| unit == [0xbb].as_slice()));
+    assert!(rt; last.last(0) == Some([0xcc].as_slice()));
+    assert!(rt; last.last(1) == Some([0xbb].as_slice()));
     assert!(rt; last.last(2).is_none());
-    assert_eq!(rt; (last.units(), last.octets()), (3, 3));
+    assert!(rt; (last.units(), last.octets()) == (3, 3));
     Ok(())
 }
 
@@ -22,11 +22,11 @@ fn a_box_fails_at_its_listed_call(rt: HostRuntime) -> Result<(), Fail> {
     let mut boxes: Vec<Box<dyn Outlet>> = Vec::new(rt.alloc());
     boxes.push(Box::new(rt.alloc(), Tally::new())?)?;
     boxes.push(Box::new(rt.alloc(), FailingTally::new(failing))?)?;
-    assert_eq!(rt; take_at(&mut boxes, 1, &[1, 2, 3, 4, 5]), Ok(()));
-    assert_eq!(rt; take_at(&mut boxes, 1, &[6]), Err(OutletFault::Failed));
-    assert_eq!(rt; take_at(&mut boxes, 1, &[7, 8]), Ok(()));
-    assert_eq!(rt; take_at(&mut boxes, 0, &[9]), Ok(()));
-    assert_eq!(rt; (boxes[1].units(), boxes[1].octets()), (2, 7));
-    assert_eq!(rt; (boxes[0].units(), boxes[0].octets()), (1, 1));
+    assert!(rt; take_at(&mut boxes, 1, &[1, 2, 3, 4, 5]) == Ok(()));
+    assert!(rt; take_at(&mut boxes, 1, &[6]) == Err(OutletFault::Failed));
+    assert!(rt; take_at(&mut boxes, 1, &[7, 8]) == Ok(()));
+    assert!(rt; take_at(&mut boxes, 0, &[9]) == Ok(()));
+    assert!(rt; (boxes[1].units(), boxes[1].octets()) == (2, 7));
+    assert!(rt; (boxes[0].units(), boxes[0].octets()) == (1, 1));
     Ok(())
 }

@@ -1,7 +1,7 @@
 use big_info::{BigInfo, check_group};
-use isoal_base::{EventLaid, PutFault};
+use isoal_base::PutFault;
 use isoal_framed::FramedOut;
-use std::test::Fail;
+use std::alloc::Global;
 
 /// Units of at most 8 octets every 10.884 ms, in two PDUs of at most 10 octets an event.
 const TWO: BigInfo = BigInfo {
@@ -27,78 +27,83 @@ const TWO: BigInfo = BigInfo {
     cipher: None,
 };
 
-fn has_pdu(event: &EventLaid, place: usize, octets: &[u8]) -> bool {
-    match event.pdus.as_slice().get(place) {
-        Some(pdu) => pdu.as_slice() == octets,
-        None => false,
+/// The same in one PDU an event.
+const ONE: BigInfo = BigInfo {
+    nse: 1,
+    bn: 1,
+    sub_interval: 0,
+    ..TWO
+};
+
+fn sender(alloc: Global, info: &BigInfo) -> Option<FramedOut> {
+    if !info.fits() || info.framing != 1 {
+        return None;
+    }
+    match check_group(info) {
+        Ok(group) => Some(FramedOut::new(alloc, &group)),
+        Err(_) => None,
     }
 }
 
+/// Whether the event with this anchor has these PDUs, and leaves so many units out.
+fn packs(out: &mut FramedOut, anchor: u64, pdus: &[&[u8]], stale: usize) -> bool {
+    let Ok(event) = out.pack_event(anchor) else {
+        return false;
+    };
+    if event.pdus.count() != pdus.len() {
+        return false;
+    }
+    for (packed, pdu) in event.pdus.as_slice().iter().zip(pdus) {
+        if packed.as_slice() != *pdu {
+            return false;
+        }
+    }
+    event.stale.count() == stale
+}
+
+const START: [u8; 12] = [
+    0x02, 0x0a, 0x00, 0x08, 0x88, 0x13, 0x00, 0xd0, 0xd1, 0xd2, 0xd3, 0xd4,
+];
+
 #[test]
-fn a_unit_goes_on_in_the_next_pdu(rt: HostRuntime) -> Result<(), Fail> {
-    assert!(rt; TWO.fits());
-    let group = check_group(&TWO)?;
-    let mut out = FramedOut::new(rt.alloc(), &group);
+fn a_unit_goes_on_in_the_next_pdu(rt: HostRuntime) {
+    let Some(mut out) = sender(rt.alloc(), &TWO) else {
+        return assert!(rt; false);
+    };
     let unit = [0xd0, 0xd1, 0xd2, 0xd3, 0xd4, 0xd5, 0xd6, 0xd7];
-    out.put(15000, 20000, unit.as_slice())?;
-    let event = out.pack_event(20000)?;
-    let first = [
-        0x02, 0x0a, 0x00, 0x08, 0x88, 0x13, 0x00, 0xd0, 0xd1, 0xd2, 0xd3, 0xd4,
-    ];
-    let second = [0x02, 0x05, 0x03, 0x03, 0xd5, 0xd6, 0xd7];
-    assert!(rt; has_pdu(&event, 0, first.as_slice()));
-    assert!(rt; has_pdu(&event, 1, second.as_slice()));
-    Ok(())
+    assert!(rt; out.put(15000, 20000, &unit).is_ok());
+    let rest = [0x02, 0x05, 0x03, 0x03, 0xd5, 0xd6, 0xd7];
+    assert!(rt; packs(&mut out, 20000, &[&START, &rest], 0));
 }
 
 #[test]
-fn a_unit_goes_on_in_the_next_event(rt: HostRuntime) -> Result<(), Fail> {
-    let one = BigInfo {
-        nse: 1,
-        bn: 1,
-        sub_interval: 0,
-        ..TWO
+fn a_unit_goes_on_in_the_next_event(rt: HostRuntime) {
+    let Some(mut out) = sender(rt.alloc(), &ONE) else {
+        return assert!(rt; false);
     };
-    assert!(rt; one.fits());
-    let group = check_group(&one)?;
-    let mut out = FramedOut::new(rt.alloc(), &group);
     let unit = [0xd0, 0xd1, 0xd2, 0xd3, 0xd4, 0xd5, 0xd6];
-    out.put(15000, 20000, unit.as_slice())?;
-    let _first = out.pack_event(20000)?;
-    out.put(25000, 30000, &[0xe0, 0xe1, 0xe2])?;
-    let second = out.pack_event(30000)?;
+    assert!(rt; out.put(15000, 20000, &unit).is_ok());
+    assert!(rt; packs(&mut out, 20000, &[&START], 0));
+    assert!(rt; out.put(25000, 30000, &[0xe0, 0xe1, 0xe2]).is_ok());
     let crossing = [
         0x02, 0x0a, 0x03, 0x02, 0xd5, 0xd6, 0x00, 0x04, 0x88, 0x13, 0x00, 0xe0,
     ];
-    assert!(rt; has_pdu(&second, 0, crossing.as_slice()));
-    let third = out.pack_event(40000)?;
-    assert!(rt; has_pdu(&third, 0, &[0x02, 0x04, 0x03, 0x02, 0xe1, 0xe2]));
-    Ok(())
+    assert!(rt; packs(&mut out, 30000, &[&crossing], 0));
+    assert!(rt; packs(&mut out, 40000, &[&[0x02, 0x04, 0x03, 0x02, 0xe1, 0xe2]], 0));
 }
 
 #[test]
-fn a_unit_of_long_ago_is_stale_and_one_of_later_waits(rt: HostRuntime) -> Result<(), Fail> {
-    let one = BigInfo {
-        nse: 1,
-        bn: 1,
-        sub_interval: 0,
-        ..TWO
+fn a_unit_of_long_ago_is_stale_and_one_of_later_waits(rt: HostRuntime) {
+    let Some(mut out) = sender(rt.alloc(), &ONE) else {
+        return assert!(rt; false);
     };
-    assert!(rt; one.fits());
-    let group = check_group(&one)?;
-    let mut out = FramedOut::new(rt.alloc(), &group);
-    out.put(0, 20_000_000, &[0xaa])?;
-    let stale = out.pack_event(20_000_000)?;
-    assert!(rt; has_pdu(&stale, 0, &[0x02, 0x00]));
-    assert!(rt; stale.stale.as_slice() == [0].as_slice());
+    assert!(rt; out.put(0, 20_000_000, &[0xaa]).is_ok());
+    assert!(rt; packs(&mut out, 20_000_000, &[&[0x02, 0x00]], 1));
 
     let late = out.put(20_005_000, 20_000_000, &[0xbb]);
-    assert_eq!(rt; late.err(), Some(PutFault::TimeOrder));
-    out.put_ahead(20_005_000, &[0xbb])?;
-    let empty = out.pack_event(20_000_000)?;
-    assert!(rt; has_pdu(&empty, 0, &[0x02, 0x00]));
-    assert_eq!(rt; empty.stale.as_slice().len(), 0);
-    let event = out.pack_event(20_010_000)?;
-    assert!(rt; has_pdu(&event, 0, &[0x02, 0x06, 0x02, 0x04, 0x88, 0x13, 0x00, 0xbb]));
-    Ok(())
+    assert!(rt; late == Err(PutFault::TimeOrder));
+    assert!(rt; out.put_ahead(20_005_000, &[0xbb]).is_ok());
+    assert!(rt; packs(&mut out, 20_000_000, &[&[0x02, 0x00]], 0));
+    let event = [0x02, 0x06, 0x02, 0x04, 0x88, 0x13, 0x00, 0xbb];
+    assert!(rt; packs(&mut out, 20_010_000, &[&event], 0));
 }

@@ -1,28 +1,38 @@
 use scenario_text::{LineFault, Step, read_line, read_line_in};
 use std::alloc::Global;
 
-fn fault_of(alloc: Global, line: &[u8]) -> Option<LineFault> {
-    read_line(alloc, line).err()
+fn has_fault(alloc: Global, line: &[u8], word: u64) -> bool {
+    match read_line(alloc, line) {
+        Ok(_) => false,
+        Err(fault) => fault == LineFault::BadLine { word },
+    }
 }
 
-fn bad(word: u64) -> Option<LineFault> {
-    Some(LineFault::BadLine { word })
-}
+// Lines, and the number of the first word of each that doesn't fit. Two spaces and a space at the end make an empty word;
+// an odd number of words behind PA_Interval lacks a word; a list of one octet that counts two is none.
+const FAULTS: [(&[u8], u64); 11] = [
+    (b"hear 0 0 1", 4),
+    (b"unit 1 - 0g", 3),
+    (b"event ", 1),
+    (b"air  0 1", 1),
+    (b" end", 0),
+    (b"drop 8", 1),
+    (b"stop 0", 1),
+    (b"modify 0 0 0 65535 ffffffff", 6),
+    (b"modify 0 0 0 65535 ffffff -", 5),
+    (b"meta 02", 1),
+    (b"ident 0 0000000000 1 000000", 2),
+];
 
-// The rows `hear 0 0 1` and `unit 1 - 0g` of the refusals; two spaces and a space at the end make an empty word.
 #[test]
 fn a_fault_has_the_number_of_the_first_word_that_does_not_fit(rt: HostRuntime) {
-    assert_eq!(rt; fault_of(rt.alloc(), b"hear 0 0 1"), bad(4));
-    assert_eq!(rt; fault_of(rt.alloc(), b"unit 1 - 0g"), bad(3));
-    assert_eq!(rt; fault_of(rt.alloc(), b"event "), bad(1));
-    assert_eq!(rt; fault_of(rt.alloc(), b"air  0 1"), bad(1));
-    assert_eq!(rt; fault_of(rt.alloc(), b" end"), bad(0));
-    assert_eq!(rt; fault_of(rt.alloc(), b"drop 8"), bad(1));
-    assert_eq!(rt; fault_of(rt.alloc(), b"stop 0"), bad(1));
+    for (line, word) in FAULTS {
+        assert!(rt; has_fault(rt.alloc(), line, word));
+    }
 }
 
 // A line of each kind, out of the worked scenarios.
-const LINES_OF_1: [&[u8]; 37] = [
+pub(crate) const LINES_OF_1: [&[u8]; 37] = [
     b"scenario 2",
     b"group unframed 20000 40000 8 10000 100 100 2 1 3 2 1 600 1800 1",
     b"ident 0 000000000000 1 000000",
@@ -62,7 +72,7 @@ const LINES_OF_1: [&[u8]; 37] = [
     b"end",
 ];
 
-const LINES_OF_2: [&[u8]; 10] = [
+pub(crate) const LINES_OF_2: [&[u8]; 10] = [
     b"assist 0 1",
     b"apart 0 1",
     b"awrite 0 1 0200",
@@ -75,37 +85,24 @@ const LINES_OF_2: [&[u8]; 10] = [
     b"relay 0 1 1",
 ];
 
+fn is_read_in_1(alloc: Global, line: &[u8]) -> bool {
+    read_line(alloc, line).is_ok()
+}
+
+fn is_read_in_2(alloc: Global, line: &[u8]) -> bool {
+    read_line_in(alloc, 2, line).is_ok()
+}
+
 #[test]
 fn each_version_has_its_lines(rt: HostRuntime) {
     for line in LINES_OF_1 {
-        assert_eq!(rt; fault_of(rt.alloc(), line), None);
-        assert_eq!(rt; read_line_in(rt.alloc(), 2, line).err(), None);
+        assert!(rt; is_read_in_1(rt.alloc(), line) && is_read_in_2(rt.alloc(), line));
     }
     for line in LINES_OF_2 {
-        assert_eq!(rt; fault_of(rt.alloc(), line), bad(0));
-        assert_eq!(rt; read_line_in(rt.alloc(), 2, line).err(), None);
+        assert!(rt; has_fault(rt.alloc(), line, 0) && is_read_in_2(rt.alloc(), line));
     }
-    assert_eq!(rt; fault_of(rt.alloc(), b"sink 0 1 5"), bad(3));
-    assert_eq!(rt; read_line_in(rt.alloc(), 2, b"sink 0 1 5").err(), None);
-    assert_eq!(rt; read_line_in(rt.alloc(), 2, b"apart 0 0").err(), bad(2));
-}
-
-// An odd number of words behind PA_Interval lacks a word; a list of one octet that counts two is none.
-#[test]
-fn a_pair_lacks_a_word_and_a_list_its_end(rt: HostRuntime) {
-    assert_eq!(rt;
-        fault_of(rt.alloc(), b"modify 0 0 0 65535 ffffffff"),
-        bad(6)
-    );
-    assert_eq!(rt;
-        fault_of(rt.alloc(), b"modify 0 0 0 65535 ffffff -"),
-        bad(5)
-    );
-    assert_eq!(rt; fault_of(rt.alloc(), b"meta 02"), bad(1));
-    assert_eq!(rt;
-        fault_of(rt.alloc(), b"ident 0 0000000000 1 000000"),
-        bad(2)
-    );
+    assert!(rt; has_fault(rt.alloc(), b"sink 0 1 5", 3));
+    assert!(rt; is_read_in_2(rt.alloc(), b"sink 0 1 5"));
 }
 
 #[test]
@@ -113,9 +110,9 @@ fn a_unit_is_read_with_ample_memory(rt: HostRuntime) {
     let read = read_line(rt.alloc(), b"unit 31 60060 0A0b");
     match &read {
         Ok(Some(Step::Unit { bis, time, octets })) => {
-            assert_eq!(rt; bis.get(), 31);
-            assert_eq!(rt; *time, Some(60_060));
-            assert_eq!(rt; octets.as_slice(), [0x0a, 0x0b].as_slice());
+            assert!(rt; bis.get() == 31);
+            assert!(rt; *time == Some(60_060));
+            assert!(rt; octets.as_slice() == [0x0a, 0x0b].as_slice());
         }
         _ => assert!(rt; false),
     }

@@ -4,9 +4,8 @@ ghost use Rattle.big_info.specs.Widths.{FitsWidths};
 use bcast_base::Bis;
 use big_info::BigInfo;
 use multi_source::Broadcast;
-use source_machine::{EventFault, GiveFault, Identity, Setup, SourceIdle};
+use source_machine::{EventFault, GiveFault, Identity, Setup, SourceIdle, SourceStreaming};
 use std::alloc::Global;
-use std::test::Fail;
 
 /// One stream of a unit every 10 ms in PDUs of at most 4 octets on LE 2M.
 fn info(max_sdu: u16, bn: u8, nse: u8, irc: u8, pto: u8) -> BigInfo
@@ -70,88 +69,109 @@ fn started(alloc: Global, info: BigInfo, first: u64) -> Result<Broadcast, &'stat
     Ok(source)
 }
 
+/// Gives these units to a stream and performs an event.
+fn sends(source: &mut Broadcast, bis: Bis, units: &[&[u8]]) -> bool {
+    for unit in units {
+        if source.give(bis, None, unit).is_err() {
+            return false;
+        }
+    }
+    source.event().is_ok()
+}
+
+/// Whether this PDU was sent in a subevent of the last event.
+fn hears(source: &Broadcast, bis: Bis, subevent: u8, pdu: &[u8]) -> bool {
+    match source.heard_at(0, bis, subevent) {
+        Ok(heard) => heard == pdu,
+        Err(_) => false,
+    }
+}
+
+/// Whether an event that is performed without a broadcast's air has this PDU alone, twice, and none is stale.
+fn sends_twice(source: &mut SourceStreaming, pdu: &[u8]) -> bool {
+    let Ok(sent) = source.event() else {
+        return false;
+    };
+    match sent.pdus.as_slice() {
+        [first, copy] => {
+            first.as_slice() == pdu && copy.as_slice() == pdu && sent.stale.count() == 0
+        }
+        _ => false,
+    }
+}
+
 #[test]
-fn a_source_sends_each_pdu_at_its_place(rt: HostRuntime) -> Result<(), Fail> {
+fn a_source_sends_each_pdu_at_its_place(rt: HostRuntime) {
     let info = info(4, 1, 2, 2, 0);
     assert!(rt; info.fits());
     let Ok(configured) = SourceIdle::new(rt.alloc()).configure(setup(info)) else {
-        return Err("no group".into());
+        return assert!(rt; false);
     };
     let Ok(mut source) = configured.start(3) else {
-        return Err("no memory".into());
+        return assert!(rt; false);
     };
-    let one = Bis::new(1).ok_or("no stream")?;
-    source.give(one, None, &[0xC0])?;
-    let sent = source.event()?;
-    assert_eq!(rt; sent.event, 3);
-    let pdu = [0x00, 0x01, 0xC0];
-    match sent.pdus.as_slice() {
-        [first, copy] => {
-            assert_eq!(rt; first.as_slice(), pdu.as_slice());
-            assert_eq!(rt; copy.as_slice(), pdu.as_slice());
-        }
-        _ => return Err("an event of two PDUs".into()),
-    }
-    assert_eq!(rt; sent.stale.count(), 0);
-    assert_eq!(rt; source.next_event(), 4);
-    assert_eq!(rt; source.next_anchor(), 30000);
+    let Some(one) = Bis::new(1) else {
+        return assert!(rt; false);
+    };
+    assert!(rt; source.give(one, None, &[0xC0]).is_ok());
+    assert!(rt; sends_twice(&mut source, &[0x00, 0x01, 0xC0]));
+    assert!(rt; (source.next_event(), source.next_anchor()) == (4, 30000));
     let _ = source.stop().release();
-    Ok(())
 }
 
 #[test]
-fn a_long_unit_begins_with_a_full_fragment(rt: HostRuntime) -> Result<(), Fail> {
+fn a_long_unit_begins_with_a_full_fragment(rt: HostRuntime) {
     let info = info(8, 2, 2, 1, 0);
     assert!(rt; info.fits());
-    let mut source = started(rt.alloc(), info, 0)?;
-    let one = Bis::new(1).ok_or("no stream")?;
-    source.give(one, None, &[1, 2, 3, 4])?;
-    source.event()?;
-    source.give(one, None, &[0x11, 0x12, 0x13, 0x14, 0x15, 0x16, 0x17, 0x18])?;
-    source.event()?;
-    let first = [0x01, 0x04, 0x11, 0x12, 0x13, 0x14];
-    assert_eq!(rt; source.heard_at(0, one, 0)?, first.as_slice());
-    Ok(())
+    let (Ok(mut source), Some(one)) = (started(rt.alloc(), info, 0), Bis::new(1)) else {
+        return assert!(rt; false);
+    };
+    assert!(rt; sends(&mut source, one, &[&[1, 2, 3, 4]]));
+    assert!(rt;
+        sends(
+            &mut source,
+            one,
+            &[&[0x11, 0x12, 0x13, 0x14, 0x15, 0x16, 0x17, 0x18]]
+        )
+    );
+    assert!(rt; hears(&source, one, 0, &[0x01, 0x04, 0x11, 0x12, 0x13, 0x14]));
 }
 
 #[test]
-fn a_later_copy_carries_a_later_unit(rt: HostRuntime) -> Result<(), Fail> {
+fn a_later_copy_carries_a_later_unit(rt: HostRuntime) {
     let info = info(4, 1, 4, 2, 1);
     assert!(rt; info.fits());
-    let mut source = started(rt.alloc(), info, 0)?;
-    let one = Bis::new(1).ok_or("no stream")?;
-    source.give(one, None, &[0xC0])?;
-    source.give(one, None, &[0xC1])?;
-    source.give(one, None, &[0xC2])?;
-    source.event()?;
-    assert_eq!(rt; source.heard_at(0, one, 3)?, [0x00, 0x01, 0xC2].as_slice());
-    source.event()?;
-    source.event()?;
-    assert_eq!(rt; source.heard_at(0, one, 0)?, [0x00, 0x01, 0xC2].as_slice());
-    Ok(())
+    let (Ok(mut source), Some(one)) = (started(rt.alloc(), info, 0), Bis::new(1)) else {
+        return assert!(rt; false);
+    };
+    assert!(rt; sends(&mut source, one, &[&[0xC0], &[0xC1], &[0xC2]]));
+    assert!(rt; hears(&source, one, 3, &[0x00, 0x01, 0xC2]));
+    assert!(rt; sends(&mut source, one, &[]) && sends(&mut source, one, &[]));
+    assert!(rt; hears(&source, one, 0, &[0x00, 0x01, 0xC2]));
 }
 
 #[test]
-fn the_payload_counter_ends(rt: HostRuntime) -> Result<(), Fail> {
+fn the_payload_counter_ends(rt: HostRuntime) {
     let info = info(4, 1, 1, 1, 0);
     assert!(rt; info.fits());
     let last = 549_755_813_887;
-    let mut source = started(rt.alloc(), info, last)?;
-    source.event()?;
+    let Ok(mut source) = started(rt.alloc(), info, last) else {
+        return assert!(rt; false);
+    };
+    assert!(rt; source.event().is_ok());
     assert!(rt; matches!(source.event(), Err(EventFault::CounterEnds)));
-    assert_eq!(rt; source.last_event(), Some(last));
-    Ok(())
+    assert!(rt; source.last_event() == Some(last));
 }
 
 #[test]
-fn no_more_than_16_units_wait(rt: HostRuntime) -> Result<(), Fail> {
+fn no_more_than_16_units_wait(rt: HostRuntime) {
     let info = info(4, 1, 1, 1, 0);
     assert!(rt; info.fits());
-    let mut source = started(rt.alloc(), info, 0)?;
-    let one = Bis::new(1).ok_or("no stream")?;
+    let (Ok(mut source), Some(one)) = (started(rt.alloc(), info, 0), Bis::new(1)) else {
+        return assert!(rt; false);
+    };
     for _ in 0..16 {
-        source.give(one, None, &[0xAA])?;
+        assert!(rt; source.give(one, None, &[0xAA]).is_ok());
     }
-    assert_eq!(rt; source.give(one, None, &[0xAA]), Err(GiveFault::Backlog));
-    Ok(())
+    assert!(rt; source.give(one, None, &[0xAA]) == Err(GiveFault::Backlog));
 }

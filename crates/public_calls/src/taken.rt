@@ -31,6 +31,21 @@ impl Taken {
         }
     }
 
+    /// Whether this unit was handed at this time with these octets, or as lost.
+    pub(crate) fn has(&self, place: usize, time: u64, octets: Option<&[u8]>) -> bool {
+        let Some(unit) = self.units.as_slice().get(place) else {
+            return false;
+        };
+        if unit.time != time {
+            return false;
+        }
+        match (&unit.octets, octets) {
+            (Some(own), Some(octets)) => own.as_slice() == octets,
+            (None, None) => true,
+            _ => false,
+        }
+    }
+
     fn put(&mut self, bis: Bis, time: u64, octets: Option<Octets>) -> Result<(), Memory>
         ensures ok { OnOk result (map (λ u. handed_of u.bis u.time u.octets) self.new.units.items ≡ map (λ u. handed_of u.bis u.time u.octets) self.old.units.items ++ handed_of bis time octets ∷ []) }
         ensures err { OnErr result (self.new.units.items ≡ self.old.units.items) }

@@ -32,15 +32,9 @@ fn renders_the_worked_units(rt: HostRuntime) -> Result<(), Fail> {
     let unframed = check_group(&UNFRAMED)?;
     let first = anchor(20000, 7, 7, unframed.iso_us());
     let next = anchor(20000, 7, 8, unframed.iso_us());
-    assert_eq!(rt; (first, next), (20000, 30000));
-    assert_eq!(rt;
-        render(unframed_reference(&unframed, first, 0), 40000),
-        60460
-    );
-    assert_eq!(rt;
-        render(unframed_reference(&unframed, first, 1), 40000),
-        65460
-    );
+    assert!(rt; (first, next) == (20000, 30000));
+    assert!(rt; render(unframed_reference(&unframed, first, 0), 40000) == 60460);
+    assert!(rt; render(unframed_reference(&unframed, first, 1), 40000) == 65460);
 
     let info = BigInfo {
         sdu_interval: 10884,
@@ -51,10 +45,7 @@ fn renders_the_worked_units(rt: HostRuntime) -> Result<(), Fail> {
     };
     assert!(rt; info.fits());
     let framed = check_group(&info)?;
-    assert_eq!(rt;
-        render(framed_reference(&framed, 20000, 5000), 40000),
-        76368
-    );
-    assert_eq!(rt; framed_reference(&framed, 0, 16777215), 0);
+    assert!(rt; render(framed_reference(&framed, 20000, 5000), 40000) == 76368);
+    assert!(rt; framed_reference(&framed, 0, 16777215) == 0);
     Ok(())
 }

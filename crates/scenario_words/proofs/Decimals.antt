@@ -48,5 +48,10 @@ pub is_decimal : (word : List ℕ) (i value : ℕ) → length word ≤ i → 0 <
     → value ≡ digits_value 10 (take i word) → ((k : ℕ) → k < i → IsInRange 48 57 (get_or word k 0)) → word ≡ decimal value
 is_decimal word i value all some leading small is digits =
     let whole : value ≡ digits_value 10 word = is ∙ ap (λ (w : List ℕ). digits_value 10 w) (take_all i word all) in
-    let canonical : decimal (digits_value 10 word) ≡ word = decimal-digits_value own word (λ k h. digits k (omega arith)) some (λ zero_first. elim (cases_lt 1 (length word)) [ inl long ↦ absurd (leading (long, zero_first)) | inr short ↦ omega arith ]) (omega arith) in
+    let canonical : decimal (digits_value 10 word) ≡ word =
+    decimal-digits_value own word (λ k h. digits k (omega arith)) some (λ zero_first. elim (cases_lt 1 (length word)) [
+      | inl long ↦
+          absurd (leading (long, zero_first))
+      | inr short ↦ omega arith
+    ]) (omega arith) in
     sym canonical ∙ ap decimal (sym whole)

@@ -22,7 +22,9 @@ both_ways a b ha hb there back = elim (cases_eq a 1) [
 
 same_bits : (set bis r : ℕ) → 1 ≤ bis → Has r bis → ((b : ℕ) → 1 ≤ b → b ≢ bis → (Has r b ↔ Has set b)) → (i : ℕ) → bit_at r i ≡ bit_at (bit_or set (2 ^ (bis - 1))) i
 same_bits set bis r least has others i = elim (cases_eq i (bis - 1)) [
-  | inl this ↦ ap (bit_at r) this ∙ (has ∙ sym (ap (bit_at (bit_or set (2 ^ (bis - 1)))) this ∙ (bit_at_or set (2 ^ (bis - 1)) (bis - 1) ∙ (ap (max (bit_at set (bis - 1))) (bit_at-pow_same (bis - 1)) ∙ or_one (bit_at set (bis - 1)) (bit_at-lt set (bis - 1))))))
+  | inl this ↦ ap (bit_at r) this ∙ (has ∙ sym (ap (bit_at (bit_or set (2 ^ (bis - 1)))) this
+      ∙ (bit_at_or set (2 ^ (bis - 1)) (bis - 1)
+      ∙ (ap (max (bit_at set (bis - 1))) (bit_at-pow_same (bis - 1)) ∙ or_one (bit_at set (bis - 1)) (bit_at-lt set (bis - 1))))))
   | inr other ↦
       let kept = others (i + 1) (omega arith) (λ e. other (omega arith)) in
       let place : i + 1 - 1 ≡ i = omega arith in

@@ -18,7 +18,8 @@ joined-requires-clause-second c =
 pub pairs-preserved : goal.pairs-preserved
 pairs-preserved c =
     let octets = octets_at c.args.word.now c.as_chunks.result.0.now c.pairs.i c.from_le_bytes.result c.as_chunks.ensures.front (omega arith) (λ k. (c.type_inv.word k).fits) c.from_le_bytes.ensures in
-    one_pair_more c.args.word.now c.pairs.octets c.pairs.i c.joined.result (sym c.are_digits.ensures ∙ c.if-not-are_digits.false) (omega arith) (omega arith) (rw (octets.0, octets.1) at c.joined.ensures) c.pairs.invariant
+    one_pair_more c.args.word.now c.pairs.octets c.pairs.i c.joined.result (sym c.are_digits.ensures ∙ c.if-not-are_digits.false) (omega arith) (omega arith)
+    (rw (octets.0, octets.1) at c.joined.ensures) c.pairs.invariant
 
 pub returns-clause-yes : goal.returns-clause-yes
 returns-clause-yes c = λ yes. all_pairs c.args.word.now c.pairs.octets c.pairs.i (omega arith) (omega arith) (omega arith) c.pairs.invariant

@@ -13,7 +13,8 @@ returns-in_err-bis c =
 pub indices-preserved : goal.indices-preserved
 indices-preserved c =
     let more : c.indices.self.words ≢ [] = c.has_more.ensures.0 c.indices-test.true in
-    let next = index_read c.indices.which (c.indices.last + 1) c.in_ok-bis.bis c.indices.self c.bis-in-indices.new.self (rising_of c.args.self.now) more c.in_ok-bis.ensures.gives c.indices.invariant.rest in
+    let next = index_read c.indices.which (c.indices.last + 1) c.in_ok-bis.bis c.indices.self c.bis-in-indices.new.self (rising_of c.args.self.now) more
+    c.in_ok-bis.ensures.gives c.indices.invariant.rest in
     record {
       least = c.get-last-in-indices.ensures.least;
       greatest = c.get-last-in-indices.ensures.greatest;
@@ -22,5 +23,6 @@ indices-preserved c =
 
 pub returns : goal.returns
 returns c =
-    let none : c.indices.self.words ≡ [] = no_words c.indices.self.words (λ some. let is : c.has_more.result ≡ true = c.has_more.ensures.1 some in let not : c.has_more.result ≡ false = c.indices-test.false in cc) in
+    let none : c.indices.self.words ≡ [] = no_words c.indices.self.words (λ some. let is : c.has_more.result ≡ true = c.has_more.ensures.1 some in
+    let not : c.has_more.result ≡ false = c.indices-test.false in cc) in
     all_read c.indices.which (c.indices.last + 1) c.indices.self (rising_of c.args.self.now) none c.indices.invariant.rest
