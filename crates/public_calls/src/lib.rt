@@ -13,6 +13,8 @@ mod framed_receivers;
 #[cfg(test)]
 mod framed_senders;
 #[cfg(test)]
+mod generator;
+#[cfg(test)]
 mod groups;
 #[cfg(test)]
 mod lines;
@@ -30,3 +32,5 @@ mod taken;
 mod times;
 #[cfg(test)]
 mod transcripts;
+#[cfg(test)]
+mod written_lines;

@@ -32,7 +32,7 @@ fn a_fault_has_the_number_of_the_first_word_that_does_not_fit(rt: HostRuntime) {
 }
 
 // A line of each kind, out of the worked scenarios.
-const LINES_OF_1: [&[u8]; 37] = [
+pub(crate) const LINES_OF_1: [&[u8]; 37] = [
     b"scenario 2",
     b"group unframed 20000 40000 8 10000 100 100 2 1 3 2 1 600 1800 1",
     b"ident 0 000000000000 1 000000",
@@ -72,7 +72,7 @@ const LINES_OF_1: [&[u8]; 37] = [
     b"end",
 ];
 
-const LINES_OF_2: [&[u8]; 10] = [
+pub(crate) const LINES_OF_2: [&[u8]; 10] = [
     b"assist 0 1",
     b"apart 0 1",
     b"awrite 0 1 0200",

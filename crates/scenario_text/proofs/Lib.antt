@@ -1,6 +1,7 @@
-pub mod Rows
-pub mod Within
-pub mod Operations
-pub mod Steps
-pub mod Misfits
-pub mod MisfitNumbers
+mod Rows
+mod Within
+mod Operations
+mod Steps
+mod Misfits
+mod MisfitNumbers
+pub mod Citable

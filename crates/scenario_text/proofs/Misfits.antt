@@ -1,23 +1,21 @@
 -- The number of a fault is the number of the words that fit, and no other number is.
-use Rattle.std.proofs.Common.{◌≡◌, ◌≤◌, ◌<◌, ◌+◌, ℕ, zero, suc, Bool, true, false, cond, nat_eq, ◌||◌, not, List, [], ◌∷◌, length, take, Option, None, Some}
-use Rattle.std.proofs.Common.{Result, Ok, Err, refl, ap, sym, subst, ◌∙◌, arith, inl, inr}
-use Rattle.std.proofs.lemmas.List.{take_all, take-take}
-use Rattle.std.proofs.lemmas.Bool.{cases_lt}
+use Rattle.std.proofs.Common.{◌≡◌, ◌≤◌, ◌<◌, ◌+◌, ℕ, suc, Bool, true, false, cond, ◌||◌, List, [], ◌∷◌, length, take, Option, None, Some}
+use Rattle.std.proofs.Common.{Result, Ok, Err, refl, ap, sym, subst, ◌∙◌, arith}
+use Rattle.std.proofs.lemmas.List.{take_all}
 use Rattle.bass_operations.specs.declared.wishes.Wish.{Wish}
 use Rattle.scenario_words.specs.declared.fault.LineFault.{LineFault}
-use Rattle.scenario_words.specs.declared.fault.LineFault.TheVariants.{BadLine, Memory}
+use Rattle.scenario_words.specs.declared.fault.LineFault.TheVariants.{BadLine}
 use Rattle.scenario_words.specs.Words.{words_of}
-use Rattle.scenario_words.specs.Places.{WordPlace, between, Place, one, perhaps, rising, wishes, WordValue, PlaceValue}
+use Rattle.scenario_words.specs.Places.{WordPlace, between, Place, one, perhaps, rising, wishes, WordValue}
 use Rattle.scenario_words.specs.Reading.{Left, Gives, ◌>>=◌, any_word, next_of, taken, word_in, decimal_in, with_stream, streams_of, rising_of, perhaps_of}
-use Rattle.scenario_words.specs.Reading.{wishes_of, bounded, all_wishes_of, at_place, ended}
-use Rattle.scenario_words.specs.Fitting.{FitsWord, FitsIndices, FitsPairs, FitsFront}
+use Rattle.scenario_words.specs.Reading.{wishes_of, bounded, all_wishes_of, ended}
+use Rattle.scenario_words.specs.Fitting.{FitsIndices, FitsPairs, FitsFront}
 use Rattle.scenario_words.proofs.Citable.{word_spelled, bind_ok, is_small, bounded_is, Stops, misfit, bad_is, indices_first, indices_stop, indices_all, pairs_stop, pairs_end}
 use Rattle.scenario_text.specs.declared.step.Step.{Step}
 use Rattle.scenario_text.specs.Table.{Build, Row, row_of}
-use Rattle.scenario_text.specs.Lines.{LineIs, IsBlank}
 use Rattle.scenario_text.specs.Steps.{built_at, at_known, whole, line_after, step_of, read_of}
 use Rattle.scenario_text.specs.Misfits.{FitsLine, IsMisfit}
-use Rattle.scenario_text.proofs.Rows.{all_small, takes_all, none_more, takes_all_last, is_word, is_fine, and_parts, of_table}
+use Rattle.scenario_text.proofs.Rows.{all_small, none_more, takes_all_last, is_word, and_parts, of_table}
 use Rattle.scenario_text.proofs.Steps.{says_so, blank_is_none}
 
 abbrev left_of : List (List ℕ) → ℕ → Left

@@ -1,8 +1,8 @@
 -- How many octets an operation has.
-use Rattle.std.proofs.Common.{◌≡◌, ◌+◌, ℕ, List, [], ◌∷◌, ◌++◌, length, refl, ap, sym, ◌∙◌, arith}
+use Rattle.std.proofs.Common.{◌≡◌, ◌+◌, List, [], ◌∷◌, ◌++◌, length, refl, arith}
 use Rattle.std.specs.List.{flat_map}
 use Rattle.std.proofs.lemmas.List.{length-append}
-use Rattle.octet_fields.specs.Layout.{Field, laid}
+use Rattle.octet_fields.specs.Layout.{laid}
 use Rattle.octet_fields.specs.Subgroups.{subgroup_fields}
 use Rattle.octet_fields.proofs.Citable.{number-length}
 use Rattle.octet_fields.specs.Spelling.{number}

@@ -1,6 +1,6 @@
 -- What holds of each row of the table, whatever its step: its first word begins no comment, its numbers fit 64 bits, and a
 -- place that takes all words that are left is its last.
-use Rattle.std.proofs.Common.{◌≡◌, ℕ, Bool, true, false, cond, nat_eq, nat_lt, ◌^◌, ◌&&◌, ◌||◌, not, List, [], ◌∷◌, Option, None, Some, refl, sym, ◌∙◌, ap}
+use Rattle.std.proofs.Common.{◌≡◌, ℕ, Bool, true, false, cond, nat_eq, nat_lt, ◌^◌, ◌&&◌, ◌||◌, not, List, [], ◌∷◌, Option, None, Some, refl}
 use Rattle.std.specs.Str.{bytes_eq}
 use Rattle.std.proofs.lemmas.Slice.Eq.{bytes_eq-Decides}
 use Rattle.scenario_words.specs.Places.{Place, one, perhaps, rising, wishes}

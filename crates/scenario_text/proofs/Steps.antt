@@ -1,9 +1,9 @@
 -- Steps and their lines: what is read is the step that the line says, and what a line says is read.
-use Rattle.std.proofs.Common.{◌≡◌, ◌≤◌, ◌+◌, ℕ, Bool, true, false, cond, nat_eq, ◌||◌, not, List, [], ◌∷◌, Option, None, Some, Result, Ok, Err, refl, ap, sym, subst, ◌∙◌, eqb-true}
+use Rattle.std.proofs.Common.{◌≡◌, ◌+◌, ℕ, Bool, true, false, cond, nat_eq, ◌||◌, not, List, [], ◌∷◌, Option, None, Some, Result, Ok, Err, refl, ap, sym, subst, ◌∙◌, eqb-true}
 use Rattle.std.specs.Prelude.{IfOk, IfSome, IfNone}
 use Rattle.scenario_words.specs.declared.fault.LineFault.{LineFault}
 use Rattle.scenario_words.specs.Words.{words_of, onto_first}
-use Rattle.scenario_words.specs.Places.{Place, one, perhaps, rising, wishes, PlaceValue}
+use Rattle.scenario_words.specs.Places.{Place, one, perhaps, rising, wishes}
 use Rattle.scenario_words.specs.Reading.{Left, Gives, ◌>>=◌, any_word, next_of, at_place, ended}
 use Rattle.scenario_words.proofs.Citable.{place_again, place_spelled, bind_ok, IsLast}
 use Rattle.scenario_text.specs.declared.step.Step.{Step}
@@ -11,7 +11,7 @@ use Rattle.scenario_text.specs.Ranges.{IsInRange}
 use Rattle.scenario_text.specs.Table.{Build, Row, row_of}
 use Rattle.scenario_text.specs.Lines.{Says, LineIs, IsBlank}
 use Rattle.scenario_text.specs.Steps.{built_at, at_known, whole, line_after, step_of, read_of}
-use Rattle.scenario_text.proofs.Rows.{all_small, takes_all, none_more, takes_all_last, is_word, is_fine, and_parts, of_table, Fine}
+use Rattle.scenario_text.proofs.Rows.{all_small, takes_all, none_more, takes_all_last, is_word, and_parts, of_table}
 use Rattle.scenario_text.proofs.Within.{row_within, says_within}
 
 abbrev left_of : List (List ℕ) → ℕ → Left
@@ -178,6 +178,11 @@ pub said_in_range : (version : ℕ) (line : List ℕ) (made : Step) → read_of 
 said_in_range version line made e =
     let is = so_says version line made e in
     says_within is.row.places is.row.build made is.words is.spelled (row_within version is.first is.row is.known)
+
+pub is_in_range : (version : ℕ) (line : List ℕ) (r : Result (Option Step) LineFault) → Gives (λ read. read) r (read_of version line) → IfOk r (λ read. IfSome read IsInRange)
+is_in_range version line (Ok (Some made)) given = said_in_range version line made given
+is_in_range version line (Ok None) given = tt
+is_in_range version line (Err e) given = tt
 
 pub is_found : (version : ℕ) (line : List ℕ) (r : Result (Option Step) LineFault) → Gives (λ read. read) r (read_of version line) → IfOk r (λ read. IfSome read (λ made. LineIs version made line))
 is_found version line (Ok (Some made)) given = line_says version line made given

@@ -1,5 +1,5 @@
 -- The values at the places of a row are within their ranges, and so are the numbers of its step.
-use Rattle.std.proofs.Common.{◌≡◌, ◌≤◌, ◌<◌, ◌^◌, ℕ, Bool, true, false, cond, nat_eq, List, [], ◌∷◌, length, Option, None, Some, refl, sym, subst, arith, inl, inr}
+use Rattle.std.proofs.Common.{◌≡◌, ◌≤◌, ℕ, Bool, true, false, cond, nat_eq, List, [], ◌∷◌, length, Option, None, Some, subst, arith, inl, inr}
 use Rattle.std.specs.Prelude.{⊤}
 use Rattle.std.specs.Str.{bytes_eq}
 use Rattle.scenario_words.specs.Places.{WordPlace, between, framing_word, time_up_to, octets_up_to, octets_exactly, number_in_octets, list_up_to, Place, one}
@@ -7,7 +7,7 @@ use Rattle.scenario_words.specs.Places.{perhaps, rising, wishes, WordValue, Plac
 use Rattle.scenario_words.specs.Spelling.{SpellsOctets, Spells, SpellsWord}
 use Rattle.ltv_codec.specs.Reading.{bad_of}
 use Rattle.scenario_text.specs.declared.step.Step.{Step}
-use Rattle.scenario_text.specs.Ranges.{IsInRange, GroupRanges}
+use Rattle.scenario_text.specs.Ranges.{IsInRange}
 use Rattle.scenario_text.specs.Table as rows
 use Rattle.scenario_text.specs.Table.{Build, Row, row_in, first_rows, source_rows, sink_rows, rows_of_2, row_of_2, sink_row_of, source_row_of, row_of}
 use Rattle.scenario_text.specs.Lines.{Says}

@@ -1,5 +1,5 @@
 -- Which line says which step: the table of the lines as a relation, beside which stands the reading of a line.
-use Rattle.std.specs.Prelude.{◌≡◌, ℕ, List, [], ◌∷◌, ⊤, Option, Some}
+use Rattle.std.specs.Prelude.{◌≡◌, ℕ, List, [], ◌∷◌, ⊤, Some}
 use Rattle.scenario_words.specs.Words.{words_of}
 use Rattle.scenario_words.specs.Places.{Place, PlaceValue}
 use Rattle.scenario_words.specs.Spelling.{Spells}

@@ -1,6 +1,6 @@
 -- The number of a line that is no line of the language (BadLine), by the words that fit: the first so many words fit the places
 -- of some line, and no more do.
-use Rattle.std.specs.Prelude.{◌≡◌, ◌≤◌, ◌<◌, ℕ, suc, List, [], ◌∷◌, length, take, ⊤, Option, Some}
+use Rattle.std.specs.Prelude.{◌≡◌, ◌≤◌, ◌<◌, ℕ, suc, List, [], ◌∷◌, length, take, ⊤, Some}
 use Rattle.scenario_words.specs.Words.{words_of}
 use Rattle.scenario_words.specs.Fitting.{FitsFront}
 use Rattle.scenario_text.specs.declared.step.Step.{Step}

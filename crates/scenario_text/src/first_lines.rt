@@ -1,7 +1,6 @@
 //! The lines that each scenario needs, behind their first words.
-ghost use Rattle.std.specs.Prelude.{◌≡◌, ◌≤◌, IfOk};
+ghost use Rattle.std.specs.Prelude.{◌≡◌, ◌≤◌};
 ghost use Rattle.scenario_words.specs.Reading.{GivesNext};
-ghost use Rattle.scenario_text.specs.Ranges.{IsInRange};
 ghost use Rattle.scenario_text.specs.Steps.{at_row};
 ghost use Rattle.scenario_text.specs.Table.{most_slots as slots_in, scenario_row, group_row, start_row, sink_row, tuned_row, unit_row, hear_row, air_row, inject_row, sniff_row, drop_row};
 
@@ -10,16 +9,14 @@ use scenario_words::{Cursor, LineFault};
 use std::alloc::Global;
 
 pub fn scenario(words: &mut Cursor<'_>) -> Result<Step, LineFault>
-    ensures in_range { IfOk result IsInRange }
-    ensures gives { GivesNext (λ step. step) result words.new (at_row scenario_row words.old) }
+    ensures { GivesNext (λ step. step) result words.new (at_row scenario_row words.old) }
 {
     let version = words.octet(1, 2)?;
     Ok(Step::Scenario { version })
 }
 
 pub fn group(words: &mut Cursor<'_>) -> Result<Step, LineFault>
-    ensures in_range { IfOk result IsInRange }
-    ensures gives { GivesNext (λ step. step) result words.new (at_row group_row words.old) }
+    ensures { GivesNext (λ step. step) result words.new (at_row group_row words.old) }
 {
     Ok(Step::Group {
         framing: words.framing()?,
@@ -41,8 +38,7 @@ pub fn group(words: &mut Cursor<'_>) -> Result<Step, LineFault>
 }
 
 pub fn start(words: &mut Cursor<'_>) -> Result<Step, LineFault>
-    ensures in_range { IfOk result IsInRange }
-    ensures gives { GivesNext (λ step. step) result words.new (at_row start_row words.old) }
+    ensures { GivesNext (λ step. step) result words.new (at_row start_row words.old) }
 {
     let first = words.number(0, 549_755_813_887)?;
     Ok(Step::Start { first })
@@ -57,8 +53,7 @@ fn most_slots(version: u8) -> u8
 }
 
 pub fn sink(version: u8, words: &mut Cursor<'_>) -> Result<Step, LineFault>
-    ensures in_range { IfOk result IsInRange }
-    ensures gives { GivesNext (λ step. step) result words.new (at_row (sink_row version) words.old) }
+    ensures { GivesNext (λ step. step) result words.new (at_row (sink_row version) words.old) }
 {
     Ok(Step::Sink {
         sink: words.octet(0, 7)?,
@@ -69,8 +64,7 @@ pub fn sink(version: u8, words: &mut Cursor<'_>) -> Result<Step, LineFault>
 }
 
 pub fn tuned(words: &mut Cursor<'_>) -> Result<Step, LineFault>
-    ensures in_range { IfOk result IsInRange }
-    ensures gives { GivesNext (λ step. step) result words.new (at_row tuned_row words.old) }
+    ensures { GivesNext (λ step. step) result words.new (at_row tuned_row words.old) }
 {
     Ok(Step::Tuned {
         sink: words.octet(0, 7)?,
@@ -79,8 +73,7 @@ pub fn tuned(words: &mut Cursor<'_>) -> Result<Step, LineFault>
 }
 
 pub fn unit(alloc: Global, words: &mut Cursor<'_>) -> Result<Step, LineFault>
-    ensures in_range { IfOk result IsInRange }
-    ensures gives { GivesNext (λ step. step) result words.new (at_row unit_row words.old) }
+    ensures { GivesNext (λ step. step) result words.new (at_row unit_row words.old) }
 {
     Ok(Step::Unit {
         bis: words.bis(1)?,
@@ -90,8 +83,7 @@ pub fn unit(alloc: Global, words: &mut Cursor<'_>) -> Result<Step, LineFault>
 }
 
 pub fn hear(words: &mut Cursor<'_>) -> Result<Step, LineFault>
-    ensures in_range { IfOk result IsInRange }
-    ensures gives { GivesNext (λ step. step) result words.new (at_row hear_row words.old) }
+    ensures { GivesNext (λ step. step) result words.new (at_row hear_row words.old) }
 {
     Ok(Step::Hear {
         sink: words.octet(0, 7)?,
@@ -102,8 +94,7 @@ pub fn hear(words: &mut Cursor<'_>) -> Result<Step, LineFault>
 }
 
 pub fn air(words: &mut Cursor<'_>) -> Result<Step, LineFault>
-    ensures in_range { IfOk result IsInRange }
-    ensures gives { GivesNext (λ step. step) result words.new (at_row air_row words.old) }
+    ensures { GivesNext (λ step. step) result words.new (at_row air_row words.old) }
 {
     Ok(Step::Air {
         sink: words.octet(0, 7)?,
@@ -112,8 +103,7 @@ pub fn air(words: &mut Cursor<'_>) -> Result<Step, LineFault>
 }
 
 pub fn inject(alloc: Global, words: &mut Cursor<'_>) -> Result<Step, LineFault>
-    ensures in_range { IfOk result IsInRange }
-    ensures gives { GivesNext (λ step. step) result words.new (at_row inject_row words.old) }
+    ensures { GivesNext (λ step. step) result words.new (at_row inject_row words.old) }
 {
     Ok(Step::Inject {
         sink: words.octet(0, 7)?,
@@ -125,8 +115,7 @@ pub fn inject(alloc: Global, words: &mut Cursor<'_>) -> Result<Step, LineFault>
 }
 
 pub fn sniff(words: &mut Cursor<'_>) -> Result<Step, LineFault>
-    ensures in_range { IfOk result IsInRange }
-    ensures gives { GivesNext (λ step. step) result words.new (at_row sniff_row words.old) }
+    ensures { GivesNext (λ step. step) result words.new (at_row sniff_row words.old) }
 {
     Ok(Step::Sniff {
         back: words.octet(0, 31)?,
@@ -136,8 +125,7 @@ pub fn sniff(words: &mut Cursor<'_>) -> Result<Step, LineFault>
 }
 
 pub fn drop_sink(words: &mut Cursor<'_>) -> Result<Step, LineFault>
-    ensures in_range { IfOk result IsInRange }
-    ensures gives { GivesNext (λ step. step) result words.new (at_row drop_row words.old) }
+    ensures { GivesNext (λ step. step) result words.new (at_row drop_row words.old) }
 {
     let sink = words.octet(0, 7)?;
     Ok(Step::Drop { sink })

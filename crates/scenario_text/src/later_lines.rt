@@ -1,7 +1,5 @@
 //! The lines of version 2 alone, behind their first words.
-ghost use Rattle.std.specs.Prelude.{IfOk};
 ghost use Rattle.scenario_words.specs.Reading.{GivesNext};
-ghost use Rattle.scenario_text.specs.Ranges.{IsInRange};
 ghost use Rattle.scenario_text.specs.Steps.{at_row};
 ghost use Rattle.scenario_text.specs.Table.{assist_row, apart_row, awrite_row, aserve_row, atell_row, aread_row, adrain_row, ashow_row, source_row, relay_row};
 
@@ -10,8 +8,7 @@ use scenario_words::{Cursor, LineFault};
 use std::alloc::Global;
 
 pub fn assist(words: &mut Cursor<'_>) -> Result<Step, LineFault>
-    ensures in_range { IfOk result IsInRange }
-    ensures gives { GivesNext (λ step. step) result words.new (at_row assist_row words.old) }
+    ensures { GivesNext (λ step. step) result words.new (at_row assist_row words.old) }
 {
     Ok(Step::Assist {
         sink: words.octet(0, 7)?,
@@ -20,8 +17,7 @@ pub fn assist(words: &mut Cursor<'_>) -> Result<Step, LineFault>
 }
 
 pub fn apart(words: &mut Cursor<'_>) -> Result<Step, LineFault>
-    ensures in_range { IfOk result IsInRange }
-    ensures gives { GivesNext (λ step. step) result words.new (at_row apart_row words.old) }
+    ensures { GivesNext (λ step. step) result words.new (at_row apart_row words.old) }
 {
     Ok(Step::Apart {
         sink: words.octet(0, 7)?,
@@ -30,8 +26,7 @@ pub fn apart(words: &mut Cursor<'_>) -> Result<Step, LineFault>
 }
 
 pub fn awrite(alloc: Global, words: &mut Cursor<'_>) -> Result<Step, LineFault>
-    ensures in_range { IfOk result IsInRange }
-    ensures gives { GivesNext (λ step. step) result words.new (at_row awrite_row words.old) }
+    ensures { GivesNext (λ step. step) result words.new (at_row awrite_row words.old) }
 {
     Ok(Step::AWrite {
         sink: words.octet(0, 7)?,
@@ -41,8 +36,7 @@ pub fn awrite(alloc: Global, words: &mut Cursor<'_>) -> Result<Step, LineFault>
 }
 
 pub fn aserve(words: &mut Cursor<'_>) -> Result<Step, LineFault>
-    ensures in_range { IfOk result IsInRange }
-    ensures gives { GivesNext (λ step. step) result words.new (at_row aserve_row words.old) }
+    ensures { GivesNext (λ step. step) result words.new (at_row aserve_row words.old) }
 {
     Ok(Step::AServe {
         sink: words.octet(0, 7)?,
@@ -51,8 +45,7 @@ pub fn aserve(words: &mut Cursor<'_>) -> Result<Step, LineFault>
 }
 
 pub fn atell(words: &mut Cursor<'_>) -> Result<Step, LineFault>
-    ensures in_range { IfOk result IsInRange }
-    ensures gives { GivesNext (λ step. step) result words.new (at_row atell_row words.old) }
+    ensures { GivesNext (λ step. step) result words.new (at_row atell_row words.old) }
 {
     Ok(Step::ATell {
         sink: words.octet(0, 7)?,
@@ -61,8 +54,7 @@ pub fn atell(words: &mut Cursor<'_>) -> Result<Step, LineFault>
 }
 
 pub fn aread(words: &mut Cursor<'_>) -> Result<Step, LineFault>
-    ensures in_range { IfOk result IsInRange }
-    ensures gives { GivesNext (λ step. step) result words.new (at_row aread_row words.old) }
+    ensures { GivesNext (λ step. step) result words.new (at_row aread_row words.old) }
 {
     Ok(Step::ARead {
         sink: words.octet(0, 7)?,
@@ -71,8 +63,7 @@ pub fn aread(words: &mut Cursor<'_>) -> Result<Step, LineFault>
 }
 
 pub fn adrain(words: &mut Cursor<'_>) -> Result<Step, LineFault>
-    ensures in_range { IfOk result IsInRange }
-    ensures gives { GivesNext (λ step. step) result words.new (at_row adrain_row words.old) }
+    ensures { GivesNext (λ step. step) result words.new (at_row adrain_row words.old) }
 {
     Ok(Step::ADrain {
         sink: words.octet(0, 7)?,
@@ -81,8 +72,7 @@ pub fn adrain(words: &mut Cursor<'_>) -> Result<Step, LineFault>
 }
 
 pub fn ashow(words: &mut Cursor<'_>) -> Result<Step, LineFault>
-    ensures in_range { IfOk result IsInRange }
-    ensures gives { GivesNext (λ step. step) result words.new (at_row ashow_row words.old) }
+    ensures { GivesNext (λ step. step) result words.new (at_row ashow_row words.old) }
 {
     Ok(Step::AShow {
         sink: words.octet(0, 7)?,
@@ -91,16 +81,14 @@ pub fn ashow(words: &mut Cursor<'_>) -> Result<Step, LineFault>
 }
 
 pub fn source(words: &mut Cursor<'_>) -> Result<Step, LineFault>
-    ensures in_range { IfOk result IsInRange }
-    ensures gives { GivesNext (λ step. step) result words.new (at_row source_row words.old) }
+    ensures { GivesNext (λ step. step) result words.new (at_row source_row words.old) }
 {
     let source = words.octet(0, 1)?;
     Ok(Step::Source { source })
 }
 
 pub fn relay(words: &mut Cursor<'_>) -> Result<Step, LineFault>
-    ensures in_range { IfOk result IsInRange }
-    ensures gives { GivesNext (λ step. step) result words.new (at_row relay_row words.old) }
+    ensures { GivesNext (λ step. step) result words.new (at_row relay_row words.old) }
 {
     Ok(Step::Relay {
         sink: words.octet(0, 7)?,

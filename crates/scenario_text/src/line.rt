@@ -53,7 +53,6 @@ pub fn read_line_in(alloc: Global, version: u8, line: &[u8]) -> Result<Option<St
 /// What the line reads as.
 #[tactic(auto, unfolding(crate::specs::Steps::read_of))]
 fn read(alloc: Global, version: u8, line: &[u8]) -> Result<Option<Step>, LineFault>
-    ensures in_range { IfOk result (λ read. IfSome read IsInRange) }
     ensures blank { IsBlank line.now → result ≡ Ok None }
     ensures reads { Gives (λ read. read) result (read_of version line.now) }
 {
@@ -67,8 +66,7 @@ fn read(alloc: Global, version: u8, line: &[u8]) -> Result<Option<Step>, LineFau
 /// The step of a line that is neither empty nor a comment.
 #[tactic(auto, unfolding(crate::specs::Steps::step_of))]
 fn step_of(alloc: Global, version: u8, line: &[u8]) -> Result<Step, LineFault>
-    ensures in_range { IfOk result IsInRange }
-    ensures gives { Gives (λ step. step) result (step_in version line.now) }
+    ensures { Gives (λ step. step) result (step_in version line.now) }
 {
     let mut words = Cursor::new(line);
     let name = words.word()?;
@@ -80,8 +78,7 @@ fn step_of(alloc: Global, version: u8, line: &[u8]) -> Result<Step, LineFault>
 /// The step that the words after this first word spell.
 #[tactic(auto, unfolding(crate::specs::Table::row_of))]
 fn named(alloc: Global, version: u8, name: &[u8], words: &mut Cursor<'_>) -> Result<Step, LineFault>
-    ensures in_range { IfOk result IsInRange }
-    ensures gives { GivesNext (λ step. step) result words.new (at_known (row_of version name.now) words.old) }
+    ensures { GivesNext (λ step. step) result words.new (at_known (row_of version name.now) words.old) }
 {
     if name == b"unit".as_slice() {
         return first_lines::unit(alloc, words);
@@ -136,8 +133,7 @@ fn named_of_source(
     name: &[u8],
     words: &mut Cursor<'_>,
 ) -> Result<Step, LineFault>
-    ensures in_range { IfOk result IsInRange }
-    ensures gives { GivesNext (λ step. step) result words.new (at_known (source_row_of version name.now) words.old) }
+    ensures { GivesNext (λ step. step) result words.new (at_known (source_row_of version name.now) words.old) }
 {
     if name == b"ident".as_slice() {
         return source_lines::ident(words);
@@ -174,8 +170,7 @@ fn named_of_sink(
     name: &[u8],
     words: &mut Cursor<'_>,
 ) -> Result<Step, LineFault>
-    ensures in_range { IfOk result IsInRange }
-    ensures gives { GivesNext (λ step. step) result words.new (at_known (sink_row_of version name.now) words.old) }
+    ensures { GivesNext (λ step. step) result words.new (at_known (sink_row_of version name.now) words.old) }
 {
     if name == b"pac".as_slice() {
         return sink_lines::pac(alloc, words);
@@ -236,8 +231,7 @@ fn named_of_2(
     name: &[u8],
     words: &mut Cursor<'_>,
 ) -> Result<Step, LineFault>
-    ensures in_range { IfOk result IsInRange }
-    ensures gives { GivesNext (λ step. step) result words.new (at_known (row_of_2 version name.now) words.old) }
+    ensures { GivesNext (λ step. step) result words.new (at_known (row_of_2 version name.now) words.old) }
 {
     if version != 2 {
         return Err(LineFault::BadLine { word: 0 });

@@ -1,7 +1,5 @@
 //! The lines of a sink and of its first link, behind their first words.
-ghost use Rattle.std.specs.Prelude.{IfOk};
 ghost use Rattle.scenario_words.specs.Reading.{GivesNext};
-ghost use Rattle.scenario_text.specs.Ranges.{IsInRange};
 ghost use Rattle.scenario_text.specs.Steps.{at_row};
 ghost use Rattle.scenario_text.specs.Table.{pac_row, locate_row, context_row, write_row, add_row, modify_row, remove_row, code_row, serve_row, tell_row};
 ghost use Rattle.scenario_text.specs.Table.{read_row, drain_row, show_row, lose_row, control_row, forge_row};
@@ -12,15 +10,14 @@ use scenario_words::{Cursor, LineFault};
 use std::alloc::Global;
 
 /// The most octets of an operation, and those of an Add Source and of a Modify Source before their subgroups.
-const MOST_OF_OPERATION: usize = 512;
+pub(crate) const MOST_OF_OPERATION: usize = 512;
 
-const BEFORE_ADD: usize = 16;
+pub(crate) const BEFORE_ADD: usize = 16;
 
-const BEFORE_MODIFY: usize = 6;
+pub(crate) const BEFORE_MODIFY: usize = 6;
 
 pub fn pac(alloc: Global, words: &mut Cursor<'_>) -> Result<Step, LineFault>
-    ensures in_range { IfOk result IsInRange }
-    ensures gives { GivesNext (λ step. step) result words.new (at_row pac_row words.old) }
+    ensures { GivesNext (λ step. step) result words.new (at_row pac_row words.old) }
 {
     Ok(Step::Pac {
         sink: words.octet(0, 7)?,
@@ -31,8 +28,7 @@ pub fn pac(alloc: Global, words: &mut Cursor<'_>) -> Result<Step, LineFault>
 }
 
 pub fn locate(words: &mut Cursor<'_>) -> Result<Step, LineFault>
-    ensures in_range { IfOk result IsInRange }
-    ensures gives { GivesNext (λ step. step) result words.new (at_row locate_row words.old) }
+    ensures { GivesNext (λ step. step) result words.new (at_row locate_row words.old) }
 {
     Ok(Step::Locate {
         sink: words.octet(0, 7)?,
@@ -41,8 +37,7 @@ pub fn locate(words: &mut Cursor<'_>) -> Result<Step, LineFault>
 }
 
 pub fn context(words: &mut Cursor<'_>) -> Result<Step, LineFault>
-    ensures in_range { IfOk result IsInRange }
-    ensures gives { GivesNext (λ step. step) result words.new (at_row context_row words.old) }
+    ensures { GivesNext (λ step. step) result words.new (at_row context_row words.old) }
 {
     Ok(Step::Context {
         sink: words.octet(0, 7)?,
@@ -52,8 +47,7 @@ pub fn context(words: &mut Cursor<'_>) -> Result<Step, LineFault>
 }
 
 pub fn write(alloc: Global, words: &mut Cursor<'_>) -> Result<Step, LineFault>
-    ensures in_range { IfOk result IsInRange }
-    ensures gives { GivesNext (λ step. step) result words.new (at_row write_row words.old) }
+    ensures { GivesNext (λ step. step) result words.new (at_row write_row words.old) }
 {
     Ok(Step::Write {
         sink: words.octet(0, 7)?,
@@ -62,8 +56,7 @@ pub fn write(alloc: Global, words: &mut Cursor<'_>) -> Result<Step, LineFault>
 }
 
 pub fn add(alloc: Global, words: &mut Cursor<'_>) -> Result<Step, LineFault>
-    ensures in_range { IfOk result IsInRange }
-    ensures gives { GivesNext (λ step. step) result words.new (at_row add_row words.old) }
+    ensures { GivesNext (λ step. step) result words.new (at_row add_row words.old) }
 {
     let sink = words.octet(0, 7)?;
     let op = AddSource {
@@ -79,8 +72,7 @@ pub fn add(alloc: Global, words: &mut Cursor<'_>) -> Result<Step, LineFault>
 }
 
 pub fn modify(alloc: Global, words: &mut Cursor<'_>) -> Result<Step, LineFault>
-    ensures in_range { IfOk result IsInRange }
-    ensures gives { GivesNext (λ step. step) result words.new (at_row modify_row words.old) }
+    ensures { GivesNext (λ step. step) result words.new (at_row modify_row words.old) }
 {
     let sink = words.octet(0, 7)?;
     let op = ModifySource {
@@ -93,8 +85,7 @@ pub fn modify(alloc: Global, words: &mut Cursor<'_>) -> Result<Step, LineFault>
 }
 
 pub fn remove(words: &mut Cursor<'_>) -> Result<Step, LineFault>
-    ensures in_range { IfOk result IsInRange }
-    ensures gives { GivesNext (λ step. step) result words.new (at_row remove_row words.old) }
+    ensures { GivesNext (λ step. step) result words.new (at_row remove_row words.old) }
 {
     Ok(Step::Remove {
         sink: words.octet(0, 7)?,
@@ -103,8 +94,7 @@ pub fn remove(words: &mut Cursor<'_>) -> Result<Step, LineFault>
 }
 
 pub fn code(words: &mut Cursor<'_>) -> Result<Step, LineFault>
-    ensures in_range { IfOk result IsInRange }
-    ensures gives { GivesNext (λ step. step) result words.new (at_row code_row words.old) }
+    ensures { GivesNext (λ step. step) result words.new (at_row code_row words.old) }
 {
     Ok(Step::Code {
         sink: words.octet(0, 7)?,
@@ -114,56 +104,49 @@ pub fn code(words: &mut Cursor<'_>) -> Result<Step, LineFault>
 }
 
 pub fn serve(words: &mut Cursor<'_>) -> Result<Step, LineFault>
-    ensures in_range { IfOk result IsInRange }
-    ensures gives { GivesNext (λ step. step) result words.new (at_row serve_row words.old) }
+    ensures { GivesNext (λ step. step) result words.new (at_row serve_row words.old) }
 {
     let sink = words.octet(0, 7)?;
     Ok(Step::Serve { sink })
 }
 
 pub fn tell(words: &mut Cursor<'_>) -> Result<Step, LineFault>
-    ensures in_range { IfOk result IsInRange }
-    ensures gives { GivesNext (λ step. step) result words.new (at_row tell_row words.old) }
+    ensures { GivesNext (λ step. step) result words.new (at_row tell_row words.old) }
 {
     let sink = words.octet(0, 7)?;
     Ok(Step::Tell { sink })
 }
 
 pub fn read(words: &mut Cursor<'_>) -> Result<Step, LineFault>
-    ensures in_range { IfOk result IsInRange }
-    ensures gives { GivesNext (λ step. step) result words.new (at_row read_row words.old) }
+    ensures { GivesNext (λ step. step) result words.new (at_row read_row words.old) }
 {
     let sink = words.octet(0, 7)?;
     Ok(Step::Read { sink })
 }
 
 pub fn drain(words: &mut Cursor<'_>) -> Result<Step, LineFault>
-    ensures in_range { IfOk result IsInRange }
-    ensures gives { GivesNext (λ step. step) result words.new (at_row drain_row words.old) }
+    ensures { GivesNext (λ step. step) result words.new (at_row drain_row words.old) }
 {
     let sink = words.octet(0, 7)?;
     Ok(Step::Drain { sink })
 }
 
 pub fn show(words: &mut Cursor<'_>) -> Result<Step, LineFault>
-    ensures in_range { IfOk result IsInRange }
-    ensures gives { GivesNext (λ step. step) result words.new (at_row show_row words.old) }
+    ensures { GivesNext (λ step. step) result words.new (at_row show_row words.old) }
 {
     let sink = words.octet(0, 7)?;
     Ok(Step::Show { sink })
 }
 
 pub fn lose(words: &mut Cursor<'_>) -> Result<Step, LineFault>
-    ensures in_range { IfOk result IsInRange }
-    ensures gives { GivesNext (λ step. step) result words.new (at_row lose_row words.old) }
+    ensures { GivesNext (λ step. step) result words.new (at_row lose_row words.old) }
 {
     let sink = words.octet(0, 7)?;
     Ok(Step::Lose { sink })
 }
 
 pub fn control(alloc: Global, words: &mut Cursor<'_>) -> Result<Step, LineFault>
-    ensures in_range { IfOk result IsInRange }
-    ensures gives { GivesNext (λ step. step) result words.new (at_row control_row words.old) }
+    ensures { GivesNext (λ step. step) result words.new (at_row control_row words.old) }
 {
     Ok(Step::Control {
         sink: words.octet(0, 7)?,
@@ -172,8 +155,7 @@ pub fn control(alloc: Global, words: &mut Cursor<'_>) -> Result<Step, LineFault>
 }
 
 pub fn forge(alloc: Global, words: &mut Cursor<'_>) -> Result<Step, LineFault>
-    ensures in_range { IfOk result IsInRange }
-    ensures gives { GivesNext (λ step. step) result words.new (at_row forge_row words.old) }
+    ensures { GivesNext (λ step. step) result words.new (at_row forge_row words.old) }
 {
     Ok(Step::Forge {
         sink: words.octet(0, 7)?,

@@ -1,7 +1,5 @@
 //! The lines of a source, behind their first words.
-ghost use Rattle.std.specs.Prelude.{IfOk};
 ghost use Rattle.scenario_words.specs.Reading.{GivesNext};
-ghost use Rattle.scenario_text.specs.Ranges.{IsInRange};
 ghost use Rattle.scenario_text.specs.Steps.{at_row};
 ghost use Rattle.scenario_text.specs.Table.{ident_row, subgroup_row, meta_row, bis_row, cipher_row, announce_row, train_row, terminate_row};
 
@@ -10,8 +8,7 @@ use scenario_words::{Cursor, LineFault};
 use std::alloc::Global;
 
 pub fn ident(words: &mut Cursor<'_>) -> Result<Step, LineFault>
-    ensures in_range { IfOk result IsInRange }
-    ensures gives { GivesNext (λ step. step) result words.new (at_row ident_row words.old) }
+    ensures { GivesNext (λ step. step) result words.new (at_row ident_row words.old) }
 {
     Ok(Step::Ident {
         address_type: words.octet(0, 1)?,
@@ -22,8 +19,7 @@ pub fn ident(words: &mut Cursor<'_>) -> Result<Step, LineFault>
 }
 
 pub fn subgroup(alloc: Global, words: &mut Cursor<'_>) -> Result<Step, LineFault>
-    ensures in_range { IfOk result IsInRange }
-    ensures gives { GivesNext (λ step. step) result words.new (at_row subgroup_row words.old) }
+    ensures { GivesNext (λ step. step) result words.new (at_row subgroup_row words.old) }
 {
     Ok(Step::Subgroup {
         codec: words.array()?,
@@ -32,16 +28,14 @@ pub fn subgroup(alloc: Global, words: &mut Cursor<'_>) -> Result<Step, LineFault
 }
 
 pub fn meta(alloc: Global, words: &mut Cursor<'_>) -> Result<Step, LineFault>
-    ensures in_range { IfOk result IsInRange }
-    ensures gives { GivesNext (λ step. step) result words.new (at_row meta_row words.old) }
+    ensures { GivesNext (λ step. step) result words.new (at_row meta_row words.old) }
 {
     let metadata = words.list(alloc, 255)?;
     Ok(Step::Meta { metadata })
 }
 
 pub fn bis(alloc: Global, words: &mut Cursor<'_>) -> Result<Step, LineFault>
-    ensures in_range { IfOk result IsInRange }
-    ensures gives { GivesNext (λ step. step) result words.new (at_row bis_row words.old) }
+    ensures { GivesNext (λ step. step) result words.new (at_row bis_row words.old) }
 {
     Ok(Step::Bis {
         bis: words.bis(1)?,
@@ -50,8 +44,7 @@ pub fn bis(alloc: Global, words: &mut Cursor<'_>) -> Result<Step, LineFault>
 }
 
 pub fn cipher(words: &mut Cursor<'_>) -> Result<Step, LineFault>
-    ensures in_range { IfOk result IsInRange }
-    ensures gives { GivesNext (λ step. step) result words.new (at_row cipher_row words.old) }
+    ensures { GivesNext (λ step. step) result words.new (at_row cipher_row words.old) }
 {
     Ok(Step::Cipher {
         giv: words.array()?,
@@ -60,16 +53,14 @@ pub fn cipher(words: &mut Cursor<'_>) -> Result<Step, LineFault>
 }
 
 pub fn announce(words: &mut Cursor<'_>) -> Result<Step, LineFault>
-    ensures in_range { IfOk result IsInRange }
-    ensures gives { GivesNext (λ step. step) result words.new (at_row announce_row words.old) }
+    ensures { GivesNext (λ step. step) result words.new (at_row announce_row words.old) }
 {
     let sink = words.octet(0, 7)?;
     Ok(Step::Announce { sink })
 }
 
 pub fn train(alloc: Global, words: &mut Cursor<'_>) -> Result<Step, LineFault>
-    ensures in_range { IfOk result IsInRange }
-    ensures gives { GivesNext (λ step. step) result words.new (at_row train_row words.old) }
+    ensures { GivesNext (λ step. step) result words.new (at_row train_row words.old) }
 {
     Ok(Step::Train {
         sink: words.octet(0, 7)?,
@@ -81,8 +72,7 @@ pub fn train(alloc: Global, words: &mut Cursor<'_>) -> Result<Step, LineFault>
 }
 
 pub fn terminate(words: &mut Cursor<'_>) -> Result<Step, LineFault>
-    ensures in_range { IfOk result IsInRange }
-    ensures gives { GivesNext (λ step. step) result words.new (at_row terminate_row words.old) }
+    ensures { GivesNext (λ step. step) result words.new (at_row terminate_row words.old) }
 {
     let reason = words.octet(0, 255)?;
     Ok(Step::Terminate { reason })

@@ -41,7 +41,7 @@ fn with_stream(which: BisSet, bis: Bis) -> BisSet
 }
 
 /// The octets of these subgroups in an operation: 4 of BIS_Sync, one that counts the metadata, and the metadata.
-fn octets_of_wishes(wishes: &Wishes) -> usize
+pub fn octets_of_wishes(wishes: &Wishes) -> usize
     requires few { length wishes.now ≤ 31 }
     requires short { MetadataFits wishes.now }
     ensures { result ≡ wishes_octets wishes.now }

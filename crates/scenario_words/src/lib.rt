@@ -7,6 +7,6 @@ mod digits;
 mod fault;
 mod word;
 
-pub use cursor::Cursor;
+pub use cursor::{Cursor, octets_of_wishes};
 pub use fault::LineFault;
 pub use word::decimal_within;

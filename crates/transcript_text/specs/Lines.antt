@@ -1,36 +1,25 @@
 -- The lines of a transcript, which is this project's own: a line is words with one space between each two, and the octet
 -- 0x0A. Numbers are decimal, and octets are pairs of lower-case hexadecimal digits, or `-` for none. Times are in µs.
 use Rattle.std.specs.Prelude.{ℕ, List, [], ◌∷◌, ◌++◌, length, Option, None, Some, decimal, codes}
-use Rattle.hex.specs.Hex.{encode_lower}
 use Rattle.iso_pdu.specs.Faults.{number_of}
 use Rattle.big_info.specs.Faults.{number_of as place_of}
 use Rattle.isoal_base.specs.declared.heard.Heard.TheVariants.{Malformed, WrongKind, Late, Beyond, Repeat, Kept}
 use Rattle.isoal_base.specs.declared.hearing.Hearing.{Hearing}
 use Rattle.isoal_base.specs.declared.hearing.Hearing.TheVariants.{NotOnGroup, NotTaken, NoNumber, Heard}
+use Rattle.printed_words.specs.Digits.{digits}
+use Rattle.printed_words.specs.Lines.{joined}
 use Rattle.unit_outlets.specs.Handed.{Handed, valid, lost}
 use Rattle.transcript_text.specs.declared.refusal.Refusal.{Refusal}
 use Rattle.transcript_text.specs.declared.refusal.Refusal.TheVariants.{TextTooLong, LineTooLong, BadLine, NotBuilt, AfterEnd, Order, BadGroup, BaseTooLong, IdentTwice, NoSuchSink, SinkTwice, NoOutlet}
 use Rattle.transcript_text.specs.declared.refusal.Refusal.TheVariants.{NoSuchBis, UnitTooLong, TimeOrder, Backlog, NoSuchSubevent, NotOnAir, CounterEnds, NoEnd}
 
--- the octet between two words, and the one that ends a line
-abbrev pub space : ℕ
-space = 32
-
+-- the octet that ends a line
 abbrev pub newline : ℕ
 newline = 10
 
--- what follows a word of a line: the other words, each behind a space, and the end of the line
-abbrev pub behind : List (List ℕ) → List ℕ
-behind [] = newline ∷ []
-behind (word ∷ words) = space ∷ (word ++ behind words)
-
 -- the line of a first word and others
 abbrev pub line_of : List ℕ → List (List ℕ) → List ℕ
-line_of first words = first ++ behind words
-
-abbrev pub digits : List ℕ → List ℕ
-digits [] = codes "-"
-digits (octet ∷ octets) = encode_lower (octet ∷ octets)
+line_of first words = joined first words ++ newline ∷ []
 
 -- ---- units, PDUs and sums
 

@@ -3,7 +3,6 @@
 
 mod hearing;
 mod line;
-mod octets;
 mod refusal;
 mod stop;
 mod word;

@@ -1,9 +1,10 @@
 ghost use Rattle.std.specs.Prelude.{◌≡◌, ◌++◌, OnOk, OnErr};
-ghost use Rattle.transcript_text.specs.Fronts.{AFront};
+ghost use Rattle.printed_words.specs.Fronts.{AFront};
 ghost use Rattle.transcript_text.specs.Lines.{valid_line, lost_line, pdu_line, stale_line, control_line, sum_line};
 
-use crate::word::{Word, put_line};
+use crate::word::put_line;
 use bcast_base::{Memory, Octets};
+use printed_words::Word;
 
 /// Puts the line of a unit that was rebuilt, with its time in µs.
 ///

@@ -1,6 +1,9 @@
-use Rattle.scenario_text.proofs.Steps.{is_found, is_read, is_blank}
+use Rattle.scenario_text.proofs.Steps.{is_in_range, is_found, is_read, is_blank}
 use Rattle.scenario_text.proofs.Misfits.{result_misfit}
 use Rattle.scenario_text.proofs.line.read_line_in.Goals as goal
+
+pub returns-clause-in_range : goal.returns-clause-in_range
+returns-clause-in_range c = is_in_range c.args.version c.args.line.now c.read.result c.read.ensures.reads
 
 pub returns-clause-found : goal.returns-clause-found
 returns-clause-found c = is_found c.args.version c.args.line.now c.read.result c.read.ensures.reads

@@ -1,0 +1,3 @@
+-- What upper crates may cite: how what is looked back for goes on with a step, and the notices of a step.
+pub use Rattle.delegator_states.proofs.GoesOn.{sight_goes_on}
+pub use Rattle.delegator_states.proofs.Waiting.{waiting_goes_on, no_change, none_change, one_changes}

@@ -1,0 +1,7 @@
+mod Bits
+mod GoesOn
+mod Lasts
+mod Lists
+mod Places
+mod Waiting
+pub mod Citable

@@ -1,0 +1,15 @@
+-- A line is words with one space between each two.
+use Rattle.std.specs.Prelude.{ℕ, List, [], ◌∷◌, ◌++◌}
+
+-- the octet between two words
+abbrev pub space : ℕ
+space = 32
+
+-- words, each behind a space
+abbrev pub behind : List (List ℕ) → List ℕ
+behind [] = []
+behind (word ∷ words) = space ∷ (word ++ behind words)
+
+-- the line of a first word and others
+abbrev pub joined : List ℕ → List (List ℕ) → List ℕ
+joined first words = first ++ behind words

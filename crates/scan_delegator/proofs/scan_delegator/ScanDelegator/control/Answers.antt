@@ -1,0 +1,10 @@
+use Rattle.std.proofs.Common.{refl}
+use Rattle.std.proofs.lemmas.Result.{on_ok_weaker}
+use Rattle.delegator_states.specs.States.{control_heard}
+use Rattle.scan_delegator.specs.State.Machines.{machine}
+use Rattle.scan_delegator.proofs.Standing.{stands_done}
+use Rattle.scan_delegator.proofs.scan_delegator.ScanDelegator.control.Goals as goal
+
+pub returns-clause-stands : goal.returns-clause-stands
+returns-clause-stands c =
+    on_ok_weaker c.hear_control.result (λ is steps stands. stands_done (control_heard c.args.pdu.now) steps (machine c.args.self.now) (machine c.hear_control.new.self) refl refl is stands) c.hear_control.ensures.step

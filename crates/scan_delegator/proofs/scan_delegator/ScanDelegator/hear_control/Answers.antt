@@ -1,0 +1,14 @@
+use Rattle.std.proofs.Common.{◌∙◌, ap, sym}
+use Rattle.scan_delegator.specs.State.Machines.{machine, moved}
+use Rattle.scan_delegator.proofs.Standing.{control_stays, control_leaves}
+use Rattle.scan_delegator.proofs.scan_delegator.ScanDelegator.hear_control.Goals as goal
+
+pub returns-then-not-leaves-clause-step : goal.returns-then-not-leaves-clause-step
+returns-then-not-leaves-clause-step c =
+    control_stays (machine c.args.self.now) c.args.pdu.now c.heard_control-heard.result c.leaves.result c.heard_control-heard.ensures c.leaves.ensures c.if-not-leaves.true
+
+pub returns-clause-step : goal.returns-clause-step
+returns-clause-step c =
+    c.in_ok-go.ensures.step
+    ∙ ap (λ done. moved done (machine c.args.self.now))
+    (sym (control_leaves (machine c.args.self.now) c.args.pdu.now c.heard_control-heard.result c.leaves.result c.heard_control-heard.ensures c.leaves.ensures c.if-not-leaves.false))

@@ -1,0 +1,27 @@
+use Rattle.std.proofs.Common.{◌≡◌, ◌<◌, ◌++◌, ◌∙◌, ap, sym, subst, None, Some}
+use Rattle.std.proofs.lemmas.Result.{on_ok_weaker}
+use Rattle.std.proofs.lemmas.List.{append-nil}
+use Rattle.delegator_states.specs.Sights.{slot_of}
+use Rattle.scan_delegator.specs.State.Machines.{Machine, machine}
+use Rattle.scan_delegator.proofs.Changes.{moved_none, note_done}
+use Rattle.scan_delegator.specs.State.Statuses.{status_seen}
+use Rattle.scan_delegator.proofs.scan_delegator.ScanDelegator.note_move.Goals as goal
+
+pub returns-in_default-clause-ok : goal.returns-in_default-clause-ok
+returns-in_default-clause-ok c =
+    let m : Machine = machine c.args.self.now in
+    let none : slot_of m.sight.place ≡ None = sym c.slot.ensures ∙ c.in_default.is in
+    λ i. record m { waiting = (sym (append-nil m.waiting) ∙ ap (λ more. m.waiting ++ more) (sym (moved_none m.setup.slots m.sight c.args.moves none))) i }
+
+pub returns-clause-ok : goal.returns-clause-ok
+returns-clause-ok c =
+    let m : Machine = machine c.args.self.now in
+    let is : slot_of m.sight.place ≡ Some c.in-Some.slot = sym c.slot.ensures ∙ c.in-Some.is in
+    let within : c.in-Some.slot < m.setup.slots = c.args.self.now.within c.in-Some.slot is in
+    on_ok_weaker c.note.result
+    (λ put. λ i. record m {
+      waiting = (put ∙ note_done m.setup.slots c.in-Some.slot c.from.result m.sight m.waiting c.args.moves c.index.result.now (status_seen c.status_after-status.result) _ _
+          is within (subst (λ n. c.in-Some.slot < n) c.args.self.now.slots.ok.0 within) c.from.ensures c.index.ensures c.in_ok-before.ensures
+          (c.status_after-status.ensures.same m.sight) c.in_ok-after.ensures) i;
+    })
+    c.note.ensures.ok

@@ -1,0 +1,41 @@
+ghost use Rattle.std.specs.Prelude.{◌≡◌, ◌<◌, ◌^◌, ◌++◌, ◌∷◌, [], OnOk, OnErr};
+ghost use Rattle.scan_delegator.specs.State.Slots.{AreSets};
+
+use bcast_base::{Items, Memory};
+use std::alloc::Global;
+use std::marker::Model;
+
+/// The streams that are taken of each subgroup: bit n stands for the index n + 1.
+#[derive(Drop)]
+pub(crate) struct TakenBits {
+    list: Items<u32>,
+}
+
+impl Model for TakenBits {
+    ghost use Rattle.std.specs.Prelude.{List, ℕ};
+    ghost use Rattle.scan_delegator.specs.State.Slots.{AreSets};
+
+    ghost Value = { List ℕ };
+
+    ghost view = { λ a. a.list };
+
+    ghost invariant = { λ a. AreSets a.list };
+}
+
+impl TakenBits {
+    /// None. It takes no memory.
+    pub(crate) fn new(alloc: Global) -> TakenBits
+        ensures { result ≡ [] }
+    {
+        TakenBits {
+            list: Items::new(alloc),
+        }
+    }
+
+    pub(crate) fn as_slice(&self) -> &[u32]
+        ensures same { result.now ≡ self.now }
+        ensures sets { AreSets result.now }
+    {
+        self.list.as_slice()
+    }
+}

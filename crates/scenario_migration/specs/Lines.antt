@@ -1,0 +1,36 @@
+-- The lines of a text: what stands between the octets that end a line. What stands behind the last of these is a line too.
+use Rattle.std.specs.Prelude.{ℕ, List, [], ◌∷◌, ◌++◌, ◌+◌, ◌==◌, if◌then◌else◌, length, Option, None, Some}
+use Rattle.std.specs.Borrow.{Bor}
+use Rattle.scenario_words.specs.Words.{onto_first}
+
+-- the octet that ends a line
+abbrev pub newline : ℕ
+newline = 10
+
+abbrev pub lines_of : List ℕ → List (List ℕ)
+lines_of [] = [] ∷ []
+lines_of (octet ∷ text) = if octet == newline then [] ∷ lines_of text else onto_first octet (lines_of text)
+
+-- lines, each behind the end of the one before
+abbrev pub behind : List (List ℕ) → List ℕ
+behind [] = []
+behind (line ∷ lines) = newline ∷ (line ++ behind lines)
+
+-- the text of lines
+abbrev pub text_of : List (List ℕ) → List ℕ
+text_of [] = []
+text_of (line ∷ lines) = line ++ behind lines
+
+-- the lines of what follows a line that has an end
+abbrev pub lines_after : Option (Bor (List ℕ)) → List (List ℕ)
+lines_after None = []
+lines_after (Some text) = lines_of text.now
+
+-- and its octets, with the end of that line
+abbrev pub text_after : Option (Bor (List ℕ)) → List ℕ
+text_after None = []
+text_after (Some text) = newline ∷ text.now
+
+abbrev pub octets_after : Option (Bor (List ℕ)) → ℕ
+octets_after None = 0
+octets_after (Some text) = length text.now + 1

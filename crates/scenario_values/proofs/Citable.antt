@@ -1,0 +1,3 @@
+-- What upper crates may cite: the words of a value spell it, and a value that words spell has words; a line splits into its words.
+pub use Rattle.scenario_values.proofs.Places.{EndsAt, words_fit, words_spelled, words_unspaced}
+pub use Rattle.scenario_values.proofs.Spaces.{NoSpace, NoSpaces, is_unspaced, joined_split, more_unspaced, unspaced}

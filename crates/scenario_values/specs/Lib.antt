@@ -1,0 +1,4 @@
+pub mod Fitting
+pub mod Words
+pub mod Lines
+pub mod Given

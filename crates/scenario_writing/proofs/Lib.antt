@@ -1,0 +1,5 @@
+mod LowFirst
+mod Putting
+mod Lines
+mod Rows
+mod Said

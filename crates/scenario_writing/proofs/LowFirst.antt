@@ -1,0 +1,15 @@
+-- The octets of a number as std has them are its octets with the least first.
+use Rattle.std.proofs.Common.{◌≡◌, ◌/◌, ℕ, w16, w32, refl, arith}
+use Rattle.std.specs.Int.{to_le_bytes}
+use Rattle.octet_fields.specs.Spelling.{number}
+
+pub two_low_first : (n : ℕ) → to_le_bytes w16 n ≡ number 2 n
+unfolding number
+two_low_first n = refl
+
+pub four_low_first : (n : ℕ) → to_le_bytes w32 n ≡ number 4 n
+unfolding number
+four_low_first n =
+    let at2 : n / 256 / 256 ≡ n / 65536 = omega arith in
+    let at3 : n / 65536 / 256 ≡ n / 16777216 = omega arith in
+    rw (at2, at3) refl

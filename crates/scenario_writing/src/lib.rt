@@ -1,0 +1,11 @@
+//! The line of each step of a scenario.
+#![tactic(auto)]
+
+mod laws;
+mod line;
+mod numbers;
+mod operations;
+mod streams;
+
+pub use laws::a_step_has_a_line_where_it_fits;
+pub use line::write_line;
