@@ -45,13 +45,15 @@ started_stays made own started nothing is = record {
 }
 
 phase_stays : (made : Step) (own : List Step) (phase : Phase) → SaysNothing made → PhaseIs own phase → PhaseIs (made ∷ own) phase
-phase_stays made own phases.Absent nothing is =
-    (nothing.phase own ∙ is.0, record {
-      ident = nothing.ident own ∙ is.1.ident;
-      cipher = nothing.cipher own ∙ is.1.cipher;
-      lines = nothing.lines own ∙ is.1.lines;
-      calls = nothing.calls own ∙ is.1.calls;
-    })
+phase_stays made own phases.Absent nothing is = (
+  nothing.phase own ∙ is.0,
+  record {
+    ident = nothing.ident own ∙ is.1.ident;
+    cipher = nothing.cipher own ∙ is.1.cipher;
+    lines = nothing.lines own ∙ is.1.lines;
+    calls = nothing.calls own ∙ is.1.calls;
+  },
+)
 phase_stays made own (phases.Described said) nothing is = (
   nothing.phase own ∙ is.0,
   record {

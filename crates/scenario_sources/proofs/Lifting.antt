@@ -147,9 +147,12 @@ pub terminates : (version reason : ℕ) (steps : List Step) (at : ℕ) (old new 
     → at ≡ old.chosen → old.chosen < 2 → length old.phases.items ≡ 2 → SourcesStand steps old
     → state.Terminates version (chosen_steps steps) reason phase r → new.chosen ≡ old.chosen → new.phases.items ≡ slice_set old.phases.items at phase
     → Terminates version steps reason new r
-terminates version reason steps at old new phase (Ok x) same within two stands b chosen set =
-    (fault_same version steps (Terminate reason) refl None b.0,
-    lifted (Terminate reason) steps at old new phase (record { line = λ s steps. refl; chooses = refl }) same within two stands b.1 chosen set, b.2, b.3)
+terminates version reason steps at old new phase (Ok x) same within two stands b chosen set = (
+  fault_same version steps (Terminate reason) refl None b.0,
+  lifted (Terminate reason) steps at old new phase (record { line = λ s steps. refl; chooses = refl }) same within two stands b.1 chosen set,
+  b.2,
+  b.3,
+)
 terminates version reason steps at old new phase (Err (Refused cause)) same within two stands b chosen set =
     (fault_same version steps (Terminate reason) refl (Some cause) b.0, again steps at old new phase same within two stands b.1 chosen set)
 terminates version reason steps at old new phase (Err OutletFault) same within two stands b chosen set = b

@@ -56,7 +56,7 @@ start_fault : (version first horizon : ℕ) (own : List Step) (said : Described)
     → fault_in version own (Start first) ≡ option_or g (refuse_if (is_base_too_long own) BaseTooLong)
 start_fault version first horizon own said g h is bare e =
     rw (is.0, bare) (ap (λ (f : Option Refusal). option_or f (refuse_if (is_base_too_long own) BaseTooLong))
-        (ap (λ i. group_refusal (first_fault (horizon_in version) i)) (checked_is own said is.1) ∙ ap (λ n. group_refusal (first_fault n said.info)) (sym h) ∙ sym e))
+    (ap (λ i. group_refusal (first_fault (horizon_in version) i)) (checked_is own said is.1) ∙ ap (λ n. group_refusal (first_fault n said.info)) (sym h) ∙ sym e))
 
 bare_own : (own : List Step) (said : Described) (bare : Bool) → DescribedIs own said → bare ≡ is_empty_last (last_of said.base.subgroups) → bare ≡ is_last_bare own
 bare_own own said bare is e = e ∙ ap (λ (v : Endpoint). is_empty_last (last_of v.subgroups)) is.base
@@ -141,8 +141,7 @@ may_start_plain version first horizon own said bare has base few h is e f g k n 
     let closed : is_last_bare own ≡ false = sym (bare_own own said bare is.1 e) ∙ f in
     let none : has_subgroup own ≡ false = sym (has_own own said has is.1 k) ∙ n in
     let little : is_base_too_long own ≡ false =
-    ap (λ v. nat_lt 252 (length (spelling v))) (base_is own said is.1) ∙ none_said (line_of said) (subgroups_of own) few none in
-    (
+    ap (λ v. nat_lt 252 (length (spelling v))) (base_is own said is.1) ∙ none_said (line_of said) (subgroups_of own) few none in (
       start_fault version first horizon own said None h is closed g ∙ ap (λ b. refuse_if b BaseTooLong) little,
       b ∙ sym (no_subgroups (line_of said) (subgroups_of own) none) ∙ sym (base_is own said is.1),
     )

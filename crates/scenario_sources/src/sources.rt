@@ -147,10 +147,7 @@ impl Sources {
             Ok(ready) => ready,
             Err(stop) => return Err(stop),
         };
-        if is_twice(
-            ready.identity,
-            &self.phases[usize::from(1 - self.chosen)],
-        ) {
+        if is_twice(ready.identity, &self.phases[usize::from(1 - self.chosen)]) {
             return Err(Stop::Refused(Refusal::IdentTwice));
         }
         begin(
