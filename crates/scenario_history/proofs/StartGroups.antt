@@ -92,8 +92,43 @@ first_encrypted : (greatest : ℕ) (info : BigInfo) → first_fault greatest inf
 unfolding first_fault
 first_encrypted greatest info is =
     let test : GroupFault → Bool = has_fault greatest info in
-    let found = found_last test but_last of_group.Encrypted is
-    (differs of_group.RangeIso (omega arith), (differs of_group.RangeSdu (omega arith), (differs of_group.RangePdu (omega arith), (differs of_group.Bn (omega arith), (differs of_group.NseNotMultiple (omega arith), (differs of_group.Irc (omega arith), (differs of_group.PhyNotSupported (omega arith), (differs of_group.FramedPduSmall (omega arith), (differs of_group.UnframedMultiple (omega arith), (differs of_group.UnframedBn (omega arith), (differs of_group.Horizon (omega arith), (differs of_group.SubInterval (omega arith), (differs of_group.SyncDelay (omega arith), tt))))))))))))) in
+    let found = found_last test but_last of_group.Encrypted is (
+      differs of_group.RangeIso (omega arith),
+      (
+        differs of_group.RangeSdu (omega arith),
+        (
+          differs of_group.RangePdu (omega arith),
+          (
+            differs of_group.Bn (omega arith),
+            (
+              differs of_group.NseNotMultiple (omega arith),
+              (
+                differs of_group.Irc (omega arith),
+                (
+                  differs of_group.PhyNotSupported (omega arith),
+                  (
+                    differs of_group.FramedPduSmall (omega arith),
+                    (
+                      differs of_group.UnframedMultiple (omega arith),
+                      (
+                        differs of_group.UnframedBn (omega arith),
+                        (
+                          differs of_group.Horizon (omega arith),
+                          (
+                            differs of_group.SubInterval (omega arith),
+                            (differs of_group.SyncDelay (omega arith), tt),
+                          ),
+                        ),
+                      ),
+                    ),
+                  ),
+                ),
+              ),
+            ),
+          ),
+        ),
+      ),
+    ) in
     record { holds = it_holds (test of_group.Encrypted) of_group.Encrypted found.1; none_before = before_last test found.0 }
 
 pub may_be_sent : (greatest : ℕ) (info : BigInfo) (cipher : Option Cipher) (found : Option GroupFault) → first_fault greatest (with_cipher info cipher) ≡ found

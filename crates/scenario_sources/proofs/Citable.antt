@@ -97,25 +97,105 @@ scenario_begins version steps sources stage stands = record {
 }
 
 pub sink_says : (sink streams slots : ℕ) (mtu : Option ℕ) → SaysNothing (Sink sink streams slots mtu)
-sink_says sink streams slots mtu = record { chosen = refl; phase = λ own. refl; group = λ own. refl; ident = λ own. refl; cipher = λ own. refl; lines = λ own. refl; setup = λ own going. refl; under_way = λ own going. going; calls = λ own. refl }
+sink_says sink streams slots mtu = record {
+  chosen = refl;
+  phase = λ own. refl;
+  group = λ own. refl;
+  ident = λ own. refl;
+  cipher = λ own. refl;
+  lines = λ own. refl;
+  setup = λ own going. refl;
+  under_way = λ own going. going;
+  calls = λ own. refl;
+}
 
 pub drop_says : (sink : ℕ) → SaysNothing (Drop sink)
-drop_says sink = record { chosen = refl; phase = λ own. refl; group = λ own. refl; ident = λ own. refl; cipher = λ own. refl; lines = λ own. refl; setup = λ own going. refl; under_way = λ own going. going; calls = λ own. refl }
+drop_says sink = record {
+  chosen = refl;
+  phase = λ own. refl;
+  group = λ own. refl;
+  ident = λ own. refl;
+  cipher = λ own. refl;
+  lines = λ own. refl;
+  setup = λ own going. refl;
+  under_way = λ own going. going;
+  calls = λ own. refl;
+}
 
 pub tuned_says : (sink which : ℕ) → SaysNothing (Tuned sink which)
-tuned_says sink which = record { chosen = refl; phase = λ own. refl; group = λ own. refl; ident = λ own. refl; cipher = λ own. refl; lines = λ own. refl; setup = λ own going. refl; under_way = λ own going. going; calls = λ own. refl }
+tuned_says sink which = record {
+  chosen = refl;
+  phase = λ own. refl;
+  group = λ own. refl;
+  ident = λ own. refl;
+  cipher = λ own. refl;
+  lines = λ own. refl;
+  setup = λ own going. refl;
+  under_way = λ own going. going;
+  calls = λ own. refl;
+}
 
 pub hear_says : (sink back bis subevent : ℕ) → SaysNothing (Hear sink back bis subevent)
-hear_says sink back bis subevent = record { chosen = refl; phase = λ own. refl; group = λ own. refl; ident = λ own. refl; cipher = λ own. refl; lines = λ own. refl; setup = λ own going. refl; under_way = λ own going. going; calls = λ own. refl }
+hear_says sink back bis subevent = record {
+  chosen = refl;
+  phase = λ own. refl;
+  group = λ own. refl;
+  ident = λ own. refl;
+  cipher = λ own. refl;
+  lines = λ own. refl;
+  setup = λ own going. refl;
+  under_way = λ own going. going;
+  calls = λ own. refl;
+}
 
 pub air_says : (sink lose : ℕ) → SaysNothing (Air sink lose)
-air_says sink lose = record { chosen = refl; phase = λ own. refl; group = λ own. refl; ident = λ own. refl; cipher = λ own. refl; lines = λ own. refl; setup = λ own going. refl; under_way = λ own going. going; calls = λ own. refl }
+air_says sink lose = record {
+  chosen = refl;
+  phase = λ own. refl;
+  group = λ own. refl;
+  ident = λ own. refl;
+  cipher = λ own. refl;
+  lines = λ own. refl;
+  setup = λ own going. refl;
+  under_way = λ own going. going;
+  calls = λ own. refl;
+}
 
 pub inject_says : (sink back bis subevent : ℕ) (octets : List ℕ) → SaysNothing (Inject sink back bis subevent octets)
-inject_says sink back bis subevent octets = record { chosen = refl; phase = λ own. refl; group = λ own. refl; ident = λ own. refl; cipher = λ own. refl; lines = λ own. refl; setup = λ own going. refl; under_way = λ own going. going; calls = λ own. refl }
+inject_says sink back bis subevent octets = record {
+  chosen = refl;
+  phase = λ own. refl;
+  group = λ own. refl;
+  ident = λ own. refl;
+  cipher = λ own. refl;
+  lines = λ own. refl;
+  setup = λ own going. refl;
+  under_way = λ own going. going;
+  calls = λ own. refl;
+}
 
 pub sniff_says : (back bis subevent : ℕ) → SaysNothing (Sniff back bis subevent)
-sniff_says back bis subevent = record { chosen = refl; phase = λ own. refl; group = λ own. refl; ident = λ own. refl; cipher = λ own. refl; lines = λ own. refl; setup = λ own going. refl; under_way = λ own going. going; calls = λ own. refl }
+sniff_says back bis subevent = record {
+  chosen = refl;
+  phase = λ own. refl;
+  group = λ own. refl;
+  ident = λ own. refl;
+  cipher = λ own. refl;
+  lines = λ own. refl;
+  setup = λ own going. refl;
+  under_way = λ own going. going;
+  calls = λ own. refl;
+}
 
 pub end_says : SaysNothing End
-end_says = record { chosen = refl; phase = λ own. refl; group = λ own. refl; ident = λ own. refl; cipher = λ own. refl; lines = λ own. refl; setup = λ own going. refl; under_way = λ own going. refl; calls = λ own. refl }
+end_says = record {
+  chosen = refl;
+  phase = λ own. refl;
+  group = λ own. refl;
+  ident = λ own. refl;
+  cipher = λ own. refl;
+  lines = λ own. refl;
+  setup = λ own going. refl;
+  under_way = λ own going. refl;
+  calls = λ own. refl;
+}

@@ -1,10 +1,12 @@
 -- A source whose BASE is put together, after a line that says something of it.
-use Rattle.std.proofs.Common.{ℕ, ◌≡◌, ◌≤◌, ◌<◌, ◌||◌, ◌++◌, ◌⊎◌, inl, inr, nat_lt, Bool, true, false, cond, List, [], ◌∷◌, length, Option, None, Some, Result, Ok, Err, refl, sym, ap, subst, is_some, not, unwrap_or, option_map, ◌∙◌, arith}
+use Rattle.std.proofs.Common.{ℕ, ◌≡◌, ◌≤◌, ◌<◌, ◌||◌, ◌++◌, ◌⊎◌, inl, inr, nat_lt, Bool, true, false, cond, List, [], ◌∷◌}
+use Rattle.std.proofs.Common.{length, Option, None, Some, Result, Ok, Err, refl, sym, ap, subst, is_some, not, unwrap_or, option_map, ◌∙◌, arith}
 use Rattle.std.proofs.lemmas.Bool.{le-ltb, lt-ltb}
 use Rattle.std.specs.Option.{ForSome}
 use Rattle.ltv_codec.specs.Layout.{AreLtvs}
 use Rattle.big_info.specs.declared.info.BigInfo.{BigInfo}
-use Rattle.base_grammar.specs.Draft.{Refuses, empty_fault, entry_fault, finish_fault, is_empty_last, last_of, metadata_fault, opened, size_fault, subgroup_fault, with_entry, with_last, with_metadata, with_subgroup}
+use Rattle.base_grammar.specs.Draft.{Refuses, empty_fault, entry_fault, finish_fault, is_empty_last, last_of, metadata_fault}
+use Rattle.base_grammar.specs.Draft.{opened, size_fault, subgroup_fault, with_entry, with_last, with_metadata, with_subgroup}
 use Rattle.base_grammar.specs.Layout.{Endpoint, IsConfig, endpoint, indices, is_lc3, spelling, stands_in}
 use Rattle.base_grammar.specs.declared.fault.DraftFault.{DraftFault}
 use Rattle.base_grammar.specs.declared.fault.DraftFault.TheVariants as of_draft

@@ -1,5 +1,6 @@
 -- One source after a step that means it.
-use Rattle.std.proofs.Common.{◌≡◌, ◌-◌, ◌%◌, ◌^◌, ℕ, ◌==◌, Bool, true, false, List, [], ◌∷◌, refl, sym, ◌∙◌, ap, subst, is_some, unwrap_or, option_map, if◌then◌else◌, arith, Option, None, Some, Result, Ok, Err}
+use Rattle.std.proofs.Common.{◌≡◌, ◌-◌, ◌%◌, ◌^◌, ℕ, ◌==◌, Bool, true, false, List, [], ◌∷◌, refl, sym}
+use Rattle.std.proofs.Common.{◌∙◌, ap, subst, is_some, unwrap_or, option_map, if◌then◌else◌, arith, Option, None, Some, Result, Ok, Err}
 use Rattle.base_grammar.specs.Layout.{endpoint}
 use Rattle.big_info.specs.declared.info.BigInfo.{BigInfo}
 use Rattle.big_info.specs.declared.info.Cipher.{Cipher}
@@ -20,7 +21,8 @@ use Rattle.transcript_text.specs.declared.stop.Stop.TheVariants.{Refused, Outlet
 use Rattle.scenario_text.specs.declared.step.Step.{Step}
 use Rattle.scenario_text.specs.declared.step.Step.TheVariants.{Cipher as CipherLine, Ident, Unit as UnitStep}
 use Rattle.scenario_history.specs.Bases.{subgroups_of}
-use Rattle.scenario_history.specs.Source.{GroupLine, cipher_of, end_pdu, event_back, pdu_in, absent, described, sending, phase_of, ident_of, is_ciphered, open_event, performed, setup_of, source_calls, stale_in, takes_units}
+use Rattle.scenario_history.specs.Source.{GroupLine, cipher_of, end_pdu, event_back, pdu_in, absent, described, sending}
+use Rattle.scenario_history.specs.Source.{phase_of, ident_of, is_ciphered, open_event, performed, setup_of, source_calls, stale_in, takes_units}
 use Rattle.scenario_history.specs.Steps.{is_over}
 use Rattle.scenario_history.specs.Refusals.{air_refusal, give_refusal, no_place}
 use Rattle.source_machine.specs.declared.setup.Identity.{Identity}
