@@ -1,10 +1,10 @@
 -- What upper crates may cite: a step that says nothing of the sources leaves them.
-use Rattle.std.proofs.Common.{◌≡◌, ℕ, ◌<◌, Bool, true, false, List, ◌∷◌, if◌then◌else◌, refl, sym, ◌∙◌, ap, subst, slice_get, Option, None, Some}
-use Rattle.source_machine.specs.Calls.{Call, Setup}
+use Rattle.std.proofs.Common.{◌≡◌, ℕ, Bool, true, false, List, ◌∷◌, if◌then◌else◌, refl, sym, ◌∙◌, ap, subst, slice_get, Option, None, Some}
+use Rattle.source_machine.specs.Calls.{Call}
 use Rattle.multi_source.specs.State.Broadcasts.{StandsFor}
 use Rattle.scenario_text.specs.declared.step.Step.{Step}
 use Rattle.scenario_text.specs.declared.step.Step.TheVariants.{Scenario, Sink, Tuned, Hear, Air, Inject, Sniff, Drop, End}
-use Rattle.scenario_history.specs.Steps.{chosen_given, chosen_of, is_of_source, is_unbegun, is_unbegun_at, stage_of, steps_of_source, unbegun}
+use Rattle.scenario_history.specs.Steps.{chosen_given, is_of_source, is_unbegun, is_unbegun_at, stage_of, steps_of_source, unbegun}
 use Rattle.scenario_history.specs.Source.{group_of, ident_of, phase_of, setup_of, source_calls}
 use Rattle.std.proofs.lemmas.Bool.{false≢true}
 use Rattle.scenario_history.proofs.Citable.{stage_same}
@@ -13,7 +13,7 @@ use Rattle.scenario_sources.specs.declared.phase.Phase.TheVariants as phases
 use Rattle.scenario_sources.specs.declared.phase.Started.{Started}
 use Rattle.scenario_sources.specs.declared.sources.Sources.{Sources}
 use Rattle.scenario_sources.specs.State.Phases.{PhaseAt, PhaseIs, StartedIs}
-use Rattle.scenario_sources.specs.State.Standing.{PhasesAre, SourcesStand}
+use Rattle.scenario_sources.specs.State.Standing.{SourcesStand}
 
 -- the step says nothing of a source
 pub record SaysNothing (made : Step) : Type 0 where

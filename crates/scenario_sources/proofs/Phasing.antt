@@ -1,24 +1,22 @@
 -- One source after a step that means it.
-use Rattle.std.proofs.Common.{arith, if◌then◌else◌, ◌≡◌, ◌-◌, ℕ, ◌==◌, Bool, true, false, List, [], ◌∷◌, refl, sym, ◌∙◌, ap, subst, is_some, unwrap_or, option_map, eq-eqb, Option, None, Some, Result, Ok, Err}
-use Rattle.std.specs.Option.{option_or}
+use Rattle.std.proofs.Common.{arith, if◌then◌else◌, ◌≡◌, ◌-◌, ℕ, ◌==◌, Bool, false, List, [], ◌∷◌, refl, sym, ◌∙◌, ap, subst, is_some, unwrap_or, option_map, Option, None, Some, Result, Ok, Err}
 use Rattle.big_info.specs.declared.fault.GroupFault.{GroupFault}
 use Rattle.big_info.specs.declared.info.BigInfo.{BigInfo}
 use Rattle.big_info.specs.Rows.{first_fault}
 use Rattle.source_machine.specs.Airs.{airs_of, pdu_of, stale_of}
-use Rattle.source_machine.specs.Calls.{Call, Setup, event as perform, events, give, last_of, next_of}
+use Rattle.source_machine.specs.Calls.{Call, Setup, event as perform, events, last_of, next_of}
 use Rattle.source_machine.specs.declared.sent.Stale.{Stale}
 use Rattle.source_machine.specs.declared.fault.ConfigureFault.{ConfigureFault}
 use Rattle.source_machine.specs.declared.fault.ConfigureFault.TheVariants.{BadGroup as Misfit, Memory as NoMemory}
 use Rattle.source_machine.specs.declared.fault.GiveFault.{GiveFault}
 use Rattle.source_machine.specs.Faults.{ConfigureFails, air_fault, event_fault, give_fault, refused_unit}
 use Rattle.multi_source.specs.State.Broadcasts.{Broadcasting, StandsFor}
-use Rattle.transcript_text.specs.declared.refusal.Refusal.{Refusal}
 use Rattle.transcript_text.specs.declared.refusal.Refusal.TheVariants.{BadGroup}
 use Rattle.transcript_text.specs.declared.stop.Stop.{Stop}
 use Rattle.transcript_text.specs.declared.stop.Stop.TheVariants.{Refused, OutletFault, Memory}
 use Rattle.scenario_text.specs.declared.step.Step.{Step}
 use Rattle.scenario_text.specs.declared.step.Step.TheVariants.{Event as EventStep, Ident, Start, Unit as UnitStep}
-use Rattle.scenario_history.specs.Source.{GroupLine, event_back, pdu_in, absent, described, sending, phase_of, ident_of, group_of, is_ahead_in, open_event, setup_of, setup_from, source_calls, stale_in}
+use Rattle.scenario_history.specs.Source.{GroupLine, event_back, pdu_in, absent, described, sending, phase_of, ident_of, is_ahead_in, open_event, setup_of, source_calls, stale_in}
 use Rattle.scenario_history.specs.Steps.{is_over, is_unbegun_at, running, stage_of}
 use Rattle.scenario_history.specs.Refusals.{air_refusal, counter_ends, give_refusal, horizon_in, no_place}
 use Rattle.source_machine.specs.declared.setup.Identity.{Identity}
@@ -27,7 +25,7 @@ use Rattle.scenario_sources.specs.declared.phase.Phase.TheVariants as phases
 use Rattle.scenario_sources.specs.declared.phase.Started.{Started}
 use Rattle.scenario_sources.specs.Described.{IsPlain, group_step, identity_in}
 use Rattle.scenario_sources.specs.Faults.{fault_in}
-use Rattle.scenario_sources.specs.State.Phases.{AbsentIs, Becomes, DescribedIs, IsReady, PhaseIs, StartedIs, line_of}
+use Rattle.scenario_sources.specs.State.Phases.{AbsentIs, Becomes, DescribedIs, IsReady, StartedIs}
 use Rattle.scenario_sources.specs.State.Stops.{GivesTo, GiveStops, StartStops}
 
 same_line : (i j : BigInfo) (o p d e : ℕ) → i ≡ j → o ≡ p → d ≡ e

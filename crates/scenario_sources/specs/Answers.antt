@@ -1,6 +1,5 @@
 -- What became of the sources of a scenario at a step, and what they answer.
-use Rattle.std.specs.Prelude.{ℕ, ◌≡◌, ◌<◌, ◌^◌, ◌∷◌, true, false, List, Option, None, Some, Result, Ok, Err}
-use Rattle.std.specs.Option.{ForSome}
+use Rattle.std.specs.Prelude.{ℕ, ◌≡◌, ◌<◌, ◌∷◌, true, false, List, Option, None, Some, Result, Ok, Err}
 use Rattle.big_info.specs.declared.group.Group.{Group}
 use Rattle.source_machine.specs.Airs.{airs_of}
 use Rattle.transcript_text.specs.declared.stop.Stop.{Stop}

@@ -1,5 +1,5 @@
 -- A source with its air, and the calls that it stands for (Core 5.2, volume 6 part B, section 4.4.6).
-use Rattle.std.specs.Prelude.{ℕ, ◌+◌, ◌-◌, ◌≡◌, ◌<◌, min, List, length, slice_index_or, []}
+use Rattle.std.specs.Prelude.{ℕ, ◌-◌, ◌≡◌, ◌<◌, min, List, length, slice_index_or, []}
 use Rattle.isoal_base.specs.Air.{Air}
 use Rattle.radio_schedule.specs.OnAir.{OnAir}
 use Rattle.source_machine.specs.Airs.{AreAirs, Sends}

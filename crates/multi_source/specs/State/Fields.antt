@@ -1,7 +1,6 @@
 -- Two sources side by side (Core 5.2, volume 6 part B, section 4.4.6), numbered 0 and 1, and which of them a sink is of.
 use Rattle.std.specs.Prelude.{ℕ, ◌-◌, ◌≡◌, ◌==◌, ◌&&◌, true, false, Bool, bytes_eq, if◌then◌else◌, List, [], Option, None, Some, slice_get}
 use Rattle.big_info.specs.Rows.{first_fault}
-use Rattle.radio_schedule.specs.OnAir.{OnAir}
 use Rattle.source_machine.specs.declared.setup.Identity.{Identity}
 use Rattle.source_machine.specs.declared.setup.Setup.{Setup as Given}
 use Rattle.source_machine.specs.Calls.{Setup, Call}

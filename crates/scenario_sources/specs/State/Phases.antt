@@ -1,8 +1,7 @@
 -- Where a source stands, and the steps of this source that it stands for, the newest first.
-use Rattle.std.specs.Prelude.{ℕ, ◌≡◌, ◌<◌, ◌^◌, ◌∷◌, false, List, [], Option, None, Some, option_map, Result, Ok, Err}
+use Rattle.std.specs.Prelude.{ℕ, ◌≡◌, ◌∷◌, false, List, [], Option, None, Some, option_map, Result, Ok, Err}
 use Rattle.source_machine.specs.Airs.{airs_of}
 use Rattle.multi_source.specs.State.Broadcasts.{StandsFor}
-use Rattle.transcript_text.specs.declared.refusal.Refusal.{Refusal}
 use Rattle.transcript_text.specs.declared.stop.Stop.{Stop}
 use Rattle.transcript_text.specs.declared.stop.Stop.TheVariants.{Refused, OutletFault, Memory}
 use Rattle.scenario_text.specs.declared.step.Step.{Step}

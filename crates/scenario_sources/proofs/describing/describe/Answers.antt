@@ -1,5 +1,4 @@
-use Rattle.std.proofs.Common.{refl, subst, List}
-use Rattle.scenario_sources.specs.State.Phases.{PhaseIs}
+use Rattle.std.proofs.Common.{refl}
 use Rattle.scenario_sources.proofs.Phasing.{describes}
 use Rattle.scenario_sources.proofs.describing.describe.Goals as goal
 

@@ -14,6 +14,10 @@ returns-in-Ok-clause-performs c version own is =
     let new : Started = record { identity = c.in-Sending.started.identity; source = c.event.new.self } in
     let setup = old.source.source.setup in
     let all = performs version own old new c.last_event-closed.result said refl c.event.ensures.setup (c.in-Ok.ensures.ok (source_calls own) said.1.calls)
-    (c.last_event-closed.ensures.calls (source_calls own) said.1.calls) in
-    (all.passes, (said.0, all.started), all.closes, left_out own setup c.in-Ok.stale said.1.setup
-    (c.in-Ok.ensures.stale (source_calls own) (airs_of setup (event ∷ source_calls own)) said.1.calls (airs_exist setup (event ∷ source_calls own) c.event.ensures.checked)))
+    (c.last_event-closed.ensures.calls (source_calls own) said.1.calls) in (
+      all.passes,
+      (said.0, all.started),
+      all.closes,
+      left_out own setup c.in-Ok.stale said.1.setup
+          (c.in-Ok.ensures.stale (source_calls own) (airs_of setup (event ∷ source_calls own)) said.1.calls (airs_exist setup (event ∷ source_calls own) c.event.ensures.checked)),
+    )

@@ -1,4 +1,4 @@
-use Rattle.std.proofs.Common.{◌∷◌, ◌∙◌, sym, subst, ap}
+use Rattle.std.proofs.Common.{◌∷◌, ◌∙◌, sym, subst}
 use Rattle.source_machine.specs.Airs.{Sends}
 use Rattle.source_machine.specs.Calls.{event}
 use Rattle.multi_source.specs.State.Broadcasts.{IsOnAir}

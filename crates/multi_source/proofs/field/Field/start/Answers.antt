@@ -1,5 +1,4 @@
 use Rattle.std.proofs.Common.{ap, refl, ◌∙◌}
-use Rattle.big_info.specs.declared.info.BigInfo.{BigInfo}
 use Rattle.radio_schedule.specs.OnAir.{silence}
 use Rattle.source_machine.specs.Calls.{Setup}
 use Rattle.source_machine.specs.Setups.{Configured, configured, started}

@@ -1,7 +1,6 @@
-use Rattle.std.proofs.Common.{refl, sym, ◌∙◌, arith}
-use Rattle.scenario_text.specs.declared.step.Step.TheVariants.{Ident as IdentStep, Unit as UnitStep}
+use Rattle.std.proofs.Common.{refl, sym, ◌∙◌}
+use Rattle.scenario_text.specs.declared.step.Step.TheVariants.{Unit as UnitStep}
 use Rattle.scenario_history.specs.Steps.{chosen_steps}
-use Rattle.scenario_sources.specs.Described.{group_step}
 use Rattle.scenario_sources.proofs.Lifting.{answers, chosen_read}
 use Rattle.scenario_sources.proofs.sources.Sources.give.Goals as goal
 

@@ -1,4 +1,4 @@
-use Rattle.std.proofs.Common.{◌≡◌, ◌-◌, ◌<◌, ℕ, refl, sym, ◌∙◌, ap, subst, arith}
+use Rattle.std.proofs.Common.{◌-◌, ◌<◌, refl, sym, ◌∙◌, ap, arith}
 use Rattle.scenario_history.specs.Steps.{chosen_of, chosen_steps, steps_of_source}
 use Rattle.scenario_text.specs.declared.step.Step.TheVariants.{Start}
 use Rattle.scenario_history.proofs.Citable.{stage_same}
