@@ -8,9 +8,7 @@ use source_machine::{EventFault, GiveFault, Identity, Setup, SourceIdle, SourceS
 use std::alloc::Global;
 
 /// One stream of a unit every 10 ms in PDUs of at most 4 octets on LE 2M.
-fn info(max_sdu: u16, bn: u8, nse: u8, irc: u8, pto: u8) -> BigInfo
-    ensures { result.framing ≡ 0 }
-{
+fn info(max_sdu: u16, bn: u8, nse: u8, irc: u8, pto: u8) -> BigInfo {
     BigInfo {
         big_offset: 0,
         big_offset_units: 0,
@@ -57,7 +55,6 @@ fn setup(info: BigInfo) -> Setup
 /// A source of this group with its first event, or none where the group or memory is wanting.
 fn started(alloc: Global, info: BigInfo, first: u64) -> Result<Broadcast, &'static str>
     requires widths { FitsWidths info }
-    requires unframed { info.framing ≡ 0 }
     requires first { first < 2 ^ 39 }
 {
     let Ok(configured) = SourceIdle::new(alloc).configure(setup(info)) else {
@@ -174,4 +171,30 @@ fn no_more_than_16_units_wait(rt: HostRuntime) {
         assert!(rt; source.give(one, None, &[0xAA]).is_ok());
     }
     assert!(rt; source.give(one, None, &[0xAA]) == Err(GiveFault::Backlog));
+}
+
+#[test]
+fn a_unit_whose_turn_comes_too_late_is_told(rt: HostRuntime) -> Result<(), Fail> {
+    let mut info = info(4, 1, 1, 1, 0);
+    info.framing = 1;
+    info.max_pdu = 8;
+    assert!(rt; info.fits());
+    let mut setup = setup(info);
+    setup.origin = 20_000_000;
+    let Ok(configured) = SourceIdle::new(rt.alloc()).configure(setup) else {
+        return Err("no group".into());
+    };
+    let Ok(mut source) = configured.start(0) else {
+        return Err("no memory".into());
+    };
+    let one = Bis::new(1).ok_or("no stream")?;
+    source.give(one, Some(7), &[0xC0])?;
+    source.give(one, Some(19_999_000), &[0xC1])?;
+    let sent = source.event()?;
+    assert!(rt; sent.pdus.count() == 1);
+    match sent.stale.as_slice() {
+        [late] => assert!(rt; late.bis == one && late.time == 7),
+        _ => return Err("one unit too late".into()),
+    }
+    Ok(())
 }
