@@ -41,9 +41,15 @@ fn info(max_sdu: u16, bn: u8, nse: u8, irc: u8, pto: u8) -> BigInfo
 /// A BASE of a presentation delay of 40 ms and one stream of a codec other than LC3.
 const BASE: [u8; 14] = [0x40, 0x9c, 0, 1, 1, 0xff, 1, 0, 2, 0, 0, 0, 1, 0];
 
-/// The source of a group, whose first event is at 20 ms, or none where the group or memory is wanting.
-fn configured(alloc: Global, info: BigInfo) -> Result<SourceConfigured, &'static str>
+/// The source of a group, whose first event is at this time in µs, or none where the group or memory is wanting.
+fn configured(
+    alloc: Global,
+    info: BigInfo,
+    origin: u64,
+) -> Result<SourceConfigured, &'static str>
     requires widths { FitsWidths info }
+    requires least { 3000 ≤ origin }
+    requires greatest { origin ≤ 2 ^ 48 }
     ensures { IfOk result (λ source. source.cipher ≡ info.cipher) }
 {
     let Ok(base) = decode_base(alloc, &BASE) else {
@@ -58,7 +64,7 @@ fn configured(alloc: Global, info: BigInfo) -> Result<SourceConfigured, &'static
         },
         info,
         base,
-        origin: 20000,
+        origin,
     };
     let Ok(configured) = SourceIdle::new(alloc).configure(setup) else {
         return Err("no group");
@@ -72,7 +78,7 @@ fn streaming(alloc: Global, info: BigInfo, first: u64) -> Result<SourceStreaming
     requires first { first < 2 ^ 39 }
     ensures { IfOk result (λ source. source.cipher ≡ info.cipher) }
 {
-    let Ok(source) = configured(alloc, info)?.start(first) else {
+    let Ok(source) = configured(alloc, info, 20000)?.start(first) else {
         return Err("no memory");
     };
     Ok(source)
@@ -84,7 +90,7 @@ fn started(alloc: Global, info: BigInfo, first: u64) -> Result<Broadcast, &'stat
     requires first { first < 2 ^ 39 }
     ensures { IfOk result (λ broadcast. broadcast.source.cipher ≡ info.cipher) }
 {
-    let Ok(source) = Broadcast::start(alloc, configured(alloc, info)?, first) else {
+    let Ok(source) = Broadcast::start(alloc, configured(alloc, info, 20000)?, first) else {
         return Err("no memory");
     };
     Ok(source)
@@ -266,4 +272,25 @@ fn an_encrypted_group_is_announced(rt: HostRuntime) {
         Ok(train) => assert!(rt; matches!(train.acad.as_slice(), [0x3a, 0x2c, 0x64, ..])),
         Err(_) => assert!(rt; false),
     }
+}
+
+#[test]
+fn a_unit_whose_turn_comes_too_late_is_told(rt: HostRuntime) -> Result<(), Fail> {
+    let mut info = info(4, 1, 1, 1, 0);
+    info.framing = 1;
+    info.max_pdu = 8;
+    assert!(rt; info.fits());
+    let Ok(mut source) = configured(rt.alloc(), info, 20_000_000)?.start(0) else {
+        return Err("no memory".into());
+    };
+    let one = Bis::new(1).ok_or("no stream")?;
+    source.give(one, Some(7), &[0xC0])?;
+    source.give(one, Some(19_999_000), &[0xC1])?;
+    let sent = source.event()?;
+    assert!(rt; sent.pdus.count() == 1);
+    match sent.stale.as_slice() {
+        [late] => assert!(rt; late.bis == one && late.time == 7),
+        _ => return Err("one unit too late".into()),
+    }
+    Ok(())
 }

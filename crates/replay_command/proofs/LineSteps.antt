@@ -6,6 +6,7 @@ use Rattle.bcast_io.specs.declared.line_reader.LineRead.{LineRead}
 use Rattle.bcast_io.specs.declared.line_reader.LineRead.TheVariants.{Line, LineTooLong, TextTooLong}
 use Rattle.bcast_io.specs.declared.source.Failed.{Failed}
 use Rattle.unit_outlets.specs.Account.{Account}
+use Rattle.source_machine.specs.Airs.{airs_of}
 use Rattle.transcript_text.specs.declared.refusal.Refusal.{Refusal}
 use Rattle.transcript_text.specs.declared.refusal.Refusal.TheVariants as refusals
 use Rattle.replay_command.specs.declared.status.Status.{Status}

@@ -1,7 +1,6 @@
 -- What a call did over one air it did over any other that gives the same transcripts.
-use Rattle.std.proofs.Common.{◌≡◌, ◌≢◌, ◌≤◌, ◌<◌, ℕ, Bool, true, false, List, [], ◌∷◌, ◌++◌, length, reverse, sym, ap, subst, ◌∙◌, Option, inl, inr}
+use Rattle.std.proofs.Common.{◌≡◌, ◌≤◌, ◌<◌, ℕ, Bool, true, false, List, ◌∷◌, ◌++◌, length, reverse, sym, ap, subst, ◌∙◌, Option, inl, inr}
 use Rattle.std.specs.Io.KnownBytes.{Appends}
-use Rattle.bcast_base.specs.Counts.{Rose}
 use Rattle.bcast_io.specs.TextLines.{TextLine, lines_of}
 use Rattle.bcast_io.specs.Writing.{AppendsFront}
 use Rattle.unit_outlets.specs.Account.{Account}

@@ -1,6 +1,6 @@
 -- The PDUs of the air that a sink hears.
-use Rattle.std.proofs.Common.{◌≡◌, ℕ, zero, suc, ◌+◌, ◌-◌, ◌*◌, ◌/◌, ◌%◌, ◌<◌, ◌≤◌, ◌==◌, ◌&&◌, ◌++◌, ◌∷◌, Bool, true, false, not, is_some, nat_le, if◌then◌else◌, List, length, Option}
-use Rattle.std.proofs.Common.{None, Some, option_map, Result, Ok, Err, refl, sym, ◌∙◌, ap, subst, add-one, ne_eqb, arith}
+use Rattle.std.proofs.Common.{◌≡◌, ℕ, zero, suc, ◌+◌, ◌*◌, ◌/◌, ◌%◌, ◌<◌, ◌≤◌, ◌==◌, ◌++◌, ◌∷◌, Bool, true, false, not, is_some, nat_le, if◌then◌else◌, List, length, Option}
+use Rattle.std.proofs.Common.{None, Some, option_map, Ok, Err, refl, sym, ◌∙◌, ap, subst, add-one, ne_eqb, arith}
 use Rattle.std.proofs.lemmas.Bool.{le-ltb}
 use Rattle.std.proofs.lemmas.Nat.{div_below, mod_below}
 use Rattle.std.specs.Option.{option_or}
@@ -10,7 +10,7 @@ use Rattle.big_info.specs.declared.info.BigInfo.{BigInfo}
 use Rattle.source_machine.specs.Airs.{airs_of}
 use Rattle.source_machine.specs.Calls.{events}
 use Rattle.source_machine.specs.Faults.{air_fault}
-use Rattle.delegator_machine.specs.Calls.{Call, hear}
+use Rattle.delegator_machine.specs.Calls.{Call}
 use Rattle.isoal_base.specs.declared.hearing.Hearing.{Hearing}
 use Rattle.transcript_text.specs.Lines.{heard_line, pdu_line}
 use Rattle.transcript_text.specs.declared.refusal.Refusal.{Refusal}
@@ -21,10 +21,10 @@ use Rattle.scenario_text.specs.declared.step.Step.{Step}
 use Rattle.scenario_text.specs.declared.step.Step.TheVariants.{Air, Hear, Inject, Sniff}
 use Rattle.scenario_history.specs.Steps.{chosen_of, chosen_steps, running, stage_of}
 use Rattle.scenario_history.specs.Source.{event_back, is_heard, pdu_in, performed, setup_of, source_calls}
-use Rattle.scenario_history.specs.Sinks.{Spot, hear_at, heard_on_air, is_lost, is_of, reaches, sink_calls, source_of, spot_at, spots_of, unless_lost}
+use Rattle.scenario_history.specs.Sinks.{Spot, hear_at, heard_on_air, is_lost, reaches, sink_calls, source_of, spot_at, unless_lost}
 use Rattle.scenario_history.specs.Boxes.{box_of}
 use Rattle.scenario_history.specs.Output.{injected_hearing}
-use Rattle.scenario_history.specs.Refusals.{air_refusal, no_place, no_sink, own_refusal, phase_refusal, refuse_if, source_refusal}
+use Rattle.scenario_history.specs.Refusals.{air_refusal, no_place, no_sink, phase_refusal, refuse_if, source_refusal}
 use Rattle.scenario_sources.specs.Answers.{NoPlace}
 use Rattle.scenario_sources.specs.declared.sources.Sources.{Sources}
 use Rattle.scenario_sources.specs.State.Standing.{SourcesStand}
@@ -33,7 +33,7 @@ use Rattle.scenario_sinks.specs.declared.sinks.Sinks.{Sinks}
 use Rattle.scenario_sinks.specs.Hearing.{Hears, hearing_by}
 use Rattle.scenario_sinks.specs.Pasts.{Past, with_hearing}
 use Rattle.scenario_sinks.specs.State.Standing.{SinksStand}
-use Rattle.scenario_sinks.proofs.Citable.{SamePast, stands_same}
+use Rattle.scenario_sinks.proofs.Citable.{stands_same}
 use Rattle.replay_steps.specs.declared.machine.Machine.{Machine}
 use Rattle.replay_steps.specs.Airing.{OnAir, Reaches, past_on_air}
 use Rattle.replay_steps.specs.Machines.{Stands, past_of}

@@ -1,7 +1,6 @@
 -- The sums of the boxes, and the end of a scenario.
-use Rattle.std.proofs.Common.{◌≡◌, ℕ, zero, suc, ◌+◌, ◌<◌, ◌≤◌, List, [], ◌∷◌, ◌++◌, length, Bool, true, false, inl, inr, is_some, not, ne_eqb, refl, sym, ◌∙◌, ap, subst, append-nil}
-use Rattle.std.proofs.Common.{append_assoc, if◌then◌else◌, arith, Option, None, Some, Result, Ok, Err}
-use Rattle.std.specs.Option.{option_or}
+use Rattle.std.proofs.Common.{◌≡◌, ℕ, zero, suc, ◌+◌, ◌<◌, ◌≤◌, List, [], ◌∷◌, ◌++◌, length, inr, ne_eqb, refl, sym, ◌∙◌, ap, subst, append-nil}
+use Rattle.std.proofs.Common.{append_assoc, arith, Option, None, Some, Result, Ok, Err}
 use Rattle.std.specs.List.{flat_map}
 use Rattle.unit_outlets.specs.Account.{Account}
 use Rattle.source_machine.specs.Airs.{airs_of}
@@ -14,8 +13,8 @@ use Rattle.scenario_text.specs.declared.step.Step.TheVariants.{Drop, End}
 use Rattle.scenario_history.specs.Steps.{over, running, sinks_made, stage_of, steps_of_source}
 use Rattle.scenario_history.specs.Source.{open_event}
 use Rattle.scenario_history.specs.Sinks.{is_of, sink_calls, source_of, ticked_if}
-use Rattle.scenario_history.specs.Boxes.{SinkUnit, account_at, accounts_after, box_of, closing, closing_both, closing_by, handed_by, handed_up, sink_numbers, valid_for}
-use Rattle.scenario_history.specs.Output.{output_of, sum_if, sum_of, unit_lines}
+use Rattle.scenario_history.specs.Boxes.{SinkUnit, account_at, accounts_after, box_of, closing, closing_both, closing_by, handed_up, sink_numbers, valid_for}
+use Rattle.scenario_history.specs.Output.{sum_if, sum_of, unit_lines}
 use Rattle.scenario_history.specs.Refusals.{no_sink, phase_refusal}
 use Rattle.scenario_history.proofs.Citable.{box_was_made, octets_add_up, units_add_up}
 use Rattle.scenario_sources.specs.declared.sources.Sources.{Sources}

@@ -1,5 +1,5 @@
 -- What the sinks of a scenario hear of the air of the chosen source (Core 5.2, volume 6 part B, section 4.4.6).
-use Rattle.std.specs.Prelude.{ℕ, ◌≡◌, ◌<◌, ◌&&◌, ◌==◌, not, true, is_some, List, Option, Some, Result, Ok, Err, if◌then◌else◌}
+use Rattle.std.specs.Prelude.{ℕ, ◌≡◌, ◌<◌, not, true, is_some, List, Some, Result, Ok, Err, if◌then◌else◌}
 use Rattle.std.specs.Option.{option_or}
 use Rattle.big_info.specs.declared.group.Group.{Group}
 use Rattle.source_machine.specs.Airs.{airs_of}
@@ -7,7 +7,7 @@ use Rattle.transcript_text.specs.declared.refusal.Refusal.TheVariants.{Order}
 use Rattle.transcript_text.specs.declared.stop.Stop.{Stop}
 use Rattle.transcript_text.specs.declared.stop.Stop.TheVariants.{Refused, OutletFault, Memory}
 use Rattle.scenario_text.specs.declared.step.Step.{Step}
-use Rattle.scenario_history.specs.Steps.{chosen_of, chosen_steps, sinks_made}
+use Rattle.scenario_history.specs.Steps.{chosen_steps, sinks_made}
 use Rattle.scenario_history.specs.Source.{event_back, is_heard, performed, setup_of}
 use Rattle.scenario_history.specs.Sinks.{heard_on_air, reaches, sink_calls, source_of}
 use Rattle.scenario_history.specs.Boxes.{box_of}

@@ -79,11 +79,10 @@ impl Machine {
         ensures { (boxes version sink : ℕ) (steps : List Step) → Stands steps self.now → stage_of steps ≡ running version
             → Quiet boxes steps (AnnounceStep sink) self.now result }
     {
-        if self.sources.is_sending() {
-            Err(Stop::Refused(Refusal::NotBuilt))
-        } else {
-            Err(Stop::Refused(Refusal::Order))
+        if !self.sources.is_sending() {
+            return Err(Stop::Refused(Refusal::Order));
         }
+        Err(Stop::Refused(Refusal::NotBuilt))
     }
 
     /// `start`: starts the chosen source.

@@ -1,6 +1,6 @@
-use Rattle.std.proofs.Common.{◌≡◌, ◌∙◌, sym, map, refl, string_bytes}
+use Rattle.std.proofs.Common.{◌∙◌, sym, map, string_bytes}
 use Rattle.replay_words.specs.Words.{mode_of}
-use Rattle.replay_command.specs.World.{World, world_of}
+use Rattle.replay_command.specs.World.{world_of}
 use Rattle.source_machine.specs.Airs.{airs_of}
 use Rattle.replay_command.proofs.Promises.{AllSame, promised_run, in_replay, in_memory}
 use Rattle.replay_command.proofs.replay.replay.Goals as goal

@@ -1,8 +1,7 @@
-use Rattle.std.proofs.Common.{◌≡◌, ℕ, ◌+◌, ◌/◌, ◌%◌, ◌<◌, ◌≤◌, ◌^◌, true, false, refl, sym, ◌∙◌, ap, arith}
+use Rattle.std.proofs.Common.{◌≡◌, ◌+◌, ◌/◌, ◌%◌, ◌<◌, ◌^◌, true, false, ◌∙◌, ap, arith}
 use Rattle.big_info.specs.declared.info.BigInfo.{BigInfo}
 use Rattle.scenario_history.specs.Steps.{chosen_steps}
-use Rattle.scenario_history.specs.Source.{event_back, setup_of}
-use Rattle.scenario_history.specs.Sinks.{Spot, is_lost, spot_at}
+use Rattle.scenario_history.specs.Source.{setup_of}
 use Rattle.replay_steps.proofs.Airing.{heard_next, lost_as, lost_next, no_place_there, spot_within}
 use Rattle.replay_steps.proofs.air_steps.hear_spot.Goals as goal
 

@@ -1,4 +1,6 @@
-use Rattle.std.proofs.Common.{◌∷◌, refl}
+use Rattle.std.proofs.Common.{◌∷◌, ◌++◌, ◌∙◌, List, ap, refl}
+use Rattle.source_machine.specs.declared.sent.Stale.{Stale}
+use Rattle.scenario_history.specs.Output.{stale_lines}
 use Rattle.scenario_text.specs.declared.step.Step.TheVariants.{Event as EventStep}
 use Rattle.replay_steps.specs.Machines.{past_of}
 use Rattle.replay_steps.proofs.Closing.{close_stops, closes_all, event_meets, event_refused, event_wants}
@@ -12,7 +14,7 @@ returns-in-Err g c starts version steps stands e =
 pub returns-in-Err-close : goal.returns-in-Err-close
 returns-in-Err-close g c starts version steps stands e =
     let performed = c.in-Ok.ensures.performs version steps stands.sources in
-    close_stops starts version c.chosen.result steps EventStep c.in-Ok.performed.closed c.close.new.self _ c.args.text.now c.close.new.text _ _ c.in-Err-close.stop
+    close_stops starts version c.chosen.result steps EventStep c.in-Ok.performed.closed c.close.new.self c.args.self.now c.args.text.now c.close.new.text _ _ c.in-Err-close.stop
     (record { stage = λ stage. refl; placed = λ v. refl; refusal = λ boxes steps. refl }) (record { past = λ steps. refl; handed = λ steps. refl })
     e performed.0 performed.2 (c.chosen.ensures.source (EventStep ∷ steps) performed.1) (c.in-Err-close.ensures (past_of steps) stands.sinks)
 
@@ -23,12 +25,12 @@ returns-in-Ok-put_stale_units g c starts version steps stands e =
     (closes_all starts version c.chosen.result steps EventStep c.in-Ok.performed.closed c.args.self.now _ c.args.text.now c.close.new.text _ _
     (record { stage = λ stage. refl; placed = λ v. refl; refusal = λ boxes steps. refl }) (record { past = λ steps. refl; handed = λ steps. refl })
     stands e performed.0 performed.1 performed.2 (c.chosen.ensures.source (EventStep ∷ steps) performed.1) refl (c.in-Ok-close.ensures (past_of steps) stands.sinks))
-    performed.3 c.in-Ok-put_stale_units.ensures
+    performed.3 (c.in-Ok-put_stale_units.ensures ∙ ap (λ (us : List Stale). c.close.new.text ++ stale_lines us) c.as_slice.ensures)
 
-pub returns-in-Err-put_stale_units : goal.returns-in-Err-put_stale_units
-returns-in-Err-put_stale_units g c starts version steps stands e =
+pub returns : goal.returns
+returns g c starts version steps stands e =
     let performed = c.in-Ok.ensures.performs version steps stands.sources in
-    event_wants starts steps (record c.args.self.now { sources = c.perform.new.self; sinks = c.close.new.self }) _ c.args.text.now c.close.new.text c.put_stale_units.new.text _ _
+    event_wants starts steps (record c.args.self.now { sources = c.perform.new.self; sinks = c.close.new.self }) c.args.self.now c.args.text.now c.close.new.text c.put_stale_units.new.text _ _
     (closes_all starts version c.chosen.result steps EventStep c.in-Ok.performed.closed c.args.self.now _ c.args.text.now c.close.new.text _ _
     (record { stage = λ stage. refl; placed = λ v. refl; refusal = λ boxes steps. refl }) (record { past = λ steps. refl; handed = λ steps. refl })
     stands e performed.0 performed.1 performed.2 (c.chosen.ensures.source (EventStep ∷ steps) performed.1) refl (c.in-Ok-close.ensures (past_of steps) stands.sinks))

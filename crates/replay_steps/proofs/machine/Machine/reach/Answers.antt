@@ -1,5 +1,4 @@
 use Rattle.std.proofs.Common.{sym, ◌∙◌}
-use Rattle.scenario_history.specs.Boxes.{box_of}
 use Rattle.replay_steps.specs.Machines.{past_of}
 use Rattle.replay_steps.proofs.Airing.{no_sink_there}
 use Rattle.replay_steps.proofs.machine.Machine.reach.Goals as goal

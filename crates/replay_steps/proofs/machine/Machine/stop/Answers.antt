@@ -1,5 +1,5 @@
 use Rattle.std.proofs.Common.{◌∷◌, refl}
-use Rattle.scenario_text.specs.declared.step.Step.TheVariants.{Event as EventStep, Stop as StopStep}
+use Rattle.scenario_text.specs.declared.step.Step.TheVariants.{Stop as StopStep}
 use Rattle.replay_steps.specs.Machines.{past_of}
 use Rattle.replay_steps.proofs.Closing.{close_refused, closes_meet}
 use Rattle.replay_steps.proofs.machine.Machine.stop.Goals as goal

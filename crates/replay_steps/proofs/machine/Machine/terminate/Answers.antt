@@ -12,7 +12,7 @@ returns-in-Err g c starts version steps stands e =
 pub returns-in-Err-close : goal.returns-in-Err-close
 returns-in-Err-close g c starts version steps stands e =
     let performed = c.in-Ok.ensures.ends version steps stands.sources in
-    close_stops starts version c.chosen.result steps (TerminateStep c.args.reason) c.in-Ok.terminated.closed c.close.new.self _ c.args.text.now c.close.new.text _ _ c.in-Err-close.stop
+    close_stops starts version c.chosen.result steps (TerminateStep c.args.reason) c.in-Ok.terminated.closed c.close.new.self c.args.self.now c.args.text.now c.close.new.text _ _ c.in-Err-close.stop
     (record { stage = λ stage. refl; placed = λ v. refl; refusal = λ boxes steps. refl }) (record { past = λ steps. refl; handed = λ steps. refl })
     e performed.0 performed.2 (c.chosen.ensures.source ((TerminateStep c.args.reason) ∷ steps) performed.1) (c.in-Err-close.ensures (past_of steps) stands.sinks)
 
@@ -25,10 +25,11 @@ returns-in-Ok-put_control g c starts version steps stands e =
     stands e performed.0 performed.1 performed.2 (c.chosen.ensures.source ((TerminateStep c.args.reason) ∷ steps) performed.1) refl (c.in-Ok-close.ensures (past_of steps) stands.sinks))
     performed.3 c.in-Ok-put_control.ensures.ok
 
-pub returns-in-Err-put_control : goal.returns-in-Err-put_control
-returns-in-Err-put_control g c starts version steps stands e =
+pub returns : goal.returns
+returns g c starts version steps stands e =
     let performed = c.in-Ok.ensures.ends version steps stands.sources in
-    terminate_wants starts steps c.args.reason (record c.args.self.now { sources = c.terminate.new.self; sinks = c.close.new.self }) _ c.args.text.now c.close.new.text c.put_control.new.text _ _
+    terminate_wants starts steps c.args.reason (record c.args.self.now { sources = c.terminate.new.self; sinks = c.close.new.self }) c.args.self.now c.args.text.now c.close.new.text
+    c.put_control.new.text _ _
     (closes_all starts version c.chosen.result steps (TerminateStep c.args.reason) c.in-Ok.terminated.closed c.args.self.now _ c.args.text.now c.close.new.text _ _
     (record { stage = λ stage. refl; placed = λ v. refl; refusal = λ boxes steps. refl }) (record { past = λ steps. refl; handed = λ steps. refl })
-    stands e performed.0 performed.1 performed.2 (c.chosen.ensures.source ((TerminateStep c.args.reason) ∷ steps) performed.1) refl (c.in-Ok-close.ensures (past_of steps) stands.sinks))
+    stands e performed.0 performed.1 performed.2 (c.chosen.ensures.source (TerminateStep c.args.reason ∷ steps) performed.1) refl (c.in-Ok-close.ensures (past_of steps) stands.sinks))

@@ -1,7 +1,5 @@
 use Rattle.std.proofs.Common.{refl}
-use Rattle.scenario_text.specs.declared.step.Step.TheVariants.{Ident as IdentStep, Start as StartStep, Unit as UnitStep}
-use Rattle.scenario_sources.specs.Described.{group_step}
-use Rattle.replay_steps.specs.Versions.{number_of}
+use Rattle.scenario_text.specs.declared.step.Step.TheVariants.{Unit as UnitStep}
 use Rattle.replay_steps.proofs.Stepping.{sources_meet}
 use Rattle.replay_steps.proofs.machine.Machine.unit.Goals as goal
 
