@@ -26,7 +26,7 @@ returns-in-Tuned g c starts steps stands e boxes =
 pub returns-in-Unit : goal.returns-in-Unit
 returns-in-Unit g c starts steps stands e boxes =
     quiet_as starts (length starts) steps c.args.step _ c.unit.new.self c.args.text.now _ c.unit.result (c.in-Unit.is ∙ ap (λ octets. UnitStep c.in-Unit.bis c.in-Unit.time octets) (sym
-    c.as_slice.ensures)) refl refl refl (c.unit.ensures (length starts) (number_of c.args.version) steps stands e)
+    c.as_slice-in-Unit.ensures)) refl refl refl (c.unit.ensures (length starts) (number_of c.args.version) steps stands e)
 
 pub returns-in-Hear : goal.returns-in-Hear
 returns-in-Hear g c starts steps stands e boxes =
@@ -68,7 +68,7 @@ returns-in-Source g c starts steps stands e boxes =
 pub returns-in-Subgroup : goal.returns-in-Subgroup
 returns-in-Subgroup g c starts steps stands e boxes =
     quiet_as starts (length starts) steps c.args.step _ c.subgroup.new.self c.args.text.now _ c.subgroup.result (c.in-Subgroup.is ∙ ap (λ config. SubgroupStep c.in-Subgroup.codec config)
-    (sym c.as_slice-in-Subgroup.ensures)) refl refl refl (c.subgroup.ensures (length starts) (number_of c.args.version) steps stands e)
+    (sym c.as_slice.ensures)) refl refl refl (c.subgroup.ensures (length starts) (number_of c.args.version) steps stands e)
 
 pub returns-in-Meta : goal.returns-in-Meta
 returns-in-Meta g c starts steps stands e boxes =
