@@ -25,8 +25,8 @@ returns-in-Ok-put_control g c starts version steps stands e =
     stands e performed.0 performed.1 performed.2 (c.chosen.ensures.source ((TerminateStep c.args.reason) ∷ steps) performed.1) refl (c.in-Ok-close.ensures (past_of steps) stands.sinks))
     performed.3 c.in-Ok-put_control.ensures.ok
 
-pub returns : goal.returns
-returns g c starts version steps stands e =
+pub returns-in-Err-put_control : goal.returns-in-Err-put_control
+returns-in-Err-put_control g c starts version steps stands e =
     let performed = c.in-Ok.ensures.ends version steps stands.sources in
     terminate_wants starts steps c.args.reason (record c.args.self.now { sources = c.terminate.new.self; sinks = c.close.new.self }) c.args.self.now c.args.text.now c.close.new.text
     c.put_control.new.text _ _
