@@ -62,6 +62,7 @@ step_begins : (starts : List Account) (earlier : List Step) (step : Step)
     → (rest : List ℕ) × (output_of airs_of starts earlier step ≡ unit_lines (handed_by airs_of earlier step) ++ rest)
 step_begins starts earlier kinds.Event = (_, refl)
 step_begins starts earlier kinds.Stop = ([], sym (append-nil (unit_lines (handed_by airs_of earlier kinds.Stop))))
+step_begins starts earlier (kinds.Terminate reason) = (_, refl)
 step_begins starts earlier kinds.End = (_, refl)
 step_begins starts earlier step = (output_of airs_of starts earlier step, refl)
 

@@ -1,10 +1,12 @@
 -- No line is refused as NoEnd, which is the refusal of a text.
 use Rattle.std.proofs.Common.{◌≡◌, ◌≢◌, ℕ, Bool, true, false, List, length, refl, subst, Option, None, Some, Result, Ok, Err}
-use Rattle.std.specs.Prelude.{◌==◌, nat_le, not, is_some}
+use Rattle.std.specs.Prelude.{◌==◌, ◌||◌, nat_le, nat_lt, not, is_some, unwrap_or}
 use Rattle.std.specs.Option.{option_or, option_map}
 use Rattle.bcast_io.specs.TextLines.{TextLine, plain, too_long, past}
 use Rattle.unit_outlets.specs.Account.{Account}
 use Rattle.big_info.specs.declared.fault.GroupFault.{GroupFault}
+use Rattle.big_info.specs.declared.fault.GroupFault.TheVariants as of_group
+use Rattle.big_info.specs.Rows.{first_fault}
 use Rattle.radio_schedule.specs.declared.air.AirFault.{AirFault}
 use Rattle.radio_schedule.specs.declared.air.AirFault.TheVariants as places
 use Rattle.source_machine.specs.declared.fault.GiveFault.{GiveFault}
@@ -13,16 +15,17 @@ use Rattle.source_machine.specs.declared.fault.EventFault.{EventFault}
 use Rattle.source_machine.specs.Airs.{airs_of}
 use Rattle.source_machine.specs.Faults.{event_fault, air_fault}
 use Rattle.transcript_text.specs.declared.refusal.Refusal.{Refusal}
-use Rattle.transcript_text.specs.declared.refusal.Refusal.TheVariants.{AfterEnd, Order, BadGroup, IdentTwice, NoSuchSink, SinkTwice, NoOutlet, NoSuchBis, NotBuilt, NotOnAir, NoEnd}
+use Rattle.transcript_text.specs.declared.refusal.Refusal.TheVariants.{AfterEnd, Order, BaseTooLong, IdentTwice, NoSuchSink, SinkTwice, NoOutlet, NoSuchBis, NotBuilt, NotOnAir, NoEnd}
 use Rattle.scenario_text.specs.declared.step.Step.{Step}
 use Rattle.scenario_text.specs.declared.step.Step.TheVariants as kinds
 use Rattle.scenario_words.specs.declared.fault.LineFault.{LineFault}
 use Rattle.scenario_words.specs.declared.fault.LineFault.TheVariants as misread
 use Rattle.scenario_text.specs.Steps.{read_of}
 use Rattle.scenario_history.specs.Steps.{chosen_steps, version_of, is_over, sinks_made}
-use Rattle.scenario_history.specs.Source.{setup_of, source_calls, performed}
+use Rattle.scenario_history.specs.Bases.{has_bis, is_base_too_long}
+use Rattle.scenario_history.specs.Source.{group_of, no_group, setup_of, source_calls, performed}
 use Rattle.scenario_history.specs.Boxes.{box_of}
-use Rattle.scenario_history.specs.Refusals.{refuse_if, no_sink, no_place, has_beyond, is_ident_twice, is_out_of_order, is_unbuilt, give_refusal, air_refusal, counter_ends, sink_refusal, source_refusal, twin_refusal, own_refusal, phase_refusal, refusal_of}
+use Rattle.scenario_history.specs.Refusals.{checked_info, group_refusal, horizon_in, refuse_if, no_sink, no_place, has_beyond, is_ident_twice, is_out_of_order, is_unbuilt, give_refusal, air_refusal, counter_ends, sink_refusal, source_refusal, twin_refusal, own_refusal, phase_refusal, refusal_of}
 use Rattle.scenario_history.specs.Lines.{said_by, said_in, steps_of, refusal_said}
 use Rattle.replay_steps.specs.LineMeets.{refusal_at}
 
@@ -42,8 +45,22 @@ other_map : {X : Type 0} (f : X → Refusal) → ((x : X) → f x ≢ NoEnd) →
 other_map f other None = tt
 other_map f other (Some x) = other x
 
-other_group : (fault : GroupFault) → BadGroup fault ≢ NoEnd
-other_group fault e = cc
+other_group : (fault : Option GroupFault) → OtherThan (group_refusal fault)
+other_group None = tt
+other_group (Some of_group.Encrypted) = tt
+other_group (Some of_group.RangeIso) = λ e. cc
+other_group (Some of_group.RangeSdu) = λ e. cc
+other_group (Some of_group.RangePdu) = λ e. cc
+other_group (Some of_group.Bn) = λ e. cc
+other_group (Some of_group.NseNotMultiple) = λ e. cc
+other_group (Some of_group.Irc) = λ e. cc
+other_group (Some of_group.PhyNotSupported) = λ e. cc
+other_group (Some of_group.FramedPduSmall) = λ e. cc
+other_group (Some of_group.UnframedMultiple) = λ e. cc
+other_group (Some of_group.UnframedBn) = λ e. cc
+other_group (Some of_group.Horizon) = λ e. cc
+other_group (Some of_group.SubInterval) = λ e. cc
+other_group (Some of_group.SyncDelay) = λ e. cc
 
 other_give : (fault : GiveFault) → give_refusal fault ≢ NoEnd
 other_give gives.NoSuchBis e = cc
@@ -88,7 +105,11 @@ other_of_sinks boxes steps (kinds.Sniff back bis subevent) = tt
 other_of_sinks boxes steps _ = tt
 
 other_of_source : (version : ℕ) (own : List Step) (step : Step) → OtherThan (source_refusal airs_of version own step)
-other_of_source version own (kinds.Start first) = other_map BadGroup other_group _
+other_of_source version own (kinds.Bis bis config) =
+    other_if (nat_lt (unwrap_or (group_of own) no_group).info.num_bis bis || has_bis own bis) NoSuchBis (λ e. cc)
+other_of_source version own (kinds.Start first) =
+    other_or (group_refusal (first_fault (horizon_in version) (checked_info own))) (refuse_if (is_base_too_long own) BaseTooLong)
+    (other_group (first_fault (horizon_in version) (checked_info own))) (other_if (is_base_too_long own) BaseTooLong (λ e. cc))
 other_of_source version own (kinds.Tuned sink which) = other_if (has_beyond (setup_of own).info.num_bis which) NoSuchBis (λ e. cc)
 other_of_source version own (kinds.Unit bis time octets) = other_map give_refusal other_give _
 other_of_source version own kinds.Event = other_counter (event_fault (setup_of own) (source_calls own))
