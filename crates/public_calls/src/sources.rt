@@ -42,11 +42,7 @@ fn info(max_sdu: u16, bn: u8, nse: u8, irc: u8, pto: u8) -> BigInfo
 const BASE: [u8; 14] = [0x40, 0x9c, 0, 1, 1, 0xff, 1, 0, 2, 0, 0, 0, 1, 0];
 
 /// The source of a group, whose first event is at this time in µs, or none where the group or memory is wanting.
-fn configured(
-    alloc: Global,
-    info: BigInfo,
-    origin: u64,
-) -> Result<SourceConfigured, &'static str>
+fn configured(alloc: Global, info: BigInfo, origin: u64) -> Result<SourceConfigured, &'static str>
     requires widths { FitsWidths info }
     requires least { 3000 ≤ origin }
     requires greatest { origin ≤ 2 ^ 48 }
@@ -275,22 +271,27 @@ fn an_encrypted_group_is_announced(rt: HostRuntime) {
 }
 
 #[test]
-fn a_unit_whose_turn_comes_too_late_is_told(rt: HostRuntime) -> Result<(), Fail> {
-    let mut info = info(4, 1, 1, 1, 0);
-    info.framing = 1;
-    info.max_pdu = 8;
-    assert!(rt; info.fits());
-    let Ok(mut source) = configured(rt.alloc(), info, 20_000_000)?.start(0) else {
-        return Err("no memory".into());
+fn a_unit_whose_turn_comes_too_late_is_told(rt: HostRuntime) {
+    let info = BigInfo {
+        framing: 1,
+        max_pdu: 8,
+        ..ONE_SUBEVENT
     };
-    let one = Bis::new(1).ok_or("no stream")?;
-    source.give(one, Some(7), &[0xC0])?;
-    source.give(one, Some(19_999_000), &[0xC1])?;
-    let sent = source.event()?;
+    assert!(rt; info.fits());
+    let (Ok(configured), Some(one)) = (configured(rt.alloc(), info, 20_000_000), Bis::new(1)) else {
+        return assert!(rt; false);
+    };
+    let Ok(mut source) = configured.start(0) else {
+        return assert!(rt; false);
+    };
+    assert!(rt; source.give(one, Some(7), &[0xC0]).is_ok());
+    assert!(rt; source.give(one, Some(19_999_000), &[0xC1]).is_ok());
+    let Ok(sent) = source.event() else {
+        return assert!(rt; false);
+    };
     assert!(rt; sent.pdus.count() == 1);
     match sent.stale.as_slice() {
         [late] => assert!(rt; late.bis == one && late.time == 7),
-        _ => return Err("one unit too late".into()),
+        _ => assert!(rt; false),
     }
-    Ok(())
 }
