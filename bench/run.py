@@ -1,9 +1,9 @@
 #!/usr/bin/env python3
-"""run.py [MEGABYTES [PROGRAM]]: makes a long scenario, runs the built program on it, and prints the time of the
-processor, the octets of scenario text a second, and the peak memory.
+"""run.py [--framed] [MEGABYTES [PROGRAM]]: makes a long scenario, runs the built program on it, and prints the time of
+the processor, the octets of scenario text a second, and the peak memory.
 
-The scenario has one source with one stream, one sink that takes it, and then a unit, an event and its PDUs
-by turns. Every third event loses a PDU."""
+The scenario has one source with one stream, one sink that takes it, and then a unit, an event and its PDUs by turns.
+Every third event loses a PDU. With --framed the units have times and cross two PDUs of their event."""
 import os
 import sys
 import tempfile
@@ -13,13 +13,18 @@ PROGRAM = os.path.join(HERE, '..', 'crates', 'replay_command', 'out', 'replay_co
 HEAD = b'scenario 2\ngroup unframed 20000 40000 8 10000 100 100 1 1 2 2 0 2000 0 1\nstart 0\nsink 0 1 1\ntuned 0 1\n'
 
 
-def scenario(octets):
+FRAMED = b'scenario 2\ngroup framed 20000 40000 8 10000 100 60 1 2 2 1 0 2000 0 1\nstart 0\nsink 0 1 1\ntuned 0 1\n'
+
+
+def scenario(octets, is_framed):
     """The text, of at least so many octets and less than 67,108,865."""
-    yield HEAD
-    count, number = len(HEAD), 0
+    head = FRAMED if is_framed else HEAD
+    yield head
+    count, number = len(head), 0
     while count < octets:
         unit = ('%02x' % (number % 256)) * 100
-        text = f'unit 1 - {unit}\nevent\nair 0 {0 if number % 3 else 2}\n'.encode()
+        time = 15000 + 10000 * number if is_framed else '-'
+        text = f'unit 1 {time} {unit}\nevent\nair 0 {0 if number % 3 else 2}\n'.encode()
         yield text
         count += len(text)
         number += 1
@@ -38,11 +43,13 @@ def run(program, path):
 
 
 def main():
-    most = int(float(sys.argv[1]) * 1e6) if len(sys.argv) > 1 else 60_000_000
-    program = sys.argv[2] if len(sys.argv) > 2 else PROGRAM
+    words = [it for it in sys.argv[1:] if it != '--framed']
+    is_framed = len(words) < len(sys.argv) - 1
+    most = int(float(words[0]) * 1e6) if words else 40_000_000 if is_framed else 60_000_000
+    program = words[1] if len(words) > 1 else PROGRAM
     for octets in (most // 10, most):
         with tempfile.NamedTemporaryFile() as file:
-            for piece in scenario(octets):
+            for piece in scenario(octets, is_framed):
                 file.write(piece)
             file.flush()
             size = os.path.getsize(file.name)
