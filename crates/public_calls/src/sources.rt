@@ -1,4 +1,4 @@
-ghost use Rattle.std.specs.Prelude.{◌≡◌, ◌<◌, ◌^◌, None, IfOk};
+ghost use Rattle.std.specs.Prelude.{◌≡◌, ◌≤◌, ◌<◌, ◌^◌, None, IfOk};
 ghost use Rattle.big_info.specs.Widths.{FitsWidths};
 
 use base_grammar::decode_base;
@@ -92,8 +92,8 @@ fn started(alloc: Global, info: BigInfo, first: u64) -> Result<Broadcast, &'stat
     Ok(source)
 }
 
-/// Gives these units to a stream and performs an event.
-fn sends(source: &mut Broadcast, bis: Bis, units: &[&[u8]]) -> bool
+/// Gives these units to a stream.
+fn given(source: &mut Broadcast, bis: Bis, units: &[&[u8]]) -> bool
     requires { source.old.source.cipher ≡ None }
     ensures { source.new.source.cipher ≡ None }
 {
@@ -102,7 +102,15 @@ fn sends(source: &mut Broadcast, bis: Bis, units: &[&[u8]]) -> bool
             return false;
         }
     }
-    source.event().is_ok()
+    true
+}
+
+/// Gives these units to a stream and performs an event.
+fn sends(source: &mut Broadcast, bis: Bis, units: &[&[u8]]) -> bool
+    requires { source.old.source.cipher ≡ None }
+    ensures { source.new.source.cipher ≡ None }
+{
+    given(source, bis, units) && source.event().is_ok()
 }
 
 /// Whether this PDU was sent in a subevent of the last event.
@@ -192,10 +200,9 @@ fn no_more_than_16_units_wait(rt: HostRuntime) {
     let (Ok(mut source), Some(one)) = (started(rt.alloc(), info, 0), Bis::new(1)) else {
         return assert!(rt; false);
     };
-    for _ in 0..16 {
-        assert!(rt; source.give(one, None, &[0xAA]).is_ok());
-    }
-    assert!(rt; source.give(one, None, &[0xAA]) == Err(GiveFault::Backlog));
+    let unit: &[u8] = &[0xAA];
+    assert!(rt; given(&mut source, one, &[unit; 16]));
+    assert!(rt; source.give(one, None, unit) == Err(GiveFault::Backlog));
 }
 
 /// The group of one stream that has one subevent an event.
