@@ -2,7 +2,7 @@
 -- the answers, and which streams are taken first, are this project's own.
 use Rattle.std.specs.Prelude.{ℕ, ◌+◌, ◌-◌, ◌*◌, ◌/◌, ◌^◌, ◌==◌, ◌&&◌, not, Bool, false, List, [], ◌∷◌, length, map, take, bit_or, Option, Some, None, is_none, nat_le, Result, Ok, Err, if◌then◌else◌}
 use Rattle.std.specs.Int.{bit_at}
-use Rattle.std.specs.List.{concat, filter, range_with_len}
+use Rattle.std.specs.List.{filter, range_with_len}
 use Rattle.base_grammar.specs.declared.fault.BaseFault.{BaseFault}
 use Rattle.base_grammar.specs.declared.subgroup.Subgroup.{Subgroup}
 use Rattle.base_grammar.specs.Ad.{first_service}
@@ -75,21 +75,12 @@ abbrev pub sets_with : ℕ → List (List ℕ) → ℕ
 sets_with set [] = set
 sets_with set (streams ∷ others) = sets_with (set_with set streams) others
 
--- the candidates of each subgroup that is wanted, in order
-abbrev pub candidates_of : Capability → Endpoint → ℕ → List Wish → List Subgroup → List (List ℕ)
-candidates_of capability base num_bis [] subgroups = []
-candidates_of capability base num_bis (wish ∷ wishes) [] = []
-candidates_of capability base num_bis (wish ∷ wishes) (subgroup ∷ subgroups) =
-    candidates capability base num_bis wish.bis_sync subgroup ∷ candidates_of capability base num_bis wishes subgroups
-
--- of each list those that are among the first so many of all
-abbrev pub first_of_all : ℕ → List (List ℕ) → List (List ℕ)
-first_of_all room [] = []
-first_of_all room (streams ∷ others) = take room streams ∷ first_of_all (room - length streams) others
-
--- none stands in any list
-abbrev pub are_none : List (List ℕ) → Bool
-are_none lists = length (concat lists) == 0
+-- the candidates of the wanted subgroups in order, of each subgroup those that are among the first so many
+abbrev pub first_candidates : Capability → Endpoint → ℕ → ℕ → List Wish → List Subgroup → List (List ℕ)
+first_candidates capability base num_bis room (wish ∷ wishes) (subgroup ∷ subgroups) =
+    let all = candidates capability base num_bis wish.bis_sync subgroup in
+    take room all ∷ first_candidates capability base num_bis (room - length all) wishes subgroups
+first_candidates capability base num_bis room wishes subgroups = []
 
 -- ---- the parts of a train
 
@@ -120,16 +111,15 @@ joining_of train base info which = record {
 
 -- ---- the answers, each behind those before it
 
--- the sink takes the first candidates, at most so many
-abbrev pub by_candidates : ℕ → ℕ → Train → Endpoint → BigInfo → Bool → List (List ℕ) → Brought
-by_candidates room slot train base info encrypted all =
-    if are_none all then heard slot answers.NoneTaken (Some encrypted)
-    else taken slot (map (set_with 0) (first_of_all room all)) encrypted (joining_of train base info (sets_with 0 (first_of_all room all)))
+abbrev pub by_streams : ℕ → Train → Endpoint → BigInfo → Bool → List (List ℕ) → Brought
+by_streams slot train base info encrypted streams =
+    let which = sets_with 0 streams in
+    if which == 0 then heard slot answers.NoneTaken (Some encrypted) else taken slot (map (set_with 0) streams) encrypted (joining_of train base info which)
 
 abbrev pub by_group : Setup → Capability → List Wish → ℕ → Train → Endpoint → BigInfo → Bool → Option GroupFault → Brought
 by_group setup capability wishes slot train base info encrypted (Some fault) = heard slot (answers.BadGroup fault) (Some encrypted)
 by_group setup capability wishes slot train base info encrypted None =
-    by_candidates setup.streams slot train base info encrypted (candidates_of capability base info.num_bis wishes base.subgroups)
+    by_streams slot train base info encrypted (first_candidates capability base info.num_bis setup.streams wishes base.subgroups)
 
 abbrev pub by_info : Setup → Capability → List Wish → ℕ → Train → Endpoint → Bool → Result BigInfo BigFault → Brought
 by_info setup capability wishes slot train base encrypted (Err fault) = heard slot answers.BadBigInfo None
