@@ -1,17 +1,17 @@
 -- The candidates of the subgroups that are wanted.
-use Rattle.std.proofs.Common.{ℕ, zero, suc, ◌≡◌, ◌+◌, ◌<◌, ◌≤◌, Bool, true, false, IsTrue, List, [], ◌∷◌, ◌++◌, length, map, drop, Option, Some, refl, sym, ap, ◌∙◌, subst, arith}
+use Rattle.std.proofs.Common.{ℕ, zero, suc, ◌≡◌, ◌+◌, ◌-◌, ◌<◌, ◌≤◌, ◌^◌, Bool, true, List, [], ◌∷◌, length, map, take, drop, Some, refl, ap, ◌∙◌, subst, arith}
 use Rattle.std.specs.Prelude.{◌==◌, ◌||◌, ◌&&◌, slice_get}
-use Rattle.std.specs.List.{flat_map, list_any}
+use Rattle.std.specs.List.{list_any}
 use Rattle.std.proofs.lemmas.Bool.{and_parts, leb-true, or_left, or_right}
+use Rattle.std.proofs.lemmas.Nat.{pow_pos}
 use Rattle.std.proofs.lemmas.List.Folds.{list_any-append}
 use Rattle.base_grammar.specs.declared.subgroup.BaseEntry.{BaseEntry}
 use Rattle.base_grammar.specs.declared.subgroup.Subgroup.{Subgroup}
 use Rattle.base_grammar.specs.Layout.{Endpoint, bis_of, indices, stands_in}
 use Rattle.bass_operations.specs.declared.wishes.Wish.{Wish}
 use Rattle.pacs_records.specs.declared.capability.Capability.{Capability}
-use Rattle.delegator_states.specs.Trains.{candidates, candidates_of, is_candidate}
-use Rattle.scan_delegator.specs.State.Choices.{IsPart}
-use Rattle.scan_delegator.proofs.Taken.{below_all, below_each, filter_below}
+use Rattle.delegator_states.specs.Trains.{candidates, first_candidates, is_candidate, sets_with}
+use Rattle.scan_delegator.proofs.Taken.{below_all, below_each, filter_below, first_below, first_of_all, sets_below}
 use Rattle.scan_delegator.proofs.Streams.{drop_get}
 
 -- one of the entries has the index
@@ -30,6 +30,22 @@ part_of (s ∷ subgroups) zero subgroup bis at stands =
 part_of (s ∷ subgroups) (suc place) subgroup bis at stands =
     list_any-append (λ b. b == bis) (map bis_of s.entries) (indices subgroups)
     ∙ or_right (stands_in (map bis_of s.entries) bis) (stands_in (indices subgroups) bis) (part_of subgroups place subgroup bis at stands)
+
+-- the candidates of each subgroup that is wanted, in order
+abbrev pub candidates_of : Capability → Endpoint → ℕ → List Wish → List Subgroup → List (List ℕ)
+candidates_of capability base num_bis [] subgroups = []
+candidates_of capability base num_bis (wish ∷ wishes) [] = []
+candidates_of capability base num_bis (wish ∷ wishes) (subgroup ∷ subgroups) =
+    candidates capability base num_bis wish.bis_sync subgroup ∷ candidates_of capability base num_bis wishes subgroups
+
+-- those that are taken are the first of them
+pub first_are : (capability : Capability) (base : Endpoint) (num_bis room : ℕ) (wishes : List Wish) (subgroups : List Subgroup)
+    → first_of_all room (candidates_of capability base num_bis wishes subgroups) ≡ first_candidates capability base num_bis room wishes subgroups
+first_are capability base num_bis room [] subgroups = refl
+first_are capability base num_bis room (wish ∷ wishes) [] = refl
+first_are capability base num_bis room (wish ∷ wishes) (subgroup ∷ subgroups) =
+    let all : List ℕ = candidates capability base num_bis wish.bis_sync subgroup in
+    ap (λ others. take room all ∷ others) (first_are capability base num_bis (room - length all) wishes subgroups)
 
 pub candidates_next : (capability : Capability) (base : Endpoint) (num_bis place : ℕ) (wishes : List Wish) (subgroups : List Subgroup) (wish : Wish) (subgroup : Subgroup)
     → slice_get wishes place ≡ Some wish → slice_get subgroups place ≡ Some subgroup
@@ -68,3 +84,11 @@ pub all_below : (capability : Capability) (base : Endpoint) (num_bis : ℕ) (wis
 all_below capability base num_bis [] subgroups = tt
 all_below capability base num_bis (wish ∷ wishes) [] = tt
 all_below capability base num_bis (wish ∷ wishes) (subgroup ∷ subgroups) = (candidates_below capability base num_bis wish.bis_sync subgroup, all_below capability base num_bis wishes subgroups)
+
+-- the set of all that are taken
+pub set_within : (capability : Capability) (base : Endpoint) (num_bis room : ℕ) (wishes : List Wish) (subgroups : List Subgroup)
+    → sets_with 0 (first_candidates capability base num_bis room wishes subgroups) < 2 ^ num_bis
+set_within capability base num_bis room wishes subgroups =
+    subst (λ lists. sets_with 0 lists < 2 ^ num_bis) (first_are capability base num_bis room wishes subgroups)
+    (sets_below num_bis 0 (first_of_all room (candidates_of capability base num_bis wishes subgroups)) (pow_pos num_bis)
+    (first_below num_bis room (candidates_of capability base num_bis wishes subgroups) (all_below capability base num_bis wishes subgroups)))

@@ -1,5 +1,5 @@
 -- A train that is followed is of a slot of the sink, which is on no other train or group.
-use Rattle.std.proofs.Common.{ℕ, zero, suc, ◌≡◌, ◌≢◌, ◌+◌, ◌-◌, ◌<◌, Bool, true, false, List, [], ◌∷◌, ◌++◌, length, get_or, map, Option, Some, None, Result, Ok, Err, refl, sym, ap, ◌∙◌, subst, arith}
+use Rattle.std.proofs.Common.{ℕ, ◌≡◌, ◌≢◌, ◌-◌, ◌<◌, Bool, true, false, List, [], ◌++◌, length, get_or, map, Option, Some, None, Result, Ok, Err, refl, sym, ap, ◌∙◌, subst, arith}
 use Rattle.std.specs.Prelude.{◌==◌, ◌&&◌, not, option_map, is_some, if◌then◌else◌}
 use Rattle.std.proofs.lemmas.Bool.{cond-true, cond-false, eq-eqb, eqb-true, ne_eqb, not-false}
 use Rattle.base_grammar.specs.declared.fault.BaseFault.{BaseFault}
@@ -13,19 +13,18 @@ use Rattle.big_info.specs.declared.info.BigInfo.{BigInfo}
 use Rattle.big_info.specs.Reading.{info_of}
 use Rattle.big_info.specs.Rows.{first_fault}
 use Rattle.pacs_records.specs.declared.capability.Capability.{Capability}
-use Rattle.delegator_states.specs.declared.notice.Notice.{Notice}
 use Rattle.delegator_states.specs.declared.train_heard.TrainHeard.TheVariants as answers
 use Rattle.delegator_states.specs.Notices.{change, changes}
-use Rattle.delegator_states.specs.Sights.{Entry, Place, idle, on_train, on_group, Sight, slot_of, is_slot, is_on, is_on_group, entry_at}
-use Rattle.delegator_states.specs.Steps.{Done, after, encrypted_on, followed, joined, wishes_at}
-use Rattle.delegator_states.specs.Trains.{Setup, Train, Brought, ignored, heard, taken, are_none, base_in, big_info_in, candidates_of, first_of_all, is_elsewhere, is_wanted, joining_of, set_with, sets_with}
-use Rattle.delegator_states.specs.Trains.{by_base, by_big_info, by_broadcast_id, by_candidates, by_endpoint, by_group, by_info, by_slot, brought_by}
+use Rattle.delegator_states.specs.Sights.{Entry, Place, idle, on_train, on_group, Sight, is_on, is_on_group, entry_at}
+use Rattle.delegator_states.specs.Steps.{Done, after, wishes_at}
+use Rattle.delegator_states.specs.Trains.{Setup, Train, Brought, ignored, heard, taken, base_in, big_info_in, first_candidates, is_elsewhere, is_wanted, joining_of, set_with, sets_with}
+use Rattle.delegator_states.specs.Trains.{by_base, by_big_info, by_broadcast_id, by_endpoint, by_group, by_info, by_slot, by_streams, brought_by}
 use Rattle.delegator_states.specs.Values.{Status, received, status_of, value, value_at}
 use Rattle.delegator_states.specs.Writes.{slot_where}
 use Rattle.delegator_states.proofs.Citable.{one_changes}
 use Rattle.scan_delegator.specs.State.Machines.{Machine, moved}
 use Rattle.scan_delegator.proofs.Changes.{elsewhere}
-use Rattle.scan_delegator.proofs.Slots.{Found, found}
+use Rattle.scan_delegator.proofs.Slots.{found}
 
 -- ---- the slot of what a train brings
 
@@ -38,31 +37,30 @@ of_choice : (b : Bool) (one other : Brought) (slot : ℕ) → slot_of_brought on
 of_choice true one other slot p q = p
 of_choice false one other slot p q = q
 
--- ---- the answer by the candidates
+-- ---- the answer by the streams
 
-pub by_none : (room slot : ℕ) (train : Train) (base : Endpoint) (info : BigInfo) (encrypted : Bool) (all : List (List ℕ)) → are_none all ≡ true
-    → by_candidates room slot train base info encrypted all ≡ heard slot answers.NoneTaken (Some encrypted)
-by_none room slot train base info encrypted all none =
-    cond-true (are_none all) (heard slot answers.NoneTaken (Some encrypted))
-    (taken slot (map (set_with 0) (first_of_all room all)) encrypted (joining_of train base info (sets_with 0 (first_of_all room all)))) none
+pub by_none : (slot : ℕ) (train : Train) (base : Endpoint) (info : BigInfo) (encrypted : Bool) (streams : List (List ℕ)) → (sets_with 0 streams == 0) ≡ true
+    → by_streams slot train base info encrypted streams ≡ heard slot answers.NoneTaken (Some encrypted)
+by_none slot train base info encrypted streams none =
+    cond-true (sets_with 0 streams == 0) (heard slot answers.NoneTaken (Some encrypted))
+    (taken slot (map (set_with 0) streams) encrypted (joining_of train base info (sets_with 0 streams))) none
 
-pub by_some : (room slot : ℕ) (train : Train) (base : Endpoint) (info : BigInfo) (encrypted : Bool) (all : List (List ℕ)) → are_none all ≡ false
-    → by_candidates room slot train base info encrypted all
-    ≡ taken slot (map (set_with 0) (first_of_all room all)) encrypted (joining_of train base info (sets_with 0 (first_of_all room all)))
-by_some room slot train base info encrypted all some =
-    cond-false (are_none all) (heard slot answers.NoneTaken (Some encrypted))
-    (taken slot (map (set_with 0) (first_of_all room all)) encrypted (joining_of train base info (sets_with 0 (first_of_all room all)))) some
+pub by_some : (slot : ℕ) (train : Train) (base : Endpoint) (info : BigInfo) (encrypted : Bool) (streams : List (List ℕ)) → (sets_with 0 streams == 0) ≡ false
+    → by_streams slot train base info encrypted streams ≡ taken slot (map (set_with 0) streams) encrypted (joining_of train base info (sets_with 0 streams))
+by_some slot train base info encrypted streams some =
+    cond-false (sets_with 0 streams == 0) (heard slot answers.NoneTaken (Some encrypted))
+    (taken slot (map (set_with 0) streams) encrypted (joining_of train base info (sets_with 0 streams))) some
 
 -- ---- the stages keep the slot
 
-of_candidates : (room slot : ℕ) (train : Train) (base : Endpoint) (info : BigInfo) (encrypted : Bool) (all : List (List ℕ)) → slot_of_brought (by_candidates room slot train base info encrypted all) ≡ Some slot
-of_candidates room slot train base info encrypted all = of_choice (are_none all) _ _ slot refl refl
+of_streams : (slot : ℕ) (train : Train) (base : Endpoint) (info : BigInfo) (encrypted : Bool) (streams : List (List ℕ)) → slot_of_brought (by_streams slot train base info encrypted streams) ≡ Some slot
+of_streams slot train base info encrypted streams = of_choice (sets_with 0 streams == 0) _ _ slot refl refl
 
 of_group : (setup : Setup) (capability : Capability) (wishes : List Wish) (slot : ℕ) (train : Train) (base : Endpoint) (info : BigInfo) (encrypted : Bool) (fault : Option GroupFault)
     → slot_of_brought (by_group setup capability wishes slot train base info encrypted fault) ≡ Some slot
 of_group setup capability wishes slot train base info encrypted (Some fault) = refl
 of_group setup capability wishes slot train base info encrypted None =
-    of_candidates setup.streams slot train base info encrypted (candidates_of capability base info.num_bis wishes base.subgroups)
+    of_streams slot train base info encrypted (first_candidates capability base info.num_bis setup.streams wishes base.subgroups)
 
 of_info : (setup : Setup) (capability : Capability) (wishes : List Wish) (slot : ℕ) (train : Train) (base : Endpoint) (encrypted : Bool) (info : Result BigInfo BigFault)
     → slot_of_brought (by_info setup capability wishes slot train base encrypted info) ≡ Some slot

@@ -1,13 +1,13 @@
 -- The streams that are chosen, one by one.
 use Rattle.std.proofs.Common.{ℕ, zero, suc, ◌≡◌, ◌≢◌, ◌↔◌, ◌⊎◌, ◌+◌, ◌-◌, ◌<◌, ◌≤◌, ◌^◌, Bool, true, false, cond, List, [], ◌∷◌, ◌++◌, length, map, take, append_assoc, max, refl, sym, ap, ◌∙◌, subst, inl, inr, arith}
-use Rattle.std.specs.Prelude.{◌==◌, bit_or, if◌then◌else◌}
+use Rattle.std.specs.Prelude.{◌==◌, bit_or}
 use Rattle.std.specs.Int.{bit_at}
-use Rattle.std.specs.List.{concat, filter, range_with_len}
+use Rattle.std.specs.List.{filter, range_with_len}
 use Rattle.std.proofs.lemmas.Bool.{cases_eq, cond-true, cond-false, ne_eqb}
-use Rattle.std.proofs.lemmas.Nat.{or_lt, le_or_l, le_or_r, pow_pos, pow_below}
+use Rattle.std.proofs.lemmas.Nat.{or_lt, pow_below}
 use Rattle.std.proofs.lemmas.Nat.Bits.{bit_at-lt, bit_at_or, bit_at-pow_same, bit_at-pow_other, same_from_bits}
 use Rattle.bcast_base.specs.Bis.{Has}
-use Rattle.delegator_states.specs.Trains.{are_none, first_of_all, set_with, sets_with}
+use Rattle.delegator_states.specs.Trains.{set_with, sets_with}
 use Rattle.scan_delegator.specs.declared.choosing.Taking.{Taking}
 use Rattle.scan_delegator.specs.State.Choices.{Leads, Takes, with_one}
 
@@ -83,6 +83,11 @@ left_yes test i below passes = left_more test i below ∙ cond-true (test i) _ _
 pub left_no : (test : ℕ → Bool) (i : ℕ) → i ≤ 31 → test i ≡ false → filter test (range_with_len i (32 - i)) ≡ filter test (range_with_len (i + 1) (32 - (i + 1)))
 left_no test i below fails = left_more test i below ∙ cond-false (test i) _ _ fails
 
+-- of each list those that are among the first so many of all
+abbrev pub first_of_all : ℕ → List (List ℕ) → List (List ℕ)
+first_of_all room [] = []
+first_of_all room (streams ∷ others) = take room streams ∷ first_of_all (room - length streams) others
+
 -- ---- sets are below a power of two where each stream is
 
 abbrev pub below_all : ℕ → List ℕ → Type 0
@@ -119,35 +124,6 @@ pub filter_below : (n : ℕ) (test : ℕ → Bool) → ((i : ℕ) → test i ≡
 filter_below n test passes start zero least = tt
 filter_below n test passes start (suc count) least =
     filter_below_one n start (test start) (filter test (range_with_len (start + 1) count)) least (passes start) (filter_below n test passes (start + 1) count (omega arith))
-
--- ---- none is taken exactly where there is no candidate
-
-set_grows : (set : ℕ) (streams : List ℕ) → set ≤ set_with set streams
-set_grows set [] = omega arith
-set_grows set (bis ∷ streams) = omega (arith, le_or_l set (2 ^ (bis - 1)), set_grows (bit_or set (2 ^ (bis - 1))) streams)
-
-sets_grow : (set : ℕ) (lists : List (List ℕ)) → set ≤ sets_with set lists
-sets_grow set [] = omega arith
-sets_grow set (streams ∷ others) = omega (arith, set_grows set streams, sets_grow (set_with set streams) others)
-
--- a stream that is taken is in the set
-some_taken : (room bis : ℕ) (streams : List ℕ) (others : List (List ℕ)) → 1 ≤ room → (sets_with 0 (first_of_all room ((bis ∷ streams) ∷ others)) == 0) ≡ false
-some_taken zero bis streams others some = absurd (omega (arith, some))
-some_taken (suc room) bis streams others some =
-    let rest : List (List ℕ) = first_of_all (suc room - suc (length streams)) others in
-    let one : ℕ = bit_or 0 (2 ^ (bis - 1)) in
-    let grows : 0 < sets_with (set_with one (take room streams)) rest =
-    omega (arith, pow_pos (bis - 1), le_or_r 0 (2 ^ (bis - 1)), set_grows one (take room streams), sets_grow (set_with one (take room streams)) rest) in
-    ne_eqb (sets_with (set_with one (take room streams)) rest) 0 (λ none. omega (arith, grows, none))
-
-pub none_taken : (room : ℕ) (lists : List (List ℕ)) → 1 ≤ room → are_none lists ≡ (sets_with 0 (first_of_all room lists) == 0)
-none_taken room [] some = refl
-none_taken room ([] ∷ others) some =
-    let same : room - 0 ≡ room = omega arith in
-    none_taken room others some
-    ∙ (λ i. sets_with (set_with 0 (sym (take_none room) i)) (first_of_all (sym same i) others) == 0)
-none_taken room ((bis ∷ streams) ∷ others) some =
-    ne_eqb (suc (length (streams ++ concat others))) 0 (λ e. omega (arith, e)) ∙ sym (some_taken room bis streams others some)
 
 -- ---- subgroup by subgroup
 

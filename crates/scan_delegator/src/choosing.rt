@@ -3,7 +3,7 @@ ghost use Rattle.std.specs.Prelude.{◌≡◌, ◌≤◌, ◌-◌, ◌^◌, ◌=
 ghost use Rattle.std.specs.Int.{bit_at};
 ghost use Rattle.std.specs.List.{list_any};
 ghost use Rattle.base_grammar.specs.Layout.{bis_of, indices, stands_in};
-ghost use Rattle.delegator_states.specs.Trains.{candidates_of, first_of_all, set_with, sets_with};
+ghost use Rattle.delegator_states.specs.Trains.{first_candidates, set_with, sets_with};
 ghost use Rattle.pacs_records.specs.Reasons.{stream_not_taken};
 ghost use Rattle.scan_delegator.specs.State.Choices.{GoesOn, IsPart, Takes, chosen_of, is_chosen, with_one};
 
@@ -55,8 +55,8 @@ pub(crate) fn choose(
     streams: u8,
 ) -> Result<Chosen, Memory>
     requires { num_bis ≤ 31 }
-    ensures bits { IfOk result (λ chosen. chosen.bits ≡ map (set_with 0) (first_of_all streams (candidates_of capability.now base.now num_bis wishes.now base.now.subgroups))) }
-    ensures which { IfOk result (λ chosen. chosen.which ≡ sets_with 0 (first_of_all streams (candidates_of capability.now base.now num_bis wishes.now base.now.subgroups))) }
+    ensures bits { IfOk result (λ chosen. chosen.bits ≡ map (set_with 0) (first_candidates capability.now base.now num_bis streams wishes.now base.now.subgroups)) }
+    ensures which { IfOk result (λ chosen. chosen.which ≡ sets_with 0 (first_candidates capability.now base.now num_bis streams wishes.now base.now.subgroups)) }
 {
     let mut bits = TakenBits::new(alloc);
     let mut which = BisSet::new();

@@ -27,7 +27,6 @@ pub struct ScanDelegator {
     pub(crate) capability: Capability,
     pub(crate) waiting: VecDeque<Notice>,
     pub(crate) mtu: Option<u16>,
-    ghost some: { 1 ≤ streams },
     ghost reach: { limits.horizon ≤ 31 },
     ghost few: { vec_len slots ≤ 8 },
     ghost within: { IsWithin place (vec_len slots) },

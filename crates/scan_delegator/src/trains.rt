@@ -7,7 +7,7 @@ ghost use Rattle.delegator_states.specs.Sights.{entry_at};
 ghost use Rattle.delegator_states.specs.States.{Step, train_heard};
 ghost use Rattle.delegator_states.specs.Steps.{wishes_at};
 ghost use Rattle.delegator_states.specs.Trains as trains;
-ghost use Rattle.delegator_states.specs.Trains.{answer_of, base_in, big_info_in, brought_by, by_base, by_big_info, by_candidates, by_endpoint, by_group, by_slot, candidates_of, done_brought, heard};
+ghost use Rattle.delegator_states.specs.Trains.{answer_of, base_in, big_info_in, brought_by, by_base, by_big_info, by_endpoint, by_group, by_slot, by_streams, done_brought, first_candidates, heard};
 ghost use Rattle.delegator_states.specs.declared.train_heard.TrainHeard.TheVariants as answers;
 ghost use Rattle.scan_delegator.specs.State.Brings.{brought_of, train_of, IsBrought};
 ghost use Rattle.scan_delegator.specs.State.Machines.{machine, moved, StandsFor};
@@ -173,7 +173,7 @@ impl ScanDelegator {
         encrypted: bool,
     ) -> Result<Brought, Memory>
         requires { train.now.heard_at ≤ 2 ^ 61 }
-        ensures { IfOk result (λ brought. brought_of brought ≡ by_candidates self.now.streams slot (train_of train.now) base.now group.now.info encrypted (candidates_of self.now.capability base.now group.now.info.num_bis wishes.now base.now.subgroups)) }
+        ensures { IfOk result (λ brought. brought_of brought ≡ by_streams slot (train_of train.now) base.now group.now.info encrypted (first_candidates self.now.capability base.now group.now.info.num_bis self.now.streams wishes.now base.now.subgroups)) }
     {
         let num_bis = group.info.num_bis;
         let Chosen { bits, which } = choose(

@@ -1,5 +1,5 @@
 -- How the streams that a sink takes are chosen one by one.
-use Rattle.std.specs.Prelude.{ℕ, ◌≡◌, ◌+◌, ◌-◌, ◌^◌, ◌==◌, Bool, List, [], ◌∷◌, length, map, take, bit_or, IsTrue, if◌then◌else◌}
+use Rattle.std.specs.Prelude.{ℕ, ◌≡◌, ◌+◌, ◌-◌, ◌^◌, ◌==◌, Bool, List, length, map, take, bit_or, IsTrue, if◌then◌else◌}
 use Rattle.std.specs.List.{filter, range_with_len}
 use Rattle.base_grammar.specs.declared.subgroup.Subgroup.{Subgroup}
 use Rattle.base_grammar.specs.Layout.{Endpoint, bis_of, indices, stands_in}

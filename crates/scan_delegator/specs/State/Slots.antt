@@ -1,5 +1,5 @@
 -- What is true of every slot that is filled, so that its state has octets.
-use Rattle.std.specs.Prelude.{ℕ, ◌<◌, ◌≤◌, ◌^◌, ◌==◌, ◌&&◌, List, length, Option, is_none, Bool}
+use Rattle.std.specs.Prelude.{ℕ, ◌<◌, ◌≤◌, ◌^◌, List, length, Option, is_none, Bool}
 use Rattle.std.specs.List.{AllByRecursion}
 use Rattle.bass_operations.specs.declared.wishes.Wish.{Wish}
 use Rattle.delegator_states.specs.declared.source.Source.{Source}

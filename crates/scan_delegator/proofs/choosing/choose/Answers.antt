@@ -1,7 +1,7 @@
-use Rattle.std.proofs.Common.{◌≡◌, ◌+◌, ◌<◌, ◌≤◌, ◌^◌, ◌∙◌, ℕ, List, [], drop, length, take, ap, sym, subst, refl, arith}
+use Rattle.std.proofs.Common.{◌+◌, ◌<◌, ◌≤◌, ◌^◌, ◌∙◌, ℕ, List, drop, length, map, take, ap, sym, subst, refl, arith}
 use Rattle.std.proofs.lemmas.Nat.{pow_pos}
-use Rattle.delegator_states.specs.Trains.{candidates, candidates_of}
-use Rattle.scan_delegator.proofs.Candidates.{candidates_next, candidates_small, drop_past, no_subgroup, part_of}
+use Rattle.delegator_states.specs.Trains.{candidates, set_with, sets_with}
+use Rattle.scan_delegator.proofs.Candidates.{candidates_next, candidates_of, candidates_small, drop_past, first_are, no_subgroup, part_of}
 use Rattle.scan_delegator.proofs.Taken.{chooses_last, chooses_next, set_below, taken_below}
 use Rattle.scan_delegator.proofs.choosing.choose.Goals as goal
 
@@ -36,6 +36,7 @@ returns-then-place-count-clause-bits c =
     c.subgroups.room c.subgroups.which c.subgroups.bits
     (no_subgroup c.args.capability.now c.args.base.now c.args.num_bis (drop c.subgroups.place c.args.wishes.now) (drop c.subgroups.place c.args.base.now.subgroups)
     (drop_past c.subgroups.place c.args.base.now.subgroups past)) c.subgroups.invariant).0
+    ∙ ap (map (set_with 0)) (first_are c.args.capability.now c.args.base.now c.args.num_bis c.args.streams c.args.wishes.now c.args.base.now.subgroups)
 
 pub returns-then-place-count-clause-which : goal.returns-then-place-count-clause-which
 returns-then-place-count-clause-which c =
@@ -45,3 +46,24 @@ returns-then-place-count-clause-which c =
     c.subgroups.room c.subgroups.which c.subgroups.bits
     (no_subgroup c.args.capability.now c.args.base.now c.args.num_bis (drop c.subgroups.place c.args.wishes.now) (drop c.subgroups.place c.args.base.now.subgroups)
     (drop_past c.subgroups.place c.args.base.now.subgroups past)) c.subgroups.invariant).1
+    ∙ ap (sets_with 0) (first_are c.args.capability.now c.args.base.now c.args.num_bis c.args.streams c.args.wishes.now c.args.base.now.subgroups)
+
+pub returns-clause-bits : goal.returns-clause-bits
+returns-clause-bits c =
+    let past : length c.args.wishes.now ≤ c.subgroups.place = omega (arith, c.subgroups-test.false, c.count-place-end.ensures.same) in
+    (chooses_last (candidates_of c.args.capability.now c.args.base.now c.args.num_bis c.args.wishes.now c.args.base.now.subgroups) c.args.streams
+    (candidates_of c.args.capability.now c.args.base.now c.args.num_bis (drop c.subgroups.place c.args.wishes.now) (drop c.subgroups.place c.args.base.now.subgroups))
+    c.subgroups.room c.subgroups.which c.subgroups.bits
+    (ap (λ wishes. candidates_of c.args.capability.now c.args.base.now c.args.num_bis wishes (drop c.subgroups.place c.args.base.now.subgroups))
+    (drop_past c.subgroups.place c.args.wishes.now past)) c.subgroups.invariant).0
+    ∙ ap (map (set_with 0)) (first_are c.args.capability.now c.args.base.now c.args.num_bis c.args.streams c.args.wishes.now c.args.base.now.subgroups)
+
+pub returns-clause-which : goal.returns-clause-which
+returns-clause-which c =
+    let past : length c.args.wishes.now ≤ c.subgroups.place = omega (arith, c.subgroups-test.false, c.count-place-end.ensures.same) in
+    (chooses_last (candidates_of c.args.capability.now c.args.base.now c.args.num_bis c.args.wishes.now c.args.base.now.subgroups) c.args.streams
+    (candidates_of c.args.capability.now c.args.base.now c.args.num_bis (drop c.subgroups.place c.args.wishes.now) (drop c.subgroups.place c.args.base.now.subgroups))
+    c.subgroups.room c.subgroups.which c.subgroups.bits
+    (ap (λ wishes. candidates_of c.args.capability.now c.args.base.now c.args.num_bis wishes (drop c.subgroups.place c.args.base.now.subgroups))
+    (drop_past c.subgroups.place c.args.wishes.now past)) c.subgroups.invariant).1
+    ∙ ap (sets_with 0) (first_are c.args.capability.now c.args.base.now c.args.num_bis c.args.streams c.args.wishes.now c.args.base.now.subgroups)

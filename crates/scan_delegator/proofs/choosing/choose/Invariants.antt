@@ -1,5 +1,5 @@
 use Rattle.std.proofs.Common.{drop}
-use Rattle.delegator_states.specs.Trains.{candidates_of}
+use Rattle.scan_delegator.proofs.Candidates.{candidates_of}
 use Rattle.scan_delegator.proofs.Taken.{Chooses}
 use Rattle.scan_delegator.proofs.choosing.choose.Given as goal
 

@@ -66,7 +66,6 @@ pub invariant_of-self-2 : goal.invariant_of-self-2
 invariant_of-self-2 c =
     let mid : Machine = machine c.put.new.self in
     record {
-      some = c.put.new.self.some;
       reach = c.put.new.self.reach;
       few = c.put.new.self.few;
       within = λ slot is. moves_below mid.sight c.move_wanted-moves.result mid.setup.slots c.put.new.self.within slot (sym (ap (λ (s : Sight). slot_of s.place) (c.make_move.ensures mid.sight)) ∙ is);
