@@ -19,8 +19,6 @@ mod groups;
 #[cfg(test)]
 mod lines;
 #[cfg(test)]
-mod numbers;
-#[cfg(test)]
 mod octets_in_and_out;
 #[cfg(test)]
 mod receivers;
