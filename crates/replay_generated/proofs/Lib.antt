@@ -1,0 +1,9 @@
+mod GeneratedText
+mod EndLines
+mod Outputs
+mod Runs
+mod Accepting
+mod Saying
+mod Endings
+mod Rooms
+mod Promising
