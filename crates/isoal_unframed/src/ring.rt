@@ -1,5 +1,5 @@
 ghost use Rattle.std.specs.Prelude.{◌≡◌, ◌≤◌, ◌<◌, ◌+◌, ◌*◌, ◌^◌, ℕ, List, [], ◌∷◌, ◌++◌, length, vec_len, take, drop, replicate, not, is_some, slice_set, slice_index_or, Some, None, IfSome, IfOk};
-ghost use Rattle.std.specs.List.{All};
+ghost use Rattle.std.specs.List.{All, copy_within};
 ghost use Rattle.std.specs.Option.{option_map, option_copied};
 ghost use Rattle.big_info.specs.Schedule.{per_unit_of};
 ghost use Rattle.unit_outlets.specs.Handed.{Caused};
@@ -171,19 +171,33 @@ fn gather(cells: &[Cell], max_pdu: usize, max_sdu: usize, block: &mut [u8]) -> O
             Cell::Empty => return None,
             Cell::Fragment(part) => {
                 let count = usize::from(part);
-                block.copy_within(from..from + count, len);
+                move_down(block, from, count, len);
                 len += count;
                 from += max_pdu;
             }
             Cell::End(part) => {
                 let count = usize::from(part);
-                block.copy_within(from..from + count, len);
+                move_down(block, from, count, len);
                 len += count;
                 return if len <= max_sdu { Some(len) } else { None };
             }
         }
     }
     None
+}
+
+/// Moves so many octets down to this place, where they don't stand there.
+#[tactic(auto, using(crate::proofs::Vecs::moved_nowhere))]
+fn move_down(block: &mut [u8], from: usize, count: usize, to: usize)
+    requires order { to ≤ from }
+    requires room { from + count ≤ length block.old }
+    ensures same { length block.new ≡ length block.old }
+    ensures octets { block.new ≡ copy_within block.old from (from + count) to }
+{
+    if from == to {
+        return;
+    }
+    block.copy_within(from..from + count, to);
 }
 
 /// How many octets are held of a slot: those of the longest front of its parts that has an end at most in the last

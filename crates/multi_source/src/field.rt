@@ -7,7 +7,7 @@ ghost use Rattle.source_machine.specs.Calls.{Setup as Fixed, Call, event as perf
 ghost use Rattle.source_machine.specs.Faults.{event_fault, refused_event};
 ghost use Rattle.source_machine.specs.Ciphers.{MayBeSent};
 ghost use Rattle.source_machine.specs.Setups.{configured};
-ghost use Rattle.multi_source.specs.State.Fields.{EventLeaves, HasOwnAir, IsPlain, Sending, fault_of, is_same as is_same_source, is_taken};
+ghost use Rattle.multi_source.specs.State.Fields.{EventLeaves, HasOwnAir, IsPlain, Sending, fault_of, is_taken};
 
 use bcast_base::{Bis, EventPdus};
 use big_info::{GroupFault, Limits};
@@ -281,17 +281,7 @@ fn is_twin(identity: Identity, other: &Option<Begun>) -> bool
     ensures { result ≡ is_taken identity other.now }
 {
     match other {
-        Some(begun) => is_same(begun.identity, identity),
+        Some(begun) => begun.identity.is_twin(identity),
         None => false,
     }
-}
-
-/// Whether two sources have the same address type, SID and Broadcast_ID.
-#[tactic(auto, unfolding(crate::specs::State::Fields::is_same))]
-fn is_same(one: Identity, other: Identity) -> bool
-    ensures { result ≡ is_same_source one other }
-{
-    one.address_type == other.address_type
-        && one.sid == other.sid
-        && one.broadcast_id == other.broadcast_id
 }

@@ -5,4 +5,4 @@ mod air;
 mod payload;
 
 pub use air::{Air, AirFault};
-pub use payload::payload_of;
+pub use payload::{events_ahead, payload_of};

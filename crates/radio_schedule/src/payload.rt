@@ -1,4 +1,4 @@
-ghost use Rattle.std.specs.Prelude.{IfSome, ◌≡◌, ◌<◌, ◌≤◌, ◌^◌};
+ghost use Rattle.std.specs.Prelude.{IfSome, ◌≡◌, ◌<◌, ◌≤◌, ◌/◌, ◌^◌};
 ghost use Rattle.std.specs.Option.{SomeIff};
 ghost use Rattle.big_info.specs.Schedule.{group_count, horizon_of};
 ghost use Rattle.radio_schedule.specs.PayloadNumber.{InWindow, ahead_of, payload_number};
@@ -17,13 +17,22 @@ pub fn payload_of(group: &Group, event: u64, subevent: u8) -> Option<u64>
     if subevent >= info.nse {
         return None;
     }
-    let ahead = events_ahead(group, subevent / info.bn);
+    let ahead = events_ahead(group, subevent);
     let number = (event + ahead) * u64::from(info.bn) + u64::from(subevent % info.bn);
     if number < 1 << 39 { Some(number) } else { None }
 }
 
+/// How many events ahead the payload of a subevent, from 0, is.
+pub fn events_ahead(group: &Group, subevent: u8) -> u64
+    requires { subevent < group.now.info.nse }
+    ensures ahead { result ≡ ahead_of group.now.info (subevent / group.now.info.bn) }
+    ensures within { result ≤ horizon_of group.now.info }
+{
+    copies_ahead(group, subevent / group.info.bn)
+}
+
 /// How many events ahead the payloads of a group of subevents, from 0, are.
-fn events_ahead(group: &Group, copies: u8) -> u64
+fn copies_ahead(group: &Group, copies: u8) -> u64
     requires { copies < group_count group.now.info }
     ensures ahead { result ≡ ahead_of group.now.info copies }
     ensures within { result ≤ horizon_of group.now.info }

@@ -43,6 +43,7 @@ impl Machine {
     }
 
     /// `stop`: closes the open event of the chosen source, and stops it.
+    #[inline(never)]
     pub(crate) fn stop(
         &mut self,
         outlets: &mut Vec<Box<dyn Outlet>>,
@@ -61,6 +62,7 @@ impl Machine {
 
     /// `terminate`: closes the open event of the chosen source, ends its group for this reason, and prints the PDU that says
     /// so.
+    #[inline(never)]
     pub(crate) fn terminate(
         &mut self,
         reason: u8,
@@ -89,6 +91,7 @@ impl Machine {
 
     /// `end`: closes the open event of each source, that of source 0 first, and prints the sums of the living sinks by rising
     /// number.
+    #[inline(never)]
     pub(crate) fn end(
         &mut self,
         version: Version,

@@ -15,6 +15,7 @@ use unit_outlets::Outlet;
 
 impl Machine {
     /// `sink`: a new sink with the next box, of so many.
+    #[inline(never)]
     pub(crate) fn sink(&mut self, sink: u8, boxes: usize) -> Result<(), Stop>
         requires { sink ≤ 7 }
         ensures { (version : ℕ) (steps : List Step) (streams slots : ℕ) (mtu : Option ℕ) → Stands steps self.old → stage_of steps ≡ running version
@@ -24,6 +25,7 @@ impl Machine {
     }
 
     /// `tuned`: puts a sink on the group of the chosen source from the next event on.
+    #[inline(never)]
     pub(crate) fn tuned(&mut self, sink: u8, which: BisSet) -> Result<(), Stop>
         requires { sink ≤ 7 }
         ensures { (boxes version : ℕ) (steps : List Step) → Stands steps self.old → stage_of steps ≡ running version
@@ -43,6 +45,7 @@ impl Machine {
     }
 
     /// `drop`: prints the sums of a sink's box, and ends the sink.
+    #[inline(never)]
     pub(crate) fn drop_sink(
         &mut self,
         sink: u8,

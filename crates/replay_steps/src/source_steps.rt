@@ -20,6 +20,7 @@ use transcript_text::{Refusal, Stop};
 
 impl Machine {
     /// `group`: describes the chosen source. Origin and delay are in µs.
+    #[inline(never)]
     pub(crate) fn group(&mut self, info: BigInfo, origin: u64, delay: u32) -> Result<(), Stop>
         requires widths { FitsWidths info }
         requires least { 3000 ≤ origin }
@@ -32,6 +33,7 @@ impl Machine {
     }
 
     /// `ident`: names the chosen source.
+    #[inline(never)]
     pub(crate) fn ident(&mut self, identity: Identity) -> Result<(), Stop>
         ensures { (boxes version : ℕ) (steps : List Step) → Stands steps self.old → stage_of steps ≡ running version
             → Quiet boxes steps (IdentStep identity.address_type identity.address identity.sid identity.broadcast_id) self.new result }
@@ -40,6 +42,7 @@ impl Machine {
     }
 
     /// `subgroup`: opens a subgroup of the chosen source's BASE.
+    #[inline(never)]
     pub(crate) fn subgroup(&mut self, codec: [u8; 5], config: &[u8]) -> Result<(), Stop>
         requires { bad_of config.now ≡ None }
         ensures { (boxes version : ℕ) (steps : List Step) → Stands steps self.old → stage_of steps ≡ running version
@@ -49,6 +52,7 @@ impl Machine {
     }
 
     /// `meta`: gives the last subgroup its metadata.
+    #[inline(never)]
     pub(crate) fn meta(&mut self, metadata: &[u8]) -> Result<(), Stop>
         requires { bad_of metadata.now ≡ None }
         ensures { (boxes version : ℕ) (steps : List Step) → Stands steps self.old → stage_of steps ≡ running version
@@ -58,6 +62,7 @@ impl Machine {
     }
 
     /// `bis`: adds a stream to the last subgroup.
+    #[inline(never)]
     pub(crate) fn bis(&mut self, bis: Bis, config: &[u8]) -> Result<(), Stop>
         requires { bad_of config.now ≡ None }
         ensures { (boxes version : ℕ) (steps : List Step) → Stands steps self.old → stage_of steps ≡ running version
@@ -67,6 +72,7 @@ impl Machine {
     }
 
     /// `cipher`: encrypts the group of the chosen source.
+    #[inline(never)]
     pub(crate) fn cipher(&mut self, cipher: Cipher) -> Result<(), Stop>
         ensures { (boxes version : ℕ) (steps : List Step) → Stands steps self.old → stage_of steps ≡ running version
             → Quiet boxes steps (CipherStep cipher.giv cipher.gskd) self.new result }
@@ -86,6 +92,7 @@ impl Machine {
     }
 
     /// `start`: starts the chosen source.
+    #[inline(never)]
     pub(crate) fn start(&mut self, version: Version, first: u64) -> Result<(), Stop>
         requires { first < 2 ^ 39 }
         ensures { (boxes : ℕ) (steps : List Step) → Stands steps self.old → stage_of steps ≡ running (number_of version)

@@ -1,7 +1,7 @@
 -- Why a step is refused after those before it: the first reason that holds, in the order of test. The refusals are the
 -- scenario language's own; those of a group, a unit and a place on the air are after Core 5.2, volume 6 parts B and G. Lists
 -- of steps have the newest first; where a list is called `own` its steps are those of one source.
-use Rattle.std.specs.Prelude.{ℕ, ◌==◌, ◌&&◌, ◌||◌, nat_lt, nat_le, not, is_some, unwrap_or, bytes_eq, Bool, true, false, List, Option, None, Some, if◌then◌else◌}
+use Rattle.std.specs.Prelude.{ℕ, ◌==◌, ◌&&◌, ◌||◌, nat_lt, nat_le, not, is_some, unwrap_or, Bool, true, false, List, Option, None, Some, if◌then◌else◌}
 use Rattle.std.specs.List.{list_any}
 use Rattle.std.specs.Option.{option_or, option_map, option_and_then}
 use Rattle.big_info.specs.declared.fault.GroupFault.{GroupFault}
@@ -15,7 +15,8 @@ use Rattle.source_machine.specs.declared.fault.GiveFault.TheVariants.{NoSuchBis 
 use Rattle.source_machine.specs.declared.fault.EventFault.{EventFault}
 use Rattle.source_machine.specs.Ciphers.{with_cipher}
 use Rattle.source_machine.specs.Faults.{give_fault, event_fault, air_fault}
-use Rattle.delegator_machine.specs.Streams.{streams_of}
+use Rattle.source_machine.specs.Setups.{are_twins}
+use Rattle.group_sink.specs.Streams.{streams_of}
 use Rattle.transcript_text.specs.declared.refusal.Refusal.{Refusal}
 use Rattle.transcript_text.specs.declared.refusal.Refusal.TheVariants.{NotBuilt, AfterEnd, Order, BadGroup, BaseTooLong, IdentTwice, NoSuchSink, SinkTwice}
 use Rattle.transcript_text.specs.declared.refusal.Refusal.TheVariants.{NoOutlet, NoSuchBis, UnitTooLong, TimeOrder, Backlog, NoSuchSubevent, NotOnAir, CounterEnds}
@@ -23,7 +24,7 @@ use Rattle.scenario_text.specs.declared.step.Step.{Step}
 use Rattle.scenario_text.specs.declared.step.Step.TheVariants.{Scenario, Group, Ident, Subgroup, Meta, Bis, Cipher, Start, Sink, Tuned, Unit, Event, Hear, Air}
 use Rattle.scenario_text.specs.declared.step.Step.TheVariants.{Inject, Sniff, Announce, Drop, Stop, Terminate, End, Source}
 use Rattle.scenario_history.specs.Steps.{Stage, chosen_of, chosen_steps, is_over, is_unbegun_at, other_of, sinks_made, stage_of, steps_of_source, version_of}
-use Rattle.scenario_history.specs.Source.{Airs, Identity, cipher_of, group_of, ident_of, identity_of, is_absent_at, is_ciphered, is_described_at}
+use Rattle.scenario_history.specs.Source.{Airs, cipher_of, group_of, ident_of, identity_of, is_absent_at, is_ciphered, is_described_at}
 use Rattle.scenario_history.specs.Source.{is_heard, is_sending, is_started, no_group, performed, phase_of, setup_of, source_calls, takes_units}
 use Rattle.scenario_history.specs.Bases.{has_subgroup, has_bis, is_last_bare, is_base_too_long}
 use Rattle.scenario_history.specs.Boxes.{box_of}
@@ -137,16 +138,12 @@ counter_ends (Some fault) = Some CounterEnds
 unfoldable pub has_beyond : ℕ → ℕ → Bool
 has_beyond num_bis which = list_any (λ bis. nat_lt num_bis bis) (streams_of which)
 
--- two sources have the same address type, SID and Broadcast_ID
-unfoldable pub is_same_identity : Identity → Identity → Bool
-is_same_identity one other =
-    (one.address_type == other.address_type) && (one.sid == other.sid) && bytes_eq one.broadcast_id other.broadcast_id
-
--- the source beside the chosen one was started, also where it was stopped since, with the chosen one's identity
+-- the source beside the chosen one was started, also where it was stopped since, with the chosen one's address type, SID and
+-- Broadcast_ID
 abbrev pub is_ident_twice : List Step → Bool
 is_ident_twice steps =
     is_started (steps_of_source (other_of (chosen_of steps)) steps)
-    && is_same_identity (identity_of (chosen_steps steps)) (identity_of (steps_of_source (other_of (chosen_of steps)) steps))
+    && are_twins (identity_of (chosen_steps steps)) (identity_of (steps_of_source (other_of (chosen_of steps)) steps))
 
 -- what is refused of a step in the right phase by what the sinks are, where there are so many boxes
 abbrev pub sink_refusal : ℕ → List Step → Step → Option Refusal

@@ -11,6 +11,7 @@ use Rattle.isoal_base.specs.Air.{Air}
 use Rattle.source_machine.specs.Calls.{Setup, Call, give, event as perform, events, next_of}
 use Rattle.source_machine.specs.Airs.{pdu_of, stale_of}
 use Rattle.source_machine.specs.declared.sent.Stale.{Stale}
+use Rattle.source_machine.specs.declared.setup.Identity.{Identity}
 use Rattle.scenario_text.specs.declared.step.Step.{Step}
 use Rattle.scenario_text.specs.declared.step.Step.TheVariants.{Group, Ident, Cipher as CipherLine, Start, Unit, Event, Stop, Terminate}
 use Rattle.scenario_history.specs.Steps.{last_given, is_over, version_of}
@@ -66,13 +67,6 @@ start_given _ = None
 -- the first event of the source, where it was started
 abbrev pub start_of : List Step → Option ℕ
 start_of steps = last_given start_given steps
-
--- who sends: the address type and the address, the advertising SID and the Broadcast_ID
-pub record Identity : Type 0 where
-  pub address_type : ℕ
-  pub address : List ℕ
-  pub sid : ℕ
-  pub broadcast_id : List ℕ
 
 abbrev pub identity_given : Step → Option Identity
 identity_given (Ident address_type address sid broadcast_id) =

@@ -1,6 +1,6 @@
 -- A source whose BASE is put together, after a line that says something of it.
 use Rattle.std.proofs.Common.{ℕ, ◌≡◌, ◌≤◌, ◌<◌, ◌||◌, ◌++◌, ◌⊎◌, inl, inr, nat_lt, Bool, true, false, cond, List, [], ◌∷◌}
-use Rattle.std.proofs.Common.{length, Option, None, Some, Result, Ok, Err, refl, sym, ap, subst, is_some, not, unwrap_or, option_map, ◌∙◌, arith}
+use Rattle.std.proofs.Common.{length, Option, None, Some, Result, Ok, Err, refl, sym, ap, subst, is_some, not, ◌∙◌, arith}
 use Rattle.std.proofs.lemmas.Bool.{le-ltb, lt-ltb}
 use Rattle.std.specs.Option.{ForSome}
 use Rattle.ltv_codec.specs.Layout.{AreLtvs}
@@ -23,7 +23,6 @@ use Rattle.scenario_text.specs.declared.step.Step.TheVariants.{Bis, Meta, Subgro
 use Rattle.scenario_history.specs.Bases.{base_lines, has_bis, has_subgroup, is_last_bare, subgroups_of}
 use Rattle.scenario_history.specs.Source.{described, group_of, no_group, phase_of}
 use Rattle.scenario_sources.specs.Bases.{is_bare, is_missing, stop_of}
-use Rattle.scenario_sources.specs.Described.{identity_in}
 use Rattle.scenario_sources.specs.declared.phase.Described.{Described}
 use Rattle.scenario_sources.specs.declared.phase.Phase.TheVariants as phases
 use Rattle.scenario_sources.specs.State.Phases.{Becomes, DescribedIs, PhaseIs}
@@ -121,7 +120,7 @@ pub record Keeps (said new : Described) : Type 0 where
 kept : (own : List Step) (said new : Described) → DescribedIs own said → Keeps said new → new.base ≡ said.base → DescribedIs own new
 kept own said new is keeps base = record {
   group = is.group ∙ ap Some (rw (keeps.info, keeps.origin, keeps.delay) refl);
-  ident = ap (option_map identity_in) keeps.identity ∙ is.ident;
+  ident = keeps.identity ∙ is.ident;
   cipher = ap (λ (info : BigInfo). info.cipher) keeps.info ∙ is.cipher;
   base = base ∙ is.base ∙ ap (λ delay. endpoint delay (subgroups_of own)) (sym keeps.delay);
   calls = is.calls;
@@ -143,7 +142,7 @@ opens version own codec config said new is keeps refuses base =
         is.0,
         record {
           group = is.1.group ∙ ap Some (rw (keeps.info, keeps.origin, keeps.delay) refl);
-          ident = ap (option_map identity_in) keeps.identity ∙ is.1.ident;
+          ident = keeps.identity ∙ is.1.ident;
           cipher = ap (λ (info : BigInfo). info.cipher) keeps.info ∙ is.1.cipher;
           base = base ∙ ap (with_subgroup (opened codec config)) is.1.base ∙ ap (λ delay. endpoint delay (subgroups_of (SubgroupStep codec config ∷ own))) (sym keeps.delay);
           calls = is.1.calls;
@@ -178,7 +177,7 @@ gives_metadata version own metadata said new is keeps refuses base =
         is.0,
         record {
           group = is.1.group ∙ ap Some (rw (keeps.info, keeps.origin, keeps.delay) refl);
-          ident = ap (option_map identity_in) keeps.identity ∙ is.1.ident;
+          ident = keeps.identity ∙ is.1.ident;
           cipher = ap (λ (info : BigInfo). info.cipher) keeps.info ∙ is.1.cipher;
           base = base ∙ ap (with_metadata metadata) is.1.base ∙ ap (λ ss. endpoint said.delay ss) (sym (describes_last metadata (base_lines own)))
               ∙ ap (λ delay. endpoint delay (subgroups_of (Meta metadata ∷ own))) (sym keeps.delay);
@@ -239,7 +238,7 @@ adds version own bis number config said new is keeps some same below refuses bas
         is.0,
         record {
           group = is.1.group ∙ ap Some (rw (keeps.info, keeps.origin, keeps.delay) refl);
-          ident = ap (option_map identity_in) keeps.identity ∙ is.1.ident;
+          ident = keeps.identity ∙ is.1.ident;
           cipher = ap (λ (info : BigInfo). info.cipher) keeps.info ∙ is.1.cipher;
           base = base ∙ ap (with_entry e) is.1.base ∙ ap (λ ss. endpoint said.delay ss) (sym (adds_to_last e (base_lines own)))
               ∙ ap (λ delay. endpoint delay (subgroups_of (Bis bis config ∷ own))) (sym keeps.delay);

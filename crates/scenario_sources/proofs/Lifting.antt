@@ -1,6 +1,6 @@
 -- The sources after a step that means one of them.
 use Rattle.std.proofs.Common.{◌≡◌, ◌≢◌, ℕ, zero, suc, ◌<◌, ◌==◌, Bool, true, false, List, [], ◌∷◌, length, refl, sym, ◌∙◌, ap, subst, eq-eqb, ne_eqb, slice_get, slice_set, get_or}
-use Rattle.std.proofs.Common.{if◌then◌else◌, ◌&&◌, option_map, unwrap_or, arith, Option, None, Some, ◌⊎◌, inl, inr, Result, Ok, Err}
+use Rattle.std.proofs.Common.{if◌then◌else◌, ◌&&◌, arith, Option, None, Some, ◌⊎◌, inl, inr, Result, Ok, Err}
 use Rattle.std.proofs.lemmas.Option.{slice_get-get_or}
 use Rattle.transcript_text.specs.declared.refusal.Refusal.{Refusal}
 use Rattle.transcript_text.specs.declared.refusal.Refusal.TheVariants.{IdentTwice}
@@ -9,16 +9,15 @@ use Rattle.transcript_text.specs.declared.stop.Stop.TheVariants.{Refused, Outlet
 use Rattle.scenario_text.specs.declared.step.Step.{Step}
 use Rattle.scenario_text.specs.declared.step.Step.TheVariants.{Event, Start, Terminate}
 use Rattle.scenario_history.specs.Steps.{chosen_given, chosen_of, chosen_steps, is_of_source, other_of, steps_of_source}
-use Rattle.scenario_history.specs.Source as history
-use Rattle.scenario_history.specs.Source.{ident_of, identity_of, is_started, no_identity}
-use Rattle.scenario_history.specs.Refusals.{is_ident_twice, is_same_identity, refuse_if, twin_refusal}
+use Rattle.scenario_history.specs.Source.{identity_of, is_started}
+use Rattle.scenario_history.specs.Refusals.{is_ident_twice, refuse_if, twin_refusal}
+use Rattle.source_machine.specs.Setups.{are_twins}
 use Rattle.source_machine.specs.declared.setup.Identity.{Identity}
 use Rattle.scenario_sources.specs.declared.performed.Performed.{Performed}
 use Rattle.scenario_sources.specs.declared.terminated.Terminated.{Terminated}
 use Rattle.scenario_sources.specs.declared.phase.Phase.{Phase}
 use Rattle.scenario_sources.specs.declared.sources.Sources.{Sources}
 use Rattle.scenario_sources.specs.Answers.{Answers, Closes, Performs, Terminates}
-use Rattle.scenario_sources.specs.Described.{identity_in, identity_or_none}
 use Rattle.scenario_sources.specs.Faults.{fault_in, fault_of}
 use Rattle.scenario_sources.specs.State.Phases.{Becomes, Begins, IsReady, PhaseAt, PhaseIs}
 use Rattle.scenario_sources.specs.State.Phases as state
@@ -186,12 +185,12 @@ performs version steps at old new phase (Err Memory) same within two stands b ch
 -- ---- start
 
 -- the other source was started with the same identity
-pub twice_is : (steps : List Step) (own : Identity) (other : List Step) (r : Bool) → identity_in own ≡ identity_of (chosen_steps steps)
+pub twice_is : (steps : List Step) (own : Identity) (other : List Step) (r : Bool) → own ≡ identity_of (chosen_steps steps)
     → other ≡ steps_of_source (other_of (chosen_of steps)) steps
-    → r ≡ (is_started other && is_same_identity (identity_in own) (identity_of other)) → r ≡ is_ident_twice steps
+    → r ≡ (is_started other && are_twins own (identity_of other)) → r ≡ is_ident_twice steps
 twice_is steps own other r is same e =
-    e ∙ ap (λ o. is_started o && is_same_identity (identity_in own) (identity_of o)) same
-    ∙ ap (λ i. is_started (steps_of_source (other_of (chosen_of steps)) steps) && is_same_identity i (identity_of (steps_of_source (other_of (chosen_of steps)) steps))) is
+    e ∙ ap (λ o. is_started o && are_twins own (identity_of o)) same
+    ∙ ap (λ i. is_started (steps_of_source (other_of (chosen_of steps)) steps) && are_twins i (identity_of (steps_of_source (other_of (chosen_of steps)) steps))) is
 
 -- all but the proofs of what is always true of them is the same
 pub stands_as : (steps : List Step) (old new : Sources) → SourcesStand steps old → new.chosen ≡ old.chosen → new.phases.items ≡ old.phases.items → SourcesStand steps new

@@ -30,7 +30,7 @@ use Rattle.scenario_sources.specs.declared.phase.Described.{Described}
 use Rattle.scenario_sources.specs.declared.phase.Phase.TheVariants as phases
 use Rattle.scenario_sources.specs.declared.phase.Started.{Started}
 use Rattle.scenario_sources.specs.declared.terminated.Terminated.{Terminated}
-use Rattle.scenario_sources.specs.Described.{IsPlain, group_step, identity_in}
+use Rattle.scenario_sources.specs.Described.{IsPlain, group_step}
 use Rattle.scenario_sources.specs.State.Phases.{AbsentIs, Becomes, DescribedIs, StartedIs, Terminates}
 use Rattle.scenario_sources.specs.State.Stops.{GivesTo, GiveStops}
 
@@ -53,7 +53,7 @@ describes version own info origin delay new plain is i o d n b = (
     refl,
     record {
       group = ap Some (same_line _ (without_cipher new.info) origin new.origin delay new.delay (sym (ap without_cipher (i ∙ plain))) (sym o) (sym d));
-      ident = ap (option_map identity_in) n ∙ sym is.1.ident;
+      ident = n ∙ sym is.1.ident;
       cipher = ap (λ (x : BigInfo). x.cipher) (i ∙ plain) ∙ sym is.1.cipher;
       base = b ∙ ap (λ k. endpoint k []) (sym d) ∙ ap (λ lines. endpoint new.delay (subgroups_in lines)) (sym is.1.lines);
       calls = is.1.calls;
@@ -65,13 +65,13 @@ pub identifies : (version : ℕ) (own : List Step) (identity : Identity) (said n
     → is_some said.identity ≡ false → new.info ≡ said.info → new.origin ≡ said.origin → new.delay ≡ said.delay → new.base ≡ said.base → new.identity ≡ Some identity
     → Becomes version own (Ident identity.address_type identity.address identity.sid identity.broadcast_id) (phases.Described new) (Ok tt)
 identifies version own identity said new is none i o d b n =
-    let unsaid : ident_of own ≡ None = sym is.1.ident ∙ ap (option_map identity_in) (none_of said.identity none) in (
+    let unsaid : ident_of own ≡ None = sym is.1.ident ∙ none_of said.identity none in (
       rw (is.0, unsaid) refl,
       (
         is.0,
         record {
           group = is.1.group ∙ ap Some (rw (i, o, d) refl);
-          ident = ap (option_map identity_in) n;
+          ident = n;
           cipher = ap (λ (x : BigInfo). x.cipher) i ∙ is.1.cipher;
           base = b ∙ is.1.base ∙ ap (λ k. endpoint k (subgroups_of own)) (sym d);
           calls = is.1.calls;
@@ -89,7 +89,7 @@ encrypts version own cipher said new is none i o d b n =
         is.0,
         record {
           group = is.1.group ∙ ap Some (same_line (without_cipher said.info) (without_cipher new.info) said.origin new.origin said.delay new.delay (sym (ap without_cipher i)) (sym o) (sym d));
-          ident = ap (option_map identity_in) n ∙ is.1.ident;
+          ident = n ∙ is.1.ident;
           cipher = ap (λ (x : BigInfo). x.cipher) i;
           base = b ∙ is.1.base ∙ ap (λ k. endpoint k (subgroups_of own)) (sym d);
           calls = is.1.calls;
@@ -137,7 +137,7 @@ gives version own old new bis time octets (Ok x) is plain identity said g =
       (
         is.0,
         record {
-          ident = ap (option_map identity_in) identity ∙ is.1.ident;
+          ident = identity ∙ is.1.ident;
           setup = g.0 ∙ is.1.setup;
           under_way = is.1.under_way;
           base = said.0 ∙ is.1.base;
@@ -152,7 +152,7 @@ gives version own old new bis time octets (Err (Refused reason)) is plain identi
   (
     is.0,
     record {
-      ident = ap (option_map identity_in) identity ∙ is.1.ident;
+      ident = identity ∙ is.1.ident;
       setup = ap (λ (s : Broadcasting). s.source.setup) g.0 ∙ is.1.setup;
       under_way = is.1.under_way;
       base = said.0 ∙ is.1.base;

@@ -27,13 +27,12 @@ use Rattle.scenario_text.specs.declared.step.Step.{Step}
 use Rattle.scenario_text.specs.declared.step.Step.TheVariants.{Start}
 use Rattle.scenario_history.specs.Bases.{base_from, base_of, has_subgroup, is_base_too_long, is_last_bare, subgroups_of}
 use Rattle.scenario_history.specs.Refusals.{checked_info, fault_refusal, group_refusal, horizon_in, refuse_if}
-use Rattle.scenario_history.specs.Source as history
 use Rattle.scenario_history.specs.Source.{GroupLine, Phase, described, identity_of, is_ahead_in, is_described_at, no_identity, phase_of}
 use Rattle.scenario_history.specs.Steps.{is_unbegun_at, running, stage_of}
 use Rattle.scenario_sources.specs.Bases.{is_long}
 use Rattle.scenario_sources.specs.Faults.{fault_in}
 use Rattle.source_machine.specs.declared.setup.Identity.{Identity}
-use Rattle.scenario_sources.specs.Described.{identity_in, identity_or_none}
+use Rattle.scenario_sources.specs.Described.{identity_or_none}
 use Rattle.scenario_sources.specs.declared.phase.Described.{Described}
 use Rattle.scenario_sources.specs.declared.phase.Phase.{Phase as Phases}
 use Rattle.scenario_sources.specs.declared.phase.Started.{Started}
@@ -267,6 +266,6 @@ begin_stops version first own phase (Refused reason) b = absurd b
 begin_stops version first own phase OutletFault b = b
 begin_stops version first own phase Memory b = tt
 
-pub identity_is : (own : List Step) (said : Described) (identity : Identity) → DescribedIs own said → identity_in identity ≡ identity_or_none said.identity
-    → identity_in identity ≡ identity_of own
-identity_is own said identity is e = e ∙ ap (λ (o : Option history.Identity). unwrap_or o no_identity) is.ident
+pub identity_is : (own : List Step) (said : Described) (identity : Identity) → DescribedIs own said → identity ≡ identity_or_none said.identity
+    → identity ≡ identity_of own
+identity_is own said identity is e = e ∙ ap (λ (o : Option Identity). unwrap_or o no_identity) is.ident

@@ -1,10 +1,9 @@
 -- What the lines before `start` say of a source, as the step of a scenario (the numbers of a group are those of the BIGInfo,
 -- Core 5.2, volume 6 part B, section 4.4.6.11).
-use Rattle.std.specs.Prelude.{ℕ, ◌≡◌, Option, unwrap_or, option_map}
+use Rattle.std.specs.Prelude.{ℕ, ◌≡◌, Option, unwrap_or}
 use Rattle.big_info.specs.declared.info.BigInfo.{BigInfo}
 use Rattle.scenario_text.specs.declared.step.Step.{Step}
 use Rattle.scenario_text.specs.declared.step.Step.TheVariants.{Group}
-use Rattle.scenario_history.specs.Source as history
 use Rattle.scenario_history.specs.Source.{info_with, no_identity}
 use Rattle.source_machine.specs.declared.setup.Identity.{Identity}
 
@@ -19,14 +18,6 @@ IsPlain info =
     info ≡ info_with info.framing info.iso_interval info.sdu_interval info.max_sdu info.max_pdu info.num_bis info.bn info.nse info.irc
     info.pto info.sub_interval info.bis_spacing info.phy
 
-abbrev pub identity_in : Identity → history.Identity
-identity_in identity = record {
-  address_type = identity.address_type;
-  address = identity.address;
-  sid = identity.sid;
-  broadcast_id = identity.broadcast_id;
-}
-
 -- the identity of a source, where one was said or none
-abbrev pub identity_or_none : Option Identity → history.Identity
-identity_or_none said = unwrap_or (option_map identity_in said) no_identity
+abbrev pub identity_or_none : Option Identity → Identity
+identity_or_none said = unwrap_or said no_identity

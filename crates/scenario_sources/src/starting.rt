@@ -3,19 +3,19 @@ ghost use Rattle.std.specs.Prelude.{◌≡◌, ◌≤◌, ◌<◌, ◌^◌, ◌&
 ghost use Rattle.base_grammar.specs.Draft.{finish_fault};
 ghost use Rattle.big_info.specs.Rows.{first_fault};
 ghost use Rattle.big_info.specs.Widths.{FitsWidths};
+ghost use Rattle.source_machine.specs.Setups.{are_twins};
 ghost use Rattle.scenario_text.specs.declared.step.Step.{Step};
 ghost use Rattle.scenario_text.specs.declared.step.Step.TheVariants.{Start as StartStep};
-ghost use Rattle.scenario_history.specs.Refusals.{group_refusal, horizon_in, is_same_identity};
+ghost use Rattle.scenario_history.specs.Refusals.{group_refusal, horizon_in};
 ghost use Rattle.scenario_history.specs.Source.{identity_of, is_ahead_in, is_started};
 ghost use Rattle.scenario_history.specs.Steps.{running, stage_of};
-ghost use Rattle.scenario_sources.specs.Described.{identity_in};
 ghost use Rattle.scenario_sources.specs.Bases.{is_long as is_long_fault};
 ghost use Rattle.scenario_sources.specs.State.Phases.{Becomes, Begins, IsReady, MayStart, PhaseIs};
 ghost use Rattle.scenario_sources.specs.State.Stops.{FinishStops, Finishes, StartStops};
 ghost use Rattle.scenario_sources.specs.declared.phase.Phase.TheVariants.{Described as DescribedPhase};
 
 use crate::basing::{draft_stop, has_subgroup, is_last_bare};
-use crate::identity::{identity_or, is_same};
+use crate::identity::identity_or;
 use crate::phase::{Described, Phase, Started};
 use base_grammar::{Base, BaseDraft, DraftFault};
 use big_info::{BigInfo, GroupFault, Limits, check_group_within};
@@ -99,11 +99,11 @@ fn is_long(fault: Option<DraftFault>) -> bool
 /// Whether a source was started with an identity like this one.
 pub(crate) fn is_twice(own: Identity, phase: &Phase) -> bool
     ensures { (steps : List Step) → PhaseIs steps phase.now
-        → result ≡ (is_started steps && is_same_identity (identity_in own) (identity_of steps)) }
+        → result ≡ (is_started steps && are_twins own (identity_of steps)) }
 {
     match phase {
-        Phase::Sending(started) => is_same(own, identity_or(started.identity)),
-        Phase::Stopped(started) => is_same(own, identity_or(started.identity)),
+        Phase::Sending(started) => own.is_twin(identity_or(started.identity)),
+        Phase::Stopped(started) => own.is_twin(identity_or(started.identity)),
         _ => false,
     }
 }

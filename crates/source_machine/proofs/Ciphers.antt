@@ -1,5 +1,5 @@
 -- Where no row of the group check holds but that of a cipher, none holds of the group without its cipher.
-use Rattle.std.proofs.Common.{ℕ, ◌≡◌, ◌+◌, ◌*◌, ◌≤◌, ◌<◌, Bool, true, false, cond, eqb, refl, arith, lit<, Result, Ok, Err, IsTrue, IsFalse}
+use Rattle.std.proofs.Common.{ℕ, ◌+◌, ◌*◌, ◌≤◌, Bool, true, false, cond, eqb, refl, arith, lit<, Result, Ok, Err, IsTrue, IsFalse}
 use Rattle.std.specs.Prelude.{IfErr, nat_lt, ◌&&◌}
 use Rattle.std.specs.Result.{IsOk}
 use Rattle.std.proofs.lemmas.Bool.Decides.{nat_tests}

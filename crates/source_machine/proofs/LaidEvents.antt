@@ -1,5 +1,6 @@
 -- What a stream keeps of the events that were laid.
-use Rattle.std.proofs.Common.{ℕ, ◌≡◌, ◌<◌, ◌≤◌, ◌+◌, ◌-◌, ◌*◌, min, suc, List, [], ◌∷◌, ◌++◌, length, get_or, drop, map, append_assoc, arith, ◌∙◌, ap, sym, refl, subst, inl, inr, Option, Result, Ok, Err}
+use Rattle.std.proofs.Common.{ℕ, ◌≡◌, ◌<◌, ◌≤◌, ◌+◌, ◌-◌, ◌*◌, min, suc, List, [], ◌∷◌, ◌++◌, length, get_or}
+use Rattle.std.proofs.Common.{drop, map, append_assoc, arith, ◌∙◌, ap, sym, refl, subst, inl, inr, Option, Result, Ok, Err}
 use Rattle.std.specs.Prelude.{unwrap_or}
 use Rattle.std.specs.Result.{OnOk}
 use Rattle.std.proofs.lemmas.Bool.{cases_eq, eq-eqb, ne_eqb}

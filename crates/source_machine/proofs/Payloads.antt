@@ -46,11 +46,11 @@ last_laid_at count air i event within at =
 
 -- what a stream keeps, by its group
 sent_kept : (info : BigInfo) (stream : Stream) (subevent : ℕ) → info_in stream ≡ info
-    → sent_of stream subevent ≡ option_and_then (λ pdus. slice_get pdus (payload_number info 0 subevent % info.bn))
-    (slice_get stream.laid (length stream.laid + payload_number info 0 subevent / info.bn - kept_of info))
+    → sent_of stream subevent ≡ option_and_then (λ pdus. slice_get pdus (subevent % info.bn))
+    (slice_get stream.laid (length stream.laid + ahead_of info (subevent / info.bn) - kept_of info))
 sent_kept info stream subevent is =
-    ap (λ (i : BigInfo). option_and_then (λ pdus. slice_get pdus (payload_number i 0 subevent % i.bn))
-    (slice_get stream.laid (length stream.laid + payload_number i 0 subevent / i.bn - kept_of i))) is
+    ap (λ (i : BigInfo). option_and_then (λ pdus. slice_get pdus (subevent % i.bn))
+    (slice_get stream.laid (length stream.laid + ahead_of i (subevent / i.bn) - kept_of i))) is
 
 -- a stream that performed an event keeps it with the H events behind it
 pub sent_is : (setup : Setup) (calls : List Call) (bis subevent : ℕ) (stream : Stream) (pdu : List ℕ) → 1 ≤ setup.info.bn
@@ -65,23 +65,20 @@ sent_is setup calls bis subevent stream pdu some least within performed ahead st
     let kept = kept_of info in
     let e : ℕ = next_of setup calls - 1 - setup.first in
     let a : ℕ = ahead_of info (subevent / bn) in
-    let own : option_and_then (λ pdus. slice_get pdus (payload_number info 0 subevent % bn))
-    (slice_get (last_laid kept air) (length (last_laid kept air) + payload_number info 0 subevent / bn - kept)) ≡ Some pdu =
-    ap (λ laid. option_and_then (λ pdus. slice_get pdus (payload_number info 0 subevent % bn))
-    (slice_get laid (length laid + payload_number info 0 subevent / bn - kept))) (sym stands.laid)
+    let own : option_and_then (λ pdus. slice_get pdus (subevent % bn))
+    (slice_get (last_laid kept air) (length (last_laid kept air) + a - kept)) ≡ Some pdu =
+    ap (λ laid. option_and_then (λ pdus. slice_get pdus (subevent % bn)) (slice_get laid (length laid + a - kept))) (sym stands.laid)
     ∙ sym (sent_kept info stream subevent (info_is info (stream_calls info bis calls) (framed_calls setup bis calls) stream.sender stands.sender)) ∙ is in
-    let place : payload_number info 0 subevent % bn ≡ payload_number info e subevent % bn =
-    place_of_number info 0 subevent some ∙ sym (place_of_number info e subevent some) in
+    let place : subevent % bn ≡ payload_number info e subevent % bn = sym (place_of_number info e subevent some) in
     let length_is : length air ≡ events calls + horizon_of info = laid_count setup calls bis (omega arith) in
     let long : length (last_laid kept air) ≡ min kept (length air) = length-map-range_with_len (pdus_at air) (length air - kept) (min kept (length air)) in
-    let here : payload_number info 0 subevent / bn ≡ 0 + a = event_of_number info 0 subevent some in
     let there : payload_number info e subevent / bn ≡ e + a = event_of_number info e subevent some in
-    let i : ℕ = length (last_laid kept air) + payload_number info 0 subevent / bn - kept in
+    let i : ℕ = length (last_laid kept air) + a - kept in
     let event : slice_get (last_laid kept air) i ≡ Some (pdus_at air (payload_number info e subevent / bn)) =
     last_laid_at kept air i (payload_number info e subevent / bn) (omega arith) (omega arith) in
     let sent : slice_get (pdus_at air (payload_number info e subevent / bn)) (payload_number info e subevent % bn) ≡ Some pdu =
     ap (λ k. slice_get (pdus_at air (payload_number info e subevent / bn)) k) (sym place)
-    ∙ sym (ap (option_and_then (λ pdus. slice_get pdus (payload_number info 0 subevent % bn))) event) ∙ own in
+    ∙ sym (ap (option_and_then (λ pdus. slice_get pdus (subevent % bn))) event) ∙ own in
     ap (option_and_then (λ stream. pdu_at bn stream (payload_number info e subevent))) (air_at setup calls bis least within)
     ∙ of_event (event_at air (payload_number info e subevent / bn)) (payload_number info e subevent % bn) pdu sent
 

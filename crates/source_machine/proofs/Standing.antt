@@ -1,5 +1,6 @@
 -- A source that stands for its calls.
-use Rattle.std.proofs.Common.{ℕ, ◌≡◌, ◌<◌, ◌≤◌, ◌+◌, ◌-◌, ◌*◌, ◌^◌, Option, Some, None, List, [], ◌∷◌, ◌++◌, false, length, map, get_or, set, get_or-set_other, get_or-set_same, length-set, arith, ◌∙◌, ap, sym, refl, subst, inl, inr}
+use Rattle.std.proofs.Common.{ℕ, ◌≡◌, ◌<◌, ◌≤◌, ◌+◌, ◌-◌, ◌*◌, ◌^◌, Option, Some, None, List, [], ◌∷◌, ◌++◌}
+use Rattle.std.proofs.Common.{false, length, map, get_or, set, get_or-set_other, get_or-set_same, length-set, arith, ◌∙◌, ap, sym, refl, subst, inl, inr}
 use Rattle.std.proofs.lemmas.Bool.{cases_eq, cases_lt, le-ltb}
 use Rattle.std.proofs.lemmas.List.{get_or-append_right, get_or_append_left, length-append}
 use Rattle.base_grammar.specs.Layout.{Endpoint}

@@ -1,6 +1,6 @@
 -- Which calls of a source are refused, and why: the first cause that holds (Core 5.2, volume 6 part B, section 4.4.6:
 -- payload counters have 39 bits; part G, section 2: only framed units have times of their own).
-use Rattle.std.specs.Prelude.{ℕ, ◌+◌, ◌*◌, ◌^◌, ◌==◌, ◌≡◌, ◌&&◌, ◌||◌, nat_lt, nat_le, is_none, not, Bool, true, false, if◌then◌else◌, List, length, Option, Some, None}
+use Rattle.std.specs.Prelude.{ℕ, ◌+◌, ◌*◌, ◌^◌, ◌==◌, ◌&&◌, ◌||◌, nat_lt, nat_le, is_none, not, Bool, true, false, if◌then◌else◌, List, length, Option, Some, None}
 use Rattle.big_info.specs.Schedule.{horizon_of}
 use Rattle.radio_schedule.specs.declared.air.AirFault.{AirFault}
 use Rattle.radio_schedule.specs.declared.air.AirFault.TheVariants.{NoSuchBis as NoStream, NoSuchSubevent, NotOnAir}

@@ -1,5 +1,5 @@
 -- What a source is configured with, and what fixes it once it was started.
-use Rattle.std.specs.Prelude.{ℕ, ◌≤◌, Bool, Option}
+use Rattle.std.specs.Prelude.{ℕ, ◌≤◌, ◌==◌, ◌&&◌, Bool, bytes_eq, Option}
 use Rattle.base_grammar.specs.Layout.{Endpoint}
 use Rattle.big_info.specs.Bounds.{Bounds}
 use Rattle.big_info.specs.declared.info.BigInfo.{BigInfo}
@@ -8,6 +8,10 @@ use Rattle.source_machine.specs.Calls.{Setup}
 use Rattle.source_machine.specs.Ciphers.{without_cipher}
 use Rattle.source_machine.specs.declared.setup.Identity.{Identity}
 use Rattle.source_machine.specs.declared.setup.Setup.{Setup as Given}
+
+-- two sources are the same to their receivers, whatever their addresses (Basic Audio Profile 1.0, section 3.7.2)
+unfoldable pub are_twins : Identity → Identity → Bool
+are_twins one other = (one.address_type == other.address_type) && (one.sid == other.sid) && bytes_eq one.broadcast_id other.broadcast_id
 
 -- what a source that has a group keeps: who it is, its group without its cipher, the cipher, its BASE, the anchor of its
 -- first event in µs, and whether the time of a framed unit may be past the next anchor

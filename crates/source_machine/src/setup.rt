@@ -14,6 +14,20 @@ pub struct Identity {
     pub broadcast_id: [u8; 3],
 }
 
+impl Identity {
+    ghost use Rattle.source_machine.specs.Setups.{are_twins};
+
+    /// Whether two sources are the same to their receivers: they have the same address type, SID and Broadcast_ID.
+    #[tactic(auto, unfolding(crate::specs::Setups::are_twins))]
+    pub fn is_twin(self, other: Identity) -> bool
+        ensures { result ≡ are_twins self other }
+    {
+        self.address_type == other.address_type
+            && self.sid == other.sid
+            && self.broadcast_id == other.broadcast_id
+    }
+}
+
 /// What a source is configured with.
 #[derive(Drop)]
 pub struct Setup {

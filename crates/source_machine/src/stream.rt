@@ -1,7 +1,5 @@
-ghost use Rattle.std.specs.Prelude.{◌≡◌, ◌≤◌, ◌<◌, ◌+◌, ◌*◌, ◌/◌, ◌%◌, ◌++◌, ℕ, [], length, map, get_or, All, Some, IfOk, IfErr, OnOk, OnErr};
+ghost use Rattle.std.specs.Prelude.{◌≡◌, ◌<◌, ◌+◌, ◌*◌, ◌++◌, ℕ, [], length, map, get_or, All, Some, IfOk, IfErr, OnOk, OnErr};
 ghost use Rattle.std.specs.List.{AllZip, range_with_len};
-ghost use Rattle.big_info.specs.Schedule.{horizon_of};
-ghost use Rattle.radio_schedule.specs.PayloadNumber.{payload_number};
 ghost use Rattle.source_machine.specs.Airs.{stale_on};
 ghost use Rattle.source_machine.specs.State.Senders.{PutStops};
 ghost use Rattle.source_machine.specs.State.Sources.{Stream as StreamState, StreamStands};
@@ -14,7 +12,7 @@ use bcast_base::{Bis, EventPdus, Memory, Octets, Times};
 use big_info::Group;
 use circular_buffer::HeapCircularBuffer;
 use isoal_base::PutFault;
-use radio_schedule::payload_of;
+use radio_schedule::events_ahead;
 use std::alloc::Global;
 use std::marker::Model;
 
@@ -92,23 +90,10 @@ impl Stream {
         requires subevent { subevent < group.now.info.nse }
         ensures { sent_of self.now subevent ≡ Some result.now }
     {
-        let (ahead, place) = carried(group, subevent);
-        let behind = group.horizon() - ahead;
-        let pdus = self.laid.nth_back(behind as usize).unwrap();
-        pdus.item(place).as_slice()
+        let ahead = events_ahead(group, subevent);
+        let pdus = self.laid.nth_front(ahead as usize).unwrap();
+        pdus.item(usize::from(subevent % group.info.bn)).as_slice()
     }
-}
-
-/// How many events ahead the payload of a subevent, from 0, is, and its place in that event.
-fn carried(group: &Group, subevent: u8) -> (u32, usize)
-    requires { subevent < group.now.info.nse }
-    ensures ahead { result.0 ≡ payload_number group.now.info 0 subevent / group.now.info.bn }
-    ensures place { result.1 ≡ payload_number group.now.info 0 subevent % group.now.info.bn }
-    ensures within { result.0 ≤ horizon_of group.now.info }
-{
-    let number = payload_of(group, 0, subevent).unwrap();
-    let bn = u64::from(group.info.bn);
-    ((number / bn) as u32, (number % bn) as usize)
 }
 
 /// Tells the units of a stream that were left out, by their times.

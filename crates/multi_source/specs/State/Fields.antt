@@ -1,10 +1,10 @@
 -- Two sources side by side (Core 5.2, volume 6 part B, section 4.4.6), numbered 0 and 1, and which of them a sink is of.
-use Rattle.std.specs.Prelude.{ℕ, ◌-◌, ◌≡◌, ◌==◌, ◌&&◌, true, false, Bool, bytes_eq, if◌then◌else◌, List, [], Option, None, Some, slice_get}
+use Rattle.std.specs.Prelude.{ℕ, ◌-◌, ◌≡◌, ◌==◌, true, false, Bool, if◌then◌else◌, List, [], Option, None, Some, slice_get}
 use Rattle.source_machine.specs.declared.setup.Identity.{Identity}
 use Rattle.source_machine.specs.declared.setup.Setup.{Setup as Given}
 use Rattle.source_machine.specs.Calls.{Setup, Call}
 use Rattle.source_machine.specs.Ciphers.{IsBadFor, MayBeSent}
-use Rattle.source_machine.specs.Setups.{Configured, started}
+use Rattle.source_machine.specs.Setups.{Configured, are_twins, started}
 use Rattle.source_machine.specs.State.Sources.{AfterFault, Source, StandsFor as SourceStands}
 use Rattle.source_machine.specs.declared.fault.ConfigureFault.{ConfigureFault}
 use Rattle.source_machine.specs.declared.fault.ConfigureFault.TheVariants.{BadGroup as Misfit, Memory as NoMemory}
@@ -30,14 +30,10 @@ begun_of field s = if s == 0 then field.one_begun else field.other_begun
 abbrev pub sink_of : Field → ℕ → Option (Option ℕ)
 sink_of field sink = slice_get field.sinks sink
 
--- two sources are the same to their receivers: Basic Audio Profile 1.0, section 3.7.2
-unfoldable pub is_same : Identity → Identity → Bool
-is_same one other = (one.address_type == other.address_type) && (one.sid == other.sid) && bytes_eq one.broadcast_id other.broadcast_id
-
 -- a source that was started is the same as this
 abbrev pub is_taken : Identity → Option Begun → Bool
 is_taken identity None = false
-is_taken identity (Some begun) = is_same begun.identity identity
+is_taken identity (Some begun) = are_twins begun.identity identity
 
 -- nothing but this source changed
 pub record OthersStay (s : ℕ) (old new : Field) : Type 0 where

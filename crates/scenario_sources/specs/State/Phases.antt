@@ -1,5 +1,5 @@
 -- Where a source stands, and the steps of this source that it stands for, the newest first.
-use Rattle.std.specs.Prelude.{ℕ, ◌≡◌, ◌∷◌, true, false, List, [], Option, None, Some, option_map, Result, Ok, Err}
+use Rattle.std.specs.Prelude.{ℕ, ◌≡◌, ◌∷◌, true, false, List, [], Option, None, Some, Result, Ok, Err}
 use Rattle.base_grammar.specs.Layout.{Endpoint, endpoint}
 use Rattle.source_machine.specs.Airs.{airs_of}
 use Rattle.source_machine.specs.Ciphers.{without_cipher}
@@ -19,14 +19,13 @@ use Rattle.scenario_sources.specs.declared.phase.Started.{Started}
 use Rattle.scenario_sources.specs.declared.phase.Phase.{Phase}
 use Rattle.scenario_sources.specs.declared.phase.Phase.TheVariants as phases
 use Rattle.scenario_sources.specs.Faults.{fault_in}
-use Rattle.scenario_sources.specs.Described.{identity_in}
 
 abbrev pub line_of : Described → GroupLine
 line_of said = record { info = without_cipher said.info; origin = said.origin; delay = said.delay }
 
 -- a source that was started is as its steps leave it
 pub record StartedIs (own : List Step) (started : Started) : Type 0 where
-  pub ident : option_map identity_in started.identity ≡ ident_of own
+  pub ident : started.identity ≡ ident_of own
   pub setup : started.source.source.setup ≡ setup_of own
   pub under_way : is_unbegun own ≡ false
   pub base : started.source.source.base ≡ base_of own
@@ -36,7 +35,7 @@ pub record StartedIs (own : List Step) (started : Started) : Type 0 where
 -- a source that was not is described by its steps
 pub record DescribedIs (own : List Step) (said : Described) : Type 0 where
   pub group : group_of own ≡ Some (line_of said)
-  pub ident : option_map identity_in said.identity ≡ ident_of own
+  pub ident : said.identity ≡ ident_of own
   pub cipher : said.info.cipher ≡ cipher_of own
   pub base : said.base ≡ endpoint said.delay (subgroups_of own)
   pub calls : source_calls own ≡ []
@@ -96,7 +95,7 @@ abbrev pub MayStart : ℕ → ℕ → List Step → Option Endpoint → Type 0
 MayStart version first own plain = (fault_in version own (Start first) ≡ None) × PlainIs own plain
 
 abbrev pub IsReady : ℕ → ℕ → List Step → Result Ready Stop → Type 0
-IsReady version first own (Ok ready) = MayStart version first own ready.plain × (identity_in ready.identity ≡ identity_of own)
+IsReady version first own (Ok ready) = MayStart version first own ready.plain × (ready.identity ≡ identity_of own)
 IsReady version first own (Err (Refused reason)) = fault_in version own (Start first) ≡ Some reason
 IsReady version first own (Err OutletFault) = ⊥
 IsReady version first own (Err Memory) = Unit {0}

@@ -8,7 +8,7 @@ use Rattle.sync_reference.specs.Reference.{anchor_of}
 use Rattle.isoal_base.specs.Air.{Air}
 use Rattle.isoal_unframed.specs.Calls.{Call as PlainCall, accept, lay, lays}
 use Rattle.isoal_framed.specs.Calls.{Call as TimedCall, accept as accept_timed, lay as lay_at}
-use Rattle.radio_schedule.specs.PayloadNumber.{payload_number}
+use Rattle.radio_schedule.specs.PayloadNumber.{ahead_of}
 use Rattle.source_machine.specs.Airs.{AreAirs, Sends, air_after, stale_in, stale_of, stale_on}
 use Rattle.source_machine.specs.Calls.{Setup, Call as SourceCall, event, framed_calls, framed_lays, stream_calls}
 use Rattle.source_machine.specs.Setups.{IsChecked}
@@ -58,8 +58,8 @@ pub record LaysNext (source : Source) (laying : Laying) : Type 0 where
 -- laid
 abbrev pub sent_of : Stream → ℕ → Option (List ℕ)
 sent_of stream subevent =
-    option_and_then (λ pdus. slice_get pdus (payload_number (info_in stream) 0 subevent % (info_in stream).bn))
-    (slice_get stream.laid (length stream.laid + payload_number (info_in stream) 0 subevent / (info_in stream).bn - kept_of (info_in stream)))
+    option_and_then (λ pdus. slice_get pdus (subevent % (info_in stream).bn))
+    (slice_get stream.laid (length stream.laid + ahead_of (info_in stream) (subevent / (info_in stream).bn) - kept_of (info_in stream)))
 
 -- the PDU at a place of the list of an event
 abbrev pub sent_at : BigInfo → List Stream → ℕ → Option (List ℕ)

@@ -12,10 +12,10 @@ places-preserved c =
       place = omega arith;
       together = omega arith;
       unit = gather_more c.args.max_pdu c.args.max_sdu c.places.len c.places.from c.from-count.result c.in-Fragment.part c.places.cell-index
-          c.args.cells.now c.places.block c.copy_within.new.self c.places-test.true c.in-Fragment.is c.from-count.ensures
+          c.args.cells.now c.places.block c.move_down.new.block c.places-test.true c.in-Fragment.is c.from-count.ensures
           fits_count c.places.invariant.together
           (place_room c.args.max_pdu c.places.cell-index c.places.from c.from-count.result c.args.cells.now c.args.block.now c.places.block
           c.places.invariant.place c.places-test.true fits_count c.requires.room (omega arith))
-          c.copy_within.ensures.after
+          c.move_down.ensures.octets
           ∙ c.places.invariant.unit;
     }

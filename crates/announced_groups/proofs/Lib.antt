@@ -1,0 +1,5 @@
+mod Brought
+mod Delays
+mod Infos
+mod Joinings
+mod Streams

@@ -1,0 +1,7 @@
+mod OctetLists
+mod Fitting
+mod Trains
+mod ReadBack
+mod Acts
+mod Drains
+mod Agreeing

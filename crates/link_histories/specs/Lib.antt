@@ -1,0 +1,4 @@
+pub mod Calls
+pub mod Drains
+pub mod Links
+pub mod Octets
