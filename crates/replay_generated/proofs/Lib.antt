@@ -2,6 +2,8 @@ mod GeneratedText
 mod EndLines
 mod Outputs
 mod Runs
+mod Standing
+mod Waiting
 mod Accepting
 mod Saying
 mod Endings

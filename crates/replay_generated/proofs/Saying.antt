@@ -91,7 +91,10 @@ group_line =
                   (omega arith, omega arith),
                   (
                     (omega arith, omega arith),
-                    ((omega arith, omega arith), ((omega arith, omega arith), ((omega arith, omega arith), ((omega arith, omega arith), ((omega arith, omega arith), ((omega arith, omega arith), ((omega arith, omega arith), tt))))))),
+                    (
+                      (omega arith, omega arith),
+                      ((omega arith, omega arith), ((omega arith, omega arith), ((omega arith, omega arith), ((omega arith, omega arith), ((omega arith, omega arith), ((omega arith, omega arith), tt)))))),
+                    ),
                   ),
                 ),
               ),

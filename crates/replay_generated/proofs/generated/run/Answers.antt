@@ -23,8 +23,10 @@ returns-in-Refused g c =
     let ends = map (λ b. (goal.Outlet-dyn g (b.vtable, b.value)).account b.value) c.run_lines.new.outlets.items in
     let lines = lines_made c.args.seed c.args.events in
     let P : Ending → Type 0 = λ e. Ran starts ends lines c.run_lines.new.counts e in
-    put_ends starts ends c.args.events lines (g.K.ByteSink.contents c.args.sink.now) (g.K.ByteSink.contents c.put_summary-in-Refused.new.sink)
-    (g.K.ByteSink.faults c.args.sink.now) (g.K.ByteSink.faults c.put_summary-in-Refused.new.sink) c.run_lines.new.counts (refused c.in-Refused.line c.in-Refused.reason) (outcomes.Refused c.in-Refused.line c.in-Refused.reason) c.put_summary-in-Refused.result
+    put_ends starts ends c.args.events lines (g.K.ByteSink.contents c.args.sink.now)
+    (g.K.ByteSink.contents c.put_summary-in-Refused.new.sink)
+    (g.K.ByteSink.faults c.args.sink.now) (g.K.ByteSink.faults c.put_summary-in-Refused.new.sink) c.run_lines.new.counts (refused c.in-Refused.line c.in-Refused.reason)
+    (outcomes.Refused c.in-Refused.line c.in-Refused.reason) c.put_summary-in-Refused.result
     (subst P c.in-Refused.is c.run_lines.ensures) (λ s. s) (λ is. cc) c.put_summary-in-Refused.ensures
 
 pub returns-in-OutletFault : goal.returns-in-OutletFault
