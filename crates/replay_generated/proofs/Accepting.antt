@@ -1,5 +1,5 @@
 -- No step of a generated scenario is refused, where there are two boxes.
-use Rattle.std.proofs.Common.{◌≡◌, ℕ, zero, suc, ◌+◌, ◌-◌, ◌≤◌, Bool, true, false, nat_eq, List, [], ◌∷◌, ◌++◌, length, refl, ap, ◌∙◌, arith, None}
+use Rattle.std.proofs.Common.{◌≡◌, ℕ, zero, suc, ◌+◌, ◌≤◌, Bool, true, false, nat_eq, List, [], ◌∷◌, ◌++◌, length, refl, ap, ◌∙◌, arith, None}
 use Rattle.std.specs.Prelude.{⊤, nat_le}
 use Rattle.std.specs.Option.{option_or}
 use Rattle.std.proofs.lemmas.Bool.{lt-leb}
@@ -80,8 +80,7 @@ events_fine boxes made calls state x (suc count) a sent most =
       performed = ap suc few ∙ one_more x;
       first = event_near (nat_eq (events calls2) 0) (stream_calls info_said 1 calls2) (accept_near (unit_of (x + 1)) (stream_calls info_said 1 calls) sent.first);
       second = event_near (nat_eq (events calls2) 0) (stream_calls info_said 2 calls2) (accept_near (unit_of (x + 1)) (stream_calls info_said 2 calls) sent.second);
-    } in
-    (
+    } in (
       (version_is boxes made calls a, unit_fine boxes made calls a 1 (unit_of (x + 1)) (first_given calls (x + 1) sent.first)),
       (
         (version_is boxes made1 calls1 a1, unit_fine boxes made1 calls1 a1 2 (unit_of (x + 1)) (second_given calls1 (x + 1) sent.second)),
@@ -179,8 +178,7 @@ all_fine boxes seed events two most =
     let waits : Near 1 (accept (unit_of 0) ∷ []) = more_near 0 (length ([] ++ unit_of 0 ∷ [])) 0 0 refl (omega arith) in
     let sent : Sent calls2 0 = record { performed = refl; first = waits; second = waits } in
     let none : Near 1 [] = omega arith in
-    let units : AllFine boxes steps_7 (one ∷ other ∷ event_steps seed 0 events) =
-    (
+    let units : AllFine boxes steps_7 (one ∷ other ∷ event_steps seed 0 events) = (
       (refl, unit_fine boxes steps_7 [] at_start 1 (unit_of 0) (first_given [] 0 none)),
       (
         (refl, unit_fine boxes (one ∷ steps_7) calls1 a1 2 (unit_of 0) (second_given calls1 0 none)),
@@ -188,8 +186,7 @@ all_fine boxes seed events two most =
       ),
     ) in
     let first = first_sink boxes false (lt-leb boxes 0 (omega (arith, two))) in
-    let second = second_sink boxes false (lt-leb boxes 1 (omega (arith, two))) in
-    (
+    let second = second_sink boxes false (lt-leb boxes 1 (omega (arith, two))) in (
       (refl, scenario_fine boxes),
       (
         (refl, group_fine boxes),

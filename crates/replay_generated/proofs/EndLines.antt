@@ -1,16 +1,16 @@
 -- The generated lines have `end`.
-use Rattle.std.proofs.Common.{◌≡◌, ℕ, Bool, true, List, [], ◌∷◌, ◌++◌, map, reverse, codes, refl, sym, ap, ◌∙◌, Some, Ok}
+use Rattle.std.proofs.Common.{◌≡◌, ℕ, true, List, [], ◌∷◌, ◌++◌, map, reverse, codes, refl, ap, ◌∙◌, Some, Ok}
 use Rattle.std.proofs.lemmas.List.{reverse-append, map-append}
-use Rattle.bcast_io.specs.TextLines.{TextLine, plain, lines_of}
+use Rattle.bcast_io.specs.TextLines.{TextLine, plain}
 use Rattle.scenario_text.specs.Steps.{read_of, step_of}
 use Rattle.scenario_text.specs.Table.{row_of}
 use Rattle.scenario_text.specs.declared.step.Step.TheVariants.{End}
-use Rattle.scenario_generator.specs.Generated.{generated, generated_lines}
+use Rattle.scenario_generator.specs.Generated.{generated_lines}
 use Rattle.scenario_history.specs.Steps.{is_over, version_of}
 use Rattle.scenario_history.specs.Lines.{said_by, steps_of, with_said}
 use Rattle.scenario_history.specs.Transcript.{has_end}
 use Rattle.replay_generated.specs.Generated.{lines_made}
-use Rattle.replay_generated.proofs.GeneratedText.{generated_end, generated_read}
+use Rattle.replay_generated.proofs.GeneratedText.{generated_end}
 
 read_end : (version : ℕ) → read_of version (codes "end") ≡ Ok (Some End)
 unfolding read_of step_of row_of

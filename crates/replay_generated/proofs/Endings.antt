@@ -1,5 +1,5 @@
 -- How the generated lines end: at their last, or where no box is left for a sink.
-use Rattle.std.proofs.Common.{◌≡◌, ℕ, zero, suc, ◌+◌, ◌<◌, ◌≤◌, Bool, true, false, List, [], ◌∷◌, ◌++◌, length, map, codes, refl, sym, ap, ◌∙◌, arith, Option, None, Some, Ok}
+use Rattle.std.proofs.Common.{◌≡◌, ℕ, zero, suc, ◌+◌, ◌<◌, ◌≤◌, true, false, List, [], ◌∷◌, length, map, codes, refl, sym, ap, ◌∙◌, arith, None, Some, Ok}
 use Rattle.std.proofs.lemmas.Bool.{lt-leb, le-leb}
 use Rattle.bcast_io.specs.TextLines.{TextLine, plain}
 use Rattle.unit_outlets.specs.Account.{Account}

@@ -7,7 +7,7 @@ use Rattle.std.proofs.lemmas.Fmt.{decimal_digit}
 use Rattle.hex.specs.Hex.{encode_with, encode_lower, lower_digits}
 use Rattle.printed_words.specs.Lines.{joined}
 use Rattle.printed_words.specs.Digits.{digits}
-use Rattle.bcast_io.specs.TextLines.{TextLine, plain, too_long, past, newline, line_limit, text_limit, line_of, lines_from, lines_of}
+use Rattle.bcast_io.specs.TextLines.{plain, too_long, past, newline, line_limit, text_limit, line_of, lines_from, lines_of}
 use Rattle.bcast_io.proofs.Citable.{lines-nothing}
 use Rattle.scenario_generator.specs.Draws.{drawn, next_state}
 use Rattle.scenario_generator.specs.Generated as made
@@ -163,8 +163,7 @@ events_short state x (suc count) =
     let l4 = first_long (air_line 0 (drawn first)) (air_line 1 (drawn second) ∷ later) in
     let l3 = first_long (codes "event") (air_line 0 (drawn first) ∷ air_line 1 (drawn second) ∷ later) in
     let l2 = first_long (unit_line 2 (x + 1)) (codes "event" ∷ air_line 0 (drawn first) ∷ air_line 1 (drawn second) ∷ later) in
-    let l1 = first_long (unit_line 1 (x + 1)) (unit_line 2 (x + 1) ∷ codes "event" ∷ air_line 0 (drawn first) ∷ air_line 1 (drawn second) ∷ later) in
-    (
+    let l1 = first_long (unit_line 1 (x + 1)) (unit_line 2 (x + 1) ∷ codes "event" ∷ air_line 0 (drawn first) ∷ air_line 1 (drawn second) ∷ later) in (
       ((one.0, omega (arith, one.1)), ((two.0, omega (arith, two.1)), ((event, omega arith), ((heard.0, omega (arith, heard.1)), ((other.0, omega (arith, other.1)), rest.0))))),
       omega (arith, l1, l2, l3, l4, l5, one.1, two.1, heard.1, other.1, rest.1),
     )
@@ -190,8 +189,7 @@ all_fine seed events most =
     let one = unit_short 1 0 (omega arith) in
     let two = unit_short 2 0 (omega arith) in
     let l1 = first_long (unit_line 1 0) (unit_line 2 0 ∷ later) in
-    let l2 = first_long (unit_line 2 0) later in
-    (
+    let l2 = first_long (unit_line 2 0) later in (
       short_append line_limit head_lines (unit_line 1 0 ∷ unit_line 2 0 ∷ later) (all_short line_limit head_lines refl)
           ((one.0, omega (arith, one.1)), ((two.0, omega (arith, two.1)), rest.0)),
       omega (arith, text_append head_lines (unit_line 1 0 ∷ unit_line 2 0 ∷ later), head_length, l1, l2, one.1, two.1, rest.1, most),

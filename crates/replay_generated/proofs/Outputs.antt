@@ -43,8 +43,8 @@ sum_whole starts units n None = whole_none
 sum_whole starts units n (Some box) =
     line_whole (codes "sum")
     (
-      decimal n ∷ decimal ((account_at starts box).units + length (valid_for box units)) ∷ decimal ((account_at starts box).octets + sum (map length (valid_for box units)))
-      ∷ []
+    decimal n ∷ decimal ((account_at starts box).units + length (valid_for box units)) ∷ decimal ((account_at starts box).octets + sum (map length (valid_for box units)))
+    ∷ []
     )
 
 sums_whole : (starts : List Account) (units : List SinkUnit) (steps : List Step) → IsWhole (sums_of starts units steps)

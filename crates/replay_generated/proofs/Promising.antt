@@ -1,5 +1,5 @@
 -- What a generated run promises, by how its lines ended and what was written.
-use Rattle.std.proofs.Common.{◌≡◌, ◌≢◌, ℕ, ◌+◌, ◌<◌, ◌≤◌, List, [], ◌∷◌, ◌++◌, length, reverse, refl, sym, ap, subst, ◌∙◌, arith, Option, None, Some, inl, inr, ◌⊎◌}
+use Rattle.std.proofs.Common.{◌≡◌, ◌≢◌, ℕ, ◌+◌, ◌<◌, ◌≤◌, List, [], ◌∷◌, length, reverse, refl, sym, subst, ◌∙◌, Option, None, Some, inl, inr}
 use Rattle.std.proofs.lemmas.List.{append-nil}
 use Rattle.std.proofs.lemmas.Bool.{cases_lt}
 use Rattle.std.specs.Io.KnownBytes.{Appends, Keeps}
@@ -11,7 +11,7 @@ use Rattle.unit_outlets.specs.Account.{Account}
 use Rattle.source_machine.specs.Airs.{airs_of}
 use Rattle.transcript_text.specs.declared.refusal.Refusal.{Refusal}
 use Rattle.transcript_text.specs.declared.refusal.Refusal.TheVariants.{NoOutlet}
-use Rattle.transcript_summary.specs.Summary.{counts_of, summary, summary_of}
+use Rattle.transcript_summary.specs.Summary.{summary, summary_of}
 use Rattle.transcript_summary.specs.declared.counts.Counts.{Counts}
 use Rattle.line_runs.specs.Runs.{End, through, refused, Accepted}
 use Rattle.scenario_history.specs.Airs.{MeetAirs}
@@ -88,10 +88,10 @@ module _ (starts ends : List Account) (events : ℕ) (lines : List TextLine) (ke
       let P : Outcome → Type 0 = λ o. EndedOver airs_of events lines o starts ends kept kept' in
       record {
         did = subst P (sym put.0) (as_ended (record {
-              ends_so = told.ends_so;
-              written = subst (λ (c : Counts). Appends kept kept' (summary_of events c)) told.counted put.1;
-              boxes = told.boxes;
-            }));
+          ends_so = told.ends_so;
+          written = subst (λ (c : Counts). Appends kept kept' (summary_of events c)) told.counted put.1;
+          boxes = told.boxes;
+        }));
         rose = λ is. absurd (other (sym put.0 ∙ is));
         stays = λ is. put.2;
       }
@@ -99,12 +99,12 @@ module _ (starts ends : List Account) (events : ℕ) (lines : List TextLine) (ke
       let P : Outcome → Type 0 = λ o. EndedOver airs_of events lines o starts ends kept kept' in
       record {
         did = subst P (sym put.0) (record {
-              written = subst (λ (c : Counts). AppendsFront kept kept' (summary_of events c)) told.counted put.1;
-              done = units_of airs_of starts lines;
-              rest = [];
-              split = sym (append-nil (units_of airs_of starts lines));
-              boxes = told.boxes;
-            });
+          written = subst (λ (c : Counts). AppendsFront kept kept' (summary_of events c)) told.counted put.1;
+          done = units_of airs_of starts lines;
+          rest = [];
+          split = sym (append-nil (units_of airs_of starts lines));
+          boxes = told.boxes;
+        });
         rose = λ is. put.2;
         stays = λ is. absurd (is put.0);
       }
@@ -112,12 +112,12 @@ module _ (starts ends : List Account) (events : ℕ) (lines : List TextLine) (ke
       let P : Outcome → Type 0 = λ o. EndedOver airs_of events lines o starts ends kept kept' in
       record {
         did = subst P (sym put.0) (record {
-              written = subst (λ (c : Counts). AppendsFront kept kept' (summary_of events c)) told.counted put.1;
-              done = units_of airs_of starts lines;
-              rest = [];
-              split = sym (append-nil (units_of airs_of starts lines));
-              boxes = told.boxes;
-            });
+          written = subst (λ (c : Counts). AppendsFront kept kept' (summary_of events c)) told.counted put.1;
+          done = units_of airs_of starts lines;
+          rest = [];
+          split = sym (append-nil (units_of airs_of starts lines));
+          boxes = told.boxes;
+        });
         rose = λ is. let no : outcomes.Memory ≡ outcomes.WriteFault = sym put.0 ∙ is in cc;
         stays = λ is. put.2;
       }

@@ -1,5 +1,5 @@
 -- A box that fails has no room for the valid units of its sink.
-use Rattle.std.proofs.Common.{◌≡◌, ℕ, zero, suc, ◌+◌, ◌<◌, ◌^◌, true, eq-eqb, List, [], ◌∷◌, ◌++◌, length, map, reverse, refl, sym, ap, subst, ◌∙◌, append_assoc, length-append, arith, Option}
+use Rattle.std.proofs.Common.{◌≡◌, ℕ, ◌+◌, ◌<◌, ◌^◌, true, eq-eqb, List, ◌∷◌, ◌++◌, length, map, reverse, refl, sym, ap, subst, ◌∙◌, append_assoc, length-append, arith, Option}
 use Rattle.std.proofs.Common.{None, Some, slice_get, IsTrue}
 use Rattle.std.specs.Prelude.{option_map, sum}
 use Rattle.std.proofs.lemmas.List.{map-append}
@@ -8,7 +8,7 @@ use Rattle.bcast_io.specs.TextLines.{TextLine}
 use Rattle.unit_outlets.specs.Account.{Account, Fits}
 use Rattle.unit_outlets.specs.Handed.{valid}
 use Rattle.source_machine.specs.Airs.{airs_of}
-use Rattle.scenario_history.specs.Boxes.{SinkUnit, accounts_after, onto_valid, valid_for, with_units}
+use Rattle.scenario_history.specs.Boxes.{SinkUnit, onto_valid, valid_for, with_units}
 use Rattle.scenario_history.specs.Lines.{handed_on}
 use Rattle.scenario_history.specs.Transcript.{units_of}
 use Rattle.scenario_history.proofs.Citable.{took_all, valid_append}

@@ -1,7 +1,7 @@
 -- What a run over lines did, by its history.
-use Rattle.std.proofs.Common.{◌≡◌, ℕ, ◌+◌, ◌≤◌, ◌<◌, Bool, true, false, List, [], ◌∷◌, ◌++◌, length, map, reverse, refl, sym, ap, subst, ◌∙◌, append_assoc, arith, Option, None, Some, Result, Ok}
-use Rattle.std.proofs.Common.{Err, inl, inr, ◌⊎◌}
-use Rattle.std.proofs.lemmas.List.{append-nil, reverse-append}
+use Rattle.std.proofs.Common.{◌≡◌, ℕ, ◌+◌, true, List, [], ◌∷◌, ◌++◌, length, map, reverse, refl, sym, ap, subst, ◌∙◌, append_assoc, arith, Option, None, Some, Result, Ok}
+use Rattle.std.proofs.Common.{Err, inl, inr}
+use Rattle.std.proofs.lemmas.List.{append-nil}
 use Rattle.bcast_io.specs.TextLines.{TextLine, plain}
 use Rattle.unit_outlets.specs.Account.{Account}
 use Rattle.source_machine.specs.Airs.{airs_of}
@@ -9,11 +9,11 @@ use Rattle.transcript_text.specs.declared.refusal.Refusal.{Refusal}
 use Rattle.transcript_text.specs.declared.stop.Stop.{Stop}
 use Rattle.transcript_text.specs.declared.stop.Stop.TheVariants as stops
 use Rattle.transcript_text.specs.Lines.{refusal_line}
-use Rattle.transcript_summary.specs.Lines.{lines_of, IsWhole}
+use Rattle.transcript_summary.specs.Lines.{lines_of}
 use Rattle.transcript_summary.specs.Summary.{counts_of, none_counted, with_lines}
 use Rattle.transcript_summary.specs.declared.counts.Counts.{Counts}
 use Rattle.transcript_summary.proofs.Citable.{counts_append, whole_append, whole_none}
-use Rattle.line_runs.specs.Runs.{End, through, refused, out, out_unless, end_of, end_unless, accepted_of, accepted_unless, brought, Accepted}
+use Rattle.line_runs.specs.Runs.{through, refused, out, out_unless, end_of, end_unless, accepted_of, accepted_unless, brought, Accepted}
 use Rattle.line_runs.proofs.Citable.{out_accepted, end_accepted, accepted_accepted, reverse_onto}
 use Rattle.scenario_text.specs.declared.step.Step.{Step}
 use Rattle.scenario_history.specs.Boxes.{SinkUnit, accounts_after, handed_up, Took}

@@ -1,5 +1,5 @@
 -- What the generated lines say.
-use Rattle.std.proofs.Common.{◌≡◌, ℕ, zero, suc, ◌+◌, ◌%◌, ◌<◌, ◌≤◌, Bool, true, false, ◌||◌, not, List, [], ◌∷◌, ◌++◌, codes, length, refl, sym, ap, subst, ◌∙◌, arith, Option, None, Some}
+use Rattle.std.proofs.Common.{◌≡◌, ℕ, zero, suc, ◌+◌, ◌%◌, ◌<◌, ◌≤◌, true, ◌||◌, not, List, [], ◌∷◌, codes, refl, arith, None, Some}
 use Rattle.std.specs.Prelude.{replicate, ⊤}
 use Rattle.std.specs.Fmt.{digits as numerals}
 use Rattle.octet_fields.specs.Spelling.{IsOctets}
@@ -74,8 +74,7 @@ scenario_line = row_says rows.scenario_row (1 ▸ tt) refl refl refl (unspaced (
 group_line : Line group_step (codes "group unframed 20000 40000 8 10000 100 100 2 1 3 2 1 600 1800 1")
 unfolding row_of numerals
 group_line =
-    row_says rows.group_row (0 ▸ 20000 ▸ 40000 ▸ 8 ▸ 10000 ▸ 100 ▸ 100 ▸ 2 ▸ 1 ▸ 3 ▸ 2 ▸ 1 ▸ 600 ▸ 1800 ▸ 1 ▸ tt) refl refl refl (unspaced (codes "group") refl)
-    (
+    row_says rows.group_row (0 ▸ 20000 ▸ 40000 ▸ 8 ▸ 10000 ▸ 100 ▸ 100 ▸ 2 ▸ 1 ▸ 3 ▸ 2 ▸ 1 ▸ 600 ▸ 1800 ▸ 1 ▸ tt) refl refl refl (unspaced (codes "group") refl) (
       omega arith,
       (
         (omega arith, omega arith),
@@ -169,8 +168,7 @@ unfolding made.lines_from
 events_say state x zero = (end_line, tt)
 events_say state x (suc count) =
     let first = next_state state in
-    let second = next_state first in
-    (
+    let second = next_state first in (
       unit_says 1 (x + 1) (omega arith) (omega arith),
       (
         unit_says 2 (x + 1) (omega arith) (omega arith),
@@ -179,20 +177,19 @@ events_say state x (suc count) =
     )
 
 pub all_say : (seed events : ℕ) → AllSay (generated_lines seed events) (made_steps seed events)
-all_say seed events =
+all_say seed events = (
+  scenario_line,
+  (
+    group_line,
     (
-      scenario_line,
+      first_sink_line,
       (
-        group_line,
+        second_sink_line,
         (
-          first_sink_line,
-          (
-            second_sink_line,
-            (
-              start_line,
-              (first_tuned_line, (second_tuned_line, (unit_says 1 0 (omega arith) (omega arith), (unit_says 2 0 (omega arith) (omega arith), events_say seed 0 events)))),
-            ),
-          ),
+          start_line,
+          (first_tuned_line, (second_tuned_line, (unit_says 1 0 (omega arith) (omega arith), (unit_says 2 0 (omega arith) (omega arith), events_say seed 0 events)))),
         ),
       ),
-    )
+    ),
+  ),
+)

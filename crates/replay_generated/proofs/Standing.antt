@@ -1,5 +1,5 @@
 -- What stands between the steps of two lines of a generated scenario, and when such a step isn't refused.
-use Rattle.std.proofs.Common.{◌≡◌, ℕ, ◌-◌, true, false, cond, not, ◌&&◌, ◌||◌, nat_eq, List, [], ◌∷◌, refl, ap, ◌∙◌, arith, Option, None, Some}
+use Rattle.std.proofs.Common.{◌≡◌, ℕ, true, false, cond, not, ◌&&◌, ◌||◌, nat_eq, List, ◌∷◌, refl, ap, ◌∙◌, Option, None, Some}
 use Rattle.std.specs.Prelude.{is_some, unwrap_or}
 use Rattle.std.specs.Option.{option_or, option_map}
 use Rattle.big_info.specs.declared.info.BigInfo.{BigInfo}
