@@ -1,4 +1,4 @@
-use Rattle.std.proofs.Common.{◌≡◌, ◌∙◌, ◌∷◌, ◌++◌, refl, sym, ap, List, ℕ, codes}
+use Rattle.std.proofs.Common.{◌≡◌, ◌∙◌, ◌++◌, sym, ap, List, ℕ}
 use Rattle.scenario_generator.specs.State.Places.{left_at}
 use Rattle.scenario_generator.specs.declared.made_lines.Place.{Place}
 use Rattle.scenario_generator.proofs.NextLines.{head_next}
