@@ -3,7 +3,7 @@ use Rattle.std.proofs.Common.{◌≡◌, ℕ, true, List, [], ◌∷◌, ◌++�
 use Rattle.std.proofs.lemmas.List.{reverse-append, map-append}
 use Rattle.bcast_io.specs.TextLines.{TextLine, plain}
 use Rattle.scenario_text.specs.Steps.{read_of, step_of}
-use Rattle.scenario_text.specs.Table.{row_of}
+use Rattle.scenario_text.specs.Table.{first_row_of, row_of}
 use Rattle.scenario_text.specs.declared.step.Step.TheVariants.{End}
 use Rattle.scenario_generator.specs.Generated.{generated_lines}
 use Rattle.scenario_history.specs.Steps.{is_over, version_of}
@@ -13,7 +13,7 @@ use Rattle.replay_generated.specs.Generated.{lines_made}
 use Rattle.replay_generated.proofs.GeneratedText.{generated_end}
 
 read_end : (version : ℕ) → read_of version (codes "end") ≡ Ok (Some End)
-unfolding read_of step_of row_of
+unfolding read_of step_of row_of first_row_of
 read_end version = refl
 
 over_end : (earlier : List TextLine) → is_over (steps_of (plain (codes "end") ∷ earlier)) ≡ true

@@ -11,7 +11,7 @@ use Rattle.scenario_text.specs.declared.step.Step.{Step}
 use Rattle.scenario_text.specs.declared.step.Step.TheVariants as kinds
 use Rattle.scenario_text.specs.Lines.{LineIs, Says}
 use Rattle.scenario_text.specs.Table as rows
-use Rattle.scenario_text.specs.Table.{Build, Row, row_of}
+use Rattle.scenario_text.specs.Table.{Build, Row, first_row_of, row_of}
 use Rattle.scenario_text.proofs.Citable.{all_small, and_parts, none_more, takes_all, takes_all_last}
 use Rattle.scenario_generator.specs.Draws.{drawn, next_state}
 use Rattle.scenario_generator.specs.Generated as made
@@ -68,11 +68,11 @@ abbrev Line : Step → List ℕ → Type 0
 Line next line = LineIs 1 next line
 
 scenario_line : Line scenario_step (codes "scenario 1")
-unfolding row_of numerals
+unfolding row_of first_row_of numerals
 scenario_line = row_says rows.scenario_row (1 ▸ tt) refl refl refl (unspaced (codes "scenario") refl) ((omega arith, omega arith), tt)
 
 group_line : Line group_step (codes "group unframed 20000 40000 8 10000 100 100 2 1 3 2 1 600 1800 1")
-unfolding row_of numerals
+unfolding row_of first_row_of numerals
 group_line =
     row_says rows.group_row (0 ▸ 20000 ▸ 40000 ▸ 8 ▸ 10000 ▸ 100 ▸ 100 ▸ 2 ▸ 1 ▸ 3 ▸ 2 ▸ 1 ▸ 600 ▸ 1800 ▸ 1 ▸ tt) refl refl refl (unspaced (codes "group") refl) (
       omega arith,
@@ -104,37 +104,37 @@ group_line =
     )
 
 first_sink_line : Line (sink_step 0) (codes "sink 0 1 1")
-unfolding row_of numerals
+unfolding row_of first_row_of numerals
 first_sink_line =
     row_says (rows.sink_row 1) (0 ▸ 1 ▸ 1 ▸ None ▸ tt) refl refl refl (unspaced (codes "sink") refl)
     ((omega arith, omega arith), ((omega arith, omega arith), ((omega arith, omega arith), (tt, tt))))
 
 second_sink_line : Line (sink_step 1) (codes "sink 1 1 1")
-unfolding row_of numerals
+unfolding row_of first_row_of numerals
 second_sink_line =
     row_says (rows.sink_row 1) (1 ▸ 1 ▸ 1 ▸ None ▸ tt) refl refl refl (unspaced (codes "sink") refl)
     ((omega arith, omega arith), ((omega arith, omega arith), ((omega arith, omega arith), (tt, tt))))
 
 start_line : Line (kinds.Start 0) (codes "start 0")
-unfolding row_of numerals
+unfolding row_of first_row_of numerals
 start_line = row_says rows.start_row (0 ▸ tt) refl refl refl (unspaced (codes "start") refl) ((omega arith, omega arith), tt)
 
 first_tuned_line : Line (tuned_step 0 1) (codes "tuned 0 1")
-unfolding row_of numerals
+unfolding row_of first_row_of numerals
 first_tuned_line =
     row_says rows.tuned_row (0 ▸ 1 ▸ tt) refl refl refl (unspaced (codes "tuned") refl) ((omega arith, omega arith), (((λ none. omega (arith, none)), omega arith), tt))
 
 second_tuned_line : Line (tuned_step 1 2) (codes "tuned 1 2")
-unfolding row_of numerals
+unfolding row_of first_row_of numerals
 second_tuned_line =
     row_says rows.tuned_row (1 ▸ 2 ▸ tt) refl refl refl (unspaced (codes "tuned") refl) ((omega arith, omega arith), (((λ none. omega (arith, none)), omega arith), tt))
 
 event_line : Line kinds.Event (codes "event")
-unfolding row_of
+unfolding row_of first_row_of
 event_line = row_says rows.event_row tt refl refl refl (unspaced (codes "event") refl) tt
 
 end_line : Line kinds.End (codes "end")
-unfolding row_of
+unfolding row_of first_row_of
 end_line = row_says rows.end_row tt refl refl refl (unspaced (codes "end") refl) tt
 
 octets_of : (count value : ℕ) → value < 256 → IsOctets (replicate count value)

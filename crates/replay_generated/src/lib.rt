@@ -4,6 +4,8 @@
 mod generated;
 mod outcome;
 mod running;
+#[cfg(test)]
+mod tests;
 
 pub use generated::run_generated;
 pub use outcome::Outcome;
