@@ -1,0 +1,5 @@
+pub mod Lines
+pub mod Lives
+pub mod Output
+pub mod Refusals
+pub mod Rows
