@@ -3,3 +3,5 @@ pub mod Lives
 pub mod Output
 pub mod Refusals
 pub mod Rows
+pub mod TrainRows
+pub mod WriteRows

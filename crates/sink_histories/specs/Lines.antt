@@ -1,6 +1,6 @@
 -- The lines that tell of a sink and of its assistants. They are this project's own: words with one space between each two.
 -- Numbers are decimal, and octets are pairs of lower-case hexadecimal digits, or `-` for none.
-use Rattle.std.specs.Prelude.{ℕ, ◌-◌, ◌==◌, List, [], ◌∷◌, ◌++◌, map, Option, Some, None, Result, Ok, Err, decimal, codes}
+use Rattle.std.specs.Prelude.{ℕ, ◌-◌, ◌==◌, List, [], ◌∷◌, ◌++◌, map, Result, Ok, Err, decimal, codes}
 use Rattle.std.specs.Int.{bit_at}
 use Rattle.std.specs.List.{filter, range_with_len}
 use Rattle.big_info.specs.Faults.{number_of as place_of}

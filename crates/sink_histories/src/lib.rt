@@ -3,4 +3,4 @@
 
 mod laws;
 
-pub use laws::worked_rows;
+pub use laws::{worked_rows, worked_trains, worked_writes};
