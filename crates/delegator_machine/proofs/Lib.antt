@@ -1,8 +1,5 @@
-mod Handing
-mod Numbers
-mod OneStream
-mod Opened
-mod Receivers
-mod Sets
+mod Alone
+mod Places
 mod Standing
-pub mod Citable
+mod Trains
+mod Where

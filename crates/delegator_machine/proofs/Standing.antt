@@ -1,161 +1,110 @@
--- A sink that stands for its calls stands for them and one more.
-use Rattle.std.proofs.Common.{ℕ, ◌≡◌, ◌+◌, ◌-◌, ◌≤◌, Bool, true, false, cond, eqb, leb, List, [], ◌∷◌, ◌++◌, map, Option, Some, None, option_map, refl, sym, ap, ◌∙◌, subst, arith}
-use Rattle.std.specs.List.{flat_map, range_with_len}
-use Rattle.std.proofs.lemmas.Bool.{cond-true, cond-false, eq-eqb, ne_eqb}
-use Rattle.std.proofs.lemmas.List.FromFn.{get_or-map-range_with_len}
-use Rattle.std.proofs.lemmas.List.Folds.{flat_map-map}
-use Rattle.std.proofs.lemmas.Option.{same_Some}
-use Rattle.big_info.specs.Bounds.{Bounds}
-use Rattle.unit_outlets.specs.Handed.{Handed}
-use Rattle.isoal_base.specs.declared.hearing.Hearing.TheVariants as hearings
-use Rattle.isoal_base.specs.Stays as stays
-use Rattle.isoal_base.specs.Stays.{Stay, opened}
-use Rattle.isoal_base.proofs.Citable.{map_same, map_changed}
-use Rattle.delegator_machine.proofs.Receivers.{answer_is, open_is, owed_is, receiver_close, receiver_hear, receiver_new}
-use Rattle.delegator_machine.proofs.Sets.{flat_map_filter}
-use Rattle.delegator_machine.specs.Calls.{Tuning, Call, tune, hear, tick, place}
-use Rattle.delegator_machine.specs.Handing.{units_by, units_on, handed_by, handed_at}
-use Rattle.delegator_machine.specs.Hearings.{hearing_on, hearing_at, hearing_of}
-use Rattle.delegator_machine.specs.State.Receivers.{closed, owed_of, receiver_after}
-use Rattle.delegator_machine.specs.State.Sinks.{OnGroup, StandsFor, stream_after, on_after}
-use Rattle.delegator_machine.specs.State.Steps.{fresh_at, fresh_on, answer_at, answer_on, hear_at, hear_on, stream_at, owed_by, owed_on, tick_at, tick_on}
-use Rattle.delegator_machine.specs.Streams.{is_in, number_of, stay_on, stream_calls, with_hear, with_tick}
+-- A Scan Delegator that stands for its calls stands for them and one more.
+use Rattle.std.proofs.Common.{ℕ, ◌≡◌, Bool, true, false, List, ◌∷◌, Option, Some, None, refl, sym, ◌∙◌, ap, subst}
+use Rattle.delegator_states.specs.Notices.{waiting}
+use Rattle.delegator_states.specs.Sights.{Sight}
+use Rattle.delegator_states.specs.States.{Step, sight_of}
+use Rattle.delegator_states.specs.Trains.{Joining, Setup}
+use Rattle.group_sink.specs.Calls as sinks
+use Rattle.group_sink.specs.State.Sinks.{OnGroup, StandsFor as SinkStands}
+use Rattle.scan_delegator.specs.Groups.{has_group}
+use Rattle.scan_delegator.specs.State.Machines.{Machine, StandsFor as ScanStands}
+use Rattle.delegator_machine.specs.Calls.{Call, control, hear, tick, steps_of}
+use Rattle.delegator_machine.specs.Groups.{joining_given, tuning_of, with_leave, with_step, group_calls}
+use Rattle.delegator_machine.specs.State.Halves.{Halves, StandsFor}
 
--- the sink is put on a group
-pub fresh_stands : (calls : List Call) (tuning : Tuning) → StandsFor (tune tuning ∷ calls) (Some (fresh_on tuning))
-fresh_stands calls tuning = record {
-  place_is = ap (λ streams. Some (record { info = tuning.info; streams = streams }))
-      (map_same (fresh_at tuning) (stream_after tuning (tune tuning ∷ calls)) 1 31
-      (λ bis least below. ap (λ receiver. cond (is_in tuning.which bis) (Some receiver) None) (receiver_new (stay_on tuning bis))));
+-- what the control half has
+pub sight_is : (setup : Setup) (calls : List Call) (d : Halves) → StandsFor setup calls d → d.scan.sight ≡ sight_of setup (steps_of calls)
+sight_is setup calls d stands = subst (λ s. d.scan.sight ≡ sight_of s (steps_of calls)) stands.setup_is stands.steps.sight
+
+pub waiting_is : (setup : Setup) (calls : List Call) (d : Halves) → StandsFor setup calls d → d.scan.waiting ≡ waiting setup (steps_of calls)
+waiting_is setup calls d stands = subst (λ s. d.scan.waiting ≡ waiting s (steps_of calls)) stands.setup_is stands.steps.waiting
+
+-- ---- steps of the control half
+
+after_is : (setup : Setup) (step : Step) (calls : List Call) (old new : Halves) → new.scan.setup ≡ old.scan.setup
+    → ScanStands (step ∷ steps_of calls) new.scan → StandsFor setup calls old → new.scan.sight ≡ sight_of setup (step ∷ steps_of calls)
+after_is setup step calls old new same steps stands =
+    subst (λ s. new.scan.sight ≡ sight_of s (step ∷ steps_of calls)) (same ∙ stands.setup_is) steps.sight
+
+-- that puts the sink on a group
+pub stands_joined : (setup : Setup) (step : Step) (calls : List Call) (old new : Halves) (joining : Joining)
+    → joining_given setup (sight_of setup (steps_of calls)) step ≡ Some joining → new.scan.setup ≡ old.scan.setup
+    → ScanStands (step ∷ steps_of calls) new.scan → SinkStands (sinks.tune (tuning_of joining) ∷ group_calls setup calls) new.sink
+    → StandsFor setup calls old → StandsFor setup (control step ∷ calls) new
+stands_joined setup step calls old new joining is same steps sink stands = record {
+  setup_is = same ∙ stands.setup_is;
+  steps = steps;
+  groups = subst (λ given. SinkStands (with_step given (sight_of setup (steps_of calls)) (sight_of setup (step ∷ steps_of calls)) (group_calls setup calls)) new.sink) (sym is) sink;
 }
 
--- the place of a stream
-stream_is : (tuning : Tuning) (calls : List Call) (bis : ℕ) → 1 ≤ bis → bis ≤ 31
-    → stream_at (on_after calls tuning) bis ≡ stream_after tuning calls bis
-stream_is tuning calls bis least greatest =
-    get_or-map-range_with_len (stream_after tuning calls) 1 31 (bis - 1) bis None (omega arith) (omega arith)
-
-answer_cases : (taken : Bool) (stay : Stay) (calls : List stays.Call) (number : Option ℕ) (octets : List ℕ)
-    → answer_at number octets (cond taken (Some (receiver_after stay calls)) None) ≡ cond taken (hearing_on stay calls number octets) hearings.NotTaken
-answer_cases false stay calls number octets = refl
-answer_cases true stay calls None octets = refl
-answer_cases true stay calls (Some number) octets = ap hearings.Heard (answer_is stay calls number octets)
-
-answer_after : (tuning : Tuning) (calls : List Call) (event bis subevent : ℕ) (octets : List ℕ) → 1 ≤ bis → bis ≤ 31
-    → answer_on event bis subevent octets (on_after calls tuning) ≡ hearing_at (Some tuning) calls event bis subevent octets
-answer_after tuning calls event bis subevent octets least greatest =
-    ap (answer_at (number_of tuning.info event subevent) octets) (stream_is tuning calls bis least greatest)
-    ∙ answer_cases (is_in tuning.which bis) (stay_on tuning bis) (stream_calls (stay_on tuning bis) calls) (number_of tuning.info event subevent) octets
-
-hear_cases : (taken : Bool) (stay : Stay) (calls : List stays.Call) (number : Option ℕ) (octets : List ℕ) → Bounds stay.info
-    → cond taken (Some (receiver_after stay (with_hear number octets calls))) None
-    ≡ hear_at number octets (cond taken (Some (receiver_after stay calls)) None)
-hear_cases false stay calls number octets bounds = refl
-hear_cases true stay calls None octets bounds = refl
-hear_cases true stay calls (Some number) octets bounds = ap Some (sym (receiver_hear stay calls number octets bounds))
-
-hear_after : (tuning : Tuning) (calls : List Call) (event bis subevent : ℕ) (octets : List ℕ) → 1 ≤ bis → bis ≤ 31 → Bounds tuning.info
-    → hear_on event bis subevent octets (on_after calls tuning) ≡ on_after (hear event bis subevent octets ∷ calls) tuning
-hear_after tuning calls event bis subevent octets least greatest bounds =
-    let now : List Call = hear event bis subevent octets ∷ calls in
-    let number : Option ℕ = number_of tuning.info event subevent in
-    let one : 1 + (bis - 1) ≡ bis = omega arith in
-    let here : stream_after tuning now bis ≡ hear_at number octets (stream_at (on_after calls tuning) bis) =
-    ap (λ past. cond (is_in tuning.which bis) (Some (receiver_after (stay_on tuning bis) past)) None)
-    (cond-true (eqb bis bis) (with_hear number octets (stream_calls (stay_on tuning bis) calls)) (stream_calls (stay_on tuning bis) calls) (eq-eqb bis bis refl))
-    ∙ hear_cases (is_in tuning.which bis) (stay_on tuning bis) (stream_calls (stay_on tuning bis) calls) number octets bounds
-    ∙ ap (hear_at number octets) (sym (stream_is tuning calls bis least greatest)) in
-    ap (λ streams. record { info = tuning.info; streams = streams })
-    (sym (map_changed (stream_after tuning calls) (stream_after tuning now) 1 31 (bis - 1)
-    (hear_at number octets (stream_at (on_after calls tuning) bis)) (omega arith)
-    (λ other from under apart.
-    ap (λ past. cond (is_in tuning.which other) (Some (receiver_after (stay_on tuning other) past)) None)
-    (sym (cond-false (eqb bis other) (with_hear number octets (stream_calls (stay_on tuning other) calls)) (stream_calls (stay_on tuning other) calls)
-    (ne_eqb bis other (λ same. apart (sym same ∙ sym one))))))
-    (subst (λ n. stream_after tuning now n ≡ hear_at number octets (stream_at (on_after calls tuning) bis)) (sym one) here)))
-
-close_cases : (over : Bool) (stay : Stay) (calls : List stays.Call) → Bounds stay.info
-    → cond over (Some (closed (receiver_after stay calls))) (Some (receiver_after stay calls))
-    ≡ Some (receiver_after stay (cond over (stays.close ∷ calls) calls))
-close_cases true stay calls bounds = ap Some (receiver_close stay calls bounds)
-close_cases false stay calls bounds = refl
-
-tick_cases : (taken : Bool) (event : ℕ) (stay : Stay) (calls : List stays.Call) → Bounds stay.info
-    → tick_at event (cond taken (Some (receiver_after stay calls)) None)
-    ≡ cond taken (Some (receiver_after stay (with_tick stay event calls))) None
-tick_cases false event stay calls bounds = refl
-tick_cases true event stay calls bounds =
-    ap (λ open_now. cond (leb open_now event) (Some (closed (receiver_after stay calls))) (Some (receiver_after stay calls))) (open_is stay calls)
-    ∙ close_cases (leb (opened stay calls) event) stay calls bounds
-
-map_twice : {A B : Type 0} (f : ℕ → A) (g : A → B) (xs : List ℕ) → map g (map f xs) ≡ map (λ x. g (f x)) xs
-map_twice f g [] = refl
-map_twice f g (x ∷ xs) = ap (λ ys. g (f x) ∷ ys) (map_twice f g xs)
-
-tick_after : (tuning : Tuning) (calls : List Call) (event : ℕ) → Bounds tuning.info
-    → tick_on event (on_after calls tuning) ≡ on_after (tick event ∷ calls) tuning
-tick_after tuning calls event bounds =
-    ap (λ streams. record { info = tuning.info; streams = streams })
-    (map_twice (stream_after tuning calls) (tick_at event) (range_with_len 1 31)
-    ∙ map_same (λ bis. tick_at event (stream_after tuning calls bis)) (stream_after tuning (tick event ∷ calls)) 1 31
-    (λ bis least below. tick_cases (is_in tuning.which bis) event (stay_on tuning bis) (stream_calls (stay_on tuning bis) calls) bounds))
-
-flat_map_same : (f g : ℕ → List Handed) (xs : List ℕ) → ((x : ℕ) → f x ≡ g x) → flat_map f xs ≡ flat_map g xs
-flat_map_same f g [] same = refl
-flat_map_same f g (x ∷ xs) same = ap (λ ys. ys ++ flat_map f xs) (same x) ∙ ap (λ ys. g x ++ ys) (flat_map_same f g xs same)
-
-owed_cases : (taken : Bool) (event : ℕ) (stay : Stay) (calls : List stays.Call) → Bounds stay.info
-    → owed_by event (cond taken (Some (receiver_after stay calls)) None) ≡ cond taken (units_by event stay calls) []
-owed_cases false event stay calls bounds = refl
-owed_cases true event stay calls bounds =
-    ap (λ open_now. cond (leb open_now event) (owed_of (receiver_after stay calls)) []) (open_is stay calls)
-    ∙ ap (λ units. cond (leb (opened stay calls) event) units []) (owed_is stay calls bounds)
-
-owed_after : (tuning : Tuning) (calls : List Call) (event : ℕ) → Bounds tuning.info
-    → owed_on event (on_after calls tuning) ≡ handed_by event calls (Some tuning)
-owed_after tuning calls event bounds =
-    flat_map-map (owed_by event) (stream_after tuning calls) (range_with_len 1 31)
-    ∙ flat_map_same (λ bis. owed_by event (stream_after tuning calls bis)) (λ bis. cond (is_in tuning.which bis) (units_on event calls tuning bis) [])
-    (range_with_len 1 31)
-    (λ bis. owed_cases (is_in tuning.which bis) event (stay_on tuning bis) (stream_calls (stay_on tuning bis) calls) bounds)
-    ∙ flat_map_filter (is_in tuning.which) (units_on event calls tuning) (range_with_len 1 31)
-
--- a sink on a group
-somewhere : (p : Option Tuning) (calls : List Call) (on : OnGroup) → Some on ≡ option_map (on_after calls) p
-    → (tuning : Tuning) × (p ≡ Some tuning) × (on ≡ on_after calls tuning)
-somewhere None calls on is = absurd (cc)
-somewhere (Some tuning) calls on is = (tuning, refl, same_Some on (on_after calls tuning) is)
-
-pub some_answers : (calls : List Call) (event bis subevent : ℕ) (octets : List ℕ) (on : OnGroup) → 1 ≤ bis → bis ≤ 31
-    → StandsFor calls (Some on) → answer_on event bis subevent octets on ≡ hearing_of calls event bis subevent octets
-some_answers calls event bis subevent octets on least greatest stands =
-    let at = somewhere (place calls) calls on stands.place_is in
-    ap (answer_on event bis subevent octets) at.2 ∙ answer_after at.0 calls event bis subevent octets least greatest
-    ∙ sym (ap (λ p. hearing_at p calls event bis subevent octets) at.1)
-
-pub some_hears : (calls : List Call) (event bis subevent : ℕ) (octets : List ℕ) (on : OnGroup) → 1 ≤ bis → bis ≤ 31 → Bounds on.info
-    → StandsFor calls (Some on) → StandsFor (hear event bis subevent octets ∷ calls) (Some (hear_on event bis subevent octets on))
-some_hears calls event bis subevent octets on least greatest bounds stands =
-    let at = somewhere (place calls) calls on stands.place_is in
-    let checked : Bounds at.0.info = subst (λ o. Bounds o.info) at.2 bounds in
+-- that puts it on none
+pub stands_stepped : (setup : Setup) (step : Step) (calls : List Call) (old new : Halves)
+    → joining_given setup (sight_of setup (steps_of calls)) step ≡ None → new.scan.setup ≡ old.scan.setup
+    → ScanStands (step ∷ steps_of calls) new.scan
+    → ((past : List sinks.Call) → SinkStands past old.sink → SinkStands (with_leave (has_group old.scan.sight.place) (has_group new.scan.sight.place) past) new.sink)
+    → StandsFor setup calls old → StandsFor setup (control step ∷ calls) new
+stands_stepped setup step calls old new none same steps sink stands =
+    let past : List sinks.Call = group_calls setup calls in
+    let before : Sight = sight_of setup (steps_of calls) in
+    let after : Sight = sight_of setup (step ∷ steps_of calls) in
+    let first : SinkStands (with_leave (has_group old.scan.sight.place) (has_group after.place) past) new.sink =
+    subst (λ (s : Sight). SinkStands (with_leave (has_group old.scan.sight.place) (has_group s.place) past) new.sink)
+    (after_is setup step calls old new same steps stands) (sink past stands.groups) in
+    let then : SinkStands (with_leave (has_group before.place) (has_group after.place) past) new.sink =
+    subst (λ (s : Sight). SinkStands (with_leave (has_group s.place) (has_group after.place) past) new.sink) (sight_is setup calls old stands) first in
     record {
-      place_is = ap Some (ap (hear_on event bis subevent octets) at.2 ∙ hear_after at.0 calls event bis subevent octets least greatest checked)
-          ∙ sym (ap (option_map (on_after (hear event bis subevent octets ∷ calls))) at.1);
+      setup_is = same ∙ stands.setup_is;
+      steps = steps;
+      groups = subst (λ given. SinkStands (with_step given before after past) new.sink) (sym none) then;
     }
 
-pub some_hands : (calls : List Call) (event : ℕ) (on : OnGroup) → Bounds on.info
-    → StandsFor calls (Some on) → owed_on event on ≡ handed_at calls event
-some_hands calls event on bounds stands =
-    let at = somewhere (place calls) calls on stands.place_is in
-    ap (owed_on event) at.2
-    ∙ owed_after at.0 calls event (subst (λ o. Bounds o.info) at.2 bounds)
-    ∙ sym (ap (handed_by event calls) at.1)
+-- and that was settled then
+pub stands_settled : (setup : Setup) (step : Step) (calls : List Call) (old new : Halves) (mid : Machine) (was : Bool)
+    → joining_given setup (sight_of setup (steps_of calls)) step ≡ None → mid.setup ≡ old.scan.setup → ScanStands (step ∷ steps_of calls) mid
+    → was ≡ has_group old.scan.sight.place → new.scan ≡ mid
+    → ((past : List sinks.Call) → SinkStands past old.sink → SinkStands (with_leave was (has_group mid.sight.place) past) new.sink)
+    → StandsFor setup calls old → StandsFor setup (control step ∷ calls) new
+stands_settled setup step calls old new mid was none same steps is made sink stands =
+    stands_stepped setup step calls old new none (ap (λ (m : Machine). m.setup) made ∙ same) (subst (ScanStands (step ∷ steps_of calls)) (sym made) steps)
+    (λ past its. subst (λ (m : Machine). SinkStands (with_leave (has_group old.scan.sight.place) (has_group m.sight.place) past) new.sink) (sym made)
+    (subst (λ on. SinkStands (with_leave on (has_group mid.sight.place) past) new.sink) is (sink past its)))
+    stands
 
-pub some_ticks : (calls : List Call) (event : ℕ) (on : OnGroup) → Bounds on.info
-    → StandsFor calls (Some on) → StandsFor (tick event ∷ calls) (Some (tick_on event on))
-some_ticks calls event on bounds stands =
-    let at = somewhere (place calls) calls on stands.place_is in
-    record {
-      place_is = ap Some (ap (tick_on event) at.2 ∙ tick_after at.0 calls event (subst (λ o. Bounds o.info) at.2 bounds))
-          ∙ sym (ap (option_map (on_after (tick event ∷ calls))) at.1);
-    }
+pub left_is : (was is : Bool) (past : List sinks.Call) → was ≡ true → is ≡ false → sinks.leave ∷ past ≡ with_leave was is past
+left_is was is past before after = sym (ap (λ on. with_leave on is past) before ∙ ap (λ on. with_leave true on past) after)
+
+stays : (on : Bool) (past : List sinks.Call) → with_leave on on past ≡ past
+stays true past = refl
+stays false past = refl
+
+-- that leaves it where it was
+pub stands_quiet : (setup : Setup) (step : Step) (calls : List Call) (old new : Halves)
+    → joining_given setup (sight_of setup (steps_of calls)) step ≡ None → new.scan.setup ≡ old.scan.setup
+    → ScanStands (step ∷ steps_of calls) new.scan → has_group new.scan.sight.place ≡ has_group old.scan.sight.place → new.sink ≡ old.sink
+    → StandsFor setup calls old → StandsFor setup (control step ∷ calls) new
+stands_quiet setup step calls old new none same steps place sink stands =
+    stands_stepped setup step calls old new none same steps
+    (λ past its. subst (λ (s : Option OnGroup). SinkStands (with_leave (has_group old.scan.sight.place) (has_group new.scan.sight.place) past) s) (sym sink)
+    (subst (λ xs. SinkStands xs old.sink)
+    (sym (stays (has_group old.scan.sight.place) past) ∙ ap (λ on. with_leave (has_group old.scan.sight.place) on past) (sym place)) its))
+    stands
+
+-- ---- what the receivers hear
+
+pub stands_heard : (setup : Setup) (calls : List Call) (event bis subevent : ℕ) (octets : List ℕ) (old new : Halves) → new.scan ≡ old.scan
+    → SinkStands (sinks.hear event bis subevent octets ∷ group_calls setup calls) new.sink
+    → StandsFor setup calls old → StandsFor setup (hear event bis subevent octets ∷ calls) new
+stands_heard setup calls event bis subevent octets old new same sink stands = record {
+  setup_is = ap (λ (m : Machine). m.setup) same ∙ stands.setup_is;
+  steps = subst (ScanStands (steps_of calls)) (sym same) stands.steps;
+  groups = sink;
+}
+
+pub stands_ticked : (setup : Setup) (calls : List Call) (event : ℕ) (old new : Halves) → new.scan ≡ old.scan
+    → SinkStands (sinks.tick event ∷ group_calls setup calls) new.sink
+    → StandsFor setup calls old → StandsFor setup (tick event ∷ calls) new
+stands_ticked setup calls event old new same sink stands = record {
+  setup_is = ap (λ (m : Machine). m.setup) same ∙ stands.setup_is;
+  steps = subst (ScanStands (steps_of calls)) (sym same) stands.steps;
+  groups = sink;
+}

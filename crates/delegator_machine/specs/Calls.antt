@@ -1,24 +1,16 @@
--- The calls that a sink took, the newest first, and the group that it is on (Core 5.2, volume 6 part B, section 4.4.6: a
--- synchronized receiver takes some of the streams of a group).
-use Rattle.std.specs.Prelude.{ℕ, List, [], ◌∷◌, Option, Some, None}
-use Rattle.big_info.specs.declared.info.BigInfo.{BigInfo}
-
--- a group that a sink is put on
-pub record Tuning : Type 0 where
-  pub info : BigInfo
-  pub which : ℕ  -- the streams that it takes: bit n stands for index n + 1
-  pub first : ℕ  -- the first event
-  pub anchor : ℕ  -- its anchor in µs
-  pub delay : ℕ  -- Presentation_Delay in µs
+-- The calls that a Scan Delegator took, the newest first: steps of its control half (Broadcast Audio Scan Service 1.0, section 3),
+-- and what its receivers hear (Core 5.2, volume 6 part B, section 4.4.6).
+use Rattle.std.specs.Prelude.{ℕ, List, [], ◌∷◌}
+use Rattle.delegator_states.specs.States.{Step}
 
 pub data Call : Type 0 where
-  tune : (tuning : Tuning) → Call  -- the sink is put on a group
+  control : (step : Step) → Call
   hear : (event bis subevent : ℕ) (octets : List ℕ) → Call  -- a PDU is heard in a subevent, from 0, of a stream
   tick : (event : ℕ) → Call  -- all events up to this one are over
 
--- the group that the sink is on: the last one that it was put on
-abbrev pub place : List Call → Option Tuning
-place [] = None
-place (tune tuning ∷ calls) = Some tuning
-place (hear event bis subevent octets ∷ calls) = place calls
-place (tick event ∷ calls) = place calls
+-- the steps of the control half
+abbrev pub steps_of : List Call → List Step
+steps_of [] = []
+steps_of (control step ∷ calls) = step ∷ steps_of calls
+steps_of (hear event bis subevent octets ∷ calls) = steps_of calls
+steps_of (tick event ∷ calls) = steps_of calls

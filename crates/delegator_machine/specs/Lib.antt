@@ -1,5 +1,3 @@
 pub mod Calls
-pub mod Handing
-pub mod Hearings
-pub mod Streams
+pub mod Groups
 pub mod State

@@ -1,3 +1,2 @@
-pub mod Receivers
-pub mod Sinks
-pub mod Steps
+pub mod Halves
+pub mod Joined

@@ -1,31 +1,31 @@
-//! What holds of every sink.
-ghost use Rattle.std.specs.Prelude.{◌≡◌, ◌+◌, ◌≤◌, ◌↔◌, ℕ, List, [], Some};
-ghost use Rattle.std.specs.List.{Contains};
-ghost use Rattle.std.specs.List.Sorted.{IsStrictlyIncreasing};
-ghost use Rattle.bcast_base.specs.Bis.{Has};
-ghost use Rattle.isoal_base.specs.Stays.{opened};
-ghost use Rattle.isoal_unframed.specs.Histories.{handed};
-ghost use Rattle.isoal_framed.specs.Histories.{decided};
-ghost use Rattle.delegator_machine.specs.Calls.{Call, Tuning, place};
-ghost use Rattle.delegator_machine.specs.Handing.{handed_since, of_stream};
-ghost use Rattle.delegator_machine.specs.Streams.{closes, stay_on, stream_calls, streams_of};
+//! Where a Scan Delegator is, and where bits of streams stand.
+ghost use Rattle.std.specs.Prelude.{◌≡◌, true, ℕ, List, Some, None, is_some, option_map, if◌then◌else◌};
+ghost use Rattle.delegator_states.specs.Sights.{on_group};
+ghost use Rattle.delegator_states.specs.States.{sight_of};
+ghost use Rattle.delegator_states.specs.Trains.{Setup};
+ghost use Rattle.delegator_states.specs.Values.{state_at, HasBit};
+ghost use Rattle.group_sink.specs.Calls.{place};
+ghost use Rattle.receive_state.specs.declared.state.ReceiveState.{ReceiveState};
+ghost use Rattle.scan_delegator.specs.Groups.{has_group};
+ghost use Rattle.delegator_machine.specs.Calls.{Call, steps_of};
+ghost use Rattle.delegator_machine.specs.Groups.{group_calls, last_joining, tuning_of};
 
-/// The streams of a set are its indices from 1 to 31, rising.
-pub fn streams_rise()
-    ensures members { (set bis : ℕ) → Contains (streams_of set) bis ↔ ((1 ≤ bis) × (bis ≤ 31) × Has set bis) }
-    ensures rising { (set : ℕ) → IsStrictlyIncreasing (streams_of set) }
+use delegator_states::bits_stand_on_the_group;
+
+/// The receivers are on a group exactly where the control half says that the sink is on one, and then on that of the last step
+/// that put the sink on one: of `tuned`, or of a train that was taken.
+pub fn the_sink_is_where_its_steps_put_it()
+    ensures both { (setup : Setup) (calls : List Call) → is_some (place (group_calls setup calls)) ≡ has_group (sight_of setup (steps_of calls)).place }
+    ensures group { (setup : Setup) (calls : List Call)
+        → place (group_calls setup calls) ≡ (if has_group (sight_of setup (steps_of calls)).place then option_map tuning_of (last_joining setup (steps_of calls)) else None) }
 {}
 
-/// All streams of a group have the same open event: the first one and the number of ticks that closed one.
-pub fn one_event_is_open()
-    ensures { (tuning : Tuning) (calls : List Call) (bis : ℕ) → opened (stay_on tuning bis) (stream_calls (stay_on tuning bis) calls) ≡ tuning.first + closes tuning calls }
-{}
-
-/// Since a sink was put on its group, its ticks handed of each stream that it takes what the closes of the stream's stay
-/// hand, in order: of an unframed stream the units of its closed events, of a framed one those that its closed events
-/// decide. Of any other stream they handed nothing.
-pub fn each_stream_hands_its_units()
-    ensures unframed { (tuning : Tuning) (calls : List Call) (bis : ℕ) → tuning.info.framing ≡ 0 → place calls ≡ Some tuning → Contains (streams_of tuning.which) bis → of_stream bis (handed_since calls) ≡ handed (stay_on tuning bis) (stream_calls (stay_on tuning bis) calls) }
-    ensures framed { (tuning : Tuning) (calls : List Call) (bis : ℕ) → tuning.info.framing ≡ 1 → place calls ≡ Some tuning → Contains (streams_of tuning.which) bis → of_stream bis (handed_since calls) ≡ decided (stay_on tuning bis) (stream_calls (stay_on tuning bis) calls) }
-    ensures others { (tuning : Tuning) (calls : List Call) (bis : ℕ) → place calls ≡ Some tuning → ¬ Contains (streams_of tuning.which) bis → of_stream bis (handed_since calls) ≡ [] }
-{}
+/// A set bit of a stream stands only in the slot whose group the sink is on, and only while the receivers are on a group.
+pub fn bits_stand_where_the_sink_is()
+    ensures slot { (setup : Setup) (calls : List Call) (slot : ℕ) (state : ReceiveState) → state_at (sight_of setup (steps_of calls)) slot ≡ Some state
+        → HasBit state → (sight_of setup (steps_of calls)).place ≡ on_group (Some slot) }
+    ensures receivers { (setup : Setup) (calls : List Call) (slot : ℕ) (state : ReceiveState) → state_at (sight_of setup (steps_of calls)) slot ≡ Some state
+        → HasBit state → is_some (place (group_calls setup calls)) ≡ true }
+{
+    bits_stand_on_the_group();
+}

@@ -1,14 +1,11 @@
-//! A sink: the group that it is on, the streams that it takes of it, and the units that it hands up.
+//! A Scan Delegator: its control half, which says what it is on, and the receivers of the group that it is on.
 #![tactic(auto)]
 
 mod delegator;
 mod laws;
-mod on_group;
-mod receiver;
-mod refuser;
-mod streams;
-#[cfg(test)]
-mod tests;
+mod numbers;
+mod settings;
+mod train;
 
 pub use delegator::Delegator;
-pub use laws::{each_stream_hands_its_units, one_event_is_open, streams_rise};
+pub use laws::{bits_stand_where_the_sink_is, the_sink_is_where_its_steps_put_it};

@@ -1,0 +1,5 @@
+pub mod Calls
+pub mod Handing
+pub mod Hearings
+pub mod Streams
+pub mod State

@@ -1,0 +1,3 @@
+pub mod Receivers
+pub mod Sinks
+pub mod Steps

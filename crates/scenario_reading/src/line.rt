@@ -1,0 +1,177 @@
+ghost use Rattle.std.specs.Prelude.{◌≡◌, ◌⊎◌, ℕ, IfOk, IfSome, IfNone, Ok, Err, Some, None};
+ghost use Rattle.scenario_words.specs.declared.fault.LineFault.TheVariants.{BadLine};
+ghost use Rattle.scenario_words.specs.Reading.{Gives, GivesNext};
+ghost use Rattle.scenario_text.specs.Ranges.{IsInRange};
+ghost use Rattle.scenario_text.specs.Table.{row_of, first_row_of, source_row_of};
+ghost use Rattle.scenario_text.specs.Lines.{LineIs, IsBlank};
+ghost use Rattle.scenario_text.specs.Steps.{at_known, step_of as step_in, read_of};
+ghost use Rattle.scenario_text.specs.Misfits.{IsMisfit};
+ghost use Rattle.scenario_text.specs.declared.step.Step.{Step};
+
+use crate::{first_lines, source_lines};
+use scenario_sink_lines::named_of_sink;
+use scenario_text::Step;
+use scenario_words::{Cursor, LineFault};
+use std::alloc::Global;
+
+/// Reads a line of a scenario of version 1: `None` for an empty line or a comment.
+pub fn read_line(alloc: Global, line: &[u8]) -> Result<Option<Step>, LineFault>
+    ensures in_range { IfOk result (λ read. IfSome read IsInRange) }
+    // A step that is read is the one that the line says.
+    ensures found { IfOk result (λ read. IfSome read (λ step. LineIs 1 step line.now)) }
+    // A step that the line says is read, unless memory runs out.
+    ensures only { (step : Step) → LineIs 1 step line.now → Gives (λ read. read) result (Ok (Some step)) }
+    // None comes exactly for an empty line or a comment.
+    ensures blank { IsBlank line.now → result ≡ Ok None }
+    ensures none { IfOk result (λ read. IfNone read (IsBlank line.now)) }
+    // The number of a fault is that of the words that fit.
+    ensures misfit { (k : ℕ) → result ≡ Err (BadLine k) → IsMisfit 1 line.now k }
+    // What it answers is what the line reads as.
+    ensures reads { Gives (λ read. read) result (read_of 1 line.now) }
+{
+    read_line_in(alloc, 1, line)
+}
+
+/// Reads a line of a scenario of this version: `None` for an empty line or a comment.
+pub fn read_line_in(alloc: Global, version: u8, line: &[u8]) -> Result<Option<Step>, LineFault>
+    requires { (version ≡ 1) ⊎ (version ≡ 2) }
+    ensures in_range { IfOk result (λ read. IfSome read IsInRange) }
+    // A step that is read is the one that the line says.
+    ensures found { IfOk result (λ read. IfSome read (λ step. LineIs version step line.now)) }
+    // A step that the line says is read, unless memory runs out.
+    ensures only { (step : Step) → LineIs version step line.now → Gives (λ read. read) result (Ok (Some step)) }
+    // None comes exactly for an empty line or a comment.
+    ensures blank { IsBlank line.now → result ≡ Ok None }
+    ensures none { IfOk result (λ read. IfNone read (IsBlank line.now)) }
+    // The number of a fault is that of the words that fit.
+    ensures misfit { (k : ℕ) → result ≡ Err (BadLine k) → IsMisfit version line.now k }
+    // What it answers is what the line reads as.
+    ensures reads { Gives (λ read. read) result (read_of version line.now) }
+{
+    read(alloc, version, line)
+}
+
+/// What the line reads as.
+#[tactic(auto, unfolding(scenario_text::specs::Steps::read_of))]
+fn read(alloc: Global, version: u8, line: &[u8]) -> Result<Option<Step>, LineFault>
+    ensures blank { IsBlank line.now → result ≡ Ok None }
+    ensures reads { Gives (λ read. read) result (read_of version line.now) }
+{
+    match line.first() {
+        None => Ok(None),
+        Some(b'#') => Ok(None),
+        Some(_) => Ok(Some(step_of(alloc, version, line)?)),
+    }
+}
+
+/// The step of a line that is neither empty nor a comment.
+#[tactic(auto, unfolding(scenario_text::specs::Steps::step_of))]
+fn step_of(alloc: Global, version: u8, line: &[u8]) -> Result<Step, LineFault>
+    ensures { Gives (λ step. step) result (step_in version line.now) }
+{
+    let mut words = Cursor::new(line);
+    let name = words.word()?;
+    let step = named(alloc, version, name, &mut words)?;
+    words.finish()?;
+    Ok(step)
+}
+
+/// The step that the words after this first word spell.
+#[tactic(auto, unfolding(scenario_text::specs::Table::row_of))]
+fn named(alloc: Global, version: u8, name: &[u8], words: &mut Cursor<'_>) -> Result<Step, LineFault>
+    ensures { GivesNext (λ step. step) result words.new (at_known (row_of version name.now) words.old) }
+{
+    if name == b"unit".as_slice() {
+        return first_lines::unit(alloc, words);
+    }
+    if name == b"event".as_slice() {
+        return Ok(Step::Event);
+    }
+    if name == b"hear".as_slice() {
+        return first_lines::hear(words);
+    }
+    if name == b"air".as_slice() {
+        return first_lines::air(words);
+    }
+    if name == b"inject".as_slice() {
+        return first_lines::inject(alloc, words);
+    }
+    if name == b"sniff".as_slice() {
+        return first_lines::sniff(words);
+    }
+    named_of_first(alloc, version, name, words)
+}
+
+/// The step where the first word is that of a line that begins or ends something, or a later one.
+#[tactic(auto, unfolding(scenario_text::specs::Table::first_row_of))]
+fn named_of_first(
+    alloc: Global,
+    version: u8,
+    name: &[u8],
+    words: &mut Cursor<'_>,
+) -> Result<Step, LineFault>
+    ensures { GivesNext (λ step. step) result words.new (at_known (first_row_of version name.now) words.old) }
+{
+    if name == b"scenario".as_slice() {
+        return first_lines::scenario(words);
+    }
+    if name == b"group".as_slice() {
+        return first_lines::group(words);
+    }
+    if name == b"start".as_slice() {
+        return first_lines::start(words);
+    }
+    if name == b"sink".as_slice() {
+        return first_lines::sink(version, words);
+    }
+    if name == b"tuned".as_slice() {
+        return first_lines::tuned(words);
+    }
+    if name == b"drop".as_slice() {
+        return first_lines::drop_sink(words);
+    }
+    if name == b"stop".as_slice() {
+        return Ok(Step::Stop);
+    }
+    if name == b"end".as_slice() {
+        return Ok(Step::End);
+    }
+    named_of_source(alloc, version, name, words)
+}
+
+/// The step where the first word is that of a line of a source, or a later one.
+#[tactic(auto, unfolding(scenario_text::specs::Table::source_row_of))]
+fn named_of_source(
+    alloc: Global,
+    version: u8,
+    name: &[u8],
+    words: &mut Cursor<'_>,
+) -> Result<Step, LineFault>
+    ensures { GivesNext (λ step. step) result words.new (at_known (source_row_of version name.now) words.old) }
+{
+    if name == b"ident".as_slice() {
+        return source_lines::ident(words);
+    }
+    if name == b"subgroup".as_slice() {
+        return source_lines::subgroup(alloc, words);
+    }
+    if name == b"meta".as_slice() {
+        return source_lines::meta(alloc, words);
+    }
+    if name == b"bis".as_slice() {
+        return source_lines::bis(alloc, words);
+    }
+    if name == b"cipher".as_slice() {
+        return source_lines::cipher(words);
+    }
+    if name == b"announce".as_slice() {
+        return source_lines::announce(words);
+    }
+    if name == b"train".as_slice() {
+        return source_lines::train(alloc, words);
+    }
+    if name == b"terminate".as_slice() {
+        return source_lines::terminate(words);
+    }
+    named_of_sink(alloc, version, name, words)
+}

@@ -1,0 +1,79 @@
+//! The lines of a source, behind their first words.
+ghost use Rattle.scenario_words.specs.Reading.{GivesNext};
+ghost use Rattle.scenario_text.specs.Steps.{at_row};
+ghost use Rattle.scenario_text.specs.Table.{ident_row, subgroup_row, meta_row, bis_row, cipher_row, announce_row, train_row, terminate_row};
+
+use scenario_text::Step;
+use scenario_words::{Cursor, LineFault};
+use std::alloc::Global;
+
+pub fn ident(words: &mut Cursor<'_>) -> Result<Step, LineFault>
+    ensures { GivesNext (λ step. step) result words.new (at_row ident_row words.old) }
+{
+    Ok(Step::Ident {
+        address_type: words.octet(0, 1)?,
+        address: words.array()?,
+        sid: words.octet(0, 15)?,
+        broadcast_id: words.array()?,
+    })
+}
+
+pub fn subgroup(alloc: Global, words: &mut Cursor<'_>) -> Result<Step, LineFault>
+    ensures { GivesNext (λ step. step) result words.new (at_row subgroup_row words.old) }
+{
+    Ok(Step::Subgroup {
+        codec: words.array()?,
+        config: words.list(alloc, 255)?,
+    })
+}
+
+pub fn meta(alloc: Global, words: &mut Cursor<'_>) -> Result<Step, LineFault>
+    ensures { GivesNext (λ step. step) result words.new (at_row meta_row words.old) }
+{
+    let metadata = words.list(alloc, 255)?;
+    Ok(Step::Meta { metadata })
+}
+
+pub fn bis(alloc: Global, words: &mut Cursor<'_>) -> Result<Step, LineFault>
+    ensures { GivesNext (λ step. step) result words.new (at_row bis_row words.old) }
+{
+    Ok(Step::Bis {
+        bis: words.bis(1)?,
+        config: words.list(alloc, 255)?,
+    })
+}
+
+pub fn cipher(words: &mut Cursor<'_>) -> Result<Step, LineFault>
+    ensures { GivesNext (λ step. step) result words.new (at_row cipher_row words.old) }
+{
+    Ok(Step::Cipher {
+        giv: words.array()?,
+        gskd: words.array()?,
+    })
+}
+
+pub fn announce(words: &mut Cursor<'_>) -> Result<Step, LineFault>
+    ensures { GivesNext (λ step. step) result words.new (at_row announce_row words.old) }
+{
+    let sink = words.octet(0, 7)?;
+    Ok(Step::Announce { sink })
+}
+
+pub fn train(alloc: Global, words: &mut Cursor<'_>) -> Result<Step, LineFault>
+    ensures { GivesNext (λ step. step) result words.new (at_row train_row words.old) }
+{
+    Ok(Step::Train {
+        sink: words.octet(0, 7)?,
+        time: words.number(0, 1 << 48)?,
+        ext: words.octets(alloc, 255)?,
+        adv: words.octets(alloc, 1_650)?,
+        acad: words.octets(alloc, 255)?,
+    })
+}
+
+pub fn terminate(words: &mut Cursor<'_>) -> Result<Step, LineFault>
+    ensures { GivesNext (λ step. step) result words.new (at_row terminate_row words.old) }
+{
+    let reason = words.octet(0, 255)?;
+    Ok(Step::Terminate { reason })
+}
