@@ -1,5 +1,6 @@
 -- Which statuses come, and what the boxes took of a text that its source tells.
-use Rattle.std.proofs.Common.{◌≡◌, ◌≢◌, ℕ, ◌+◌, ◌^◌, ◌<◌, zero, suc, Bool, true, eq-eqb, List, [], ◌∷◌, ◌++◌, length, reverse, map, refl, sym, ap, subst, ◌∙◌, append_assoc, arith, Option, None, Some, slice_get, slice_set, length-append, IsTrue}
+use Rattle.std.proofs.Common.{◌≡◌, ◌≢◌, ℕ, ◌+◌, ◌^◌, ◌<◌, zero, suc, Bool, true, eq-eqb, List, [], ◌∷◌, ◌++◌, length}
+use Rattle.std.proofs.Common.{reverse, map, refl, sym, ap, subst, ◌∙◌, append_assoc, arith, Option, None, Some, slice_get, slice_set, length-append, IsTrue}
 use Rattle.std.specs.Prelude.{option_map, sum}
 use Rattle.std.proofs.lemmas.List.{append-nil, map-append}
 use Rattle.std.proofs.lemmas.List.Sums.{sum_by-cons, sum_by-append}
@@ -20,7 +21,7 @@ use Rattle.replay_command.specs.declared.status.Status.TheVariants as statuses
 use Rattle.replay_command.specs.Replayed.{TextRead, OutletFaulted}
 use Rattle.replay_command.specs.Ended.{Ended, IsDoneOrMemory, IsNoFault, IsWhole, AheadOf, NoneFailed, Holds, RoomFor, RoomForText, Complete}
 use Rattle.replay_command.proofs.Endings.{units_all}
-use Rattle.replay_command.proofs.LineEndings.{units_line}
+use Rattle.replay_command.proofs.LineUnits.{units_line}
 
 -- ---- a source that tells its text
 

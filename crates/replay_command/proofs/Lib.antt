@@ -1,8 +1,10 @@
 mod ReadingOn
 mod RefusalLaws
 mod Endings
+mod LineUnits
 mod LineEndings
 mod LineSteps
 mod Completing
 mod OtherAirs
+mod Migrating
 mod Promises

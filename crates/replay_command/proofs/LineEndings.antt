@@ -1,5 +1,6 @@
 -- How a call of `replay` goes on or ends once a line was read.
-use Rattle.std.proofs.Common.{◌≡◌, ℕ, ◌+◌, Bool, true, false, List, [], ◌∷◌, ◌++◌, length, reverse, refl, sym, ap, subst, ◌∙◌, append_assoc, arith, Option, None, Some, length-append, inl, inr, ◌⊎◌}
+use Rattle.std.proofs.Common.{◌≡◌, ℕ, ◌+◌, Bool, true, false, List, [], ◌∷◌, ◌++◌, length, reverse, refl, sym}
+use Rattle.std.proofs.Common.{ap, subst, ◌∙◌, append_assoc, arith, Option, None, Some, length-append, inl, inr, ◌⊎◌}
 use Rattle.std.proofs.lemmas.List.{append-nil, reverse-append}
 use Rattle.std.specs.Io.KnownBytes.{Appends}
 use Rattle.bcast_io.specs.TextLines.{TextLine, lines_of}
@@ -9,211 +10,24 @@ use Rattle.unit_outlets.specs.Account.{Account}
 use Rattle.source_machine.specs.Airs.{airs_of}
 use Rattle.transcript_text.specs.declared.refusal.Refusal.{Refusal}
 use Rattle.transcript_text.specs.Lines.{refusal_line}
-use Rattle.line_runs.specs.Runs.{refused, out, accepted_of, accepted_unless, brought, Accepted}
-use Rattle.scenario_history.specs.Boxes.{SinkUnit, accounts_after, handed_up, handed_by, Took}
-use Rattle.scenario_history.specs.Output.{unit_lines, output_of}
-use Rattle.scenario_history.specs.Lines.{Said, a_step, nothing, unsaid, rules_of, steps_of, said_after, handed_on, handed_said, output_said}
+use Rattle.line_runs.specs.Runs.{refused, out, brought, Accepted}
+use Rattle.scenario_history.specs.Boxes.{SinkUnit, handed_up, Took}
+use Rattle.scenario_history.specs.Output.{unit_lines}
+use Rattle.scenario_history.specs.Lines.{rules_of, steps_of, handed_on}
 use Rattle.scenario_history.specs.Transcript.{out_of, last_line_after, end_after, has_end, transcript_of, transcript_end, units_of}
-use Rattle.scenario_history.proofs.Citable.{took_all}
-use Rattle.scenario_text.specs.declared.step.Step.{Step}
-use Rattle.scenario_text.specs.declared.step.Step.TheVariants as kinds
 use Rattle.replay_command.specs.declared.status.Status.{Status}
 use Rattle.replay_command.specs.declared.status.Status.TheVariants as statuses
 use Rattle.replay_steps.specs.declared.machine.Machine.{Machine}
 use Rattle.scenario_sinks.specs.Handing.{BoxFails, CutShort}
 use Rattle.replay_steps.specs.Meets.{BoxesStand}
 use Rattle.replay_steps.specs.LineMeets.{LinesStand, refusal_at, output_at}
-use Rattle.replay_command.specs.Replayed.{Comes, brought_by, BoxesCut, BoxFailed, Broken, OutletFaulted, ReadsAhead, CutAt, BoxesAt, TookFront}
+use Rattle.replay_command.specs.Replayed.{Comes, brought_by, BoxesCut, BoxFailed, Broken, OutletFaulted, ReadsAhead, CutAt, BoxesAt}
 use Rattle.replay_command.specs.Ended.{Ended}
 use Rattle.replay_command.specs.State.Between.{Refuses, Puts, StepRuns}
-use Rattle.replay_steps.proofs.Citable.{accounts_append, lines_append}
-use Rattle.replay_command.proofs.Endings.{out_then, out_all, out_line, out_refused, ends_refused, writes_refused, units_then, units_all, units_refused, units_rest, handed_line, took_history, front_of_short, front_none}
+use Rattle.replay_command.proofs.Endings.{out_then, out_all, ends_refused, writes_refused, units_all, units_refused, took_history, front_of_short, front_none}
 use Rattle.replay_command.proofs.RefusalLaws.{never_no_end}
-
--- whatever comes after it, the line begins with these octets
-abbrev Brings : List Account → List TextLine → TextLine → List ℕ → Type 0
-Brings starts history line octets =
-    (later : List TextLine) → (rest : List ℕ) × (out (rules_of airs_of starts) history (line ∷ later) ≡ octets ++ rest)
-
--- whatever comes after the line, the boxes took a front of the units
-abbrev CutFor : List Account → List TextLine → TextLine → List Account → Type 0
-CutFor starts history line accounts =
-    (later : List TextLine) → BoxesCut airs_of starts accounts (reverse history ++ line ∷ later) ⊎ BoxFailed airs_of starts accounts (reverse history ++ line ∷ later)
-
--- ---- what a line brings
-
-brings_nothing : (starts : List Account) (history : List TextLine) (line : TextLine) → Brings starts history line []
-brings_nothing starts history line later = (out (rules_of airs_of starts) history (line ∷ later), refl)
-
-brings_refused : (starts : List Account) (history : List TextLine) (line : TextLine) (reason : Refusal) (number : ℕ) → number ≡ length history + 1
-    → Accepted (rules_of airs_of starts) history → refusal_at starts history line ≡ Some reason → Brings starts history line (refusal_line number reason)
-brings_refused starts history line reason number is_next accepted because later = (
-  [],
-  out_refused starts history accepted line reason because later ∙ ap (λ n. refusal_line n reason) (sym is_next) ∙ sym (append-nil (refusal_line number reason)),
-)
-
-brings_output : (starts : List Account) (history : List TextLine) (line : TextLine) → Accepted (rules_of airs_of starts) history → refusal_at starts history line ≡ None
-    → Brings starts history line (output_at starts history line)
-brings_output starts history line accepted none later =
-    (out (rules_of airs_of starts) (line ∷ history) later, out_line starts history accepted line none later)
-
--- the lines of the units come first
-step_begins : (starts : List Account) (earlier : List Step) (step : Step)
-    → (rest : List ℕ) × (output_of airs_of starts earlier step ≡ unit_lines (handed_by airs_of earlier step) ++ rest)
-step_begins starts earlier kinds.Event = (_, refl)
-step_begins starts earlier kinds.Stop = ([], sym (append-nil (unit_lines (handed_by airs_of earlier kinds.Stop))))
-step_begins starts earlier (kinds.Terminate reason) = (_, refl)
-step_begins starts earlier kinds.End = (_, refl)
-step_begins starts earlier step = (output_of airs_of starts earlier step, refl)
-
-said_begins : (starts : List Account) (earlier : List Step) (said : Said)
-    → (rest : List ℕ) × (output_said airs_of starts earlier said ≡ unit_lines (handed_said airs_of earlier said) ++ rest)
-said_begins starts earlier (a_step step) = step_begins starts earlier step
-said_begins starts earlier nothing = ([], refl)
-said_begins starts earlier (unsaid reason) = ([], refl)
-
--- the lines of the first units of a line
-brings_units : (starts : List Account) (history : List TextLine) (line : TextLine) (done rest : List SinkUnit)
-    → Accepted (rules_of airs_of starts) history → refusal_at starts history line ≡ None → handed_on airs_of history line ≡ done ++ rest
-    → Brings starts history line (unit_lines done)
-brings_units starts history line done rest accepted none split later =
-    let said = said_begins starts (steps_of history) (said_after history line) in (
-      unit_lines rest ++ (said.0 ++ out (rules_of airs_of starts) (line ∷ history) later),
-      out_line starts history accepted line none later
-          ∙ ap (λ front. front ++ out (rules_of airs_of starts) (line ∷ history) later)
-          (said.1 ∙ ap (λ units. unit_lines units ++ said.0) split ∙ ap (λ front. front ++ said.0) (lines_append done rest) ∙ append_assoc (unit_lines done) (unit_lines rest) said.0)
-          ∙ append_assoc (unit_lines done) (unit_lines rest ++ said.0) (out (rules_of airs_of starts) (line ∷ history) later)
-          ∙ ap (λ more. unit_lines done ++ more) (append_assoc (unit_lines rest) said.0 (out (rules_of airs_of starts) (line ∷ history) later)),
-    )
-
--- ---- what the boxes took
-
--- the units of an accepted line come behind those of the history
-pub units_line : (starts : List Account) (history : List TextLine) (line : TextLine) (later : List TextLine)
-    → Accepted (rules_of airs_of starts) history → refusal_at starts history line ≡ None
-    → (rest : List SinkUnit) × (units_of airs_of starts (reverse history ++ line ∷ later) ≡ handed_up airs_of (steps_of history) ++ (handed_on airs_of history line ++ rest))
-units_line starts history line later accepted none =
-    let more = units_rest starts (line ∷ history) later in (
-      more.0,
-      units_then starts history accepted (line ∷ later)
-          ∙ ap (λ why. handed_up airs_of (steps_of (accepted_unless history why (accepted_of (rules_of airs_of starts) (line ∷ history) later)))) none
-          ∙ more.1
-          ∙ ap (λ front. front ++ more.0) (handed_line history line)
-          ∙ append_assoc (handed_up airs_of (steps_of history)) (handed_on airs_of history line) more.0,
-    )
-
-cut_before : (starts accounts : List Account) (history : List TextLine) (line : TextLine) → Accepted (rules_of airs_of starts) history
-    → BoxesStand starts (steps_of history) accounts → CutFor starts history line accounts
-cut_before starts accounts history line accepted b later =
-    let more = units_rest starts history (line ∷ later) in
-    inl (record {
-      done = handed_up airs_of (steps_of history);
-      rest = more.0;
-      split = units_then starts history accepted (line ∷ later) ∙ more.1;
-      boxes = took_history starts accounts history b;
-    })
-
-cut_after : (starts accounts : List Account) (history : List TextLine) (line : TextLine) → Accepted (rules_of airs_of starts) history
-    → refusal_at starts history line ≡ None → BoxesStand starts (steps_of (line ∷ history)) accounts → CutFor starts history line accounts
-cut_after starts accounts history line accepted none b later =
-    let more = units_line starts history line later accepted none in
-    inl (record {
-      done = handed_up airs_of (steps_of (line ∷ history));
-      rest = more.0;
-      split = more.1 ∙ sym (append_assoc (handed_up airs_of (steps_of history)) (handed_on airs_of history line) more.0)
-          ∙ ap (λ front. front ++ more.0) (sym (handed_line history line));
-      boxes = took_history starts accounts (line ∷ history) b;
-    })
-
-cut_within : (starts before after : List Account) (history : List TextLine) (line : TextLine) → Accepted (rules_of airs_of starts) history
-    → refusal_at starts history line ≡ None → BoxesStand starts (steps_of history) before → CutShort (handed_on airs_of history line) before after
-    → CutFor starts history line after
-cut_within starts before after history line accepted none b c later =
-    let more = units_line starts history line later accepted none in
-    let all = handed_up airs_of (steps_of history) in
-    let P : List Account → Type 0 = λ a. Took starts a (all ++ c.done) in
-    inl (record {
-      done = all ++ c.done;
-      rest = c.rest ++ more.0;
-      split = more.1 ∙ ap (λ units. all ++ (units ++ more.0)) c.split ∙ ap (λ rest. all ++ rest) (append_assoc c.done c.rest more.0)
-          ∙ sym (append_assoc all c.done (c.rest ++ more.0));
-      boxes = subst P (accounts_append all c.done starts ∙ ap (λ a. accounts_after a c.done) (sym b.accounts_are) ∙ sym c.boxes) (took_all starts (all ++ c.done));
-    })
-
-cut_failed : (starts before after : List Account) (history : List TextLine) (line : TextLine) (text told : List ℕ) → Accepted (rules_of airs_of starts) history
-    → refusal_at starts history line ≡ None → BoxesStand starts (steps_of history) before → BoxFails (handed_on airs_of history line) text told before after
-    → CutFor starts history line after
-cut_failed starts before after history line text told accepted none b f later =
-    let more = units_line starts history line later accepted none in
-    inr (record {
-      before = handed_up airs_of (steps_of history);
-      behind = more.0;
-      units = handed_on airs_of history line;
-      split = more.1 ∙ sym (append_assoc (handed_up airs_of (steps_of history)) (handed_on airs_of history line) more.0);
-      accounts = before;
-      boxes = took_history starts before history b;
-      text = text;
-      told = told;
-      fails = f;
-    })
-
--- ---- what the boxes took where a write was cut short
-
--- the units that an accepted line adds
-units_added : (starts : List Account) (history : List TextLine) (line : TextLine) → Accepted (rules_of airs_of starts) history → refusal_at starts history line ≡ None
-    → units_of airs_of starts (reverse (line ∷ history)) ≡ units_of airs_of starts (reverse history) ++ handed_on airs_of history line
-units_added starts history line accepted none =
-    units_all starts (line ∷ history) (accepted, none)
-    ∙ handed_line history line
-    ∙ ap (λ front. front ++ handed_on airs_of history line) (sym (units_all starts history accepted))
-
-took_before : (starts accounts : List Account) (history : List TextLine) → Accepted (rules_of airs_of starts) history → BoxesStand starts (steps_of history) accounts
-    → Took starts accounts (units_of airs_of starts (reverse history))
-took_before starts accounts history accepted b =
-    let P : List SinkUnit → Type 0 = λ u. Took starts accounts u in subst P (sym (units_all starts history accepted)) (took_history starts accounts history b)
-
-at_refused : (starts accounts : List Account) (history : List TextLine) (line : TextLine) (reason : Refusal) → Accepted (rules_of airs_of starts) history
-    → refusal_at starts history line ≡ Some reason → BoxesStand starts (steps_of history) accounts → BoxesAt airs_of starts accounts history line
-at_refused starts accounts history line reason accepted because b = record {
-  accounts = accounts;
-  before = took_before starts accounts history accepted b;
-  units = [];
-  added = ap (units_of airs_of starts) (reverse-append (line ∷ []) history)
-      ∙ units_refused starts history accepted line reason because []
-      ∙ sym (units_all starts history accepted)
-      ∙ sym (append-nil (units_of airs_of starts (reverse history)));
-  front = inl (record { done = []; rest = []; split = refl; boxes = refl });
-}
-
-at_front : (starts before after : List Account) (history : List TextLine) (line : TextLine) → Accepted (rules_of airs_of starts) history
-    → refusal_at starts history line ≡ None → BoxesStand starts (steps_of history) before → TookFront (handed_on airs_of history line) before after
-    → BoxesAt airs_of starts after history line
-at_front starts before after history line accepted none b front = record {
-  accounts = before;
-  before = took_before starts before history accepted b;
-  units = handed_on airs_of history line;
-  added = units_added starts history line accepted none;
-  front = front;
-}
-
--- all units of the line were taken
-at_after : (starts accounts : List Account) (history : List TextLine) (line : TextLine) → Accepted (rules_of airs_of starts) history
-    → refusal_at starts history line ≡ None → BoxesStand starts (steps_of (line ∷ history)) accounts → BoxesAt airs_of starts accounts history line
-at_after starts accounts history line accepted none b =
-    let all = handed_up airs_of (steps_of history) in
-    let here = handed_on airs_of history line in
-    record {
-      accounts = accounts_after starts all;
-      before = let P : List SinkUnit → Type 0 = λ u. Took starts (accounts_after starts all) u in subst P (sym (units_all starts history accepted)) (took_all starts all);
-      units = here;
-      added = units_added starts history line accepted none;
-      front = inl (record {
-        done = here;
-        rest = [];
-        split = sym (append-nil here);
-        boxes = b.accounts_are ∙ ap (accounts_after starts) (handed_line history line) ∙ accounts_append all here starts;
-      });
-    }
+use Rattle.replay_command.proofs.LineUnits.{Brings, CutFor, brings_nothing, brings_refused, brings_output, brings_units, cut_before}
+use Rattle.replay_command.proofs.LineUnits.{cut_after, cut_within, cut_failed, at_refused, at_front, at_after}
 
 -- ---- a write that was cut short
 

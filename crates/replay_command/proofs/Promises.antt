@@ -9,6 +9,7 @@ use Rattle.bcast_base.specs.Counts.{Rose}
 use Rattle.replay_command.specs.declared.status.Status.{Status}
 use Rattle.replay_command.specs.declared.status.Status.TheVariants as statuses
 use Rattle.replay_command.specs.Promised.{Promised, Did, DidOver}
+use Rattle.replay_command.specs.Migrated.{Migrated}
 use Rattle.replay_command.specs.Replayed.{ReadsAtMost, read_limit}
 use Rattle.source_machine.specs.Airs.{airs_of}
 use Rattle.scenario_history.specs.Airs.{MeetAirs}
@@ -18,6 +19,7 @@ use Rattle.scenario_history.specs.Transcript.{transcript_of}
 use Rattle.replay_command.specs.World.{World}
 use Rattle.replay_command.proofs.Completing.{ended_at, ended_whole, ended_ahead, ended_complete}
 use Rattle.replay_command.proofs.Endings.{ends_at_once}
+use Rattle.replay_command.proofs.Migrating.{migrated_none}
 use Rattle.replay_command.proofs.OtherAirs.{Same, ahead_as, complete_as, ended_as, took_text_as}
 use Rattle.replay_command.proofs.ReadingOn.{none_within}
 
@@ -75,6 +77,15 @@ module _ (old new : World) (status : Status) where
 pub in_replay : (mode : Mode) (old new : World) (status : Status) → mode ≡ modes.Replay → Promised old new status → PromisedIn mode old new status
 in_replay mode old new status is promised = record {
   replay = λ again. promised;
+  migrated = λ migrates. absurd cc;
+  usage = λ none. absurd (let P : Mode → Type 0 = λ m. IsNone m in subst P is none);
+}
+
+-- the call of words that mean migration
+pub in_migration : (mode : Mode) (old new : World) (status : Status) → mode ≡ modes.Migrate → Migrated old new status → PromisedIn mode old new status
+in_migration mode old new status is migrated = record {
+  replay = λ replays. absurd cc;
+  migrated = λ again. migrated;
   usage = λ none. absurd (let P : Mode → Type 0 = λ m. IsNone m in subst P is none);
 }
 
@@ -82,20 +93,22 @@ in_replay mode old new status is promised = record {
 pub in_none : (mode : Mode) (old : World) (status : Status) → IsNone mode → ((status ≡ statuses.Usage) ⊎ (status ≡ statuses.Memory)) → PromisedIn mode old old status
 in_none mode old status none is = record {
   replay = λ replays. absurd (let P : Mode → Type 0 = λ m. IsNone m in subst P replays none);
+  migrated = λ migrates. absurd (let P : Mode → Type 0 = λ m. IsNone m in subst P migrates none);
   usage = λ again. (is, refl);
 }
 
-pub none_of : (mode : Mode) → mode ≢ modes.Replay → IsNone mode
-none_of modes.Replay other = absurd (other refl)
-none_of modes.Migrate other = tt
-none_of modes.Toml other = tt
-none_of (modes.Generate seed events) other = tt
-none_of modes.Usage other = tt
+pub none_of : (mode : Mode) → mode ≢ modes.Replay → mode ≢ modes.Migrate → IsNone mode
+none_of modes.Replay other another = absurd (other refl)
+none_of modes.Migrate other another = absurd (another refl)
+none_of modes.Toml other another = tt
+none_of (modes.Generate seed events) other another = tt
+none_of modes.Usage other another = tt
 
 -- memory ran out before the words were read
 pub in_memory : (mode : Mode) (old : World) → Laws old.boxes → PromisedIn mode old old statuses.Memory
 in_memory mode old laws = record {
   replay = λ replays. promised_run old old statuses.Memory (ends_at_once old.boxes old.left old.taken) (none_within old.left)
       (λ e. absurd cc) (λ e. refl) (λ e. absurd cc) (λ e. refl) laws;
+  migrated = λ migrates. migrated_none old;
   usage = λ none. (inr refl, refl);
 }

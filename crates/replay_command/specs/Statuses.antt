@@ -1,5 +1,8 @@
 -- What the program makes of a status: its exit status, and what it says on standard error. Both are this project's own.
 use Rattle.std.specs.Prelude.{ℕ, List, Option, None, Some, codes}
+use Rattle.transcript_text.specs.declared.refusal.Refusal.TheVariants.{TextTooLong}
+use Rattle.replay_migration.specs.declared.migration.Migration.{Migration}
+use Rattle.replay_migration.specs.declared.migration.Migration.TheVariants as ends
 use Rattle.replay_command.specs.declared.status.Status.{Status}
 use Rattle.replay_command.specs.declared.status.Status.TheVariants.{Done, Refused, Usage, ReadFault, WriteFault, OutletFault, Memory}
 
@@ -20,3 +23,11 @@ text_of ReadFault = Some (codes "read fault")
 text_of WriteFault = Some (codes "write fault")
 text_of OutletFault = Some (codes "outlet fault")
 text_of Memory = Some (codes "no memory")
+
+-- the status of a migration
+abbrev pub status_of : Migration → Status
+status_of ends.Done = Done
+status_of (ends.TooLong line) = Refused line TextTooLong
+status_of ends.ReadFault = ReadFault
+status_of ends.WriteFault = WriteFault
+status_of ends.Memory = Memory

@@ -6,6 +6,8 @@ ghost use Rattle.bcast_io.specs.State.Reading.{lines_left};
 ghost use Rattle.bcast_io.specs.State.Answering.{GoesOn};
 ghost use Rattle.unit_outlets.specs.Account.{Account};
 ghost use Rattle.source_machine.specs.Airs.{airs_of};
+ghost use Rattle.replay_words.specs.Words.{mode_of as mode_of_words};
+ghost use Rattle.replay_words.specs.declared.mode.Mode.TheVariants as modes;
 ghost use Rattle.replay_command.specs.World.{world_of};
 ghost use Rattle.replay_command.specs.ByWords.{PromisedFor};
 ghost use Rattle.replay_command.specs.Replayed.{Comes, ReadsAhead, ReadsAtMost, read_limit};
@@ -15,6 +17,7 @@ ghost use Rattle.replay_command.specs.State.Between.{ReadTo, TextIs, NextIs, Run
 use crate::status::Status;
 use bcast_base::{Memory, Octets};
 use bcast_io::{ByteSink, ByteSource, Failed, LineRead, LineReader, SinkFault, write_whole};
+use replay_migration::run_migration;
 use replay_steps::Machine;
 use replay_words::{Mode, Words, mode_of};
 use scenario_history::{one_transcript, order_law, some_airs_meet, units_law};
@@ -22,8 +25,10 @@ use std::alloc::Global;
 use transcript_text::{Refusal, Stop, put_refusal};
 use unit_outlets::Outlet;
 
-/// Runs the scenario that the source gives, a step a line, and writes its transcript to the sink. Each `sink` line
-/// takes the next box of the list. The lines of a step are written before the next line is read.
+/// Does what the words ask for. Without words it runs the scenario that the source gives, a step a line, and writes its
+/// transcript to the sink. Each `sink` line takes the next box of the list. The lines of a step are written before the
+/// next line is read. With `--migrate` it reads the text whole and writes it in version 2; then a text of more than
+/// 67,108,864 octets alone is refused, and no box is called.
 ///
 /// `Done` comes where the text was read to its end and no line is refused. `Refused` has the line, from 1, and the reason;
 /// the line of the refusal was written, and nothing behind it was run. `Usage` comes for words that ask for nothing built. `ReadFault`,
@@ -45,6 +50,9 @@ pub fn replay<S: ByteSource, K: ByteSink>(
     ensures unread { result ≡ Status.Usage → source.new ≡ source.old }
     ensures unwritten { result ≡ Status.Usage → sink.new ≡ sink.old }
     ensures uncalled { result ≡ Status.Usage → outlets.new ≡ outlets.old }
+
+    // In migration no box is called.
+    ensures boxes_kept { mode_of_words (map string_bytes words.now) ≡ modes.Migrate → outlets.new ≡ outlets.old }
 {
     some_airs_meet();
     one_transcript();
@@ -52,6 +60,7 @@ pub fn replay<S: ByteSource, K: ByteSink>(
     order_law();
     match mode_of(alloc, words) {
         Ok(Mode::Replay) => run(alloc, source, sink, outlets),
+        Ok(Mode::Migrate) => Status::from(run_migration(alloc, source, sink)),
         Ok(_) => Status::Usage,
         Err(Memory) => Status::Memory,
     }

@@ -1,6 +1,7 @@
 ghost use Rattle.std.specs.Prelude.{◌≡◌, option_copied};
-ghost use Rattle.replay_command.specs.Statuses.{exit_number, text_of};
+ghost use Rattle.replay_command.specs.Statuses.{exit_number, text_of, status_of};
 
+use replay_migration::Migration;
 use transcript_text::Refusal;
 
 /// How a call of `replay` ended.
@@ -49,6 +50,23 @@ impl Status {
             Status::WriteFault => Some("write fault"),
             Status::OutletFault => Some("outlet fault"),
             Status::Memory => Some("no memory"),
+        }
+    }
+}
+
+impl From<Migration> for Status {
+    ghost from_gives = { λ migration status. status ≡ status_of migration };
+
+    fn from(migration: Migration) -> Status {
+        match migration {
+            Migration::Done => Status::Done,
+            Migration::TooLong { line } => Status::Refused {
+                line,
+                reason: Refusal::TextTooLong,
+            },
+            Migration::ReadFault => Status::ReadFault,
+            Migration::WriteFault => Status::WriteFault,
+            Migration::Memory => Status::Memory,
         }
     }
 }

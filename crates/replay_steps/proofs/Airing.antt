@@ -10,7 +10,7 @@ use Rattle.big_info.specs.declared.info.BigInfo.{BigInfo}
 use Rattle.source_machine.specs.Airs.{airs_of}
 use Rattle.source_machine.specs.Calls.{events}
 use Rattle.source_machine.specs.Faults.{air_fault}
-use Rattle.delegator_machine.specs.Calls.{Call}
+use Rattle.group_sink.specs.Calls.{Call}
 use Rattle.isoal_base.specs.declared.hearing.Hearing.{Hearing}
 use Rattle.transcript_text.specs.Lines.{heard_line, pdu_line}
 use Rattle.transcript_text.specs.declared.refusal.Refusal.{Refusal}

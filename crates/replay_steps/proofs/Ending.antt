@@ -4,7 +4,7 @@ use Rattle.std.proofs.Common.{append_assoc, arith, Option, None, Some, Result, O
 use Rattle.std.specs.List.{flat_map}
 use Rattle.unit_outlets.specs.Account.{Account}
 use Rattle.source_machine.specs.Airs.{airs_of}
-use Rattle.delegator_machine.specs.Calls.{Call}
+use Rattle.group_sink.specs.Calls.{Call}
 use Rattle.transcript_text.specs.Lines.{sum_line}
 use Rattle.transcript_text.specs.declared.stop.Stop.{Stop}
 use Rattle.transcript_text.specs.declared.stop.Stop.TheVariants.{Refused, OutletFault, Memory}

@@ -2,7 +2,7 @@
 use Rattle.std.proofs.Common.{◌≡◌, ℕ, List, ◌∷◌, true, false, refl, sym, ◌∙◌, ap, subst, Option, None, Some, Result, Ok, Err}
 use Rattle.std.specs.Option.{option_or}
 use Rattle.source_machine.specs.Airs.{airs_of}
-use Rattle.delegator_machine.specs.Calls.{Tuning}
+use Rattle.group_sink.specs.Calls.{Tuning}
 use Rattle.transcript_text.specs.declared.refusal.Refusal.{Refusal}
 use Rattle.transcript_text.specs.declared.refusal.Refusal.TheVariants.{NoSuchBis, NotBuilt, Order}
 use Rattle.transcript_text.specs.declared.stop.Stop.{Stop}

@@ -1,15 +1,15 @@
 -- Which values a step changes, and so its notices.
-use Rattle.std.proofs.Common.{ℕ, zero, suc, ◌≡◌, ◌≢◌, ◌+◌, ◌<◌, Bool, true, false, List, [], ◌∷◌, ◌++◌, length, get_or, set, Option, Some, None, refl, sym, ap, ◌∙◌, subst, arith}
-use Rattle.std.specs.Prelude.{◌==◌, ◌&&◌, option_map, slice_set, if◌then◌else◌}
+use Rattle.std.proofs.Common.{ℕ, ◌≡◌, ◌≢◌, ◌<◌, Bool, true, false, List, [], ◌++◌, length, get_or, set, Option, Some, None, refl, sym, ap, ◌∙◌, subst}
+use Rattle.std.specs.Prelude.{◌&&◌, option_map, if◌then◌else◌}
 use Rattle.std.specs.List.{flat_map, range_with_len}
 use Rattle.std.proofs.lemmas.Bool.{eqb-true, ne_eqb}
-use Rattle.std.proofs.lemmas.List.{append-nil, get_or-set_same, get_or-set_other, get_or_default}
+use Rattle.std.proofs.lemmas.List.{get_or-set_same, get_or-set_other, get_or_default}
 use Rattle.delegator_states.specs.declared.notice.Notice.{Notice}
 use Rattle.delegator_states.specs.Notices.{change, changes}
-use Rattle.delegator_states.specs.Sights.{Entry, Place, Sight, idle, on_train, on_group, slot_of, is_slot, is_on, is_on_group, entry_at}
+use Rattle.delegator_states.specs.Sights.{Entry, Place, Sight, idle, on_train, on_group, slot_of, is_slot, is_on, entry_at}
 use Rattle.delegator_states.specs.Steps.{place_left, placed}
 use Rattle.delegator_states.specs.Values.{Status, received, status_of, value, value_at}
-use Rattle.delegator_states.proofs.Citable.{no_change, none_change, one_changes}
+use Rattle.delegator_states.proofs.Citable.{none_change, one_changes}
 use Rattle.scan_delegator.specs.declared.place.Move.{Move}
 use Rattle.scan_delegator.specs.declared.place.Move.TheVariants.{Stay, Off, OffGroup}
 use Rattle.scan_delegator.specs.State.Places.{place_by}

@@ -1,11 +1,10 @@
 -- The first cause that holds of an operation, and what is done where none does.
-use Rattle.std.proofs.Common.{ℕ, zero, suc, ◌≡◌, ◌+◌, ◌<◌, Bool, true, false, List, [], ◌∷◌, ◌++◌, length, set, Option, Some, None, Result, Ok, Err, refl, sym, ap, ◌∙◌, subst, arith}
+use Rattle.std.proofs.Common.{ℕ, ◌≡◌, ◌<◌, Bool, true, false, List, [], ◌++◌, length, set, Option, Some, None, Ok, refl, sym, ap, ◌∙◌, subst}
 use Rattle.std.specs.Prelude.{is_some, is_none, unwrap_or, nat_lt, option_map, if◌then◌else◌}
 use Rattle.bass_operations.specs.declared.operation.AddSource.{AddSource}
 use Rattle.bass_operations.specs.declared.operation.ModifySource.{ModifySource}
 use Rattle.bass_operations.specs.declared.operation.Operation.{Operation}
-use Rattle.bass_operations.specs.declared.operation.Operation.TheVariants.{ScanStopped, ScanStarted, Add, Modify, Code, Remove}
-use Rattle.bass_operations.specs.declared.wishes.Wish.{Wish}
+use Rattle.bass_operations.specs.declared.operation.Operation.TheVariants.{Add, Modify, Code, Remove}
 use Rattle.receive_state.specs.Layout.{spelling}
 use Rattle.delegator_states.specs.declared.notice.Notice.{Notice}
 use Rattle.delegator_states.specs.declared.replies.Cause.{Cause}

@@ -1,15 +1,12 @@
 -- The state of a slot has octets.
-use Rattle.std.proofs.Common.{ℕ, zero, suc, ◌≡◌, ◌+◌, ◌<◌, ◌≤◌, ◌^◌, Bool, true, false, List, [], ◌∷◌, length, map, get_or, Option, Some, None, refl, sym, ap, ◌∙◌, subst, arith}
-use Rattle.std.specs.Prelude.{nat_lt, ◌==◌, ◌&&◌, ◌||◌, not, if◌then◌else◌}
+use Rattle.std.proofs.Common.{ℕ, zero, suc, ◌≡◌, ◌+◌, ◌<◌, ◌≤◌, ◌^◌, Bool, true, false, List, [], ◌∷◌, length, map, get_or, Some, refl, sym, ap, ◌∙◌, subst, arith}
+use Rattle.std.specs.Prelude.{nat_lt, ◌==◌, ◌&&◌, not, if◌then◌else◌}
 use Rattle.std.specs.List.{flat_map, list_any, AllByRecursion}
 use Rattle.std.proofs.lemmas.Bool.{le-ltb}
 use Rattle.bass_operations.specs.declared.wishes.Wish.{Wish}
 use Rattle.octet_fields.specs.Layout.{NoneReserved}
 use Rattle.octet_fields.specs.Subgroups.{subgroup_fields, is_reserved, all_bits}
-use Rattle.receive_state.specs.declared.state.Encryption.{Encryption}
-use Rattle.receive_state.specs.declared.state.GroupState.{GroupState}
-use Rattle.receive_state.specs.declared.state.ReceiveState.{ReceiveState}
-use Rattle.receive_state.specs.Layout.{HasSpelling, fields, fields_of, group_of, number_of}
+use Rattle.receive_state.specs.Layout.{HasSpelling, group_of, number_of}
 use Rattle.delegator_states.specs.Sights.{Entry, Place, idle, on_train, on_group, is_on, is_on_group}
 use Rattle.delegator_states.specs.Values.{Status, encryption_of, groups_from, received, status_of}
 use Rattle.delegator_states.specs.Writes.{is_synced}

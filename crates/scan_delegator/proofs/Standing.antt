@@ -1,5 +1,5 @@
 -- A machine stands for its steps.
-use Rattle.std.proofs.Common.{ℕ, zero, suc, ◌≡◌, ◌+◌, Bool, true, false, map, replicate, List, [], ◌∷◌, ◌++◌, drop, Option, None, Some, refl, sym, ap, ◌∙◌, subst}
+use Rattle.std.proofs.Common.{ℕ, zero, suc, ◌≡◌, ◌+◌, Bool, true, false, map, replicate, List, [], ◌∷◌, ◌++◌, drop, Option, None, refl, sym, ap, ◌∙◌, subst}
 use Rattle.std.specs.Prelude.{if◌then◌else◌}
 use Rattle.std.specs.List.{range_with_len}
 use Rattle.std.proofs.lemmas.List.{append-nil}
@@ -8,10 +8,9 @@ use Rattle.delegator_states.specs.declared.train_heard.ControlHeard.{ControlHear
 use Rattle.delegator_states.specs.Controls.{control_heard, done_heard, done_by_control}
 use Rattle.delegator_states.specs.Trains.{Setup}
 use Rattle.delegator_states.specs.declared.notice.Notice.{Notice}
-use Rattle.delegator_states.specs.LastGiven.{last_given}
 use Rattle.std.specs.Option.{option_or}
 use Rattle.delegator_states.specs.Notices.{changes, is_told, mtu_by, mtu_in, waiting}
-use Rattle.delegator_states.specs.Sights.{Entry, Sight, idle}
+use Rattle.delegator_states.specs.Sights.{Entry, idle}
 use Rattle.delegator_states.specs.Values.{value_at}
 use Rattle.delegator_states.specs.States.{Step, told, mtu_set, answered, done_by, entry_in, sight_of}
 use Rattle.delegator_states.specs.Steps.{Done, nothing, left, after}

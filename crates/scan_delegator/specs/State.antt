@@ -1,3 +1,5 @@
+pub mod Brings
+pub mod Choices
 pub mod Machines
 pub mod Places
 pub mod Puts

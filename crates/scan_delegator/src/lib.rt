@@ -2,7 +2,11 @@
 //! that wait.
 #![tactic(auto)]
 
+mod brought;
+mod choosing;
 mod control;
+mod following;
+mod joining;
 mod operations;
 mod place;
 mod refusals;
@@ -11,6 +15,10 @@ mod search;
 mod settings;
 mod slot;
 mod taken_bits;
+mod train;
+mod trains;
 mod values;
 
+pub use brought::{Brought, Joining};
 pub use scan_delegator::ScanDelegator;
+pub use taken_bits::TakenBits;

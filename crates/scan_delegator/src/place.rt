@@ -1,7 +1,8 @@
 //! Where the sink is, by what may be done then.
 ghost use Rattle.std.specs.Prelude.{◌≡◌, [], None, Some, false, if◌then◌else◌};
-ghost use Rattle.delegator_states.specs.Sights.{Sight, on_group, is_on, is_on_group, slot_of};
+ghost use Rattle.delegator_states.specs.Sights.{Sight, on_group, on_train, is_on, is_on_group, slot_of};
 ghost use Rattle.delegator_states.specs.Steps.{place_left, placed};
+ghost use Rattle.delegator_states.specs.Trains.{is_elsewhere};
 ghost use Rattle.scan_delegator.specs.declared.place.Place.TheVariants as places;
 ghost use Rattle.scan_delegator.specs.State.Places.{place_by, place_of, encrypted_of, taken_of, standing};
 ghost use Rattle.scan_delegator.specs.State.Slots.{AreSets};
@@ -39,6 +40,13 @@ pub(crate) enum Place {
 }
 
 impl SinkIdle {
+    /// Puts the sink on the train of a slot.
+    fn on_train(self, slot: u8, encrypted: bool) -> SinkOnTrain
+        ensures { result ≡ record { slot = slot; encrypted = encrypted } }
+    {
+        SinkOnTrain { slot, encrypted }
+    }
+
     /// Puts the sink on a group of no slot.
     fn on_group(self, alloc: Global) -> SinkOnGroup
         ensures { result ≡ record { slot = None; encrypted = false; taken = [] } }
@@ -52,6 +60,17 @@ impl SinkIdle {
 }
 
 impl SinkOnTrain {
+    /// Puts the sink on the group of its slot.
+    fn on_group(self, taken: TakenBits) -> SinkOnGroup
+        ensures { result ≡ record { slot = Some self.slot; encrypted = self.encrypted; taken = taken } }
+    {
+        SinkOnGroup {
+            slot: Some(self.slot),
+            encrypted: self.encrypted,
+            taken,
+        }
+    }
+
     fn off(self) -> SinkIdle {
         SinkIdle
     }
@@ -109,6 +128,17 @@ impl Place {
         }
     }
 
+    /// Whether the sink is on another train or group than that of the slot.
+    pub(crate) fn is_elsewhere(&self, slot: u8) -> bool
+        ensures { result ≡ is_elsewhere (place_of self.now) slot }
+    {
+        match self {
+            Place::Idle(_) => false,
+            Place::OnTrain(on) => on.slot != slot,
+            Place::OnGroup(_) => !self.is_on(slot),
+        }
+    }
+
     /// Whether a Broadcast_Code is required.
     pub(crate) fn is_encrypted(&self) -> bool
         ensures { result ≡ encrypted_of self.now }
@@ -160,6 +190,22 @@ pub(crate) fn join(place: &mut Place, alloc: Global)
 {
     let old = replace(place, Place::Idle(SinkIdle));
     *place = Place::OnGroup(off(old).on_group(alloc));
+}
+
+/// Puts the sink on the train of the slot.
+pub(crate) fn join_train(place: &mut Place, slot: u8, encrypted: bool)
+    ensures { (sight : Sight) → standing place.new sight ≡ record sight { place = on_train slot; encrypted = encrypted; taken = [] } }
+{
+    let old = replace(place, Place::Idle(SinkIdle));
+    *place = Place::OnTrain(off(old).on_train(slot, encrypted));
+}
+
+/// Puts the sink on the group of the slot, with these streams of each subgroup.
+pub(crate) fn join_group(place: &mut Place, slot: u8, encrypted: bool, taken: TakenBits)
+    ensures { (sight : Sight) → standing place.new sight ≡ record sight { place = on_group (Some slot); encrypted = encrypted; taken = taken } }
+{
+    let old = replace(place, Place::Idle(SinkIdle));
+    *place = Place::OnGroup(off(old).on_train(slot, encrypted).on_group(taken));
 }
 
 /// Takes the sink off its train and its group.

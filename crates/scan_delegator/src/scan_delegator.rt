@@ -27,6 +27,7 @@ pub struct ScanDelegator {
     pub(crate) capability: Capability,
     pub(crate) waiting: VecDeque<Notice>,
     pub(crate) mtu: Option<u16>,
+    ghost reach: { limits.horizon ≤ 31 },
     ghost few: { vec_len slots ≤ 8 },
     ghost within: { IsWithin place (vec_len slots) },
 }
@@ -44,7 +45,10 @@ impl ScanDelegator {
 
     /// A sink that takes so many streams at once, 1 to 31, with so many slots, 1 to 4, that are empty.
     pub fn new(alloc: Global, streams: u8, slots: u8) -> Result<ScanDelegator, Memory>
-        requires few { slots ≤ 4 }
+        requires least_streams { 1 ≤ streams }
+        requires most_streams { streams ≤ 31 }
+        requires least_slots { 1 ≤ slots }
+        requires most_slots { slots ≤ 4 }
         ensures setup { IfOk result (λ sink. (machine sink).setup ≡ record { streams = streams; slots = slots; horizon = 15 }) }
         ensures stands { IfOk result (λ sink. StandsFor [] (machine sink)) }
     {
@@ -58,7 +62,11 @@ impl ScanDelegator {
         slots: u8,
         limits: Limits,
     ) -> Result<ScanDelegator, Memory>
-        requires few { slots ≤ 8 }
+        requires least_streams { 1 ≤ streams }
+        requires most_streams { streams ≤ 31 }
+        requires least_slots { 1 ≤ slots }
+        requires most_slots { slots ≤ 8 }
+        requires reach { limits.horizon ≤ 31 }
         ensures setup { IfOk result (λ sink. (machine sink).setup ≡ record { streams = streams; slots = slots; horizon = limits.horizon }) }
         ensures stands { IfOk result (λ sink. StandsFor [] (machine sink)) }
     {

@@ -1,10 +1,11 @@
 //! Looking for a slot, and for an unused Source_ID.
-ghost use Rattle.std.specs.Prelude.{◌≡◌, ◌≤◌, ◌<◌, is_some, length, vec_len, IfSome};
+ghost use Rattle.std.specs.Prelude.{◌≡◌, ◌≤◌, ◌<◌, ◌==◌, ◌&&◌, is_some, length, vec_len, IfSome};
 ghost use Rattle.std.specs.Str.{bytes_eq};
 ghost use Rattle.delegator_states.specs.Writes.{least_unused, slot_where, slot_with};
 ghost use Rattle.scan_delegator.specs.State.Slots.{meets};
 
 use crate::slot::Slot;
+use delegator_states::Source;
 
 /// What a slot is looked for by.
 #[derive(Clone, Copy)]
@@ -14,6 +15,12 @@ pub(crate) enum Sought {
     SourceId(u8),
     /// Its source has this identity.
     Identity {
+        address_type: u8,
+        sid: u8,
+        broadcast_id: [u8; 3],
+    },
+    /// Its source has this identity, and its train is wanted.
+    Wanted {
         address_type: u8,
         sid: u8,
         broadcast_id: [u8; 3],
@@ -58,12 +65,22 @@ fn is_sought(slot: &Option<Slot>, sought: &Sought) -> bool
             address_type,
             sid,
             broadcast_id,
-        } => {
-            source.address_type == *address_type
-                && source.sid == *sid
-                && are_same(&source.broadcast_id, broadcast_id)
-        }
+        } => is_source(&source, *address_type, *sid, broadcast_id),
+        Sought::Wanted {
+            address_type,
+            sid,
+            broadcast_id,
+        } => is_source(&source, *address_type, *sid, broadcast_id) && filled.pa_sync() != 0,
     }
+}
+
+/// Whether it is the source of this identity.
+fn is_source(source: &Source, address_type: u8, sid: u8, broadcast_id: &[u8; 3]) -> bool
+    ensures { result ≡ ((source.now.address_type == address_type) && ((source.now.sid == sid) && bytes_eq source.now.broadcast_id broadcast_id.now)) }
+{
+    source.address_type == address_type
+        && source.sid == sid
+        && are_same(&source.broadcast_id, broadcast_id)
 }
 
 /// Whether the Broadcast_IDs are the same.

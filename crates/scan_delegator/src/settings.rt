@@ -1,5 +1,5 @@
 //! What is set of a sink: its capability, and the MTU.
-ghost use Rattle.std.specs.Prelude.{◌≡◌, ◌<◌, ◌∷◌, List, length, OnOk, OnErr, IfErr};
+ghost use Rattle.std.specs.Prelude.{◌≡◌, ◌<◌, ◌≤◌, ◌∷◌, List, length, OnOk, OnErr, IfErr};
 ghost use Rattle.base_grammar.specs.Layout.{lc3};
 ghost use Rattle.delegator_states.specs.States.{Step, contexts_set, locations_set, mtu_set, record_added};
 ghost use Rattle.delegator_states.specs.Steps.{located, opened, recorded};
@@ -44,6 +44,8 @@ impl ScanDelegator {
 
     /// Sets the MTU, from 23 to 517. It takes no memory.
     pub fn set_mtu(&mut self, mtu: u16)
+        requires least { 23 ≤ mtu }
+        requires most { mtu ≤ 517 }
         ensures step { machine self.new ≡ step_on (mtu_set mtu) (machine self.old) }
         ensures stands { (steps : List Step) → StandsFor steps (machine self.old) → StandsFor (mtu_set mtu ∷ steps) (machine self.new) }
     {

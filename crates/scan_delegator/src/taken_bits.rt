@@ -7,7 +7,7 @@ use std::marker::Model;
 
 /// The streams that are taken of each subgroup: bit n stands for the index n + 1.
 #[derive(Drop)]
-pub(crate) struct TakenBits {
+pub struct TakenBits {
     list: Items<u32>,
 }
 
@@ -32,6 +32,16 @@ impl TakenBits {
         }
     }
 
+    /// Puts the streams of a further subgroup at the end.
+    pub(crate) fn push(&mut self, set: u32) -> Result<(), Memory>
+        requires { set < 2 ^ 31 }
+        ensures ok { OnOk result (self.new ≡ self.old ++ set ∷ []) }
+        ensures err { OnErr result (self.new ≡ self.old) }
+    {
+        self.list.push(set)
+    }
+
+    /// A number for each subgroup.
     pub(crate) fn as_slice(&self) -> &[u32]
         ensures same { result.now ≡ self.now }
         ensures sets { AreSets result.now }

@@ -19,9 +19,9 @@ use Rattle.radio_schedule.specs.PayloadNumber.{payload_number}
 use Rattle.source_machine.specs.Airs.{AreAirs, airs_of, content_at, pdu_of}
 use Rattle.source_machine.specs.Calls.{Setup, Call as SourceCall, next_of}
 use Rattle.source_machine.specs.Setups.{IsChecked}
-use Rattle.delegator_machine.specs.Calls.{Tuning, Call, place}
-use Rattle.delegator_machine.specs.Handing.{handed_since, of_stream}
-use Rattle.delegator_machine.specs.Streams.{closes, stay_on, stream_calls, streams_of}
+use Rattle.group_sink.specs.Calls.{Tuning, Call, place}
+use Rattle.group_sink.specs.Handing.{handed_since, of_stream}
+use Rattle.group_sink.specs.Streams.{closes, stay_on, stream_calls, streams_of}
 use Rattle.scenario_history.proofs.Legals.{LinesInRange}
 
 pub record Below : Type 0 where

@@ -3,8 +3,8 @@ use Rattle.std.proofs.Common.{ℕ, zero, suc, ◌≡◌, ◌≢◌, ◌<◌, ◌
 use Rattle.std.specs.List.Sorted.{IsStrictlyIncreasing}
 use Rattle.std.proofs.lemmas.Bool.{eqb-true, eqb-false, leb-true, or_parts}
 use Rattle.std.proofs.lemmas.Option.{none-some, same_Some}
-use Rattle.delegator_machine.specs.Calls.{Tuning, Call, tune, hear, tick, place}
-use Rattle.delegator_machine.specs.Streams.{closes}
+use Rattle.group_sink.specs.Calls.{Tuning, Call, tune, hear, tick, place}
+use Rattle.group_sink.specs.Streams.{closes}
 use Rattle.scenario_text.specs.declared.step.Step.{Step}
 use Rattle.scenario_text.specs.declared.step.Step.TheVariants as steps
 use Rattle.scenario_history.specs.Steps.{chosen_of, chosen_steps, is_over, steps_of_source}

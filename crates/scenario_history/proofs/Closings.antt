@@ -7,8 +7,8 @@ use Rattle.std.proofs.lemmas.List.{append-nil, map-append}
 use Rattle.std.proofs.lemmas.List.Elements.{filter-append}
 use Rattle.std.proofs.lemmas.Option.{none-some}
 use Rattle.unit_outlets.specs.Handed.{Handed}
-use Rattle.delegator_machine.specs.Calls.{Tuning, Call, tune, hear, place}
-use Rattle.delegator_machine.specs.Handing.{handed_at, handed_by as ticked_by}
+use Rattle.group_sink.specs.Calls.{Tuning, Call, tune, hear, place}
+use Rattle.group_sink.specs.Handing.{handed_at, handed_by as ticked_by}
 use Rattle.scenario_text.specs.declared.step.Step.{Step}
 use Rattle.scenario_text.specs.declared.step.Step.TheVariants as steps
 use Rattle.transcript_text.specs.declared.refusal.Refusal.TheVariants.{NoSuchSink}

@@ -16,7 +16,7 @@ use Rattle.radio_schedule.specs.PayloadNumber.{ahead_of, payload_number}
 use Rattle.source_machine.specs.Airs.{AreAirs, IsAir, pdu_of}
 use Rattle.source_machine.specs.Calls.{Setup, Call as SourceCall, events, next_of}
 use Rattle.source_machine.proofs.Citable.{ahead_within, event_of_number}
-use Rattle.delegator_machine.specs.Calls.{Tuning}
+use Rattle.group_sink.specs.Calls.{Tuning}
 use Rattle.scenario_history.specs.Source.{Airs, setup_of, source_calls}
 use Rattle.scenario_history.specs.Airs.{MeetAirs}
 use Rattle.scenario_history.specs.SourceUnits.{AreSent, by_payload}

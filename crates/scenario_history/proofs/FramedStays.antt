@@ -16,10 +16,10 @@ use Rattle.isoal_framed.specs.Struck.{Fit, Sent, is_heard, struck}
 use Rattle.isoal_framed.specs.Tokens.{segmented}
 use Rattle.source_machine.specs.Airs.{AreAirs}
 use Rattle.source_machine.specs.Calls.{Setup, Call as SourceCall, events, framed_calls, laid_before, next_of}
-use Rattle.delegator_machine.specs.Calls.{Tuning, place}
-use Rattle.delegator_machine.specs.Handing.{handed_since as ticked_since, of_stream}
-use Rattle.delegator_machine.proofs.Citable.{member_is}
-use Rattle.delegator_machine.specs.Streams.{closes, stay_on, streams_of}
+use Rattle.group_sink.specs.Calls.{Tuning, place}
+use Rattle.group_sink.specs.Handing.{handed_since as ticked_since, of_stream}
+use Rattle.group_sink.proofs.Citable.{member_is}
+use Rattle.group_sink.specs.Streams.{closes, stay_on, streams_of}
 use Rattle.scenario_text.specs.declared.step.Step.{Step}
 use Rattle.scenario_history.specs.Steps.{steps_of_source}
 use Rattle.scenario_history.specs.Source.{Airs, is_started, setup_of, source_calls}

@@ -17,8 +17,8 @@ use Rattle.radio_schedule.specs.declared.air.AirFault.{AirFault}
 use Rattle.source_machine.specs.Airs.{AreAirs}
 use Rattle.source_machine.specs.Calls.{Setup, Call as SourceCall, events, next_of}
 use Rattle.source_machine.specs.Faults.{air_fault}
-use Rattle.delegator_machine.specs.Calls.{Tuning, Call, tune, hear}
-use Rattle.delegator_machine.specs.Streams.{stay_on, stream_calls, with_hear}
+use Rattle.group_sink.specs.Calls.{Tuning, Call, tune, hear}
+use Rattle.group_sink.specs.Streams.{stay_on, stream_calls, with_hear}
 use Rattle.scenario_text.specs.declared.step.Step.{Step}
 use Rattle.scenario_text.specs.declared.step.Step.TheVariants as steps
 use Rattle.transcript_text.specs.declared.refusal.Refusal.TheVariants.{NotOnAir}

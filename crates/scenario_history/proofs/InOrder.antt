@@ -10,10 +10,10 @@ use Rattle.isoal_unframed.specs.Calls.{events as laid_events}
 use Rattle.isoal_unframed.specs.Histories.{units_of}
 use Rattle.source_machine.specs.Airs.{slots_of}
 use Rattle.source_machine.specs.Calls.{Setup, Call as SourceCall, events, stream_calls as source_stream}
-use Rattle.delegator_machine.specs.Calls.{Tuning, Call, tune, tick, place}
-use Rattle.delegator_machine.specs.Handing.{handed_at, handed_by as ticked_by, of_stream}
-use Rattle.delegator_machine.specs.Streams.{closes, is_in, stay_on, stream_calls}
-use Rattle.delegator_machine.proofs.Citable.{is_member, member_is}
+use Rattle.group_sink.specs.Calls.{Tuning, Call, tune, tick, place}
+use Rattle.group_sink.specs.Handing.{handed_at, handed_by as ticked_by, of_stream}
+use Rattle.group_sink.specs.Streams.{closes, is_in, stay_on, stream_calls}
+use Rattle.group_sink.proofs.Citable.{is_member, member_is}
 use Rattle.scenario_text.specs.declared.step.Step.{Step}
 use Rattle.scenario_text.specs.declared.step.Step.TheVariants as steps
 use Rattle.scenario_history.specs.Steps.{chosen_of, chosen_steps, steps_of_source}

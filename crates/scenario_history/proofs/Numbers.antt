@@ -20,9 +20,9 @@ use Rattle.isoal_unframed.specs.Struck.{IsStruck, Place, Struck, air_at, closed_
 use Rattle.isoal_unframed.specs.State.Windows.{time_of}
 use Rattle.source_machine.specs.Airs.{place_of, slots_of}
 use Rattle.source_machine.specs.Calls.{Setup, Call as SourceCall, give, event as perform, events, given, laid_with, next_of, stream_calls as source_stream}
-use Rattle.delegator_machine.specs.Calls.{Tuning}
-use Rattle.delegator_machine.specs.Handing.{bis_of}
-use Rattle.delegator_machine.specs.Streams.{stay_on, stream_calls}
+use Rattle.group_sink.specs.Calls.{Tuning}
+use Rattle.group_sink.specs.Handing.{bis_of}
+use Rattle.group_sink.specs.Streams.{stay_on, stream_calls}
 use Rattle.scenario_text.specs.declared.step.Step.{Step}
 use Rattle.scenario_history.specs.Steps.{steps_of_source}
 use Rattle.scenario_history.specs.Source.{Airs}

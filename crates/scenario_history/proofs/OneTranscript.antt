@@ -12,8 +12,8 @@ use Rattle.source_machine.specs.Airs.{AreAirs, airs_of, pdu_of, stale_of}
 use Rattle.source_machine.specs.Calls.{Setup, Call as SourceCall, event as perform}
 use Rattle.source_machine.specs.Faults.{event_fault, give_fault}
 use Rattle.source_machine.specs.Setups.{IsChecked}
-use Rattle.delegator_machine.specs.Calls.{Call, hear}
-use Rattle.delegator_machine.specs.Hearings.{hearing_of}
+use Rattle.group_sink.specs.Calls.{Call, hear}
+use Rattle.group_sink.specs.Hearings.{hearing_of}
 use Rattle.isoal_base.specs.declared.hearing.Hearing.TheVariants.{NotOnGroup}
 use Rattle.scenario_text.specs.declared.step.Step.{Step}
 use Rattle.scenario_text.specs.declared.step.Step.TheVariants as steps

@@ -13,8 +13,8 @@ use Rattle.radio_schedule.specs.PayloadNumber.{payload_number}
 use Rattle.source_machine.specs.Airs.{AreAirs, airs_of, content_at, pdu_of, slots_of}
 use Rattle.source_machine.specs.Calls.{Setup, Call as SourceCall, next_of}
 use Rattle.source_machine.specs.Setups.{IsChecked}
-use Rattle.delegator_machine.specs.Calls.{Tuning}
-use Rattle.delegator_machine.specs.Streams.{stay_on}
+use Rattle.group_sink.specs.Calls.{Tuning}
+use Rattle.group_sink.specs.Streams.{stay_on}
 use Rattle.scenario_text.specs.declared.step.Step.{Step}
 use Rattle.scenario_history.specs.Source.{Airs, setup_of, source_calls, is_started}
 use Rattle.scenario_history.specs.Airs.{MeetAirs}

@@ -18,10 +18,10 @@ use Rattle.isoal_unframed.specs.Histories.{handed, heard_in, numbers_of, unit_at
 use Rattle.isoal_unframed.specs.Units.{unit_of}
 use Rattle.isoal_unframed.specs.State.Windows.{handed_of, time_of}
 use Rattle.source_machine.specs.Calls.{Setup, Call as SourceCall}
-use Rattle.delegator_machine.specs.Calls.{Tuning, Call, tick, place}
-use Rattle.delegator_machine.specs.Handing.{bis_of, handed_at, handed_by as ticked_by, handed_since as ticked_since, of_stream}
-use Rattle.delegator_machine.specs.Streams.{closes, is_in, stay_on, stream_calls, streams_of}
-use Rattle.delegator_machine.proofs.Citable.{is_member, member_is}
+use Rattle.group_sink.specs.Calls.{Tuning, Call, tick, place}
+use Rattle.group_sink.specs.Handing.{bis_of, handed_at, handed_by as ticked_by, handed_since as ticked_since, of_stream}
+use Rattle.group_sink.specs.Streams.{closes, is_in, stay_on, stream_calls, streams_of}
+use Rattle.group_sink.proofs.Citable.{is_member, member_is}
 use Rattle.scenario_text.specs.declared.step.Step.{Step}
 use Rattle.scenario_text.specs.declared.step.Step.TheVariants as steps
 use Rattle.scenario_history.specs.Steps.{chosen_of, steps_of_source}

@@ -13,10 +13,10 @@ use Rattle.isoal_framed.specs.Histories.{decided, event_tokens, heard_in}
 use Rattle.isoal_framed.specs.Tokens.{Token, starts, goes_on, missing, time_of, token_of, tokens_of}
 use Rattle.isoal_framed.specs.Units.{Fate, whole, broken, undecided, fate_at, handed_of, units}
 use Rattle.source_machine.specs.Calls.{Setup, Call as SourceCall, next_of}
-use Rattle.delegator_machine.specs.Calls.{Tuning}
-use Rattle.delegator_machine.specs.Handing.{bis_of, handed_since as ticked_since, of_stream}
-use Rattle.delegator_machine.specs.Streams.{is_in, stay_on, streams_of}
-use Rattle.delegator_machine.proofs.Citable.{is_member, member_is}
+use Rattle.group_sink.specs.Calls.{Tuning}
+use Rattle.group_sink.specs.Handing.{bis_of, handed_since as ticked_since, of_stream}
+use Rattle.group_sink.specs.Streams.{is_in, stay_on, streams_of}
+use Rattle.group_sink.proofs.Citable.{is_member, member_is}
 use Rattle.scenario_text.specs.declared.step.Step.{Step}
 use Rattle.scenario_history.specs.Steps.{steps_of_source}
 use Rattle.scenario_history.specs.Source.{Airs, setup_of, source_calls}

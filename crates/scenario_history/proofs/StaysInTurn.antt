@@ -5,8 +5,8 @@ use Rattle.std.proofs.lemmas.Bool.{cases_Bool, eqb-true, false≢true}
 use Rattle.std.proofs.lemmas.List.{append-nil}
 use Rattle.std.proofs.lemmas.Option.{none-some}
 use Rattle.unit_outlets.specs.Handed.{Handed}
-use Rattle.delegator_machine.specs.Calls.{Tuning, Call, tune, hear, place}
-use Rattle.delegator_machine.specs.Handing.{of_stream}
+use Rattle.group_sink.specs.Calls.{Tuning, Call, tune, hear, place}
+use Rattle.group_sink.specs.Handing.{of_stream}
 use Rattle.scenario_text.specs.declared.step.Step.{Step}
 use Rattle.scenario_text.specs.declared.step.Step.TheVariants as steps
 use Rattle.scenario_history.specs.Steps.{chosen_of, chosen_steps, steps_of_source}

@@ -1,7 +1,7 @@
 -- Which events a sink of one source closes by a step: those of its source alone.
 use Rattle.std.proofs.Common.{ℕ, zero, suc, ◌≡◌, ◌≢◌, ◌≤◌, ◌==◌, cond, true, List, [], ◌∷◌, Option, None, Some, refl, sym, ◌∙◌, ap, arith, inl, inr}
 use Rattle.std.proofs.lemmas.Bool.{cases_eq, cond-false, cond-true, eq-eqb, ne_eqb, eqb-true, false≢true}
-use Rattle.delegator_machine.specs.Calls.{Call}
+use Rattle.group_sink.specs.Calls.{Call}
 use Rattle.scenario_text.specs.declared.step.Step.{Step}
 use Rattle.scenario_text.specs.declared.step.Step.TheVariants as steps
 use Rattle.scenario_history.specs.Steps.{chosen_of}

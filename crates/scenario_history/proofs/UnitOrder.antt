@@ -16,10 +16,10 @@ use Rattle.isoal_framed.specs.Struck.{Sent, closed_end, entry_of, is_heard, octe
 use Rattle.isoal_framed.specs.Tokens.{time_of}
 use Rattle.sync_reference.specs.Reference.{anchor_of, framed_reference_of, render_of}
 use Rattle.source_machine.specs.Calls.{Setup, Call as SourceCall, framed_calls, next_of}
-use Rattle.delegator_machine.specs.Calls.{Tuning}
-use Rattle.delegator_machine.specs.Handing.{bis_of, handed_since as ticked_since, of_stream}
-use Rattle.delegator_machine.specs.Streams.{is_in, stay_on, streams_of}
-use Rattle.delegator_machine.proofs.Citable.{is_member, member_is}
+use Rattle.group_sink.specs.Calls.{Tuning}
+use Rattle.group_sink.specs.Handing.{bis_of, handed_since as ticked_since, of_stream}
+use Rattle.group_sink.specs.Streams.{is_in, stay_on, streams_of}
+use Rattle.group_sink.proofs.Citable.{is_member, member_is}
 use Rattle.scenario_text.specs.declared.step.Step.{Step}
 use Rattle.scenario_history.specs.Steps.{steps_of_source}
 use Rattle.scenario_history.specs.Source.{Airs, is_started, setup_of, source_calls}

@@ -17,10 +17,10 @@ use Rattle.source_machine.specs.Airs.{slots_of}
 use Rattle.source_machine.specs.Calls.{Call as SourceCall, laid_with, stream_calls as source_stream}
 use Rattle.source_machine.specs.declared.fault.GiveFault.{GiveFault}
 use Rattle.source_machine.specs.Faults.{give_fault}
-use Rattle.delegator_machine.specs.Calls.{Tuning, Call, tune, hear, place}
-use Rattle.delegator_machine.specs.Handing.{handed_since as ticked_since, of_stream}
-use Rattle.delegator_machine.specs.Streams.{stay_on}
-use Rattle.delegator_machine.proofs.Citable.{member_is}
+use Rattle.group_sink.specs.Calls.{Tuning, Call, tune, hear, place}
+use Rattle.group_sink.specs.Handing.{handed_since as ticked_since, of_stream}
+use Rattle.group_sink.specs.Streams.{stay_on}
+use Rattle.group_sink.proofs.Citable.{member_is}
 use Rattle.scenario_text.specs.declared.step.Step.{Step}
 use Rattle.scenario_text.specs.declared.step.Step.TheVariants as steps
 use Rattle.scenario_text.specs.Ranges.{IsInRange}

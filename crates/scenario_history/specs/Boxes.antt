@@ -5,8 +5,8 @@ use Rattle.std.specs.List.{flat_map, range_with_len}
 use Rattle.circular_buffer.specs.Buffer.{keep_last}
 use Rattle.unit_outlets.specs.Account.{Account, fresh, with_unit}
 use Rattle.unit_outlets.specs.Handed.{Handed, valid, lost}
-use Rattle.delegator_machine.specs.Calls.{Call}
-use Rattle.delegator_machine.specs.Handing.{handed_at}
+use Rattle.group_sink.specs.Calls.{Call}
+use Rattle.group_sink.specs.Handing.{handed_at}
 use Rattle.scenario_text.specs.declared.step.Step.{Step}
 use Rattle.scenario_text.specs.declared.step.Step.TheVariants.{Sink, Event, Drop, Stop, Terminate, End}
 use Rattle.scenario_history.specs.Steps.{chosen_of, sinks_made, steps_of_source}

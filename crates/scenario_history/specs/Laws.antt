@@ -15,9 +15,9 @@ use Rattle.isoal_unframed.specs.Struck.{Place, Struck}
 use Rattle.line_runs.specs.Runs.{Accepted}
 use Rattle.source_machine.specs.Airs.{slots_of}
 use Rattle.source_machine.specs.Calls.{Setup}
-use Rattle.delegator_machine.specs.Calls.{Tuning, Call, place}
-use Rattle.delegator_machine.specs.Handing.{of_stream}
-use Rattle.delegator_machine.specs.Streams.{closes, is_in, stay_on, stream_calls, streams_of}
+use Rattle.group_sink.specs.Calls.{Tuning, Call, place}
+use Rattle.group_sink.specs.Handing.{of_stream}
+use Rattle.group_sink.specs.Streams.{closes, is_in, stay_on, stream_calls, streams_of}
 use Rattle.scenario_text.specs.declared.step.Step.{Step}
 use Rattle.scenario_text.specs.declared.step.Step.TheVariants.{Sink, Tuned, Event, Inject, Stop, Terminate, End}
 use Rattle.scenario_history.specs.Steps.{chosen_of, steps_of_source}

@@ -6,7 +6,7 @@ use Rattle.unit_outlets.specs.Account.{Account}
 use Rattle.isoal_base.specs.declared.hearing.Hearing.{Hearing}
 use Rattle.isoal_base.specs.declared.hearing.Hearing.TheVariants.{NotOnGroup}
 use Rattle.source_machine.specs.declared.sent.Stale.{Stale}
-use Rattle.delegator_machine.specs.Hearings.{hearing_of}
+use Rattle.group_sink.specs.Hearings.{hearing_of}
 use Rattle.transcript_text.specs.Lines.{handed_line, pdu_line, heard_line, stale_line, control_line, sum_line}
 use Rattle.scenario_text.specs.declared.step.Step.{Step}
 use Rattle.scenario_text.specs.declared.step.Step.TheVariants.{Event, Inject, Sniff, Drop, Stop, Terminate, End}

@@ -16,7 +16,7 @@ use Rattle.source_machine.specs.declared.fault.EventFault.{EventFault}
 use Rattle.source_machine.specs.Ciphers.{with_cipher}
 use Rattle.source_machine.specs.Faults.{give_fault, event_fault, air_fault}
 use Rattle.source_machine.specs.Setups.{are_twins}
-use Rattle.delegator_machine.specs.Streams.{streams_of}
+use Rattle.group_sink.specs.Streams.{streams_of}
 use Rattle.transcript_text.specs.declared.refusal.Refusal.{Refusal}
 use Rattle.transcript_text.specs.declared.refusal.Refusal.TheVariants.{NotBuilt, AfterEnd, Order, BadGroup, BaseTooLong, IdentTwice, NoSuchSink, SinkTwice}
 use Rattle.transcript_text.specs.declared.refusal.Refusal.TheVariants.{NoOutlet, NoSuchBis, UnitTooLong, TimeOrder, Backlog, NoSuchSubevent, NotOnAir, CounterEnds}

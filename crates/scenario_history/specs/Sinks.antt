@@ -5,7 +5,7 @@
 use Rattle.std.specs.Prelude.{ℕ, zero, suc, ◌+◌, ◌-◌, ◌*◌, ◌/◌, ◌%◌, ◌==◌, ◌&&◌, nat_lt, Bool, true, false, List, [], ◌∷◌, Option, None, Some, if◌then◌else◌}
 use Rattle.big_info.specs.declared.info.BigInfo.{BigInfo}
 use Rattle.source_machine.specs.Calls.{next_of, next_anchor_of}
-use Rattle.delegator_machine.specs.Calls.{Tuning, Call, tune, hear, tick}
+use Rattle.group_sink.specs.Calls.{Tuning, Call, tune, hear, tick}
 use Rattle.scenario_text.specs.declared.step.Step.{Step}
 use Rattle.scenario_text.specs.declared.step.Step.TheVariants.{Sink, Tuned, Event, Hear, Air, Inject, Drop, Stop, Terminate, End}
 use Rattle.scenario_history.specs.Steps.{chosen_of, chosen_steps, steps_of_source}

@@ -18,7 +18,7 @@ use Rattle.isoal_unframed.specs.State.Windows.{time_of as slot_time}
 use Rattle.source_machine.specs.Airs.{place_of}
 use Rattle.source_machine.specs.Calls.{Setup, Call, framed_calls, given, next_of}
 use Rattle.sync_reference.specs.Reference.{anchor_of}
-use Rattle.delegator_machine.specs.Handing.{bis_of}
+use Rattle.group_sink.specs.Handing.{bis_of}
 
 abbrev pub is_valid : Handed → Bool
 is_valid (valid bis time octets) = true

@@ -11,7 +11,7 @@ ghost use Rattle.scenario_history.specs.Transcript.{end_after, out_of, transcrip
 ghost use Rattle.scenario_history.specs.Boxes.{SinkUnit, accounts_after, Took};
 ghost use Rattle.scenario_history.specs.Laws.{OrderLaw, UnitsLaw};
 
-use delegator_machine::{each_stream_hands_its_units, one_event_is_open};
+use group_sink::{each_stream_hands_its_units, one_event_is_open};
 use isoal_framed::{a_framed_air_sends_units, framed_units_are_struck};
 use isoal_unframed::units_are_struck;
 use scenario_text::a_line_says_one_step;

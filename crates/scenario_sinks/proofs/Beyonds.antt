@@ -1,7 +1,7 @@
 -- A set of streams against those of a group, index by index.
 use Rattle.std.proofs.Common.{◌≡◌, ℕ, ◌+◌, ◌-◌, ◌≤◌, List, [], ◌∷◌, ◌++◌, Bool, true, false, ◌||◌, ◌&&◌, cond, nat_lt, refl, sym, ◌∙◌, ap, arith}
 use Rattle.std.specs.List.{filter, list_any, range_with_len}
-use Rattle.delegator_machine.specs.Streams.{is_in}
+use Rattle.group_sink.specs.Streams.{is_in}
 use Rattle.scenario_history.specs.Refusals.{has_beyond}
 use Rattle.scenario_sinks.specs.State.Beyond.{beyond_at}
 use Rattle.scenario_sinks.proofs.Ranges.{range_append}

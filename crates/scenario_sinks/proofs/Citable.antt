@@ -4,7 +4,7 @@ use Rattle.std.proofs.Common.{◌≡◌, ℕ, ◌<◌, List, [], ◌∷◌, ◌+
 use Rattle.unit_outlets.specs.Account.{Account}
 use Rattle.unit_outlets.specs.Took.{TookAt}
 use Rattle.unit_outlets.specs.declared.fault.OutletFault.TheVariants.{Failed}
-use Rattle.delegator_machine.specs.Calls.{Call}
+use Rattle.group_sink.specs.Calls.{Call}
 use Rattle.scenario_history.specs.Boxes.{SinkUnit, accounts_after, with_handed}
 use Rattle.scenario_history.specs.Output.{unit_line, unit_lines}
 use Rattle.transcript_text.specs.declared.stop.Stop.{Stop}

@@ -8,9 +8,9 @@ use Rattle.std.proofs.lemmas.Option.{slice_get-get_or}
 use Rattle.std.proofs.lemmas.Result.{on_ok_weaker}
 use Rattle.unit_outlets.specs.Account.{Account}
 use Rattle.unit_outlets.specs.Handed.{Handed}
-use Rattle.delegator_machine.specs.Calls.{Call, tick}
-use Rattle.delegator_machine.specs.Handing.{handed_at}
-use Rattle.delegator_machine.specs.State.Sinks.{StandsFor}
+use Rattle.group_sink.specs.Calls.{Call, tick}
+use Rattle.group_sink.specs.Handing.{handed_at}
+use Rattle.group_sink.specs.State.Sinks.{StandsFor}
 use Rattle.scenario_history.specs.Sinks.{is_of, ticked_if}
 use Rattle.scenario_history.specs.Boxes.{SinkUnit, most_sinks, sink_numbers, closing_by, accounts_after}
 use Rattle.scenario_history.specs.Output.{unit_lines}

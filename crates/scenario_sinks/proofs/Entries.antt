@@ -2,12 +2,12 @@
 use Rattle.std.proofs.Common.{◌≡◌, ◌≢◌, ℕ, zero, suc, ◌<◌, ◌==◌, ◌∷◌, Bool, true, false, List, length, replicate, refl, sym, ◌∙◌, ap, subst, ne_eqb, slice_get, slice_set, get_or, is_some}
 use Rattle.std.proofs.Common.{arith, Option, None, Some, Ok, ◌⊎◌, inl, inr}
 use Rattle.std.proofs.lemmas.Option.{slice_get-get_or}
-use Rattle.delegator_machine.specs.Calls.{Call, Tuning, hear, tune}
-use Rattle.delegator_machine.specs.Hearings.{hearing_of}
+use Rattle.group_sink.specs.Calls.{Call, Tuning, hear, tune}
+use Rattle.group_sink.specs.Hearings.{hearing_of}
 use Rattle.isoal_base.specs.declared.hearing.Hearing.{Hearing}
 use Rattle.scenario_history.specs.Refusals.{has_beyond}
 use Rattle.scenario_history.specs.Sinks.{is_of}
-use Rattle.delegator_machine.specs.State.Sinks.{StandsFor}
+use Rattle.group_sink.specs.State.Sinks.{StandsFor}
 use Rattle.scenario_history.specs.Boxes.{most_sinks}
 use Rattle.scenario_sinks.specs.declared.sink.Sink.{Sink}
 use Rattle.scenario_sinks.specs.Pasts.{Past}

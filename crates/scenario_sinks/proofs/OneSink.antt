@@ -2,8 +2,8 @@
 use Rattle.std.proofs.Common.{◌≡◌, ℕ, ◌+◌, ◌<◌, ◌≤◌, ◌==◌, ◌&&◌, ◌∷◌, [], true, false, nat_le, not, List, length, refl, sym, ◌∙◌, ap, subst, is_some, slice_set, get_or, eq-eqb, cond, Bool}
 use Rattle.std.proofs.Common.{if◌then◌else◌, arith, Option, None, Some, Result, Ok, Err}
 use Rattle.std.proofs.lemmas.Bool.{le-leb, lt-leb}
-use Rattle.delegator_machine.specs.Calls.{Tuning, Call, hear, tune}
-use Rattle.delegator_machine.specs.State.Sinks.{StandsFor}
+use Rattle.group_sink.specs.Calls.{Tuning, Call, hear, tune}
+use Rattle.group_sink.specs.State.Sinks.{StandsFor}
 use Rattle.isoal_base.specs.declared.hearing.Hearing.{Hearing}
 use Rattle.transcript_text.specs.declared.refusal.Refusal.TheVariants.{NoSuchSink, SinkTwice, NoOutlet}
 use Rattle.scenario_history.specs.Boxes.{most_sinks}

@@ -1,7 +1,7 @@
 -- What a sink makes of octets that come to it in the place of a PDU of a source (Core 5.2, volume 6 part B, section 4.4.6).
 use Rattle.std.specs.Prelude.{ℕ, ◌≡◌, true, is_some, List, Option, None, Some, if◌then◌else◌}
-use Rattle.delegator_machine.specs.Calls.{Call}
-use Rattle.delegator_machine.specs.Hearings.{hearing_of}
+use Rattle.group_sink.specs.Calls.{Call}
+use Rattle.group_sink.specs.Hearings.{hearing_of}
 use Rattle.isoal_base.specs.declared.hearing.Hearing.{Hearing}
 use Rattle.isoal_base.specs.declared.hearing.Hearing.TheVariants.{NotOnGroup}
 use Rattle.scenario_history.specs.Sinks.{is_of}

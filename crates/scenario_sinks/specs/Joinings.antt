@@ -1,5 +1,5 @@
 -- How a source puts a sink on its group (Core 5.2, volume 6 part B, section 4.4.6).
-use Rattle.delegator_machine.specs.Calls.{Tuning}
+use Rattle.group_sink.specs.Calls.{Tuning}
 use Rattle.scenario_sinks.specs.declared.joining.Joining.{Joining}
 
 abbrev pub tuning_in : Joining → Tuning

@@ -3,7 +3,7 @@
 -- source that put it where it is, takes the PDUs of that source alone, and closes the events of that source alone (Core
 -- 5.2, volume 6 part B, section 4.4.6).
 use Rattle.std.specs.Prelude.{ℕ, ◌+◌, ◌==◌, ◌&&◌, List, [], ◌∷◌, Option, None, Some, if◌then◌else◌}
-use Rattle.delegator_machine.specs.Calls.{Tuning, Call, tune, hear}
+use Rattle.group_sink.specs.Calls.{Tuning, Call, tune, hear}
 use Rattle.scenario_history.specs.Sinks.{is_of, ticked_if}
 
 pub record Past : Type 0 where

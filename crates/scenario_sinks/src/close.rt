@@ -1,6 +1,6 @@
 //! Closing an event of a source: each of its sinks hands its units up.
 ghost use Rattle.std.specs.Prelude.{◌≡◌, ◌<◌, ◌^◌, ℕ, List, [], Option, Some, length, map};
-ghost use Rattle.delegator_machine.specs.Calls.{Call};
+ghost use Rattle.group_sink.specs.Calls.{Call};
 ghost use Rattle.scenario_sinks.specs.Pasts.{Past};
 ghost use Rattle.scenario_sinks.specs.State.Standing.{EntryIs, EntriesAre};
 ghost use Rattle.scenario_sinks.specs.State.Between.{SinkCloses, AllClose};

@@ -1,8 +1,8 @@
 //! What comes to the sink of one number.
 ghost use Rattle.std.specs.Prelude.{◌≡◌, ◌≤◌, ◌^◌, ◌∷◌, ℕ, List, Option, Some};
-ghost use Rattle.delegator_machine.specs.Calls.{Call, hear};
-ghost use Rattle.delegator_machine.specs.Hearings.{hearing_of};
-ghost use Rattle.delegator_machine.specs.State.Sinks.{StandsFor};
+ghost use Rattle.group_sink.specs.Calls.{Call, hear};
+ghost use Rattle.group_sink.specs.Hearings.{hearing_of};
+ghost use Rattle.group_sink.specs.State.Sinks.{StandsFor};
 ghost use Rattle.scenario_sinks.specs.Joinings.{tuning_in};
 ghost use Rattle.scenario_sinks.specs.State.Entries.{EntryHears, EntryTunes};
 ghost use Rattle.scenario_sinks.specs.State.Standing.{EntryIs};

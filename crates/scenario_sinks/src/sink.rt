@@ -1,7 +1,7 @@
 ghost use Rattle.std.specs.Prelude.{◌≡◌};
 ghost use Rattle.scenario_history.specs.Sinks.{is_of};
 
-use delegator_machine::Delegator;
+use group_sink::GroupSink;
 
 /// A sink of a scenario.
 #[derive(Drop)]
@@ -10,7 +10,7 @@ pub(crate) struct Sink {
     pub(crate) outlet: usize,
     /// The source that it is of: the one that put it where it is.
     pub(crate) source: Option<u8>,
-    pub(crate) delegator: Delegator,
+    pub(crate) delegator: GroupSink,
 }
 
 /// Whose units are handed up: the source and the number of a sink, and the place of its box.

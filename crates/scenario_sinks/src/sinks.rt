@@ -8,7 +8,7 @@ use crate::joining::Joining;
 use crate::sink::Sink;
 use crate::sums::{put_sum_at, put_sums};
 use bcast_base::{Bis, Memory, Octets};
-use delegator_machine::Delegator;
+use group_sink::GroupSink;
 use isoal_base::Hearing;
 use std::alloc::Global;
 use transcript_text::{Refusal, Stop};
@@ -74,7 +74,7 @@ impl Sinks {
         self.entries[place] = Some(Sink {
             outlet: self.outlets,
             source: None,
-            delegator: Delegator::new(self.alloc),
+            delegator: GroupSink::new(self.alloc),
         });
         self.outlets += 1;
         Ok(())

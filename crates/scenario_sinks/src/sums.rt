@@ -1,6 +1,6 @@
 //! The sums of the boxes in the transcript.
 ghost use Rattle.std.specs.Prelude.{◌≡◌, ◌++◌, ℕ, List, Option, Some, length, map, OnOk};
-ghost use Rattle.delegator_machine.specs.Calls.{Call};
+ghost use Rattle.group_sink.specs.Calls.{Call};
 ghost use Rattle.scenario_history.specs.Boxes.{sink_numbers};
 ghost use Rattle.scenario_sinks.specs.Pasts.{Past};
 ghost use Rattle.scenario_sinks.specs.Sums.{sum_at, sum_where, sums_where};

@@ -2,7 +2,7 @@
 use Rattle.std.specs.Prelude.{ℕ, List, Option}
 use Rattle.std.specs.Option.{option_or}
 use Rattle.source_machine.specs.Airs.{airs_of}
-use Rattle.delegator_machine.specs.Calls.{Tuning}
+use Rattle.group_sink.specs.Calls.{Tuning}
 use Rattle.transcript_text.specs.declared.refusal.Refusal.{Refusal}
 use Rattle.transcript_text.specs.declared.refusal.Refusal.TheVariants.{NotBuilt, Order}
 use Rattle.scenario_text.specs.declared.step.Step.{Step}

@@ -17,7 +17,7 @@ pub struct WordRow {
     pub exit_code: u8,
 }
 
-pub const WORD_ROWS: [WordRow; 7] = [
+pub const WORD_ROWS: [WordRow; 8] = [
     WordRow {
         name: "word-unknown",
         words: "x",
@@ -59,6 +59,13 @@ pub const WORD_ROWS: [WordRow; 7] = [
         boxes: 2,
         transcript: "",
         exit_code: 2,
+    },
+    WordRow {
+        name: "migrate",
+        words: "--migrate",
+        boxes: 2,
+        transcript: "scenario 2\ngroup unframed 20000 40000 8 10000 4 4 1 1 1 1 0 0 0 1\nsink 0 1 1\nstart 0\ntuned 0 1\nunit 1 - 0a0b0c\nevent\nhear 0 0 1 0\nend\n",
+        exit_code: 0,
     },
     WordRow {
         name: "dashes-alone",

@@ -1,9 +1,10 @@
 -- What is true of every slot that is filled, so that its state has octets.
-use Rattle.std.specs.Prelude.{ℕ, ◌<◌, ◌≤◌, ◌^◌, ◌==◌, ◌&&◌, List, length, Option, is_none, Bool}
+use Rattle.std.specs.Prelude.{ℕ, ◌<◌, ◌≤◌, ◌^◌, List, length, Option, is_none, Bool}
 use Rattle.std.specs.List.{AllByRecursion}
 use Rattle.bass_operations.specs.declared.wishes.Wish.{Wish}
 use Rattle.delegator_states.specs.declared.source.Source.{Source}
 use Rattle.delegator_states.specs.Sights.{Entry}
+use Rattle.delegator_states.specs.Trains.{is_wanted}
 use Rattle.delegator_states.specs.Writes.{has_id, has_source}
 use Rattle.scan_delegator.specs.declared.search.Sought.{Sought}
 use Rattle.scan_delegator.specs.declared.search.Sought.TheVariants as seek
@@ -27,3 +28,4 @@ abbrev pub meets : Sought → Option Entry → Bool
 meets seek.Empty slot = is_none slot
 meets (seek.SourceId source_id) slot = has_id source_id slot
 meets (seek.Identity address_type sid broadcast_id) slot = has_source address_type sid broadcast_id slot
+meets (seek.Wanted address_type sid broadcast_id) slot = is_wanted address_type sid broadcast_id slot

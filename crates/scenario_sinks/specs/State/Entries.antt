@@ -1,6 +1,6 @@
 -- What becomes of the entry of one sink, with this box, this source and these calls.
 use Rattle.std.specs.Prelude.{ℕ, ◌≡◌, ◌∷◌, true, is_some, List, Option, None, Some, Result, Ok, Err, if◌then◌else◌}
-use Rattle.delegator_machine.specs.Calls.{Tuning, Call, tune, hear}
+use Rattle.group_sink.specs.Calls.{Tuning, Call, tune, hear}
 use Rattle.isoal_base.specs.declared.hearing.Hearing.{Hearing}
 use Rattle.scenario_history.specs.Sinks.{is_of}
 use Rattle.scenario_sinks.specs.declared.sink.Sink.{Sink}

@@ -1,7 +1,7 @@
 -- What the sinks of a scenario keep, and the past that it stands for.
 use Rattle.std.specs.Prelude.{ℕ, ◌≡◌, ◌<◌, List, [], Option, None, Some, slice_get}
-use Rattle.delegator_machine.specs.Calls.{Call}
-use Rattle.delegator_machine.specs.State.Sinks.{StandsFor}
+use Rattle.group_sink.specs.Calls.{Call}
+use Rattle.group_sink.specs.State.Sinks.{StandsFor}
 use Rattle.scenario_history.specs.Boxes.{most_sinks}
 use Rattle.scenario_sinks.specs.declared.sink.Sink.{Sink}
 use Rattle.scenario_sinks.specs.declared.sinks.Sinks.{Sinks}

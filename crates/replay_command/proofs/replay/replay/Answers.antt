@@ -1,8 +1,10 @@
-use Rattle.std.proofs.Common.{◌∙◌, sym, map, string_bytes}
+use Rattle.std.proofs.Common.{◌∙◌, refl, sym, subst, map, string_bytes}
 use Rattle.replay_words.specs.Words.{mode_of}
 use Rattle.replay_command.specs.World.{world_of}
+use Rattle.replay_command.specs.Migrated.{Migrated}
 use Rattle.source_machine.specs.Airs.{airs_of}
-use Rattle.replay_command.proofs.Promises.{AllSame, promised_run, in_replay, in_memory}
+use Rattle.replay_command.proofs.Migrating.{migrated_of}
+use Rattle.replay_command.proofs.Promises.{AllSame, promised_run, in_replay, in_migration, in_memory}
 use Rattle.replay_command.proofs.replay.replay.Goals as goal
 
 pub returns-in-Ok-Replay-clause-promised : goal.returns-in-Ok-Replay-clause-promised
@@ -49,3 +51,13 @@ returns-in-Err-clause-promised g c =
       units = c.units_law.ensures boxes;
       order = c.order_law.ensures boxes;
     })
+
+pub returns-in-Ok-Migrate-clause-promised : goal.returns-in-Ok-Migrate-clause-promised
+returns-in-Ok-Migrate-clause-promised g c =
+    let boxes = map (λ b. (goal.Outlet-dyn g (b.vtable, b.value)).account b.value) c.args.outlets.now.items in
+    let old = world_of g.S.ByteSource.left g.S.ByteSource.faults g.K.ByteSink.contents g.K.ByteSink.faults c.args.source.now c.args.sink.now boxes in
+    let new = world_of g.S.ByteSource.left g.S.ByteSource.faults g.K.ByteSink.contents g.K.ByteSink.faults c.run_migration.new.source c.run_migration.new.sink boxes in
+    let did = c.run_migration.ensures in
+    in_migration (mode_of (map string_bytes c.args.words.now)) old new c.from.result (sym c.in-Ok-Migrate.ensures.meaning ∙ c.in-Ok-Migrate.field-0-is)
+    (subst (λ s. Migrated old new s) (sym c.from.ensures)
+    (migrated_of c.run_migration.result old new did.ended did.read_fault did.no_read_fault did.write_fault did.no_write_fault refl))

@@ -33,12 +33,15 @@ lines-init g c = record {
 
 pub lines-preserved : goal.lines-preserved
 lines-preserved g c = record {
-  running = running_more (map (λ b. (goal.Outlet-dyn g (b.vtable, b.value)).account b.value) c.args.outlets.now.items) (map (λ b. (goal.Outlet-dyn g (b.vtable, b.value)).account b.value) c.lines.outlets.items) (map (λ b. (goal.Outlet-dyn g (b.vtable, b.value)).account b.value) c.run_line.new.outlets.items)
+  running = running_more (map (λ b. (goal.Outlet-dyn g (b.vtable, b.value)).account b.value) c.args.outlets.now.items)
+      (map (λ b. (goal.Outlet-dyn g (b.vtable, b.value)).account b.value) c.lines.outlets.items)
+      (map (λ b. (goal.Outlet-dyn g (b.vtable, b.value)).account b.value) c.run_line.new.outlets.items)
       (g.S.ByteSource.left c.args.source.now) (g.S.ByteSource.left c.lines.source) (g.S.ByteSource.left c.run_line.new.source)
       (g.K.ByteSink.contents c.args.sink.now) (g.K.ByteSink.contents c.lines.sink) (g.K.ByteSink.contents c.run_line.new.sink)
       c.lines.number (c.lines.number + 1) c.lines.reader c.run_line.new.reader c.lines.machine c.run_line.new.machine c.run_line.result
       c.lines.invariant.running refl c.in-None.is
-      (λ lines. c.run_line.ensures.runs (map (λ b. (goal.Outlet-dyn g (b.vtable, b.value)).account b.value) c.args.outlets.now.items) lines (g.S.ByteSource.left c.args.source.now) (g.K.ByteSink.contents c.args.sink.now));
+      (λ lines. c.run_line.ensures.runs (map (λ b. (goal.Outlet-dyn g (b.vtable, b.value)).account b.value) c.args.outlets.now.items) lines
+      (g.S.ByteSource.left c.args.source.now) (g.K.ByteSink.contents c.args.sink.now));
   bound = omega (arith, c.in-None.ensures.nearer, c.lines.invariant.bound);
   reads = c.in-None.ensures.no_read_fault (λ e. cc) ∙ c.lines.invariant.reads;
   writes = c.in-None.ensures.no_write_fault (λ e. cc) ∙ c.lines.invariant.writes;
@@ -46,9 +49,12 @@ lines-preserved g c = record {
 
 pub returns-in-Some-clause-ended : goal.returns-in-Some-clause-ended
 returns-in-Some-clause-ended g c =
-    running_ends (map (λ b. (goal.Outlet-dyn g (b.vtable, b.value)).account b.value) c.args.outlets.now.items) (map (λ b. (goal.Outlet-dyn g (b.vtable, b.value)).account b.value) c.lines.outlets.items) (map (λ b. (goal.Outlet-dyn g (b.vtable, b.value)).account b.value) c.run_line.new.outlets.items)
+    running_ends (map (λ b. (goal.Outlet-dyn g (b.vtable, b.value)).account b.value) c.args.outlets.now.items)
+    (map (λ b. (goal.Outlet-dyn g (b.vtable, b.value)).account b.value) c.lines.outlets.items)
+    (map (λ b. (goal.Outlet-dyn g (b.vtable, b.value)).account b.value) c.run_line.new.outlets.items)
     (g.S.ByteSource.left c.args.source.now) (g.S.ByteSource.left c.lines.source) (g.S.ByteSource.left c.run_line.new.source)
     (g.K.ByteSink.contents c.args.sink.now) (g.K.ByteSink.contents c.lines.sink) (g.K.ByteSink.contents c.run_line.new.sink)
     c.lines.number c.lines.reader c.run_line.new.reader c.lines.machine c.run_line.new.machine c.run_line.result c.in-Some.status
     c.lines.invariant.running c.in-Some.is
-    (λ lines. c.run_line.ensures.runs (map (λ b. (goal.Outlet-dyn g (b.vtable, b.value)).account b.value) c.args.outlets.now.items) lines (g.S.ByteSource.left c.args.source.now) (g.K.ByteSink.contents c.args.sink.now))
+    (λ lines. c.run_line.ensures.runs (map (λ b. (goal.Outlet-dyn g (b.vtable, b.value)).account b.value) c.args.outlets.now.items) lines
+    (g.S.ByteSource.left c.args.source.now) (g.K.ByteSink.contents c.args.sink.now))

@@ -21,7 +21,8 @@ returns-in-Ok-TextTooLong-clause-runs g c =
     λ starts lines left kept e read run.
     line_past starts lines left (g.S.ByteSource.left c.read_next.new.source) kept (g.K.ByteSink.contents c.args.sink.now) (g.K.ByteSink.contents c.refuse.new.sink)
     c.args.machine.now _ c.args.number c.read_next.new.reader e run c.refuse.result
-    (next_at left (g.S.ByteSource.left c.read_next.new.source) lines c.read_next.new.reader _ _ (c.read_next.ensures.next left lines read) (c.in-Ok-TextTooLong.is ∙ ap Ok c.in-Ok-TextTooLong.field-0-is))
+    (next_at left (g.S.ByteSource.left c.read_next.new.source) lines c.read_next.new.reader _ _ (c.read_next.ensures.next left lines read)
+    (c.in-Ok-TextTooLong.is ∙ ap Ok c.in-Ok-TextTooLong.field-0-is))
     c.refuse.ensures.refuses
 
 pub returns-in-Ok-LineTooLong-clause-runs : goal.returns-in-Ok-LineTooLong-clause-runs
@@ -29,7 +30,8 @@ returns-in-Ok-LineTooLong-clause-runs g c =
     λ starts lines left kept e read run.
     line_long starts lines left (g.S.ByteSource.left c.read_next.new.source) kept (g.K.ByteSink.contents c.args.sink.now) (g.K.ByteSink.contents c.refuse-in-Ok-LineTooLong.new.sink)
     c.args.machine.now _ c.args.number c.read_next.new.reader e run c.refuse-in-Ok-LineTooLong.result
-    (next_at left (g.S.ByteSource.left c.read_next.new.source) lines c.read_next.new.reader _ _ (c.read_next.ensures.next left lines read) (c.in-Ok-LineTooLong.is ∙ ap Ok c.in-Ok-LineTooLong.field-0-is))
+    (next_at left (g.S.ByteSource.left c.read_next.new.source) lines c.read_next.new.reader _ _ (c.read_next.ensures.next left lines read)
+    (c.in-Ok-LineTooLong.is ∙ ap Ok c.in-Ok-LineTooLong.field-0-is))
     c.refuse-in-Ok-LineTooLong.ensures.refuses
 
 pub returns-in-Ok-Line-clause-runs : goal.returns-in-Ok-Line-clause-runs

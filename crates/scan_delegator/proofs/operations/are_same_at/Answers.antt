@@ -1,6 +1,3 @@
-use Rattle.std.proofs.Common.{◌∙◌, ap, sym, drop, ◌+◌}
-use Rattle.std.specs.Prelude.{◌&&◌}
-use Rattle.delegator_states.specs.Steps.{same_streams}
 use Rattle.scan_delegator.proofs.Streams.{same_next}
 use Rattle.scan_delegator.proofs.operations.are_same_at.Goals as goal
 

@@ -1,4 +1,4 @@
-use Rattle.std.proofs.Common.{◌≡◌, ◌∙◌, ap, sym, None}
+use Rattle.std.proofs.Common.{◌∙◌, ap, sym, None}
 use Rattle.delegator_states.specs.Sights.{Sight, slot_of}
 use Rattle.delegator_states.specs.Steps.{placed}
 use Rattle.scan_delegator.specs.State.Machines.{Machine, machine}

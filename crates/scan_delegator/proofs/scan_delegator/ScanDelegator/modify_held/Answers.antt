@@ -1,6 +1,6 @@
-use Rattle.std.proofs.Common.{ℕ, ◌≡◌, ◌<◌, ◌∙◌, length, get_or, ap, sym, subst, Some, None}
+use Rattle.std.proofs.Common.{◌≡◌, ◌<◌, ◌∙◌, length, get_or, ap, sym, subst, Some, None}
 use Rattle.std.proofs.lemmas.List.{get_or_read_under}
-use Rattle.delegator_states.specs.Sights.{Entry, Sight, entry_at, slot_of}
+use Rattle.delegator_states.specs.Sights.{Sight, entry_at, slot_of}
 use Rattle.delegator_states.specs.Steps.{modified, place_given, placed}
 use Rattle.delegator_states.specs.Values.{value_at}
 use Rattle.scan_delegator.specs.State.Machines.{Machine, machine}
@@ -66,6 +66,7 @@ pub invariant_of-self-2 : goal.invariant_of-self-2
 invariant_of-self-2 c =
     let mid : Machine = machine c.put.new.self in
     record {
+      reach = c.put.new.self.reach;
       few = c.put.new.self.few;
       within = λ slot is. moves_below mid.sight c.move_wanted-moves.result mid.setup.slots c.put.new.self.within slot (sym (ap (λ (s : Sight). slot_of s.place) (c.make_move.ensures mid.sight)) ∙ is);
     }

@@ -1,10 +1,9 @@
-use Rattle.std.proofs.Common.{◌≡◌, ◌++◌, ◌∙◌, List, ℕ, length, set, ap, sym, refl, Some, true, false}
+use Rattle.std.proofs.Common.{◌++◌, ◌∙◌, length, set, ap, sym, refl, Some}
 use Rattle.std.specs.Prelude.{nat_lt}
 use Rattle.receive_state.specs.Layout.{spelling}
 use Rattle.delegator_states.specs.Notices.{change}
 use Rattle.delegator_states.specs.Values.{received}
 use Rattle.scan_delegator.specs.State.Machines.{Machine, machine}
-use Rattle.scan_delegator.specs.State.Written.{written_value}
 use Rattle.scan_delegator.proofs.scan_delegator.ScanDelegator.put.Goals as goal
 
 pub returns-then-is_too_long-clause-puts : goal.returns-then-is_too_long-clause-puts

@@ -1,7 +1,6 @@
-use Rattle.std.proofs.Common.{◌≡◌, ◌<◌, ◌∙◌, List, ℕ, ap, sym, subst, Option, None, get_or, arith}
+use Rattle.std.proofs.Common.{◌≡◌, ◌<◌, ◌∙◌, List, ℕ, ap, sym, subst, None, get_or}
 use Rattle.std.specs.Prelude.{option_map, IfOk}
 use Rattle.std.proofs.lemmas.List.{get_or_read_under}
-use Rattle.delegator_states.specs.Sights.{Entry}
 use Rattle.delegator_states.specs.Values.{received, value}
 use Rattle.scan_delegator.specs.State.Machines.{Machine, machine}
 use Rattle.scan_delegator.proofs.scan_delegator.ScanDelegator.read_state.Goals as goal

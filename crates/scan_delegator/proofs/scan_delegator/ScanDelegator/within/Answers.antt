@@ -1,7 +1,6 @@
-use Rattle.std.proofs.Common.{◌≡◌, ◌∙◌, ap, length, None}
+use Rattle.std.proofs.Common.{◌∙◌, ap, length, None}
 use Rattle.std.specs.Prelude.{vec_len}
 use Rattle.std.proofs.lemmas.List.{length-replicate}
-use Rattle.delegator_states.specs.Sights.{Entry}
 use Rattle.scan_delegator.proofs.Standing.{stands_new}
 use Rattle.scan_delegator.proofs.scan_delegator.ScanDelegator.within.Goals as goal
 

@@ -1,0 +1,236 @@
+-- What is handed of one stream.
+use Rattle.std.proofs.Common.{ℕ, zero, suc, ◌≡◌, ◌≢◌, ◌+◌, ◌-◌, ◌<◌, ◌≤◌, Bool, true, false, cond, eqb, leb, List, [], ◌∷◌, ◌++◌, map, drop, length}
+use Rattle.std.proofs.Common.{Option, Some, None, refl, sym, ap, ◌∙◌, subst, inl, inr, arith}
+use Rattle.std.specs.List.{AllByRecursion, Contains, flat_map, range_with_len}
+use Rattle.std.proofs.lemmas.Bool.{cases_Bool, cases_eq, cond-true, cond-false, eq-eqb, ne_eqb}
+use Rattle.std.proofs.lemmas.List.{append-nil}
+use Rattle.std.proofs.lemmas.List.Elements.{filter-append}
+use Rattle.unit_outlets.specs.Handed.{Handed}
+use Rattle.big_info.specs.Schedule.{per_event_of}
+use Rattle.isoal_base.specs.Stays as stays
+use Rattle.isoal_base.specs.Stays.{Stay, opened}
+use Rattle.isoal_unframed.specs.Histories.{unit_at, units_of, handed}
+use Rattle.isoal_unframed.specs.State.Windows.{handed_of}
+use Rattle.isoal_framed.specs.Histories.{closed_tokens, decided, event_tokens, gained}
+use Rattle.isoal_framed.specs.Tokens.{Token, starts, goes_on, missing}
+use Rattle.isoal_framed.specs.Units.{Fate, whole, broken, undecided, fate_at, units, handed_of as handed_fate}
+use Rattle.isoal_framed.proofs.Citable.{close_gains, decides_nothing}
+use Rattle.group_sink.specs.Calls.{Tuning, Call, tune, hear, tick, leave, place}
+use Rattle.group_sink.specs.Handing.{units_at_close, units_on, handed_by, handed_at, handed_since, bis_of, of_stream}
+use Rattle.group_sink.specs.Streams.{is_in, number_of, stay_on, stream_calls, streams_of, with_hear}
+use Rattle.group_sink.proofs.Sets.{flat_map_filter, is_member, member_is}
+
+of_append : (bis : ℕ) (xs ys : List Handed) → of_stream bis (xs ++ ys) ≡ of_stream bis xs ++ of_stream bis ys
+of_append bis xs ys = filter-append (λ entry. eqb (bis_of entry) bis) xs ys
+
+of_flat_map : (bis : ℕ) (f : ℕ → List Handed) (xs : List ℕ) → of_stream bis (flat_map f xs) ≡ flat_map (λ x. of_stream bis (f x)) xs
+of_flat_map bis f [] = refl
+of_flat_map bis f (x ∷ xs) = of_append bis (f x) (flat_map f xs) ∙ ap (λ ys. of_stream bis (f x) ++ ys) (of_flat_map bis f xs)
+
+all_or_none : (taken : Bool) (entry : Handed) (rest entries : List Handed) → rest ≡ cond taken entries []
+    → cond taken (entry ∷ rest) rest ≡ cond taken (entry ∷ entries) []
+all_or_none true entry rest entries is = ap (λ xs. entry ∷ xs) is
+all_or_none false entry rest entries is = is
+
+none_either : (taken : Bool) → [] ≡ cond taken (let none : List Handed = [] in none) []
+none_either true = refl
+none_either false = refl
+
+-- units of one stream
+abbrev AllOf : ℕ → List Handed → Type 0
+AllOf own units = AllByRecursion (λ unit. bis_of unit ≡ own) units
+
+of_all : (own bis : ℕ) (units : List Handed) → AllOf own units → of_stream bis units ≡ cond (eqb own bis) units []
+of_all own bis [] all = none_either (eqb own bis)
+of_all own bis (unit ∷ units) all =
+    ap (λ b. cond (eqb b bis) (unit ∷ of_stream bis units) (of_stream bis units)) all.0
+    ∙ all_or_none (eqb own bis) unit (of_stream bis units) units (of_all own bis units all.1)
+
+all_append : (own : ℕ) (xs ys : List Handed) → AllOf own xs → AllOf own ys → AllOf own (xs ++ ys)
+all_append own [] ys first second = second
+all_append own (x ∷ xs) ys first second = (first.0, all_append own xs ys first.1 second)
+
+all_drop : (own n : ℕ) (xs : List Handed) → AllOf own xs → AllOf own (drop n xs)
+all_drop own zero xs all = all
+all_drop own (suc n) [] all = tt
+all_drop own (suc n) (x ∷ xs) all = all_drop own n xs all.1
+
+-- the units of a slot, of an event and of tokens
+slot_bis : (bis time : ℕ) (unit : Option (List ℕ)) → bis_of (handed_of bis time unit) ≡ bis
+slot_bis bis time None = refl
+slot_bis bis time (Some octets) = refl
+
+all_slots : (stay : Stay) (calls : List stays.Call) (event : ℕ) (slots : List ℕ) → AllOf stay.bis (map (unit_at stay calls event) slots)
+all_slots stay calls event [] = tt
+all_slots stay calls event (slot ∷ slots) = (slot_bis stay.bis _ _, all_slots stay calls event slots)
+
+all_fates : (bis time : ℕ) (fate : Fate) → AllOf bis (handed_fate bis time fate)
+all_fates bis time (whole octets) = (refl, tt)
+all_fates bis time broken = (refl, tt)
+all_fates bis time (undecided octets) = tt
+
+all_tokens : (max_sdu bis : ℕ) (tokens : List Token) → AllOf bis (units max_sdu bis tokens)
+all_tokens max_sdu bis [] = tt
+all_tokens max_sdu bis (starts time complete octets ∷ tokens) =
+    all_append bis (handed_fate bis time (fate_at max_sdu complete octets tokens)) (units max_sdu bis tokens)
+    (all_fates bis time (fate_at max_sdu complete octets tokens)) (all_tokens max_sdu bis tokens)
+all_tokens max_sdu bis (goes_on complete octets ∷ tokens) = all_tokens max_sdu bis tokens
+all_tokens max_sdu bis (missing ∷ tokens) = all_tokens max_sdu bis tokens
+
+all_either : (own : ℕ) (plainly : Bool) (xs ys : List Handed) → AllOf own xs → AllOf own ys → AllOf own (cond plainly xs ys)
+all_either own true xs ys first second = first
+all_either own false xs ys first second = second
+
+all_at_close : (stay : Stay) (calls : List stays.Call) → AllOf stay.bis (units_at_close stay calls)
+all_at_close stay calls =
+    all_either stay.bis (eqb stay.info.framing 0) (units_of stay calls (opened stay calls)) (gained stay calls)
+    (all_slots stay calls (opened stay calls) (range_with_len 0 (per_event_of stay.info)))
+    (all_drop stay.bis (length (decided stay calls)) (decided stay (stays.close ∷ calls))
+    (all_tokens stay.info.max_sdu stay.bis (closed_tokens stay (stays.close ∷ calls))))
+
+of_units : (over : Bool) (bis : ℕ) (stay : Stay) (calls : List stays.Call)
+    → of_stream bis (cond over (units_at_close stay calls) []) ≡ cond (eqb stay.bis bis) (cond over (units_at_close stay calls) []) []
+of_units over bis stay calls =
+    of_all stay.bis bis (cond over (units_at_close stay calls) []) (all_either stay.bis over (units_at_close stay calls) [] (all_at_close stay calls) tt)
+
+-- of a range of streams, what one of them hands
+none_of : (g : ℕ → List Handed) (start n : ℕ) → ((c : ℕ) → start ≤ c → c < start + n → g c ≡ []) → flat_map g (range_with_len start n) ≡ []
+none_of g start zero none = refl
+none_of g start (suc n) none =
+    ap (λ xs. xs ++ flat_map g (range_with_len (start + 1) n)) (none start (omega arith) (omega arith))
+    ∙ none_of g (start + 1) n (λ c least below. none c (omega arith) (omega arith))
+
+one_of : (g : ℕ → List Handed) (bis start n : ℕ) → start ≤ bis → bis < start + n → ((c : ℕ) → c ≢ bis → g c ≡ [])
+    → flat_map g (range_with_len start n) ≡ g bis
+one_of g bis start zero least below others = absurd (omega arith)
+one_of g bis start (suc n) least below others = elim (cases_eq start bis) [
+  | inl same ↦
+      ap (λ xs. g start ++ xs) (none_of g (start + 1) n (λ c past under. others c (λ is. omega arith)))
+      ∙ append-nil (g start) ∙ ap g same
+  | inr apart ↦
+      ap (λ xs. xs ++ flat_map g (range_with_len (start + 1) n)) (others start apart)
+      ∙ one_of g bis (start + 1) n (omega arith) (omega arith) others
+]
+
+-- what a tick hands of a stream
+abbrev part : ℕ → List Call → Tuning → ℕ → ℕ → List Handed
+part event calls tuning bis c = of_stream bis (cond (is_in tuning.which c) (units_on event calls tuning c) [])
+
+parts : (event : ℕ) (calls : List Call) (tuning : Tuning) (bis : ℕ)
+    → of_stream bis (handed_by event calls (Some tuning)) ≡ flat_map (part event calls tuning bis) (range_with_len 1 31)
+parts event calls tuning bis =
+    ap (of_stream bis) (sym (flat_map_filter (is_in tuning.which) (units_on event calls tuning) (range_with_len 1 31)))
+    ∙ of_flat_map bis (λ c. cond (is_in tuning.which c) (units_on event calls tuning c) []) (range_with_len 1 31)
+
+part_cases : (taken own : Bool) (bis : ℕ) (units : List Handed) → of_stream bis units ≡ cond own units []
+    → of_stream bis (cond taken units []) ≡ cond taken (cond own units []) []
+part_cases true own bis units is = is
+part_cases false own bis units is = refl
+
+part_is : (event : ℕ) (calls : List Call) (tuning : Tuning) (bis c : ℕ)
+    → part event calls tuning bis c ≡ cond (is_in tuning.which c) (cond (eqb c bis) (units_on event calls tuning c) []) []
+part_is event calls tuning bis c =
+    part_cases (is_in tuning.which c) (eqb c bis) bis (units_on event calls tuning c)
+    (of_units (leb (opened (stay_on tuning c) (stream_calls (stay_on tuning c) calls)) event) bis (stay_on tuning c) (stream_calls (stay_on tuning c) calls))
+
+nothing : (taken : Bool) → cond taken (let none : List Handed = [] in none) [] ≡ []
+nothing true = refl
+nothing false = refl
+
+part_other : (event : ℕ) (calls : List Call) (tuning : Tuning) (bis c : ℕ) → c ≢ bis → part event calls tuning bis c ≡ []
+part_other event calls tuning bis c apart =
+    part_is event calls tuning bis c
+    ∙ ap (λ units. cond (is_in tuning.which c) units []) (cond-false (eqb c bis) (units_on event calls tuning c) [] (ne_eqb c bis apart))
+    ∙ nothing (is_in tuning.which c)
+
+of_tick : (event : ℕ) (calls : List Call) (tuning : Tuning) (bis : ℕ) → Contains (streams_of tuning.which) bis
+    → of_stream bis (handed_by event calls (Some tuning)) ≡ units_on event calls tuning bis
+of_tick event calls tuning bis at =
+    let is : (is_in tuning.which bis ≡ true) × (1 ≤ bis) × (bis ≤ 31) = member_is tuning.which bis at in
+    let greatest : bis ≤ 31 = is.2 in
+    parts event calls tuning bis
+    ∙ one_of (part event calls tuning bis) bis 1 31 is.1 (omega arith) (part_other event calls tuning bis)
+    ∙ part_is event calls tuning bis bis
+    ∙ cond-true (is_in tuning.which bis) (cond (eqb bis bis) (units_on event calls tuning bis) []) [] is.0
+    ∙ cond-true (eqb bis bis) (units_on event calls tuning bis) [] (eq-eqb bis bis refl)
+
+of_no_tick : (event : ℕ) (calls : List Call) (tuning : Tuning) (bis : ℕ) → ¬ Contains (streams_of tuning.which) bis
+    → of_stream bis (handed_by event calls (Some tuning)) ≡ []
+of_no_tick event calls tuning bis out =
+    parts event calls tuning bis
+    ∙ none_of (part event calls tuning bis) 1 31 (λ c least below. elim (cases_eq c bis) [
+      | inr apart ↦ part_other event calls tuning bis c apart
+      | inl same ↦ elim (cases_Bool (is_in tuning.which c)) [
+        | inl taken ↦ absurd (out (subst (λ b. Contains (streams_of tuning.which) b) same (is_member tuning.which c least (omega arith) taken)))
+        | inr free ↦
+            part_is event calls tuning bis c
+            ∙ cond-false (is_in tuning.which c) (cond (eqb c bis) (units_on event calls tuning c) []) [] free
+      ]
+    ])
+
+-- what grows by each close of a stream's stay by what it hands is all that was handed of the stream
+hear_hands : (f : List stays.Call → List Handed) → ((number : ℕ) → (octets : List ℕ) → (calls : List stays.Call) → f (stays.hear number octets ∷ calls) ≡ f calls)
+    → (own : Bool) (number : Option ℕ) (octets : List ℕ) (calls : List stays.Call) → f (cond own (with_hear number octets calls) calls) ≡ f calls
+hear_hands f hears true None octets calls = refl
+hear_hands f hears true (Some number) octets calls = hears number octets calls
+hear_hands f hears false number octets calls = refl
+
+close_hands : (f : List stays.Call → List Handed) (over : Bool) (calls : List stays.Call) (units : List Handed)
+    → f (stays.close ∷ calls) ≡ f calls ++ units → f (cond over (stays.close ∷ calls) calls) ≡ f calls ++ cond over units []
+close_hands f true calls units is = is
+close_hands f false calls units is = sym (append-nil (f calls))
+
+record Adds (stay : Stay) (f : List stays.Call → List Handed) : Type 0 where
+  begins : f [] ≡ []
+  hears : (number : ℕ) → (octets : List ℕ) → (calls : List stays.Call) → f (stays.hear number octets ∷ calls) ≡ f calls
+  closes : (calls : List stays.Call) → f (stays.close ∷ calls) ≡ f calls ++ units_at_close stay calls
+
+stream_hands : (tuning : Tuning) (bis : ℕ) (f : List stays.Call → List Handed) → Adds (stay_on tuning bis) f → (calls : List Call)
+    → place calls ≡ Some tuning → Contains (streams_of tuning.which) bis → of_stream bis (handed_since calls) ≡ f (stream_calls (stay_on tuning bis) calls)
+stream_hands tuning bis f adds [] is at = sym adds.begins
+stream_hands tuning bis f adds (tune other ∷ calls) is at = sym adds.begins
+stream_hands tuning bis f adds (hear event other subevent octets ∷ calls) is at =
+    stream_hands tuning bis f adds calls is at
+    ∙ sym (hear_hands f adds.hears (eqb other bis) (number_of tuning.info event subevent) octets (stream_calls (stay_on tuning bis) calls))
+stream_hands tuning bis f adds (tick event ∷ calls) is at =
+    of_append bis (handed_since calls) (handed_at calls event)
+    ∙ ap (λ xs. xs ++ of_stream bis (handed_at calls event)) (stream_hands tuning bis f adds calls is at)
+    ∙ ap (λ xs. f (stream_calls (stay_on tuning bis) calls) ++ xs)
+    (ap (λ p. of_stream bis (handed_by event calls p)) is ∙ of_tick event calls tuning bis at)
+    ∙ sym (close_hands f (leb (opened (stay_on tuning bis) (stream_calls (stay_on tuning bis) calls)) event)
+    (stream_calls (stay_on tuning bis) calls) _ (adds.closes (stream_calls (stay_on tuning bis) calls)))
+stream_hands tuning bis f adds (leave ∷ calls) is at = sym adds.begins
+
+pub unframed_hands : (tuning : Tuning) (calls : List Call) (bis : ℕ) → tuning.info.framing ≡ 0 → place calls ≡ Some tuning
+    → Contains (streams_of tuning.which) bis → of_stream bis (handed_since calls) ≡ handed (stay_on tuning bis) (stream_calls (stay_on tuning bis) calls)
+unframed_hands tuning calls bis plain is at =
+    let stay : Stay = stay_on tuning bis in
+    stream_hands tuning bis (handed stay) (record {
+      begins = refl;
+      hears = λ number octets past. refl;
+      closes = λ past. ap (λ units. handed stay past ++ units)
+          (sym (cond-true (eqb tuning.info.framing 0) (units_of stay past (opened stay past)) (gained stay past) (eq-eqb tuning.info.framing 0 plain)));
+    }) calls is at
+
+pub framed_hands : (tuning : Tuning) (calls : List Call) (bis : ℕ) → tuning.info.framing ≡ 1 → place calls ≡ Some tuning
+    → Contains (streams_of tuning.which) bis → of_stream bis (handed_since calls) ≡ decided (stay_on tuning bis) (stream_calls (stay_on tuning bis) calls)
+framed_hands tuning calls bis framed is at =
+    let stay : Stay = stay_on tuning bis in
+    let none : stay.first - stay.first ≡ 0 = omega arith in
+    stream_hands tuning bis (decided stay) (record {
+      begins = ap (λ n. units stay.info.max_sdu bis (flat_map (event_tokens stay []) (range_with_len stay.first n))) none;
+      hears = λ number octets past. decides_nothing stay past number octets;
+      closes = λ past. close_gains stay past ∙ ap (λ added. decided stay past ++ added)
+          (sym (cond-false (eqb tuning.info.framing 0) (units_of stay past (opened stay past)) (gained stay past) (ap (λ n. eqb n 0) framed)));
+    }) calls is at
+
+pub others_hand_nothing : (tuning : Tuning) (calls : List Call) (bis : ℕ) → place calls ≡ Some tuning → ¬ Contains (streams_of tuning.which) bis
+    → of_stream bis (handed_since calls) ≡ []
+others_hand_nothing tuning [] bis is out = refl
+others_hand_nothing tuning (tune other ∷ calls) bis is out = refl
+others_hand_nothing tuning (hear event other subevent octets ∷ calls) bis is out = others_hand_nothing tuning calls bis is out
+others_hand_nothing tuning (tick event ∷ calls) bis is out =
+    of_append bis (handed_since calls) (handed_at calls event)
+    ∙ ap (λ xs. xs ++ of_stream bis (handed_at calls event)) (others_hand_nothing tuning calls bis is out)
+    ∙ ap (λ p. of_stream bis (handed_by event calls p)) is ∙ of_no_tick event calls tuning bis out
+others_hand_nothing tuning (leave ∷ calls) bis is out = refl

@@ -1,0 +1,36 @@
+-- The open event of a stream by the ticks alone.
+use Rattle.std.proofs.Common.{ℕ, ◌≡◌, ◌+◌, Bool, true, false, cond, eqb, leb, List, [], ◌∷◌, Option, Some, None, refl, ap, ◌∙◌, arith}
+use Rattle.isoal_base.specs.Stays as stays
+use Rattle.isoal_base.specs.Stays.{Stay, opened}
+use Rattle.group_sink.specs.Calls.{Tuning, Call, tune, hear, tick, leave}
+use Rattle.group_sink.specs.Streams.{closes, number_of, stay_on, stream_calls, with_hear}
+
+-- a hear opens no event
+pub opened-hear : (stay : Stay) (number : Option ℕ) (octets : List ℕ) (calls : List stays.Call)
+    → opened stay (with_hear number octets calls) ≡ opened stay calls
+opened-hear stay None octets calls = refl
+opened-hear stay (Some number) octets calls = refl
+
+either_same : (stay : Stay) (test : Bool) (number : Option ℕ) (octets : List ℕ) (calls : List stays.Call)
+    → opened stay (cond test (with_hear number octets calls) calls) ≡ opened stay calls
+either_same stay true number octets calls = opened-hear stay number octets calls
+either_same stay false number octets calls = refl
+
+closed_once : (stay : Stay) (first count : ℕ) (calls : List stays.Call) (test : Bool) → opened stay calls ≡ first + count
+    → opened stay (cond test (stays.close ∷ calls) calls) ≡ first + cond test (count + 1) count
+closed_once stay first count calls true is = omega (arith, is)
+closed_once stay first count calls false is = is
+
+pub opened_is : (tuning : Tuning) (calls : List Call) (bis : ℕ)
+    → opened (stay_on tuning bis) (stream_calls (stay_on tuning bis) calls) ≡ tuning.first + closes tuning calls
+opened_is tuning [] bis = omega arith
+opened_is tuning (tune other ∷ calls) bis = omega arith
+opened_is tuning (hear event other subevent octets ∷ calls) bis =
+    either_same (stay_on tuning bis) (eqb other bis) (number_of tuning.info event subevent) octets (stream_calls (stay_on tuning bis) calls)
+    ∙ opened_is tuning calls bis
+opened_is tuning (tick event ∷ calls) bis =
+    let before : opened (stay_on tuning bis) (stream_calls (stay_on tuning bis) calls) ≡ tuning.first + closes tuning calls = opened_is tuning calls bis in
+    closed_once (stay_on tuning bis) tuning.first (closes tuning calls) (stream_calls (stay_on tuning bis) calls)
+    (leb (opened (stay_on tuning bis) (stream_calls (stay_on tuning bis) calls)) event) before
+    ∙ ap (λ n. tuning.first + cond (leb n event) (closes tuning calls + 1) (closes tuning calls)) before
+opened_is tuning (leave ∷ calls) bis = omega arith

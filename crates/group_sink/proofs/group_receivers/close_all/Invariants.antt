@@ -1,0 +1,14 @@
+use Rattle.std.proofs.Common.{◌≡◌, ◌++◌, length, map, take, drop}
+use Rattle.std.specs.List.{flat_map}
+use Rattle.unit_outlets.specs.Handed.{Caused}
+use Rattle.isoal_unframed.specs.State.Windows.{HandsOver}
+use Rattle.group_sink.specs.State.Steps.{owed_by, tick_at}
+use Rattle.group_sink.proofs.group_receivers.close_all.Given as goal
+
+abbrev pub invariant-streams : goal.invariant-streams
+invariant-streams g l = record {
+  places : length l.stream-items ≡ length l.initial.stream-items;
+  step : l.stream-items ≡ map (tick_at l.event) (take l.stream-index l.initial.stream-items) ++ drop l.stream-index l.initial.stream-items;
+  hands : HandsOver (flat_map (owed_by l.event) (take l.stream-index l.initial.stream-items)) (g.T.UnitTaker.calls l.initial.taker) (g.T.UnitTaker.calls l.taker) l.handed;
+  cause : Caused (g.T.UnitTaker.counts l.initial.taker) (g.T.UnitTaker.counts l.taker) l.handed;
+}

@@ -1,0 +1,126 @@
+ghost use Rattle.std.specs.Prelude.{◌≡◌, ◌+◌, ◌≤◌, ◌<◌, ◌^◌, List, [], ◌∷◌, IfOk, OnOk, OnErr};
+ghost use Rattle.unit_outlets.specs.Handed.{Caused};
+ghost use Rattle.isoal_unframed.specs.State.Windows.{HandsOver};
+ghost use Rattle.group_sink.specs.Calls.{Call, Tuning, tune, hear, tick, leave};
+ghost use Rattle.group_sink.specs.Handing.{handed_at};
+ghost use Rattle.group_sink.specs.Hearings.{hearing_of};
+ghost use Rattle.group_sink.specs.State.Sinks.{StandsFor};
+ghost use Rattle.group_sink.specs.State.Steps.{AreFor};
+
+use crate::group_receivers::GroupReceivers;
+use bcast_base::{Bis, BisSet, Memory};
+use big_info::Group;
+use isoal_base::Hearing;
+use std::alloc::Global;
+use std::marker::Model;
+use unit_outlets::{TakerFault, UnitTaker};
+
+/// A sink. It is idle, or on a group.
+#[derive(Drop)]
+pub struct GroupSink {
+    alloc: Global,
+    group: Option<GroupReceivers>,
+}
+
+impl Model for GroupSink {
+    ghost use Rattle.std.specs.Prelude.{Option};
+    ghost use Rattle.group_sink.specs.State.Sinks.{OnGroup};
+
+    ghost Value = { Option OnGroup };
+
+    ghost view = { λ a. a.group };
+}
+
+impl GroupSink {
+    /// A sink that is on no group. It takes no memory.
+    pub fn new(alloc: Global) -> GroupSink
+        ensures { StandsFor [] result }
+    {
+        GroupSink { alloc, group: None }
+    }
+
+    /// The receivers of a group that the sink is to be put on, with this event as the first one, whose anchor is given in µs,
+    /// and this presentation delay in µs.
+    pub fn receivers(
+        &self,
+        group: &Group,
+        which: BisSet,
+        event: u64,
+        anchor: u64,
+        delay: u32,
+    ) -> Result<GroupReceivers, Memory>
+        requires event { event ≤ 2 ^ 39 }
+        requires anchor { anchor ≤ 2 ^ 61 + 2 ^ 23 }
+        requires delay { delay < 2 ^ 24 }
+        ensures { IfOk result (λ receivers. AreFor (record { info = group.now.info; which = which; first = event; anchor = anchor; delay = delay }) receivers) }
+    {
+        GroupReceivers::new(self.alloc, group, which, event, anchor, delay)
+    }
+
+    /// Puts the sink on the group that these receivers are for. It leaves what it was on, and what it held is dropped. It takes
+    /// no memory.
+    pub fn put_on(&mut self, receivers: GroupReceivers)
+        ensures { (tuning : Tuning) (calls : List Call) → AreFor tuning receivers → StandsFor (tune tuning ∷ calls) self.new }
+    {
+        self.group = Some(receivers);
+    }
+
+    /// Takes the sink off the group that it is on, and what it held is dropped. It takes no memory.
+    pub fn leave(&mut self)
+        ensures { (calls : List Call) → StandsFor (leave ∷ calls) self.new }
+    {
+        self.group = None;
+    }
+
+    /// Puts the sink on a group, with this event as the first one, whose anchor is given in µs, and this
+    /// presentation delay in µs. It leaves what it was on, and what it held is dropped.
+    ///
+    /// After want of memory the sink is as before.
+    pub fn tune(
+        &mut self,
+        group: &Group,
+        which: BisSet,
+        event: u64,
+        anchor: u64,
+        delay: u32,
+    ) -> Result<(), Memory>
+        requires event { event ≤ 2 ^ 39 }
+        requires anchor { anchor ≤ 2 ^ 61 + 2 ^ 23 }
+        requires delay { delay < 2 ^ 24 }
+        ensures stands { (calls : List Call) → OnOk result (StandsFor (tune (record { info = group.now.info; which = which; first = event; anchor = anchor; delay = delay }) ∷ calls) self.new) }
+        ensures err { OnErr result (self.new ≡ self.old) }
+    {
+        let receivers = self.receivers(group, which, event, anchor, delay)?;
+        self.put_on(receivers);
+        Ok(())
+    }
+
+    /// Hears a PDU in a subevent, from 0, of an event of a stream (Core 5.2, volume 6 part B, section 4.4.6), and answers
+    /// the first that holds: the sink is on no group; it doesn't take the stream; the subevent carries no payload; else
+    /// what the stream's receiver makes of it. It takes no memory.
+    pub fn hear(&mut self, event: u64, bis: Bis, subevent: u8, pdu: &[u8]) -> Hearing
+        requires { event ≤ 2 ^ 39 }
+        ensures answer { (calls : List Call) → StandsFor calls self.old → result ≡ hearing_of calls event bis subevent pdu.now }
+        ensures stands { (calls : List Call) → StandsFor calls self.old → StandsFor (hear event bis subevent pdu.now ∷ calls) self.new }
+    {
+        let Some(on) = &mut self.group else {
+            return Hearing::NotOnGroup;
+        };
+        on.hear(event, bis, subevent, pdu)
+    }
+
+    /// All events up to this one are over: closes the open event of each stream where it is at most this event, and hands
+    /// its units, the streams by rising index. After a fault of the taker no unit more is handed, and the event is closed
+    /// for each stream. It takes no memory.
+    pub fn tick<T: UnitTaker>(&mut self, event: u64, taker: &mut T) -> Result<(), TakerFault>
+        requires { event < 2 ^ 39 }
+        ensures hands { (calls : List Call) → StandsFor calls self.old → HandsOver (handed_at calls event) (T.calls taker.old) (T.calls taker.new) result }
+        ensures stands { (calls : List Call) → StandsFor calls self.old → StandsFor (tick event ∷ calls) self.new }
+        ensures cause { Caused (T.counts taker.old) (T.counts taker.new) result }
+    {
+        let Some(on) = &mut self.group else {
+            return Ok(());
+        };
+        on.tick(event, taker)
+    }
+}

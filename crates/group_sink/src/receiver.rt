@@ -1,0 +1,80 @@
+//! The receiver of a stream, of either framing.
+ghost use Rattle.std.specs.Prelude.{◌≡◌, ◌+◌, ◌≤◌, ◌<◌, ◌^◌, IfOk};
+ghost use Rattle.unit_outlets.specs.Handed.{Caused};
+ghost use Rattle.isoal_unframed.specs.State.Windows.{HandsOver};
+ghost use Rattle.group_sink.specs.State.Receivers.{answer_by, closed, fresh, hear_by, open_of, owed_of};
+
+use bcast_base::{Bis, Memory};
+use big_info::Group;
+use isoal_base::Heard;
+use isoal_framed::FramedIn;
+use isoal_unframed::UnframedIn;
+use std::alloc::Global;
+use unit_outlets::{TakerFault, UnitTaker};
+
+/// What receives a stream, by the framing of its group.
+#[derive(Drop)]
+pub(crate) enum Receiver {
+    Unframed(UnframedIn),
+    Framed(FramedIn),
+}
+
+impl Receiver {
+    /// A receiver that heard nothing yet.
+    pub(crate) fn new(
+        alloc: Global,
+        group: &Group,
+        bis: Bis,
+        event: u64,
+        anchor: u64,
+        delay: u32,
+    ) -> Result<Receiver, Memory>
+        requires event { event ≤ 2 ^ 39 }
+        requires anchor { anchor ≤ 2 ^ 61 + 2 ^ 23 }
+        requires delay { delay < 2 ^ 24 }
+        ensures { IfOk result (λ receiver. receiver ≡ fresh (record { info = group.now.info; bis = bis; first = event; origin = anchor; delay = delay })) }
+    {
+        if group.info.framing == 0 {
+            let unframed = UnframedIn::new(alloc, group, bis, event, anchor, delay)?;
+            return Ok(Receiver::Unframed(unframed));
+        }
+        let framed = FramedIn::new(alloc, group, bis, event, anchor, delay)?;
+        Ok(Receiver::Framed(framed))
+    }
+
+    /// The open event.
+    pub(crate) fn open_event(&self) -> u64
+        ensures event { result ≡ open_of self.now }
+        ensures bound { result ≤ 2 ^ 39 }
+    {
+        match self {
+            Receiver::Unframed(unframed) => unframed.open_event(),
+            Receiver::Framed(framed) => framed.open_event(),
+        }
+    }
+
+    /// Hears a PDU under its payload number. It takes no memory.
+    pub(crate) fn hear(&mut self, number: u64, pdu: &[u8]) -> Heard
+        ensures answer { result ≡ answer_by number pdu.now self.old }
+        ensures step { self.new ≡ hear_by number pdu.now self.old }
+    {
+        match self {
+            Receiver::Unframed(unframed) => unframed.hear(number, pdu),
+            Receiver::Framed(framed) => framed.hear(number, pdu),
+        }
+    }
+
+    /// Closes the open event, and hands what it decides. It takes no memory.
+    #[tactic(auto, using(crate::proofs::Receivers::hands_alike))]
+    pub(crate) fn close<T: UnitTaker>(&mut self, taker: &mut T) -> Result<(), TakerFault>
+        requires { open_of self.old < 2 ^ 39 }
+        ensures step { self.new ≡ closed self.old }
+        ensures hands { HandsOver (owed_of self.old) (T.calls taker.old) (T.calls taker.new) result }
+        ensures cause { Caused (T.counts taker.old) (T.counts taker.new) result }
+    {
+        match self {
+            Receiver::Unframed(unframed) => unframed.close(taker),
+            Receiver::Framed(framed) => framed.close(taker),
+        }
+    }
+}

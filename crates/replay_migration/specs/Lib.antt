@@ -1,0 +1,3 @@
+pub mod TextRead
+pub mod Ended
+pub mod State
