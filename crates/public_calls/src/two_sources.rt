@@ -8,7 +8,7 @@ use bcast_base::Bis;
 use big_info::{BigInfo, Limits};
 use multi_source::{Field, FieldFault};
 use radio_schedule::AirFault;
-use source_machine::{Identity, Setup};
+use source_machine::{EventFault, Identity, Setup, StaleList};
 use std::alloc::Global;
 
 /// The group of one stream of a unit every 10 ms that has one subevent an event.
@@ -110,18 +110,15 @@ fn both(alloc: Global, info: BigInfo) -> Result<Field, &'static str>
 }
 
 /// Performs the next event of source 0.
-fn performs(field: &mut Field) -> bool
+fn performs(field: &mut Field) -> Result<StaleList, EventFault>
     requires own_air { HasOwnAir (source_of field.old 0) (begun_of field.old 0) }
     requires plain { IsPlain (source_of field.old 0) }
     requires sending { (fixed : Fixed) × (calls : List Call) × Sending fixed calls (source_of field.old 0) (begun_of field.old 0) }
-    ensures sends { result ≡ true → is_some (source_of field.new 0) ≡ true }
-    ensures heard { result ≡ true → is_some (begun_of field.new 0) ≡ true }
+    ensures sends { OnOk result (is_some (source_of field.new 0) ≡ true) }
+    ensures heard { OnOk result (is_some (begun_of field.new 0) ≡ true) }
     ensures other { begun_of field.new 1 ≡ begun_of field.old 1 }
 {
-    match field.event(0) {
-        Ok(_) => true,
-        Err(_) => false,
-    }
+    field.event(0)
 }
 
 #[test]
@@ -130,14 +127,16 @@ fn a_source_that_was_stopped_is_still_heard_beside_the_other(rt: HostRuntime) {
     let (Ok(mut field), Some(one)) = (both(rt.alloc(), INFO), Bis::new(1)) else {
         return assert!(rt; false);
     };
-    assert!(rt; performs(&mut field));
-    field.put(7, 0);
+    let Ok(_) = performs(&mut field) else {
+        return assert!(rt; false);
+    };
     field.stop(0);
-    assert!(rt; field.of(7) == Some(0) && field.of(6).is_none());
     match field.heard_at(0, 0, one, 0) {
         Ok(pdu) => assert!(rt; pdu == [0x01, 0x00].as_slice()),
         Err(_) => assert!(rt; false),
     }
     assert!(rt; field.heard_at(1, 0, one, 0) == Err(AirFault::NotOnAir));
     assert!(rt; field.source(0).is_none());
+    field.put(7, 0);
+    assert!(rt; field.of(7) == Some(0) && field.of(6).is_none());
 }
