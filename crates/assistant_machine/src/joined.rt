@@ -1,4 +1,5 @@
-ghost use Rattle.std.specs.Prelude.{ℕ, ◌≡◌, ◌≢◌, ◌≤◌, ◌<◌, ◌∷◌, [], true, false, length, replicate, drop, slice_get, slice_set, slice_index_or, option_copied, option_to_list, Option, Some, None, List, ◌++◌, Ok, Err, IfOk, IfErr, IfSome, IfNone, OnSome, OnOk, OnErr};
+ghost use Rattle.std.specs.Prelude.{ℕ, ◌≡◌, ◌≢◌, ◌≤◌, ◌<◌, ◌∷◌, [], true, false, length, replicate, drop, slice_get, slice_set, slice_index_or, option_copied};
+ghost use Rattle.std.specs.Prelude.{option_to_list, Option, Some, None, List, ◌++◌, Ok, Err, IfOk, IfErr, IfSome, IfNone, OnSome, OnOk, OnErr};
 ghost use Rattle.bass_operations.specs.Layout.{MetadataFits, spelling, wishes_of};
 ghost use Rattle.receive_state.specs.Reading.{state_of};
 ghost use Rattle.bass_operations.specs.declared.operation.Operation.TheVariants as operations;

@@ -13,7 +13,8 @@ use Rattle.isoal_framed.specs.Sends.{IsTimed, AreOf}
 use Rattle.isoal_framed.specs.Struck.{Sent, octets_in, behind, carried, parts_at}
 use Rattle.isoal_framed.proofs.Stays.{carried_past}
 use Rattle.isoal_framed.proofs.Carried.{carried_before, carried_here}
-use Rattle.isoal_framed.proofs.Sendings.{chain_more, Open, are_more, are_snoc, take_next, octets_snoc, get_same, Sending, at_least, Stable, parts_last, fit_more, and_yes, snoc_before, snoc_here, chain_past, Grown}
+use Rattle.isoal_framed.proofs.Sendings.{chain_more, Open, are_more, are_snoc, take_next, octets_snoc, get_same, Sending, at_least}
+use Rattle.isoal_framed.proofs.Sendings.{Stable, parts_last, fit_more, and_yes, snoc_before, snoc_here, chain_past, Grown}
 
 -- a start
 new_part : (units : List Timed) (anchor : ℕ) (acts : List Act) (count : ℕ) (complete : Bool) (unit : Timed) → slice_get units (done acts) ≡ Some unit → sent acts ≡ 0

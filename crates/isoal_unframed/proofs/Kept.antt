@@ -1,14 +1,13 @@
 -- What a ring keeps, and how it changes.
-use Rattle.std.proofs.Common.{ℕ, zero, suc, ◌≡◌, ◌+◌, ◌-◌, ◌*◌, ◌<◌, ◌≤◌, true, cond, leb, ltb, List, [], ◌∷◌, ◌++◌, length, take, drop, set, replicate, get_or, Option, Some}
-use Rattle.std.proofs.Common.{None, is_some, refl, sym, ap, ◌∙◌, subst, inl, inr, arith}
+use Rattle.std.proofs.Common.{ℕ, zero, suc, ◌≡◌, ◌+◌, ◌-◌, ◌*◌, ◌<◌, ◌≤◌, true, cond, leb, List, [], ◌∷◌, ◌++◌, length, take, drop, set, replicate, get_or, Option, Some}
+use Rattle.std.proofs.Common.{None, is_some, refl, sym, ap, ◌∙◌, subst, arith}
 use Rattle.std.specs.List.{All, copy_within}
-use Rattle.std.proofs.lemmas.List.{take-take, take_at, drop_at, drop-drop, take-append-le, drop-append-le, length-take-le, length-append, drop_more, drop_all, length-drop}
+use Rattle.std.proofs.lemmas.List.{take-take, take_at, drop_at, drop-drop, take-append-le, drop-append-le, length-take-le, length-append, drop_more, length-drop}
 use Rattle.std.proofs.lemmas.List.{drop-take, append_assoc, length-take, length-replicate, get_or-take, get_or-drop}
 use Rattle.std.specs.Option.{IfSome, option_map}
 use Rattle.std.proofs.Math.Nat.{add-mul}
 use Rattle.std.proofs.lemmas.Nat.{mul-le}
 use Rattle.std.proofs.lemmas.Slice.{drop-append-drop}
-use Rattle.std.proofs.lemmas.Bool.{cond-true, cond-false, le-leb, lt-leb, ltb-true, ltb-false, cases_Bool}
 use Rattle.iso_pdu.specs.Layout.{Content, end, fragment}
 use Rattle.isoal_unframed.specs.declared.cell.Cell.{Cell}
 use Rattle.isoal_unframed.specs.declared.cell.Cell.TheVariants.{Empty, Fragment, End}
@@ -120,41 +119,6 @@ gather_more m most len from count part at cells block moved below is_cell same f
     ap (λ xs. unit_after most xs (kept_in m (drop (at + 1) cells) (drop (from + m) moved))) front
     ∙ ap (λ xs. unit_after most (take len block ++ take count (drop from block)) (kept_in m (drop (at + 1) cells) xs)) behind
     ∙ sym (ap (λ xs. unit_after most (take len block) (kept_in m xs (drop from block))) here)
-
--- the end is read
-pub gather_end : (most m len from count part at : ℕ) (cells : List Cell) (block moved : List ℕ)
-    → at < length cells → get_or cells at Empty ≡ End part → count ≡ part
-    → len ≤ from → from + count ≤ length block → moved ≡ copy_within block from (from + count) len
-    → unit_after most (take len block) (kept_in m (drop at cells) (drop from block))
-    ≡ cond (leb (len + count) most) (Some (take (len + count) moved)) None
-gather_end most m len from count part at cells block moved below is_cell same order room copied =
-    let many : from + count - from ≡ count = omega arith in
-    let is_moved : moved ≡ take len block ++ take count (drop from block) ++ drop (len + count) block =
-    copied ∙ ap (λ n. take len block ++ take n (drop from block) ++ drop (len + n) block) many in
-    let front : take (len + count) moved ≡ take len block ++ take count (drop from block) =
-    ap (take (len + count)) is_moved ∙ moved_front block len from count order room in
-    let here : drop at cells ≡ End count ∷ drop (at + 1) cells =
-    drop_more cells at Empty below ∙ ap (λ x. x ∷ drop (at + 1) cells) (is_cell ∙ ap End (sym same)) in
-    let first : length (take len block) ≡ len = length-take-le len block (omega arith) in
-    let rest : length (drop from block) ≡ length block - from = length-drop from block in
-    let piece : length (take count (drop from block)) ≡ count = length-take-le count (drop from block) (omega arith) in
-    let all : length (take len block ++ take count (drop from block)) ≡ len + count =
-    length-append (take len block) (take count (drop from block)) ∙ omega arith in
-    ap (λ xs. unit_after most (take len block) (kept_in m xs (drop from block))) here
-    ∙ ap (λ n. cond (leb n most) (Some (take len block ++ take count (drop from block))) None) all
-    ∙ ap (λ xs. cond (leb (len + count) most) (Some xs) None) (sym front)
-
--- nothing is kept of a number, or no number is left
-pub gather_none : (m most at : ℕ) (front : List ℕ) (cells : List Cell) (block : List ℕ)
-    → at < length cells → get_or cells at Empty ≡ Empty → unit_after most front (kept_in m (drop at cells) block) ≡ None
-gather_none m most at front cells block below is_cell =
-    let here : drop at cells ≡ Empty ∷ drop (at + 1) cells =
-    drop_more cells at Empty below ∙ ap (λ x. x ∷ drop (at + 1) cells) is_cell in
-    ap (λ xs. unit_after most front (kept_in m xs block)) here
-
-pub gather_over : (m most at : ℕ) (front : List ℕ) (cells : List Cell) (block : List ℕ) → length cells ≤ at
-    → unit_after most front (kept_in m (drop at cells) block) ≡ None
-gather_over m most at front cells block past = ap (λ xs. unit_after most front (kept_in m xs block)) (drop_all at cells past)
 
 -- the entry at a place
 pub get-kept : (m at : ℕ) (cells : List Cell) (block : List ℕ) → at < length cells
@@ -292,42 +256,6 @@ held_is m room (Fragment count ∷ cells) block all long =
     let rest : length (drop m block) ≡ length block - m = length-drop m block in
     ap (λ n. cond (leb count room) (count + n) 0) (held_is m (room - count) cells (drop m block) (all_more m (Fragment count) cells all) (omega arith))
     ∙ ap (λ n. cond (leb n room) (n + held_in (room - n) (kept_in m cells (drop m block))) 0) (sym here)
-
--- one cell more is held, or none
-pub held_more : (most sum count at : ℕ) (cells : List Cell) → at < length cells → get_or cells at Empty ≡ Fragment count
-    → sum ≤ most → count ≤ most - sum
-    → sum + held_cells (most - sum) (drop at cells) ≡ sum + count + held_cells (most - (sum + count)) (drop (at + 1) cells)
-held_more most sum count at cells below is order fits =
-    let left : most - sum - count ≡ most - (sum + count) = omega arith in
-    ap (λ xs. sum + held_cells (most - sum) xs) (drop_more cells at Empty below ∙ ap (λ x. x ∷ drop (at + 1) cells) is)
-    ∙ ap (λ n. sum + n) (cond-true (leb count (most - sum)) (count + held_cells (most - sum - count) (drop (at + 1) cells)) 0 (le-leb count (most - sum) fits))
-    ∙ ap (λ n. sum + (count + held_cells n (drop (at + 1) cells))) left
-    ∙ omega arith
-
-pub held_stops : (most sum count at : ℕ) (cells : List Cell) → at < length cells → get_or cells at Empty ≡ Fragment count
-    → most - sum < count → sum + held_cells (most - sum) (drop at cells) ≡ sum
-held_stops most sum count at cells below is past =
-    ap (λ xs. sum + held_cells (most - sum) xs) (drop_more cells at Empty below ∙ ap (λ x. x ∷ drop (at + 1) cells) is)
-    ∙ ap (λ n. sum + n) (cond-false (leb count (most - sum)) (count + held_cells (most - sum - count) (drop (at + 1) cells)) 0 (lt-leb count (most - sum) past))
-    ∙ omega arith
-
-pub held_empty : (most sum at : ℕ) (cells : List Cell) → at < length cells → get_or cells at Empty ≡ Empty
-    → sum + held_cells (most - sum) (drop at cells) ≡ sum
-held_empty most sum at cells below is =
-    ap (λ xs. sum + held_cells (most - sum) xs) (drop_more cells at Empty below ∙ ap (λ x. x ∷ drop (at + 1) cells) is) ∙ omega arith
-
-pub held_ends : (most sum count at : ℕ) (cells : List Cell) → at < length cells → get_or cells at Empty ≡ End count
-    → sum + held_cells (most - sum) (drop at cells) ≡ cond (ltb (most - sum) count) sum (sum + count)
-held_ends most sum count at cells below is =
-    ap (λ xs. sum + held_cells (most - sum) xs) (drop_more cells at Empty below ∙ ap (λ x. x ∷ drop (at + 1) cells) is)
-    ∙ elim (cases_Bool (ltb (most - sum) count)) [
-      | inl low ↦
-          ap (λ n. sum + n) (cond-false (leb count (most - sum)) count 0 (lt-leb count (most - sum) (ltb-true (most - sum) count low)))
-          ∙ omega arith ∙ sym (cond-true (ltb (most - sum) count) sum (sum + count) low)
-      | inr high ↦
-          ap (λ n. sum + n) (cond-true (leb count (most - sum)) count 0 (le-leb count (most - sum) (ltb-false (most - sum) count high)))
-          ∙ sym (cond-false (ltb (most - sum) count) sum (sum + count) high)
-    ]
 
 pub full_entry : (cell : Cell) (block : List ℕ) → (cell ≡ Empty → ⊥) → is_some (entry_in cell block) ≡ true
 full_entry Empty block full = absurd (full refl)

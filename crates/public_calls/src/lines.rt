@@ -1,4 +1,5 @@
-use scenario_text::{LineFault, Step, read_line, read_line_in};
+use scenario_reading::{LineFault, read_line, read_line_in};
+use scenario_text::Step;
 use std::alloc::Global;
 
 fn has_fault(alloc: Global, line: &[u8], word: u64) -> bool {

@@ -4,9 +4,9 @@ ghost use Rattle.unit_outlets.specs.Account.{Account};
 
 use crate::version::Stage;
 use bcast_base::{Memory, Octets};
+use scenario_reading::{LineFault, read_line_in};
 use scenario_sinks::Sinks;
 use scenario_sources::Sources;
-use scenario_text::{LineFault, read_line_in};
 use std::alloc::Global;
 use transcript_text::{Refusal, Stop};
 use unit_outlets::Outlet;

@@ -16,16 +16,7 @@ use Rattle.scenario_text.specs.Table.{Build, Row, row_of}
 use Rattle.scenario_text.specs.Steps.{built_at, at_known, whole, line_after, step_of, read_of}
 use Rattle.scenario_text.specs.Misfits.{FitsLine, IsMisfit}
 use Rattle.scenario_text.proofs.Rows.{all_small, none_more, takes_all_last, is_word, and_parts, of_table}
-use Rattle.scenario_text.proofs.Steps.{says_so, blank_is_none}
-
-abbrev left_of : List (List ℕ) → ℕ → Left
-left_of words read = record { words = words; read = read }
-
-abbrev done : {A : Type 0} → A → Result A LineFault
-done x = Ok x
-
-ok_is : {A : Type 0} (x y : A) → done x ≡ done y → x ≡ y
-ok_is x y e = cc
+use Rattle.scenario_text.proofs.Steps.{left_of, done, ok_is, some_is, says_so, blank_is_none}
 
 abbrev perhaps_bad : ℕ → Result (Option ℕ × Left) LineFault
 perhaps_bad k = Err (BadLine k)
@@ -162,9 +153,6 @@ from_pairs most words read k it = (
     no_more = λ inside fits. it.2.no_more inside (as_pairs most (take (suc it.0) words) fits);
   },
 )
-
-some_is : {A : Type 0} (x y : A) → Some x ≡ Some y → x ≡ y
-some_is x y e = cc
 
 abbrev streams_on : List (List ℕ) → ℕ × Left → Result (ℕ × Left) LineFault
 streams_on words n = streams_of (with_stream 0 n.0) (n.0 + 1) n.1.read n.1.words

@@ -1,11 +1,13 @@
 -- What holds of each row of the table, whatever its step: its first word begins no comment, its numbers fit 64 bits, and a
 -- place that takes all words that are left is its last.
-use Rattle.std.proofs.Common.{◌≡◌, ℕ, Bool, true, false, cond, nat_eq, nat_lt, ◌^◌, ◌&&◌, ◌||◌, not, List, [], ◌∷◌, Option, None, Some, refl}
+use Rattle.std.proofs.Common.{◌≡◌, ℕ, Bool, true, false, cond, nat_eq, nat_lt, ◌^◌, ◌&&◌, ◌||◌, not, List, [], ◌∷◌, Option, None, Some, refl, subst}
+use Rattle.std.specs.Prelude.{⊤}
 use Rattle.std.specs.Str.{bytes_eq}
 use Rattle.std.proofs.lemmas.Slice.Eq.{bytes_eq-Decides}
 use Rattle.scenario_words.specs.Places.{Place, one, perhaps, rising, wishes}
 use Rattle.scenario_words.proofs.Citable.{is_small}
-use Rattle.scenario_text.specs.Table.{Row, row_in, first_rows, source_rows, sink_rows, rows_of_2, row_of_2, sink_row_of, source_row_of, row_of}
+use Rattle.scenario_text.specs.Table.{Row, row_in, event_rows, first_rows, source_rows, sink_rows, link_rows, rows_of_2, link_rows_of_2}
+use Rattle.scenario_text.specs.Table.{row_of, first_row_of, source_row_of, sink_row_of, link_row_of, row_of_2, link_row_of_2}
 
 abbrev pub all_small : List Place → Bool
 all_small [] = true
@@ -44,23 +46,84 @@ pub and_parts : (a b : Bool) → (a && b) ≡ true → (a ≡ true) × (b ≡ tr
 and_parts true b e = (refl, e)
 and_parts false b e = absurd cc
 
-chosen : (b : Bool) (first : List ℕ) (this : Row) (other : Option Row) (row : Row) → (b ≡ true → first ≡ this.first) → is_fine this ≡ true → (other ≡ Some row → Fine first row)
-    → cond b (Some this) other ≡ Some row → Fine first row
-chosen true first this other row same fine others e = let is : this ≡ row = cc in rw (← is) (record { same = same refl; fine = fine })
-chosen false first this other row same fine others e = others e
+-- ---- what holds of each row holds of the one with a first word
 
-in_rows : (first : List ℕ) (rows : List Row) (other : Option Row) (row : Row) → all_fine rows ≡ true → (other ≡ Some row → Fine first row) → row_in first rows other ≡ Some row → Fine first row
-in_rows first [] other row fine others e = others e
-in_rows first (this ∷ rows) other row fine others e =
-    let parts = and_parts (is_fine this) (all_fine rows) fine in
-    chosen (bytes_eq first this.first) first this (row_in first rows other) row (bytes_eq-Decides first this.first).0 parts.0 (in_rows first rows other row parts.1 others) e
+abbrev pub Each : (Row → Type 0) → List Row → Type 0
+Each P [] = ⊤
+Each P (row ∷ rows) = P row × Each P rows
+
+pub record EachRow (P : Row → Type 0) (version : ℕ) : Type 0 where
+  pub of_events : Each P event_rows
+  pub first : Each P (first_rows version)
+  pub of_sources : Each P source_rows
+  pub of_sinks : Each P sink_rows
+  pub of_links : Each P link_rows
+  pub later : Each P rows_of_2
+  pub of_later_links : Each P link_rows_of_2
+
+chosen : (P : Row → Type 0) (b : Bool) (this : Row) (other : Option Row) (row : Row) → P this → (other ≡ Some row → P row) → cond b (Some this) other ≡ Some row → P row
+chosen P true this other row holds others e = let is : this ≡ row = cc in subst P is holds
+chosen P false this other row holds others e = others e
+
+in_rows : (P : Row → Type 0) (first : List ℕ) (rows : List Row) (other : Option Row) (row : Row) → Each P rows → (other ≡ Some row → P row)
+    → row_in first rows other ≡ Some row → P row
+in_rows P first [] other row each others e = others e
+in_rows P first (this ∷ rows) other row each others e =
+    chosen P (bytes_eq first this.first) this (row_in first rows other) row each.0 (in_rows P first rows other row each.1 others) e
 
 none_is : {P : Type 0} (row : Row) → None ≡ Some row → P
 none_is row e = absurd cc
 
-rows_2 : (b : Bool) (first : List ℕ) (row : Row) → cond b (row_in first rows_of_2 None) None ≡ Some row → Fine first row
-rows_2 true first row e = in_rows first rows_of_2 None row refl (none_is row) e
-rows_2 false first row e = absurd cc
+in_rows_of_2 : (P : Row → Type 0) (b : Bool) (first : List ℕ) (row : Row) → Each P rows_of_2 → Each P link_rows_of_2
+    → cond b (row_in first rows_of_2 (link_row_of_2 first)) None ≡ Some row → P row
+unfolding link_row_of_2
+in_rows_of_2 P true first row later links e =
+    in_rows P first rows_of_2 (link_row_of_2 first) row later (in_rows P first link_rows_of_2 None row links (none_is row)) e
+in_rows_of_2 P false first row later links e = absurd cc
+
+pub of_each_row : (P : Row → Type 0) (version : ℕ) (first : List ℕ) (row : Row) → EachRow P version → row_of version first ≡ Some row → P row
+unfolding row_of first_row_of source_row_of sink_row_of link_row_of row_of_2
+of_each_row P version first row each e =
+    in_rows P first event_rows (first_row_of version first) row each.of_events
+    (in_rows P first (first_rows version) (source_row_of version first) row each.first
+    (in_rows P first source_rows (sink_row_of version first) row each.of_sources
+    (in_rows P first sink_rows (link_row_of version first) row each.of_sinks
+    (in_rows P first link_rows (row_of_2 version first) row each.of_links
+    (in_rows_of_2 P (nat_eq version 2) first row each.later each.of_later_links))))) e
+
+-- ---- its first word is the one that was looked for
+
+is_first : (b : Bool) (first : List ℕ) (this : Row) (other : Option Row) (row : Row) → (b ≡ true → first ≡ this.first) → (other ≡ Some row → first ≡ row.first)
+    → cond b (Some this) other ≡ Some row → first ≡ row.first
+is_first true first this other row same others e = let is : this ≡ row = cc in rw (← is) (same refl)
+is_first false first this other row same others e = others e
+
+firsts_in : (first : List ℕ) (rows : List Row) (other : Option Row) (row : Row) → (other ≡ Some row → first ≡ row.first) → row_in first rows other ≡ Some row → first ≡ row.first
+firsts_in first [] other row others e = others e
+firsts_in first (this ∷ rows) other row others e =
+    is_first (bytes_eq first this.first) first this (row_in first rows other) row (bytes_eq-Decides first this.first).0 (firsts_in first rows other row others) e
+
+firsts_of_2 : (b : Bool) (first : List ℕ) (row : Row) → cond b (row_in first rows_of_2 (link_row_of_2 first)) None ≡ Some row → first ≡ row.first
+unfolding link_row_of_2
+firsts_of_2 true first row e = firsts_in first rows_of_2 (link_row_of_2 first) row (firsts_in first link_rows_of_2 None row (none_is row)) e
+firsts_of_2 false first row e = absurd cc
+
+same_first : (version : ℕ) (first : List ℕ) (row : Row) → row_of version first ≡ Some row → first ≡ row.first
+unfolding row_of first_row_of source_row_of sink_row_of link_row_of row_of_2
+same_first version first row e =
+    firsts_in first event_rows (first_row_of version first) row
+    (firsts_in first (first_rows version) (source_row_of version first) row
+    (firsts_in first source_rows (sink_row_of version first) row
+    (firsts_in first sink_rows (link_row_of version first) row (firsts_in first link_rows (row_of_2 version first) row (firsts_of_2 (nat_eq version 2) first row))))) e
+
+-- ---- each row is fine
+
+abbrev IsFine : Row → Type 0
+IsFine row = is_fine row ≡ true
+
+each_fine : (rows : List Row) → all_fine rows ≡ true → Each IsFine rows
+each_fine [] fine = tt
+each_fine (row ∷ rows) fine = let parts = and_parts (is_fine row) (all_fine rows) fine in (parts.0, each_fine rows parts.1)
 
 most_slots_small : (b : Bool) → nat_lt (cond b 8 4) (2 ^ 64) ≡ true
 most_slots_small true = refl
@@ -69,8 +132,17 @@ most_slots_small false = refl
 first_fine : (version : ℕ) → all_fine (first_rows version) ≡ true
 first_fine version = rw (most_slots_small (nat_eq version 2)) refl
 
+all_rows_fine : (version : ℕ) → EachRow IsFine version
+all_rows_fine version = record {
+  of_events = each_fine event_rows refl;
+  first = each_fine (first_rows version) (first_fine version);
+  of_sources = each_fine source_rows refl;
+  of_sinks = each_fine sink_rows refl;
+  of_links = each_fine link_rows refl;
+  later = each_fine rows_of_2 refl;
+  of_later_links = each_fine link_rows_of_2 refl;
+}
+
 pub of_table : (version : ℕ) (first : List ℕ) (row : Row) → row_of version first ≡ Some row → Fine first row
-unfolding row_of source_row_of sink_row_of row_of_2
 of_table version first row e =
-    in_rows first (first_rows version) (source_row_of version first) row (first_fine version)
-    (in_rows first source_rows (sink_row_of version first) row refl (in_rows first sink_rows (row_of_2 version first) row refl (rows_2 (nat_eq version 2) first row))) e
+    record { same = same_first version first row e; fine = of_each_row IsFine version first row (all_rows_fine version) e }

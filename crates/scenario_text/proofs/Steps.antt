@@ -14,16 +14,16 @@ use Rattle.scenario_text.specs.Steps.{built_at, at_known, whole, line_after, ste
 use Rattle.scenario_text.proofs.Rows.{all_small, takes_all, none_more, takes_all_last, is_word, and_parts, of_table}
 use Rattle.scenario_text.proofs.Within.{row_within, says_within}
 
-abbrev left_of : List (List ℕ) → ℕ → Left
+abbrev pub left_of : List (List ℕ) → ℕ → Left
 left_of words read = record { words = words; read = read }
 
-abbrev done : {A : Type 0} → A → Result A LineFault
+abbrev pub done : {A : Type 0} → A → Result A LineFault
 done x = Ok x
 
-ok_is : {A : Type 0} (x y : A) → done x ≡ done y → x ≡ y
+pub ok_is : {A : Type 0} (x y : A) → done x ≡ done y → x ≡ y
 ok_is x y e = cc
 
-some_is : {A : Type 0} (x y : A) → Some x ≡ Some y → x ≡ y
+pub some_is : {A : Type 0} (x y : A) → Some x ≡ Some y → x ≡ y
 some_is x y e = cc
 
 -- ---- the words at the places of a row

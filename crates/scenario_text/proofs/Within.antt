@@ -1,7 +1,6 @@
 -- The values at the places of a row are within their ranges, and so are the numbers of its step.
-use Rattle.std.proofs.Common.{◌≡◌, ◌≤◌, ℕ, Bool, true, false, cond, nat_eq, List, [], ◌∷◌, length, Option, None, Some, subst, arith, inl, inr}
+use Rattle.std.proofs.Common.{◌≡◌, ◌≤◌, ℕ, List, [], ◌∷◌, length, None, Some, subst, arith, inl, inr}
 use Rattle.std.specs.Prelude.{⊤}
-use Rattle.std.specs.Str.{bytes_eq}
 use Rattle.scenario_words.specs.Places.{WordPlace, between, framing_word, time_up_to, octets_up_to, octets_exactly, number_in_octets, list_up_to, Place, one}
 use Rattle.scenario_words.specs.Places.{perhaps, rising, wishes, WordValue, PlaceValue}
 use Rattle.scenario_words.specs.Spelling.{SpellsOctets, Spells, SpellsWord}
@@ -9,8 +8,9 @@ use Rattle.ltv_codec.specs.Reading.{bad_of}
 use Rattle.scenario_text.specs.declared.step.Step.{Step}
 use Rattle.scenario_text.specs.Ranges.{IsInRange}
 use Rattle.scenario_text.specs.Table as rows
-use Rattle.scenario_text.specs.Table.{Build, Row, row_in, first_rows, source_rows, sink_rows, rows_of_2, row_of_2, sink_row_of, source_row_of, row_of}
+use Rattle.scenario_text.specs.Table.{Build, Row, row_of}
 use Rattle.scenario_text.specs.Lines.{Says}
+use Rattle.scenario_text.proofs.Rows.{EachRow, of_each_row}
 
 abbrev pub InWord : (place : WordPlace) → WordValue place → Type 0
 InWord (between least greatest) n = (least ≤ n) × (n ≤ greatest)
@@ -228,84 +228,16 @@ source_within v0 h0 = h0.1
 relay_within : RowWithin rows.relay_row
 relay_within v0 h0 v1 h1 v2 h2 = h0.1
 
-abbrev AllWithin : List Row → Type 0
-AllWithin [] = ⊤
-AllWithin (row ∷ rows) = RowWithin row × AllWithin rows
-
-first_within : (version : ℕ) → AllWithin (first_rows version)
-first_within version = (
-  unit_within,
-  (
-    event_within,
-    (
-      hear_within,
-      (
-        tuned_within,
-        (
-          scenario_within,
-          (
-            group_within,
-            (
-              start_within,
-              (sink_within version, (air_within, (inject_within, (sniff_within, (drop_within, (stop_within, (end_within, tt))))))),
-            ),
-          ),
-        ),
-      ),
-    ),
-  ),
-)
-
-sources_within : AllWithin source_rows
-sources_within = (ident_within, (subgroup_within, (meta_within, (bis_within, (cipher_within, (announce_within, (train_within, (terminate_within, tt))))))))
-
-sinks_within : AllWithin sink_rows
-sinks_within = (
-  pac_within,
-  (
-    locate_within,
-    (
-      context_within,
-      (
-        write_within,
-        (
-          add_within,
-          (
-            modify_within,
-            (
-              remove_within,
-              (
-                code_within,
-                (serve_within, (tell_within, (read_within, (drain_within, (show_within, (lose_within, (control_within, (forge_within, tt)))))))),
-              ),
-            ),
-          ),
-        ),
-      ),
-    ),
-  ),
-)
-
-later_within : AllWithin rows_of_2
-later_within = (assist_within, (apart_within, (awrite_within, (aserve_within, (atell_within, (aread_within, (adrain_within, (ashow_within, (source_within, (relay_within, tt))))))))))
-
-chosen : (b : Bool) (this : Row) (other : Option Row) (row : Row) → RowWithin this → (other ≡ Some row → RowWithin row) → cond b (Some this) other ≡ Some row → RowWithin row
-chosen true this other row within others e = let is : this ≡ row = cc in subst RowWithin is within
-chosen false this other row within others e = others e
-
-in_rows : (first : List ℕ) (rows : List Row) (other : Option Row) (row : Row) → AllWithin rows → (other ≡ Some row → RowWithin row) → row_in first rows other ≡ Some row → RowWithin row
-in_rows first [] other row within others e = others e
-in_rows first (this ∷ rows) other row within others e = chosen (bytes_eq first this.first) this (row_in first rows other) row within.0 (in_rows first rows other row within.1 others) e
-
-none_is : {P : Type 0} (row : Row) → None ≡ Some row → P
-none_is row e = absurd cc
-
-rows_2 : (b : Bool) (first : List ℕ) (row : Row) → cond b (row_in first rows_of_2 None) None ≡ Some row → RowWithin row
-rows_2 true first row e = in_rows first rows_of_2 None row later_within (none_is row) e
-rows_2 false first row e = absurd cc
+all_within : (version : ℕ) → EachRow RowWithin version
+all_within version = record {
+  of_events = (unit_within, (event_within, (hear_within, (air_within, (inject_within, (sniff_within, tt))))));
+  first = (scenario_within, (group_within, (start_within, (sink_within version, (tuned_within, (drop_within, (stop_within, (end_within, tt))))))));
+  of_sources = (ident_within, (subgroup_within, (meta_within, (bis_within, (cipher_within, (announce_within, (train_within, (terminate_within, tt))))))));
+  of_sinks = (pac_within, (locate_within, (context_within, (write_within, (add_within, (modify_within, (remove_within, (code_within, tt))))))));
+  of_links = (serve_within, (tell_within, (read_within, (drain_within, (show_within, (lose_within, (control_within, (forge_within, tt))))))));
+  later = (assist_within, (apart_within, (awrite_within, (source_within, (relay_within, tt)))));
+  of_later_links = (aserve_within, (atell_within, (aread_within, (adrain_within, (ashow_within, tt)))));
+}
 
 pub row_within : (version : ℕ) (first : List ℕ) (row : Row) → row_of version first ≡ Some row → Within row.places row.build
-unfolding row_of source_row_of sink_row_of row_of_2
-row_within version first row e =
-    in_rows first (first_rows version) (source_row_of version first) row (first_within version)
-    (in_rows first source_rows (sink_row_of version first) row sources_within (in_rows first sink_rows (row_of_2 version first) row sinks_within (rows_2 (nat_eq version 2) first row))) e
+row_within version first row e = of_each_row RowWithin version first row (all_within version) e

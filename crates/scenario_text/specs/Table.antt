@@ -129,9 +129,12 @@ stop_row = record { first = codes "stop"; places = []; build = Stop }
 abbrev pub end_row : Row
 end_row = record { first = codes "end"; places = []; build = End }
 
+abbrev pub event_rows : List Row
+event_rows = unit_row ∷ event_row ∷ hear_row ∷ air_row ∷ inject_row ∷ sniff_row ∷ []
+
 abbrev pub first_rows : ℕ → List Row
 first_rows version =
-    unit_row ∷ event_row ∷ hear_row ∷ tuned_row ∷ scenario_row ∷ group_row ∷ start_row ∷ sink_row version ∷ air_row ∷ inject_row ∷ sniff_row ∷ drop_row ∷ stop_row ∷ end_row ∷ []
+    scenario_row ∷ group_row ∷ start_row ∷ sink_row version ∷ tuned_row ∷ drop_row ∷ stop_row ∷ end_row ∷ []
 
 -- ---- the lines of a source
 
@@ -243,9 +246,10 @@ abbrev pub forge_row : Row
 forge_row = record { first = codes "forge"; places = sink ∷ octet ∷ octets 1024 ∷ []; build = λ n slot value. Forge n slot value }
 
 abbrev pub sink_rows : List Row
-sink_rows =
-    pac_row ∷ locate_row ∷ context_row ∷ write_row ∷ add_row ∷ modify_row ∷ remove_row ∷ code_row ∷ serve_row ∷ tell_row ∷ read_row ∷ drain_row ∷ show_row ∷ lose_row ∷ control_row
-    ∷ forge_row ∷ []
+sink_rows = pac_row ∷ locate_row ∷ context_row ∷ write_row ∷ add_row ∷ modify_row ∷ remove_row ∷ code_row ∷ []
+
+abbrev pub link_rows : List Row
+link_rows = serve_row ∷ tell_row ∷ read_row ∷ drain_row ∷ show_row ∷ lose_row ∷ control_row ∷ forge_row ∷ []
 
 -- ---- the lines of version 2 alone
 
@@ -280,8 +284,10 @@ abbrev pub relay_row : Row
 relay_row = record { first = codes "relay"; places = sink ∷ stream ∷ stream ∷ []; build = λ n bis to. Relay n bis to }
 
 abbrev pub rows_of_2 : List Row
-rows_of_2 =
-    assist_row ∷ apart_row ∷ awrite_row ∷ aserve_row ∷ atell_row ∷ aread_row ∷ adrain_row ∷ ashow_row ∷ source_row ∷ relay_row ∷ []
+rows_of_2 = assist_row ∷ apart_row ∷ awrite_row ∷ source_row ∷ relay_row ∷ []
+
+abbrev pub link_rows_of_2 : List Row
+link_rows_of_2 = aserve_row ∷ atell_row ∷ aread_row ∷ adrain_row ∷ ashow_row ∷ []
 
 -- ---- the row with this first word
 
@@ -289,14 +295,23 @@ abbrev pub row_in : List ℕ → List Row → Option Row → Option Row
 row_in first [] other = other
 row_in first (row ∷ rows) other = if bytes_eq first row.first then Some row else row_in first rows other
 
+unfoldable pub link_row_of_2 : List ℕ → Option Row
+link_row_of_2 first = row_in first link_rows_of_2 None
+
 unfoldable pub row_of_2 : ℕ → List ℕ → Option Row
-row_of_2 version first = if version == 2 then row_in first rows_of_2 None else None
+row_of_2 version first = if version == 2 then row_in first rows_of_2 (link_row_of_2 first) else None
+
+unfoldable pub link_row_of : ℕ → List ℕ → Option Row
+link_row_of version first = row_in first link_rows (row_of_2 version first)
 
 unfoldable pub sink_row_of : ℕ → List ℕ → Option Row
-sink_row_of version first = row_in first sink_rows (row_of_2 version first)
+sink_row_of version first = row_in first sink_rows (link_row_of version first)
 
 unfoldable pub source_row_of : ℕ → List ℕ → Option Row
 source_row_of version first = row_in first source_rows (sink_row_of version first)
 
+unfoldable pub first_row_of : ℕ → List ℕ → Option Row
+first_row_of version first = row_in first (first_rows version) (source_row_of version first)
+
 unfoldable pub row_of : ℕ → List ℕ → Option Row
-row_of version first = row_in first (first_rows version) (source_row_of version first)
+row_of version first = row_in first event_rows (first_row_of version first)

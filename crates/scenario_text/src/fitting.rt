@@ -3,7 +3,7 @@ ghost use Rattle.std.specs.Prelude.{◌↔◌, IsTrue};
 ghost use Rattle.scenario_text.specs.declared.step.Step.TheVariants.{Add, Modify};
 ghost use Rattle.scenario_text.specs.Written.{Fits};
 
-use crate::sink_lines::{BEFORE_ADD, BEFORE_MODIFY, MOST_OF_OPERATION};
+use crate::limits::{BEFORE_ADD, BEFORE_MODIFY, MOST_OF_OPERATION};
 use crate::step::Step;
 use bass_operations::{AddSource, ModifySource};
 use scenario_values::{Value, all_have_words};

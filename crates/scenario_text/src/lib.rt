@@ -1,17 +1,12 @@
-//! The lines of a scenario: what each line says, and the first word that doesn't fit its place.
+//! The lines of a scenario: their table, what each line says, and which steps have a line.
 #![tactic(auto)]
 
-mod first_lines;
 mod fitting;
-mod later_lines;
 mod laws;
-mod line;
-mod sink_lines;
-mod source_lines;
+mod limits;
 mod step;
 
 pub use laws::{a_line_says_one_step, an_operation_has_so_many_octets};
-pub use line::{read_line, read_line_in};
+pub use limits::{BEFORE_ADD, BEFORE_MODIFY, MOST_OF_OPERATION};
 pub use scenario_migration::migrate;
-pub use scenario_words::LineFault;
 pub use step::Step;

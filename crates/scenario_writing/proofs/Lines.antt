@@ -1,15 +1,14 @@
 -- The line that is written for a step is a line of the table, and each line of the table has values that have words.
-use Rattle.std.proofs.Common.{◌≡◌, ℕ, Bool, true, false, cond, ◌||◌, not, List, [], ◌∷◌, Option, None, Some, refl, subst}
-use Rattle.std.specs.Prelude.{bytes_eq, ⊤}
+use Rattle.std.proofs.Common.{◌≡◌, ℕ, true, ◌||◌, not, List, [], ◌∷◌, Some, refl}
 use Rattle.scenario_words.specs.Places.{Place, one, perhaps, rising, wishes}
 use Rattle.scenario_values.specs.Lines.{Values, AllHaveWords, all_words}
 use Rattle.scenario_values.proofs.Citable.{EndsAt, words_fit, words_spelled, words_unspaced, NoSpaces, more_unspaced}
 use Rattle.scenario_text.specs.declared.step.Step.{Step}
 use Rattle.scenario_text.specs.Table as rows
-use Rattle.scenario_text.specs.Table.{Build, Row, row_in, row_of, row_of_2, sink_row_of, source_row_of, first_rows, source_rows, sink_rows, rows_of_2}
+use Rattle.scenario_text.specs.Table.{Build, Row, row_of}
 use Rattle.scenario_text.specs.Lines.{Says}
 use Rattle.scenario_text.specs.Written.{Fits}
-use Rattle.scenario_text.proofs.Citable.{all_small, and_parts, none_more, takes_all, takes_all_last}
+use Rattle.scenario_text.proofs.Citable.{EachRow, all_small, and_parts, none_more, of_each_row, takes_all, takes_all_last}
 
 -- the step that values at places make
 abbrev pub made : (places : List Place) → Build places → Values places → Step
@@ -61,10 +60,6 @@ said (place ∷ places) build made_of words h =
 -- the values of a row that have words make steps that fit
 abbrev pub RowFits : Row → Type 0
 RowFits row = (values : Values row.places) → AllHaveWords row.places values → Fits (made row.places row.build values)
-
-abbrev pub AllFit : List Row → Type 0
-AllFit [] = ⊤
-AllFit (row ∷ rows) = RowFits row × AllFit rows
 
 unit_fits : RowFits rows.unit_row
 unit_fits values h = h
@@ -210,37 +205,16 @@ source_fits values h = h
 relay_fits : RowFits rows.relay_row
 relay_fits values h = h
 
-first_fit : AllFit (first_rows 2)
-first_fit =
-    let rest : AllFit (rows.air_row ∷ rows.inject_row ∷ rows.sniff_row ∷ rows.drop_row ∷ rows.stop_row ∷ rows.end_row ∷ []) =
-    (air_fits, (inject_fits, (sniff_fits, (drop_fits, (stop_fits, (end_fits, tt)))))) in
-    (unit_fits, (event_fits, (hear_fits, (tuned_fits, (scenario_fits, (group_fits, (start_fits, (sink_fits, rest))))))))
-
-sources_fit : AllFit source_rows
-sources_fit = (ident_fits, (subgroup_fits, (meta_fits, (bis_fits, (cipher_fits, (announce_fits, (train_fits, (terminate_fits, tt))))))))
-
-sinks_fit : AllFit sink_rows
-sinks_fit =
-    let rest : AllFit (rows.serve_row ∷ rows.tell_row ∷ rows.read_row ∷ rows.drain_row ∷ rows.show_row ∷ rows.lose_row ∷ rows.control_row ∷ rows.forge_row ∷ []) =
-    (serve_fits, (tell_fits, (read_fits, (drain_fits, (show_fits, (lose_fits, (control_fits, (forge_fits, tt)))))))) in
-    (pac_fits, (locate_fits, (context_fits, (write_fits, (add_fits, (modify_fits, (remove_fits, (code_fits, rest))))))))
-
-later_fit : AllFit rows_of_2
-later_fit = (assist_fits, (apart_fits, (awrite_fits, (aserve_fits, (atell_fits, (aread_fits, (adrain_fits, (ashow_fits, (source_fits, (relay_fits, tt))))))))))
-
-chosen : (b : Bool) (this : Row) (other : Option Row) (row : Row) → RowFits this → (other ≡ Some row → RowFits row) → cond b (Some this) other ≡ Some row → RowFits row
-chosen true this other row fits others e = let is : this ≡ row = cc in subst RowFits is fits
-chosen false this other row fits others e = others e
-
-in_rows : (first : List ℕ) (all : List Row) (other : Option Row) (row : Row) → AllFit all → (other ≡ Some row → RowFits row) → row_in first all other ≡ Some row → RowFits row
-in_rows first [] other row fit others e = others e
-in_rows first (this ∷ all) other row fit others e = chosen (bytes_eq first this.first) this (row_in first all other) row fit.0 (in_rows first all other row fit.1 others) e
-
-none_is : {P : Type 0} (row : Row) → None ≡ Some row → P
-none_is row e = absurd cc
+all_fit : EachRow RowFits 2
+all_fit = record {
+  of_events = (unit_fits, (event_fits, (hear_fits, (air_fits, (inject_fits, (sniff_fits, tt))))));
+  first = (scenario_fits, (group_fits, (start_fits, (sink_fits, (tuned_fits, (drop_fits, (stop_fits, (end_fits, tt))))))));
+  of_sources = (ident_fits, (subgroup_fits, (meta_fits, (bis_fits, (cipher_fits, (announce_fits, (train_fits, (terminate_fits, tt))))))));
+  of_sinks = (pac_fits, (locate_fits, (context_fits, (write_fits, (add_fits, (modify_fits, (remove_fits, (code_fits, tt))))))));
+  of_links = (serve_fits, (tell_fits, (read_fits, (drain_fits, (show_fits, (lose_fits, (control_fits, (forge_fits, tt))))))));
+  later = (assist_fits, (apart_fits, (awrite_fits, (source_fits, (relay_fits, tt)))));
+  of_later_links = (aserve_fits, (atell_fits, (aread_fits, (adrain_fits, (ashow_fits, tt)))));
+}
 
 pub row_fits : (first : List ℕ) (row : Row) → row_of 2 first ≡ Some row → RowFits row
-unfolding row_of source_row_of sink_row_of row_of_2
-row_fits first row e =
-    in_rows first (first_rows 2) (source_row_of 2 first) row first_fit
-    (in_rows first source_rows (sink_row_of 2 first) row sources_fit (in_rows first sink_rows (row_of_2 2 first) row sinks_fit (in_rows first rows_of_2 None row later_fit (none_is row)))) e
+row_fits first row e = of_each_row RowFits 2 first row all_fit e

@@ -7,22 +7,23 @@ use Rattle.scenario_text.specs.Lines.{Says, LineIs}
 use Rattle.scenario_text.specs.Written.{parts_of, Fits, line_of}
 use Rattle.scenario_text.proofs.Citable.{all_small, and_parts, is_word, of_table, takes_all_last}
 use Rattle.scenario_writing.proofs.Lines.{says, said, all_unspaced, row_fits}
-use Rattle.scenario_writing.proofs.Rows.{made_again, first_unspaced, row_known}
+use Rattle.scenario_writing.proofs.Rows.{has_row}
 
 pub its_line : (step : Step) → Fits step → LineIs 2 step (line_of step)
 its_line step h =
     let row = (parts_of step).row in
     let values = (parts_of step).values in
-    let fine = of_table 2 row.first row (row_known step) in
+    let has = has_row step in
+    let fine = of_table 2 row.first row has.known in
     let parts = and_parts (is_word row.first) _ fine.fine in
     let places = and_parts (all_small row.places) (takes_all_last row.places) parts.1 in
     record {
       first = row.first;
       words = all_words row.places values;
-      split = joined_split row.first (all_words row.places values) (unspaced row.first (first_unspaced step)) (all_unspaced row.places values places.0 h);
+      split = joined_split row.first (all_words row.places values) (unspaced row.first has.unspaced) (all_unspaced row.places values places.0 h);
       row = row;
-      known = row_known step;
-      spelled = subst (λ (s : Step). Says row.places row.build s (all_words row.places values)) (made_again step) (says row.places row.build values places.1 h);
+      known = has.known;
+      spelled = subst (λ (s : Step). Says row.places row.build s (all_words row.places values)) has.made (says row.places row.build values places.1 h);
     }
 
 pub it_fits : (step : Step) (line : List ℕ) → LineIs 2 step line → Fits step

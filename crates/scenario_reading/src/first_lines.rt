@@ -4,7 +4,7 @@ ghost use Rattle.scenario_words.specs.Reading.{GivesNext};
 ghost use Rattle.scenario_text.specs.Steps.{at_row};
 ghost use Rattle.scenario_text.specs.Table.{most_slots as slots_in, scenario_row, group_row, start_row, sink_row, tuned_row, unit_row, hear_row, air_row, inject_row, sniff_row, drop_row};
 
-use crate::step::Step;
+use scenario_text::Step;
 use scenario_words::{Cursor, LineFault};
 use std::alloc::Global;
 

@@ -3,7 +3,7 @@ ghost use Rattle.scenario_words.specs.Reading.{GivesNext};
 ghost use Rattle.scenario_text.specs.Steps.{at_row};
 ghost use Rattle.scenario_text.specs.Table.{assist_row, apart_row, awrite_row, aserve_row, atell_row, aread_row, adrain_row, ashow_row, source_row, relay_row};
 
-use crate::step::Step;
+use scenario_text::Step;
 use scenario_words::{Cursor, LineFault};
 use std::alloc::Global;
 

@@ -4,17 +4,10 @@ ghost use Rattle.scenario_text.specs.Steps.{at_row};
 ghost use Rattle.scenario_text.specs.Table.{pac_row, locate_row, context_row, write_row, add_row, modify_row, remove_row, code_row, serve_row, tell_row};
 ghost use Rattle.scenario_text.specs.Table.{read_row, drain_row, show_row, lose_row, control_row, forge_row};
 
-use crate::step::Step;
 use bass_operations::{AddSource, ModifySource};
+use scenario_text::{BEFORE_ADD, BEFORE_MODIFY, MOST_OF_OPERATION, Step};
 use scenario_words::{Cursor, LineFault};
 use std::alloc::Global;
-
-/// The most octets of an operation, and those of an Add Source and of a Modify Source before their subgroups.
-pub(crate) const MOST_OF_OPERATION: usize = 512;
-
-pub(crate) const BEFORE_ADD: usize = 16;
-
-pub(crate) const BEFORE_MODIFY: usize = 6;
 
 pub fn pac(alloc: Global, words: &mut Cursor<'_>) -> Result<Step, LineFault>
     ensures { GivesNext (λ step. step) result words.new (at_row pac_row words.old) }

@@ -2,14 +2,15 @@ ghost use Rattle.std.specs.Prelude.{◌≡◌, ◌⊎◌, ℕ, IfOk, IfSome, IfN
 ghost use Rattle.scenario_words.specs.declared.fault.LineFault.TheVariants.{BadLine};
 ghost use Rattle.scenario_words.specs.Reading.{Gives, GivesNext};
 ghost use Rattle.scenario_text.specs.Ranges.{IsInRange};
-ghost use Rattle.scenario_text.specs.Table.{row_of, source_row_of, sink_row_of, row_of_2};
+ghost use Rattle.scenario_text.specs.Table.{row_of, first_row_of, source_row_of};
 ghost use Rattle.scenario_text.specs.Lines.{LineIs, IsBlank};
 ghost use Rattle.scenario_text.specs.Steps.{at_known, step_of as step_in, read_of};
 ghost use Rattle.scenario_text.specs.Misfits.{IsMisfit};
 ghost use Rattle.scenario_text.specs.declared.step.Step.{Step};
 
-use crate::step::Step;
-use crate::{first_lines, later_lines, sink_lines, source_lines};
+use crate::{first_lines, source_lines};
+use scenario_sink_lines::named_of_sink;
+use scenario_text::Step;
 use scenario_words::{Cursor, LineFault};
 use std::alloc::Global;
 
@@ -51,7 +52,7 @@ pub fn read_line_in(alloc: Global, version: u8, line: &[u8]) -> Result<Option<St
 }
 
 /// What the line reads as.
-#[tactic(auto, unfolding(crate::specs::Steps::read_of))]
+#[tactic(auto, unfolding(scenario_text::specs::Steps::read_of))]
 fn read(alloc: Global, version: u8, line: &[u8]) -> Result<Option<Step>, LineFault>
     ensures blank { IsBlank line.now → result ≡ Ok None }
     ensures reads { Gives (λ read. read) result (read_of version line.now) }
@@ -64,7 +65,7 @@ fn read(alloc: Global, version: u8, line: &[u8]) -> Result<Option<Step>, LineFau
 }
 
 /// The step of a line that is neither empty nor a comment.
-#[tactic(auto, unfolding(crate::specs::Steps::step_of))]
+#[tactic(auto, unfolding(scenario_text::specs::Steps::step_of))]
 fn step_of(alloc: Global, version: u8, line: &[u8]) -> Result<Step, LineFault>
     ensures { Gives (λ step. step) result (step_in version line.now) }
 {
@@ -76,7 +77,7 @@ fn step_of(alloc: Global, version: u8, line: &[u8]) -> Result<Step, LineFault>
 }
 
 /// The step that the words after this first word spell.
-#[tactic(auto, unfolding(crate::specs::Table::row_of))]
+#[tactic(auto, unfolding(scenario_text::specs::Table::row_of))]
 fn named(alloc: Global, version: u8, name: &[u8], words: &mut Cursor<'_>) -> Result<Step, LineFault>
     ensures { GivesNext (λ step. step) result words.new (at_known (row_of version name.now) words.old) }
 {
@@ -89,9 +90,28 @@ fn named(alloc: Global, version: u8, name: &[u8], words: &mut Cursor<'_>) -> Res
     if name == b"hear".as_slice() {
         return first_lines::hear(words);
     }
-    if name == b"tuned".as_slice() {
-        return first_lines::tuned(words);
+    if name == b"air".as_slice() {
+        return first_lines::air(words);
     }
+    if name == b"inject".as_slice() {
+        return first_lines::inject(alloc, words);
+    }
+    if name == b"sniff".as_slice() {
+        return first_lines::sniff(words);
+    }
+    named_of_first(alloc, version, name, words)
+}
+
+/// The step where the first word is that of a line that begins or ends something, or a later one.
+#[tactic(auto, unfolding(scenario_text::specs::Table::first_row_of))]
+fn named_of_first(
+    alloc: Global,
+    version: u8,
+    name: &[u8],
+    words: &mut Cursor<'_>,
+) -> Result<Step, LineFault>
+    ensures { GivesNext (λ step. step) result words.new (at_known (first_row_of version name.now) words.old) }
+{
     if name == b"scenario".as_slice() {
         return first_lines::scenario(words);
     }
@@ -104,14 +124,8 @@ fn named(alloc: Global, version: u8, name: &[u8], words: &mut Cursor<'_>) -> Res
     if name == b"sink".as_slice() {
         return first_lines::sink(version, words);
     }
-    if name == b"air".as_slice() {
-        return first_lines::air(words);
-    }
-    if name == b"inject".as_slice() {
-        return first_lines::inject(alloc, words);
-    }
-    if name == b"sniff".as_slice() {
-        return first_lines::sniff(words);
+    if name == b"tuned".as_slice() {
+        return first_lines::tuned(words);
     }
     if name == b"drop".as_slice() {
         return first_lines::drop_sink(words);
@@ -126,7 +140,7 @@ fn named(alloc: Global, version: u8, name: &[u8], words: &mut Cursor<'_>) -> Res
 }
 
 /// The step where the first word is that of a line of a source, or a later one.
-#[tactic(auto, unfolding(crate::specs::Table::source_row_of))]
+#[tactic(auto, unfolding(scenario_text::specs::Table::source_row_of))]
 fn named_of_source(
     alloc: Global,
     version: u8,
@@ -160,111 +174,4 @@ fn named_of_source(
         return source_lines::terminate(words);
     }
     named_of_sink(alloc, version, name, words)
-}
-
-/// The step where the first word is that of a line of a sink, or a later one.
-#[tactic(auto, unfolding(crate::specs::Table::sink_row_of))]
-fn named_of_sink(
-    alloc: Global,
-    version: u8,
-    name: &[u8],
-    words: &mut Cursor<'_>,
-) -> Result<Step, LineFault>
-    ensures { GivesNext (λ step. step) result words.new (at_known (sink_row_of version name.now) words.old) }
-{
-    if name == b"pac".as_slice() {
-        return sink_lines::pac(alloc, words);
-    }
-    if name == b"locate".as_slice() {
-        return sink_lines::locate(words);
-    }
-    if name == b"context".as_slice() {
-        return sink_lines::context(words);
-    }
-    if name == b"write".as_slice() {
-        return sink_lines::write(alloc, words);
-    }
-    if name == b"add".as_slice() {
-        return sink_lines::add(alloc, words);
-    }
-    if name == b"modify".as_slice() {
-        return sink_lines::modify(alloc, words);
-    }
-    if name == b"remove".as_slice() {
-        return sink_lines::remove(words);
-    }
-    if name == b"code".as_slice() {
-        return sink_lines::code(words);
-    }
-    if name == b"serve".as_slice() {
-        return sink_lines::serve(words);
-    }
-    if name == b"tell".as_slice() {
-        return sink_lines::tell(words);
-    }
-    if name == b"read".as_slice() {
-        return sink_lines::read(words);
-    }
-    if name == b"drain".as_slice() {
-        return sink_lines::drain(words);
-    }
-    if name == b"show".as_slice() {
-        return sink_lines::show(words);
-    }
-    if name == b"lose".as_slice() {
-        return sink_lines::lose(words);
-    }
-    if name == b"control".as_slice() {
-        return sink_lines::control(alloc, words);
-    }
-    if name == b"forge".as_slice() {
-        return sink_lines::forge(alloc, words);
-    }
-    named_of_2(alloc, version, name, words)
-}
-
-/// The step where the first word is that of a line of version 2 alone.
-#[tactic(auto, unfolding(crate::specs::Table::row_of_2))]
-fn named_of_2(
-    alloc: Global,
-    version: u8,
-    name: &[u8],
-    words: &mut Cursor<'_>,
-) -> Result<Step, LineFault>
-    ensures { GivesNext (λ step. step) result words.new (at_known (row_of_2 version name.now) words.old) }
-{
-    if version != 2 {
-        return Err(LineFault::BadLine { word: 0 });
-    }
-    if name == b"assist".as_slice() {
-        return later_lines::assist(words);
-    }
-    if name == b"apart".as_slice() {
-        return later_lines::apart(words);
-    }
-    if name == b"awrite".as_slice() {
-        return later_lines::awrite(alloc, words);
-    }
-    if name == b"aserve".as_slice() {
-        return later_lines::aserve(words);
-    }
-    if name == b"atell".as_slice() {
-        return later_lines::atell(words);
-    }
-    if name == b"aread".as_slice() {
-        return later_lines::aread(words);
-    }
-    if name == b"adrain".as_slice() {
-        return later_lines::adrain(words);
-    }
-    if name == b"ashow".as_slice() {
-        return later_lines::ashow(words);
-    }
-    if name == b"source".as_slice() {
-        return later_lines::source(words);
-    }
-    if name == b"relay".as_slice() {
-        return later_lines::relay(words);
-    }
-    Err(LineFault::BadLine { word: 0 })
 }

@@ -3,7 +3,7 @@ ghost use Rattle.scenario_words.specs.Reading.{GivesNext};
 ghost use Rattle.scenario_text.specs.Steps.{at_row};
 ghost use Rattle.scenario_text.specs.Table.{ident_row, subgroup_row, meta_row, bis_row, cipher_row, announce_row, train_row, terminate_row};
 
-use crate::step::Step;
+use scenario_text::Step;
 use scenario_words::{Cursor, LineFault};
 use std::alloc::Global;
 
