@@ -1,0 +1,2 @@
+pub mod Mtus
+pub mod State
