@@ -35,4 +35,6 @@ mod times;
 #[cfg(test)]
 mod transcripts;
 #[cfg(test)]
+mod two_sources;
+#[cfg(test)]
 mod written_lines;
