@@ -18,6 +18,7 @@ mod taken_bits;
 mod train;
 mod trains;
 mod values;
+mod whereabouts;
 
 pub use brought::{Brought, Joining};
 pub use scan_delegator::ScanDelegator;

@@ -1,0 +1,5 @@
+mod Alone
+mod Places
+mod Standing
+mod Trains
+mod Where

@@ -1,0 +1,15 @@
+use Rattle.std.proofs.Common.{refl, sym, ap, subst}
+use Rattle.delegator_states.specs.States.{written}
+use Rattle.scan_delegator.specs.State.Machines.{Machine, machine}
+use Rattle.delegator_machine.specs.Calls.{steps_of}
+use Rattle.delegator_machine.specs.State.Halves.{Halves, StandsFor}
+use Rattle.delegator_machine.proofs.Standing.{stands_settled}
+use Rattle.delegator_machine.proofs.delegator.Delegator.serve.Goals as goal
+
+pub returns-clause-stands : goal.returns-clause-stands
+returns-clause-stands c setup calls link stands =
+    let old : Halves = record { scan = machine c.self.inside.scan; sink = c.self.inside.sink } in
+    let before : StandsFor setup calls old = subst (StandsFor setup calls) (sym c.self.view_is) stands in
+    stands_settled setup (written link c.args.write.now) calls old c.settle.new.self (machine c.serve.new.self) c.is_on_group-was_on_group.result
+    refl (ap (λ (m : Machine). m.setup) c.in_ok-reply.ensures.step) (c.in_ok-reply.ensures.stands (steps_of calls) link before.steps)
+    c.is_on_group-was_on_group.ensures c.settle.ensures.scan c.settle.ensures.sink before

@@ -1,0 +1,58 @@
+-- The groups that a Scan Delegator is on (Basic Audio Profile 1.0, section 6.5.4): it is put on one by a step, `tuned` or a train
+-- that is taken, and leaves it as the place of its control half says.
+use Rattle.std.specs.Prelude.{◌&&◌, not, Bool, List, [], ◌∷◌, Option, Some, None, if◌then◌else◌}
+use Rattle.std.specs.Option.{option_or}
+use Rattle.big_info.specs.declared.info.BigInfo.{BigInfo}
+use Rattle.delegator_states.specs.Sights.{Sight}
+use Rattle.delegator_states.specs.States.{Step, put_on, train_heard, sight_of}
+use Rattle.delegator_states.specs.Trains.{Brought, taken, Joining, Setup, brought_by}
+use Rattle.group_sink.specs.Calls as sinks
+use Rattle.group_sink.specs.Calls.{Tuning}
+use Rattle.scan_delegator.specs.Groups.{has_group}
+use Rattle.delegator_machine.specs.Calls.{Call, control, hear, tick, steps_of}
+
+-- the group that a train brings that is taken
+abbrev pub joining_brought : Brought → Option Joining
+joining_brought (taken slot bits encrypted joining) = Some joining
+joining_brought _ = None
+
+-- the group that a step puts a sink on that has this
+abbrev pub joining_given : Setup → Sight → Step → Option Joining
+joining_given setup sight (put_on source joining) = Some joining
+joining_given setup sight (train_heard source train) = joining_brought (brought_by setup sight train)
+joining_given setup sight _ = None
+
+-- what a receiver goes by: the numbers of the group, and not what leads to it or tells where it stands
+abbrev pub numbers_alone : BigInfo → BigInfo
+numbers_alone info =
+    record info { big_offset = 0; big_offset_units = 0; seed_access_address = 0; base_crc_init = 0; chm = 0; bis_payload_count = 0 }
+
+abbrev pub tuning_of : Joining → Tuning
+tuning_of joining =
+    record { info = numbers_alone joining.info; which = joining.which; first = joining.first; anchor = joining.anchor; delay = joining.delay }
+
+-- ---- what the receivers take
+
+-- the group is left where the sink was on one, and is on none now
+abbrev pub with_leave : Bool → Bool → List sinks.Call → List sinks.Call
+with_leave was is calls = if was && not is then sinks.leave ∷ calls else calls
+
+-- a step puts the sink on a group, or may take it off one
+abbrev pub with_step : Option Joining → Sight → Sight → List sinks.Call → List sinks.Call
+with_step (Some joining) before after calls = sinks.tune (tuning_of joining) ∷ calls
+with_step None before after calls = with_leave (has_group before.place) (has_group after.place) calls
+
+abbrev pub group_calls : Setup → List Call → List sinks.Call
+group_calls setup [] = []
+group_calls setup (control step ∷ calls) =
+    let before = sight_of setup (steps_of calls) in
+    with_step (joining_given setup before step) before (sight_of setup (step ∷ steps_of calls)) (group_calls setup calls)
+group_calls setup (hear event bis subevent octets ∷ calls) = sinks.hear event bis subevent octets ∷ group_calls setup calls
+group_calls setup (tick event ∷ calls) = sinks.tick event ∷ group_calls setup calls
+
+-- ---- where the receivers are
+
+-- the group of the last step that put the sink on one
+abbrev pub last_joining : Setup → List Step → Option Joining
+last_joining setup [] = None
+last_joining setup (step ∷ earlier) = option_or (joining_given setup (sight_of setup earlier) step) (last_joining setup earlier)

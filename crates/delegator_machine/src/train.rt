@@ -1,0 +1,78 @@
+//! A train that is heard.
+ghost use Rattle.std.specs.Prelude.{◌≡◌, ◌≤◌, ◌^◌, ◌∷◌, ℕ, List, option_map, None, Some, IfOk, OnOk, OnErr};
+ghost use Rattle.delegator_states.specs.States.{sight_of, train_heard};
+ghost use Rattle.delegator_states.specs.Trains.{Setup, Train, answer_of, brought_by};
+ghost use Rattle.group_sink.specs.Calls as sinks;
+ghost use Rattle.group_sink.specs.Calls.{Tuning};
+ghost use Rattle.group_sink.specs.State.Sinks.{StandsFor as SinkStands};
+ghost use Rattle.group_sink.specs.State.Steps.{fresh_on};
+ghost use Rattle.delegator_machine.specs.Calls.{Call, control, steps_of};
+ghost use Rattle.delegator_machine.specs.State.Halves.{StandsFor, settings_of};
+ghost use Rattle.delegator_machine.specs.State.Joined.{made_for};
+
+use crate::delegator::Delegator;
+use crate::numbers::by_numbers;
+use bcast_base::Memory;
+use delegator_states::TrainHeard;
+use group_sink::{GroupReceivers, GroupSink};
+use scan_delegator::Joining;
+
+impl Delegator {
+    /// Hears a train, at this time in µs: the data of its extended advertising, of its periodic advertising, and its additional
+    /// controller data (Basic Audio Profile 1.0, sections 3.7.2 and 6.5.4). The answer is the first that holds. The first four
+    /// change nothing; a train that is taken puts the sink on its group. After want of memory all is as before.
+    pub fn train(
+        &mut self,
+        address_type: u8,
+        sid: u8,
+        ext: &[u8],
+        adv: &[u8],
+        acad: &[u8],
+        now: u64,
+    ) -> Result<TrainHeard, Memory>
+        requires { now ≤ 2 ^ 61 }
+        ensures answer { (setup : Setup) (calls : List Call) → StandsFor setup calls self.old
+            → IfOk result (λ heard. heard ≡ answer_of (brought_by setup (sight_of setup (steps_of calls)) (record { address_type = address_type; sid = sid; ext = ext.now; adv = adv.now; acad = acad.now; now = now }))) }
+        ensures stands { (setup : Setup) (calls : List Call) (source : ℕ) → StandsFor setup calls self.old
+            → OnOk result (StandsFor setup (control (train_heard source (record { address_type = address_type; sid = sid; ext = ext.now; adv = adv.now; acad = acad.now; now = now })) ∷ calls) self.new) }
+        ensures settings { settings_of self.new ≡ settings_of self.old }
+        ensures err { OnErr result (self.new ≡ self.old) }
+    {
+        let brought = self.scan.bring(address_type, sid, ext, adv, acad, now)?;
+        let joining = brought.joining();
+        let made = receivers_of(&self.sink, joining)?;
+        let heard = self.scan.follow(brought)?;
+        join(&mut self.sink, made);
+        Ok(heard)
+    }
+}
+
+/// The receivers of a group that a train brings.
+fn receivers_of(
+    sink: &GroupSink,
+    joining: Option<Joining>,
+) -> Result<Option<GroupReceivers>, Memory>
+    ensures { IfOk result (λ made. made ≡ option_map made_for joining) }
+{
+    let Some(joining) = joining else {
+        return Ok(None);
+    };
+    let made = sink.receivers(
+        &by_numbers(&joining.group),
+        joining.which,
+        joining.first,
+        joining.anchor,
+        joining.delay,
+    )?;
+    Ok(Some(made))
+}
+
+/// Puts the sink on the group of these receivers, where there are any.
+fn join(sink: &mut GroupSink, made: Option<GroupReceivers>)
+    ensures none { made ≡ None → sink.new ≡ sink.old }
+    ensures some { (tuning : Tuning) (calls : List sinks.Call) → made ≡ Some (fresh_on tuning) → SinkStands (sinks.tune tuning ∷ calls) sink.new }
+{
+    if let Some(receivers) = made {
+        sink.put_on(receivers);
+    }
+}
