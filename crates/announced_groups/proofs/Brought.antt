@@ -1,5 +1,5 @@
 -- What a train carries that puts a sink on a group.
-use Rattle.std.proofs.Common.{◌≡◌, ◌≤◌, ℕ, Bool, true, false, cond, eqb, List, Option, Some, None, Result, Ok, Err, refl, arith}
+use Rattle.std.proofs.Common.{◌≡◌, ◌≤◌, ℕ, Bool, true, false, cond, eqb, List, Option, Some, None, Result, Ok, Err, refl, sym, ◌∙◌, arith}
 use Rattle.std.specs.Prelude.{◌==◌, length, map}
 use Rattle.std.proofs.lemmas.Bool.{eqb-false}
 use Rattle.std.proofs.lemmas.Option.{none-some, same_Some}
@@ -19,8 +19,9 @@ use Rattle.delegator_states.specs.declared.train_heard.TrainHeard.TheVariants as
 use Rattle.delegator_states.specs.Sights.{Sight, entry_at, is_on_group}
 use Rattle.delegator_states.specs.Steps.{wishes_at}
 use Rattle.delegator_states.specs.Trains.{Brought, Joining, Setup, Train, heard, ignored, taken, base_in, big_info_in, brought_by, by_base, by_big_info, by_broadcast_id, by_endpoint}
-use Rattle.delegator_states.specs.Trains.{by_group, by_info, by_slot, by_streams, first_candidates, is_elsewhere, is_wanted, joining_of, set_with, sets_with}
+use Rattle.delegator_states.specs.Trains.{are_none, by_group, by_info, by_slot, by_streams, first_candidates, is_elsewhere, is_wanted, joining_of, set_with, sets_with}
 use Rattle.delegator_states.specs.Writes.{slot_where}
+use Rattle.delegator_states.proofs.Citable.{none_set}
 
 -- the group that a train puts the sink on
 abbrev pub joining_in : Brought → Option Joining
@@ -58,8 +59,8 @@ put false slot answer encrypted bits coded on joining is = (refl, same_Some on j
 by_streams_put : (slot : ℕ) (train : Train) (base : Endpoint) (info : BigInfo) (encrypted : Bool) (streams : List (List ℕ)) (joining : Joining)
     → joining_in (by_streams slot train base info encrypted streams) ≡ Some joining → (1 ≤ sets_with 0 streams) × (joining_of train base info (sets_with 0 streams) ≡ joining)
 by_streams_put slot train base info encrypted streams joining is =
-    let given = put (eqb (sets_with 0 streams) 0) slot answers.NoneTaken (Some encrypted) (map (set_with 0) streams) encrypted (joining_of train base info (sets_with 0 streams)) joining is in
-    (not_empty (sets_with 0 streams) given.0, given.1)
+    let given = put (are_none streams) slot answers.NoneTaken (Some encrypted) (map (set_with 0) streams) encrypted (joining_of train base info (sets_with 0 streams)) joining is in
+    (not_empty (sets_with 0 streams) (sym (none_set streams) ∙ given.0), given.1)
 
 by_group_put : (setup : Setup) (capability : Capability) (wishes : List Wish) (slot : ℕ) (train : Train) (base : Endpoint) (info : BigInfo) (encrypted : Bool)
     (fault : Option GroupFault) (joining : Joining) → joining_in (by_group setup capability wishes slot train base info encrypted fault) ≡ Some joining

@@ -2,4 +2,5 @@ mod Brought
 mod Delays
 mod Infos
 mod Joinings
+mod Octets
 mod Streams

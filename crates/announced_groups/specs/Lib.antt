@@ -1,1 +1,3 @@
 pub mod Announced
+pub mod Octets
+pub mod Rows

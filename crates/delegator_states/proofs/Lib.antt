@@ -5,3 +5,4 @@ mod Lists
 mod Places
 mod Waiting
 pub mod Citable
+pub mod Sets

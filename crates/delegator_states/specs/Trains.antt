@@ -2,7 +2,7 @@
 -- the answers, and which streams are taken first, are this project's own.
 use Rattle.std.specs.Prelude.{ℕ, ◌+◌, ◌-◌, ◌*◌, ◌/◌, ◌^◌, ◌==◌, ◌&&◌, not, Bool, false, List, [], ◌∷◌, length, map, take, bit_or, Option, Some, None, is_none, nat_le, Result, Ok, Err, if◌then◌else◌}
 use Rattle.std.specs.Int.{bit_at}
-use Rattle.std.specs.List.{filter, range_with_len}
+use Rattle.std.specs.List.{concat, filter, range_with_len}
 use Rattle.base_grammar.specs.declared.fault.BaseFault.{BaseFault}
 use Rattle.base_grammar.specs.declared.subgroup.Subgroup.{Subgroup}
 use Rattle.base_grammar.specs.Ad.{first_service}
@@ -82,6 +82,10 @@ first_candidates capability base num_bis room (wish ∷ wishes) (subgroup ∷ su
     take room all ∷ first_candidates capability base num_bis (room - length all) wishes subgroups
 first_candidates capability base num_bis room wishes subgroups = []
 
+-- no stream stands in any of them
+abbrev pub are_none : List (List ℕ) → Bool
+are_none lists = length (concat lists) == 0
+
 -- ---- the parts of a train
 
 abbrev pub found_in : {A : Type 0} → (List Ltv → Option A) → Result (List Ltv) ℕ → Option A
@@ -111,10 +115,11 @@ joining_of train base info which = record {
 
 -- ---- the answers, each behind those before it
 
+-- a sink takes one stream at least, so there is no candidate exactly where no stream is among the first
 abbrev pub by_streams : ℕ → Train → Endpoint → BigInfo → Bool → List (List ℕ) → Brought
 by_streams slot train base info encrypted streams =
-    let which = sets_with 0 streams in
-    if which == 0 then heard slot answers.NoneTaken (Some encrypted) else taken slot (map (set_with 0) streams) encrypted (joining_of train base info which)
+    if are_none streams then heard slot answers.NoneTaken (Some encrypted)
+    else taken slot (map (set_with 0) streams) encrypted (joining_of train base info (sets_with 0 streams))
 
 abbrev pub by_group : Setup → Capability → List Wish → ℕ → Train → Endpoint → BigInfo → Bool → Option GroupFault → Brought
 by_group setup capability wishes slot train base info encrypted (Some fault) = heard slot (answers.BadGroup fault) (Some encrypted)

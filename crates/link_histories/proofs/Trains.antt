@@ -18,8 +18,9 @@ use Rattle.pacs_records.specs.declared.capability.Capability.{Capability}
 use Rattle.delegator_states.specs.declared.train_heard.TrainHeard.TheVariants as answers
 use Rattle.delegator_states.specs.Sights.{Sight, is_on_group, entry_at}
 use Rattle.delegator_states.specs.Steps.{wishes_at}
-use Rattle.delegator_states.specs.Trains.{Brought, ignored, heard, taken, Setup, Train, is_candidate, candidates, set_with, sets_with, first_candidates}
-use Rattle.delegator_states.specs.Trains.{base_in, big_info_in, joining_of, by_streams, by_group, by_info, by_big_info, by_endpoint, by_base, by_slot, by_broadcast_id, brought_by, done_brought, is_elsewhere, is_wanted}
+use Rattle.delegator_states.specs.Trains.{Brought, ignored, heard, taken, Setup, Train, is_candidate, candidates, set_with, sets_with, first_candidates, are_none}
+use Rattle.delegator_states.specs.Trains.{base_in, big_info_in, joining_of, by_streams, by_group, by_info, by_big_info, by_endpoint}
+use Rattle.delegator_states.specs.Trains.{by_base, by_slot, by_broadcast_id, brought_by, done_brought, is_elsewhere, is_wanted}
 use Rattle.delegator_states.specs.Writes.{slot_where}
 use Rattle.link_histories.proofs.Fitting.{AreSets, DoneIs}
 
@@ -80,8 +81,7 @@ either_is false x y of_x of_y = of_y
 streams_are : (slot : ℕ) (train : Train) (base : Endpoint) (info : BigInfo) (encrypted : Bool) (streams : List (List ℕ))
     → AllByRecursion (λ some. AllByRecursion BisIs some) streams → BroughtIs (by_streams slot train base info encrypted streams)
 streams_are slot train base info encrypted streams are =
-    let which : ℕ = sets_with 0 streams in
-    either_is (which == 0) (heard slot answers.NoneTaken (Some encrypted)) (taken slot (map (set_with 0) streams) encrypted (joining_of train base info which))
+    either_is (are_none streams) (heard slot answers.NoneTaken (Some encrypted)) (taken slot (map (set_with 0) streams) encrypted (joining_of train base info (sets_with 0 streams)))
     tt (sets_are streams are)
 
 group_is : (setup : Setup) (capability : Capability) (wishes : List Wish) (slot : ℕ) (train : Train) (base : Endpoint) (info : BigInfo) (encrypted : Bool)

@@ -18,7 +18,7 @@ use Rattle.delegator_states.specs.Notices.{change, changes}
 use Rattle.delegator_states.specs.Sights.{Entry, Place, idle, on_train, on_group, Sight, is_on, is_on_group, entry_at}
 use Rattle.delegator_states.specs.Steps.{Done, after, wishes_at}
 use Rattle.delegator_states.specs.Trains.{Setup, Train, Brought, ignored, heard, taken, base_in, big_info_in, first_candidates, is_elsewhere, is_wanted, joining_of, set_with, sets_with}
-use Rattle.delegator_states.specs.Trains.{by_base, by_big_info, by_broadcast_id, by_endpoint, by_group, by_info, by_slot, by_streams, brought_by}
+use Rattle.delegator_states.specs.Trains.{are_none, by_base, by_big_info, by_broadcast_id, by_endpoint, by_group, by_info, by_slot, by_streams, brought_by}
 use Rattle.delegator_states.specs.Values.{Status, received, status_of, value, value_at}
 use Rattle.delegator_states.specs.Writes.{slot_where}
 use Rattle.delegator_states.proofs.Citable.{one_changes}
@@ -39,22 +39,23 @@ of_choice false one other slot p q = q
 
 -- ---- the answer by the streams
 
-pub by_none : (slot : ℕ) (train : Train) (base : Endpoint) (info : BigInfo) (encrypted : Bool) (streams : List (List ℕ)) → (sets_with 0 streams == 0) ≡ true
+pub by_none : (slot : ℕ) (train : Train) (base : Endpoint) (info : BigInfo) (encrypted : Bool) (streams : List (List ℕ)) → are_none streams ≡ true
     → by_streams slot train base info encrypted streams ≡ heard slot answers.NoneTaken (Some encrypted)
 by_none slot train base info encrypted streams none =
-    cond-true (sets_with 0 streams == 0) (heard slot answers.NoneTaken (Some encrypted))
+    cond-true (are_none streams) (heard slot answers.NoneTaken (Some encrypted))
     (taken slot (map (set_with 0) streams) encrypted (joining_of train base info (sets_with 0 streams))) none
 
-pub by_some : (slot : ℕ) (train : Train) (base : Endpoint) (info : BigInfo) (encrypted : Bool) (streams : List (List ℕ)) → (sets_with 0 streams == 0) ≡ false
+pub by_some : (slot : ℕ) (train : Train) (base : Endpoint) (info : BigInfo) (encrypted : Bool) (streams : List (List ℕ)) → are_none streams ≡ false
     → by_streams slot train base info encrypted streams ≡ taken slot (map (set_with 0) streams) encrypted (joining_of train base info (sets_with 0 streams))
 by_some slot train base info encrypted streams some =
-    cond-false (sets_with 0 streams == 0) (heard slot answers.NoneTaken (Some encrypted))
+    cond-false (are_none streams) (heard slot answers.NoneTaken (Some encrypted))
     (taken slot (map (set_with 0) streams) encrypted (joining_of train base info (sets_with 0 streams))) some
 
 -- ---- the stages keep the slot
 
-of_streams : (slot : ℕ) (train : Train) (base : Endpoint) (info : BigInfo) (encrypted : Bool) (streams : List (List ℕ)) → slot_of_brought (by_streams slot train base info encrypted streams) ≡ Some slot
-of_streams slot train base info encrypted streams = of_choice (sets_with 0 streams == 0) _ _ slot refl refl
+of_streams : (slot : ℕ) (train : Train) (base : Endpoint) (info : BigInfo) (encrypted : Bool) (streams : List (List ℕ))
+    → slot_of_brought (by_streams slot train base info encrypted streams) ≡ Some slot
+of_streams slot train base info encrypted streams = of_choice (are_none streams) _ _ slot refl refl
 
 of_group : (setup : Setup) (capability : Capability) (wishes : List Wish) (slot : ℕ) (train : Train) (base : Endpoint) (info : BigInfo) (encrypted : Bool) (fault : Option GroupFault)
     → slot_of_brought (by_group setup capability wishes slot train base info encrypted fault) ≡ Some slot
@@ -96,7 +97,8 @@ near_on setup sight train other slot false is =
 
 near_at : (setup : Setup) (sight : Sight) (train : Train) (other slot : ℕ) (b : Bool) → is_elsewhere sight.place other ≡ b → other < length sight.slots
     → slot_of_brought (if b then ignored answers.OtherTrain
-    else (if is_on_group sight.place other then ignored answers.AlreadyOnGroup else by_base setup sight.capability (wishes_at (entry_at sight.slots other)) other train (base_in train.adv))) ≡ Some slot
+    else (if is_on_group sight.place other then ignored answers.AlreadyOnGroup
+    else by_base setup sight.capability (wishes_at (entry_at sight.slots other)) other train (base_in train.adv))) ≡ Some slot
     → IsNear slot sight
 near_at setup sight train other slot true away within is = absurd cc
 near_at setup sight train other slot false away within is =

@@ -2,6 +2,7 @@ use Rattle.std.proofs.Common.{◌+◌, ◌<◌, ◌/◌, ◌^◌, ◌∙◌, Lis
 use Rattle.std.specs.Prelude.{◌==◌}
 use Rattle.big_info.specs.declared.info.BigInfo.{BigInfo}
 use Rattle.delegator_states.specs.Trains.{first_candidates, offset_of, taken}
+use Rattle.delegator_states.proofs.Citable.{none_set}
 use Rattle.scan_delegator.specs.State.Brings.{train_of}
 use Rattle.scan_delegator.proofs.Candidates.{set_within}
 use Rattle.scan_delegator.proofs.Followed.{by_none, by_some}
@@ -12,7 +13,7 @@ returns-then-eq c =
     let streams : List (List ℕ) = first_candidates c.args.self.now.capability c.args.base.now c.args.group.now.info.num_bis c.args.self.now.streams c.args.wishes.now c.args.base.now.subgroups in
     c.heard_so.ensures
     ∙ sym (by_none c.args.slot (train_of c.args.train.now) c.args.base.now c.args.group.now.info c.args.encrypted streams
-    ((λ i. sym c.in_ok-bits.ensures.which i == sym c.new.ensures i) ∙ sym c.if-eq.ensures))
+    (none_set streams ∙ (λ i. sym c.in_ok-bits.ensures.which i == sym c.new.ensures i) ∙ sym c.if-eq.ensures))
 
 pub joining_at-requires-clause-within : goal.joining_at-requires-clause-within
 joining_at-requires-clause-within c =
@@ -33,4 +34,4 @@ returns c =
       delay = c.delay.ensures.same i;
     }))
     ∙ sym (by_some c.args.slot (train_of c.args.train.now) c.args.base.now info c.args.encrypted streams
-    ((λ i. sym c.in_ok-bits.ensures.which i == sym c.new.ensures i) ∙ sym c.if-eq.ensures))
+    (none_set streams ∙ (λ i. sym c.in_ok-bits.ensures.which i == sym c.new.ensures i) ∙ sym c.if-eq.ensures))

@@ -1,0 +1,7 @@
+pub mod Lines
+pub mod Lives
+pub mod Output
+pub mod Refusals
+pub mod Rows
+pub mod TrainRows
+pub mod WriteRows
