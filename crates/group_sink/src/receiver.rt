@@ -65,6 +65,7 @@ impl Receiver {
     }
 
     /// Closes the open event, and hands what it decides. It takes no memory.
+    #[inline(never)]
     #[tactic(auto, using(crate::proofs::Receivers::hands_alike))]
     pub(crate) fn close<T: UnitTaker>(&mut self, taker: &mut T) -> Result<(), TakerFault>
         requires { open_of self.old < 2 ^ 39 }

@@ -1,5 +1,6 @@
 -- The octets that a slot has as its value are read as its state.
-use Rattle.std.proofs.Common.{ℕ, zero, suc, ◌≡◌, ◌↔◌, ◌+◌, ◌<◌, ◌≤◌, ◌^◌, Bool, true, false, List, [], ◌∷◌, ◌++◌, length, map, drop, get_or, slice_get, Option, Some, None, option_map, Ok, refl, sym, ap, subst, arith}
+use Rattle.std.proofs.Common.{ℕ, zero, suc, ◌≡◌, ◌↔◌, ◌+◌, ◌<◌, ◌≤◌, ◌^◌, Bool, true, false, List, [], ◌∷◌, ◌++◌}
+use Rattle.std.proofs.Common.{length, map, drop, get_or, slice_get, Option, Some, None, option_map, Ok, refl, sym, ap, subst, arith}
 use Rattle.std.specs.Prelude.{nat_lt, ◌==◌, ◌&&◌, not, if◌then◌else◌}
 use Rattle.std.specs.List.{AllByRecursion, flat_map}
 use Rattle.std.proofs.lemmas.Bool.{le-ltb}
@@ -18,7 +19,8 @@ use Rattle.delegator_states.specs.declared.train_heard.ControlHeard.{ControlHear
 use Rattle.delegator_states.specs.declared.train_heard.ControlHeard.TheVariants.{NotOnGroup, Malformed, NotControl, UnknownOpcode, ControlLength, MapIgnored, Left}
 use Rattle.delegator_states.specs.Controls.{control_heard, done_heard}
 use Rattle.delegator_states.specs.Sights.{Entry, Sight, is_on_group, entry_at}
-use Rattle.delegator_states.specs.States.{Step, record_added, locations_set, contexts_set, mtu_set, put_on, written, train_heard, train_lost, control_heard as control, told, answered, done_by, entry_in, sight_of}
+use Rattle.delegator_states.specs.States.{Step, record_added, locations_set, contexts_set, mtu_set, put_on, written, train_heard}
+use Rattle.delegator_states.specs.States.{train_lost, control_heard as control, told, answered, done_by, entry_in, sight_of}
 use Rattle.delegator_states.specs.Trains.{Setup}
 use Rattle.delegator_states.specs.Values.{Status, encryption_of, groups_from, received, state_at, status_of, value}
 use Rattle.delegator_states.specs.Writes.{cause_of}

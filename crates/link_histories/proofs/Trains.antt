@@ -19,7 +19,8 @@ use Rattle.delegator_states.specs.declared.train_heard.TrainHeard.TheVariants as
 use Rattle.delegator_states.specs.Sights.{Sight, is_on_group, entry_at}
 use Rattle.delegator_states.specs.Steps.{wishes_at}
 use Rattle.delegator_states.specs.Trains.{Brought, ignored, heard, taken, Setup, Train, is_candidate, candidates, set_with, sets_with, first_candidates, are_none}
-use Rattle.delegator_states.specs.Trains.{base_in, big_info_in, joining_of, by_streams, by_group, by_info, by_big_info, by_endpoint, by_base, by_slot, by_broadcast_id, brought_by, done_brought, is_elsewhere, is_wanted}
+use Rattle.delegator_states.specs.Trains.{base_in, big_info_in, joining_of, by_streams, by_group, by_info, by_big_info, by_endpoint}
+use Rattle.delegator_states.specs.Trains.{by_base, by_slot, by_broadcast_id, brought_by, done_brought, is_elsewhere, is_wanted}
 use Rattle.delegator_states.specs.Writes.{slot_where}
 use Rattle.link_histories.proofs.Fitting.{AreSets, DoneIs}
 

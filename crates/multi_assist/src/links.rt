@@ -2,15 +2,14 @@ ghost use Rattle.std.specs.Prelude.{ℕ, ◌≡◌, ◌≢◌, ◌↔◌, ◌≤
 ghost use Rattle.std.specs.Borrow.{sem};
 ghost use Rattle.multi_assist.specs.Mtus.{IsMtu};
 ghost use Rattle.multi_assist.specs.declared.fault.LinkFault.TheVariants.{LinkTwice as Twice};
-ghost use Rattle.scan_delegator.specs.State.Machines.{machine};
 
 use crate::fault::LinkFault;
 use crate::place::Place;
 use crate::terms::Terms;
 use assistant_machine::AssistJoined;
 use bcast_base::Memory;
+use delegator_machine::Delegator;
 use delegator_states::Notice;
-use scan_delegator::ScanDelegator;
 use std::alloc::Global;
 
 /// The four links of a sink, numbered from 0, all with the MTU of the sink: on each that is joined an assistant, and the
@@ -25,7 +24,7 @@ pub struct Links {
 }
 
 impl Links {
-    ghost use Rattle.multi_assist.specs.State.Gathering.{Gathers, StopsShort};
+    ghost use Rattle.multi_assist.specs.State.Gathering.{Gathers, StandsOn, StopsShort};
     ghost use Rattle.multi_assist.specs.State.Links.{LendsOn, link_at, linked, mtu_of, slots_of};
     ghost use Rattle.multi_assist.specs.State.Places.{asking, assistant_in, first_of, link_of, with_notice, without_first};
     ghost use Rattle.multi_assist.specs.State.Terms.{joining};
@@ -84,9 +83,11 @@ impl Links {
     ///
     /// After want of memory the first of them, in order, stand on every joined link; the sink has the rest, of which the one
     /// taken last is missing.
-    pub fn gather(&mut self, from: &mut ScanDelegator) -> Result<(), Memory>
-        ensures ok { OnOk result (Gathers (machine from.old) (machine from.new) (linked self.old) (linked self.new)) }
-        ensures err { OnErr result (StopsShort (machine from.old) (machine from.new) (linked self.old) (linked self.new)) }
+    pub fn gather(&mut self, from: &mut Delegator) -> Result<(), Memory>
+        ensures ok { OnOk result (Gathers from.old.scan from.new.scan (linked self.old) (linked self.new)) }
+        ensures err { OnErr result (StopsShort from.old.scan from.new.scan (linked self.old) (linked self.new)) }
+        ensures stands { StandsOn from.old from.new }
+        ensures receivers { from.new.sink ≡ from.old.sink }
         ensures terms { (slots_of self.new ≡ slots_of self.old) × (mtu_of self.new ≡ mtu_of self.old) }
     {
         'notices: while let Some(notice) = from.next_notice() {

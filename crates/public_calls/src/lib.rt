@@ -23,6 +23,8 @@ mod octets_in_and_out;
 #[cfg(test)]
 mod receivers;
 #[cfg(test)]
+mod scan_delegators;
+#[cfg(test)]
 mod senders;
 #[cfg(test)]
 mod sources;
@@ -32,5 +34,7 @@ mod taken;
 mod times;
 #[cfg(test)]
 mod transcripts;
+#[cfg(test)]
+mod two_sources;
 #[cfg(test)]
 mod written_lines;

@@ -76,6 +76,7 @@ impl Machine {
     }
 
     /// `inject`: hands a sink other octets in the place of a PDU, and prints what it made of them.
+    #[inline(never)]
     pub(crate) fn inject(
         &mut self,
         sink: u8,
@@ -110,6 +111,7 @@ impl Machine {
     }
 
     /// `sniff`: prints a PDU of an event that was performed.
+    #[inline(never)]
     pub(crate) fn sniff(&self, place: Place, text: &mut Octets) -> Result<(), Stop>
         requires { place.back ≤ 31 }
         ensures { (starts : List Account) (version : ℕ) (steps : List Step) → Stands steps self.now → stage_of steps ≡ running version

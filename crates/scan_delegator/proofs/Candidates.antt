@@ -54,7 +54,8 @@ pub candidates_next : (capability : Capability) (base : Endpoint) (num_bis place
 candidates_next capability base num_bis place wishes subgroups wish subgroup e f =
     λ i. candidates_of capability base num_bis (drop_get wishes place wish e i) (drop_get subgroups place subgroup f i)
 
-pub no_subgroup : (capability : Capability) (base : Endpoint) (num_bis : ℕ) (wishes : List Wish) (subgroups : List Subgroup) → subgroups ≡ [] → candidates_of capability base num_bis wishes subgroups ≡ []
+pub no_subgroup : (capability : Capability) (base : Endpoint) (num_bis : ℕ) (wishes : List Wish) (subgroups : List Subgroup) → subgroups ≡ []
+    → candidates_of capability base num_bis wishes subgroups ≡ []
 no_subgroup capability base num_bis [] subgroups none = refl
 no_subgroup capability base num_bis (wish ∷ wishes) subgroups none = ap (candidates_of capability base num_bis (wish ∷ wishes)) none
 

@@ -123,7 +123,8 @@ slots_stay (Some now) sight = refl
 pub note_done : (n slot place : ℕ) (sight : Sight) (waiting : List Notice) (moves : Move) (slot_now : Option Entry) (status : Status) (before now : List ℕ)
     → slot_of sight.place ≡ Some slot → slot < n → slot < length sight.slots → place ≡ slot
     → slot_now ≡ get_or sight.slots place slot_now → before ≡ value_at sight slot
-    → status ≡ status_of (placed (place_by sight.place moves) None None sight).place (placed (place_by sight.place moves) None None sight).encrypted (placed (place_by sight.place moves) None None sight).taken slot
+    → status ≡ status_of (placed (place_by sight.place moves) None None sight).place (placed (place_by sight.place moves) None None sight).encrypted
+    (placed (place_by sight.place moves) None None sight).taken slot
     → now ≡ value (option_map (received status) slot_now)
     → waiting ++ change slot before now ≡ waiting ++ changes n sight (placed (place_by sight.place moves) None None sight)
 note_done n slot place sight waiting moves slot_now status before now is within there at held was stands will =

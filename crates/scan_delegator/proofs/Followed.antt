@@ -53,7 +53,8 @@ by_some slot train base info encrypted streams some =
 
 -- ---- the stages keep the slot
 
-of_streams : (slot : ℕ) (train : Train) (base : Endpoint) (info : BigInfo) (encrypted : Bool) (streams : List (List ℕ)) → slot_of_brought (by_streams slot train base info encrypted streams) ≡ Some slot
+of_streams : (slot : ℕ) (train : Train) (base : Endpoint) (info : BigInfo) (encrypted : Bool) (streams : List (List ℕ))
+    → slot_of_brought (by_streams slot train base info encrypted streams) ≡ Some slot
 of_streams slot train base info encrypted streams = of_choice (are_none streams) _ _ slot refl refl
 
 of_group : (setup : Setup) (capability : Capability) (wishes : List Wish) (slot : ℕ) (train : Train) (base : Endpoint) (info : BigInfo) (encrypted : Bool) (fault : Option GroupFault)
@@ -96,7 +97,8 @@ near_on setup sight train other slot false is =
 
 near_at : (setup : Setup) (sight : Sight) (train : Train) (other slot : ℕ) (b : Bool) → is_elsewhere sight.place other ≡ b → other < length sight.slots
     → slot_of_brought (if b then ignored answers.OtherTrain
-    else (if is_on_group sight.place other then ignored answers.AlreadyOnGroup else by_base setup sight.capability (wishes_at (entry_at sight.slots other)) other train (base_in train.adv))) ≡ Some slot
+    else (if is_on_group sight.place other then ignored answers.AlreadyOnGroup
+    else by_base setup sight.capability (wishes_at (entry_at sight.slots other)) other train (base_in train.adv))) ≡ Some slot
     → IsNear slot sight
 near_at setup sight train other slot true away within is = absurd cc
 near_at setup sight train other slot false away within is =

@@ -95,10 +95,12 @@ pub modify_long : (sight : Sight) (modify : ModifySource) (slot : ℕ) (long : B
     → nat_lt 512 (length (value_at (after (modified slot (wanted_by modify)) sight) slot)) ≡ long
     → cause_read sight (Ok (Modify modify)) ≡ (if long then Some causes.ValueTooLong else None)
 modify_long sight modify slot long there value =
-    ap (λ o. if is_none o then Some causes.SourceUnknown else (if nat_lt 512 (length (value_written sight (modified (unwrap_or o 0) (wanted_by modify)))) then Some causes.ValueTooLong else None)) there
+    ap (λ o. if is_none o then Some causes.SourceUnknown
+    else (if nat_lt 512 (length (value_written sight (modified (unwrap_or o 0) (wanted_by modify)))) then Some causes.ValueTooLong else None)) there
     ∙ ap (λ b. if b then Some causes.ValueTooLong else None) value
 
-code_by : (found : Option ℕ) (some : Bool) → is_some found ≡ some → (if is_none found then Some causes.SourceUnknown else Some causes.NoDecrypt) ≡ (if some then Some causes.NoDecrypt else Some causes.SourceUnknown)
+code_by : (found : Option ℕ) (some : Bool) → is_some found ≡ some
+    → (if is_none found then Some causes.SourceUnknown else Some causes.NoDecrypt) ≡ (if some then Some causes.NoDecrypt else Some causes.SourceUnknown)
 code_by None true is = absurd cc
 code_by None false is = refl
 code_by (Some slot) true is = refl
@@ -127,8 +129,12 @@ remove_synced sight source_id slot entry synced there held on =
 pub filled_done : (m : Machine) (slot : ℕ) (entry : Option Entry) (moves : Move) (done : Done) (value_now : List ℕ) → slot < m.setup.slots → slot < length m.sight.slots
     → ((now : sights.Place) → place_by m.sight.place moves ≡ Some now → is_on m.sight.place slot ≡ true)
     → after done m.sight ≡ placed (place_by m.sight.place moves) None None (record m.sight { slots = set m.sight.slots slot entry })
-    → value_now ≡ value (option_map (received (status_of (placed (place_by m.sight.place moves) None None m.sight).place (placed (place_by m.sight.place moves) None None m.sight).encrypted (placed (place_by m.sight.place moves) None None m.sight).taken slot)) entry)
-    → record m { sight = placed (place_by m.sight.place moves) None None (record m.sight { slots = set m.sight.slots slot entry }); waiting = m.waiting ++ change slot (value_at m.sight slot) value_now }
+    → value_now ≡ value (option_map (received (status_of (placed (place_by m.sight.place moves) None None m.sight).place
+    (placed (place_by m.sight.place moves) None None m.sight).encrypted (placed (place_by m.sight.place moves) None None m.sight).taken slot)) entry)
+    → record m {
+      sight = placed (place_by m.sight.place moves) None None (record m.sight { slots = set m.sight.slots slot entry });
+      waiting = m.waiting ++ change slot (value_at m.sight slot) value_now;
+    }
     ≡ moved done m
 filled_done m slot entry moves done value_now within there on does is =
     let end : Sight = placed (place_by m.sight.place moves) None None (record m.sight { slots = set m.sight.slots slot entry }) in
@@ -139,7 +145,8 @@ filled_done m slot entry moves done value_now within there on does is =
     ∙ (λ i. record m { sight = sym does i; waiting = m.waiting ++ changes m.setup.slots m.sight (sym does i) })
 
 -- a slot that changes, and the place stays
-slot_done : (m now : Machine) (slot : ℕ) (entry : Option Entry) (slots : List (Option Entry)) (waiting : List Notice) (done : Done) (value_now : List ℕ) → slot < m.setup.slots → slot < length m.sight.slots
+slot_done : (m now : Machine) (slot : ℕ) (entry : Option Entry) (slots : List (Option Entry)) (waiting : List Notice) (done : Done) (value_now : List ℕ)
+    → slot < m.setup.slots → slot < length m.sight.slots
     → now ≡ record m { sight = record m.sight { slots = slots }; waiting = waiting }
     → slots ≡ set m.sight.slots slot entry → waiting ≡ m.waiting ++ change slot (value_at m.sight slot) value_now
     → after done m.sight ≡ record m.sight { slots = set m.sight.slots slot entry }
@@ -184,7 +191,8 @@ stays_on false place now e = absurd cc
 pub modify_value : (sight : Sight) (slot : ℕ) (entry : Entry) (wanted : Wanted) (moves : Move) → slot < length sight.slots → entry_at sight.slots slot ≡ Some entry
     → place_by sight.place moves ≡ place_given sight (modified slot wanted)
     → value_at (after (modified slot wanted) sight) slot
-    ≡ spelling (received (status_of (placed (place_by sight.place moves) None None sight).place (placed (place_by sight.place moves) None None sight).encrypted (placed (place_by sight.place moves) None None sight).taken slot) (record entry { wanted = wanted }))
+    ≡ spelling (received (status_of (placed (place_by sight.place moves) None None sight).place (placed (place_by sight.place moves) None None sight).encrypted
+    (placed (place_by sight.place moves) None None sight).taken slot) (record entry { wanted = wanted }))
 modify_value sight slot entry wanted moves there held same =
     ap (λ s. value_at s slot) (modified_is sight slot entry wanted moves held same)
     ∙ filled_value slot sight (Some (record entry { wanted = wanted })) (place_by sight.place moves) there
@@ -194,7 +202,9 @@ pub modify_done : (m now : Machine) (modify : ModifySource) (slot : ℕ) (entry 
     → entry_at m.sight.slots slot ≡ Some entry → place_by m.sight.place moves ≡ place_given m.sight (modified slot (wanted_by modify))
     → now ≡ record m { sight = placed (place_by m.sight.place moves) None None (record m.sight { slots = slots }); waiting = waiting }
     → slots ≡ set m.sight.slots slot (Some (record entry { wanted = wanted_by modify }))
-    → waiting ≡ m.waiting ++ change slot (value_at m.sight slot) (spelling (received (status_of (placed (place_by m.sight.place moves) None None m.sight).place (placed (place_by m.sight.place moves) None None m.sight).encrypted (placed (place_by m.sight.place moves) None None m.sight).taken slot) (record entry { wanted = wanted_by modify })))
+    → waiting ≡ m.waiting ++ change slot (value_at m.sight slot) (spelling (received (status_of (placed (place_by m.sight.place moves) None None m.sight).place
+    (placed (place_by m.sight.place moves) None None m.sight).encrypted (placed (place_by m.sight.place moves) None None m.sight).taken slot)
+    (record entry { wanted = wanted_by modify })))
     → now ≡ moved (operated m.sight.slots (Modify modify)) m
 modify_done m now modify slot entry moves slots waiting found within there held same is filled waits =
     is

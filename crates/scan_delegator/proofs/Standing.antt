@@ -83,7 +83,12 @@ none_at start zero = refl
 none_at start (suc n) = ap (λ slots. None ∷ slots) (none_at (start + 1) n)
 
 pub stands_new : (setup : Setup) (n : ℕ) (slots : List (Option Entry)) (entries : List PacRecord) (waits : List Notice) → setup.slots ≡ n → slots ≡ replicate n None → entries ≡ [] → waits ≡ []
-    → StandsFor [] (record { setup = setup; sight = record { slots = slots; place = idle; encrypted = false; taken = []; capability = record { entries = entries; locations = 0; contexts = 0xFFFF } }; waiting = waits; mtu = None })
+    → StandsFor [] (record {
+      setup = setup;
+      sight = record { slots = slots; place = idle; encrypted = false; taken = []; capability = record { entries = entries; locations = 0; contexts = 0xFFFF } };
+      waiting = waits;
+      mtu = None;
+    })
 unfolding answered
 stands_new setup n slots entries waits count none empty quiet =
     let all : slots ≡ map (entry_in []) (range_with_len 0 setup.slots) = none ∙ none_at 0 n ∙ ap (λ k. map (entry_in []) (range_with_len 0 k)) (sym count) in

@@ -22,11 +22,13 @@ use Rattle.scan_delegator.proofs.Standing.{moved_nothing}
 
 -- ---- an operation
 
-pub served_answer : (m now : Machine) (octets : List ℕ) (op : Operation) (result : Result Reply Memory) → op_of octets ≡ Ok op → Serves op m now result → IfOk result (λ reply. reply ≡ reply_of m.sight octets)
+pub served_answer : (m now : Machine) (octets : List ℕ) (op : Operation) (result : Result Reply Memory) → op_of octets ≡ Ok op → Serves op m now result
+    → IfOk result (λ reply. reply ≡ reply_of m.sight octets)
 served_answer m now octets op (Ok reply) is serves = serves.reply ∙ ap (λ read. reply_by (cause_read m.sight read)) (sym is)
 served_answer m now octets op (Err memory) is serves = tt
 
-pub served_step : (m now : Machine) (octets : List ℕ) (op : Operation) (result : Result Reply Memory) → op_of octets ≡ Ok op → Serves op m now result → OnOk result (now ≡ moved (done_by_write m.sight octets) m)
+pub served_step : (m now : Machine) (octets : List ℕ) (op : Operation) (result : Result Reply Memory) → op_of octets ≡ Ok op → Serves op m now result
+    → OnOk result (now ≡ moved (done_by_write m.sight octets) m)
 served_step m now octets op (Ok reply) is serves = serves.step ∙ ap (λ read. moved (done_read m.sight read (cause_read m.sight read)) m) (sym is)
 served_step m now octets op (Err memory) is serves = tt
 

@@ -1,5 +1,6 @@
-ghost use Rattle.std.specs.Prelude.{◌≡◌, ◌≤◌, ◌<◌, ◌+◌, ◌==◌, ◌∷◌, [], drop, true, false, Ok, OnOk, if◌then◌else◌};
+ghost use Rattle.std.specs.Prelude.{◌≡◌, ◌≤◌, ◌<◌, ◌+◌, ◌==◌, ◌∷◌, [], drop, true, false, ℕ, Ok, IfOk, OnErr, OnOk, if◌then◌else◌};
 ghost use Rattle.scenario_generator.specs.Draws.{drawn, next_state};
+ghost use Rattle.scenario_generator.specs.State.Places.{left_at, IsPlace};
 ghost use Rattle.scenario_generator.specs.Generated.{air_line, generated_lines, head_lines, unit_line};
 
 use bcast_base::{Memory, Octets};
@@ -95,16 +96,7 @@ impl Lines {
                 put_unit(line, 2, 0)?;
                 self.place = Place::Unit;
             }
-            Place::Unit => {
-                if self.left == 0 {
-                    line.append(b"end")?;
-                    self.place = Place::Over;
-                } else {
-                    put_unit(line, 1, self.event + 1)?;
-                    self.left -= 1;
-                    self.place = Place::OtherUnit;
-                }
-            }
+            Place::Unit => self.place = put_unit_or_end(line, self.event, &mut self.left)?,
             Place::OtherUnit => {
                 put_unit(line, 2, self.event + 1)?;
                 self.place = Place::Event;
@@ -114,15 +106,11 @@ impl Lines {
                 self.place = Place::Air;
             }
             Place::Air => {
-                let first = next_state_of(self.state);
-                put_air(line, 0, first)?;
-                self.state = first;
+                self.state = put_drawn_air(line, 0, self.state)?;
                 self.place = Place::OtherAir;
             }
             Place::OtherAir => {
-                let second = next_state_of(self.state);
-                put_air(line, 1, second)?;
-                self.state = second;
+                self.state = put_drawn_air(line, 1, self.state)?;
                 self.event += 1;
                 self.place = Place::Unit;
             }
@@ -176,6 +164,35 @@ fn put_unit(line: &mut Octets, bis: u8, x: u32) -> Result<(), Memory>
             Word::Octets(&octets),
         ],
     )
+}
+
+/// Puts the first unit of the event behind this one, where one is left, or else the end: the place behind it.
+fn put_unit_or_end(line: &mut Octets, event: u32, left: &mut u32) -> Result<Place, Memory>
+    requires empty { line.old ≡ [] }
+    requires within { event + left.old ≤ 100000 }
+    ensures next { (state : ℕ) → IfOk result (λ place. left_at Place.Unit state event left.old ≡ line.new ∷ left_at place state event left.new) }
+    ensures place { IfOk result (λ place. IsPlace place event left.new) }
+    ensures err { OnErr result (left.new ≡ left.old) }
+{
+    if *left == 0 {
+        line.append(b"end")?;
+        return Ok(Place::Over);
+    }
+    put_unit(line, 1, event + 1)?;
+    *left -= 1;
+    Ok(Place::OtherUnit)
+}
+
+/// Draws a number, and puts the line by which a sink hears an event with this loss: the state that the draw set.
+fn put_drawn_air(line: &mut Octets, sink: u8, state: u32) -> Result<u32, Memory>
+    requires { line.old ≡ [] }
+    ensures line { OnOk result (line.new ≡ air_line sink (drawn (next_state state))) }
+    ensures state { IfOk result (λ next. next ≡ next_state state) }
+    ensures small { IfOk result (λ next. next < 2147483648) }
+{
+    let next = next_state_of(state);
+    put_air(line, sink, next)?;
+    Ok(next)
 }
 
 /// Puts the line by which a sink hears an event, with the loss that was drawn with this state.

@@ -1,8 +1,12 @@
 -- Notices that go from a sink to its links, each as the sink hands it out.
-use Rattle.std.specs.Prelude.{◌≡◌, ◌++◌, ◌∷◌, [], List, map, Option}
+use Rattle.std.specs.Prelude.{ℕ, zero, suc, ◌≡◌, ◌++◌, ◌∷◌, [], List, map, Option}
 use Rattle.delegator_states.specs.declared.notice.Notice.{Notice}
 use Rattle.delegator_states.specs.Notices.{handed_out}
+use Rattle.delegator_states.specs.States.{told as handed}
+use Rattle.delegator_states.specs.Trains.{Setup}
 use Rattle.scan_delegator.specs.State.Machines.{Machine}
+use Rattle.delegator_machine.specs.Calls.{Call, control}
+use Rattle.delegator_machine.specs.State.Halves.{Halves, StandsFor}
 use Rattle.multi_assist.specs.State.Places.{Linked, with_notices}
 
 -- these went to every joined link, and the sink has none of them
@@ -27,3 +31,12 @@ pub record Gathered (before now : Machine) (old new : List (Option Linked)) : Ty
   pub told : List Notice
   pub all : before.waiting ≡ told ++ now.waiting
   pub given : HasGiven told before now old new
+
+-- so many notices more were asked for
+abbrev pub asked : ℕ → List Call → List Call
+asked zero calls = calls
+asked (suc count) calls = control handed ∷ asked count calls
+
+-- the sink stands for the calls that it took before, and for those that asked for notices
+abbrev pub StandsOn : Halves → Halves → Type 0
+StandsOn before now = (setup : Setup) (calls : List Call) → StandsFor setup calls before → (count : ℕ) × StandsFor setup (asked count calls) now

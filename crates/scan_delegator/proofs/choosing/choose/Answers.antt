@@ -25,7 +25,8 @@ subgroups-preserved c =
     (left c.subgroups.place) (left (c.subgroups.place + 1)) c.subgroups.room c.subgroups.which c.subgroups.bits c.push.new.self
     (candidates c.args.capability.now c.args.base.now c.args.num_bis c.item.result.now.bis_sync c.subgroup.result.now)
     (record { room = c.subgroups.room; which = c.subgroups.which; bits = 0 }) c.take_of-taking.result
-    (candidates_next c.args.capability.now c.args.base.now c.args.num_bis c.subgroups.place c.args.wishes.now c.args.base.now.subgroups c.item.result.now c.subgroup.result.now c.item.ensures c.subgroup.ensures)
+    (candidates_next c.args.capability.now c.args.base.now c.args.num_bis c.subgroups.place c.args.wishes.now c.args.base.now.subgroups c.item.result.now
+    c.subgroup.result.now c.item.ensures c.subgroup.ensures)
     refl refl refl c.take_of-taking.ensures c.in_ok-push.ensures.ok c.subgroups.invariant
 
 pub returns-then-place-count-clause-bits : goal.returns-then-place-count-clause-bits

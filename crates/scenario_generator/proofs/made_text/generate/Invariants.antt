@@ -1,4 +1,4 @@
-use Rattle.std.proofs.Common.{◌≡◌, ◌++◌, ℕ, length}
+use Rattle.std.proofs.Common.{◌≡◌, ◌++◌, length}
 use Rattle.scenario_generator.specs.Generated.{generated, text_of}
 use Rattle.scenario_generator.proofs.made_text.generate.Given as goal
 

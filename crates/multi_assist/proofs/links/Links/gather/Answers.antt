@@ -1,12 +1,27 @@
-use Rattle.std.proofs.Common.{sym, ◌∙◌}
-use Rattle.scan_delegator.specs.State.Machines.{machine}
+use Rattle.std.proofs.Common.{sym, ap, ◌∙◌, suc}
+use Rattle.delegator_machine.specs.State.Halves.{Halves}
+use Rattle.multi_assist.specs.State.Gathering.{asked}
 use Rattle.multi_assist.specs.State.Links.{linked}
 use Rattle.multi_assist.proofs.Gathering.{given_on}
 use Rattle.multi_assist.proofs.links.Links.gather.Goals as goal
 
 pub notices-preserved : goal.notices-preserved
-notices-preserved c = record {
-  gathered = given_on (machine c.args.from.now) (machine c.notices.from) (machine c.next_notice.new.self) (linked c.args.self.now) (linked c.notices.self) (linked c.put.new.self)
-      c.in-Some.notice c.notices.invariant.gathered (sym c.in-Some.ensures.notice) c.next_notice.ensures.step c.in_ok-put.ensures.ok;
-  terms = c.put.ensures.terms ∙ c.notices.invariant.terms;
-}
+notices-preserved c =
+    let before : Halves = c.args.from.now in
+    let now : Halves = c.notices.from in
+    let next : Halves = c.next_notice.new.self in
+    let step = c.next_notice.ensures.step in
+    record {
+      gathered = given_on before.scan now.scan next.scan (linked c.args.self.now) (linked c.notices.self) (linked c.put.new.self)
+          c.in-Some.notice c.notices.invariant.gathered (sym c.in-Some.ensures.notice) (ap (λ (d : Halves). d.scan) step) c.in_ok-put.ensures.ok;
+      terms = c.put.ensures.terms ∙ c.notices.invariant.terms;
+      stands = λ setup calls stands.
+          let so = c.notices.invariant.stands setup calls stands in
+          (suc so.0, c.next_notice.ensures.stands setup (asked so.0 calls) so.1);
+      receivers = ap (λ (d : Halves). d.sink) step ∙ c.notices.invariant.receivers;
+    }
+
+pub returns-in_err-put-clause-stands : goal.returns-in_err-put-clause-stands
+returns-in_err-put-clause-stands c = λ setup calls stands.
+    let so = c.notices.invariant.stands setup calls stands in
+    (suc so.0, c.next_notice.ensures.stands setup (asked so.0 calls) so.1)

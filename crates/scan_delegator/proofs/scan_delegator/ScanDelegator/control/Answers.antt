@@ -7,4 +7,7 @@ use Rattle.scan_delegator.proofs.scan_delegator.ScanDelegator.control.Goals as g
 
 pub returns-clause-stands : goal.returns-clause-stands
 returns-clause-stands c =
-    on_ok_weaker c.hear_control.result (λ is steps stands. stands_done (control_heard c.args.pdu.now) steps (machine c.args.self.now) (machine c.hear_control.new.self) refl refl is stands) c.hear_control.ensures.step
+    on_ok_weaker c.hear_control.result
+    (λ is steps stands.
+    stands_done (control_heard c.args.pdu.now) steps (machine c.args.self.now) (machine c.hear_control.new.self) refl refl is stands)
+    c.hear_control.ensures.step

@@ -7,4 +7,7 @@ use Rattle.scan_delegator.proofs.scan_delegator.ScanDelegator.serve.Goals as goa
 
 pub returns-clause-stands : goal.returns-clause-stands
 returns-clause-stands c =
-    on_ok_weaker c.serve_write.result (λ is steps link stands. stands_done (written link c.args.write.now) steps (machine c.args.self.now) (machine c.serve_write.new.self) refl refl is stands) c.serve_write.ensures.step
+    on_ok_weaker c.serve_write.result
+    (λ is steps link stands.
+    stands_done (written link c.args.write.now) steps (machine c.args.self.now) (machine c.serve_write.new.self) refl refl is stands)
+    c.serve_write.ensures.step

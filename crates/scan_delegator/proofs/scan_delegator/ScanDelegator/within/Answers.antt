@@ -12,5 +12,5 @@ returns-clause-setup c =
 pub returns-clause-stands : goal.returns-clause-stands
 returns-clause-stands c =
     let count = c.in_ok-empty_slots.field-0.ok.0 ∙ ap length c.in_ok-empty_slots.ensures ∙ length-replicate c.args.slots None in
-    stands_new (record { streams = c.args.streams; slots = vec_len c.in_ok-empty_slots.field-0; horizon = c.args.limits.horizon }) c.args.slots c.in_ok-empty_slots.field-0.items c.new.result c.new-2.result.items
-    count c.in_ok-empty_slots.ensures c.new.ensures c.new-2.ensures.items
+    stands_new (record { streams = c.args.streams; slots = vec_len c.in_ok-empty_slots.field-0; horizon = c.args.limits.horizon })
+    c.args.slots c.in_ok-empty_slots.field-0.items c.new.result c.new-2.result.items count c.in_ok-empty_slots.ensures c.new.ensures c.new-2.ensures.items

@@ -1,7 +1,7 @@
-use Rattle.std.proofs.Common.{◌≡◌, ◌∙◌, ◌∷◌, ◌++◌, refl, sym, ap, List, ℕ, codes}
+use Rattle.std.proofs.Common.{◌≡◌, ◌∙◌, ◌++◌, sym, ap, List, ℕ}
 use Rattle.scenario_generator.specs.State.Places.{left_at}
 use Rattle.scenario_generator.specs.declared.made_lines.Place.{Place}
-use Rattle.scenario_generator.proofs.NextLines.{end_next, unit_next, head_next}
+use Rattle.scenario_generator.proofs.NextLines.{head_next}
 use Rattle.scenario_generator.proofs.made_lines.Lines.next_line.Goals as goal
 
 pub returns-in_ok-append-in-Head-clause-next : goal.returns-in_ok-append-in-Head-clause-next
@@ -11,13 +11,7 @@ returns-in_ok-append-in-Head-clause-next c = λ e.
     let next = head_next c.in-Head.place c.self.inside.state c.self.inside.event c.self.inside.left c.head_line.result.now c.head_line.ensures in
     rw (line, c.after_head-self-inside.ensures) (at ∙ next)
 
-pub returns-in_ok-append-in-Unit-clause-next : goal.returns-in_ok-append-in-Unit-clause-next
-returns-in_ok-append-in-Unit-clause-next c = λ e.
+pub returns-in_ok-self-inside-in-Unit-clause-next : goal.returns-in_ok-self-inside-in-Unit-clause-next
+returns-in_ok-self-inside-in-Unit-clause-next c = λ e.
     let at = sym c.self.view_is ∙ ap (λ (p : Place). left_at p c.self.inside.state c.self.inside.event c.self.inside.left) c.in-Unit.is in
-    let line : c.append-then-self-eq0.new.self ≡ codes "end" = c.in_ok-append-in-Unit.ensures.ok ∙ ap (λ (t : List ℕ). t ++ codes "end") c.clear.ensures in
-    at ∙ end_next c.self.inside.state c.self.inside.event c.self.inside.left c.append-then-self-eq0.new.self c.if-self-eq0.true line
-
-pub returns-in_ok-put_unit-in-Unit-clause-next : goal.returns-in_ok-put_unit-in-Unit-clause-next
-returns-in_ok-put_unit-in-Unit-clause-next c = λ e.
-    let at = sym c.self.view_is ∙ ap (λ (p : Place). left_at p c.self.inside.state c.self.inside.event c.self.inside.left) c.in-Unit.is in
-    at ∙ unit_next c.self.inside.state c.self.inside.event c.self.inside.left c.put_unit-else-self-eq0.new.line c.if-self-eq0.false c.in_ok-put_unit-in-Unit.ensures
+    at ∙ c.in_ok-self-inside-in-Unit.ensures.next c.self.inside.state

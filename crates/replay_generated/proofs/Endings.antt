@@ -1,0 +1,119 @@
+-- How the generated lines end: at their last, or where no box is left for a sink.
+use Rattle.std.proofs.Common.{◌≡◌, ℕ, zero, suc, ◌+◌, ◌<◌, ◌≤◌, true, false, List, [], ◌∷◌, length, map, codes, refl, sym, ap, ◌∙◌, arith, None, Some, Ok}
+use Rattle.std.proofs.lemmas.Bool.{lt-leb, le-leb}
+use Rattle.bcast_io.specs.TextLines.{TextLine, plain}
+use Rattle.unit_outlets.specs.Account.{Account}
+use Rattle.source_machine.specs.Airs.{airs_of}
+use Rattle.transcript_text.specs.declared.refusal.Refusal.{Refusal}
+use Rattle.transcript_text.specs.declared.refusal.Refusal.TheVariants.{NoOutlet}
+use Rattle.line_runs.specs.Runs.{End, through, refused, end_of, end_unless}
+use Rattle.scenario_text.specs.Lines.{LineIs}
+use Rattle.scenario_text.specs.Steps.{read_of}
+use Rattle.scenario_text.specs.declared.step.Step.{Step}
+use Rattle.scenario_generator.specs.Generated.{generated_lines, lines_from, unit_line}
+use Rattle.scenario_history.specs.Lines.{a_step, refusal_said, rules_of, said_after, said_by, said_in, steps_of, with_said}
+use Rattle.scenario_history.specs.Refusals.{refusal_of}
+use Rattle.scenario_history.specs.Steps.{version_of}
+use Rattle.scenario_history.specs.Transcript.{end_after, has_end, last_end_after, transcript_end}
+use Rattle.replay_steps.specs.LineMeets.{refusal_at}
+use Rattle.replay_generated.specs.Generated.{lines_made}
+use Rattle.replay_generated.proofs.Accepting.{AllFine, all_fine, first_sink, group_fine, group_step, made_steps, scenario_fine, scenario_step, second_sink, sink_step}
+use Rattle.replay_generated.proofs.EndLines.{made_end}
+use Rattle.replay_generated.proofs.GeneratedText.{generated_read}
+use Rattle.replay_generated.proofs.Saying.{AllSay, all_say}
+
+-- a line reads as the step that it says
+abbrev pub Reads : Type 0
+Reads = (version : ℕ) (line : List ℕ) (next : Step) → LineIs version next line → read_of version line ≡ Ok (Some next)
+
+module _ (reads : Reads) (starts : List Account) where
+  -- the next line says a step
+  module _ (history : List TextLine) (made : List Step) (line : List ℕ) (next : Step) (are : steps_of history ≡ made) (version : version_of made ≡ 1) (says : LineIs 1 next line) where
+    said : said_after history (plain line) ≡ a_step next
+    said =
+        ap (λ m. said_in (version_of m) (plain line)) are ∙ ap (λ v. said_by (read_of v line)) version ∙ ap said_by (reads 1 line next says)
+
+    because : refusal_at starts history (plain line) ≡ refusal_of airs_of (length starts) made next
+    because =
+        ap (refusal_said airs_of (length starts) (steps_of history)) said ∙ ap (λ m. refusal_of airs_of (length starts) m next) are
+
+    made_next : steps_of (plain line ∷ history) ≡ next ∷ made
+    made_next = ap (λ w. with_said w (steps_of history)) said ∙ ap (λ m. next ∷ m) are
+
+    accepted_next : (later : List TextLine) → refusal_of airs_of (length starts) made next ≡ None
+        → end_of (rules_of airs_of starts) history (plain line ∷ later) ≡ end_of (rules_of airs_of starts) (plain line ∷ history) later
+    accepted_next later none = ap (λ why. end_unless history why (end_of (rules_of airs_of starts) (plain line ∷ history) later)) (because ∙ none)
+
+    refused_next : (later : List TextLine) (reason : Refusal) → refusal_of airs_of (length starts) made next ≡ Some reason
+        → end_of (rules_of airs_of starts) history (plain line ∷ later) ≡ refused (length history + 1) reason
+    refused_next later reason is = ap (λ why. end_unless history why (end_of (rules_of airs_of starts) (plain line ∷ history) later)) (because ∙ is)
+
+  all_accepted : (history : List TextLine) (made : List Step) (lines : List (List ℕ)) (steps : List Step) → steps_of history ≡ made → AllSay lines steps
+      → AllFine (length starts) made steps → end_of (rules_of airs_of starts) history (map plain lines) ≡ through
+  all_accepted history made [] [] are say fine = refl
+  all_accepted history made [] (next ∷ later) are say fine = absurd say
+  all_accepted history made (line ∷ lines) [] are say fine = absurd say
+  all_accepted history made (line ∷ lines) (next ∷ later) are say fine =
+      accepted_next history made line next are fine.0.0 say.0 (map plain lines) fine.0.1
+      ∙ all_accepted (plain line ∷ history) (next ∷ made) lines later (made_next history made line next are fine.0.0 say.0) say.1 fine.1
+
+  -- ---- the generated lines
+
+  module _ (seed events : ℕ) (most : events ≤ 100000) where
+    made_as : lines_made seed events ≡ map plain (generated_lines seed events)
+    made_as = generated_read seed events most
+
+    last_of : (end : End Refusal) → end_of (rules_of airs_of starts) [] (map plain (generated_lines seed events)) ≡ end
+        → transcript_end airs_of starts (lines_made seed events) ≡ last_end_after end true (length (lines_made seed events) + 1)
+    last_of end is =
+        ap (λ e. last_end_after e (has_end (lines_made seed events)) (length (lines_made seed events) + 1)) (ap (end_after airs_of starts) made_as ∙ is)
+        ∙ ap (λ b. last_end_after end b (length (lines_made seed events) + 1)) (made_end seed events made_as)
+
+    pub made_through : 2 ≤ length starts → transcript_end airs_of starts (lines_made seed events) ≡ through
+    made_through two =
+        last_of through (all_accepted [] [] (generated_lines seed events) (made_steps seed events) refl (all_say seed events) (all_fine (length starts) seed events two most))
+
+    -- the lines behind those of the sinks
+    abbrev behind : List TextLine
+    behind =
+        map plain (codes "start 0" ∷ codes "tuned 0 1" ∷ codes "tuned 1 2" ∷ unit_line 1 0 ∷ unit_line 2 0 ∷ lines_from seed 0 events)
+
+    abbrev group_line : List ℕ
+    group_line = codes "group unframed 20000 40000 8 10000 100 100 2 1 3 2 1 600 1800 1"
+
+    abbrev head : List TextLine
+    head = plain group_line ∷ plain (codes "scenario 1") ∷ []
+
+    head_made : steps_of head ≡ group_step ∷ scenario_step ∷ []
+    head_made =
+        made_next (plain (codes "scenario 1") ∷ []) (scenario_step ∷ []) group_line group_step
+        (made_next [] [] (codes "scenario 1") scenario_step refl refl (all_say seed events).0) refl (all_say seed events).1.0
+
+    head_accepted : (later : List TextLine) → end_of (rules_of airs_of starts) [] (plain (codes "scenario 1") ∷ plain group_line ∷ later) ≡ end_of (rules_of airs_of starts) head later
+    head_accepted later =
+        accepted_next [] [] (codes "scenario 1") scenario_step refl refl (all_say seed events).0 (plain group_line ∷ later) (scenario_fine (length starts))
+        ∙ accepted_next (plain (codes "scenario 1") ∷ []) (scenario_step ∷ []) group_line group_step
+        (made_next [] [] (codes "scenario 1") scenario_step refl refl (all_say seed events).0) refl (all_say seed events).1.0 later (group_fine (length starts))
+
+    none_left : length starts ≡ 0 → end_of (rules_of airs_of starts) [] (map plain (generated_lines seed events)) ≡ refused 3 NoOutlet
+    none_left none =
+        head_accepted (plain (codes "sink 0 1 1") ∷ plain (codes "sink 1 1 1") ∷ behind)
+        ∙ refused_next head (group_step ∷ scenario_step ∷ []) (codes "sink 0 1 1") (sink_step 0) head_made refl (all_say seed events).1.1.0
+        (plain (codes "sink 1 1 1") ∷ behind) NoOutlet (first_sink (length starts) true (le-leb (length starts) 0 (omega (arith, none))))
+
+    one_left : length starts ≡ 1 → end_of (rules_of airs_of starts) [] (map plain (generated_lines seed events)) ≡ refused 4 NoOutlet
+    one_left one =
+        head_accepted (plain (codes "sink 0 1 1") ∷ plain (codes "sink 1 1 1") ∷ behind)
+        ∙ accepted_next head (group_step ∷ scenario_step ∷ []) (codes "sink 0 1 1") (sink_step 0) head_made refl (all_say seed events).1.1.0
+        (plain (codes "sink 1 1 1") ∷ behind) (first_sink (length starts) false (lt-leb (length starts) 0 (omega (arith, one))))
+        ∙ refused_next (plain (codes "sink 0 1 1") ∷ head) (sink_step 0 ∷ group_step ∷ scenario_step ∷ []) (codes "sink 1 1 1") (sink_step 1)
+        (made_next head (group_step ∷ scenario_step ∷ []) (codes "sink 0 1 1") (sink_step 0) head_made refl (all_say seed events).1.1.0)
+        refl (all_say seed events).1.1.1.0 behind NoOutlet (second_sink (length starts) true (le-leb (length starts) 1 (omega (arith, one))))
+
+    pub made_refused : length starts < 2 → transcript_end airs_of starts (lines_made seed events) ≡ refused (length starts + 3) NoOutlet
+    made_refused few = by_count (length starts) refl few
+      where
+        by_count : (n : ℕ) → length starts ≡ n → n < 2 → transcript_end airs_of starts (lines_made seed events) ≡ refused (length starts + 3) NoOutlet
+        by_count zero is less = last_of (refused 3 NoOutlet) (none_left is) ∙ ap (λ n. refused (n + 3) NoOutlet) (sym is)
+        by_count (suc zero) is less = last_of (refused 4 NoOutlet) (one_left is) ∙ ap (λ n. refused (n + 3) NoOutlet) (sym is)
+        by_count (suc (suc n)) is less = absurd (omega arith)

@@ -1,0 +1,237 @@
+-- The lines of the generated text are the generated lines: none holds the octet that ends a line, and none passes a limit.
+use Rattle.std.proofs.Common.{◌≡◌, ℕ, zero, suc, ◌+◌, ◌*◌, ◌<◌, ◌≤◌, ◌/◌, ◌%◌, Bool, true, false, cond, not, ◌&&◌, eqb, leb, nat_eq, List, [], ◌∷◌, ◌++◌, length, get_or, map}
+use Rattle.std.proofs.Common.{codes, decimal, refl, sym, ap, subst, ◌∙◌, append_assoc, arith, length-append, append-nil}
+use Rattle.std.specs.Prelude.{replicate, slice_index, ⊤}
+use Rattle.std.proofs.lemmas.Bool.{lt-leb, le-leb, leb-true, ne_eqb}
+use Rattle.std.proofs.lemmas.Fmt.{decimal_digit}
+use Rattle.hex.specs.Hex.{encode_with, encode_lower, lower_digits}
+use Rattle.printed_words.specs.Lines.{joined}
+use Rattle.printed_words.specs.Digits.{digits}
+use Rattle.bcast_io.specs.TextLines.{plain, too_long, past, newline, line_limit, text_limit, line_of, lines_from, lines_of}
+use Rattle.bcast_io.proofs.Citable.{lines-nothing}
+use Rattle.scenario_generator.specs.Draws.{drawn, next_state}
+use Rattle.scenario_generator.specs.Generated as made
+use Rattle.scenario_generator.specs.Generated.{unit_of, unit_line, air_line, head_lines, generated_lines, generated, text_of}
+
+-- ---- lines of a text
+
+-- no octet of the line ends it
+abbrev Unended : List ℕ → Type 0
+Unended [] = ⊤
+Unended (octet ∷ line) = (nat_eq octet newline ≡ false) × Unended line
+
+line_read : (taken : ℕ) (part line rest : List ℕ) → Unended line → taken + length line < text_limit
+    → lines_from true taken part (line ++ newline ∷ rest) ≡ line_of (part ++ line) ∷ lines_from true (taken + length line + 1) [] rest
+unfolding lines_from
+line_read taken part [] rest none fits =
+    let same : taken ≡ taken + 0 = omega arith in
+    ap (λ b. cond b (past ∷ []) (line_of part ∷ lines_from true (taken + 1) [] rest)) (lt-leb text_limit taken (omega arith))
+    ∙ ap (λ l. line_of l ∷ lines_from true (taken + 1) [] rest) (sym (append-nil part))
+    ∙ ap (λ n. line_of (part ++ []) ∷ lines_from true (n + 1) [] rest) same
+line_read taken part (x ∷ line) rest none fits =
+    let ended = line_of part ∷ lines_from true (taken + 1) [] (line ++ newline ∷ rest) in
+    let goes = lines_from true (taken + 1) (part ++ x ∷ []) (line ++ newline ∷ rest) in
+    let count : (taken + 1) + length line ≡ taken + suc (length line) = omega arith in
+    ap (λ b. cond b (past ∷ []) (cond (eqb x newline) ended goes)) (lt-leb text_limit taken (omega arith))
+    ∙ ap (λ b. cond b ended goes) none.0
+    ∙ line_read (taken + 1) (part ++ x ∷ []) line rest none.1 (omega arith)
+    ∙ ap (λ l. line_of l ∷ lines_from true ((taken + 1) + length line + 1) [] rest) (append_assoc part (x ∷ []) line)
+    ∙ ap (λ n. line_of (part ++ x ∷ line) ∷ lines_from true (n + 1) [] rest) count
+
+-- each line is one of a text, and has at most so many octets
+abbrev AllShort : ℕ → List (List ℕ) → Type 0
+AllShort most [] = ⊤
+AllShort most (line ∷ lines) = (Unended line × (length line ≤ most)) × AllShort most lines
+
+line_short : (line : List ℕ) → length line ≤ line_limit → line_of line ≡ plain line
+line_short line h = ap (λ b. cond b (plain line) too_long) (le-leb (length line) line_limit h)
+
+first_long : (line : List ℕ) (lines : List (List ℕ)) → length (text_of (line ∷ lines)) ≡ length line + (1 + length (text_of lines))
+first_long line lines = length-append line (newline ∷ text_of lines) ∙ omega arith
+
+text_read : (taken : ℕ) (lines : List (List ℕ)) → AllShort line_limit lines → taken + length (text_of lines) ≤ text_limit
+    → lines_from true taken [] (text_of lines) ≡ map plain lines
+text_read taken [] all fits = lines-nothing true taken
+text_read taken (line ∷ lines) all fits =
+    let long = first_long line lines in
+    line_read taken [] line (text_of lines) all.0.0 (omega (arith, long))
+    ∙ ap (λ l. l ∷ lines_from true (taken + length line + 1) [] (text_of lines)) (line_short line all.0.1)
+    ∙ ap (λ ls. plain line ∷ ls) (text_read (taken + length line + 1) lines all.1 (omega (arith, long)))
+
+-- ---- tests of closed lines
+
+abbrev is_unended : List ℕ → Bool
+is_unended [] = true
+is_unended (octet ∷ line) = not (nat_eq octet newline) && is_unended line
+
+both : (a b : Bool) → (not a && b) ≡ true → (a ≡ false) × (b ≡ true)
+both true b e = absurd cc
+both false b e = (refl, e)
+
+both_true : (a b : Bool) → (a && b) ≡ true → (a ≡ true) × (b ≡ true)
+both_true true b e = (refl, e)
+both_true false b e = absurd cc
+
+unended : (line : List ℕ) → is_unended line ≡ true → Unended line
+unended [] e = tt
+unended (octet ∷ line) e =
+    let parts = both (nat_eq octet newline) (is_unended line) e in
+    (parts.0, unended line parts.1)
+
+abbrev are_short : ℕ → List (List ℕ) → Bool
+are_short most [] = true
+are_short most (line ∷ lines) = (is_unended line && leb (length line) most) && are_short most lines
+
+all_short : (most : ℕ) (lines : List (List ℕ)) → are_short most lines ≡ true → AllShort most lines
+all_short most [] e = tt
+all_short most (line ∷ lines) e =
+    let parts = both_true (is_unended line && leb (length line) most) (are_short most lines) e in
+    let own = both_true (is_unended line) (leb (length line) most) parts.0 in
+    ((unended line own.0, leb-true (length line) most own.1), all_short most lines parts.1)
+
+unended_append : (xs ys : List ℕ) → Unended xs → Unended ys → Unended (xs ++ ys)
+unended_append [] ys h k = k
+unended_append (x ∷ xs) ys h k = (h.0, unended_append xs ys h.1 k)
+
+-- ---- digits
+
+unended_at : (word : List ℕ) (i : ℕ) → Unended word → i < length word → nat_eq (get_or word i 0) newline ≡ false
+unended_at [] i h inside = absurd (omega arith)
+unended_at (octet ∷ word) zero h inside = h.0
+unended_at (octet ∷ word) (suc i) h inside = unended_at word i h.1 (omega arith)
+
+digit_unended : (k : ℕ) → k < 16 → nat_eq (slice_index lower_digits k) newline ≡ false
+digit_unended k small = unended_at lower_digits k (unended lower_digits refl) small
+
+encoded : (n v : ℕ) → v < 256 → Unended (encode_lower (replicate n v)) × (length (encode_lower (replicate n v)) ≡ 2 * n)
+unfolding encode_with
+encoded zero v small = (tt, refl)
+encoded (suc n) v small =
+    let rest = encoded n v small in
+    ((digit_unended (v / 16) (omega arith), (digit_unended (v % 16) (omega arith), rest.0)), omega (arith, rest.1))
+
+decimal_unended : (n : ℕ) → n < 10 → nat_eq (48 + n) newline ≡ false
+decimal_unended n small = ne_eqb (48 + n) newline (λ same. omega (arith, same))
+
+-- ---- the generated lines
+
+unit_shape : (bis x : ℕ) → bis < 10 → unit_line bis x ≡ codes "unit " ++ (48 + bis) ∷ (codes " - " ++ encode_lower (unit_of x))
+unfolding unit_line
+unit_shape bis x small =
+    ap (λ d. joined (codes "unit") (d ∷ codes "-" ∷ digits (unit_of x) ∷ [])) (decimal_digit bis small)
+    ∙ ap (λ e. codes "unit " ++ (48 + bis) ∷ (codes " - " ++ e)) (append-nil (encode_lower (unit_of x)))
+
+unit_short : (bis x : ℕ) → bis < 10 → Unended (unit_line bis x) × (length (unit_line bis x) ≡ 209)
+unit_short bis x small =
+    let shape = unit_shape bis x small in
+    let octets = encoded 100 (x % 256) (omega arith) in
+    let rest = unended_append (codes " - ") (encode_lower (unit_of x)) (unended (codes " - ") refl) octets.0 in
+    let all = unended_append (codes "unit ") ((48 + bis) ∷ (codes " - " ++ encode_lower (unit_of x))) (unended (codes "unit ") refl) (decimal_unended bis small, rest) in
+    (subst Unended (sym shape) all, ap length shape ∙ omega (arith, octets.1))
+
+air_shape : (sink lose : ℕ) → sink < 10 → lose < 10 → air_line sink lose ≡ codes "air " ++ (48 + sink) ∷ 32 ∷ (48 + lose) ∷ []
+unfolding air_line
+air_shape sink lose small less =
+    ap (λ d. joined (codes "air") (d ∷ decimal lose ∷ [])) (decimal_digit sink small)
+    ∙ ap (λ d. joined (codes "air") (((48 + sink) ∷ []) ∷ d ∷ [])) (decimal_digit lose less)
+
+air_short : (sink lose : ℕ) → sink < 10 → lose < 10 → Unended (air_line sink lose) × (length (air_line sink lose) ≡ 7)
+air_short sink lose small less =
+    let shape = air_shape sink lose small less in
+    let all : Unended (codes "air " ++ (48 + sink) ∷ 32 ∷ (48 + lose) ∷ []) =
+    unended_append (codes "air ") ((48 + sink) ∷ 32 ∷ (48 + lose) ∷ []) (unended (codes "air ") refl) (decimal_unended sink small, (refl, (decimal_unended lose less, tt))) in
+    (subst Unended (sym shape) all, ap length shape)
+
+drawn_small : (state : ℕ) → drawn state < 10
+drawn_small state = omega arith
+
+-- the lines of the events
+events_short : (state x count : ℕ) → AllShort line_limit (made.lines_from state x count) × (length (text_of (made.lines_from state x count)) ≡ 442 * count + 4)
+unfolding made.lines_from
+events_short state x zero = (all_short line_limit (codes "end" ∷ []) refl, refl)
+events_short state x (suc count) =
+    let first = next_state state in
+    let second = next_state first in
+    let rest = events_short second (x + 1) count in
+    let later = made.lines_from second (x + 1) count in
+    let one = unit_short 1 (x + 1) (omega arith) in
+    let two = unit_short 2 (x + 1) (omega arith) in
+    let heard = air_short 0 (drawn first) (omega arith) (drawn_small first) in
+    let other = air_short 1 (drawn second) (omega arith) (drawn_small second) in
+    let event : Unended (codes "event") = unended (codes "event") refl in
+    let l5 = first_long (air_line 1 (drawn second)) later in
+    let l4 = first_long (air_line 0 (drawn first)) (air_line 1 (drawn second) ∷ later) in
+    let l3 = first_long (codes "event") (air_line 0 (drawn first) ∷ air_line 1 (drawn second) ∷ later) in
+    let l2 = first_long (unit_line 2 (x + 1)) (codes "event" ∷ air_line 0 (drawn first) ∷ air_line 1 (drawn second) ∷ later) in
+    let l1 = first_long (unit_line 1 (x + 1)) (unit_line 2 (x + 1) ∷ codes "event" ∷ air_line 0 (drawn first) ∷ air_line 1 (drawn second) ∷ later) in (
+      ((one.0, omega (arith, one.1)), ((two.0, omega (arith, two.1)), ((event, omega arith), ((heard.0, omega (arith, heard.1)), ((other.0, omega (arith, other.1)), rest.0))))),
+      omega (arith, l1, l2, l3, l4, l5, one.1, two.1, heard.1, other.1, rest.1),
+    )
+
+short_append : (most : ℕ) (xs ys : List (List ℕ)) → AllShort most xs → AllShort most ys → AllShort most (xs ++ ys)
+short_append most [] ys h k = k
+short_append most (x ∷ xs) ys h k = (h.0, short_append most xs ys h.1 k)
+
+from_zero : (n : ℕ) → n ≡ 0 + n
+from_zero n = omega arith
+
+text_append : (xs ys : List (List ℕ)) → length (text_of (xs ++ ys)) ≡ length (text_of xs) + length (text_of ys)
+text_append [] ys = from_zero (length (text_of ys))
+text_append (x ∷ xs) ys = omega (arith, first_long x (xs ++ ys), first_long x xs, text_append xs ys)
+
+head_length : length (text_of head_lines) ≤ 400
+head_length = leb-true (length (text_of head_lines)) 400 refl
+
+all_fine : (seed events : ℕ) → events ≤ 100000 → AllShort line_limit (generated_lines seed events) × (length (generated seed events) ≤ text_limit)
+all_fine seed events most =
+    let rest = events_short seed 0 events in
+    let later = made.lines_from seed 0 events in
+    let one = unit_short 1 0 (omega arith) in
+    let two = unit_short 2 0 (omega arith) in
+    let l1 = first_long (unit_line 1 0) (unit_line 2 0 ∷ later) in
+    let l2 = first_long (unit_line 2 0) later in (
+      short_append line_limit head_lines (unit_line 1 0 ∷ unit_line 2 0 ∷ later) (all_short line_limit head_lines refl)
+          ((one.0, omega (arith, one.1)), ((two.0, omega (arith, two.1)), rest.0)),
+      omega (arith, text_append head_lines (unit_line 1 0 ∷ unit_line 2 0 ∷ later), head_length, l1, l2, one.1, two.1, rest.1, most),
+    )
+
+-- the lines of the generated text are the generated lines
+pub generated_read : (seed events : ℕ) → events ≤ 100000 → lines_of true (generated seed events) ≡ map plain (generated_lines seed events)
+generated_read seed events most =
+    let fine = all_fine seed events most in
+    text_read 0 (generated_lines seed events) fine.0 (omega (arith, fine.1))
+
+-- ---- how many lines, and the last
+
+lines_count : (state x count : ℕ) → length (made.lines_from state x count) ≡ 5 * count + 1
+unfolding made.lines_from
+lines_count state x zero = refl
+lines_count state x (suc count) = omega (arith, lines_count (next_state (next_state state)) (x + 1) count)
+
+pub generated_count : (seed events : ℕ) → events ≤ 100000 → length (generated_lines seed events) ≤ 500010
+generated_count seed events most =
+    omega (arith, length-append head_lines (unit_line 1 0 ∷ unit_line 2 0 ∷ made.lines_from seed 0 events), lines_count seed 0 events, most)
+
+-- the last of these lines is `end`
+pub record LastIsEnd (lines : List (List ℕ)) : Type 0 where
+  pub front : List (List ℕ)
+  pub whole : lines ≡ front ++ codes "end" ∷ []
+
+behind : (front lines : List (List ℕ)) → LastIsEnd lines → LastIsEnd (front ++ lines)
+behind front lines last = record {
+  front = front ++ last.front;
+  whole = ap (λ ls. front ++ ls) last.whole ∙ sym (append_assoc front last.front (codes "end" ∷ []));
+}
+
+events_end : (state x count : ℕ) → LastIsEnd (made.lines_from state x count)
+unfolding made.lines_from
+events_end state x zero = record { front = []; whole = refl }
+events_end state x (suc count) =
+    let first = next_state state in
+    let second = next_state first in
+    behind (unit_line 1 (x + 1) ∷ unit_line 2 (x + 1) ∷ codes "event" ∷ air_line 0 (drawn first) ∷ air_line 1 (drawn second) ∷ [])
+    (made.lines_from second (x + 1) count) (events_end second (x + 1) count)
+
+pub generated_end : (seed events : ℕ) → LastIsEnd (generated_lines seed events)
+generated_end seed events =
+    behind (head_lines ++ unit_line 1 0 ∷ unit_line 2 0 ∷ []) (made.lines_from seed 0 events) (events_end seed 0 events)

@@ -1,0 +1,11 @@
+mod GeneratedText
+mod EndLines
+mod Outputs
+mod Runs
+mod Standing
+mod Waiting
+mod Accepting
+mod Saying
+mod Endings
+mod Rooms
+mod Promising

@@ -1,0 +1,76 @@
+-- What each line prints is whole lines.
+use Rattle.std.proofs.Common.{ℕ, ◌+◌, List, [], ◌∷◌, ◌++◌, codes, decimal, length, map, Option, None, Some}
+use Rattle.std.specs.Prelude.{sum}
+use Rattle.std.specs.List.{flat_map}
+use Rattle.unit_outlets.specs.Account.{Account}
+use Rattle.unit_outlets.specs.Handed.{Handed, valid, lost}
+use Rattle.source_machine.specs.Airs.{airs_of}
+use Rattle.source_machine.specs.declared.sent.Stale.{Stale}
+use Rattle.printed_words.specs.Digits.{digits}
+use Rattle.printed_words.specs.Lines.{joined}
+use Rattle.transcript_text.specs.Lines.{control_line, handed_line, hearing_name, hearing_number, line_of, numbers, stale_line}
+use Rattle.scenario_text.specs.declared.step.Step.{Step}
+use Rattle.scenario_text.specs.declared.step.Step.TheVariants as kinds
+use Rattle.scenario_history.specs.Boxes.{SinkUnit, account_at, box_of, closing, closing_both, handed_up, sink_numbers, valid_for}
+use Rattle.scenario_history.specs.Lines.{Said, a_step, nothing, unsaid, output_said}
+use Rattle.scenario_history.specs.Output.{injected_hearing, output_of, stale_lines, sum_if, sums_of, unit_line, unit_lines}
+use Rattle.scenario_history.specs.Source.{end_pdu, event_back, pdu_in, stale_in}
+use Rattle.scenario_history.specs.Steps.{chosen_of, chosen_steps}
+use Rattle.transcript_summary.specs.Lines.{IsWhole}
+use Rattle.transcript_summary.proofs.Citable.{whole_append, whole_ended, whole_none}
+
+line_whole : (first : List ℕ) (words : List (List ℕ)) → IsWhole (line_of first words)
+line_whole first words = whole_ended (joined first words)
+
+all_whole : {X : Type 0} (print : X → List ℕ) → ((x : X) → IsWhole (print x)) → (xs : List X) → IsWhole (flat_map print xs)
+all_whole print each [] = whole_none
+all_whole print each (x ∷ xs) = whole_append (print x) (flat_map print xs) (each x) (all_whole print each xs)
+
+handed_whole : (sink : ℕ) (unit : Handed) → IsWhole (handed_line sink unit)
+handed_whole sink (valid bis time octets) =
+    line_whole (codes "unit") (decimal sink ∷ decimal bis ∷ codes "at" ∷ decimal time ∷ codes "valid" ∷ decimal (length octets) ∷ digits octets ∷ [])
+handed_whole sink (lost bis time) = line_whole (codes "unit") (decimal sink ∷ decimal bis ∷ codes "at" ∷ decimal time ∷ codes "lost" ∷ [])
+
+units_whole : (units : List SinkUnit) → IsWhole (unit_lines units)
+units_whole units = all_whole unit_line (λ unit. handed_whole unit.sink unit.unit) units
+
+stale_whole : (units : List Stale) → IsWhole (stale_lines units)
+stale_whole units =
+    all_whole (λ (unit : Stale). stale_line unit.bis unit.time) (λ unit. line_whole (codes "stale") (decimal unit.bis ∷ decimal unit.time ∷ [])) units
+
+sum_whole : (starts : List Account) (units : List SinkUnit) (n : ℕ) (box : Option ℕ) → IsWhole (sum_if starts units n box)
+sum_whole starts units n None = whole_none
+sum_whole starts units n (Some box) =
+    line_whole (codes "sum")
+    (
+    decimal n ∷ decimal ((account_at starts box).units + length (valid_for box units)) ∷ decimal ((account_at starts box).octets + sum (map length (valid_for box units)))
+    ∷ []
+    )
+
+sums_whole : (starts : List Account) (units : List SinkUnit) (steps : List Step) → IsWhole (sums_of starts units steps)
+sums_whole starts units steps = all_whole (λ n. sum_if starts units n (box_of n steps)) (λ n. sum_whole starts units n (box_of n steps)) sink_numbers
+
+output_whole : (starts : List Account) (steps : List Step) (made : Step) → IsWhole (output_of airs_of starts steps made)
+output_whole starts steps kinds.Event =
+    whole_append (unit_lines (closing airs_of (chosen_of steps) steps)) (stale_lines (stale_in airs_of (chosen_steps steps)))
+    (units_whole (closing airs_of (chosen_of steps) steps)) (stale_whole (stale_in airs_of (chosen_steps steps)))
+output_whole starts steps kinds.Stop = units_whole (closing airs_of (chosen_of steps) steps)
+output_whole starts steps (kinds.Terminate reason) =
+    whole_append (unit_lines (closing airs_of (chosen_of steps) steps)) (control_line (end_pdu (chosen_steps steps) reason))
+    (units_whole (closing airs_of (chosen_of steps) steps)) (line_whole (codes "control") (digits (end_pdu (chosen_steps steps) reason) ∷ []))
+output_whole starts steps kinds.End =
+    whole_append (unit_lines (closing_both airs_of steps)) (sums_of starts (handed_up airs_of steps ++ closing_both airs_of steps) steps)
+    (units_whole (closing_both airs_of steps)) (sums_whole starts (handed_up airs_of steps ++ closing_both airs_of steps) steps)
+output_whole starts steps (kinds.Drop sink) = sum_whole starts (handed_up airs_of steps) sink (box_of sink steps)
+output_whole starts steps (kinds.Inject sink back bis subevent octets) =
+    let hearing = injected_hearing airs_of steps sink back bis subevent octets in
+    line_whole (codes "heard") (decimal sink ∷ hearing_name hearing ∷ numbers (hearing_number hearing))
+output_whole starts steps (kinds.Sniff back bis subevent) =
+    let event = event_back (chosen_steps steps) back in
+    line_whole (codes "pdu") (decimal event ∷ decimal bis ∷ decimal subevent ∷ digits (pdu_in airs_of (chosen_steps steps) event bis subevent) ∷ [])
+output_whole starts steps _ = whole_none
+
+pub said_whole : (starts : List Account) (steps : List Step) (said : Said) → IsWhole (output_said airs_of starts steps said)
+said_whole starts steps (a_step made) = output_whole starts steps made
+said_whole starts steps nothing = whole_none
+said_whole starts steps (unsaid reason) = whole_none

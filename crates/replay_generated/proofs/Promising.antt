@@ -1,0 +1,189 @@
+-- What a generated run promises, by how its lines ended and what was written.
+use Rattle.std.proofs.Common.{◌≡◌, ◌≢◌, ℕ, ◌+◌, ◌<◌, ◌≤◌, List, [], ◌∷◌, length, reverse, refl, sym, subst, ◌∙◌, Option, None, Some, inl, inr}
+use Rattle.std.proofs.lemmas.List.{append-nil}
+use Rattle.std.proofs.lemmas.Bool.{cases_lt}
+use Rattle.std.specs.Io.KnownBytes.{Appends, Keeps}
+use Rattle.bcast_base.specs.Counts.{Rose}
+use Rattle.bcast_io.specs.TextLines.{TextLine}
+use Rattle.bcast_io.specs.Writing.{AppendsFront}
+use Rattle.bcast_io.proofs.Citable.{Appends-nothing, AppendsFront-nothing}
+use Rattle.unit_outlets.specs.Account.{Account}
+use Rattle.source_machine.specs.Airs.{airs_of}
+use Rattle.transcript_text.specs.declared.refusal.Refusal.{Refusal}
+use Rattle.transcript_text.specs.declared.refusal.Refusal.TheVariants.{NoOutlet}
+use Rattle.transcript_summary.specs.Summary.{summary, summary_of}
+use Rattle.transcript_summary.specs.declared.counts.Counts.{Counts}
+use Rattle.line_runs.specs.Runs.{End, through, refused, Accepted}
+use Rattle.scenario_history.specs.Airs.{MeetAirs}
+use Rattle.scenario_history.specs.Boxes.{SinkUnit, Took}
+use Rattle.scenario_history.specs.Lines.{rules_of, handed_on}
+use Rattle.scenario_history.specs.Source.{Airs}
+use Rattle.scenario_history.specs.Transcript.{transcript_of, transcript_end, units_of}
+use Rattle.scenario_sinks.specs.Handing.{BoxFails}
+use Rattle.replay_generated.specs.Generated.{BoxFailed, CutShort, Did, EndedOver, GeneratedRun, IsDoneOrMemory, RoomFor, Summed, lines_made, summary_in}
+use Rattle.replay_generated.specs.State.Between.{Ends, FrontTaken, Puts, Told}
+use Rattle.replay_generated.specs.declared.outcome.Outcome.{Outcome}
+use Rattle.replay_generated.specs.declared.outcome.Outcome.TheVariants as outcomes
+use Rattle.replay_generated.proofs.Endings.{Reads, made_refused, made_through}
+use Rattle.replay_generated.proofs.Rooms.{no_room}
+
+-- ---- over other airs
+
+-- these airs give the same
+pub record Same (airs : Airs) : Type 0 where
+  pub octets : (starts : List Account) → (lines : List TextLine) → transcript_of airs_of starts lines ≡ transcript_of airs starts lines
+  pub end : (starts : List Account) → (lines : List TextLine) → transcript_end airs_of starts lines ≡ transcript_end airs starts lines
+  pub units : (starts : List Account) → (lines : List TextLine) → units_of airs_of starts lines ≡ units_of airs starts lines
+  pub accepted : (starts : List Account) → (lines : List TextLine) → Accepted (rules_of airs_of starts) lines → Accepted (rules_of airs starts) lines
+  pub handed : (starts : List Account) → (lines : List TextLine) → (line : TextLine) → Accepted (rules_of airs_of starts) lines → handed_on airs_of lines line ≡ handed_on airs lines line
+
+abbrev pub AllSame : Type 0
+AllSame = (airs : Airs) → MeetAirs airs → Same airs
+
+module _ (airs : Airs) (same : Same airs) (starts ends : List Account) (events : ℕ) (lines : List TextLine) (kept kept' : Option (List ℕ)) where
+  summed_as : (end : End Refusal) → Summed airs_of starts ends events lines kept kept' end → Summed airs starts ends events lines kept kept' end
+  summed_as end d = record {
+    ends_so = sym (same.end starts lines) ∙ d.ends_so;
+    written = subst (λ (t : List ℕ). Appends kept kept' (summary events t)) (same.octets starts lines) d.written;
+    boxes = subst (λ (us : List SinkUnit). Took starts ends us) (same.units starts lines) d.boxes;
+  }
+
+  cut_as : CutShort airs_of starts ends events lines kept kept' → CutShort airs starts ends events lines kept kept'
+  cut_as d = record {
+    written = subst (λ (t : List ℕ). AppendsFront kept kept' (summary events t)) (same.octets starts lines) d.written;
+    done = d.done;
+    rest = d.rest;
+    split = sym (same.units starts lines) ∙ d.split;
+    boxes = d.boxes;
+  }
+
+  failed_as : BoxFailed airs_of starts ends lines → BoxFailed airs starts ends lines
+  failed_as d = record {
+    earlier = d.earlier;
+    line = d.line;
+    later = d.later;
+    comes = d.comes;
+    accepted = same.accepted starts (d.line ∷ d.earlier) d.accepted;
+    accounts = d.accounts;
+    before = subst (λ (us : List SinkUnit). Took starts d.accounts us) (same.units starts (reverse d.earlier)) d.before;
+    told = d.told;
+    fails = subst (λ (us : List SinkUnit). BoxFails us [] d.told d.accounts ends) (same.handed starts d.earlier d.line d.accepted.0) d.fails;
+  }
+
+  ended_as : (outcome : Outcome) → EndedOver airs_of events lines outcome starts ends kept kept' → EndedOver airs events lines outcome starts ends kept kept'
+  ended_as outcomes.Done d = summed_as through d
+  ended_as (outcomes.Refused line reason) d = summed_as (refused line reason) d
+  ended_as outcomes.OutletFault d = (failed_as d.0, d.1)
+  ended_as outcomes.WriteFault d = cut_as d
+  ended_as outcomes.Memory d = cut_as d
+
+-- ---- what was written
+
+module _ (starts ends : List Account) (events : ℕ) (lines : List TextLine) (kept kept' : Option (List ℕ)) (faults faults' : ℕ) where
+  -- the summary was put to the sink
+  pub put_ends : (counts : Counts) (end : End Refusal) (ended result : Outcome) → Told starts ends lines counts end
+      → (Summed airs_of starts ends events lines kept kept' end → EndedOver airs_of events lines ended starts ends kept kept') → ended ≢ outcomes.WriteFault
+      → Puts (summary_of events counts) ended kept kept' faults faults' result → Ends starts ends events lines kept kept' faults faults' result
+  put_ends counts end ended result told as_ended other (inl put) =
+      let P : Outcome → Type 0 = λ o. EndedOver airs_of events lines o starts ends kept kept' in
+      record {
+        did = subst P (sym put.0) (as_ended (record {
+          ends_so = told.ends_so;
+          written = subst (λ (c : Counts). Appends kept kept' (summary_of events c)) told.counted put.1;
+          boxes = told.boxes;
+        }));
+        rose = λ is. absurd (other (sym put.0 ∙ is));
+        stays = λ is. put.2;
+      }
+  put_ends counts end ended result told as_ended other (inr (inl put)) =
+      let P : Outcome → Type 0 = λ o. EndedOver airs_of events lines o starts ends kept kept' in
+      record {
+        did = subst P (sym put.0) (record {
+          written = subst (λ (c : Counts). AppendsFront kept kept' (summary_of events c)) told.counted put.1;
+          done = units_of airs_of starts lines;
+          rest = [];
+          split = sym (append-nil (units_of airs_of starts lines));
+          boxes = told.boxes;
+        });
+        rose = λ is. put.2;
+        stays = λ is. absurd (is put.0);
+      }
+  put_ends counts end ended result told as_ended other (inr (inr put)) =
+      let P : Outcome → Type 0 = λ o. EndedOver airs_of events lines o starts ends kept kept' in
+      record {
+        did = subst P (sym put.0) (record {
+          written = subst (λ (c : Counts). AppendsFront kept kept' (summary_of events c)) told.counted put.1;
+          done = units_of airs_of starts lines;
+          rest = [];
+          split = sym (append-nil (units_of airs_of starts lines));
+          boxes = told.boxes;
+        });
+        rose = λ is. let no : outcomes.Memory ≡ outcomes.WriteFault = sym put.0 ∙ is in cc;
+        stays = λ is. put.2;
+      }
+
+keeps_same : (kept : Option (List ℕ)) → Keeps kept kept
+keeps_same None = tt
+keeps_same (Some xs) = refl
+
+pub failed_ends : (starts ends : List Account) (events : ℕ) (lines : List TextLine) (kept : Option (List ℕ)) (faults : ℕ) → BoxFailed airs_of starts ends lines
+    → Ends starts ends events lines kept kept faults faults outcomes.OutletFault
+failed_ends starts ends events lines kept faults failed = record { did = (failed, Appends-nothing kept); rose = λ is. cc; stays = λ is. refl }
+
+pub memory_ends : (starts ends : List Account) (events : ℕ) (lines : List TextLine) (kept : Option (List ℕ)) (faults : ℕ) → FrontTaken starts ends lines
+    → Ends starts ends events lines kept kept faults faults outcomes.Memory
+memory_ends starts ends events lines kept faults front = record {
+  did = record {
+    written = AppendsFront-nothing kept kept (summary_in airs_of starts events lines) (keeps_same kept);
+    done = front.done;
+    rest = front.rest;
+    split = front.split;
+    boxes = front.boxes;
+  };
+  rose = λ is. cc;
+  stays = λ is. refl;
+}
+
+-- ---- the promise
+
+-- which outcomes come
+complete_over : (starts ends : List Account) (seed events : ℕ) (kept kept' : Option (List ℕ)) (faults faults' : ℕ) (outcome : Outcome)
+    → EndedOver airs_of events (lines_made seed events) outcome starts ends kept kept' → (outcome ≡ outcomes.WriteFault → Rose faults faults')
+    → transcript_end airs_of starts (lines_made seed events) ≡ through → RoomFor starts (units_of airs_of starts (lines_made seed events)) → ¬ Rose faults faults'
+    → IsDoneOrMemory outcome
+complete_over starts ends seed events kept kept' faults faults' outcomes.Done e rose whole room none = tt
+complete_over starts ends seed events kept kept' faults faults' (outcomes.Refused line reason) e rose whole room none =
+    let no : refused line reason ≡ through = sym e.ends_so ∙ whole in absurd cc
+complete_over starts ends seed events kept kept' faults faults' outcomes.OutletFault e rose whole room none =
+    absurd (no_room starts ends (lines_made seed events) e.0 room)
+complete_over starts ends seed events kept kept' faults faults' outcomes.WriteFault e rose whole room none = absurd (none (rose refl))
+complete_over starts ends seed events kept kept' faults faults' outcomes.Memory e rose whole room none = tt
+
+refused_so : (starts : List Account) (line : ℕ) (reason : Refusal) (end : End Refusal) → end ≡ refused line reason
+    → (2 ≤ length starts → end ≡ through) → (length starts < 2 → end ≡ refused (length starts + 3) NoOutlet) → (reason ≡ NoOutlet) × (length starts < 2)
+refused_so starts line reason end is enough few = elim (cases_lt (length starts) 2) [
+  | inl less ↦ let so : refused line reason ≡ refused (length starts + 3) NoOutlet = sym is ∙ few less in (cc, less)
+  | inr more ↦ let no : refused line reason ≡ through = sym is ∙ enough more in absurd (cc)
+]
+
+pub run_promises : (seed events : ℕ) (outcome : Outcome) (starts ends : List Account) (kept kept' : Option (List ℕ)) (faults faults' : ℕ) → events ≤ 100000 → Reads → AllSame
+    → Ends starts ends events (lines_made seed events) kept kept' faults faults' outcome → GeneratedRun seed events outcome starts ends kept kept' faults faults'
+run_promises seed events outcome starts ends kept kept' faults faults' most reads same e =
+    let at : (other : Outcome) → outcome ≡ other → EndedOver airs_of events (lines_made seed events) other starts ends kept kept' =
+    λ other is. let P : Outcome → Type 0 = λ o. EndedOver airs_of events (lines_made seed events) o starts ends kept kept' in subst P is e.did in
+    let over : (other : Outcome) → outcome ≡ other → Did seed events other starts ends kept kept' =
+    λ other is airs meets. ended_as airs (same airs meets) starts ends events (lines_made seed events) kept kept' other (at other is) in
+    record {
+      done = over outcomes.Done;
+      refused = λ line reason is. over (outcomes.Refused line reason) is;
+      no_outlet = λ line reason is.
+          refused_so starts line reason (transcript_end airs_of starts (lines_made seed events)) (at (outcomes.Refused line reason) is).ends_so
+          (made_through reads starts seed events most) (made_refused reads starts seed events most);
+      outlet_fault = over outcomes.OutletFault;
+      write_fault = λ is. (e.rose is, over outcomes.WriteFault is);
+      memory = over outcomes.Memory;
+      no_write_fault = e.stays;
+      complete = λ airs meets two room none.
+          complete_over starts ends seed events kept kept' faults faults' outcome e.did e.rose (made_through reads starts seed events most two)
+          (subst (λ (us : List SinkUnit). RoomFor starts us) (sym ((same airs meets).units starts (lines_made seed events))) room) none;
+    }

@@ -1,0 +1,90 @@
+-- A box that fails has no room for the valid units of its sink.
+use Rattle.std.proofs.Common.{◌≡◌, ℕ, ◌+◌, ◌<◌, ◌^◌, true, eq-eqb, List, ◌∷◌, ◌++◌, length, map, reverse, refl, sym, ap, subst, ◌∙◌, append_assoc, length-append, arith, Option}
+use Rattle.std.proofs.Common.{None, Some, slice_get, IsTrue}
+use Rattle.std.specs.Prelude.{option_map, sum}
+use Rattle.std.proofs.lemmas.List.{map-append}
+use Rattle.std.proofs.lemmas.List.Sums.{sum_by-append, sum_by-cons}
+use Rattle.bcast_io.specs.TextLines.{TextLine}
+use Rattle.unit_outlets.specs.Account.{Account, Fits}
+use Rattle.unit_outlets.specs.Handed.{valid}
+use Rattle.source_machine.specs.Airs.{airs_of}
+use Rattle.scenario_history.specs.Boxes.{SinkUnit, onto_valid, valid_for, with_units}
+use Rattle.scenario_history.specs.Lines.{handed_on}
+use Rattle.scenario_history.specs.Transcript.{units_of}
+use Rattle.scenario_history.proofs.Citable.{took_all, valid_append}
+use Rattle.replay_generated.specs.Generated.{BoxFailed, Holds, RoomFor}
+use Rattle.replay_generated.proofs.Runs.{units_all, units_line}
+
+map_some : {A : Type 0} (f : A → A) (o : Option A) (b : A) → option_map f o ≡ Some b → (a : A) × (o ≡ Some a) × (f a ≡ b)
+map_some f None b e = cc
+map_some f (Some a) b e = (a, refl, cc)
+
+-- the box that failed: what it was at the start, and the units of its sink
+record Failure (starts : List Account) (units : List SinkUnit) : Type 0 where
+  place : ℕ
+  first : Account
+  was : slice_get starts place ≡ Some first
+  octets : List ℕ
+  taken : List (List ℕ)
+  rest : List (List ℕ)
+  split : valid_for place units ≡ taken ++ octets ∷ rest
+  no_room : IsTrue first.is_sound → ¬ ((first.units + length taken + 1 < 2 ^ 64) × (first.octets + sum (map length taken) + length octets < 2 ^ 64))
+
+sum-append : (us vs : List (List ℕ)) → sum (map length (us ++ vs)) ≡ sum (map length us) + sum (map length vs)
+sum-append us vs = ap sum (map-append length us vs) ∙ sum_by-append (λ x. x) (map length us) (map length vs)
+
+valid_here : (unit : SinkUnit) (bis time : ℕ) (octets : List ℕ) (rest : List SinkUnit) → unit.unit ≡ valid bis time octets
+    → valid_for unit.box (unit ∷ rest) ≡ octets ∷ valid_for unit.box rest
+valid_here unit bis time octets rest is =
+    ap (λ b. onto_valid b unit.unit (valid_for unit.box rest)) (eq-eqb unit.box unit.box refl)
+    ∙ ap (λ u. onto_valid true u (valid_for unit.box rest)) is
+
+failure : (starts ends : List Account) (lines : List TextLine) → BoxFailed airs_of starts ends lines → Failure starts (units_of airs_of starts lines)
+failure starts ends lines o =
+    let f = o.fails in
+    let place : ℕ = f.unit.box in
+    let us : List SinkUnit = units_of airs_of starts (reverse o.earlier) in
+    let mid = map_some (λ account. with_units account (valid_for place f.done)) (slice_get o.accounts place) f.box.before (sym (took_all o.accounts f.done place) ∙ f.box.here) in
+    let start = map_some (λ account. with_units account (valid_for place us)) (slice_get starts place) mid.0 (sym (o.before place) ∙ mid.1) in
+    let same : with_units (with_units start.0 (valid_for place us)) (valid_for place f.done) ≡ f.box.before =
+    ap (λ account. with_units account (valid_for place f.done)) start.2 ∙ mid.2 in
+    let more = units_line starts o.earlier o.line lines o.later o.comes o.accepted.0 o.accepted.1 in
+    let behind : List SinkUnit = f.rest ++ more.rest in
+    let all : units_of airs_of starts lines ≡ us ++ (f.done ++ (f.unit ∷ behind)) =
+    more.split
+    ∙ ap (λ front. (front ++ handed_on airs_of o.earlier o.line) ++ more.rest) (sym (units_all starts o.earlier o.accepted.0))
+    ∙ ap (λ units. (us ++ units) ++ more.rest) f.split
+    ∙ append_assoc us (f.done ++ (f.unit ∷ f.rest)) more.rest
+    ∙ ap (λ units. us ++ units) (append_assoc f.done (f.unit ∷ f.rest) more.rest) in
+    let taken : List (List ℕ) = valid_for place us ++ valid_for place f.done in
+    record {
+      place = place;
+      first = start.0;
+      was = start.1;
+      octets = f.octets;
+      taken = taken;
+      rest = valid_for place behind;
+      split = ap (valid_for place) all
+          ∙ valid_append place us (f.done ++ (f.unit ∷ behind))
+          ∙ ap (λ units. valid_for place us ++ units) (valid_append place f.done (f.unit ∷ behind) ∙ ap (λ units. valid_for place f.done ++ units)
+          (valid_here f.unit f.bis f.time f.octets behind f.is_valid))
+          ∙ sym (append_assoc (valid_for place us) (valid_for place f.done) (f.octets ∷ valid_for place behind));
+      no_room = λ sound fits.
+          let P : Account → Type 0 = λ a. IsTrue a.is_sound → ¬ Fits f.octets a in
+          let not_fit : P (with_units (with_units start.0 (valid_for place us)) (valid_for place f.done)) = subst P (sym same) f.box.took.2 in
+          not_fit sound (
+            omega (arith, fits.0, length-append (valid_for place us) (valid_for place f.done)),
+            omega (arith, fits.1, sum-append (valid_for place us) (valid_for place f.done)),
+          );
+    }
+
+pub no_room : (starts ends : List Account) (lines : List TextLine) → BoxFailed airs_of starts ends lines → RoomFor starts (units_of airs_of starts lines) → ⊥
+no_room starts ends lines o room =
+    let f = failure starts ends lines o in
+    let here = room f.place f.first f.was in
+    let P : List (List ℕ) → Type 0 = λ us. Holds (with_units f.first us) in
+    let holds : Holds (with_units f.first (f.taken ++ f.octets ∷ f.rest)) = subst P f.split here.1 in
+    f.no_room here.0 (
+      omega (arith, holds.0, length-append f.taken (f.octets ∷ f.rest)),
+      omega (arith, holds.1, sum-append f.taken (f.octets ∷ f.rest), sum_by-cons (λ x. x) (length f.octets) (map length f.rest)),
+    )

@@ -1,0 +1,341 @@
+-- What a run over lines did, by its history.
+use Rattle.std.proofs.Common.{◌≡◌, ℕ, ◌+◌, true, List, [], ◌∷◌, ◌++◌, length, map, reverse, refl, sym, ap, subst, ◌∙◌, append_assoc, arith, Option, None, Some, Result, Ok}
+use Rattle.std.proofs.Common.{Err, inl, inr}
+use Rattle.std.proofs.lemmas.List.{append-nil}
+use Rattle.bcast_io.specs.TextLines.{TextLine, plain}
+use Rattle.unit_outlets.specs.Account.{Account}
+use Rattle.source_machine.specs.Airs.{airs_of}
+use Rattle.transcript_text.specs.declared.refusal.Refusal.{Refusal}
+use Rattle.transcript_text.specs.declared.stop.Stop.{Stop}
+use Rattle.transcript_text.specs.declared.stop.Stop.TheVariants as stops
+use Rattle.transcript_text.specs.Lines.{refusal_line}
+use Rattle.transcript_summary.specs.Lines.{lines_of}
+use Rattle.transcript_summary.specs.Summary.{counts_of, none_counted, with_lines}
+use Rattle.transcript_summary.specs.declared.counts.Counts.{Counts}
+use Rattle.transcript_summary.proofs.Citable.{counts_append, whole_append, whole_none}
+use Rattle.line_runs.specs.Runs.{through, refused, out, out_unless, end_of, end_unless, accepted_of, accepted_unless, brought, Accepted}
+use Rattle.line_runs.proofs.Citable.{out_accepted, end_accepted, accepted_accepted, reverse_onto}
+use Rattle.scenario_text.specs.declared.step.Step.{Step}
+use Rattle.scenario_history.specs.Boxes.{SinkUnit, accounts_after, handed_up, Took}
+use Rattle.scenario_history.specs.Lines.{Said, a_step, nothing, unsaid, rules_of, steps_of, said_after, handed_on, handed_said, with_said}
+use Rattle.scenario_history.specs.Transcript.{out_of, end_after, last_line_after, last_end_after, has_end, transcript_of, transcript_end, units_of}
+use Rattle.scenario_history.proofs.Citable.{took_all}
+use Rattle.scenario_sinks.specs.Handing.{BoxFails, CutShort}
+use Rattle.replay_steps.specs.LineMeets.{LinesStand, LineMeets, refusal_at, output_at}
+use Rattle.replay_steps.specs.Meets.{BoxesStand}
+use Rattle.replay_steps.specs.declared.machine.Machine.{Machine}
+use Rattle.replay_steps.proofs.Citable.{accounts_append}
+use Rattle.replay_generated.specs.Generated.{BoxFailed}
+use Rattle.replay_generated.specs.State.Between.{Counted, FrontTaken, LineRefused, LineRuns, Ran, Refuses, RunTo, Told}
+use Rattle.replay_generated.specs.declared.running.Ending.{Ending}
+use Rattle.replay_generated.specs.declared.running.Ending.TheVariants as endings
+use Rattle.replay_generated.proofs.Outputs.{said_whole}
+
+-- ---- the transcript over an accepted history
+
+module _ (starts : List Account) (history : List TextLine) (accepted : Accepted (rules_of airs_of starts) history) where
+  out_then : (lines : List TextLine) → out_of airs_of starts (reverse history ++ lines)
+      ≡ brought (rules_of airs_of starts) history ++ out (rules_of airs_of starts) history lines
+  out_then lines = out_accepted (rules_of airs_of starts) history lines accepted
+
+  end_then : (lines : List TextLine) → end_after airs_of starts (reverse history ++ lines) ≡ end_of (rules_of airs_of starts) history lines
+  end_then lines = end_accepted (rules_of airs_of starts) history lines accepted
+
+  units_then : (lines : List TextLine) → units_of airs_of starts (reverse history ++ lines)
+      ≡ handed_up airs_of (steps_of (accepted_of (rules_of airs_of starts) history lines))
+  units_then lines = ap (λ all. handed_up airs_of (steps_of all)) (accepted_accepted (rules_of airs_of starts) history lines accepted)
+
+  pub units_all : units_of airs_of starts (reverse history) ≡ handed_up airs_of (steps_of history)
+  units_all = ap (units_of airs_of starts) (sym (append-nil (reverse history))) ∙ units_then []
+
+  -- the history is all, and `end` is among it
+  module _ (lines : List TextLine) (whole : lines ≡ reverse history ++ []) (over : has_end lines ≡ true) where
+    end_through : end_after airs_of starts lines ≡ through
+    end_through = ap (end_after airs_of starts) whole ∙ end_then []
+
+    ends_through : transcript_end airs_of starts lines ≡ through
+    ends_through =
+        ap (λ e. last_end_after e (has_end lines) (length lines + 1)) end_through ∙ ap (λ b. last_end_after through b (length lines + 1)) over
+
+    writes_through : transcript_of airs_of starts lines ≡ brought (rules_of airs_of starts) history
+    writes_through =
+        ap (λ e. out_of airs_of starts lines ++ last_line_after e (has_end lines) (length lines + 1)) end_through
+        ∙ ap (λ b. out_of airs_of starts lines ++ last_line_after through b (length lines + 1)) over
+        ∙ append-nil (out_of airs_of starts lines)
+        ∙ ap (out_of airs_of starts) whole
+        ∙ out_then []
+        ∙ append-nil (brought (rules_of airs_of starts) history)
+
+    units_through : units_of airs_of starts lines ≡ handed_up airs_of (steps_of history)
+    units_through = ap (units_of airs_of starts) whole ∙ units_then []
+
+  -- a line is refused
+  module _ (lines : List TextLine) (line : TextLine) (later : List TextLine) (reason : Refusal) (whole : lines ≡ reverse history ++ line ∷ later)
+      (because : refusal_at starts history line ≡ Some reason) where
+    out_refused : out (rules_of airs_of starts) history (line ∷ later) ≡ refusal_line (length history + 1) reason
+    out_refused = ap (λ why. out_unless (rules_of airs_of starts) history why (output_at starts history line ++ out (rules_of airs_of starts) (line ∷ history) later)) because
+
+    end_refused : end_after airs_of starts lines ≡ refused (length history + 1) reason
+    end_refused =
+        ap (end_after airs_of starts) whole ∙ end_then (line ∷ later)
+        ∙ ap (λ why. end_unless history why (end_of (rules_of airs_of starts) (line ∷ history) later)) because
+
+    ends_refused : transcript_end airs_of starts lines ≡ refused (length history + 1) reason
+    ends_refused = ap (λ e. last_end_after e (has_end lines) (length lines + 1)) end_refused
+
+    writes_refused : transcript_of airs_of starts lines ≡ brought (rules_of airs_of starts) history ++ refusal_line (length history + 1) reason
+    writes_refused =
+        ap (λ e. out_of airs_of starts lines ++ last_line_after e (has_end lines) (length lines + 1)) end_refused
+        ∙ append-nil (out_of airs_of starts lines)
+        ∙ ap (out_of airs_of starts) whole
+        ∙ out_then (line ∷ later)
+        ∙ ap (λ last. brought (rules_of airs_of starts) history ++ last) out_refused
+
+    units_refused : units_of airs_of starts lines ≡ handed_up airs_of (steps_of history)
+    units_refused =
+        ap (units_of airs_of starts) whole ∙ units_then (line ∷ later)
+        ∙ ap (λ why. handed_up airs_of (steps_of (accepted_unless history why (accepted_of (rules_of airs_of starts) (line ∷ history) later)))) because
+
+-- ---- the units of further lines
+
+handed_with : (steps : List Step) (said : Said) → handed_up airs_of (with_said said steps) ≡ handed_up airs_of steps ++ handed_said airs_of steps said
+handed_with steps (a_step next) = refl
+handed_with steps nothing = sym (append-nil (handed_up airs_of steps))
+handed_with steps (unsaid reason) = sym (append-nil (handed_up airs_of steps))
+
+handed_line : (history : List TextLine) (line : TextLine) → handed_up airs_of (steps_of (line ∷ history)) ≡ handed_up airs_of (steps_of history) ++ handed_on airs_of history line
+handed_line history line = handed_with (steps_of history) (said_after history line)
+
+-- units that begin with these
+pub record Begins (front all : List SinkUnit) : Type 0 where
+  pub rest : List SinkUnit
+  pub split : all ≡ front ++ rest
+
+begins_all : (units : List SinkUnit) → Begins units units
+begins_all units = record { rest = []; split = sym (append-nil units) }
+
+begins_more : (front middle all : List SinkUnit) → Begins (front ++ middle) all → Begins front all
+begins_more front middle all b = record { rest = middle ++ b.rest; split = b.split ∙ append_assoc front middle b.rest }
+
+begins_as : (front other all : List SinkUnit) → front ≡ other → Begins front all → Begins other all
+begins_as front other all is b = record { rest = b.rest; split = b.split ∙ ap (λ f. f ++ b.rest) is }
+
+units_rest : (starts : List Account) (history lines : List TextLine)
+    → Begins (handed_up airs_of (steps_of history)) (handed_up airs_of (steps_of (accepted_of (rules_of airs_of starts) history lines)))
+units_rest starts history [] = begins_all (handed_up airs_of (steps_of history))
+units_rest starts history (line ∷ lines) = by_refusal (units_rest starts (line ∷ history) lines) (refusal_at starts history line)
+  where
+    by_refusal : Begins (handed_up airs_of (steps_of (line ∷ history))) (handed_up airs_of (steps_of (accepted_of (rules_of airs_of starts) (line ∷ history) lines)))
+        → (why : Option Refusal)
+        → Begins (handed_up airs_of (steps_of history)) (handed_up airs_of (steps_of (accepted_unless history why (accepted_of (rules_of airs_of starts) (line ∷ history) lines))))
+    by_refusal more (Some reason) = begins_all (handed_up airs_of (steps_of history))
+    by_refusal more None =
+        begins_more (handed_up airs_of (steps_of history)) (handed_on airs_of history line) _
+        (begins_as (handed_up airs_of (steps_of (line ∷ history))) (handed_up airs_of (steps_of history) ++ handed_on airs_of history line) _ (handed_line history line) more)
+
+-- the units of an accepted line come behind those of the history
+pub units_line : (starts : List Account) (history : List TextLine) (line : TextLine) (lines later : List TextLine) → lines ≡ reverse history ++ line ∷ later
+    → Accepted (rules_of airs_of starts) history → refusal_at starts history line ≡ None
+    → Begins (handed_up airs_of (steps_of history) ++ handed_on airs_of history line) (units_of airs_of starts lines)
+units_line starts history line lines later split accepted none =
+    let b = begins_as (handed_up airs_of (steps_of (line ∷ history))) (handed_up airs_of (steps_of history) ++ handed_on airs_of history line) _
+    (handed_line history line) (units_rest starts (line ∷ history) later) in
+    record {
+      rest = b.rest;
+      split = ap (units_of airs_of starts) split ∙ units_then starts history accepted (line ∷ later)
+          ∙ ap (λ why. handed_up airs_of (steps_of (accepted_unless history why (accepted_of (rules_of airs_of starts) (line ∷ history) later)))) none
+          ∙ b.split;
+    }
+
+-- ---- what the boxes took
+
+took_history : (starts accounts : List Account) (history : List TextLine) → BoxesStand starts (steps_of history) accounts → Took starts accounts (handed_up airs_of (steps_of history))
+took_history starts accounts history b =
+    let P : List Account → Type 0 = λ a. Took starts a (handed_up airs_of (steps_of history)) in
+    subst P (sym b.accounts_are) (took_all starts (handed_up airs_of (steps_of history)))
+
+took_as : (starts accounts : List Account) (us vs : List SinkUnit) → us ≡ vs → Took starts accounts us → Took starts accounts vs
+took_as starts accounts us vs e t = let P : List SinkUnit → Type 0 = λ u. Took starts accounts u in subst P e t
+
+took_at : (starts accounts others : List Account) (us : List SinkUnit) → others ≡ accounts → Took starts accounts us → Took starts others us
+took_at starts accounts others us e t = let P : List Account → Type 0 = λ a. Took starts a us in subst P (sym e) t
+
+front_taken : (starts ends : List Account) (lines : List TextLine) (done : List SinkUnit) → Begins done (units_of airs_of starts lines) → Took starts ends done → FrontTaken starts ends lines
+front_taken starts ends lines done b t = record { done = done; rest = b.rest; split = b.split; boxes = t }
+
+-- ---- the run as far as it came
+
+-- the lines so far were run, and these are left
+pub record Running (starts accounts : List Account) (lines : List TextLine) (left : List (List ℕ)) (number : ℕ) (machine : Machine) (counts : Counts) : Type 0 where
+  pub history : List TextLine
+  pub whole : lines ≡ reverse history ++ map plain left
+  pub number_is : number ≡ length history
+  pub run : RunTo starts history counts machine accounts
+
+pub running_none : (starts : List Account) (lines : List TextLine) (left all : List (List ℕ)) (machine : Machine) (counts : Counts) → lines ≡ map plain all → left ≡ all
+    → ((start : List Account) → LinesStand start [] machine start) → counts ≡ none_counted → Running starts starts lines left 0 machine counts
+running_none starts lines left all machine counts are is stands none = record {
+  history = [];
+  whole = are ∙ ap (λ ls. map plain ls) (sym is);
+  number_is = refl;
+  run = record { accepted = tt; whole = whole_none; counted = none; stands = stands starts };
+}
+
+module _ (starts accounts : List Account) (lines : List TextLine) (left : List (List ℕ)) (number : ℕ) (machine : Machine) (counts : Counts)
+    (r : Running starts accounts lines left number machine counts) where
+  took : Took starts accounts (handed_up airs_of (steps_of r.history))
+  took = took_history starts accounts r.history r.run.stands.boxes
+
+  -- the boxes took a front of the units of all lines
+  units_begin : Begins (handed_up airs_of (steps_of r.history)) (units_of airs_of starts lines)
+  units_begin =
+      let b = units_rest starts r.history (map plain left) in
+      record { rest = b.rest; split = ap (units_of airs_of starts) r.whole ∙ units_then starts r.history r.run.accepted (map plain left) ∙ b.split }
+
+  pub stops_here : FrontTaken starts accounts lines
+  stops_here = front_taken starts accounts lines (handed_up airs_of (steps_of r.history)) units_begin took
+
+  -- no line is left
+  pub runs_through : left ≡ [] → has_end lines ≡ true → Told starts accounts lines counts through
+  runs_through none over =
+      let whole : lines ≡ reverse r.history ++ [] = r.whole ∙ ap (λ ls. reverse r.history ++ map plain ls) none in
+      record {
+        ends_so = ends_through starts r.history r.run.accepted lines whole over;
+        counted = r.run.counted ∙ ap counts_of (sym (writes_through starts r.history r.run.accepted lines whole over));
+        boxes = took_as starts accounts _ _ (sym (units_through starts r.history r.run.accepted lines whole over)) took;
+      }
+
+  -- the next line
+  module _ (line : List ℕ) (later : List (List ℕ)) (next : left ≡ line ∷ later) where
+    split_at : lines ≡ reverse r.history ++ plain line ∷ map plain later
+    split_at = r.whole ∙ ap (λ ls. reverse r.history ++ map plain ls) next
+
+    goes_on : (ends : List Account) (new : Machine) (counts' : Counts) (number' : ℕ) → number' ≡ number + 1
+        → LineRuns starts r.history (plain line) counts' new accounts ends None → Running starts ends lines later number' new counts'
+    goes_on ends new counts' number' more run = record {
+      history = plain line ∷ r.history;
+      whole = split_at ∙ sym (reverse_onto (plain line) r.history (map plain later));
+      number_is = omega (arith, more, r.number_is);
+      run = run;
+    }
+
+    refused_here : (ends : List Account) (counts' : Counts) (at : ℕ) (reason : Refusal) → LineRefused starts r.history (plain line) counts' accounts ends at reason
+        → Told starts ends lines counts' (refused at reason)
+    refused_here ends counts' at reason f =
+        let number_is = f.number_is in
+        record {
+          ends_so = ends_refused starts r.history r.run.accepted lines (plain line) (map plain later) reason split_at f.because ∙ ap (λ n. refused n reason) (sym number_is);
+          counted = f.counted
+              ∙ ap (λ n. counts_of (brought (rules_of airs_of starts) r.history ++ refusal_line n reason)) number_is
+              ∙ ap counts_of (sym (writes_refused starts r.history r.run.accepted lines (plain line) (map plain later) reason split_at f.because));
+          boxes = took_as starts ends _ _ (sym (units_refused starts r.history r.run.accepted lines (plain line) (map plain later) reason split_at f.because))
+              (took_at starts accounts ends (handed_up airs_of (steps_of r.history)) f.same took);
+        }
+
+    failed_here : (ends : List Account) (told : List ℕ) → refusal_at starts r.history (plain line) ≡ None
+        → BoxFails (handed_on airs_of r.history (plain line)) [] told accounts ends → BoxFailed airs_of starts ends lines
+    failed_here ends told none fails = record {
+      earlier = r.history;
+      line = plain line;
+      later = map plain later;
+      comes = split_at;
+      accepted = (r.run.accepted, none);
+      accounts = accounts;
+      before = took_as starts accounts _ _ (sym (units_all starts r.history r.run.accepted)) took;
+      told = told;
+      fails = fails;
+    }
+
+    cut_here : (ends : List Account) → refusal_at starts r.history (plain line) ≡ None → CutShort (handed_on airs_of r.history (plain line)) accounts ends → FrontTaken starts ends lines
+    cut_here ends none cut =
+        let before = handed_up airs_of (steps_of r.history) in
+        let after : ends ≡ accounts_after starts (before ++ cut.done) =
+        cut.boxes ∙ ap (λ a. accounts_after a cut.done) r.run.stands.boxes.accounts_are ∙ sym (accounts_append before cut.done starts) in
+        let begins = begins_as (before ++ handed_on airs_of r.history (plain line)) ((before ++ cut.done) ++ cut.rest) (units_of airs_of starts lines)
+        (ap (λ us. before ++ us) cut.split ∙ sym (append_assoc before cut.done cut.rest))
+        (units_line starts r.history (plain line) lines (map plain later) split_at r.run.accepted none) in
+        front_taken starts ends lines (before ++ cut.done) (begins_more (before ++ cut.done) cut.rest (units_of airs_of starts lines) begins)
+        (took_at starts (accounts_after starts (before ++ cut.done)) ends (before ++ cut.done) after (took_all starts (before ++ cut.done)))
+
+    ends_here : (ends : List Account) (new : Machine) (counts' : Counts) (ending : Ending) → LineRuns starts r.history (plain line) counts' new accounts ends (Some ending)
+        → Ran starts ends lines counts' ending
+    ends_here ends new counts' endings.Through f = absurd f
+    ends_here ends new counts' (endings.Refused at reason) f = refused_here ends counts' at reason f
+    ends_here ends new counts' endings.OutletFault f = failed_here ends f.1.0 f.0 f.1.1
+    ends_here ends new counts' endings.Memory (inl same) =
+        front_taken starts ends lines (handed_up airs_of (steps_of r.history)) units_begin (took_at starts accounts ends (handed_up airs_of (steps_of r.history)) same took)
+    ends_here ends new counts' endings.Memory (inr cut) = cut_here ends cut.0 cut.1
+
+    -- the line was run
+    pub runs_on : (ends : List Account) (new : Machine) (counts' : Counts) (number' : ℕ) (result : Option Ending) → number' ≡ number + 1 → result ≡ None
+        → ((history : List TextLine) → number' ≡ length history + 1 → RunTo starts history counts machine accounts
+        → LineRuns starts history (plain line) counts' new accounts ends result)
+        → Running starts ends lines later number' new counts'
+    runs_on ends new counts' number' result more is runs =
+        let P : Option Ending → Type 0 = λ o. LineRuns starts r.history (plain line) counts' new accounts ends o in
+        goes_on ends new counts' number' more (subst P is (runs r.history (more ∙ ap (λ n. n + 1) r.number_is) r.run))
+
+    pub runs_out : (ends : List Account) (new : Machine) (counts' : Counts) (number' : ℕ) (result : Option Ending) (ending : Ending) → number' ≡ number + 1 → result ≡ Some ending
+        → ((history : List TextLine) → number' ≡ length history + 1 → RunTo starts history counts machine accounts
+        → LineRuns starts history (plain line) counts' new accounts ends result)
+        → Ran starts ends lines counts' ending
+    runs_out ends new counts' number' result ending more is runs =
+        let P : Option Ending → Type 0 = λ o. LineRuns starts r.history (plain line) counts' new accounts ends o in
+        ends_here ends new counts' ending (subst P is (runs r.history (more ∙ ap (λ n. n + 1) r.number_is) r.run))
+
+-- ---- a line
+
+module _ (starts : List Account) (history : List TextLine) (line : TextLine) (machine new : Machine) (before after : List Account) (counts : Counts) (text told : List ℕ)
+    (result : Result (Unit {0}) Stop) (run : RunTo starts history counts machine before) (cleared : text ≡ [])
+    (meets : LinesStand starts history machine before → LineMeets starts history line new text told before after result) where
+  met : (r : Result (Unit {0}) Stop) → result ≡ r → LineMeets starts history line new [] told before after r
+  met r is =
+      let P : Result (Unit {0}) Stop → Type 0 = λ x. LineMeets starts history line new text told before after x in
+      let Q : List ℕ → Type 0 = λ t. LineMeets starts history line new t told before after r in
+      subst Q cleared (subst P is (meets run.stands))
+
+  pub line_ran : (u : Unit {0}) (counts' : Counts) (counted : Option Ending) → result ≡ Ok u → Counted told counts counts' counted
+      → LineRuns starts history line counts' new before after counted
+  line_ran u counts' None is c =
+      let m = met (Ok u) is in
+      let output = output_at starts history line in
+      let now = brought (rules_of airs_of starts) history in
+      record {
+        accepted = (run.accepted, m.0);
+        whole = whole_append now output run.whole (said_whole starts (steps_of history) (said_after history line));
+        counted = c ∙ ap (λ t. with_lines counts (lines_of t)) m.2 ∙ ap (λ k. with_lines k (lines_of output)) run.counted ∙ counts_append now output run.whole;
+        stands = m.1;
+      }
+  line_ran u counts' (Some endings.Memory) is c =
+      let m = met (Ok u) is in
+      inr (m.0, record { done = handed_on airs_of history line; rest = []; split = sym (append-nil (handed_on airs_of history line)); boxes = m.3 })
+  line_ran u counts' (Some endings.Through) is c = absurd c
+  line_ran u counts' (Some (endings.Refused at reason)) is c = absurd c
+  line_ran u counts' (Some endings.OutletFault) is c = absurd c
+
+  pub line_refused : (reason : Refusal) (number : ℕ) (counts' : Counts) (ending : Ending) → number ≡ length history + 1 → result ≡ Err (stops.Refused reason)
+      → Refuses number reason counts counts' ending → LineRuns starts history line counts' new before after (Some ending)
+  line_refused reason number counts' (endings.Refused at why) next is f =
+      let m = met (Err (stops.Refused reason)) is in
+      record {
+        number_is = f.0 ∙ next;
+        because = m.0 ∙ ap Some (sym f.1);
+        counted = f.2 ∙ ap (λ k. with_lines k (lines_of (refusal_line number reason))) run.counted
+            ∙ counts_append (brought (rules_of airs_of starts) history) (refusal_line number reason) run.whole
+            ∙ ap (λ n. counts_of (brought (rules_of airs_of starts) history ++ refusal_line n reason)) (sym f.0)
+            ∙ ap (λ w. counts_of (brought (rules_of airs_of starts) history ++ refusal_line at w)) (sym f.1);
+        same = m.2;
+      }
+  line_refused reason number counts' endings.Memory next is f = inl (met (Err (stops.Refused reason)) is).2
+  line_refused reason number counts' endings.Through next is f = absurd f
+  line_refused reason number counts' endings.OutletFault next is f = absurd f
+
+  pub line_failed : (counts' : Counts) → result ≡ Err stops.OutletFault → LineRuns starts history line counts' new before after (Some endings.OutletFault)
+  line_failed counts' is = let m = met (Err stops.OutletFault) is in (m.0, (told, m.1))
+
+  pub line_memory : (counts' : Counts) → result ≡ Err stops.Memory → LineRuns starts history line counts' new before after (Some endings.Memory)
+  line_memory counts' is = met (Err stops.Memory) is
+
+-- no line was run
+pub none_taken : (starts : List Account) (lines : List TextLine) → FrontTaken starts starts lines
+none_taken starts lines = front_taken starts starts lines [] (record { rest = units_of airs_of starts lines; split = refl }) (took_all starts [])

@@ -1,0 +1,11 @@
+//! The run of a generated scenario, of which only the summary is written.
+#![tactic(auto)]
+
+mod generated;
+mod outcome;
+mod running;
+#[cfg(test)]
+mod tests;
+
+pub use generated::run_generated;
+pub use outcome::Outcome;

@@ -1,0 +1,4 @@
+pub mod Splitting
+pub mod Counting
+pub mod Wholes
+pub mod Citable
