@@ -5,3 +5,4 @@ mod ReadBack
 mod Acts
 mod Drains
 mod Agreeing
+mod Telling

@@ -5,8 +5,10 @@ ghost use Rattle.delegator_states.specs.Trains.{Setup};
 ghost use Rattle.delegator_states.specs.Values.{value};
 ghost use Rattle.link_histories.specs.Calls.{Call};
 ghost use Rattle.link_histories.specs.Drains.{IsAnew, IsApart, IsDrained, LeavesLink, NoneTells, drained, told_and_read};
-ghost use Rattle.link_histories.specs.Links.{is_forged, read_waits, state, view};
+ghost use Rattle.link_histories.specs.Links.{acts_of, is_forged, language, read_waits, state, view};
 ghost use Rattle.link_histories.specs.Octets.{AreOctets};
+ghost use Rattle.link_histories.specs.Steps.{IsStep, TellsLink};
+ghost use Rattle.notice_links.specs.Links.{value_of};
 
 use bass_operations::read_is_operation;
 use notice_links::where_nothing_waits_both_agree;
@@ -16,6 +18,21 @@ use receive_state::{ReceiveState, read_is_state};
 pub fn states_are_read_back()
     ensures { (setup : Setup) (slot : ℕ) (calls : List Call) → setup.slots < 256 → AreOctets calls
         → reading_of (value (state setup slot calls)) ≡ Some (state setup slot calls) }
+{
+    read_is_operation();
+    read_is_state();
+}
+
+/// A step of the delegator, and a write that is served on any link, puts the notices of the step behind those that wait on
+/// each link, as the delegator hands them out, and changes nothing that the assistants know.
+pub fn a_step_tells_each_link()
+    ensures { (setup : Setup) (mtu : Option ℕ) (link : ℕ) (call : Call) (calls : List Call) → IsStep call → TellsLink setup mtu link call calls }
+{}
+
+/// A read that is served gives the state of its slot: the value of the slot on each link is its state.
+pub fn a_read_gives_the_state()
+    ensures { (setup : Setup) (mtu : Option ℕ) (link slot : ℕ) (calls : List Call) → setup.slots < 256 → slot < setup.slots → AreOctets calls
+        → value_of (language mtu) slot (acts_of setup mtu link calls) ≡ state setup slot calls }
 {
     read_is_operation();
     read_is_state();

@@ -4,4 +4,7 @@
 
 mod laws;
 
-pub use laws::{a_drain_leaves_nothing, agreement_law, links_law, states_are_read_back};
+pub use laws::{
+    a_drain_leaves_nothing, a_read_gives_the_state, a_step_tells_each_link, agreement_law,
+    links_law, states_are_read_back,
+};

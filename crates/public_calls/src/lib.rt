@@ -23,6 +23,8 @@ mod octets_in_and_out;
 #[cfg(test)]
 mod receivers;
 #[cfg(test)]
+mod scan_delegators;
+#[cfg(test)]
 mod senders;
 #[cfg(test)]
 mod sources;

@@ -1,0 +1,177 @@
+//! A Scan Delegator that serves writes and follows trains.
+ghost use Rattle.std.specs.Prelude.{◌≡◌};
+
+use bcast_base::{Bis, BisSet, Memory, Octets};
+use big_info::GroupFault;
+use delegator_states::{Cause, ControlHeard, Reply, TrainHeard};
+use ltv_codec::check_ltvs;
+use pacs_records::PacRecord;
+use scan_delegator::ScanDelegator;
+use std::alloc::Global;
+use std::test::Fail;
+
+/// An Add Source that wants the train, and any stream of one subgroup.
+const ADD: [u8; 21] = [
+    0x02, 0x00, 0x66, 0x55, 0x44, 0x33, 0x22, 0x11, 0x03, 0x56, 0x34, 0x12, 0x02, 0xff, 0xff, 0x01,
+    0xff, 0xff, 0xff, 0xff, 0x00,
+];
+
+/// The announcement of its Broadcast_ID.
+const EXT: [u8; 7] = [0x06, 0x16, 0x52, 0x18, 0x56, 0x34, 0x12];
+
+/// A BASE of one stream, of a vendor's codec.
+const BASE: [u8; 18] = [
+    0x11, 0x16, 0x51, 0x18, 0x40, 0x9c, 0x00, 0x01, 0x01, 0xff, 0x01, 0x00, 0x02, 0x00, 0x00, 0x00,
+    0x01, 0x00,
+];
+
+/// The same of LC3.
+const LC3_BASE: [u8; 18] = [
+    0x11, 0x16, 0x51, 0x18, 0x40, 0x9c, 0x00, 0x01, 0x01, 0x06, 0x00, 0x00, 0x00, 0x00, 0x00, 0x00,
+    0x01, 0x00,
+];
+
+/// The BIGInfo of a group of one stream.
+const BIG_INFO: [u8; 35] = [
+    0x22, 0x2c, 0x64, 0x00, 0x04, 0x08, 0x21, 0x00, 0x00, 0x00, 0x00, 0x00, 0x10, 0x04, 0x00, 0x00,
+    0x00, 0x00, 0x00, 0x10, 0x27, 0x40, 0x00, 0x00, 0x00, 0xff, 0xff, 0xff, 0xff, 0x3f, 0x00, 0x00,
+    0x00, 0x00, 0x00,
+];
+
+/// The state of a source that was added.
+const ADDED: [u8; 20] = [
+    0x00, 0x00, 0x66, 0x55, 0x44, 0x33, 0x22, 0x11, 0x03, 0x56, 0x34, 0x12, 0x00, 0x00, 0x01, 0x00,
+    0x00, 0x00, 0x00, 0x00,
+];
+
+/// The state of a sink that is on its train.
+const ON_TRAIN: [u8; 20] = [
+    0x00, 0x00, 0x66, 0x55, 0x44, 0x33, 0x22, 0x11, 0x03, 0x56, 0x34, 0x12, 0x02, 0x00, 0x01, 0x00,
+    0x00, 0x00, 0x00, 0x00,
+];
+
+/// The state of a sink that is on its group.
+const ON_GROUP: [u8; 20] = [
+    0x00, 0x00, 0x66, 0x55, 0x44, 0x33, 0x22, 0x11, 0x03, 0x56, 0x34, 0x12, 0x02, 0x00, 0x01, 0x01,
+    0x00, 0x00, 0x00, 0x00,
+];
+
+/// A sink of one stream and one slot, to which the source was added.
+fn added(alloc: Global) -> Result<ScanDelegator, Fail> {
+    let mut sink = ScanDelegator::new(alloc, 1, 1)?;
+    let reply = sink.serve(&ADD)?;
+    if reply != Reply::Accepted {
+        return Err(Fail::from("refused"));
+    }
+    Ok(sink)
+}
+
+/// The answer to a train of the source.
+fn hears(
+    sink: &mut ScanDelegator,
+    ext: &[u8],
+    adv: &[u8],
+    acad: &[u8],
+) -> Result<TrainHeard, Memory> {
+    let brought = sink.bring(0, 3, ext, adv, acad, 17_000)?;
+    sink.follow(brought)
+}
+
+/// Whether the next notice is one of slot 0 with this value.
+fn tells(sink: &mut ScanDelegator, value: &[u8]) -> bool {
+    match sink.next_notice() {
+        Some(notice) => notice.slot == 0 && notice.value.as_slice() == value,
+        None => false,
+    }
+}
+
+/// Whether a train is answered so by a sink with no record, which then is on the train.
+fn goes_on_train(alloc: Global, adv: &[u8], acad: &[u8], answer: TrainHeard) -> Result<bool, Fail> {
+    let mut sink = added(alloc)?;
+    let heard = hears(&mut sink, &EXT, adv, acad)?;
+    Ok(heard == answer && tells(&mut sink, &ADDED) && tells(&mut sink, &ON_TRAIN))
+}
+
+/// Whether a train with this announcement is answered so by a sink, for which nothing changes.
+fn stays(alloc: Global, ext: &[u8], answer: TrainHeard) -> Result<bool, Fail> {
+    let mut sink = added(alloc)?;
+    let heard = hears(&mut sink, ext, &[], &[])?;
+    Ok(heard == answer && tells(&mut sink, &ADDED) && sink.next_notice().is_none())
+}
+
+/// Adds a record of the vendor's codec.
+fn add_record(sink: &mut ScanDelegator, alloc: Global) -> bool {
+    let Ok(()) = check_ltvs(&[]) else {
+        return false;
+    };
+    let record = PacRecord {
+        codec: [0xff, 0x01, 0x00, 0x02, 0x00],
+        caps: Octets::new(alloc),
+        metadata: Octets::new(alloc),
+    };
+    sink.add_pac(record).is_ok()
+}
+
+/// The answer of a new sink to a write.
+fn replies(alloc: Global, write: &[u8]) -> Result<Reply, Fail> {
+    let mut sink = ScanDelegator::new(alloc, 1, 1)?;
+    Ok(sink.serve(write)?)
+}
+
+fn refused(code: u8, cause: Cause) -> Reply {
+    Reply::Refused { code, cause }
+}
+
+#[test]
+fn a_train_of_no_source_changes_nothing(rt: HostRuntime) -> Result<(), Fail> {
+    assert!(rt; stays(rt.alloc(), &[], TrainHeard::NoBroadcastId)?);
+    let other = [0x06, 0x16, 0x52, 0x18, 0x00, 0x00, 0x00];
+    assert!(rt; stays(rt.alloc(), &other, TrainHeard::NotWanted)?);
+    Ok(())
+}
+
+#[test]
+fn a_sink_is_on_a_train_whose_octets_are_refused(rt: HostRuntime) -> Result<(), Fail> {
+    let short = [0x04, 0x16, 0x51, 0x18, 0x40];
+    let small = [0x02, 0x2c, 0x00];
+    let mut zeros = [0x00; 35];
+    zeros[0] = 0x22;
+    zeros[1] = 0x2c;
+    let range = TrainHeard::BadGroup(GroupFault::RangeIso);
+    assert!(rt; goes_on_train(rt.alloc(), &[], &[], TrainHeard::NoBase)?);
+    assert!(rt; goes_on_train(rt.alloc(), &short, &[], TrainHeard::BadBase)?);
+    assert!(rt; goes_on_train(rt.alloc(), &LC3_BASE, &[], TrainHeard::NoBigInfo)?);
+    assert!(rt; goes_on_train(rt.alloc(), &LC3_BASE, &small, TrainHeard::BadBigInfo)?);
+    assert!(rt; goes_on_train(rt.alloc(), &LC3_BASE, &zeros, range)?);
+    assert!(rt; goes_on_train(rt.alloc(), &LC3_BASE, &BIG_INFO, TrainHeard::NoneTaken)?);
+    Ok(())
+}
+
+#[test]
+fn a_sink_joins_the_group_of_a_train_and_leaves_it(rt: HostRuntime) -> Result<(), Fail> {
+    let mut sink = added(rt.alloc())?;
+    assert!(rt; add_record(&mut sink, rt.alloc()));
+    let first = Bis::new(1).ok_or("no index")?;
+    let joined = TrainHeard::OnGroup(BisSet::new().with(first));
+    assert!(rt; hears(&mut sink, &EXT, &BASE, &BIG_INFO)? == joined);
+    assert!(rt; hears(&mut sink, &EXT, &BASE, &BIG_INFO)? == TrainHeard::AlreadyOnGroup);
+    let left = sink.control(&[0x03, 0x04, 0x01, 0x13, 0x01, 0x00])?;
+    assert!(rt; left == ControlHeard::Left);
+    sink.lost()?;
+    assert!(rt; tells(&mut sink, &ADDED) && tells(&mut sink, &ON_GROUP));
+    assert!(rt; tells(&mut sink, &ON_TRAIN) && tells(&mut sink, &ADDED));
+    assert!(rt; sink.next_notice().is_none());
+    Ok(())
+}
+
+#[test]
+fn a_write_is_refused_for_its_first_cause(rt: HostRuntime) -> Result<(), Fail> {
+    let mut reserved = ADD;
+    reserved[12] = 0x03;
+    assert!(rt; replies(rt.alloc(), &[5, 5])? == refused(0x81, Cause::SourceUnknown));
+    assert!(rt; replies(rt.alloc(), &[6])? == refused(0x80, Cause::Opcode));
+    assert!(rt; replies(rt.alloc(), &[])? == refused(0xfc, Cause::Empty));
+    assert!(rt; replies(rt.alloc(), &[2])? == refused(0xfc, Cause::Length));
+    assert!(rt; replies(rt.alloc(), &reserved)? == refused(0xfc, Cause::Rfu));
+    Ok(())
+}
