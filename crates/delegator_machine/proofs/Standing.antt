@@ -70,9 +70,6 @@ stands_settled setup step calls old new mid was none same steps is made sink sta
     (subst (λ on. SinkStands (with_leave on (has_group mid.sight.place) past) new.sink) is (sink past its)))
     stands
 
-pub left_is : (was is : Bool) (past : List sinks.Call) → was ≡ true → is ≡ false → sinks.leave ∷ past ≡ with_leave was is past
-left_is was is past before after = sym (ap (λ on. with_leave on is past) before ∙ ap (λ on. with_leave true on past) after)
-
 stays : (on : Bool) (past : List sinks.Call) → with_leave on on past ≡ past
 stays true past = refl
 stays false past = refl

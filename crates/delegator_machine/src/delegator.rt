@@ -1,4 +1,4 @@
-ghost use Rattle.std.specs.Prelude.{◌≡◌, ◌+◌, ◌≤◌, ◌<◌, ◌^◌, ◌∷◌, ℕ, List, [], option_map, slice_get, IfOk, OnOk, OnErr};
+ghost use Rattle.std.specs.Prelude.{◌≡◌, ◌+◌, ◌≤◌, ◌<◌, ◌^◌, ◌&&◌, ◌∷◌, not, ℕ, List, [], option_map, slice_get, IfOk, OnOk, OnErr};
 ghost use Rattle.delegator_states.specs.Controls.{control_heard};
 ghost use Rattle.delegator_states.specs.Notices.{handed_out, mtu_in, waiting};
 ghost use Rattle.delegator_states.specs.States.{control_heard as controlled, put_on, sight_of, told, train_lost, written};
@@ -193,8 +193,15 @@ impl Delegator {
         ensures scan { self.new.scan ≡ self.old.scan }
         ensures sink { (calls : List sinks.Call) → SinkStands calls self.old.sink → SinkStands (with_leave was_on_group (has_group self.old.scan.sight.place) calls) self.new.sink }
     {
-        if was_on_group && !self.scan.is_on_group() {
+        if has_left(was_on_group, self.scan.is_on_group()) {
             self.sink.leave();
         }
     }
+}
+
+/// Whether a sink that was on a group, or not, and is on one, or not, left one.
+fn has_left(was: bool, is: bool) -> bool
+    ensures { result ≡ (was && not is) }
+{
+    was && !is
 }

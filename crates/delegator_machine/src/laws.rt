@@ -13,7 +13,7 @@ ghost use Rattle.delegator_machine.specs.Groups.{group_calls, last_joining, tuni
 use delegator_states::bits_stand_on_the_group;
 
 /// The receivers are on a group exactly where the control half says that the sink is on one, and then on that of the last step
-/// that put the sink on one: of `tuned`, or of a train that was taken.
+/// that put the sink on one: of a `tune`, or of a train that was taken.
 pub fn the_sink_is_where_its_steps_put_it()
     ensures both { (setup : Setup) (calls : List Call) → is_some (place (group_calls setup calls)) ≡ has_group (sight_of setup (steps_of calls)).place }
     ensures group { (setup : Setup) (calls : List Call)

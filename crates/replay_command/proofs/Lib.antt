@@ -7,4 +7,5 @@ mod LineSteps
 mod Completing
 mod OtherAirs
 mod Migrating
+mod Generating
 mod Promises

@@ -1,5 +1,5 @@
 -- What is promised of a call, from what its run did.
-use Rattle.std.proofs.Common.{◌≡◌, ◌≢◌, ◌⊎◌, ◌∙◌, List, refl, sym, subst, inr}
+use Rattle.std.proofs.Common.{◌≡◌, ◌≢◌, ◌∙◌, ℕ, List, refl, sym, subst, inr}
 use Rattle.bcast_io.specs.TextLines.{TextLine}
 use Rattle.unit_outlets.specs.Account.{Account}
 use Rattle.replay_words.specs.declared.mode.Mode.{Mode}
@@ -10,6 +10,7 @@ use Rattle.replay_command.specs.declared.status.Status.{Status}
 use Rattle.replay_command.specs.declared.status.Status.TheVariants as statuses
 use Rattle.replay_command.specs.Promised.{Promised, Did, DidOver}
 use Rattle.replay_command.specs.Migrated.{Migrated}
+use Rattle.replay_command.specs.Generated.{Generated}
 use Rattle.replay_command.specs.Replayed.{ReadsAtMost, read_limit}
 use Rattle.source_machine.specs.Airs.{airs_of}
 use Rattle.scenario_history.specs.Airs.{MeetAirs}
@@ -20,6 +21,7 @@ use Rattle.replay_command.specs.World.{World}
 use Rattle.replay_command.proofs.Completing.{ended_at, ended_whole, ended_ahead, ended_complete}
 use Rattle.replay_command.proofs.Endings.{ends_at_once}
 use Rattle.replay_command.proofs.Migrating.{migrated_none}
+use Rattle.replay_command.proofs.Generating.{generated_none}
 use Rattle.replay_command.proofs.OtherAirs.{Same, ahead_as, complete_as, ended_as, took_text_as}
 use Rattle.replay_command.proofs.ReadingOn.{none_within}
 
@@ -78,6 +80,7 @@ pub in_replay : (mode : Mode) (old new : World) (status : Status) → mode ≡ m
 in_replay mode old new status is promised = record {
   replay = λ again. promised;
   migrated = λ migrates. absurd cc;
+  generated = λ seed events generates. absurd cc;
   usage = λ none. absurd (let P : Mode → Type 0 = λ m. IsNone m in subst P is none);
 }
 
@@ -86,23 +89,25 @@ pub in_migration : (mode : Mode) (old new : World) (status : Status) → mode �
 in_migration mode old new status is migrated = record {
   replay = λ replays. absurd cc;
   migrated = λ again. migrated;
+  generated = λ seed events generates. absurd cc;
   usage = λ none. absurd (let P : Mode → Type 0 = λ m. IsNone m in subst P is none);
 }
 
--- the call of words that ask for nothing
-pub in_none : (mode : Mode) (old : World) (status : Status) → IsNone mode → ((status ≡ statuses.Usage) ⊎ (status ≡ statuses.Memory)) → PromisedIn mode old old status
-in_none mode old status none is = record {
-  replay = λ replays. absurd (let P : Mode → Type 0 = λ m. IsNone m in subst P replays none);
-  migrated = λ migrates. absurd (let P : Mode → Type 0 = λ m. IsNone m in subst P migrates none);
-  usage = λ again. (is, refl);
+-- the call of words that mean generation
+pub in_generation : (mode : Mode) (seed events : ℕ) (old new : World) (status : Status) → mode ≡ modes.Generate seed events → Generated seed events old new status
+    → PromisedIn mode old new status
+in_generation mode seed events old new status is generated = record {
+  replay = λ replays. absurd cc;
+  migrated = λ migrates. absurd cc;
+  generated = λ other more again.
+      let same : modes.Generate seed events ≡ modes.Generate other more = sym is ∙ again in
+      let first : seed ≡ other = cc in
+      let second : events ≡ more = cc in
+      let P : ℕ → Type 0 = λ s. Generated s events old new status in
+      let Q : ℕ → Type 0 = λ e. Generated other e old new status in
+      subst Q second (subst P first generated);
+  usage = λ none. absurd (let P : Mode → Type 0 = λ m. IsNone m in subst P is none);
 }
-
-pub none_of : (mode : Mode) → mode ≢ modes.Replay → mode ≢ modes.Migrate → IsNone mode
-none_of modes.Replay other another = absurd (other refl)
-none_of modes.Migrate other another = absurd (another refl)
-none_of modes.Toml other another = tt
-none_of (modes.Generate seed events) other another = tt
-none_of modes.Usage other another = tt
 
 -- memory ran out before the words were read
 pub in_memory : (mode : Mode) (old : World) → Laws old.boxes → PromisedIn mode old old statuses.Memory
@@ -110,5 +115,6 @@ in_memory mode old laws = record {
   replay = λ replays. promised_run old old statuses.Memory (ends_at_once old.boxes old.left old.taken) (none_within old.left)
       (λ e. absurd cc) (λ e. refl) (λ e. absurd cc) (λ e. refl) laws;
   migrated = λ migrates. migrated_none old;
+  generated = λ seed events generates. generated_none seed events old;
   usage = λ none. (inr refl, refl);
 }

@@ -3,6 +3,7 @@ pub mod Replayed
 pub mod Ended
 pub mod Promised
 pub mod Migrated
+pub mod Generated
 pub mod ByWords
 pub mod Statuses
 pub mod State

@@ -1,6 +1,8 @@
 -- What the program makes of a status: its exit status, and what it says on standard error. Both are this project's own.
 use Rattle.std.specs.Prelude.{ℕ, List, Option, None, Some, codes}
 use Rattle.transcript_text.specs.declared.refusal.Refusal.TheVariants.{TextTooLong}
+use Rattle.replay_generated.specs.declared.outcome.Outcome.{Outcome}
+use Rattle.replay_generated.specs.declared.outcome.Outcome.TheVariants as outcomes
 use Rattle.replay_migration.specs.declared.migration.Migration.{Migration}
 use Rattle.replay_migration.specs.declared.migration.Migration.TheVariants as ends
 use Rattle.replay_command.specs.declared.status.Status.{Status}
@@ -31,3 +33,11 @@ status_of (ends.TooLong line) = Refused line TextTooLong
 status_of ends.ReadFault = ReadFault
 status_of ends.WriteFault = WriteFault
 status_of ends.Memory = Memory
+
+-- the status of a generated run
+abbrev pub status_after : Outcome → Status
+status_after outcomes.Done = Done
+status_after (outcomes.Refused line reason) = Refused line reason
+status_after outcomes.OutletFault = OutletFault
+status_after outcomes.WriteFault = WriteFault
+status_after outcomes.Memory = Memory

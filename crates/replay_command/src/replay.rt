@@ -17,6 +17,7 @@ ghost use Rattle.replay_command.specs.State.Between.{ReadTo, TextIs, NextIs, Run
 use crate::status::Status;
 use bcast_base::{Memory, Octets};
 use bcast_io::{ByteSink, ByteSource, Failed, LineRead, LineReader, SinkFault, write_whole};
+use replay_generated::run_generated;
 use replay_migration::run_migration;
 use replay_steps::Machine;
 use replay_words::{Mode, Words, mode_of};
@@ -28,7 +29,8 @@ use unit_outlets::Outlet;
 /// Does what the words ask for. Without words it runs the scenario that the source gives, a step a line, and writes its
 /// transcript to the sink. Each `sink` line takes the next box of the list. The lines of a step are written before the
 /// next line is read. With `--migrate` it reads the text whole and writes it in version 2; then a text of more than
-/// 67,108,864 octets alone is refused, and no box is called.
+/// 67,108,864 octets alone is refused, and no box is called. With `--seed` and `--events` it runs the scenario of the
+/// generator and writes the summary of its transcript, and reads nothing.
 ///
 /// `Done` comes where the text was read to its end and no line is refused. `Refused` has the line, from 1, and the reason;
 /// the line of the refusal was written, and nothing behind it was run. `Usage` comes for words that ask for nothing built. `ReadFault`,
@@ -51,8 +53,9 @@ pub fn replay<S: ByteSource, K: ByteSink>(
     ensures unwritten { result ≡ Status.Usage → sink.new ≡ sink.old }
     ensures uncalled { result ≡ Status.Usage → outlets.new ≡ outlets.old }
 
-    // In migration no box is called.
+    // In migration no box is called, and in generated mode the source isn't read.
     ensures boxes_kept { mode_of_words (map string_bytes words.now) ≡ modes.Migrate → outlets.new ≡ outlets.old }
+    ensures source_kept { (seed events : ℕ) → mode_of_words (map string_bytes words.now) ≡ modes.Generate seed events → source.new ≡ source.old }
 {
     some_airs_meet();
     one_transcript();
@@ -61,6 +64,9 @@ pub fn replay<S: ByteSource, K: ByteSink>(
     match mode_of(alloc, words) {
         Ok(Mode::Replay) => run(alloc, source, sink, outlets),
         Ok(Mode::Migrate) => Status::from(run_migration(alloc, source, sink)),
+        Ok(Mode::Generate { seed, events }) => {
+            Status::from(run_generated(alloc, seed, events, sink, outlets))
+        }
         Ok(_) => Status::Usage,
         Err(Memory) => Status::Memory,
     }

@@ -1,6 +1,7 @@
 ghost use Rattle.std.specs.Prelude.{◌≡◌, option_copied};
-ghost use Rattle.replay_command.specs.Statuses.{exit_number, text_of, status_of};
+ghost use Rattle.replay_command.specs.Statuses.{exit_number, text_of, status_of, status_after};
 
+use replay_generated::Outcome;
 use replay_migration::Migration;
 use transcript_text::Refusal;
 
@@ -67,6 +68,20 @@ impl From<Migration> for Status {
             Migration::ReadFault => Status::ReadFault,
             Migration::WriteFault => Status::WriteFault,
             Migration::Memory => Status::Memory,
+        }
+    }
+}
+
+impl From<Outcome> for Status {
+    ghost from_gives = { λ outcome status. status ≡ status_after outcome };
+
+    fn from(outcome: Outcome) -> Status {
+        match outcome {
+            Outcome::Done => Status::Done,
+            Outcome::Refused { line, reason } => Status::Refused { line, reason },
+            Outcome::OutletFault => Status::OutletFault,
+            Outcome::WriteFault => Status::WriteFault,
+            Outcome::Memory => Status::Memory,
         }
     }
 }

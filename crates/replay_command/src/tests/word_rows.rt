@@ -17,7 +17,7 @@ pub struct WordRow {
     pub exit_code: u8,
 }
 
-pub const WORD_ROWS: [WordRow; 8] = [
+pub const WORD_ROWS: [WordRow; 10] = [
     WordRow {
         name: "word-unknown",
         words: "x",
@@ -59,6 +59,20 @@ pub const WORD_ROWS: [WordRow; 8] = [
         boxes: 2,
         transcript: "",
         exit_code: 2,
+    },
+    WordRow {
+        name: "generated",
+        words: "--seed 1 --events 5",
+        boxes: 2,
+        transcript: "events 5\nunits 9 lost 1\nsum 0 5 500\nsum 1 4 400\n",
+        exit_code: 0,
+    },
+    WordRow {
+        name: "generated-with-one-box",
+        words: "--seed 1 --events 5",
+        boxes: 1,
+        transcript: "events 5\nunits 0 lost 0\n",
+        exit_code: 1,
     },
     WordRow {
         name: "migrate",

@@ -4,7 +4,7 @@ use Rattle.replay_command.specs.World.{world_of}
 use Rattle.replay_command.specs.Migrated.{Migrated}
 use Rattle.source_machine.specs.Airs.{airs_of}
 use Rattle.replay_command.proofs.Migrating.{migrated_of}
-use Rattle.replay_command.proofs.Promises.{AllSame, promised_run, in_replay, in_migration, in_memory}
+use Rattle.replay_command.proofs.Promises.{AllSame, promised_run, in_replay, in_migration, in_generation, in_memory}
 use Rattle.replay_command.proofs.replay.replay.Goals as goal
 
 pub returns-in-Ok-Replay-clause-promised : goal.returns-in-Ok-Replay-clause-promised
@@ -61,3 +61,13 @@ returns-in-Ok-Migrate-clause-promised g c =
     in_migration (mode_of (map string_bytes c.args.words.now)) old new c.from.result (sym c.in-Ok-Migrate.ensures.meaning ∙ c.in-Ok-Migrate.field-0-is)
     (subst (λ s. Migrated old new s) (sym c.from.ensures)
     (migrated_of c.run_migration.result old new did.ended did.read_fault did.no_read_fault did.write_fault did.no_write_fault refl))
+
+pub returns-in-Ok-Generate-clause-promised : goal.returns-in-Ok-Generate-clause-promised
+returns-in-Ok-Generate-clause-promised g c =
+    let boxes = map (λ b. (goal.Outlet-dyn g (b.vtable, b.value)).account b.value) c.args.outlets.now.items in
+    let after = map (λ b. (goal.Outlet-dyn g (b.vtable, b.value)).account b.value) c.run_generated.new.outlets.items in
+    let old = world_of g.S.ByteSource.left g.S.ByteSource.faults g.K.ByteSink.contents g.K.ByteSink.faults c.args.source.now c.args.sink.now boxes in
+    let new = world_of g.S.ByteSource.left g.S.ByteSource.faults g.K.ByteSink.contents g.K.ByteSink.faults c.args.source.now c.run_generated.new.sink after in
+    in_generation (mode_of (map string_bytes c.args.words.now)) c.in-Ok-Generate.seed c.in-Ok-Generate.events old new c.from-in-Ok-Generate.result
+    (sym c.in-Ok-Generate.ensures.meaning ∙ c.in-Ok-Generate.field-0-is)
+    (record { outcome = c.run_generated.result; told = c.from-in-Ok-Generate.ensures; run = c.run_generated.ensures.generated; left = refl; reads = refl })
