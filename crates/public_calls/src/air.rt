@@ -1,5 +1,6 @@
 ghost use Rattle.std.specs.Prelude.{◌≡◌, IfOk, length};
 
+use crate::numbers::SINGLE;
 use bcast_base::{Bis, EventPdus, Memory, Octets};
 use big_info::{BigInfo, check_group};
 use radio_schedule::{Air, AirFault, payload_of};
@@ -8,26 +9,10 @@ use std::test::Fail;
 
 /// Two streams of one unit of 4 octets every 10 ms on LE 2M, each sent once.
 const STEREO: BigInfo = BigInfo {
-    big_offset: 0,
-    big_offset_units: 0,
-    iso_interval: 8,
     num_bis: 2,
-    nse: 1,
-    bn: 1,
     sub_interval: 400,
-    pto: 0,
     bis_spacing: 800,
-    irc: 1,
-    max_pdu: 4,
-    seed_access_address: 0,
-    sdu_interval: 10000,
-    max_sdu: 4,
-    base_crc_init: 0,
-    chm: 0,
-    phy: 1,
-    bis_payload_count: 0,
-    framing: 0,
-    cipher: None,
+    ..SINGLE
 };
 
 fn event(alloc: Global, first: u8, second: u8) -> Result<EventPdus, Memory>

@@ -1,3 +1,4 @@
+use crate::numbers::SINGLE;
 use crate::taken::Taken;
 use bcast_base::Bis;
 use big_info::{BigInfo, check_group};
@@ -8,26 +9,11 @@ use std::test::Fail;
 
 /// Units of at most 8 octets every 10.884 ms, in a PDU of at most 10 octets an event.
 const SEGMENTS: BigInfo = BigInfo {
-    big_offset: 0,
-    big_offset_units: 0,
-    iso_interval: 8,
-    num_bis: 1,
-    nse: 1,
-    bn: 1,
-    sub_interval: 0,
-    pto: 0,
-    bis_spacing: 0,
-    irc: 1,
     max_pdu: 10,
-    seed_access_address: 0,
     sdu_interval: 10884,
     max_sdu: 8,
-    base_crc_init: 0,
-    chm: 0,
-    phy: 1,
-    bis_payload_count: 0,
     framing: 1,
-    cipher: None,
+    ..SINGLE
 };
 
 /// The start of a unit of 7 octets.

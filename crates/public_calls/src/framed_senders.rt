@@ -1,3 +1,4 @@
+use crate::numbers::SINGLE;
 use big_info::{BigInfo, check_group};
 use isoal_base::PutFault;
 use isoal_framed::FramedOut;
@@ -5,26 +6,14 @@ use std::alloc::Global;
 
 /// Units of at most 8 octets every 10.884 ms, in two PDUs of at most 10 octets an event.
 const TWO: BigInfo = BigInfo {
-    big_offset: 0,
-    big_offset_units: 0,
-    iso_interval: 8,
-    num_bis: 1,
     nse: 2,
     bn: 2,
     sub_interval: 400,
-    pto: 0,
-    bis_spacing: 0,
-    irc: 1,
     max_pdu: 10,
-    seed_access_address: 0,
     sdu_interval: 10884,
     max_sdu: 8,
-    base_crc_init: 0,
-    chm: 0,
-    phy: 1,
-    bis_payload_count: 0,
     framing: 1,
-    cipher: None,
+    ..SINGLE
 };
 
 /// The same in one PDU an event.

@@ -1,34 +1,11 @@
+use crate::numbers::FRAGMENTS;
 use crate::taken::Taken;
 use bcast_base::Bis;
-use big_info::{BigInfo, check_group};
+use big_info::check_group;
 use iso_pdu::PduFault;
 use isoal_base::Heard;
 use isoal_unframed::UnframedIn;
 use std::test::Fail;
-
-/// Units of at most 8 octets every 10 ms, in two PDUs of at most 4 octets, sent once.
-const FRAGMENTS: BigInfo = BigInfo {
-    big_offset: 0,
-    big_offset_units: 0,
-    iso_interval: 8,
-    num_bis: 1,
-    nse: 2,
-    bn: 2,
-    sub_interval: 400,
-    pto: 0,
-    bis_spacing: 0,
-    irc: 1,
-    max_pdu: 4,
-    seed_access_address: 0,
-    sdu_interval: 10000,
-    max_sdu: 8,
-    base_crc_init: 0,
-    chm: 0,
-    phy: 1,
-    bis_payload_count: 0,
-    framing: 0,
-    cipher: None,
-};
 
 #[test]
 fn what_is_held_is_handed_at_the_close(rt: HostRuntime) -> Result<(), Fail> {

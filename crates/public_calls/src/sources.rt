@@ -1,6 +1,7 @@
 ghost use Rattle.std.specs.Prelude.{◌≡◌, ◌≤◌, ◌<◌, ◌^◌, None, IfOk};
 ghost use Rattle.big_info.specs.Widths.{FitsWidths};
 
+use crate::numbers::SINGLE;
 use base_grammar::decode_base;
 use bcast_base::Bis;
 use big_info::{BigInfo, Cipher};
@@ -205,34 +206,10 @@ fn no_more_than_16_units_wait(rt: HostRuntime) {
     assert!(rt; source.give(one, None, unit) == Err(GiveFault::Backlog));
 }
 
-/// The group of one stream that has one subevent an event.
-const ONE_SUBEVENT: BigInfo = BigInfo {
-    big_offset: 0,
-    big_offset_units: 0,
-    iso_interval: 8,
-    num_bis: 1,
-    nse: 1,
-    bn: 1,
-    sub_interval: 0,
-    pto: 0,
-    bis_spacing: 0,
-    irc: 1,
-    max_pdu: 4,
-    seed_access_address: 0,
-    sdu_interval: 10000,
-    max_sdu: 4,
-    base_crc_init: 0,
-    chm: 0,
-    phy: 1,
-    bis_payload_count: 0,
-    framing: 0,
-    cipher: None,
-};
-
 #[test]
 fn a_source_announces_its_next_event(rt: HostRuntime) {
-    assert!(rt; ONE_SUBEVENT.fits());
-    let Ok(source) = streaming(rt.alloc(), ONE_SUBEVENT, 0) else {
+    assert!(rt; SINGLE.fits());
+    let Ok(source) = streaming(rt.alloc(), SINGLE, 0) else {
         return assert!(rt; false);
     };
     let Ok(train) = source.announce() else {
@@ -264,7 +241,7 @@ fn an_encrypted_group_is_announced(rt: HostRuntime) {
             giv: [1, 2, 3, 4, 5, 6, 7, 8],
             gskd: [0x11; 16],
         }),
-        ..ONE_SUBEVENT
+        ..SINGLE
     };
     assert!(rt; info.fits());
     let Ok(source) = streaming(rt.alloc(), info, 0) else {
@@ -282,7 +259,7 @@ fn a_unit_whose_turn_comes_too_late_is_told(rt: HostRuntime) {
     let info = BigInfo {
         framing: 1,
         max_pdu: 8,
-        ..ONE_SUBEVENT
+        ..SINGLE
     };
     assert!(rt; info.fits());
     let (Ok(configured), Some(one)) = (configured(rt.alloc(), info, 20_000_000), Bis::new(1)) else {

@@ -1,29 +1,15 @@
+use crate::numbers::SINGLE;
 use big_info::{BigInfo, check_group};
 use std::test::Fail;
 use sync_reference::{anchor, framed_reference, render, unframed_reference};
 
 /// Two units of 4 octets every 10 ms on LE 2M, sent once.
 const UNFRAMED: BigInfo = BigInfo {
-    big_offset: 0,
-    big_offset_units: 0,
-    iso_interval: 8,
-    num_bis: 1,
     nse: 2,
     bn: 2,
     sub_interval: 400,
-    pto: 0,
-    bis_spacing: 0,
-    irc: 1,
-    max_pdu: 4,
-    seed_access_address: 0,
     sdu_interval: 5000,
-    max_sdu: 4,
-    base_crc_init: 0,
-    chm: 0,
-    phy: 1,
-    bis_payload_count: 0,
-    framing: 0,
-    cipher: None,
+    ..SINGLE
 };
 
 #[test]

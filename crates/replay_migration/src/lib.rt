@@ -3,8 +3,8 @@
 
 mod migration;
 mod piece;
-mod text;
 #[cfg(test)]
 mod tests;
+mod text;
 
 pub use migration::{Migration, run_migration};

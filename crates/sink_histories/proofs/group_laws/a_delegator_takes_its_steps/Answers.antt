@@ -1,0 +1,5 @@
+use Rattle.sink_histories.proofs.Groups.{steps_same}
+use Rattle.sink_histories.proofs.group_laws.a_delegator_takes_its_steps.Goals as goal
+
+pub returns : goal.returns
+returns c = steps_same
