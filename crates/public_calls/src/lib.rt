@@ -19,6 +19,8 @@ mod groups;
 #[cfg(test)]
 mod lines;
 #[cfg(test)]
+mod links;
+#[cfg(test)]
 mod numbers;
 #[cfg(test)]
 mod octets_in_and_out;
