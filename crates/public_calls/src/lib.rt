@@ -9,6 +9,8 @@ mod assistants;
 #[cfg(test)]
 mod boxes;
 #[cfg(test)]
+mod delegators;
+#[cfg(test)]
 mod framed_receivers;
 #[cfg(test)]
 mod framed_senders;
