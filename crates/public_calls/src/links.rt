@@ -4,7 +4,9 @@ use multi_assist::Links;
 use std::test::Fail;
 
 /// An Add Source of address type 0, SID 3, with no wish to follow it and no subgroup.
-const ADD: [u8; 16] = [2, 0, 1, 2, 3, 4, 5, 6, 3, 0x0a, 0x0b, 0x0c, 0, 0xff, 0xff, 0];
+const ADD: [u8; 16] = [
+    2, 0, 1, 2, 3, 4, 5, 6, 3, 0x0a, 0x0b, 0x0c, 0, 0xff, 0xff, 0,
+];
 
 /// The value that the slot gets by it.
 const STATE: [u8; 15] = [0, 0, 1, 2, 3, 4, 5, 6, 3, 0x0a, 0x0b, 0x0c, 0, 0, 0];
