@@ -9,6 +9,8 @@ mod assistants;
 #[cfg(test)]
 mod boxes;
 #[cfg(test)]
+mod delegators;
+#[cfg(test)]
 mod framed_receivers;
 #[cfg(test)]
 mod framed_senders;
@@ -18,6 +20,8 @@ mod generator;
 mod groups;
 #[cfg(test)]
 mod lines;
+#[cfg(test)]
+mod links;
 #[cfg(test)]
 mod numbers;
 #[cfg(test)]
