@@ -24,12 +24,3 @@ pub(crate) const SINGLE: BigInfo = BigInfo {
     framing: 0,
     cipher: None,
 };
-
-/// Units of at most 8 octets every 10 ms in two PDUs of at most 4 on LE 2M, each sent once.
-pub(crate) const FRAGMENTS: BigInfo = BigInfo {
-    nse: 2,
-    bn: 2,
-    sub_interval: 400,
-    max_sdu: 8,
-    ..SINGLE
-};

@@ -8,7 +8,6 @@ use ltv_codec::check_ltvs;
 use pacs_records::PacRecord;
 use scan_delegator::ScanDelegator;
 use std::alloc::Global;
-use std::test::Fail;
 
 /// An Add Source that wants the train, and any stream of one subgroup.
 pub(crate) const ADD: [u8; 21] = [
@@ -56,16 +55,6 @@ pub(crate) const ON_GROUP: [u8; 20] = [
     0x00, 0x00, 0x00, 0x00,
 ];
 
-/// A sink of one stream and one slot, to which the source was added.
-fn added(alloc: Global) -> Result<ScanDelegator, Fail> {
-    let mut sink = ScanDelegator::new(alloc, 1, 1)?;
-    let reply = sink.serve(&ADD)?;
-    if reply != Reply::Accepted {
-        return Err(Fail::from("refused"));
-    }
-    Ok(sink)
-}
-
 /// The answer to a train of the source.
 fn hears(
     sink: &mut ScanDelegator,
@@ -85,18 +74,31 @@ fn tells(sink: &mut ScanDelegator, value: &[u8]) -> bool {
     }
 }
 
+/// Whether the source is added to a new sink.
+fn adds(sink: &mut ScanDelegator) -> bool {
+    sink.serve(&ADD) == Ok(Reply::Accepted)
+}
+
 /// Whether a train is answered so by a sink with no record, which then is on the train.
-fn goes_on_train(alloc: Global, adv: &[u8], acad: &[u8], answer: TrainHeard) -> Result<bool, Fail> {
-    let mut sink = added(alloc)?;
-    let heard = hears(&mut sink, &EXT, adv, acad)?;
-    Ok(heard == answer && tells(&mut sink, &ADDED) && tells(&mut sink, &ON_TRAIN))
+fn goes_on_train(alloc: Global, adv: &[u8], acad: &[u8], answer: TrainHeard) -> bool {
+    let Ok(mut sink) = ScanDelegator::new(alloc, 1, 1) else {
+        return false;
+    };
+    adds(&mut sink)
+        && hears(&mut sink, &EXT, adv, acad) == Ok(answer)
+        && tells(&mut sink, &ADDED)
+        && tells(&mut sink, &ON_TRAIN)
 }
 
 /// Whether a train with this announcement is answered so by a sink, for which nothing changes.
-fn stays(alloc: Global, ext: &[u8], answer: TrainHeard) -> Result<bool, Fail> {
-    let mut sink = added(alloc)?;
-    let heard = hears(&mut sink, ext, &[], &[])?;
-    Ok(heard == answer && tells(&mut sink, &ADDED) && sink.next_notice().is_none())
+fn stays(alloc: Global, ext: &[u8], answer: TrainHeard) -> bool {
+    let Ok(mut sink) = ScanDelegator::new(alloc, 1, 1) else {
+        return false;
+    };
+    adds(&mut sink)
+        && hears(&mut sink, ext, &[], &[]) == Ok(answer)
+        && tells(&mut sink, &ADDED)
+        && sink.next_notice().is_none()
 }
 
 /// Adds a record of the vendor's codec.
@@ -112,66 +114,78 @@ fn add_record(sink: &mut ScanDelegator, alloc: Global) -> bool {
     sink.add_pac(record).is_ok()
 }
 
-/// The answer of a new sink to a write.
-fn replies(alloc: Global, write: &[u8]) -> Result<Reply, Fail> {
-    let mut sink = ScanDelegator::new(alloc, 1, 1)?;
-    Ok(sink.serve(write)?)
-}
-
-fn refused(code: u8, cause: Cause) -> Reply {
-    Reply::Refused { code, cause }
+/// Whether a new sink refuses a write with this code for this cause.
+fn refuses(alloc: Global, write: &[u8], code: u8, cause: Cause) -> bool {
+    let Ok(mut sink) = ScanDelegator::new(alloc, 1, 1) else {
+        return false;
+    };
+    sink.serve(write) == Ok(Reply::Refused { code, cause })
 }
 
 #[test]
-fn a_train_of_no_source_changes_nothing(rt: HostRuntime) -> Result<(), Fail> {
-    assert!(rt; stays(rt.alloc(), &[], TrainHeard::NoBroadcastId)?);
+fn a_train_of_no_source_changes_nothing(rt: HostRuntime) {
     let other = [0x06, 0x16, 0x52, 0x18, 0x00, 0x00, 0x00];
-    assert!(rt; stays(rt.alloc(), &other, TrainHeard::NotWanted)?);
-    Ok(())
+    assert!(rt; stays(rt.alloc(), &[], TrainHeard::NoBroadcastId));
+    assert!(rt; stays(rt.alloc(), &other, TrainHeard::NotWanted));
 }
 
 #[test]
-fn a_sink_is_on_a_train_whose_octets_are_refused(rt: HostRuntime) -> Result<(), Fail> {
+fn a_sink_is_on_a_train_whose_octets_are_refused(rt: HostRuntime) {
     let short = [0x04, 0x16, 0x51, 0x18, 0x40];
     let small = [0x02, 0x2c, 0x00];
     let mut zeros = [0x00; 35];
     zeros[0] = 0x22;
     zeros[1] = 0x2c;
     let range = TrainHeard::BadGroup(GroupFault::RangeIso);
-    assert!(rt; goes_on_train(rt.alloc(), &[], &[], TrainHeard::NoBase)?);
-    assert!(rt; goes_on_train(rt.alloc(), &short, &[], TrainHeard::BadBase)?);
-    assert!(rt; goes_on_train(rt.alloc(), &LC3_BASE, &[], TrainHeard::NoBigInfo)?);
-    assert!(rt; goes_on_train(rt.alloc(), &LC3_BASE, &small, TrainHeard::BadBigInfo)?);
-    assert!(rt; goes_on_train(rt.alloc(), &LC3_BASE, &zeros, range)?);
-    assert!(rt; goes_on_train(rt.alloc(), &LC3_BASE, &BIG_INFO, TrainHeard::NoneTaken)?);
-    Ok(())
+    assert!(rt; goes_on_train(rt.alloc(), &[], &[], TrainHeard::NoBase));
+    assert!(rt; goes_on_train(rt.alloc(), &short, &[], TrainHeard::BadBase));
+    assert!(rt; goes_on_train(rt.alloc(), &LC3_BASE, &[], TrainHeard::NoBigInfo));
+    assert!(rt; goes_on_train(rt.alloc(), &LC3_BASE, &small, TrainHeard::BadBigInfo));
+    assert!(rt; goes_on_train(rt.alloc(), &LC3_BASE, &zeros, range));
+    assert!(rt; goes_on_train(rt.alloc(), &LC3_BASE, &BIG_INFO, TrainHeard::NoneTaken));
 }
 
-#[test]
-fn a_sink_joins_the_group_of_a_train_and_leaves_it(rt: HostRuntime) -> Result<(), Fail> {
-    let mut sink = added(rt.alloc())?;
-    assert!(rt; add_record(&mut sink, rt.alloc()));
-    let first = Bis::new(1).ok_or("no index")?;
+/// Whether the sink goes on the group by a train, and stays there by the same one.
+fn joins(sink: &mut ScanDelegator, first: Bis) -> bool {
     let joined = TrainHeard::OnGroup(BisSet::new().with(first));
-    assert!(rt; hears(&mut sink, &EXT, &BASE, &BIG_INFO)? == joined);
-    assert!(rt; hears(&mut sink, &EXT, &BASE, &BIG_INFO)? == TrainHeard::AlreadyOnGroup);
-    let left = sink.control(&[0x03, 0x04, 0x01, 0x13, 0x01, 0x00])?;
-    assert!(rt; left == ControlHeard::Left);
-    sink.lost()?;
-    assert!(rt; tells(&mut sink, &ADDED) && tells(&mut sink, &ON_GROUP));
-    assert!(rt; tells(&mut sink, &ON_TRAIN) && tells(&mut sink, &ADDED));
-    assert!(rt; sink.next_notice().is_none());
-    Ok(())
+    hears(sink, &EXT, &BASE, &BIG_INFO) == Ok(joined)
+        && hears(sink, &EXT, &BASE, &BIG_INFO) == Ok(TrainHeard::AlreadyOnGroup)
+}
+
+/// Whether the sink leaves the group that ends, and loses its train.
+fn leaves(sink: &mut ScanDelegator) -> bool {
+    sink.control(&[0x03, 0x04, 0x01, 0x13, 0x01, 0x00]) == Ok(ControlHeard::Left)
+        && sink.lost().is_ok()
+}
+
+/// Whether these notices wait, and no more.
+fn tells_where_it_was(sink: &mut ScanDelegator) -> bool {
+    tells(sink, &ADDED)
+        && tells(sink, &ON_GROUP)
+        && tells(sink, &ON_TRAIN)
+        && tells(sink, &ADDED)
+        && sink.next_notice().is_none()
 }
 
 #[test]
-fn a_write_is_refused_for_its_first_cause(rt: HostRuntime) -> Result<(), Fail> {
+fn a_sink_joins_the_group_of_a_train_and_leaves_it(rt: HostRuntime) {
+    let Some(first) = Bis::new(1) else {
+        return assert!(rt; false);
+    };
+    let Ok(mut sink) = ScanDelegator::new(rt.alloc(), 1, 1) else {
+        return assert!(rt; false);
+    };
+    assert!(rt; adds(&mut sink) && add_record(&mut sink, rt.alloc()));
+    assert!(rt; joins(&mut sink, first) && leaves(&mut sink) && tells_where_it_was(&mut sink));
+}
+
+#[test]
+fn a_write_is_refused_for_its_first_cause(rt: HostRuntime) {
     let mut reserved = ADD;
     reserved[12] = 0x03;
-    assert!(rt; replies(rt.alloc(), &[5, 5])? == refused(0x81, Cause::SourceUnknown));
-    assert!(rt; replies(rt.alloc(), &[6])? == refused(0x80, Cause::Opcode));
-    assert!(rt; replies(rt.alloc(), &[])? == refused(0xfc, Cause::Empty));
-    assert!(rt; replies(rt.alloc(), &[2])? == refused(0xfc, Cause::Length));
-    assert!(rt; replies(rt.alloc(), &reserved)? == refused(0xfc, Cause::Rfu));
-    Ok(())
+    assert!(rt; refuses(rt.alloc(), &[5, 5], 0x81, Cause::SourceUnknown));
+    assert!(rt; refuses(rt.alloc(), &[6], 0x80, Cause::Opcode));
+    assert!(rt; refuses(rt.alloc(), &[], 0xfc, Cause::Empty));
+    assert!(rt; refuses(rt.alloc(), &[2], 0xfc, Cause::Length));
+    assert!(rt; refuses(rt.alloc(), &reserved, 0xfc, Cause::Rfu));
 }

@@ -1,6 +1,6 @@
 use Rattle.std.proofs.Common.{◌∙◌}
-use Rattle.public_calls.proofs.TwoSources.{has_own_air, is_plain, on_ok, stands}
-use Rattle.public_calls.proofs.two_sources.starts.Goals as goal
+use Rattle.source_calls.proofs.TwoSources.{has_own_air, is_plain, on_ok, stands}
+use Rattle.source_calls.proofs.two_sources.starts.Goals as goal
 
 pub returns-clause-own_air : goal.returns-clause-own_air
 returns-clause-own_air c = on_ok c.start.result c.start.ensures.ok

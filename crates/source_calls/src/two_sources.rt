@@ -3,6 +3,7 @@ ghost use Rattle.big_info.specs.Widths.{FitsWidths};
 ghost use Rattle.source_machine.specs.Calls.{Call, Setup as Fixed};
 ghost use Rattle.multi_source.specs.State.Fields.{HasOwnAir, IsPlain, Sending, begun_of, source_of};
 
+use crate::numbers::SINGLE;
 use base_grammar::decode_base;
 use bcast_base::Bis;
 use big_info::{BigInfo, Limits};
@@ -10,30 +11,6 @@ use multi_source::{Field, FieldFault};
 use radio_schedule::AirFault;
 use source_machine::{EventFault, Identity, Setup, StaleList};
 use std::alloc::Global;
-
-/// The group of one stream of a unit every 10 ms that has one subevent an event.
-const INFO: BigInfo = BigInfo {
-    big_offset: 0,
-    big_offset_units: 0,
-    iso_interval: 8,
-    num_bis: 1,
-    nse: 1,
-    bn: 1,
-    sub_interval: 0,
-    pto: 0,
-    bis_spacing: 0,
-    irc: 1,
-    max_pdu: 4,
-    seed_access_address: 0,
-    sdu_interval: 10000,
-    max_sdu: 4,
-    base_crc_init: 0,
-    chm: 0,
-    phy: 1,
-    bis_payload_count: 0,
-    framing: 0,
-    cipher: None,
-};
 
 /// A BASE of a presentation delay of 40 ms and one stream of a codec other than LC3.
 const BASE: [u8; 14] = [0x40, 0x9c, 0, 1, 1, 0xff, 1, 0, 2, 0, 0, 0, 1, 0];
@@ -123,8 +100,11 @@ fn performs(field: &mut Field) -> Result<StaleList, EventFault>
 
 #[test]
 fn a_source_that_was_stopped_is_still_heard_beside_the_other(rt: HostRuntime) {
-    assert!(rt; INFO.fits());
-    let (Ok(mut field), Some(one)) = (both(rt.alloc(), INFO), Bis::new(1)) else {
+    assert!(rt; SINGLE.fits());
+    let Some(one) = Bis::new(1) else {
+        return assert!(rt; false);
+    };
+    let Ok(mut field) = both(rt.alloc(), SINGLE) else {
         return assert!(rt; false);
     };
     let Ok(_) = performs(&mut field) else {

@@ -1,4 +1,4 @@
-use Rattle.public_calls.proofs.two_sources.idle.Goals as goal
+use Rattle.source_calls.proofs.two_sources.idle.Goals as goal
 
 pub returns-clause-first : goal.returns-clause-first
 returns-clause-first c = (c.new.ensures.sources 0).1

@@ -1,5 +1,5 @@
-use Rattle.public_calls.proofs.TwoSources.{on_ok, stands}
-use Rattle.public_calls.proofs.two_sources.performs.Goals as goal
+use Rattle.source_calls.proofs.TwoSources.{on_ok, stands}
+use Rattle.source_calls.proofs.two_sources.performs.Goals as goal
 
 pub returns-clause-sends : goal.returns-clause-sends
 returns-clause-sends c = on_ok c.event.result c.event.ensures.ok

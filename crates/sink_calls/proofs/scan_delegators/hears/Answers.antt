@@ -1,4 +1,4 @@
-use Rattle.public_calls.proofs.scan_delegators.hears.Goals as goal
+use Rattle.sink_calls.proofs.scan_delegators.hears.Goals as goal
 
 pub follow-requires : goal.follow-requires
 follow-requires c = record {

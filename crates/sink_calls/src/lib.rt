@@ -1,0 +1,20 @@
+//! Tests of the public calls of the crates of receivers, sinks and their links, for what no clause says: each call that takes
+//! memory succeeds once where there is enough.
+#![tactic(auto)]
+
+#[cfg(test)]
+mod assistants;
+#[cfg(test)]
+mod delegators;
+#[cfg(test)]
+mod framed_receivers;
+#[cfg(test)]
+mod links;
+#[cfg(test)]
+mod numbers;
+#[cfg(test)]
+mod receivers;
+#[cfg(test)]
+mod scan_delegators;
+#[cfg(test)]
+mod taken;
