@@ -1,3 +1,5 @@
+ghost use Rattle.std.specs.Prelude.{◌≡◌, ◌⊎◌};
+
 use scenario_reading::{LineFault, read_line, read_line_in};
 use scenario_text::Step;
 use std::alloc::Global;
@@ -86,24 +88,22 @@ pub(crate) const LINES_OF_2: [&[u8]; 10] = [
     b"relay 0 1 1",
 ];
 
-fn is_read_in_1(alloc: Global, line: &[u8]) -> bool {
-    read_line(alloc, line).is_ok()
-}
-
-fn is_read_in_2(alloc: Global, line: &[u8]) -> bool {
-    read_line_in(alloc, 2, line).is_ok()
+fn is_read(alloc: Global, version: u8, line: &[u8]) -> bool
+    requires { (version ≡ 1) ⊎ (version ≡ 2) }
+{
+    read_line_in(alloc, version, line).is_ok()
 }
 
 #[test]
 fn each_version_has_its_lines(rt: HostRuntime) {
     for line in LINES_OF_1 {
-        assert!(rt; is_read_in_1(rt.alloc(), line) && is_read_in_2(rt.alloc(), line));
+        assert!(rt; is_read(rt.alloc(), 1, line) && is_read(rt.alloc(), 2, line));
     }
     for line in LINES_OF_2 {
-        assert!(rt; has_fault(rt.alloc(), line, 0) && is_read_in_2(rt.alloc(), line));
+        assert!(rt; has_fault(rt.alloc(), line, 0) && is_read(rt.alloc(), 2, line));
     }
     assert!(rt; has_fault(rt.alloc(), b"sink 0 1 5", 3));
-    assert!(rt; is_read_in_2(rt.alloc(), b"sink 0 1 5"));
+    assert!(rt; is_read(rt.alloc(), 2, b"sink 0 1 5"));
 }
 
 #[test]

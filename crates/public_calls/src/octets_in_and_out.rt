@@ -3,65 +3,79 @@ use bcast_io::{
     ByteSource, EndlessSource, Failed, FaithfulSink, FaithfulSource, LineRead, LineReader,
     MemorySink, MemorySource, ReadSource, SinkFault, WriteSink, write_whole,
 };
-use std::test::Fail;
+use std::alloc::Global;
 
-fn calls(rt: &HostRuntime, number: u64) -> Result<Calls, Fail> {
-    let mut calls = Calls::new(rt.alloc());
-    calls.push(number)?;
-    Ok(calls)
+/// The list of this call alone.
+fn calls(alloc: Global, number: u64) -> Option<Calls> {
+    let mut calls = Calls::new(alloc);
+    match calls.push(number) {
+        Ok(()) => Some(calls),
+        Err(_) => None,
+    }
 }
 
-#[test]
-fn a_memory_source_fails_at_its_call_alone(rt: HostRuntime) -> Result<(), Fail> {
-    let octets = Octets::copy(rt.alloc(), b"abcdef")?;
-    let mut source = MemorySource::new(octets, 4, calls(&rt, 2)?);
+/// Whether the next octets of a source are these; none come at its end.
+fn gives<S: ByteSource>(source: &mut S, octets: &[u8]) -> bool {
     let mut into = [0u8; 8];
-    assert!(rt; source.read(&mut into) == Ok(4));
-    assert!(rt; into[..4] == b"abcd"[..]);
-    assert!(rt; source.read(&mut into).is_err());
-    assert!(rt; source.read(&mut into) == Ok(2));
-    assert!(rt; into[..2] == b"ef"[..]);
-    assert!(rt; source.read(&mut into) == Ok(0));
-    Ok(())
+    match source.read(&mut into) {
+        Ok(count) => &into[..count] == octets,
+        Err(_) => false,
+    }
+}
+
+/// Whether the next call of a source fails.
+fn fails<S: ByteSource>(source: &mut S) -> bool {
+    let mut into = [0u8; 8];
+    source.read(&mut into).is_err()
 }
 
 #[test]
-fn a_memory_sink_fails_at_its_call_alone(rt: HostRuntime) -> Result<(), Fail> {
-    let mut sink = MemorySink::new(rt.alloc(), 3, calls(&rt, 3)?);
+fn a_memory_source_fails_at_its_call_alone(rt: HostRuntime) {
+    let (Ok(octets), Some(calls)) = (Octets::copy(rt.alloc(), b"abcdef"), calls(rt.alloc(), 2))
+    else {
+        return assert!(rt; false);
+    };
+    let mut source = MemorySource::new(octets, 4, calls);
+    assert!(rt; gives(&mut source, b"abcd") && fails(&mut source));
+    assert!(rt; gives(&mut source, b"ef") && gives(&mut source, b""));
+}
+
+#[test]
+fn a_memory_sink_fails_at_its_call_alone(rt: HostRuntime) {
+    let Some(calls) = calls(rt.alloc(), 3) else {
+        return assert!(rt; false);
+    };
+    let mut sink = MemorySink::new(rt.alloc(), 3, calls);
     assert!(rt; write_whole(&mut sink, b"abcd") == Ok(()));
     assert!(rt; write_whole(&mut sink, b"ef") == Err(SinkFault::Failed));
     assert!(rt; write_whole(&mut sink, b"gh") == Ok(()));
     assert!(rt; sink.taken() == &b"abcdgh"[..]);
-    Ok(())
 }
 
 #[test]
-fn what_a_faithful_source_gives_a_faithful_sink_takes(rt: HostRuntime) -> Result<(), Fail> {
-    let mut source = FaithfulSource::new(Octets::copy(rt.alloc(), b"abc")?, 8);
+fn what_a_faithful_source_gives_a_faithful_sink_takes(rt: HostRuntime) {
+    let Ok(octets) = Octets::copy(rt.alloc(), b"abc") else {
+        return assert!(rt; false);
+    };
+    let mut source = FaithfulSource::new(octets, 8);
     let mut sink = FaithfulSink::new(rt.alloc());
-    let mut into = [0u8; 8];
-    let n = source.read(&mut into)?;
-    assert!(rt; n == 3);
-    write_whole(&mut sink, &into[..3])?;
+    assert!(rt; gives(&mut source, b"abc"));
+    assert!(rt; write_whole(&mut sink, b"abc") == Ok(()));
     assert!(rt; sink.taken() == &b"abc"[..]);
-    Ok(())
 }
 
 #[test]
-fn a_reader_and_a_writer_of_std_are_adapted(rt: HostRuntime) -> Result<(), Fail> {
+fn a_reader_and_a_writer_of_std_are_adapted(rt: HostRuntime) {
     let mut source = ReadSource::new(&b"abc"[..]);
-    let mut into = [0u8; 2];
-    assert!(rt; source.read(&mut into) == Ok(2));
-    assert!(rt; into == *b"ab");
+    assert!(rt; gives(&mut source, b"abc"));
     let mut written = Vec::new(rt.alloc());
     let mut sink = WriteSink::new(&mut written);
-    write_whole(&mut sink, &into)?;
+    assert!(rt; write_whole(&mut sink, b"ab") == Ok(()));
     drop(sink);
     assert!(rt; written.as_slice() == &b"ab"[..]);
-    Ok(())
 }
 
-// Whether the next line is this one.
+/// Whether the next line is this one.
 fn reads<S: ByteSource>(reader: &mut LineReader, source: &mut S, line: &[u8]) -> bool {
     match reader.next_line(source) {
         Ok(LineRead::Line) => reader.line() == line,
@@ -69,24 +83,39 @@ fn reads<S: ByteSource>(reader: &mut LineReader, source: &mut S, line: &[u8]) ->
     }
 }
 
-#[test]
-fn a_line_that_a_fault_cut_goes_on(rt: HostRuntime) -> Result<(), Fail> {
-    let octets = Octets::copy(rt.alloc(), b"one\ntwo\nthree")?;
-    let mut source = MemorySource::new(octets, 3, calls(&rt, 3)?);
-    let mut reader = LineReader::new(rt.alloc())?;
-    assert!(rt; reads(&mut reader, &mut source, b"one"));
-    assert!(rt; reader.next_line(&mut source) == Err(Failed));
-    assert!(rt; reads(&mut reader, &mut source, b"two"));
-    assert!(rt; reads(&mut reader, &mut source, b"three"));
-    assert!(rt; reader.next_line(&mut source) == Ok(LineRead::End));
-    Ok(())
+/// Whether the lines of a text come in order, a call that fails among them.
+fn reads_its_lines(reader: &mut LineReader, source: &mut MemorySource) -> bool {
+    reads(reader, source, b"one")
+        && reader.next_line(source) == Err(Failed)
+        && reads(reader, source, b"two")
+        && reads(reader, source, b"three")
+        && reader.next_line(source) == Ok(LineRead::End)
 }
 
 #[test]
-fn an_endless_line_comes_again(rt: HostRuntime) -> Result<(), Fail> {
-    let mut source = EndlessSource::new(Octets::copy(rt.alloc(), b"ab\n")?, 2);
-    let mut reader = LineReader::new(rt.alloc())?;
+fn a_line_that_a_fault_cut_goes_on(rt: HostRuntime) {
+    let (Ok(octets), Some(calls)) = (
+        Octets::copy(rt.alloc(), b"one\ntwo\nthree"),
+        calls(rt.alloc(), 3),
+    ) else {
+        return assert!(rt; false);
+    };
+    let mut source = MemorySource::new(octets, 3, calls);
+    let Ok(mut reader) = LineReader::new(rt.alloc()) else {
+        return assert!(rt; false);
+    };
+    assert!(rt; reads_its_lines(&mut reader, &mut source));
+}
+
+#[test]
+fn an_endless_line_comes_again(rt: HostRuntime) {
+    let Ok(octets) = Octets::copy(rt.alloc(), b"ab\n") else {
+        return assert!(rt; false);
+    };
+    let mut source = EndlessSource::new(octets, 2);
+    let Ok(mut reader) = LineReader::new(rt.alloc()) else {
+        return assert!(rt; false);
+    };
     assert!(rt; reads(&mut reader, &mut source, b"ab"));
     assert!(rt; reads(&mut reader, &mut source, b"ab"));
-    Ok(())
 }
