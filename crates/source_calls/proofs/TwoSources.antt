@@ -1,5 +1,5 @@
 -- A source of a field that was started: its air is of its group, and it is heard.
-use Rattle.std.proofs.Common.{◌≡◌, Bool, true, false, Option, None, Some, Result, Ok, Err, ap, sym, subst, is_some}
+use Rattle.std.proofs.Common.{◌≡◌, true, Option, None, Some, Result, Ok, Err, ap, sym, subst, is_some}
 use Rattle.std.specs.Result.{OnOk}
 use Rattle.source_machine.specs.Calls.{Setup}
 use Rattle.source_machine.specs.State.Sources.{Source}
