@@ -1,0 +1,11 @@
+pub mod Acts
+pub mod Assistants
+pub mod Born
+pub mod Calls
+pub mod Fresh
+pub mod Heard
+pub mod Lent
+pub mod Places
+pub mod Results
+pub mod Stands
+pub mod Untold
