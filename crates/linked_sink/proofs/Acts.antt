@@ -9,7 +9,7 @@ use Rattle.notice_links.specs.Links.{reads_of, waiting_of}
 use Rattle.assistant_machine.specs.State.Assistants.{IsLowest, NoneWaits}
 use Rattle.delegator_states.specs.LastGiven.{last_given}
 use Rattle.delegator_states.specs.Trains.{Setup}
-use Rattle.link_histories.specs.Calls.{Call, stepped, heard, ticked, joined, parted, asked, served, told, read, forged, is_joined, joining_by, served_of, writes, writes_waiting}
+use Rattle.link_histories.specs.Calls.{Call, stepped, joined, parted, asked, served, told, read, is_joined, joining_by, served_of, writes, writes_waiting}
 use Rattle.link_histories.specs.Drains.{IsApart}
 use Rattle.link_histories.specs.Links.{Acts, Told, acts_of, language, notices_waiting, read_first, reads_waiting, told_first}
 use Rattle.link_histories.specs.Steps.{IsStep}
@@ -23,7 +23,6 @@ none_there [] is = refl
 none_there (x ∷ xs) is = absurd cc
 
 -- ---- who is there
-
 
 pub joins : (link : ℕ) (calls : List Call) → is_joined link (joined link ∷ calls) ≡ true
 joins link calls = ap (λ (b : Bool). unwrap_or (option_or (if b then Some true else None) (last_given (joining_by link) calls)) (link == 0)) (eq-eqb link link refl)

@@ -1,7 +1,6 @@
 -- A link on which one thing more happens.
-use Rattle.std.proofs.Common.{ℕ, zero, suc, ◌≡◌, ◌≢◌, ◌+◌, ◌<◌, ◌≤◌, Bool, true, false, List, [], ◌∷◌, ◌++◌, length, map, drop, replicate, slice_get, Option, Some, None, refl, sym, ap, ◌∙◌, subst, arith, inl, inr}
-use Rattle.std.specs.Prelude.{◌==◌, ◌&&◌, not, if◌then◌else◌, unwrap_or}
-use Rattle.std.specs.List.{AllByRecursion, filter, range_with_len}
+use Rattle.std.proofs.Common.{ℕ, zero, suc, ◌≡◌, ◌≤◌, Bool, true, false, List, [], ◌∷◌, ◌++◌, length, map, drop, slice_get, Option, Some, refl, sym, ap, ◌∙◌, subst, arith, inl, inr}
+use Rattle.std.specs.Prelude.{◌==◌, ◌&&◌, not, unwrap_or}
 use Rattle.std.proofs.lemmas.Bool.{cases_eq, eq-eqb, ne_eqb}
 use Rattle.octet_fields.specs.Spelling.{IsOctets}
 use Rattle.receive_state.specs.declared.state.ReceiveState.{ReceiveState}
@@ -10,8 +9,7 @@ use Rattle.assistant_machine.specs.State.Assistants.{Assistant, StandsFor}
 use Rattle.assistant_machine.specs.Views as known
 use Rattle.assistant_machine.specs.Views.{if_slot, reading_of}
 use Rattle.delegator_states.specs.declared.notice.Notice.{Notice}
-use Rattle.delegator_states.specs.Notices.{handed_out}
-use Rattle.notice_links.specs.Cuts.{asks, cut}
+use Rattle.notice_links.specs.Cuts.{asks}
 use Rattle.notice_links.specs.Links as links
 use Rattle.notice_links.specs.Links.{delivered_of, if_its, notices_of, told_by, view_of, value_of, waiting_of, waits_of}
 use Rattle.link_histories.specs.Links.{Acts, Told, delivered, language}
@@ -167,6 +165,7 @@ read_view mtu at slot octets acts old is same = elim (cases_eq at slot) [
     elsewhere : (b : Bool) (given others : Option (Option ReceiveState)) → b ≡ false → unwrap_or (if_slot b given) old ≡ unwrap_or (if_its b others) (view_of (language mtu) slot acts)
     elsewhere false given others e = same
     elsewhere true given others e = absurd cc
+
     here : (b : Bool) (given : Option (Option ReceiveState)) → b ≡ true → unwrap_or (if_slot b given) old ≡ unwrap_or (if_its b given) (view_of (language mtu) slot acts)
     here true given e = ap (λ o. unwrap_or given o) same
     here false given e = absurd cc

@@ -1,14 +1,14 @@
 -- A sink whose links took a call.
-use Rattle.std.proofs.Common.{ℕ, zero, suc, ◌≡◌, ◌≢◌, ◌<◌, ◌≤◌, Bool, true, false, List, [], ◌∷◌, ◌++◌, length, map, drop, slice_get, slice_set, Option, Some, None, Result, Ok, Err, refl, sym, ap, ◌∙◌, subst, arith, inl, inr}
-use Rattle.std.specs.Prelude.{is_some, option_map, slice_index_or, OnOk}
+use Rattle.std.proofs.Common.{ℕ, zero, suc, ◌≡◌, ◌≢◌, ◌<◌, ◌≤◌, Bool, true, false, List, [], ◌∷◌, ◌++◌, length, map, drop, slice_get, slice_set, Option, Some, None, refl, sym, ap, ◌∙◌, subst, arith, inl, inr}
+use Rattle.std.specs.Prelude.{is_some, option_map, slice_index_or}
 use Rattle.std.proofs.lemmas.Bool.{cases_eq}
 use Rattle.octet_fields.specs.Spelling.{IsOctets}
 use Rattle.assistant_machine.specs.Calls as assistants
 use Rattle.assistant_machine.specs.State.Assistants.{Assistant, IsLowest, NoneWaits}
 use Rattle.delegator_machine.specs.Calls as machine
-use Rattle.delegator_machine.specs.State.Halves.{Halves, StandsFor, settings_of}
+use Rattle.delegator_machine.specs.State.Halves.{StandsFor, settings_of}
 use Rattle.delegator_states.specs.declared.notice.Notice.{Notice}
-use Rattle.delegator_states.specs.States.{Step, sight_of, written}
+use Rattle.delegator_states.specs.States.{sight_of, written}
 use Rattle.delegator_states.specs.Trains.{Setup}
 use Rattle.delegator_states.specs.Values.{value, value_at}
 use Rattle.delegator_states.specs.Writes.{reply_of}

@@ -1,10 +1,10 @@
 -- An assistant that just joined.
-use Rattle.std.proofs.Common.{ℕ, zero, suc, ◌≡◌, ◌<◌, ◌≤◌, Bool, true, false, List, [], ◌∷◌, length, replicate, slice_get, Option, Some, None, refl, sym, ap, ◌∙◌, subst, arith}
+use Rattle.std.proofs.Common.{ℕ, zero, suc, ◌≡◌, ◌<◌, true, false, List, [], ◌∷◌, length, replicate, slice_get, Option, Some, None, refl, ap, arith}
 use Rattle.assistant_machine.specs.Calls.{Call, all_asked, limited}
-use Rattle.assistant_machine.specs.State.Assistants.{Assistant, StandsFor}
+use Rattle.assistant_machine.specs.State.Assistants.{StandsFor}
 use Rattle.notice_links.specs.Links as links
 use Rattle.link_histories.specs.Links.{Acts}
-use Rattle.multi_assist.specs.State.Places.{Linked, asking}
+use Rattle.multi_assist.specs.State.Places.{asking}
 use Rattle.multi_assist.specs.State.Terms.{joining}
 use Rattle.linked_sink.specs.State.Links.{LinkHolds}
 

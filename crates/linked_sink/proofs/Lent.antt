@@ -17,23 +17,27 @@ pub sent_so : (result : Option (List ℕ)) (lent before now : Assistant) (link :
     → IfSome result (λ write. (before.writes ≡ write ∷ drop 1 before.writes) × Takes (sent ∷ []) link before links (with_assistant_on links link now))
 sent_so None lent before now link links same writes stands = tt
 sent_so (Some write) lent before now link links same writes stands =
-    let all : before.writes ≡ write ∷ now.writes = ap (λ (a : Assistant). a.writes) (sym same) ∙ writes in
-    (all ∙ ap (λ ws. write ∷ ws) (sym (ap (drop 1) all)), record {
-      heard = (tt, tt);
-      after = now;
-      links = refl;
-      stands = λ slots taken stood. stands slots taken (subst (StandsFor slots taken) (sym same) stood);
-    })
+    let all : before.writes ≡ write ∷ now.writes = ap (λ (a : Assistant). a.writes) (sym same) ∙ writes in (
+      all ∙ ap (λ ws. write ∷ ws) (sym (ap (drop 1) all)),
+      record {
+        heard = (tt, tt);
+        after = now;
+        links = refl;
+        stands = λ slots taken stood. stands slots taken (subst (StandsFor slots taken) (sym same) stood);
+      },
+    )
 
 -- a read was
 pub asked_so : (result : Option ℕ) (lent before now : Assistant) (link : ℕ) (links : Links) → lent ≡ before → IfSome result (λ slot. IsLowest lent.reads slot)
     → IfSome result (λ slot. (slots : ℕ) (taken : List Call) → StandsFor slots taken lent → StandsFor slots (asked slot ∷ taken) now)
     → IfSome result (λ slot. IsLowest before.reads slot × Takes (asked slot ∷ []) link before links (with_assistant_on links link now))
 asked_so None lent before now link links same lowest stands = tt
-asked_so (Some slot) lent before now link links same lowest stands =
-    (subst (λ (a : Assistant). IsLowest a.reads slot) same lowest, record {
-      heard = (tt, tt);
-      after = now;
-      links = refl;
-      stands = λ slots taken stood. stands slots taken (subst (StandsFor slots taken) (sym same) stood);
-    })
+asked_so (Some slot) lent before now link links same lowest stands = (
+  subst (λ (a : Assistant). IsLowest a.reads slot) same lowest,
+  record {
+    heard = (tt, tt);
+    after = now;
+    links = refl;
+    stands = λ slots taken stood. stands slots taken (subst (StandsFor slots taken) (sym same) stood);
+  },
+)

@@ -1,11 +1,12 @@
-pub mod Acts
-pub mod Assistants
-pub mod Born
-pub mod Calls
-pub mod Fresh
-pub mod Heard
-pub mod Lent
-pub mod Places
-pub mod Results
-pub mod Stands
-pub mod Untold
+mod Acts
+mod Assistants
+mod Born
+mod Calls
+mod Fresh
+mod Heard
+mod Lent
+mod Places
+mod Results
+mod Stands
+mod Untold
+pub mod Citable

@@ -1,10 +1,10 @@
 -- What stands on each of the four links.
-use Rattle.std.proofs.Common.{ℕ, zero, suc, ◌≡◌, ◌≢◌, ◌≤◌, Bool, true, false, List, [], ◌∷◌, Option, Some, None, map, slice_set, refl, sym, ap, ◌∙◌, arith, inl, inr}
-use Rattle.std.specs.Prelude.{is_some, option_map, slice_index_or}
+use Rattle.std.proofs.Common.{ℕ, zero, suc, ◌≡◌, ◌≢◌, ◌≤◌, List, [], ◌∷◌, Option, Some, None, map, slice_set, refl, sym, ap, ◌∙◌, arith, inl, inr}
+use Rattle.std.specs.Prelude.{option_map, slice_index_or}
 use Rattle.std.proofs.lemmas.Bool.{cases_eq}
 use Rattle.assistant_machine.specs.State.Assistants.{Assistant}
 use Rattle.multi_assist.specs.State.Links.{link_at, linked, mtu_of, slots_of, with_assistant_on}
-use Rattle.multi_assist.specs.State.Places.{Linked, assistant_in, link_of}
+use Rattle.multi_assist.specs.State.Places.{Linked, link_of}
 use Rattle.multi_assist.specs.declared.links.Links.{Links}
 use Rattle.multi_assist.specs.declared.place.Place.{Place}
 
@@ -44,7 +44,6 @@ one_of_four links (suc (suc (suc zero))) on is = omega arith
 one_of_four links (suc (suc (suc (suc n)))) on is = absurd cc
 
 -- ---- an assistant that was lent
-
 
 lent_to : (place : Place) (on : Linked) (a : Assistant) → link_of place ≡ Some on → link_of (record place { assistant = Some a }) ≡ Some (record on { assistant = a })
 lent_to place on a is = by place.assistant refl is

@@ -1,10 +1,8 @@
 -- A sink with its links that stands for its calls stands for one call more.
-use Rattle.std.proofs.Common.{ℕ, zero, suc, ◌≡◌, ◌≢◌, ◌<◌, ◌≤◌, Bool, true, false, List, [], ◌∷◌, ◌++◌, length, map, drop, slice_get, Option, Some, None, refl, sym, ap, ◌∙◌, subst, arith, inl, inr}
-use Rattle.std.specs.Prelude.{is_some, option_map, slice_set}
+use Rattle.std.proofs.Common.{ℕ, ◌≡◌, ◌≢◌, Bool, true, false, List, [], ◌∷◌, ◌++◌, map, drop, Option, Some, None, refl, sym, ap, ◌∙◌, subst, inl, inr}
+use Rattle.std.specs.Prelude.{is_some}
 use Rattle.std.proofs.lemmas.Bool.{cases_eq}
 use Rattle.std.proofs.lemmas.List.{append-nil}
-use Rattle.assistant_machine.specs.Calls as assistants
-use Rattle.assistant_machine.specs.State.Assistants.{Assistant, StandsFor as AssistantStands}
 use Rattle.delegator_machine.specs.Calls as machine
 use Rattle.delegator_machine.specs.State.Halves.{Halves, StandsFor, settings_of}
 use Rattle.delegator_states.specs.declared.notice.Notice.{Notice}
@@ -15,9 +13,9 @@ use Rattle.delegator_states.specs.Steps.{after}
 use Rattle.delegator_states.specs.Trains.{Setup}
 use Rattle.delegator_states.specs.Values.{value_at}
 use Rattle.delegator_states.proofs.Citable.{none_change, sight_goes_on, waiting_goes_on}
-use Rattle.link_histories.specs.Calls.{Call, stepped, heard, ticked, is_joined, steps_of, writes_waiting}
+use Rattle.link_histories.specs.Calls.{Call, stepped, is_joined, steps_of, writes_waiting}
 use Rattle.link_histories.specs.Drains.{IsApart, LeavesLink}
-use Rattle.link_histories.specs.Links.{Acts, acts_of, delivered}
+use Rattle.link_histories.specs.Links.{Acts, acts_of}
 use Rattle.link_histories.specs.Octets.{AreOctets, IsAsked, IsWritten}
 use Rattle.link_histories.specs.Steps.{IsStep, TellsLink}
 use Rattle.multi_assist.specs.State.Gathering.{Gathers, StandsOn, asked}
@@ -26,7 +24,7 @@ use Rattle.multi_assist.specs.State.Places.{Linked, with_notices}
 use Rattle.multi_assist.specs.declared.links.Links.{Links}
 use Rattle.linked_sink.specs.declared.sink.LinkedSink.{LinkedSink}
 use Rattle.linked_sink.specs.State.Links.{LinkHolds, OnLink}
-use Rattle.linked_sink.specs.State.Stands.{HasStepped, LinkedStands, Took}
+use Rattle.linked_sink.specs.State.Stands.{HasStepped, LinkedStands}
 use Rattle.linked_sink.specs.State.Untold.{untold}
 use Rattle.linked_sink.specs.Taken.{delegator_calls}
 use Rattle.linked_sink.proofs.Acts.{apart_joined, step_joined}
@@ -64,7 +62,7 @@ on_as slots mtu joined now acts others writes more on new a b c d its = record {
 stepped_link : (setup : Setup) (mtu : Option ℕ) (link : ℕ) (call : Call) (calls : List Call) (writes : List (List ℕ)) (on : Option Linked) → IsStep call → TellsLink setup mtu link call calls
     → OnLink setup.slots mtu (is_joined link calls) (acts_of setup mtu link calls) writes on
     → OnLink setup.slots mtu (is_joined link (call ∷ calls)) (acts_of setup mtu link (call ∷ calls)) writes
-      (with_notices (map (handed_out mtu) (changes setup.slots (sight_of setup (steps_of calls)) (sight_of setup (steps_of (call ∷ calls))))) on)
+    (with_notices (map (handed_out mtu) (changes setup.slots (sight_of setup (steps_of calls)) (sight_of setup (steps_of (call ∷ calls))))) on)
 stepped_link setup mtu link call calls writes None step tells its =
     on_none setup.slots mtu (is_joined link (call ∷ calls)) (acts_of setup mtu link (call ∷ calls)) writes (step_joined link call calls step ∙ sym its.joined_is)
 stepped_link setup mtu link call calls writes (Some on) step tells its =
@@ -85,7 +83,7 @@ pub gathered : Tells → (setup : Setup) (mtu : Option ℕ) (call : Call) (calls
 gathered tells setup mtu call calls old new its gathers on terms =
     let so = on setup its.took.taken its.took.delegator in
     let more : map (handed_out old.delegator.scan.mtu) old.delegator.scan.waiting
-        ≡ map (handed_out mtu) (changes setup.slots (sight_of setup (steps_of calls)) (sight_of setup (steps_of (call ∷ calls)))) =
+    ≡ map (handed_out mtu) (changes setup.slots (sight_of setup (steps_of calls)) (sight_of setup (steps_of (call ∷ calls)))) =
     (λ i. map (handed_out (its.took.mtu_is i)) (its.waiting i)) in
     record {
       took = record {

@@ -90,12 +90,7 @@ pub(crate) fn next_read(links: &mut Links, link: u8) -> Option<u8>
 }
 
 /// The assistant of a joined link takes the value that a read of a slot gave, whatever it makes of it.
-pub(crate) fn take_value(
-    links: &mut Links,
-    link: u8,
-    slot: u8,
-    value: &[u8],
-) -> Result<(), Memory>
+pub(crate) fn take_value(links: &mut Links, link: u8, slot: u8, value: &[u8]) -> Result<(), Memory>
     ensures { (before : Assistant) → assistant_in (link_at links.old link) ≡ Some before
         → OnOk result (Takes (assistants.read slot value.now ∷ []) link before links.old links.new) }
 {

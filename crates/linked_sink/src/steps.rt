@@ -52,7 +52,9 @@ impl LinkedSink {
             → OnOk result (LinkedStands setup mtu (stepped (train_heard source (record { address_type = address_type; sid = sid; ext = ext.now; adv = adv.now; acad = acad.now; now = now })) ∷ calls) self.new) }
         ensures slots { self.new.slots ≡ self.old.slots }
     {
-        let heard = self.delegator.train(address_type, sid, ext, adv, acad, now)?;
+        let heard = self
+            .delegator
+            .train(address_type, sid, ext, adv, acad, now)?;
         self.gather()?;
         Ok(heard)
     }

@@ -1,5 +1,5 @@
 -- What a sink with its links is after its calls.
-use Rattle.std.specs.Prelude.{ℕ, ◌≡◌, ◌<◌, ◌∷◌, true, [], List, Option}
+use Rattle.std.specs.Prelude.{ℕ, ◌≡◌, ◌∷◌, true, [], List, Option}
 use Rattle.delegator_machine.specs.Calls as machine
 use Rattle.delegator_machine.specs.State.Halves.{StandsFor}
 use Rattle.delegator_states.specs.Notices.{changes}

@@ -1,4 +1,4 @@
-use Rattle.std.proofs.Common.{[], Some, sym, subst}
+use Rattle.std.proofs.Common.{[], sym, subst}
 use Rattle.delegator_machine.specs.State.Halves.{StandsFor}
 use Rattle.delegator_states.specs.Trains.{Setup}
 use Rattle.linked_sink.specs.Taken.{born, delegator_calls}
