@@ -1,5 +1,6 @@
 -- A sink whose links took a call.
-use Rattle.std.proofs.Common.{ℕ, zero, suc, ◌≡◌, ◌≢◌, ◌<◌, ◌≤◌, Bool, true, false, List, [], ◌∷◌, ◌++◌, length, map, drop, slice_get, slice_set, Option, Some, None, refl, sym, ap, ◌∙◌, subst, arith, inl, inr}
+use Rattle.std.proofs.Common.{ℕ, zero, suc, ◌≡◌, ◌≢◌, ◌<◌, ◌≤◌, Bool, true, false, List, [], ◌∷◌, ◌++◌, length}
+use Rattle.std.proofs.Common.{map, drop, slice_get, slice_set, Option, Some, None, refl, sym, ap, ◌∙◌, subst, arith, inl, inr}
 use Rattle.std.specs.Prelude.{is_some, option_map, slice_index_or}
 use Rattle.std.proofs.lemmas.Bool.{cases_eq}
 use Rattle.octet_fields.specs.Spelling.{IsOctets}
@@ -202,7 +203,8 @@ first_told : (mtu : Option ℕ) (notice : Notice) (waiting : List Told) → Some
 first_told mtu notice [] is = absurd cc
 first_told mtu notice (first ∷ rest) is = record { first = first; rest = rest; is = refl; same = cc }
 
-pub delivers : Leaves → (setup : Setup) (mtu : Option ℕ) (link : ℕ) (calls : List Call) (old : LinkedSink) (mid : Links) (new : LinkedSink) (notice : Notice) (its : LinkedStands setup mtu calls old)
+pub delivers : Leaves → (setup : Setup) (mtu : Option ℕ) (link : ℕ) (calls : List Call) (old : LinkedSink) (mid : Links) (new : LinkedSink) (notice : Notice)
+    (its : LinkedStands setup mtu calls old)
     (is_on : is_joined link calls ≡ true) → Some notice ≡ first_of (link_at old.links link)
     → linked mid ≡ slice_set (linked old.links) link (without_first (link_at old.links link)) → (slots_of mid ≡ slots_of old.links) × (mtu_of mid ≡ mtu_of old.links)
     → new.delegator ≡ old.delegator
@@ -254,7 +256,8 @@ pub delivers_none : Leaves → (setup : Setup) (mtu : Option ℕ) (link : ℕ) (
     → notices_waiting setup mtu link calls ≡ [] → LinkedStands setup mtu (told link ∷ calls) sink
 delivers_none leaves setup mtu link calls sink its nothing =
     one_link leaves setup mtu (told link) link calls sink sink (λ other apart e. apart (sym e)) tt refl its.took.first its refl (refl, refl) (λ other apart. refl)
-    (on_as setup.slots mtu (is_joined link calls) (is_joined link calls) (acts_of setup mtu link calls) (acts_of setup mtu link (told link ∷ calls)) (writes_waiting link calls) (writes_waiting link calls)
+    (on_as setup.slots mtu (is_joined link calls) (is_joined link calls) (acts_of setup mtu link calls) (acts_of setup mtu link (told link ∷ calls)) (writes_waiting link calls)
+    (writes_waiting link calls)
     (link_at sink.links link) (link_at sink.links link) refl (acts_untold setup mtu link calls nothing) refl refl (its.links link))
 
 -- ---- a notice that is forged
@@ -264,7 +267,8 @@ pub forges : Leaves → (setup : Setup) (mtu : Option ℕ) (slot : ℕ) (octets 
     → LinkedStands setup mtu (forged slot octets ∷ calls) new
 forges leaves setup mtu slot octets calls old new its delegator t =
     let h : Here setup mtu 0 calls old.links = here setup mtu 0 calls old its its.took.first in
-    takes_one leaves setup mtu (forged slot octets) 0 calls old new h.on (assistants.told slot octets ∷ []) (λ other apart e. apart (sym e)) tt refl its.took.first its delegator h.there t its.took.first
+    takes_one leaves setup mtu (forged slot octets) 0 calls old new h.on (assistants.told slot octets ∷ []) (λ other apart e. apart (sym e)) tt refl its.took.first its delegator h.there t
+    its.took.first
     (forged_holds setup.slots mtu (acts_of setup mtu 0 calls) (writes_waiting 0 calls) h.on slot octets t.after t.heard.0 t.stands h.holds)
 
 -- ---- a read that is served
@@ -289,7 +293,8 @@ abbrev pub GivesState : Type 0
 GivesState = (setup : Setup) (mtu : Option ℕ) (link slot : ℕ) (calls : List Call) → setup.slots < 256 → slot < setup.slots → AreOctets calls
     → value_of (language mtu) slot (acts_of setup mtu link calls) ≡ state setup slot calls
 
-pub reads_one : Leaves → GivesState → (setup : Setup) (mtu : Option ℕ) (link slot : ℕ) (octets : List ℕ) (calls : List Call) (old : LinkedSink) (mid : Links) (new : LinkedSink) (its : LinkedStands setup mtu calls old)
+pub reads_one : Leaves → GivesState → (setup : Setup) (mtu : Option ℕ) (link slot : ℕ) (octets : List ℕ) (calls : List Call) (old : LinkedSink) (mid : Links) (new : LinkedSink)
+    (its : LinkedStands setup mtu calls old)
     (is_on : is_joined link calls ≡ true) → setup.slots < 256 → IsLowest (here setup mtu link calls old its is_on).on.assistant.reads slot → octets ≡ value (state setup slot calls)
     → Takes (assistants.asked slot ∷ []) link (here setup mtu link calls old its is_on).on.assistant old.links mid → new.delegator ≡ old.delegator
     → ((before : Assistant) → assistant_in (link_at mid link) ≡ Some before → Takes (assistants.read slot octets ∷ []) link before mid new.links)
@@ -317,7 +322,8 @@ pub reads_none : Leaves → (setup : Setup) (mtu : Option ℕ) (link : ℕ) (cal
     → reads_waiting setup mtu link calls ≡ [] → LinkedStands setup mtu (read link ∷ calls) sink
 reads_none leaves setup mtu link calls sink its nothing =
     one_link leaves setup mtu (read link) link calls sink sink (λ other apart e. apart (sym e)) tt refl its.took.first its refl (refl, refl) (λ other apart. refl)
-    (on_as setup.slots mtu (is_joined link calls) (is_joined link calls) (acts_of setup mtu link calls) (acts_of setup mtu link (read link ∷ calls)) (writes_waiting link calls) (writes_waiting link calls)
+    (on_as setup.slots mtu (is_joined link calls) (is_joined link calls) (acts_of setup mtu link calls) (acts_of setup mtu link (read link ∷ calls)) (writes_waiting link calls)
+    (writes_waiting link calls)
     (link_at sink.links link) (link_at sink.links link) refl (acts_unread setup mtu link calls nothing) refl refl (its.links link))
 
 -- ---- who is there
@@ -343,7 +349,8 @@ pub parts_one : Leaves → (setup : Setup) (mtu : Option ℕ) (link : ℕ) (call
     → new.delegator ≡ old.delegator → (slots_of new.links ≡ slots_of old.links) × (mtu_of new.links ≡ mtu_of old.links)
     → link_at new.links link ≡ None → ((other : ℕ) → other ≢ link → link_at new.links other ≡ link_at old.links other) → LinkedStands setup mtu (parted link ∷ calls) new
 parts_one leaves setup mtu link calls old new its some least delegator terms gone others =
-    one_link leaves setup mtu (parted link) link calls old new (λ other apart e. apart (sym e)) tt refl (apart_joined 0 (parted link) calls (λ e. omega (arith, e, some)) ∙ its.took.first) its delegator terms others
+    one_link leaves setup mtu (parted link) link calls old new (λ other apart e. apart (sym e)) tt refl (apart_joined 0 (parted link) calls (λ e. omega (arith, e, some)) ∙ its.took.first)
+    its delegator terms others
     (subst (OnLink setup.slots mtu (is_joined link (parted link ∷ calls)) (acts_of setup mtu link (parted link ∷ calls)) (writes_waiting link (parted link ∷ calls))) (sym gone)
     (on_none setup.slots mtu (is_joined link (parted link ∷ calls)) (acts_of setup mtu link (parted link ∷ calls)) (writes_waiting link (parted link ∷ calls)) (parts link calls)))
 

@@ -98,7 +98,8 @@ gathered tells setup mtu call calls old new its gathers on terms =
       };
       none_waits = gathers.none;
       links = λ link.
-          let there : link_at new.links link ≡ with_notices (map (handed_out mtu) (changes setup.slots (sight_of setup (steps_of calls)) (sight_of setup (steps_of (call ∷ calls))))) (link_at old.links link) =
+          let there : link_at new.links link ≡ with_notices (map (handed_out mtu) (changes setup.slots (sight_of setup (steps_of calls)) (sight_of setup (steps_of (call ∷ calls)))))
+          (link_at old.links link) =
           at_mapped (with_notices (map (handed_out old.delegator.scan.mtu) old.delegator.scan.waiting)) old.links new.links refl gathers.given.links link
           ∙ ap (λ ns. with_notices ns (link_at old.links link)) more in
           subst (OnLink setup.slots mtu (is_joined link (call ∷ calls)) (acts_of setup mtu link (call ∷ calls)) (writes_waiting link (call ∷ calls))) (sym there)
@@ -112,7 +113,8 @@ settled tells setup mtu call calls sink its none = record {
   took = its.took;
   none_waits = none;
   links = λ link.
-      let there : with_notices (map (handed_out mtu) (changes setup.slots (sight_of setup (steps_of calls)) (sight_of setup (steps_of (call ∷ calls))))) (link_at sink.links link) ≡ link_at sink.links link =
+      let there : with_notices (map (handed_out mtu) (changes setup.slots (sight_of setup (steps_of calls)) (sight_of setup (steps_of (call ∷ calls))))) (link_at sink.links link) ≡ link_at
+      sink.links link =
       ap (λ ns. with_notices (map (handed_out mtu) ns) (link_at sink.links link)) (sym its.waiting ∙ none) ∙ none_new (link_at sink.links link) in
       subst (OnLink setup.slots mtu (is_joined link (call ∷ calls)) (acts_of setup mtu link (call ∷ calls)) (writes_waiting link (call ∷ calls))) there
       (stepped_link setup mtu link call calls (writes_waiting link (call ∷ calls)) (link_at sink.links link) its.is_step (tells setup mtu link call calls its.is_step) (its.links link));

@@ -15,7 +15,8 @@ returns-clause-answer c setup mtu calls its =
 pub returns-clause-cause : goal.returns-clause-cause
 returns-clause-cause c setup mtu calls its =
     let h : Here setup mtu 0 calls c.args.self.now.links = here setup mtu 0 calls c.args.self.now its its.took.first in
-    subst (λ (answer : Result NoticeTaken NoticeFault). IfErr c.take_notice.result (λ fault. IsCause fault answer)) (its_answer setup mtu 0 calls c.args.self.now.links h c.args.slot c.args.octets.now)
+    subst (λ (answer : Result NoticeTaken NoticeFault). IfErr c.take_notice.result (λ fault. IsCause fault answer))
+    (its_answer setup mtu 0 calls c.args.self.now.links h c.args.slot c.args.octets.now)
     (c.take_notice.ensures.cause h.on.assistant (its_assistant setup mtu 0 calls c.args.self.now.links h))
 
 pub returns-clause-stands : goal.returns-clause-stands

@@ -12,13 +12,15 @@ pub returns-in_default-clause-answer : goal.returns-in_default-clause-answer
 returns-in_default-clause-answer c setup mtu calls its is_on =
     let h : Here setup mtu c.args.link calls c.args.self.now.links = here setup mtu c.args.link calls c.args.self.now its is_on in
     let none = c.in_default.ensures.none h.on.assistant (its_assistant setup mtu c.args.link calls c.args.self.now.links h) in
-    ap (λ rs. option_map {T = ℕ} {U = Notice} (λ slot. record { slot = slot; value = value (state setup slot calls) }) (slice_get rs 0)) (sym (no_read setup mtu c.args.link calls c.args.self.now.links h none.0))
+    ap (λ rs. option_map {T = ℕ} {U = Notice} (λ slot. record { slot = slot; value = value (state setup slot calls) }) (slice_get rs 0))
+    (sym (no_read setup mtu c.args.link calls c.args.self.now.links h none.0))
 
 pub returns-in_default-clause-stands : goal.returns-in_default-clause-stands
 returns-in_default-clause-stands c setup mtu calls its is_on =
     let h : Here setup mtu c.args.link calls c.args.self.now.links = here setup mtu c.args.link calls c.args.self.now its is_on in
     let none = c.in_default.ensures.none h.on.assistant (its_assistant setup mtu c.args.link calls c.args.self.now.links h) in
-    reads_none c.links_law.ensures.apart setup mtu c.args.link calls _ (kept setup mtu c.args.link calls c.args.self.now _ its is_on refl none.1) (no_read setup mtu c.args.link calls c.args.self.now.links h none.0)
+    reads_none c.links_law.ensures.apart setup mtu c.args.link calls _ (kept setup mtu c.args.link calls c.args.self.now _ its is_on refl none.1)
+    (no_read setup mtu c.args.link calls c.args.self.now.links h none.0)
 
 pub returns-in_default-clause-none : goal.returns-in_default-clause-none
 returns-in_default-clause-none c setup mtu calls its is_on is =
@@ -61,4 +63,5 @@ returns-clause-stands c setup mtu calls its is_on =
     let few : setup.slots < 256 = let same : setup.slots ≡ c.args.self.now.slots = slots_there setup mtu calls c.args.self.now its in omega (arith, same, c.args.self.now.few) in
     reads_one c.links_law.ensures.apart c.a_read_gives_the_state.ensures setup mtu c.args.link c.in-Some.slot c.in_ok-value.value calls c.args.self.now c.next_read.new.links _ its is_on few some.0
     (value_read setup c.in-Some.slot calls its.took.taken c.in_ok-value.value its.took.own (c.in_ok-value.ensures setup its.took.taken its.took.delegator)) some.1 refl
-    (λ before is. subst (λ octets. Takes (read c.in-Some.slot octets ∷ []) c.args.link before c.next_read.new.links c.take_value.new.links) c.as_slice.ensures (c.in_ok-take_value.ensures before is))
+    (λ before is. subst (λ octets. Takes (read c.in-Some.slot octets ∷ []) c.args.link before c.next_read.new.links c.take_value.new.links) c.as_slice.ensures
+    (c.in_ok-take_value.ensures before is))

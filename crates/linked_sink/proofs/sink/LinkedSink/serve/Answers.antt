@@ -18,7 +18,8 @@ pub returns-in_default-clause-stands : goal.returns-in_default-clause-stands
 returns-in_default-clause-stands c setup mtu calls its is_on =
     let h : Here setup mtu c.args.link calls c.args.self.now.links = here setup mtu c.args.link calls c.args.self.now its is_on in
     let none = c.in_default.ensures.none h.on.assistant (its_assistant setup mtu c.args.link calls c.args.self.now.links h) in
-    serves_none c.a_step_tells_each_link.ensures setup mtu c.args.link calls _ (kept setup mtu c.args.link calls c.args.self.now _ its is_on refl none.1) (no_write setup mtu c.args.link calls c.args.self.now.links h none.0)
+    serves_none c.a_step_tells_each_link.ensures setup mtu c.args.link calls _ (kept setup mtu c.args.link calls c.args.self.now _ its is_on refl none.1)
+    (no_write setup mtu c.args.link calls c.args.self.now.links h none.0)
 
 pub returns-in_default-clause-none : goal.returns-in_default-clause-none
 returns-in_default-clause-none c setup mtu calls its is_on is =
@@ -29,7 +30,8 @@ pub returns-clause-answer : goal.returns-clause-answer
 returns-clause-answer c setup mtu calls its is_on =
     let h : Here setup mtu c.args.link calls c.args.self.now.links = here setup mtu c.args.link calls c.args.self.now its is_on in
     let some = c.in-Some.ensures.some h.on.assistant (its_assistant setup mtu c.args.link calls c.args.self.now.links h) in
-    replied setup c.args.link calls its.took.taken c.in-Some.write c.as_slice.result.now c.in_ok-reply.reply its.took.own (first_write setup mtu c.args.link calls c.args.self.now.links h c.in-Some.write some.0) c.as_slice.ensures
+    replied setup c.args.link calls its.took.taken c.in-Some.write c.as_slice.result.now c.in_ok-reply.reply its.took.own
+    (first_write setup mtu c.args.link calls c.args.self.now.links h c.in-Some.write some.0) c.as_slice.ensures
     (c.in_ok-reply.ensures.answer setup its.took.taken its.took.delegator)
 
 pub returns-clause-stands : goal.returns-clause-stands

@@ -6,6 +6,8 @@ use Rattle.linked_sink.proofs.sink.LinkedSink.tune.Goals as goal
 
 pub returns-clause-stands : goal.returns-clause-stands
 returns-clause-stands c setup mtu calls source its =
-    c.gather.ensures.stands setup mtu (stepped (put_on source (record { info = c.args.group.now.info; which = c.args.which; first = c.args.event; anchor = c.args.anchor; delay = c.args.delay }))) calls
-    (steps setup mtu (put_on source (record { info = c.args.group.now.info; which = c.args.which; first = c.args.event; anchor = c.args.anchor; delay = c.args.delay })) calls c.args.self.now _ refl tt its
+    c.gather.ensures.stands setup mtu (stepped (put_on source (record { info = c.args.group.now.info; which = c.args.which; first = c.args.event; anchor = c.args.anchor; delay =
+    c.args.delay }))) calls
+    (steps setup mtu (put_on source (record { info = c.args.group.now.info; which = c.args.which; first = c.args.event; anchor = c.args.anchor; delay = c.args.delay })) calls
+    c.args.self.now _ refl tt its
     (c.in_ok-tune.ensures.stands setup its.took.taken source its.took.delegator) c.tune.ensures.settings refl)
