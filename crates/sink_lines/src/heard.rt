@@ -24,7 +24,7 @@ pub fn put_idle(text: &mut Octets, sink: u8) -> Result<(), Memory>
 }
 
 /// Puts the line of a sink that is on a group, with the indices of its streams, rising.
-#[tactic(auto, using(crate::proofs::Pieces::line_put))]
+#[tactic(auto, using(crate::proofs::Putting::line_put))]
 fn put_on_group(text: &mut Octets, sink: u8, which: BisSet) -> Result<(), Memory>
     ensures { OnOk result (text.new ≡ text.old ++ sink_line sink (train_words (OnGroup which))) }
 {

@@ -23,7 +23,7 @@ fn put_numbers(text: &mut Octets, label: Label) -> Result<(), Memory>
 }
 
 /// Puts a line of a link: its first word, the numbers of the link, other words, and the end of the line.
-#[tactic(auto, using(crate::proofs::Pieces::words_put))]
+#[tactic(auto, using(crate::proofs::Putting::words_put))]
 pub(crate) fn put_linked(
     text: &mut Octets,
     first: &[u8],
