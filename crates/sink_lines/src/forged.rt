@@ -22,7 +22,7 @@ fn number_of(fault: StateFault) -> u8
 /// Puts the line of what the assistant on link 0 of a sink made of a notice that no sink sent; behind BadNotice stands the
 /// number of what is wrong with its octets.
 ///
-/// Where the answer is want of memory, it is Memory.
+/// Where the answer is want of memory, it is Memory. After Memory a part of the line may stand at the end of the text.
 pub fn put_forged(
     text: &mut Octets,
     sink: u8,

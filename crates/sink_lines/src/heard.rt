@@ -17,6 +17,8 @@ fn put_sink(text: &mut Octets, sink: u8, name: &[u8], number: Option<u64>) -> Re
 }
 
 /// Puts the line of a sink that is idle again.
+///
+/// After Memory a part of the line may stand at the end of the text.
 pub fn put_idle(text: &mut Octets, sink: u8) -> Result<(), Memory>
     ensures { OnOk result (text.new ≡ text.old ++ sink_line sink (codes "Idle" ∷ [])) }
 {
@@ -39,6 +41,8 @@ fn put_on_group(text: &mut Octets, sink: u8, which: BisSet) -> Result<(), Memory
 
 /// Puts the line of what a train that a sink heard brings: its name, behind BadGroup the number of the fault, and behind
 /// OnGroup the indices of the streams that were taken, rising.
+///
+/// After Memory a part of the line may stand at the end of the text.
 pub fn put_train_heard(text: &mut Octets, sink: u8, heard: TrainHeard) -> Result<(), Memory>
     ensures { OnOk result (text.new ≡ text.old ++ sink_line sink (train_words heard)) }
 {
@@ -60,6 +64,8 @@ pub fn put_train_heard(text: &mut Octets, sink: u8, heard: TrainHeard) -> Result
 }
 
 /// Puts the line of what a PDU that a sink heard as a control PDU brings; behind Malformed stands the number of the fault.
+///
+/// After Memory a part of the line may stand at the end of the text.
 pub fn put_control_heard(text: &mut Octets, sink: u8, heard: ControlHeard) -> Result<(), Memory>
     ensures { OnOk result (text.new ≡ text.old ++ sink_line sink (control_words heard)) }
 {

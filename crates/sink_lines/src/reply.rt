@@ -38,6 +38,8 @@ fn first_word(label: Label) -> &'static [u8]
 }
 
 /// Puts the line of the reply to a write: `ok`, or the error code in two digits and the cause of the refusal.
+///
+/// After Memory a part of the line may stand at the end of the text.
 pub fn put_reply(text: &mut Octets, label: Label, reply: Reply) -> Result<(), Memory>
     ensures { OnOk result (text.new ≡ text.old ++ reply_line (label_of label) reply) }
 {

@@ -7,6 +7,8 @@ use printed_words::Word;
 use transcript_text::put_line;
 
 /// Puts the line of what a source announces to a sink, with its time in µs.
+///
+/// After Memory a part of the line may stand at the end of the text.
 pub fn put_train(text: &mut Octets, sink: u8, train: &Train) -> Result<(), Memory>
     ensures { OnOk result (text.new ≡ text.old ++ train_line sink train.now) }
 {

@@ -47,6 +47,8 @@ fn read_word(label: Label) -> &'static [u8]
 }
 
 /// Puts the line of a notice as it was delivered.
+///
+/// After Memory a part of the line may stand at the end of the text.
 pub fn put_notice(text: &mut Octets, label: Label, notice: &Notice) -> Result<(), Memory>
     ensures { OnOk result (text.new ≡ text.old ++ value_line (label_of label).notice (label_of label).numbers notice.now) }
 {
@@ -60,6 +62,8 @@ pub fn put_notice(text: &mut Octets, label: Label, notice: &Notice) -> Result<()
 }
 
 /// Puts the line of a slot that was read, with the octets that were answered.
+///
+/// After Memory a part of the line may stand at the end of the text.
 pub fn put_read(text: &mut Octets, label: Label, notice: &Notice) -> Result<(), Memory>
     ensures { OnOk result (text.new ≡ text.old ++ value_line (label_of label).read (label_of label).numbers notice.now) }
 {
@@ -73,6 +77,8 @@ pub fn put_read(text: &mut Octets, label: Label, notice: &Notice) -> Result<(), 
 }
 
 /// Puts the line of the state of a slot of a sink.
+///
+/// After Memory a part of the line may stand at the end of the text.
 pub fn put_state(text: &mut Octets, sink: u8, slot: u8, value: &[u8]) -> Result<(), Memory>
     ensures { OnOk result (text.new ≡ text.old ++ value_line (codes "state") (decimal sink ∷ []) (record { slot = slot; value = value.now })) }
 {
@@ -80,6 +86,8 @@ pub fn put_state(text: &mut Octets, sink: u8, slot: u8, value: &[u8]) -> Result<
 }
 
 /// Puts the line of what the assistant on link 0 of a sink knows of a slot.
+///
+/// After Memory a part of the line may stand at the end of the text.
 pub fn put_view(text: &mut Octets, sink: u8, slot: u8, value: &[u8]) -> Result<(), Memory>
     ensures { OnOk result (text.new ≡ text.old ++ value_line (codes "view") (decimal sink ∷ []) (record { slot = slot; value = value.now })) }
 {
@@ -87,6 +95,8 @@ pub fn put_view(text: &mut Octets, sink: u8, slot: u8, value: &[u8]) -> Result<(
 }
 
 /// Puts the line of what the assistant on a link of a sink knows of a slot.
+///
+/// After Memory a part of the line may stand at the end of the text.
 pub fn put_link_view(
     text: &mut Octets,
     sink: u8,
