@@ -1,10 +1,11 @@
 //! What is set of a sink: its capability.
-ghost use Rattle.std.specs.Prelude.{ℕ, ◌≡◌, ◌≤◌, ◌<◌, ◌∷◌, List, Option, length, OnOk, OnErr, IfErr};
+ghost use Rattle.std.specs.Prelude.{ℕ, ◌≡◌, ◌≤◌, ◌<◌, ◌∷◌, ◌++◌, [], List, Option, length, OnOk, OnErr, IfErr};
 ghost use Rattle.base_grammar.specs.Layout.{lc3};
 ghost use Rattle.delegator_states.specs.States.{contexts_set, locations_set, record_added, sight_of};
 ghost use Rattle.delegator_states.specs.Trains.{Setup};
 ghost use Rattle.link_histories.specs.Calls.{Call, stepped, steps_of};
 ghost use Rattle.ltv_codec.specs.Layout.{AreLtvs};
+ghost use Rattle.pacs_records.specs.Layout.{greatest_value, value};
 ghost use Rattle.pacs_records.specs.Pushes.{RefusesPush};
 ghost use Rattle.linked_sink.specs.State.Stands.{LinkedStands};
 
@@ -22,6 +23,8 @@ impl LinkedSink {
         requires metadata { AreLtvs entry.metadata }
         ensures refused { (setup : Setup) (mtu : Option ℕ) (calls : List Call) → LinkedStands setup mtu calls self.old
             → IfErr result (λ fault. RefusesPush fault (sight_of setup (steps_of calls)).capability.entries entry) }
+        ensures fits { (setup : Setup) (mtu : Option ℕ) (calls : List Call) → LinkedStands setup mtu calls self.old
+            → OnOk result (length (value ((sight_of setup (steps_of calls)).capability.entries ++ entry ∷ [])) ≤ greatest_value) }
         ensures stands { (setup : Setup) (mtu : Option ℕ) (calls : List Call) → LinkedStands setup mtu calls self.old
             → OnOk result (LinkedStands setup mtu (stepped (record_added entry) ∷ calls) self.new) }
         ensures err { (setup : Setup) (mtu : Option ℕ) (calls : List Call) → LinkedStands setup mtu calls self.old

@@ -10,8 +10,8 @@ use Rattle.printed_words.specs.Digits.{digits}
 use Rattle.printed_words.specs.Lines.{joined}
 use Rattle.unit_outlets.specs.Handed.{Handed, valid, lost}
 use Rattle.transcript_text.specs.declared.refusal.Refusal.{Refusal}
-use Rattle.transcript_text.specs.declared.refusal.Refusal.TheVariants.{TextTooLong, LineTooLong, BadLine, NotBuilt, AfterEnd, Order, BadGroup, BaseTooLong, IdentTwice, NoSuchSink, SinkTwice, NoOutlet}
-use Rattle.transcript_text.specs.declared.refusal.Refusal.TheVariants.{NoSuchBis, UnitTooLong, TimeOrder, Backlog, NoSuchSubevent, NotOnAir, CounterEnds, NoEnd}
+use Rattle.transcript_text.specs.declared.refusal.Refusal.TheVariants.{TextTooLong, LineTooLong, BadLine, NotBuilt, AfterEnd, Order, BadGroup, BaseTooLong, IdentTwice, NoSuchSink, NoSuchLink, LinkTwice}
+use Rattle.transcript_text.specs.declared.refusal.Refusal.TheVariants.{SinkTwice, NoOutlet, NoSuchBis, UnitTooLong, TimeOrder, Backlog, NoSuchSubevent, NotOnAir, CounterEnds, NothingWaiting, RecordsTooLong, NoEnd}
 
 -- the octet that ends a line
 abbrev pub newline : ℕ
@@ -91,6 +91,8 @@ refusal_name (BadGroup fault) = codes "BadGroup"
 refusal_name BaseTooLong = codes "BaseTooLong"
 refusal_name IdentTwice = codes "IdentTwice"
 refusal_name NoSuchSink = codes "NoSuchSink"
+refusal_name NoSuchLink = codes "NoSuchLink"
+refusal_name LinkTwice = codes "LinkTwice"
 refusal_name SinkTwice = codes "SinkTwice"
 refusal_name NoOutlet = codes "NoOutlet"
 refusal_name NoSuchBis = codes "NoSuchBis"
@@ -100,6 +102,8 @@ refusal_name Backlog = codes "Backlog"
 refusal_name NoSuchSubevent = codes "NoSuchSubevent"
 refusal_name NotOnAir = codes "NotOnAir"
 refusal_name CounterEnds = codes "CounterEnds"
+refusal_name NothingWaiting = codes "NothingWaiting"
+refusal_name RecordsTooLong = codes "RecordsTooLong"
 refusal_name NoEnd = codes "NoEnd"
 
 -- the number of the word from 0, or of the fault from 1

@@ -30,6 +30,10 @@ pub enum Refusal {
     IdentTwice,
     /// No sink of this number lives.
     NoSuchSink,
+    /// The sink has no joined link of this number.
+    NoSuchLink,
+    /// The link is joined already.
+    LinkTwice,
     /// A sink of this number lives already.
     SinkTwice,
     /// No box is left for a sink.
@@ -48,6 +52,10 @@ pub enum Refusal {
     NotOnAir,
     /// The payload counter would pass its last number.
     CounterEnds,
+    /// No write, notice or read waits.
+    NothingWaiting,
+    /// The value of the records would pass 512 octets.
+    RecordsTooLong,
     /// The text ends without `end`.
     NoEnd,
 }
@@ -67,6 +75,8 @@ fn name_of(reason: Refusal) -> &'static [u8]
         Refusal::BaseTooLong => b"BaseTooLong",
         Refusal::IdentTwice => b"IdentTwice",
         Refusal::NoSuchSink => b"NoSuchSink",
+        Refusal::NoSuchLink => b"NoSuchLink",
+        Refusal::LinkTwice => b"LinkTwice",
         Refusal::SinkTwice => b"SinkTwice",
         Refusal::NoOutlet => b"NoOutlet",
         Refusal::NoSuchBis => b"NoSuchBis",
@@ -76,6 +86,8 @@ fn name_of(reason: Refusal) -> &'static [u8]
         Refusal::NoSuchSubevent => b"NoSuchSubevent",
         Refusal::NotOnAir => b"NotOnAir",
         Refusal::CounterEnds => b"CounterEnds",
+        Refusal::NothingWaiting => b"NothingWaiting",
+        Refusal::RecordsTooLong => b"RecordsTooLong",
         Refusal::NoEnd => b"NoEnd",
     }
 }

@@ -7,8 +7,10 @@ use bcast_base::{Memory, Octets};
 use printed_words::{Word, put_words};
 
 /// Puts a line: its first word, the others each behind a space, and the end of the line.
+///
+/// After Memory a front of the line stands at the end of the text.
 #[tactic(auto, using(crate::proofs::Ending::all_put, crate::proofs::Ending::words_put, crate::proofs::Ending::some_put))]
-pub(crate) fn put_line(text: &mut Octets, first: &[u8], others: &[Word<'_>]) -> Result<(), Memory>
+pub fn put_line(text: &mut Octets, first: &[u8], others: &[Word<'_>]) -> Result<(), Memory>
     ensures ok { OnOk result (text.new ≡ text.old ++ line_of first.now (map spelled others.now)) }
     ensures err { OnErr result (AFront text.old text.new (line_of first.now (map spelled others.now))) }
 {
@@ -17,7 +19,9 @@ pub(crate) fn put_line(text: &mut Octets, first: &[u8], others: &[Word<'_>]) -> 
 }
 
 /// Puts a line that has a name, and behind it a number where there is one.
-pub(crate) fn put_named<'a>(
+///
+/// After Memory a front of the line stands at the end of the text.
+pub fn put_named<'a>(
     text: &mut Octets,
     first: &[u8],
     label: Word<'a>,
