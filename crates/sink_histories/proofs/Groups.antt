@@ -1,5 +1,5 @@
 -- What a delegator and its receivers take of a life.
-use Rattle.std.proofs.Common.{◌≡◌, ℕ, Bool, eqb, List, [], ◌∷◌, Option, Some, None, refl, sym, ap, ◌∙◌}
+use Rattle.std.proofs.Common.{◌≡◌, ℕ, Bool, eqb, List, ◌∷◌, refl, sym, ap, ◌∙◌}
 use Rattle.std.proofs.lemmas.Bool.{eq-eqb}
 use Rattle.base_grammar.specs.Layout.{Endpoint}
 use Rattle.big_info.specs.declared.info.BigInfo.{BigInfo}
