@@ -1,9 +1,10 @@
 //! What is set of a Scan Delegator: its capability, and the MTU.
-ghost use Rattle.std.specs.Prelude.{◌≡◌, ◌≤◌, ◌<◌, ◌∷◌, List, Some, length, OnOk, OnErr, IfErr};
+ghost use Rattle.std.specs.Prelude.{◌≡◌, ◌≤◌, ◌<◌, ◌∷◌, ◌++◌, [], List, Some, length, OnOk, OnErr, IfErr};
 ghost use Rattle.base_grammar.specs.Layout.{lc3};
 ghost use Rattle.delegator_states.specs.States.{contexts_set, locations_set, mtu_set, record_added, sight_of};
 ghost use Rattle.delegator_states.specs.Trains.{Setup};
 ghost use Rattle.ltv_codec.specs.Layout.{AreLtvs};
+ghost use Rattle.pacs_records.specs.Layout.{greatest_value, value};
 ghost use Rattle.pacs_records.specs.Pushes.{RefusesPush};
 ghost use Rattle.delegator_machine.specs.Calls.{Call, control, steps_of};
 ghost use Rattle.delegator_machine.specs.State.Halves.{StandsFor, settings_of};
@@ -20,6 +21,8 @@ impl Delegator {
         requires caps { entry.codec ≡ lc3 → AreLtvs entry.caps }
         requires metadata { AreLtvs entry.metadata }
         ensures refused { (setup : Setup) (calls : List Call) → StandsFor setup calls self.old → IfErr result (λ fault. RefusesPush fault (sight_of setup (steps_of calls)).capability.entries entry) }
+        ensures fits { (setup : Setup) (calls : List Call) → StandsFor setup calls self.old
+            → OnOk result (length (value ((sight_of setup (steps_of calls)).capability.entries ++ entry ∷ [])) ≤ greatest_value) }
         ensures stands { (setup : Setup) (calls : List Call) → StandsFor setup calls self.old → OnOk result (StandsFor setup (control (record_added entry) ∷ calls) self.new) }
         ensures settings { settings_of self.new ≡ settings_of self.old }
         ensures err { OnErr result (self.new ≡ self.old) }

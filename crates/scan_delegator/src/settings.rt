@@ -1,9 +1,10 @@
 //! What is set of a sink: its capability, and the MTU.
-ghost use Rattle.std.specs.Prelude.{◌≡◌, ◌<◌, ◌≤◌, ◌∷◌, List, length, OnOk, OnErr, IfErr};
+ghost use Rattle.std.specs.Prelude.{◌≡◌, ◌<◌, ◌≤◌, ◌∷◌, ◌++◌, [], List, length, OnOk, OnErr, IfErr};
 ghost use Rattle.base_grammar.specs.Layout.{lc3};
 ghost use Rattle.delegator_states.specs.States.{Step, contexts_set, locations_set, mtu_set, record_added};
 ghost use Rattle.delegator_states.specs.Steps.{located, opened, recorded};
 ghost use Rattle.ltv_codec.specs.Layout.{AreLtvs};
+ghost use Rattle.pacs_records.specs.Layout.{greatest_value, value};
 ghost use Rattle.pacs_records.specs.Pushes.{RefusesPush};
 ghost use Rattle.scan_delegator.specs.State.Machines.{machine, moved, step_on, StandsFor};
 
@@ -19,6 +20,7 @@ impl ScanDelegator {
         requires caps { entry.codec ≡ lc3 → AreLtvs entry.caps }
         requires metadata { AreLtvs entry.metadata }
         ensures refused { IfErr result (λ fault. RefusesPush fault (machine self.old).sight.capability.entries entry) }
+        ensures fits { OnOk result (length (value ((machine self.old).sight.capability.entries ++ entry ∷ [])) ≤ greatest_value) }
         ensures step { OnOk result (machine self.new ≡ moved (recorded entry) (machine self.old)) }
         ensures err { OnErr result (machine self.new ≡ machine self.old) }
         ensures stands { OnOk result ((steps : List Step) → StandsFor steps (machine self.old) → StandsFor (record_added entry ∷ steps) (machine self.new)) }

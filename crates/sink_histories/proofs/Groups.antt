@@ -1,5 +1,5 @@
 -- What a delegator and its receivers take of a life.
-use Rattle.std.proofs.Common.{◌≡◌, ℕ, Bool, eqb, List, [], ◌∷◌, Option, Some, None, refl, sym, ap, ◌∙◌}
+use Rattle.std.proofs.Common.{◌≡◌, ℕ, Bool, eqb, List, ◌∷◌, refl, sym, ap, ◌∙◌}
 use Rattle.std.proofs.lemmas.Bool.{eq-eqb}
 use Rattle.base_grammar.specs.Layout.{Endpoint}
 use Rattle.big_info.specs.declared.info.BigInfo.{BigInfo}
@@ -11,20 +11,12 @@ use Rattle.delegator_machine.specs.Groups.{joining_brought, numbers_alone, tunin
 use Rattle.group_sink.specs.Calls as sinks
 use Rattle.group_sink.specs.Calls.{Tuning}
 use Rattle.link_histories.specs.Calls as links
-use Rattle.link_histories.specs.Calls.{Call, step_by, steps_of}
-use Rattle.sink_histories.specs.Groups.{IsTunedTo, delegator_calls, receiver_calls, with_control}
+use Rattle.link_histories.specs.Calls.{Call}
+use Rattle.linked_sink.specs.Taken.{delegator_calls}
+use Rattle.linked_sink.proofs.Citable.{steps_same}
+use Rattle.sink_histories.specs.Groups.{IsTunedTo, receiver_calls}
 use Rattle.sink_histories.specs.Lives.{Made, with_call}
 use Rattle.sink_histories.specs.Output.{sight_in}
-
-step_more : (step : Option Step) (calls : List machine.Call) (steps : List Step) → machine.steps_of calls ≡ steps → machine.steps_of (with_control step calls) ≡ links.with_step step steps
-step_more None calls steps is = is
-step_more (Some step) calls steps is = ap (λ ss. step ∷ ss) is
-
-pub steps_same : (calls : List Call) → machine.steps_of (delegator_calls calls) ≡ steps_of calls
-steps_same [] = refl
-steps_same (links.heard event bis subevent octets ∷ earlier) = steps_same earlier
-steps_same (links.ticked event ∷ earlier) = steps_same earlier
-steps_same (call ∷ earlier) = step_more (step_by call earlier) (delegator_calls earlier) (steps_of earlier) (steps_same earlier)
 
 -- ---- a train that is heard
 

@@ -1,28 +1,15 @@
 -- The group that a sink of a scenario is on, by its life: what its Scan Delegator took (Basic Audio Profile 1.0, section 6.5.4),
 -- and where an announced train puts it.
-use Rattle.std.specs.Prelude.{ℕ, ◌≡◌, ◌≤◌, ◌<◌, ◌^◌, List, [], ◌∷◌, Option, Some, None}
+use Rattle.std.specs.Prelude.{ℕ, ◌≡◌, ◌≤◌, ◌<◌, ◌^◌, List, None}
 use Rattle.base_grammar.specs.Layout.{Endpoint}
 use Rattle.big_info.specs.declared.info.BigInfo.{BigInfo}
 use Rattle.announcement_train.specs.Told.{Tells}
-use Rattle.delegator_states.specs.States.{Step}
-use Rattle.delegator_machine.specs.Calls as machine
 use Rattle.delegator_machine.specs.Groups.{group_calls, numbers_alone}
 use Rattle.group_sink.specs.Calls as sinks
 use Rattle.group_sink.specs.Calls.{Tuning}
-use Rattle.link_histories.specs.Calls as links
-use Rattle.link_histories.specs.Calls.{Call, step_by}
+use Rattle.link_histories.specs.Calls.{Call}
+use Rattle.linked_sink.specs.Taken.{delegator_calls}
 use Rattle.sink_histories.specs.Lives.{Made, Source}
-
-abbrev pub with_control : Option Step → List machine.Call → List machine.Call
-with_control None calls = calls
-with_control (Some step) calls = machine.control step ∷ calls
-
--- what the delegator took: a write that is served is one of its calls, where one waits
-abbrev pub delegator_calls : List Call → List machine.Call
-delegator_calls [] = []
-delegator_calls (links.heard event bis subevent octets ∷ earlier) = machine.hear event bis subevent octets ∷ delegator_calls earlier
-delegator_calls (links.ticked event ∷ earlier) = machine.tick event ∷ delegator_calls earlier
-delegator_calls (call ∷ earlier) = with_control (step_by call earlier) (delegator_calls earlier)
 
 -- what its receivers took
 abbrev pub receiver_calls : Made → List Call → List sinks.Call

@@ -1,5 +1,4 @@
 pub mod Groups
-pub mod Lines
 pub mod Lives
 pub mod Output
 pub mod Refusals

@@ -8,11 +8,12 @@ use Rattle.bass_operations.specs.Layout.{spelling}
 use Rattle.announcement_train.specs.declared.train.Train.{Train as Announced}
 use Rattle.announced_groups.specs.Announced.{heard_as}
 use Rattle.delegator_states.specs.LastGiven.{last_given}
-use Rattle.delegator_states.specs.States.{record_added, locations_set, contexts_set, mtu_set, put_on, train_heard, train_lost, control_heard}
+use Rattle.delegator_states.specs.States.{record_added, locations_set, contexts_set, put_on, train_heard, train_lost, control_heard}
 use Rattle.delegator_states.specs.Trains.{Joining, Setup, Train}
 use Rattle.link_histories.specs.Calls as links
 use Rattle.link_histories.specs.Calls.{Call, stepped}
 use Rattle.link_histories.specs.Drains.{drained}
+use Rattle.linked_sink.specs.Taken.{born}
 use Rattle.scenario_text.specs.declared.step.Step.{Step}
 use Rattle.scenario_text.specs.declared.step.Step.TheVariants as steps
 
@@ -63,11 +64,6 @@ made_of n [] = None
 made_of n (step ∷ earlier) = made_by n step earlier (made_of n earlier)
 
 -- ---- its life
-
--- the calls of a new sink: its MTU is set where it has one
-abbrev pub born : Option ℕ → List Call
-born None = []
-born (Some mtu) = stepped (mtu_set mtu) ∷ []
 
 -- a call more, where the line names the sink
 abbrev pub with_call : Bool → Call → List Call → List Call

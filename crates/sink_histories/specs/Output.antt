@@ -17,7 +17,7 @@ use Rattle.link_histories.specs.Drains.{repeated, served_out, told_out}
 use Rattle.link_histories.specs.Links.{delivered, notices_waiting, reads_waiting, state, view}
 use Rattle.scenario_text.specs.declared.step.Step.{Step}
 use Rattle.scenario_text.specs.declared.step.Step.TheVariants as steps
-use Rattle.sink_histories.specs.Lines.{Label, control_words, forged_line, on_link, plain, reply_line, sink_line, train_line, train_words, value_line}
+use Rattle.sink_lines.specs.Lines.{Label, control_words, forged_line, on_link, plain, reply_line, sink_line, train_line, train_words, value_line}
 use Rattle.sink_histories.specs.Lives.{Made, World, given_train, life_of, made_of, own_train}
 
 -- what the sink has

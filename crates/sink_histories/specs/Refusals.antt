@@ -8,17 +8,10 @@ use Rattle.link_histories.specs.Calls.{Call, is_joined, writes_waiting}
 use Rattle.link_histories.specs.Links.{notices_waiting, reads_waiting}
 use Rattle.scenario_text.specs.declared.step.Step.{Step}
 use Rattle.scenario_text.specs.declared.step.Step.TheVariants as steps
+use Rattle.transcript_text.specs.declared.refusal.Refusal.{Refusal}
+use Rattle.transcript_text.specs.declared.refusal.Refusal.TheVariants.{NoSuchSink, NoSuchLink, LinkTwice, NothingWaiting, RecordsTooLong}
 use Rattle.sink_histories.specs.Lives.{Made, World, life_of, made_of, record_of}
 use Rattle.sink_histories.specs.Output.{named_by, sight_in}
-
--- the sink doesn't live; the link isn't joined; it is joined already; nothing waits on it; the value of the records would pass
--- 512 octets
-pub data Refusal : Type 0 where
-  NoSuchSink : Refusal
-  NoSuchLink : Refusal
-  LinkTwice : Refusal
-  NothingWaiting : Refusal
-  RecordsTooLong : Refusal
 
 abbrev pub refuse_if : Bool → Refusal → Option Refusal
 refuse_if true reason = Some reason

@@ -4,9 +4,10 @@ use Rattle.printed_words.specs.Digits.{digits}
 use Rattle.scenario_text.specs.declared.step.Step.{Step}
 use Rattle.scenario_text.specs.declared.step.Step.TheVariants as steps
 use Rattle.transcript_text.specs.Lines.{line_of}
+use Rattle.transcript_text.specs.declared.refusal.Refusal.TheVariants.{LinkTwice, NoSuchLink, NothingWaiting}
 use Rattle.sink_histories.specs.Lives.{World}
 use Rattle.sink_histories.specs.Output.{Lines, out_of}
-use Rattle.sink_histories.specs.Refusals.{LinkTwice, NoSuchLink, NothingWaiting, first_refusal, refusal_of}
+use Rattle.sink_histories.specs.Refusals.{first_refusal, refusal_of}
 
 -- none of these steps, the newest first, is refused, and this is what they print
 pub record Prints (world : World) (made : List Step) (lines : Lines) : Type 0 where

@@ -10,7 +10,8 @@ ghost use Rattle.group_sink.specs.Calls.{tune};
 ghost use Rattle.link_histories.specs.Calls.{Call, steps_of};
 ghost use Rattle.scenario_text.specs.declared.step.Step.{Step};
 ghost use Rattle.scenario_text.specs.declared.step.Step.TheVariants.{Announce, Tuned};
-ghost use Rattle.sink_histories.specs.Groups.{IsAt, IsTunedTo, delegator_calls, receiver_calls};
+ghost use Rattle.linked_sink.specs.Taken.{delegator_calls};
+ghost use Rattle.sink_histories.specs.Groups.{IsAt, IsTunedTo, receiver_calls};
 ghost use Rattle.sink_histories.specs.Lives.{Made, World, life_of, own_train};
 ghost use Rattle.sink_histories.specs.Output.{sight_in};
 

@@ -1,4 +1,4 @@
-use Rattle.sink_histories.proofs.Groups.{steps_same}
+use Rattle.linked_sink.proofs.Citable.{steps_same}
 use Rattle.sink_histories.proofs.group_laws.a_delegator_takes_its_steps.Goals as goal
 
 pub returns : goal.returns

@@ -84,9 +84,13 @@ forged_line sink answer = line_of (codes "forged") (decimal sink ∷ forged_word
 
 -- ---- trains and control PDUs
 
--- the indices of a set, rising: bit n stands for the index n + 1
+-- the indices of a set among so many from a first one on, rising: bit n stands for the index n + 1
+abbrev pub indices_from : (set index more : ℕ) → List ℕ
+indices_from set index more = filter (λ bis. bit_at set (bis - 1) == 1) (range_with_len index more)
+
+-- the indices of a set, rising
 abbrev pub indices_of : ℕ → List ℕ
-indices_of set = filter (λ bis. bit_at set (bis - 1) == 1) (range_with_len 1 31)
+indices_of set = indices_from set 1 31
 
 abbrev pub train_words : TrainHeard → List (List ℕ)
 train_words trains.NoBroadcastId = codes "NoBroadcastId" ∷ []

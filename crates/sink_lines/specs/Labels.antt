@@ -1,0 +1,8 @@
+-- How the lines of a link begin, by how the scenario names the link: by its sink alone, or by its own number too.
+use Rattle.sink_lines.specs.Lines.{Label, plain, on_link}
+use Rattle.sink_lines.specs.declared.label.Label.{Label as Named}
+use Rattle.sink_lines.specs.declared.label.Label.TheVariants.{Plain, OnLink}
+
+abbrev pub label_of : Named → Label
+label_of (Plain sink) = plain sink
+label_of (OnLink sink link) = on_link sink link
