@@ -14,7 +14,7 @@ use Rattle.replay_command.specs.Generated.{Generated}
 use Rattle.replay_command.specs.Replayed.{ReadsAtMost, read_limit}
 use Rattle.source_machine.specs.Airs.{airs_of}
 use Rattle.scenario_history.specs.Airs.{MeetAirs}
-use Rattle.scenario_history.specs.Laws.{UnitsLaw, OrderLaw}
+use Rattle.scenario_laws.specs.Laws.{UnitsLaw, OrderLaw}
 use Rattle.scenario_history.specs.Source.{Airs}
 use Rattle.scenario_history.specs.Transcript.{transcript_of}
 use Rattle.replay_command.specs.World.{World}

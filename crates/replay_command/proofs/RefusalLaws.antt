@@ -23,9 +23,9 @@ use Rattle.scenario_words.specs.declared.fault.LineFault.TheVariants as misread
 use Rattle.scenario_text.specs.Steps.{read_of}
 use Rattle.scenario_history.specs.Steps.{chosen_steps, version_of, is_over, sinks_made}
 use Rattle.scenario_history.specs.Bases.{has_bis, is_base_too_long}
-use Rattle.scenario_history.specs.Source.{group_of, no_group, setup_of, source_calls, performed}
+use Rattle.scenario_history.specs.Source.{checked_info, group_of, no_group, performed, setup_of, source_calls}
 use Rattle.scenario_history.specs.Boxes.{box_of}
-use Rattle.scenario_history.specs.Refusals.{checked_info, group_refusal, horizon_in, refuse_if, no_sink, no_place, has_beyond, is_ident_twice, is_out_of_order, is_unbuilt}
+use Rattle.scenario_history.specs.Refusals.{group_refusal, horizon_in, refuse_if, no_sink, no_place, has_beyond, is_ident_twice, is_out_of_order, is_unbuilt}
 use Rattle.scenario_history.specs.Refusals.{give_refusal, air_refusal, counter_ends, sink_refusal, source_refusal, twin_refusal, own_refusal, phase_refusal, refusal_of}
 use Rattle.scenario_history.specs.Lines.{said_by, said_in, steps_of, refusal_said}
 use Rattle.replay_steps.specs.LineMeets.{refusal_at}

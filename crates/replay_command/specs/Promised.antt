@@ -12,7 +12,7 @@ use Rattle.replay_command.specs.declared.status.Status.{Status}
 use Rattle.replay_command.specs.declared.status.Status.TheVariants as statuses
 use Rattle.replay_command.specs.Ended.{AheadOf, Complete, Ended, IsWhole}
 use Rattle.replay_command.specs.Replayed.{ReadsAtMost, read_limit}
-use Rattle.scenario_history.specs.Laws.{UnitsLaw, OrderLaw}
+use Rattle.scenario_laws.specs.Laws.{UnitsLaw, OrderLaw}
 use Rattle.replay_command.specs.World.{World}
 
 -- between these worlds a call read, wrote and handed to the boxes what this status says

@@ -21,7 +21,7 @@ use replay_generated::run_generated;
 use replay_migration::run_migration;
 use replay_steps::Machine;
 use replay_words::{Mode, Words, mode_of};
-use scenario_history::{one_transcript, order_law, some_airs_meet, units_law};
+use scenario_laws::{one_transcript, order_law, some_airs_meet, units_law};
 use std::alloc::Global;
 use transcript_text::{Refusal, Stop, put_refusal};
 use unit_outlets::Outlet;

@@ -7,7 +7,7 @@ ghost use Rattle.replay_generated.specs.State.Between.{Ends, Puts};
 use crate::outcome::Outcome;
 use crate::running::{Ending, run_lines};
 use bcast_io::{ByteSink, SinkFault, write_whole};
-use scenario_history::{one_transcript, some_airs_meet};
+use scenario_laws::{one_transcript, some_airs_meet};
 use scenario_text::a_line_says_one_step;
 use std::alloc::Global;
 use transcript_summary::Counts;

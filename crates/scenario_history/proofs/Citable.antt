@@ -6,7 +6,7 @@ use Rattle.scenario_text.specs.declared.step.Step.{Step}
 use Rattle.scenario_history.specs.Steps.{sinks_made, stage_of, steps_of_source}
 use Rattle.scenario_history.specs.Boxes.{SinkUnit, Took, account_at, accounts_after, box_of, valid_for}
 use Rattle.scenario_history.proofs.BoxLaws as of_boxes
-use Rattle.scenario_history.proofs.Sources as of_sources
+use Rattle.scenario_history.proofs.Stages as of_stages
 use Rattle.scenario_history.proofs.Sums as of_sums
 
 -- boxes that take units one after the other took all of them
@@ -36,4 +36,4 @@ box_was_made = of_sums.box_was_made
 
 -- the scenario of a source's steps stands where that of all steps does
 pub stage_same : (s : ℕ) (made : List Step) → stage_of (steps_of_source s made) ≡ stage_of made
-stage_same = of_sources.stage_same
+stage_same = of_stages.stage_same

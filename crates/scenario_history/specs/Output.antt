@@ -1,7 +1,7 @@
 -- What each step prints. The lines are the scenario language's own; the units and times in them are after Core 5.2,
 -- volume 6 part G, sections 2.1 and 3.2.
 use Rattle.std.specs.Prelude.{ℕ, ◌+◌, List, [], ◌++◌, map, length, Option, None, Some, if◌then◌else◌}
-use Rattle.std.specs.List.{flat_map, sum}
+use Rattle.std.specs.List.{concat, flat_map, sum}
 use Rattle.unit_outlets.specs.Account.{Account}
 use Rattle.isoal_base.specs.declared.hearing.Hearing.{Hearing}
 use Rattle.isoal_base.specs.declared.hearing.Hearing.TheVariants.{NotOnGroup}
@@ -9,10 +9,13 @@ use Rattle.source_machine.specs.declared.sent.Stale.{Stale}
 use Rattle.group_sink.specs.Hearings.{hearing_of}
 use Rattle.transcript_text.specs.Lines.{handed_line, pdu_line, heard_line, stale_line, control_line, sum_line}
 use Rattle.scenario_text.specs.declared.step.Step.{Step}
-use Rattle.scenario_text.specs.declared.step.Step.TheVariants.{Event, Inject, Sniff, Drop, Stop, Terminate, End}
+use Rattle.scenario_text.specs.declared.step.Step.TheVariants.{Event, Inject, Sniff, Announce, Train, Serve, Tell, Read, Drain, Show, Lose, Control, Forge}
+use Rattle.scenario_text.specs.declared.step.Step.TheVariants.{AServe, ATell, ARead, ADrain, AShow, Drop, Stop, Terminate, End}
+use Rattle.sink_histories.specs.Output.{printed}
 use Rattle.scenario_history.specs.Steps.{chosen_of, chosen_steps}
 use Rattle.scenario_history.specs.Source.{Airs, event_back, end_pdu, pdu_in, stale_in}
 use Rattle.scenario_history.specs.Sinks.{is_of, sink_calls, source_of}
+use Rattle.scenario_history.specs.Worlds.{the_world}
 use Rattle.scenario_history.specs.Boxes.{SinkUnit, sink_numbers, account_at, box_of, closing, closing_both, valid_for, handed_up}
 
 abbrev pub unit_line : SinkUnit → List ℕ
@@ -44,6 +47,10 @@ injected_hearing airs steps sink back bis subevent octets =
     if is_of (chosen_of steps) (source_of sink steps)
     then hearing_of (sink_calls airs sink steps) (event_back (chosen_steps steps) back) bis subevent octets else NotOnGroup
 
+-- what a step after these prints of the sink that it names and of the assistants on its links
+abbrev pub sink_lines : List Step → Step → List ℕ
+sink_lines steps step = concat (printed the_world steps step)
+
 -- what a step after these prints, with these accounts at the start
 abbrev pub output_of : Airs → List Account → List Step → Step → List ℕ
 output_of airs starts steps Event = unit_lines (closing airs (chosen_of steps) steps) ++ stale_lines (stale_in airs (chosen_steps steps))
@@ -57,4 +64,19 @@ output_of airs starts steps (Inject sink back bis subevent octets) =
     heard_line sink (injected_hearing airs steps sink back bis subevent octets)
 output_of airs starts steps (Sniff back bis subevent) =
     pdu_line (event_back (chosen_steps steps) back) bis subevent (pdu_in airs (chosen_steps steps) (event_back (chosen_steps steps) back) bis subevent)
+output_of airs starts steps (Announce sink) = sink_lines steps (Announce sink)
+output_of airs starts steps (Train sink time ext adv acad) = sink_lines steps (Train sink time ext adv acad)
+output_of airs starts steps (Serve sink) = sink_lines steps (Serve sink)
+output_of airs starts steps (Tell sink) = sink_lines steps (Tell sink)
+output_of airs starts steps (Read sink) = sink_lines steps (Read sink)
+output_of airs starts steps (Drain sink) = sink_lines steps (Drain sink)
+output_of airs starts steps (Show sink) = sink_lines steps (Show sink)
+output_of airs starts steps (Lose sink) = sink_lines steps (Lose sink)
+output_of airs starts steps (Control sink octets) = sink_lines steps (Control sink octets)
+output_of airs starts steps (Forge sink slot octets) = sink_lines steps (Forge sink slot octets)
+output_of airs starts steps (AServe sink link) = sink_lines steps (AServe sink link)
+output_of airs starts steps (ATell sink link) = sink_lines steps (ATell sink link)
+output_of airs starts steps (ARead sink link) = sink_lines steps (ARead sink link)
+output_of airs starts steps (ADrain sink link) = sink_lines steps (ADrain sink link)
+output_of airs starts steps (AShow sink link) = sink_lines steps (AShow sink link)
 output_of airs starts steps _ = []

@@ -6,15 +6,14 @@ use Rattle.std.specs.List.{list_any}
 use Rattle.std.specs.Option.{option_or, option_map, option_and_then}
 use Rattle.big_info.specs.declared.fault.GroupFault.{GroupFault}
 use Rattle.big_info.specs.declared.fault.GroupFault.TheVariants.{Encrypted}
-use Rattle.big_info.specs.declared.info.BigInfo.{BigInfo}
 use Rattle.big_info.specs.Rows.{first_fault}
 use Rattle.radio_schedule.specs.declared.air.AirFault.{AirFault}
 use Rattle.radio_schedule.specs.declared.air.AirFault.TheVariants.{NoSuchBis as NoStreamThere, NoSuchSubevent as NoSubeventThere, NotOnAir as NotKept}
 use Rattle.source_machine.specs.declared.fault.GiveFault.{GiveFault}
 use Rattle.source_machine.specs.declared.fault.GiveFault.TheVariants.{NoSuchBis as NoStream, UnitTooLong as TooLong, TimeOrder as WrongTime, Backlog as Full, Memory as NoMemory}
+use Rattle.source_machine.specs.declared.fault.AnnounceFault.{AnnounceFault}
 use Rattle.source_machine.specs.declared.fault.EventFault.{EventFault}
-use Rattle.source_machine.specs.Ciphers.{with_cipher}
-use Rattle.source_machine.specs.Faults.{give_fault, event_fault, air_fault}
+use Rattle.source_machine.specs.Faults.{give_fault, event_fault, announce_fault, air_fault}
 use Rattle.source_machine.specs.Setups.{are_twins}
 use Rattle.group_sink.specs.Streams.{streams_of}
 use Rattle.transcript_text.specs.declared.refusal.Refusal.{Refusal}
@@ -22,12 +21,14 @@ use Rattle.transcript_text.specs.declared.refusal.Refusal.TheVariants.{NotBuilt,
 use Rattle.transcript_text.specs.declared.refusal.Refusal.TheVariants.{NoOutlet, NoSuchBis, UnitTooLong, TimeOrder, Backlog, NoSuchSubevent, NotOnAir, CounterEnds}
 use Rattle.scenario_text.specs.declared.step.Step.{Step}
 use Rattle.scenario_text.specs.declared.step.Step.TheVariants.{Scenario, Group, Ident, Subgroup, Meta, Bis, Cipher, Start, Sink, Tuned, Unit, Event, Hear, Air}
-use Rattle.scenario_text.specs.declared.step.Step.TheVariants.{Inject, Sniff, Announce, Drop, Stop, Terminate, End, Source}
+use Rattle.scenario_text.specs.declared.step.Step.TheVariants.{Inject, Sniff, Announce, Drop, Relay, Stop, Terminate}
 use Rattle.scenario_history.specs.Steps.{Stage, chosen_of, chosen_steps, is_over, is_unbegun_at, other_of, sinks_made, stage_of, steps_of_source, version_of}
-use Rattle.scenario_history.specs.Source.{Airs, cipher_of, group_of, ident_of, identity_of, is_absent_at, is_ciphered, is_described_at}
+use Rattle.scenario_history.specs.Source.{Airs, checked_info, group_of, ident_of, identity_of, is_absent_at, is_ciphered, is_described_at}
 use Rattle.scenario_history.specs.Source.{is_heard, is_sending, is_started, no_group, performed, phase_of, setup_of, source_calls, takes_units}
 use Rattle.scenario_history.specs.Bases.{has_subgroup, has_bis, is_last_bare, is_base_too_long}
+use Rattle.sink_histories.specs.Refusals.{refusal_of as refusal_of_sink}
 use Rattle.scenario_history.specs.Boxes.{box_of}
+use Rattle.scenario_history.specs.Worlds.{the_world}
 
 abbrev pub refuse_if : Bool → Refusal → Option Refusal
 refuse_if true reason = Some reason
@@ -43,7 +44,7 @@ is_misplaced stage _ = is_unbegun_at stage
 -- before `start`, each once; `meta` and `bis` after a `subgroup`, before `start`; `start` once, after `group`, and not while
 -- the last subgroup has no `bis`; `tuned`, `unit` and `event` between `start` and `stop` or `terminate`, without `cipher`;
 -- `announce`, `stop` and `terminate` between `start` and `stop` or `terminate`; `hear`, `air`, `inject` and `sniff` after
--- `start`, without `cipher`. Other steps that are not built yet have no phase of their own.
+-- `start`, without `cipher`. All others have no phase of their own.
 abbrev pub is_out_of_phase : List Step → Step → Bool
 is_out_of_phase own (Group framing origin delay iso sdu max_sdu max_pdu num_bis bn nse irc pto sub spacing phy) =
     not (is_absent_at (phase_of own))
@@ -72,36 +73,12 @@ is_out_of_order steps step = is_misplaced (stage_of steps) step || is_out_of_pha
 
 -- the step is of the language and not built yet
 abbrev pub is_unbuilt : Step → Bool
-is_unbuilt (Group framing origin delay iso sdu max_sdu max_pdu num_bis bn nse irc pto sub spacing phy) = false
-is_unbuilt (Scenario version) = false
-is_unbuilt (Ident address_type address sid broadcast_id) = false
-is_unbuilt (Subgroup codec config) = false
-is_unbuilt (Meta metadata) = false
-is_unbuilt (Bis bis config) = false
-is_unbuilt (Cipher giv gskd) = false
-is_unbuilt (Start first) = false
-is_unbuilt (Sink sink streams slots mtu) = false
-is_unbuilt (Tuned sink which) = false
-is_unbuilt (Unit bis time octets) = false
-is_unbuilt Event = false
-is_unbuilt (Hear sink back bis subevent) = false
-is_unbuilt (Air sink lose) = false
-is_unbuilt (Inject sink back bis subevent octets) = false
-is_unbuilt (Sniff back bis subevent) = false
-is_unbuilt (Drop sink) = false
-is_unbuilt Stop = false
-is_unbuilt (Terminate reason) = false
-is_unbuilt End = false
-is_unbuilt (Source source) = false
-is_unbuilt _ = true
+is_unbuilt (Relay sink bis to) = true
+is_unbuilt _ = false
 
 -- how many events ahead a group may reach in a version
 abbrev pub horizon_in : ℕ → ℕ
 horizon_in version = if version == 2 then 31 else 15
-
--- the BIGInfo that the group check sees: that of the group, with the cipher where one was said
-abbrev pub checked_info : List Step → BigInfo
-checked_info own = with_cipher (unwrap_or (group_of own) no_group).info (cipher_of own)
 
 -- that a group is encrypted keeps no source from its start
 abbrev pub fault_refusal : GroupFault → Option Refusal
@@ -134,6 +111,10 @@ abbrev pub counter_ends : Option EventFault → Option Refusal
 counter_ends None = None
 counter_ends (Some fault) = Some CounterEnds
 
+abbrev pub train_ends : Option AnnounceFault → Option Refusal
+train_ends None = None
+train_ends (Some fault) = Some CounterEnds
+
 -- an index of the set is above those of a group with so many streams
 unfoldable pub has_beyond : ℕ → ℕ → Bool
 has_beyond num_bis which = list_any (λ bis. nat_lt num_bis bis) (streams_of which)
@@ -154,7 +135,7 @@ sink_refusal boxes steps (Tuned sink which) = no_sink sink steps
 sink_refusal boxes steps (Hear sink back bis subevent) = no_sink sink steps
 sink_refusal boxes steps (Air sink lose) = no_sink sink steps
 sink_refusal boxes steps (Inject sink back bis subevent octets) = no_sink sink steps
-sink_refusal boxes steps _ = None
+sink_refusal boxes steps step = refusal_of_sink the_world steps step
 
 -- what is refused of a step in the right phase by what its source is, in a scenario of this version: the steps here are
 -- those of the source
@@ -171,6 +152,7 @@ source_refusal airs version own (Hear sink back bis subevent) = no_place own bac
 source_refusal airs version own (Air sink lose) = refuse_if (performed own == 0) NotOnAir
 source_refusal airs version own (Inject sink back bis subevent octets) = no_place own back bis subevent
 source_refusal airs version own (Sniff back bis subevent) = no_place own back bis subevent
+source_refusal airs version own (Announce sink) = train_ends (announce_fault (setup_of own) (source_calls own))
 source_refusal airs version own _ = None
 
 -- what is refused of a step in the right phase by what both sources are

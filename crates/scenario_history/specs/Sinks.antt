@@ -1,4 +1,4 @@
--- The sinks of a scenario as the calls that each took: where it was tuned, the PDUs that it heard and the events that it
+-- The receivers of the sinks of a scenario as the calls that each took: the groups that it was put on and left, the PDUs that it heard and the events that it
 -- closed (Core 5.2, volume 6 part B, section 4.4.6). A PDU of a source reaches only the sinks of that source, and as an
 -- event of a source is closed, only its sinks close it. Lists of steps and calls have the newest first; where a list is
 -- called `own` its steps are those of one source.
@@ -7,19 +7,28 @@ use Rattle.big_info.specs.declared.info.BigInfo.{BigInfo}
 use Rattle.source_machine.specs.Calls.{next_of, next_anchor_of}
 use Rattle.group_sink.specs.Calls.{Tuning, Call, tune, hear, tick}
 use Rattle.scenario_text.specs.declared.step.Step.{Step}
-use Rattle.scenario_text.specs.declared.step.Step.TheVariants.{Sink, Tuned, Event, Hear, Air, Inject, Drop, Stop, Terminate, End}
+use Rattle.scenario_text.specs.declared.step.Step.TheVariants.{Sink, Tuned, Event, Hear, Air, Inject, Announce, Train, Drop, Stop, Terminate, End}
 use Rattle.scenario_history.specs.Steps.{chosen_of, chosen_steps, steps_of_source}
+use Rattle.sink_histories.specs.Lives.{made_of, named_by}
+use Rattle.sink_histories.specs.Moves.{received_by, source_by}
+use Rattle.scenario_history.specs.Worlds.{life, source_at}
 use Rattle.scenario_history.specs.Source.{Airs, setup_of, source_calls, event_back, pdu_in, open_event}
 
 -- ---- the source of a sink
+
+-- a train that is heard may put the sink that its line names on it
+abbrev pub sourced : ℕ → Step → ℕ → List Step → Option ℕ → Option ℕ
+sourced n step sink earlier source = if sink == n then source_by (source_at earlier) step (made_of n earlier) (life n earlier) source else source
 
 abbrev pub source_after : ℕ → Step → List Step → Option ℕ → Option ℕ
 source_after n (Sink sink streams slots mtu) earlier source = if sink == n then None else source
 source_after n (Drop sink) earlier source = if sink == n then None else source
 source_after n (Tuned sink which) earlier source = if sink == n then Some (chosen_of earlier) else source
+source_after n (Announce sink) earlier source = sourced n (Announce sink) sink earlier source
+source_after n (Train sink time ext adv acad) earlier source = sourced n (Train sink time ext adv acad) sink earlier source
 source_after n _ earlier source = source
 
--- the source that the sink of this number is of: the one of the last step that put it on a group
+-- the source that the sink of this number is of: the one of the last step that put it on a train or a group
 abbrev pub source_of : ℕ → List Step → Option ℕ
 source_of n [] = None
 source_of n (step ∷ earlier) = source_after n step earlier (source_of n earlier)
@@ -95,7 +104,13 @@ ticked_if is_its last_open calls = if is_its then ticked last_open calls else ca
 abbrev pub ticked_by : ℕ → ℕ → List Step → List Call → List Call
 ticked_by s n earlier calls = ticked_if (is_of s (source_of n earlier)) (open_event (steps_of_source s earlier)) calls
 
--- what a step after these adds to the calls of a sink; `end` closes the event of source 0 first
+-- a line of its control or of its links may put the sink that it names on a group, or take it off one
+abbrev pub moved : ℕ → Option ℕ → Step → List Step → List Call → List Call
+moved n None step earlier calls = calls
+moved n (Some sink) step earlier calls =
+    if sink == n then received_by (source_at earlier) step (made_of n earlier) (life n earlier) (life n (step ∷ earlier)) calls else calls
+
+-- what a step after these adds to the calls of the receivers of a sink; `end` closes the event of source 0 first
 abbrev pub with_sink_call : Airs → ℕ → Step → List Step → List Call → List Call
 with_sink_call airs n (Sink sink streams slots mtu) earlier calls = if sink == n then [] else calls
 with_sink_call airs n (Drop sink) earlier calls = if sink == n then [] else calls
@@ -114,9 +129,9 @@ with_sink_call airs n Event earlier calls = ticked_by (chosen_of earlier) n earl
 with_sink_call airs n Stop earlier calls = ticked_by (chosen_of earlier) n earlier calls
 with_sink_call airs n (Terminate reason) earlier calls = ticked_by (chosen_of earlier) n earlier calls
 with_sink_call airs n End earlier calls = ticked_by 1 n earlier (ticked_by 0 n earlier calls)
-with_sink_call airs n _ earlier calls = calls
+with_sink_call airs n step earlier calls = moved n (named_by step) step earlier calls
 
--- the calls of the sink of this number since it was made
+-- the calls of the receivers of the sink of this number since it was made
 abbrev pub sink_calls : Airs → ℕ → List Step → List Call
 sink_calls airs n [] = []
 sink_calls airs n (step ∷ earlier) = with_sink_call airs n step earlier (sink_calls airs n earlier)

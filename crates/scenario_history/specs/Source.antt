@@ -10,6 +10,7 @@ use Rattle.iso_pdu.specs.Spelling.{pdu}
 use Rattle.isoal_base.specs.Air.{Air}
 use Rattle.source_machine.specs.Calls.{Setup, Call, give, event as perform, events, next_of}
 use Rattle.source_machine.specs.Airs.{pdu_of, stale_of}
+use Rattle.source_machine.specs.Ciphers.{with_cipher}
 use Rattle.source_machine.specs.declared.sent.Stale.{Stale}
 use Rattle.source_machine.specs.declared.setup.Identity.{Identity}
 use Rattle.scenario_text.specs.declared.step.Step.{Step}
@@ -60,6 +61,10 @@ group_given _ = None
 abbrev pub group_of : List Step → Option GroupLine
 group_of steps = last_given group_given steps
 
+-- before `group` nothing asks for these numbers
+abbrev pub no_group : GroupLine
+no_group = record { info = info_with 0 0 0 0 0 0 0 0 0 0 0 0 0; origin = 0; delay = 0 }
+
 abbrev pub start_given : Step → Option ℕ
 start_given (Start first) = Some first
 start_given _ = None
@@ -91,6 +96,10 @@ cipher_given _ = None
 -- what `cipher` says, where it was said
 abbrev pub cipher_of : List Step → Option Cipher
 cipher_of steps = last_given cipher_given steps
+
+-- the BIGInfo that the group check sees: that of the group, with the cipher where one was said
+abbrev pub checked_info : List Step → BigInfo
+checked_info steps = with_cipher (unwrap_or (group_of steps) no_group).info (cipher_of steps)
 
 -- the group is encrypted: the source announces it, and sends nothing
 abbrev pub is_ciphered : List Step → Bool
@@ -160,10 +169,6 @@ is_heard steps = is_started steps && not (is_ciphered steps)
 -- the airs of a source after its calls, one a stream
 abbrev pub Airs : Type 0
 Airs = Setup → List Call → List Air
-
--- before `group` nothing asks for these numbers
-abbrev pub no_group : GroupLine
-no_group = record { info = info_with 0 0 0 0 0 0 0 0 0 0 0 0 0; origin = 0; delay = 0 }
 
 abbrev pub setup_from : GroupLine → ℕ → Bool → Setup
 setup_from group first ahead = record { info = group.info; origin = group.origin; delay = group.delay; first = first; ahead = ahead }

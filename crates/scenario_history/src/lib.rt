@@ -1,8 +1,6 @@
 //! What a scenario means: its steps looked back at, and its transcript.
 #![tactic(auto)]
 
-mod history_laws;
+mod box_laws;
 
-pub use history_laws::{
-    boxes_take_their_units, one_transcript, order_law, some_airs_meet, units_law,
-};
+pub use box_laws::boxes_take_their_units;

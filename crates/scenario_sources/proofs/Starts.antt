@@ -26,8 +26,8 @@ use Rattle.transcript_text.specs.declared.stop.Stop.TheVariants.{Refused, Outlet
 use Rattle.scenario_text.specs.declared.step.Step.{Step}
 use Rattle.scenario_text.specs.declared.step.Step.TheVariants.{Start}
 use Rattle.scenario_history.specs.Bases.{base_from, base_of, has_subgroup, is_base_too_long, is_last_bare, subgroups_of}
-use Rattle.scenario_history.specs.Refusals.{checked_info, fault_refusal, group_refusal, horizon_in, refuse_if}
-use Rattle.scenario_history.specs.Source.{GroupLine, Phase, described, identity_of, is_ahead_in, is_described_at, no_identity, phase_of}
+use Rattle.scenario_history.specs.Refusals.{fault_refusal, group_refusal, horizon_in, refuse_if}
+use Rattle.scenario_history.specs.Source.{GroupLine, Phase, checked_info, described, identity_of, is_ahead_in, is_described_at, no_identity, phase_of}
 use Rattle.scenario_history.specs.Steps.{is_unbegun_at, running, stage_of}
 use Rattle.scenario_sources.specs.Bases.{is_long}
 use Rattle.scenario_sources.specs.Faults.{fault_in}

@@ -1,5 +1,5 @@
 -- What a delegator and its receivers take of a life.
-use Rattle.std.proofs.Common.{◌≡◌, ℕ, Bool, eqb, List, ◌∷◌, refl, sym, ap, ◌∙◌}
+use Rattle.std.proofs.Common.{◌≡◌, ℕ, Bool, cond, eqb, List, ◌∷◌, refl, sym, ap, ◌∙◌}
 use Rattle.std.proofs.lemmas.Bool.{eq-eqb}
 use Rattle.base_grammar.specs.Layout.{Endpoint}
 use Rattle.big_info.specs.declared.info.BigInfo.{BigInfo}
@@ -15,7 +15,7 @@ use Rattle.link_histories.specs.Calls.{Call}
 use Rattle.linked_sink.specs.Taken.{delegator_calls}
 use Rattle.linked_sink.proofs.Citable.{steps_same}
 use Rattle.sink_histories.specs.Groups.{IsTunedTo, receiver_calls}
-use Rattle.sink_histories.specs.Lives.{Made, with_call}
+use Rattle.sink_histories.specs.Lives.{Made}
 use Rattle.sink_histories.specs.Output.{sight_in}
 
 -- ---- a train that is heard
@@ -29,8 +29,8 @@ put_by made calls source train slot bits encrypted joining is =
     ap (λ ss. brought_by made.setup (sight_of made.setup ss) train) (steps_same calls) ∙ is in
     ap (λ (brought : Brought). with_step (joining_brought brought) (sight_of made.setup steps) (sight_of made.setup (train_heard source train ∷ steps)) (receiver_calls made calls)) before
 
-pub its_call : (n : ℕ) (call : Call) (calls : List Call) → with_call (eqb n n) call calls ≡ call ∷ calls
-its_call n call calls = ap (λ b. with_call b call calls) (eq-eqb n n refl)
+pub its_call : (n : ℕ) (call : Call) (calls : List Call) → cond (eqb n n) (call ∷ calls) calls ≡ call ∷ calls
+its_call n call calls = ap (λ b. cond b (call ∷ calls) calls) (eq-eqb n n refl)
 
 pub tuned_to : (base : Endpoint) (info : BigInfo) (event anchor : ℕ) (joining : Joining) → IsOnGroup base info event anchor joining
     → IsTunedTo base info event anchor (tuning_of joining)

@@ -1,5 +1,6 @@
 pub mod Groups
 pub mod Lives
+pub mod Moves
 pub mod Output
 pub mod Refusals
 pub mod Rows

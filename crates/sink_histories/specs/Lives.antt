@@ -1,7 +1,7 @@
 -- The life of a sink of a scenario, and of the assistants on its links, of what the lines say that name it (Basic Audio
 -- Profile 1.0, section 6.5; Broadcast Audio Scan Service 1.0, section 3). The scenario language is this project's own. Lists
 -- of steps and of calls have the newest first. Plain lines act on link 0.
-use Rattle.std.specs.Prelude.{ℕ, ◌==◌, Bool, true, false, List, [], ◌∷◌, ◌++◌, Option, Some, None, unwrap_or, if◌then◌else◌}
+use Rattle.std.specs.Prelude.{ℕ, ◌==◌, List, [], ◌∷◌, Option, Some, None, unwrap_or, if◌then◌else◌}
 use Rattle.pacs_records.specs.declared.record.PacRecord.{PacRecord}
 use Rattle.bass_operations.specs.declared.operation.Operation.TheVariants as operations
 use Rattle.bass_operations.specs.Layout.{spelling}
@@ -28,10 +28,9 @@ pub record Source : Type 0 where
   pub announced : Announced
   pub joining : ℕ → Joining
 
--- the source that a line after these steps means, and the calls that a PDU or a close brings the sink of a number
+-- the source that a line after these steps means
 pub record World : Type 0 where
   pub source : List Step → Source
-  pub air : ℕ → Step → List Step → List Call
 
 -- ---- the sink
 
@@ -63,17 +62,7 @@ abbrev pub made_of : ℕ → List Step → Option Made
 made_of n [] = None
 made_of n (step ∷ earlier) = made_by n step earlier (made_of n earlier)
 
--- ---- its life
-
--- a call more, where the line names the sink
-abbrev pub with_call : Bool → Call → List Call → List Call
-with_call true call calls = call ∷ calls
-with_call false call calls = calls
-
--- the sink's link is drained, where the line names it
-abbrev pub with_drain : Bool → Option Made → ℕ → List Call → List Call
-with_drain true (Some made) link calls = drained made.setup made.mtu link calls
-with_drain _ _ link calls = calls
+-- ---- the lines that name it
 
 -- a train that is given by its octets, with the address type and the SID of the source
 abbrev pub given_train : Source → (time : ℕ) → (ext adv acad : List ℕ) → Train
@@ -87,47 +76,86 @@ own_train source = heard_as source.address_type source.sid source.announced
 abbrev pub record_of : (codec caps metadata : List ℕ) → PacRecord
 record_of codec caps metadata = record { codec = codec; caps = caps; metadata = metadata }
 
--- the calls of the sink of this number after a step, before which it had these
+-- the link is drained, of a sink that lives
+abbrev pub with_drain : Option Made → ℕ → List Call → List Call
+with_drain None link calls = calls
+with_drain (Some made) link calls = drained made.setup made.mtu link calls
+
+-- the calls of the sink that a line names, before which it had these; the line means this source
+abbrev pub lived_by : Source → Step → Option Made → List Call → List Call
+lived_by source (steps.Drop sink) made calls = []
+lived_by source (steps.Pac sink codec caps metadata) made calls = stepped (record_added (record_of codec caps metadata)) ∷ calls
+lived_by source (steps.Locate sink bits) made calls = stepped (locations_set bits) ∷ calls
+lived_by source (steps.Context sink sink_bits source_bits) made calls = stepped (contexts_set sink_bits) ∷ calls
+lived_by source (steps.Tuned sink which) made calls = stepped (put_on source.number (source.joining which)) ∷ calls
+lived_by source (steps.Announce sink) made calls = stepped (train_heard source.number (own_train source)) ∷ calls
+lived_by source (steps.Train sink time ext adv acad) made calls = stepped (train_heard source.number (given_train source time ext adv acad)) ∷ calls
+lived_by source (steps.Lose sink) made calls = stepped train_lost ∷ calls
+lived_by source (steps.Control sink octets) made calls = stepped (control_heard octets) ∷ calls
+lived_by source (steps.Write sink octets) made calls = links.asked 0 octets ∷ calls
+lived_by source (steps.Add sink op) made calls = links.asked 0 (spelling (operations.Add op)) ∷ calls
+lived_by source (steps.Modify sink op) made calls = links.asked 0 (spelling (operations.Modify op)) ∷ calls
+lived_by source (steps.Remove sink source_id) made calls = links.asked 0 (spelling (operations.Remove source_id)) ∷ calls
+lived_by source (steps.Code sink source_id code) made calls = links.asked 0 (spelling (operations.Code source_id code)) ∷ calls
+lived_by source (steps.Serve sink) made calls = links.served 0 ∷ calls
+lived_by source (steps.Tell sink) made calls = links.told 0 ∷ calls
+lived_by source (steps.Read sink) made calls = links.read 0 ∷ calls
+lived_by source (steps.Drain sink) made calls = with_drain made 0 calls
+lived_by source (steps.Forge sink slot octets) made calls = links.forged slot octets ∷ calls
+lived_by source (steps.Assist sink link) made calls = links.joined link ∷ calls
+lived_by source (steps.Apart sink link) made calls = links.parted link ∷ calls
+lived_by source (steps.AWrite sink link octets) made calls = links.asked link octets ∷ calls
+lived_by source (steps.AServe sink link) made calls = links.served link ∷ calls
+lived_by source (steps.ATell sink link) made calls = links.told link ∷ calls
+lived_by source (steps.ARead sink link) made calls = links.read link ∷ calls
+lived_by source (steps.ADrain sink link) made calls = with_drain made link calls
+lived_by source _ made calls = calls
+
+-- the sink that a step names as a living one
+abbrev pub named_by : Step → Option ℕ
+named_by (steps.Pac sink codec caps metadata) = Some sink
+named_by (steps.Locate sink bits) = Some sink
+named_by (steps.Context sink sink_bits source_bits) = Some sink
+named_by (steps.Tuned sink which) = Some sink
+named_by (steps.Hear sink back bis subevent) = Some sink
+named_by (steps.Air sink lose) = Some sink
+named_by (steps.Inject sink back bis subevent octets) = Some sink
+named_by (steps.Announce sink) = Some sink
+named_by (steps.Train sink time ext adv acad) = Some sink
+named_by (steps.Write sink octets) = Some sink
+named_by (steps.Add sink op) = Some sink
+named_by (steps.Modify sink op) = Some sink
+named_by (steps.Remove sink source_id) = Some sink
+named_by (steps.Code sink source_id code) = Some sink
+named_by (steps.Serve sink) = Some sink
+named_by (steps.Tell sink) = Some sink
+named_by (steps.Read sink) = Some sink
+named_by (steps.Drain sink) = Some sink
+named_by (steps.Show sink) = Some sink
+named_by (steps.Lose sink) = Some sink
+named_by (steps.Drop sink) = Some sink
+named_by (steps.Control sink octets) = Some sink
+named_by (steps.Forge sink slot octets) = Some sink
+named_by (steps.Assist sink link) = Some sink
+named_by (steps.Apart sink link) = Some sink
+named_by (steps.AWrite sink link octets) = Some sink
+named_by (steps.AServe sink link) = Some sink
+named_by (steps.ATell sink link) = Some sink
+named_by (steps.ARead sink link) = Some sink
+named_by (steps.ADrain sink link) = Some sink
+named_by (steps.AShow sink link) = Some sink
+named_by (steps.Relay sink bis to) = Some sink
+named_by _ = None
+
+-- ---- its life, but for what it hears on the air and for the events that it closes
+
+abbrev pub lived_at : World → ℕ → Option ℕ → Step → List Step → Option Made → List Call → List Call
+lived_at world n None step earlier made calls = calls
+lived_at world n (Some sink) step earlier made calls = if sink == n then lived_by (world.source earlier) step made calls else calls
+
 abbrev pub lived : World → ℕ → Step → List Step → Option Made → List Call → List Call
 lived world n (steps.Sink sink streams slots mtu) earlier made calls = if sink == n then born mtu else calls
-lived world n (steps.Drop sink) earlier made calls = if sink == n then [] else calls
-lived world n (steps.Pac sink codec caps metadata) earlier made calls = with_call (sink == n) (stepped (record_added (record_of codec caps metadata))) calls
-lived world n (steps.Locate sink bits) earlier made calls = with_call (sink == n) (stepped (locations_set bits)) calls
-lived world n (steps.Context sink sink_bits source_bits) earlier made calls = with_call (sink == n) (stepped (contexts_set sink_bits)) calls
-lived world n (steps.Tuned sink which) earlier made calls =
-    with_call (sink == n) (stepped (put_on (world.source earlier).number ((world.source earlier).joining which))) calls
-lived world n (steps.Announce sink) earlier made calls =
-    with_call (sink == n) (stepped (train_heard (world.source earlier).number (own_train (world.source earlier)))) calls
-lived world n (steps.Train sink time ext adv acad) earlier made calls =
-    with_call (sink == n) (stepped (train_heard (world.source earlier).number (given_train (world.source earlier) time ext adv acad))) calls
-lived world n (steps.Lose sink) earlier made calls = with_call (sink == n) (stepped train_lost) calls
-lived world n (steps.Control sink octets) earlier made calls = with_call (sink == n) (stepped (control_heard octets)) calls
-lived world n (steps.Write sink octets) earlier made calls = with_call (sink == n) (links.asked 0 octets) calls
-lived world n (steps.Add sink op) earlier made calls = with_call (sink == n) (links.asked 0 (spelling (operations.Add op))) calls
-lived world n (steps.Modify sink op) earlier made calls = with_call (sink == n) (links.asked 0 (spelling (operations.Modify op))) calls
-lived world n (steps.Remove sink source_id) earlier made calls = with_call (sink == n) (links.asked 0 (spelling (operations.Remove source_id))) calls
-lived world n (steps.Code sink source_id code) earlier made calls =
-    with_call (sink == n) (links.asked 0 (spelling (operations.Code source_id code))) calls
-lived world n (steps.Serve sink) earlier made calls = with_call (sink == n) (links.served 0) calls
-lived world n (steps.Tell sink) earlier made calls = with_call (sink == n) (links.told 0) calls
-lived world n (steps.Read sink) earlier made calls = with_call (sink == n) (links.read 0) calls
-lived world n (steps.Drain sink) earlier made calls = with_drain (sink == n) made 0 calls
-lived world n (steps.Forge sink slot octets) earlier made calls = with_call (sink == n) (links.forged slot octets) calls
-lived world n (steps.Assist sink link) earlier made calls = with_call (sink == n) (links.joined link) calls
-lived world n (steps.Apart sink link) earlier made calls = with_call (sink == n) (links.parted link) calls
-lived world n (steps.AWrite sink link octets) earlier made calls = with_call (sink == n) (links.asked link octets) calls
-lived world n (steps.AServe sink link) earlier made calls = with_call (sink == n) (links.served link) calls
-lived world n (steps.ATell sink link) earlier made calls = with_call (sink == n) (links.told link) calls
-lived world n (steps.ARead sink link) earlier made calls = with_call (sink == n) (links.read link) calls
-lived world n (steps.ADrain sink link) earlier made calls = with_drain (sink == n) made link calls
-lived world n (steps.Hear sink back bis subevent) earlier made calls = world.air n (steps.Hear sink back bis subevent) earlier ++ calls
-lived world n (steps.Air sink lose) earlier made calls = world.air n (steps.Air sink lose) earlier ++ calls
-lived world n (steps.Inject sink back bis subevent octets) earlier made calls = world.air n (steps.Inject sink back bis subevent octets) earlier ++ calls
-lived world n steps.Event earlier made calls = world.air n steps.Event earlier ++ calls
-lived world n steps.Stop earlier made calls = world.air n steps.Stop earlier ++ calls
-lived world n (steps.Terminate reason) earlier made calls = world.air n (steps.Terminate reason) earlier ++ calls
-lived world n steps.End earlier made calls = world.air n steps.End earlier ++ calls
-lived world n _ earlier made calls = calls
+lived world n step earlier made calls = lived_at world n (named_by step) step earlier made calls
 
 -- the calls of the sink of this number since it was made
 abbrev pub life_of : World → ℕ → List Step → List Call

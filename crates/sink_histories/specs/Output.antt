@@ -18,7 +18,7 @@ use Rattle.link_histories.specs.Links.{delivered, notices_waiting, reads_waiting
 use Rattle.scenario_text.specs.declared.step.Step.{Step}
 use Rattle.scenario_text.specs.declared.step.Step.TheVariants as steps
 use Rattle.sink_lines.specs.Lines.{Label, control_words, forged_line, on_link, plain, reply_line, sink_line, train_line, train_words, value_line}
-use Rattle.sink_histories.specs.Lives.{Made, World, given_train, life_of, made_of, own_train}
+use Rattle.sink_histories.specs.Lives.{Made, Source, World, given_train, life_of, made_of, named_by, own_train}
 
 -- what the sink has
 abbrev pub sight_in : Made → List Call → Sight
@@ -108,71 +108,36 @@ heard_line sink made calls train = sink_line sink (train_words (answer_of (broug
 -- ---- all of it
 
 -- what a step prints that names a living sink with this life
-abbrev pub printed_of : World → List Step → Step → Made → List Call → Lines
-printed_of world earlier (steps.Serve sink) made calls = serve_line (plain sink) made 0 calls
-printed_of world earlier (steps.Tell sink) made calls = tell_line (plain sink) made 0 calls
-printed_of world earlier (steps.Read sink) made calls = read_line (plain sink) made 0 calls
-printed_of world earlier (steps.Drain sink) made calls = drain_lines (plain sink) made 0 calls
-printed_of world earlier (steps.Show sink) made calls = show_lines sink made calls
-printed_of world earlier (steps.Forge sink slot octets) made calls =
+abbrev pub printed_of : Source → Step → Made → List Call → Lines
+printed_of source (steps.Serve sink) made calls = serve_line (plain sink) made 0 calls
+printed_of source (steps.Tell sink) made calls = tell_line (plain sink) made 0 calls
+printed_of source (steps.Read sink) made calls = read_line (plain sink) made 0 calls
+printed_of source (steps.Drain sink) made calls = drain_lines (plain sink) made 0 calls
+printed_of source (steps.Show sink) made calls = show_lines sink made calls
+printed_of source (steps.Forge sink slot octets) made calls =
     forged_line sink (forged_answer made.setup.slots made.mtu slot octets) ∷ []
-printed_of world earlier (steps.Lose sink) made calls = sink_line sink (codes "Idle" ∷ []) ∷ []
-printed_of world earlier (steps.Control sink octets) made calls =
+printed_of source (steps.Lose sink) made calls = sink_line sink (codes "Idle" ∷ []) ∷ []
+printed_of source (steps.Control sink octets) made calls =
     sink_line sink (control_words (controls.control_heard (sight_in made calls).place octets)) ∷ []
-printed_of world earlier (steps.Announce sink) made calls =
-    train_line sink (world.source earlier).announced ∷ heard_line sink made calls (own_train (world.source earlier)) ∷ []
-printed_of world earlier (steps.Train sink time ext adv acad) made calls =
-    heard_line sink made calls (given_train (world.source earlier) time ext adv acad) ∷ []
-printed_of world earlier (steps.AServe sink link) made calls = serve_line (on_link sink link) made link calls
-printed_of world earlier (steps.ATell sink link) made calls = tell_line (on_link sink link) made link calls
-printed_of world earlier (steps.ARead sink link) made calls = read_line (on_link sink link) made link calls
-printed_of world earlier (steps.ADrain sink link) made calls = drain_lines (on_link sink link) made link calls
-printed_of world earlier (steps.AShow sink link) made calls = view_lines sink link made calls
-printed_of world earlier _ made calls = []
+printed_of source (steps.Announce sink) made calls =
+    train_line sink source.announced ∷ heard_line sink made calls (own_train source) ∷ []
+printed_of source (steps.Train sink time ext adv acad) made calls =
+    heard_line sink made calls (given_train source time ext adv acad) ∷ []
+printed_of source (steps.AServe sink link) made calls = serve_line (on_link sink link) made link calls
+printed_of source (steps.ATell sink link) made calls = tell_line (on_link sink link) made link calls
+printed_of source (steps.ARead sink link) made calls = read_line (on_link sink link) made link calls
+printed_of source (steps.ADrain sink link) made calls = drain_lines (on_link sink link) made link calls
+printed_of source (steps.AShow sink link) made calls = view_lines sink link made calls
+printed_of source _ made calls = []
 
--- the sink that a step names: one of its control, of its links or of the air
-abbrev pub named_by : Step → Option ℕ
-named_by (steps.Pac sink codec caps metadata) = Some sink
-named_by (steps.Locate sink bits) = Some sink
-named_by (steps.Context sink sink_bits source_bits) = Some sink
-named_by (steps.Tuned sink which) = Some sink
-named_by (steps.Hear sink back bis subevent) = Some sink
-named_by (steps.Air sink lose) = Some sink
-named_by (steps.Inject sink back bis subevent octets) = Some sink
-named_by (steps.Announce sink) = Some sink
-named_by (steps.Train sink time ext adv acad) = Some sink
-named_by (steps.Write sink octets) = Some sink
-named_by (steps.Add sink op) = Some sink
-named_by (steps.Modify sink op) = Some sink
-named_by (steps.Remove sink source_id) = Some sink
-named_by (steps.Code sink source_id code) = Some sink
-named_by (steps.Serve sink) = Some sink
-named_by (steps.Tell sink) = Some sink
-named_by (steps.Read sink) = Some sink
-named_by (steps.Drain sink) = Some sink
-named_by (steps.Show sink) = Some sink
-named_by (steps.Lose sink) = Some sink
-named_by (steps.Drop sink) = Some sink
-named_by (steps.Control sink octets) = Some sink
-named_by (steps.Forge sink slot octets) = Some sink
-named_by (steps.Assist sink link) = Some sink
-named_by (steps.Apart sink link) = Some sink
-named_by (steps.AWrite sink link octets) = Some sink
-named_by (steps.AServe sink link) = Some sink
-named_by (steps.ATell sink link) = Some sink
-named_by (steps.ARead sink link) = Some sink
-named_by (steps.ADrain sink link) = Some sink
-named_by (steps.AShow sink link) = Some sink
-named_by (steps.Relay sink bis to) = Some sink
-named_by _ = None
-
-abbrev pub printed_by : World → List Step → Step → ℕ → Option Made → Lines
-printed_by world earlier line n None = []
-printed_by world earlier line n (Some made) = printed_of world earlier line made (life_of world n earlier)
+-- the same of a sink that lives or not
+abbrev pub printed_where : Source → Step → Option Made → List Call → Lines
+printed_where source step None calls = []
+printed_where source step (Some made) calls = printed_of source step made calls
 
 abbrev pub printed_at : World → List Step → Step → Option ℕ → Lines
-printed_at world earlier line None = []
-printed_at world earlier line (Some n) = printed_by world earlier line n (made_of n earlier)
+printed_at world earlier step None = []
+printed_at world earlier step (Some n) = printed_where (world.source earlier) step (made_of n earlier) (life_of world n earlier)
 
 -- what a step after these prints of the sink that it names
 abbrev pub printed : World → List Step → Step → Lines

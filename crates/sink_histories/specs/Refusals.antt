@@ -10,8 +10,8 @@ use Rattle.scenario_text.specs.declared.step.Step.{Step}
 use Rattle.scenario_text.specs.declared.step.Step.TheVariants as steps
 use Rattle.transcript_text.specs.declared.refusal.Refusal.{Refusal}
 use Rattle.transcript_text.specs.declared.refusal.Refusal.TheVariants.{NoSuchSink, NoSuchLink, LinkTwice, NothingWaiting, RecordsTooLong}
-use Rattle.sink_histories.specs.Lives.{Made, World, life_of, made_of, record_of}
-use Rattle.sink_histories.specs.Output.{named_by, sight_in}
+use Rattle.sink_histories.specs.Lives.{Made, World, life_of, made_of, named_by, record_of}
+use Rattle.sink_histories.specs.Output.{sight_in}
 
 abbrev pub refuse_if : Bool → Refusal → Option Refusal
 refuse_if true reason = Some reason
@@ -69,13 +69,13 @@ refused_by step made calls =
     option_or (no_link calls (link_named step))
     (option_or (link_twice calls step) (option_or (nothing_waits made calls step) (no_record_room made calls step)))
 
-abbrev pub refused_if_made : World → List Step → Step → ℕ → Option Made → Option Refusal
-refused_if_made world earlier line n None = Some NoSuchSink
-refused_if_made world earlier line n (Some made) = refused_by line made (life_of world n earlier)
+abbrev pub refused_where : Step → Option Made → List Call → Option Refusal
+refused_where step None calls = Some NoSuchSink
+refused_where step (Some made) calls = refused_by step made calls
 
 abbrev pub refused_at : World → List Step → Step → Option ℕ → Option Refusal
-refused_at world earlier line None = None
-refused_at world earlier line (Some n) = refused_if_made world earlier line n (made_of n earlier)
+refused_at world earlier step None = None
+refused_at world earlier step (Some n) = refused_where step (made_of n earlier) (life_of world n earlier)
 
 -- why a step after these is refused
 abbrev pub refusal_of : World → List Step → Step → Option Refusal

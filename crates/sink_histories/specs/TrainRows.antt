@@ -15,7 +15,7 @@ use Rattle.sink_histories.specs.Lives.{World}
 use Rattle.sink_histories.specs.Output.{Lines, printed}
 use Rattle.sink_histories.specs.Rows.{an_add, its_value}
 
--- one source, of a public address and SID 3, that announces this train, and nothing on the air
+-- one source, of a public address and SID 3, that announces this train
 abbrev pub world_of : Announced → World
 world_of train = record {
   source = λ earlier. record {
@@ -25,7 +25,6 @@ world_of train = record {
     announced = train;
     joining = λ which. record { info = a_group; which = which; first = 0; anchor = 20000; delay = 40000 };
   };
-  air = λ n line earlier. [];
 }
 
 abbrev pub a_world : World

@@ -1,0 +1,48 @@
+-- A source as a sink meets it: what it announces for its next event (Basic Audio Profile 1.0, section 3.7.2; Core 5.2, volume 6
+-- part B, section 4.4.6.11), and its group from that event on. Lists of steps have the newest first; where a list is called
+-- `own` its steps are those of one source.
+use Rattle.std.specs.Prelude.{ℕ, List}
+use Rattle.announced_groups.specs.Octets.{train_of}
+use Rattle.announcement_train.specs.declared.train.Train.{Train}
+use Rattle.delegator_states.specs.Trains.{Joining}
+use Rattle.link_histories.specs.Calls.{Call}
+use Rattle.scenario_text.specs.declared.step.Step.{Step}
+use Rattle.sink_histories.specs.Lives.{Source, World, life_of}
+use Rattle.source_machine.specs.Calls.{next_of, next_anchor_of}
+use Rattle.scenario_history.specs.Steps.{chosen_of, chosen_steps}
+use Rattle.scenario_history.specs.Source.{checked_info, identity_of, setup_of, source_calls}
+use Rattle.scenario_history.specs.Bases.{base_of}
+
+-- the train for the next event
+abbrev pub announced_of : List Step → Train
+announced_of own =
+    train_of (identity_of own).broadcast_id (base_of own) (checked_info own) (next_of (setup_of own) (source_calls own))
+    (next_anchor_of (setup_of own) (source_calls own))
+
+-- the group from the next event on, for a sink on these streams
+abbrev pub joining_on : List Step → ℕ → Joining
+joining_on own which = record {
+  info = (setup_of own).info;
+  which = which;
+  first = next_of (setup_of own) (source_calls own);
+  anchor = next_anchor_of (setup_of own) (source_calls own);
+  delay = (setup_of own).delay;
+}
+
+-- the source that a line after these steps means
+abbrev pub source_at : List Step → Source
+source_at steps = record {
+  number = chosen_of steps;
+  address_type = (identity_of (chosen_steps steps)).address_type;
+  sid = (identity_of (chosen_steps steps)).sid;
+  announced = announced_of (chosen_steps steps);
+  joining = λ which. joining_on (chosen_steps steps) which;
+}
+
+-- what lies outside of the sinks
+abbrev pub the_world : World
+the_world = record { source = source_at }
+
+-- the life of the sink of a number, but for what it hears and closes
+abbrev pub life : ℕ → List Step → List Call
+life n steps = life_of the_world n steps

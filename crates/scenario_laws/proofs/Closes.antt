@@ -1,0 +1,255 @@
+-- The events of a source that a sink closes rise, over all its stays with the source.
+use Rattle.std.proofs.Common.{ℕ, zero, suc, ◌≡◌, ◌≢◌, ◌<◌, ◌≤◌, ◌+◌, ◌==◌, ◌||◌, cond, leb, not, Bool, true, false, List, [], ◌∷◌, ◌++◌, map, Option, None, Some, refl, sym, ◌∙◌, ap, subst, arith}
+use Rattle.std.specs.List.Sorted.{IsStrictlyIncreasing}
+use Rattle.std.proofs.lemmas.Bool.{eqb-true, eqb-false, leb-true, or_parts}
+use Rattle.std.proofs.lemmas.Option.{none-some, same_Some}
+use Rattle.group_sink.specs.Calls.{Tuning, Call, tune, hear, tick, place}
+use Rattle.group_sink.specs.Streams.{closes}
+use Rattle.scenario_text.specs.declared.step.Step.{Step}
+use Rattle.scenario_text.specs.declared.step.Step.TheVariants as steps
+use Rattle.scenario_history.specs.Steps.{chosen_of, chosen_steps, is_over, steps_of_source}
+use Rattle.scenario_history.specs.Source.{Airs, event_back, is_sending, open_event, pdu_in, performed, setup_of}
+use Rattle.scenario_history.specs.Sinks.{heard_on_air, is_lost, is_of, reaches, sink_calls, source_after, source_of, spot_at, spots_of, ticked, tuning_of, unless_lost, with_sink_call}
+use Rattle.scenario_laws.specs.Laws.{Closed, closed_at, closed_by, closed_if, closed_in, closed_since, is_made}
+use Rattle.scenario_laws.proofs.Legals.{Legal}
+use Rattle.scenario_laws.proofs.Wholes.{next_in, next_rises}
+use Rattle.scenario_laws.proofs.Stays.{air_place}
+use Rattle.scenario_laws.proofs.Ticks.{end_ticks, event_ticks, is_its}
+
+-- ---- numbers that rise between two bounds
+
+-- the numbers rise, from `low` on and all below `high`
+abbrev pub Climb : ℕ → List ℕ → ℕ → Type 0
+Climb low [] high = low ≤ high
+Climb low (x ∷ xs) high = (low ≤ x) × Climb (x + 1) xs high
+
+pub climb_from : (low from : ℕ) (xs : List ℕ) (high : ℕ) → low ≤ from → Climb from xs high → Climb low xs high
+climb_from low from [] high least climb = omega (arith, least, climb)
+climb_from low from (x ∷ xs) high least climb = (omega (arith, least, climb.0), climb.1)
+
+pub climb_on : (low : ℕ) (xs : List ℕ) (middle : ℕ) (ys : List ℕ) (high : ℕ) → Climb low xs middle → Climb middle ys high → Climb low (xs ++ ys) high
+climb_on low [] middle ys high first rest = climb_from low middle ys high first rest
+climb_on low (x ∷ xs) middle ys high first rest = (first.0, climb_on (x + 1) xs middle ys high first.1 rest)
+
+pub climbs : (low : ℕ) (xs : List ℕ) (high : ℕ) → Climb low xs high → IsStrictlyIncreasing xs
+climbs low [] high climb k below = absurd (omega (arith, below))
+climbs low (x ∷ []) high climb k below = absurd (omega (arith, below))
+climbs low (x ∷ y ∷ xs) high climb zero below = let next : x + 1 ≤ y = climb.1.0 in omega (arith, next)
+climbs low (x ∷ y ∷ xs) high climb (suc k) below =
+    let next : suc k + 1 ≡ suc (k + 1) = omega arith in
+    rw next (climbs (x + 1) (y ∷ xs) high climb.1 k (omega (arith, below)))
+
+map_on : (f : Closed → ℕ) (xs ys : List Closed) → map f (xs ++ ys) ≡ map f xs ++ map f ys
+map_on f [] ys = refl
+map_on f (x ∷ xs) ys = ap (λ zs. f x ∷ zs) (map_on f xs ys)
+
+-- ---- the open event of a sink
+
+abbrev pub event_of : Closed → ℕ
+event_of closed = closed.event
+
+-- the stay of a sink with a source, where it is of the source
+abbrev pub stay_if : Bool → List Call → Option Tuning
+stay_if mine calls = cond mine (place calls) None
+
+-- the open event of the stay, or the next event of the source
+abbrev pub front_of : Option Tuning → List Call → ℕ → ℕ
+front_of None calls next = next
+front_of (Some tuning) calls next = tuning.first + closes tuning calls
+
+abbrev pub front : Bool → List Call → ℕ → ℕ
+front mine calls next = front_of (stay_if mine calls) calls next
+
+-- the events that a step closes lie between the open events before it and after it, and those up to the source's next one
+pub record Moves (mine : Bool) (calls : List Call) (next : ℕ) (closed : List Closed) (mine' : Bool) (calls' : List Call) (next' : ℕ) : Type 0 where
+  pub climbs_on : Climb (front mine calls next) (map event_of closed) (front mine' calls' next')
+  pub within : front mine' calls' next' ≤ next'
+
+later_next : (p : Option Tuning) (calls : List Call) (next next' : ℕ) → next ≤ next' → front_of p calls next ≤ front_of p calls next'
+later_next None calls next next' more = more
+later_next (Some tuning) calls next next' more = omega arith
+
+later_within : (p : Option Tuning) (calls : List Call) (next next' : ℕ) → next ≤ next' → front_of p calls next ≤ next → front_of p calls next' ≤ next'
+later_within None calls next next' more within = omega arith
+later_within (Some tuning) calls next next' more within = omega (arith, more, within)
+
+stay_moves : (mine : Bool) (calls : List Call) (next next' : ℕ) → next ≤ next' → front mine calls next ≤ next → Moves mine calls next [] mine calls next'
+stay_moves mine calls next next' more within = record {
+  climbs_on = later_next (stay_if mine calls) calls next next' more;
+  within = later_within (stay_if mine calls) calls next next' more within;
+}
+
+gone_moves : (s : ℕ) (gone : Bool) (calls : List Call) (source : Option ℕ) (next next' : ℕ) → next ≤ next' → front (is_of s source) calls next ≤ next
+    → Moves (is_of s source) calls next [] (is_of s (cond gone None source)) (cond gone [] calls) next'
+gone_moves s true calls source next next' more within = record { climbs_on = omega (arith, within, more); within = omega arith }
+gone_moves s false calls source next next' more within = stay_moves (is_of s source) calls next next' more within
+
+on_moves : (mine its : Bool) (on : Tuning) (calls : List Call) (next next' : ℕ) → next ≤ next' → (its ≡ true → on.first ≡ next) → front mine calls next ≤ next
+    → Moves mine calls next [] its (tune on ∷ calls) next'
+on_moves mine true on calls next next' more is within = record { climbs_on = omega (arith, is refl, within); within = omega (arith, is refl, more) }
+on_moves mine false on calls next next' more is within = record { climbs_on = omega (arith, within, more); within = omega arith }
+
+put_moves : (s : ℕ) (put : Bool) (on : Tuning) (chosen : ℕ) (calls : List Call) (source : Option ℕ) (next next' : ℕ) → next ≤ next' → ((chosen == s) ≡ true → on.first ≡ next)
+    → front (is_of s source) calls next ≤ next
+    → Moves (is_of s source) calls next [] (is_of s (cond put (Some chosen) source)) (cond put (tune on ∷ calls) calls) next'
+put_moves s true on chosen calls source next next' more is within = on_moves (is_of s source) (chosen == s) on calls next next' more is within
+put_moves s false on chosen calls source next next' more is within = stay_moves (is_of s source) calls next next' more within
+
+-- calls that neither put the sink anywhere nor close an event
+front_again : (calls more : List Call) (next : ℕ) (p : Option Tuning) → ((tuning : Tuning) → closes tuning more ≡ closes tuning calls)
+    → front_of p more next ≡ front_of p calls next
+front_again calls more next None same = refl
+front_again calls more next (Some tuning) same = ap (λ count. tuning.first + count) (same tuning)
+
+same_front : (mine : Bool) (calls more : List Call) (next : ℕ) → place more ≡ place calls → ((tuning : Tuning) → closes tuning more ≡ closes tuning calls)
+    → front mine more next ≡ front mine calls next
+same_front mine calls more next there same =
+    ap (λ p. front_of (cond mine p None) more next) there ∙ front_again calls more next (stay_if mine calls) same
+
+more_moves : (mine hit : Bool) (more calls : List Call) (next next' : ℕ) → next ≤ next' → place more ≡ place calls → ((tuning : Tuning) → closes tuning more ≡ closes tuning calls)
+    → front mine calls next ≤ next → Moves mine calls next [] mine (cond hit more calls) next'
+more_moves mine true more calls next next' later there same within =
+    let is : front mine more next' ≡ front mine calls next' = same_front mine calls more next' there same in
+    let moved : Moves mine calls next [] mine calls next' = stay_moves mine calls next next' later within in
+    record { climbs_on = omega (arith, is, moved.climbs_on); within = omega (arith, is, moved.within) }
+more_moves mine false more calls next next' later there same within = stay_moves mine calls next next' later within
+
+lost_closes : (gone : Bool) (event bis subevent : ℕ) (octets : List ℕ) (calls : List Call) (tuning : Tuning)
+    → closes tuning (unless_lost gone (hear event bis subevent octets) calls) ≡ closes tuning calls
+lost_closes true event bis subevent octets calls tuning = refl
+lost_closes false event bis subevent octets calls tuning = refl
+
+air_closes : (airs : Airs) (own : List Step) (lose count : ℕ) (calls : List Call) (tuning : Tuning) → closes tuning (heard_on_air airs own lose count calls) ≡ closes tuning calls
+air_closes airs own lose zero calls tuning = refl
+air_closes airs own lose (suc i) calls tuning =
+    lost_closes (is_lost (setup_of own).info (event_back own 0) lose (spot_at (setup_of own).info i)) _ _ _ _ (heard_on_air airs own lose i calls) tuning
+    ∙ air_closes airs own lose i calls tuning
+
+-- an event of the source is over
+closed_one : (tuning : Tuning) (calls : List Call) (event next next' : ℕ) (over : Bool) → leb (tuning.first + closes tuning calls) event ≡ over
+    → event < next → next ≤ next' → tuning.first + closes tuning calls ≤ next
+    → (Climb (tuning.first + closes tuning calls) (map event_of (cond over (record { event = tuning.first + closes tuning calls; which = tuning.which } ∷ []) []))
+    (tuning.first + cond over (closes tuning calls + 1) (closes tuning calls)))
+    × (tuning.first + cond over (closes tuning calls + 1) (closes tuning calls) ≤ next')
+closed_one tuning calls event next next' true is past more within =
+    let least : tuning.first + closes tuning calls ≤ event = leb-true (tuning.first + closes tuning calls) event is in
+    ((omega arith, omega arith), omega (arith, least, past, more))
+closed_one tuning calls event next next' false is past more within = (omega arith, omega (arith, within, more))
+
+tick_on_moves : (p : Option Tuning) (calls : List Call) (event next next' : ℕ) → place calls ≡ p → event < next → next ≤ next' → front_of p calls next ≤ next
+    → Climb (front_of p calls next) (map event_of (closed_in p calls event)) (front_of p (tick event ∷ calls) next') × (front_of p (tick event ∷ calls) next' ≤ next')
+tick_on_moves None calls event next next' is past more within = (more, omega arith)
+tick_on_moves (Some tuning) calls event next next' is past more within =
+    closed_one tuning calls event next next' (leb (tuning.first + closes tuning calls) event) refl past more within
+
+tick_moves : (last_open : Option ℕ) (calls : List Call) (next next' : ℕ) → ((event : ℕ) → last_open ≡ Some event → event < next) → next ≤ next' → front true calls next ≤ next
+    → Moves true calls next (closed_at calls last_open) true (ticked last_open calls) next'
+tick_moves None calls next next' past more within = stay_moves true calls next next' more within
+tick_moves (Some event) calls next next' past more within =
+    let moved = tick_on_moves (place calls) calls event next next' refl (past event refl) more within in
+    record { climbs_on = moved.0; within = moved.1 }
+
+-- a close of an event of the source, or of another
+close_moves : (mine its : Bool) (last_open : Option ℕ) (calls calls' : List Call) (next next' : ℕ) → ((event : ℕ) → last_open ≡ Some event → event < next) → next ≤ next'
+    → front mine calls next ≤ next → (mine ≡ true → calls' ≡ cond its (ticked last_open calls) calls)
+    → Moves mine calls next (cond its (closed_if mine calls last_open) []) mine calls' next'
+close_moves true true last_open calls calls' next next' past more within is =
+    subst (λ cs. Moves true calls next (closed_at calls last_open) true cs next') (sym (is refl)) (tick_moves last_open calls next next' past more within)
+close_moves true false last_open calls calls' next next' past more within is =
+    subst (λ cs. Moves true calls next [] true cs next') (sym (is refl)) (stay_moves true calls next next' more within)
+close_moves false true last_open calls calls' next next' past more within is = record { climbs_on = more; within = omega arith }
+close_moves false false last_open calls calls' next next' past more within is = record { climbs_on = more; within = omega arith }
+
+open_if : (shut : Bool) (last event : ℕ) → cond shut None (Some last) ≡ Some event → (shut ≡ false) × (last ≡ event)
+open_if true last event is = absurd (none-some event is)
+open_if false last event is = (refl, same_Some last event is)
+
+-- the open event of a source is before its next one
+pub open_before : (own : List Step) (event : ℕ) → open_event own ≡ Some event → event < next_in own
+open_before own event is =
+    let last_open = open_if (not (is_sending own) || is_over own || (performed own == 0)) (event_back own 0) event is in
+    let some : (performed own == 0) ≡ false = (or_parts (not (is_sending own) || is_over own) (performed own == 0) last_open.0).1 in
+    let count : performed own ≢ 0 = eqb-false (performed own) 0 some in
+    omega (arith, last_open.1, count)
+
+-- ---- step by step
+
+-- the sink is of this source
+abbrev pub mine_in : ℕ → ℕ → List Step → Bool
+mine_in s n made = is_of s (source_of n made)
+
+abbrev pub its_front : Airs → ℕ → ℕ → List Step → ℕ
+its_front airs s n made = front (mine_in s n made) (sink_calls airs n made) (next_in (steps_of_source s made))
+
+pub moves_by : (airs : Airs) (s n : ℕ) (step : Step) (earlier : List Step) (next' : ℕ) → s ≤ 1 → next_in (steps_of_source s earlier) ≤ next'
+    → its_front airs s n earlier ≤ next_in (steps_of_source s earlier)
+    → Moves (mine_in s n earlier) (sink_calls airs n earlier) (next_in (steps_of_source s earlier)) (closed_by airs s n earlier step)
+    (is_of s (source_after n step earlier (source_of n earlier))) (with_sink_call airs n step earlier (sink_calls airs n earlier)) next'
+moves_by airs s n (steps.Sink sink streams slots mtu) earlier next' least more within =
+    gone_moves s (sink == n) (sink_calls airs n earlier) (source_of n earlier) (next_in (steps_of_source s earlier)) next' more within
+moves_by airs s n (steps.Drop sink) earlier next' least more within =
+    gone_moves s (sink == n) (sink_calls airs n earlier) (source_of n earlier) (next_in (steps_of_source s earlier)) next' more within
+moves_by airs s n (steps.Tuned sink which) earlier next' least more within =
+    put_moves s (sink == n) (tuning_of (chosen_steps earlier) which) (chosen_of earlier) (sink_calls airs n earlier) (source_of n earlier) (next_in (steps_of_source s earlier)) next' more
+    (λ same. ap (λ t. next_in (steps_of_source t earlier)) (eqb-true (chosen_of earlier) s same)) within
+moves_by airs s n (steps.Hear sink back bis subevent) earlier next' least more within =
+    more_moves (mine_in s n earlier) (reaches sink n earlier)
+    (hear (event_back (chosen_steps earlier) back) bis subevent (pdu_in airs (chosen_steps earlier) (event_back (chosen_steps earlier) back) bis subevent) ∷ sink_calls airs n earlier)
+    (sink_calls airs n earlier) (next_in (steps_of_source s earlier)) next' more refl (λ tuning. refl) within
+moves_by airs s n (steps.Air sink lose) earlier next' least more within =
+    more_moves (mine_in s n earlier) (reaches sink n earlier) (heard_on_air airs (chosen_steps earlier) lose (spots_of (chosen_steps earlier)) (sink_calls airs n earlier))
+    (sink_calls airs n earlier) (next_in (steps_of_source s earlier)) next' more
+    (air_place airs (chosen_steps earlier) lose (spots_of (chosen_steps earlier)) (sink_calls airs n earlier))
+    (air_closes airs (chosen_steps earlier) lose (spots_of (chosen_steps earlier)) (sink_calls airs n earlier)) within
+moves_by airs s n (steps.Inject sink back bis subevent octets) earlier next' least more within =
+    more_moves (mine_in s n earlier) (reaches sink n earlier) (hear (event_back (chosen_steps earlier) back) bis subevent octets ∷ sink_calls airs n earlier)
+    (sink_calls airs n earlier) (next_in (steps_of_source s earlier)) next' more refl (λ tuning. refl) within
+moves_by airs s n steps.Event earlier next' least more within =
+    close_moves (mine_in s n earlier) (chosen_of earlier == s) (open_event (steps_of_source s earlier)) (sink_calls airs n earlier) _ (next_in (steps_of_source s earlier)) next'
+    (open_before (steps_of_source s earlier)) more within
+    (λ mine. event_ticks (chosen_of earlier) s (λ t. open_event (steps_of_source t earlier)) (sink_calls airs n earlier) (source_of n earlier) (is_its s (source_of n earlier) mine))
+moves_by airs s n steps.Stop earlier next' least more within =
+    close_moves (mine_in s n earlier) (chosen_of earlier == s) (open_event (steps_of_source s earlier)) (sink_calls airs n earlier) _ (next_in (steps_of_source s earlier)) next'
+    (open_before (steps_of_source s earlier)) more within
+    (λ mine. event_ticks (chosen_of earlier) s (λ t. open_event (steps_of_source t earlier)) (sink_calls airs n earlier) (source_of n earlier) (is_its s (source_of n earlier) mine))
+moves_by airs s n (steps.Terminate reason) earlier next' least more within =
+    close_moves (mine_in s n earlier) (chosen_of earlier == s) (open_event (steps_of_source s earlier)) (sink_calls airs n earlier) _ (next_in (steps_of_source s earlier)) next'
+    (open_before (steps_of_source s earlier)) more within
+    (λ mine. event_ticks (chosen_of earlier) s (λ t. open_event (steps_of_source t earlier)) (sink_calls airs n earlier) (source_of n earlier) (is_its s (source_of n earlier) mine))
+moves_by airs s n steps.End earlier next' least more within =
+    close_moves (mine_in s n earlier) true (open_event (steps_of_source s earlier)) (sink_calls airs n earlier) _ (next_in (steps_of_source s earlier)) next'
+    (open_before (steps_of_source s earlier)) more within
+    (λ mine. end_ticks s (λ t. open_event (steps_of_source t earlier)) (sink_calls airs n earlier) (source_of n earlier) least (is_its s (source_of n earlier) mine))
+moves_by airs s n _ earlier next' least more within =
+    stay_moves (mine_in s n earlier) (sink_calls airs n earlier) (next_in (steps_of_source s earlier)) next' more within
+
+-- ---- all events that a sink closed
+
+pub record Closing (airs : Airs) (s n : ℕ) (made : List Step) : Type 0 where
+  pub rise : Climb 0 (map event_of (closed_since airs s n made)) (its_front airs s n made)
+  pub within : its_front airs s n made ≤ next_in (steps_of_source s made)
+
+made_again : (again : Bool) (before now : List Closed) (low high : ℕ) → Climb 0 (map event_of before) low → Climb low (map event_of now) high
+    → Climb 0 (map event_of (cond again [] (before ++ now))) high
+made_again true before now low high first rest = omega arith
+made_again false before now low high first rest =
+    subst (λ xs. Climb 0 xs high) (sym (map_on event_of before now)) (climb_on 0 (map event_of before) low (map event_of now) high first rest)
+
+pub moved : (airs : Airs) (boxes s n : ℕ) (step : Step) (earlier : List Step) → Legal airs boxes (step ∷ earlier) → s ≤ 1 → its_front airs s n earlier ≤ next_in (steps_of_source s earlier)
+    → Moves (mine_in s n earlier) (sink_calls airs n earlier) (next_in (steps_of_source s earlier)) (closed_by airs s n earlier step)
+    (mine_in s n (step ∷ earlier)) (sink_calls airs n (step ∷ earlier)) (next_in (steps_of_source s (step ∷ earlier)))
+moved airs boxes s n step earlier legal least within =
+    moves_by airs s n step earlier (next_in (steps_of_source s (step ∷ earlier))) least (next_rises airs boxes s earlier step legal) within
+
+pub closing : (airs : Airs) (boxes s n : ℕ) (made : List Step) → Legal airs boxes made → s ≤ 1 → Closing airs s n made
+closing airs boxes s n [] legal least = record { rise = omega arith; within = omega arith }
+closing airs boxes s n (step ∷ earlier) legal least =
+    let before : Closing airs s n earlier = closing airs boxes s n earlier legal.0 least in
+    let now = moved airs boxes s n step earlier legal least before.within in
+    record {
+      rise = made_again (is_made n step) (closed_since airs s n earlier) (closed_by airs s n earlier step) (its_front airs s n earlier) (its_front airs s n (step ∷ earlier)) before.rise now.climbs_on;
+      within = now.within;
+    }
+
+pub closes_rise : (airs : Airs) (boxes s n : ℕ) (made : List Step) → Legal airs boxes made → s ≤ 1 → IsStrictlyIncreasing (map event_of (closed_since airs s n made))
+closes_rise airs boxes s n made legal least = climbs 0 (map event_of (closed_since airs s n made)) (its_front airs s n made) (closing airs boxes s n made legal least).rise

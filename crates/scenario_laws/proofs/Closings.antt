@@ -1,0 +1,211 @@
+-- Of all that is handed up by a step, what is of one sink and one source.
+use Rattle.std.proofs.Common.{ℕ, zero, suc, ◌≡◌, ◌≢◌, ◌<◌, ◌≤◌, ◌+◌, ◌==◌, ◌&&◌, cond, eqb, not, Bool, true, false, List, [], ◌∷◌, ◌++◌, map, Option, None, Some, refl, sym, ◌∙◌, ap, arith, inl, inr}
+use Rattle.std.specs.Prelude.{is_some}
+use Rattle.std.specs.List.{filter, flat_map, range_with_len}
+use Rattle.std.proofs.lemmas.Bool.{cases_eq, cond-false, cond-true, eq-eqb, ne_eqb, eqb-true, false≢true}
+use Rattle.std.proofs.lemmas.List.{append-nil, map-append}
+use Rattle.std.proofs.lemmas.List.Elements.{filter-append}
+use Rattle.std.proofs.lemmas.Option.{none-some}
+use Rattle.unit_outlets.specs.Handed.{Handed}
+use Rattle.group_sink.specs.Calls.{Tuning, Call, tune, hear, place}
+use Rattle.group_sink.specs.Handing.{handed_at, handed_by as ticked_by}
+use Rattle.scenario_text.specs.declared.step.Step.{Step}
+use Rattle.scenario_text.specs.declared.step.Step.TheVariants as steps
+use Rattle.transcript_text.specs.declared.refusal.Refusal.TheVariants.{NoSuchSink}
+use Rattle.scenario_history.specs.Steps.{chosen_of, chosen_steps, sinks_made, steps_of_source}
+use Rattle.scenario_history.specs.Source.{Airs, event_back, open_event, pdu_in}
+use Rattle.scenario_history.specs.Sinks.{heard_on_air, is_of, reaches, sink_calls, source_of, spots_of, ticked_if, tuning_of, with_sink_call}
+use Rattle.scenario_history.specs.Boxes.{SinkUnit, box_after, box_of, closing, closing_at, closing_by, closing_in, handed_by, sink_numbers}
+use Rattle.scenario_history.specs.Refusals.{no_sink}
+use Rattle.scenario_laws.specs.Laws.{of_sink}
+use Rattle.scenario_laws.proofs.Legals.{Legal, Permitted, fails_not, permitted}
+use Rattle.scenario_laws.proofs.Sources.{not_false}
+use Rattle.scenario_laws.proofs.Stays.{air_place, same_place, tick_if_place}
+
+-- ---- a sink that is on a group has a box
+
+gone_housed : (gone : Bool) (box : Option ℕ) (calls : List Call) → (box ≡ None → place calls ≡ None) → cond gone None box ≡ None → place (cond gone [] calls) ≡ None
+gone_housed true box calls before none = refl
+gone_housed false box calls before none = before none
+
+made_housed : (again : Bool) (count : ℕ) (box : Option ℕ) (calls : List Call) → (box ≡ None → place calls ≡ None) → cond again (Some count) box ≡ None → place (cond again [] calls) ≡ None
+made_housed true count box calls before none = absurd (none-some count (sym none))
+made_housed false count box calls before none = before none
+
+is_none : (box : Option ℕ) → is_some box ≡ true → box ≡ None → ⊥
+is_none None has none = false≢true has
+is_none (Some box) has none = none-some box (sym none)
+
+put_housed : (n sink : ℕ) (on : Tuning) (earlier : List Step) (calls : List Call) → is_some (box_of sink earlier) ≡ true → (box_of n earlier ≡ None → place calls ≡ None)
+    → box_of n earlier ≡ None → (put : Bool) → eqb sink n ≡ put → place (cond put (tune on ∷ calls) calls) ≡ None
+put_housed n sink on earlier calls has before none true is =
+    absurd (is_none (box_of sink earlier) has (ap (λ m. box_of m earlier) (eqb-true sink n is) ∙ none))
+put_housed n sink on earlier calls has before none false is = before none
+
+has_box : (sink : ℕ) (earlier : List Step) → no_sink sink earlier ≡ None → is_some (box_of sink earlier) ≡ true
+has_box sink earlier none = not_false (is_some (box_of sink earlier)) (fails_not (not (is_some (box_of sink earlier))) NoSuchSink none)
+
+housed_after : (airs : Airs) (boxes n : ℕ) (step : Step) (earlier : List Step) (calls : List Call) → Permitted airs boxes earlier step → (box_of n earlier ≡ None → place calls ≡ None)
+    → box_after n step earlier (box_of n earlier) ≡ None → place (with_sink_call airs n step earlier calls) ≡ None
+housed_after airs boxes n (steps.Sink sink streams slots mtu) earlier calls permits before none = made_housed (sink == n) (sinks_made earlier) (box_of n earlier) calls before none
+housed_after airs boxes n (steps.Drop sink) earlier calls permits before none = gone_housed (sink == n) (box_of n earlier) calls before none
+housed_after airs boxes n (steps.Tuned sink which) earlier calls permits before none =
+    put_housed n sink (tuning_of (chosen_steps earlier) which) earlier calls (has_box sink earlier permits.by_sinks) before none (sink == n) refl
+housed_after airs boxes n (steps.Hear sink back bis subevent) earlier calls permits before none =
+    same_place (reaches sink n earlier)
+    (hear (event_back (chosen_steps earlier) back) bis subevent (pdu_in airs (chosen_steps earlier) (event_back (chosen_steps earlier) back) bis subevent) ∷ calls) calls refl ∙ before none
+housed_after airs boxes n (steps.Air sink lose) earlier calls permits before none =
+    same_place (reaches sink n earlier) (heard_on_air airs (chosen_steps earlier) lose (spots_of (chosen_steps earlier)) calls) calls
+    (air_place airs (chosen_steps earlier) lose (spots_of (chosen_steps earlier)) calls) ∙ before none
+housed_after airs boxes n (steps.Inject sink back bis subevent octets) earlier calls permits before none =
+    same_place (reaches sink n earlier) (hear (event_back (chosen_steps earlier) back) bis subevent octets ∷ calls) calls refl ∙ before none
+housed_after airs boxes n steps.Event earlier calls permits before none =
+    tick_if_place (is_of (chosen_of earlier) (source_of n earlier)) (open_event (chosen_steps earlier)) calls ∙ before none
+housed_after airs boxes n steps.Stop earlier calls permits before none =
+    tick_if_place (is_of (chosen_of earlier) (source_of n earlier)) (open_event (chosen_steps earlier)) calls ∙ before none
+housed_after airs boxes n (steps.Terminate reason) earlier calls permits before none =
+    tick_if_place (is_of (chosen_of earlier) (source_of n earlier)) (open_event (chosen_steps earlier)) calls ∙ before none
+housed_after airs boxes n steps.End earlier calls permits before none =
+    tick_if_place (is_of 1 (source_of n earlier)) (open_event (steps_of_source 1 earlier)) (ticked_if (is_of 0 (source_of n earlier)) (open_event (steps_of_source 0 earlier)) calls)
+    ∙ tick_if_place (is_of 0 (source_of n earlier)) (open_event (steps_of_source 0 earlier)) calls ∙ before none
+housed_after airs boxes n _ earlier calls permits before none = before none
+
+housed : (airs : Airs) (boxes n : ℕ) (made : List Step) → Legal airs boxes made → box_of n made ≡ None → place (sink_calls airs n made) ≡ None
+housed airs boxes n [] legal none = refl
+housed airs boxes n (step ∷ earlier) legal none =
+    housed_after airs boxes n step earlier (sink_calls airs n earlier) (permitted airs boxes earlier step legal.1) (housed airs boxes n earlier legal.0) none
+
+-- ---- of what is handed up as an event is closed, what is of one sink and one source
+
+pub of_sink_on : (s n : ℕ) (xs ys : List SinkUnit) → of_sink s n (xs ++ ys) ≡ of_sink s n xs ++ of_sink s n ys
+of_sink_on s n xs ys =
+    ap (map (λ (unit : SinkUnit). unit.unit)) (filter-append (λ (unit : SinkUnit). eqb unit.source s && eqb unit.sink n) xs ys)
+    ∙ map-append (λ (unit : SinkUnit). unit.unit) (filter (λ (unit : SinkUnit). eqb unit.source s && eqb unit.sink n) xs) (filter (λ (unit : SinkUnit). eqb unit.source s && eqb unit.sink n) ys)
+
+of_sinks : (s n : ℕ) (f : ℕ → List SinkUnit) (ms : List ℕ) → of_sink s n (flat_map f ms) ≡ flat_map (λ m. of_sink s n (f m)) ms
+of_sinks s n f [] = refl
+of_sinks s n f (m ∷ ms) = of_sink_on s n (f m) (flat_map f ms) ∙ ap (λ ys. of_sink s n (f m) ++ ys) (of_sinks s n f ms)
+
+own_units : (s n box : ℕ) (units : List Handed) → of_sink s n (map (λ unit. record { source = s; sink = n; box = box; unit = unit }) units) ≡ units
+own_units s n box [] = refl
+own_units s n box (unit ∷ units) = rw (eq-eqb s s refl, eq-eqb n n refl) (ap (λ us. unit ∷ us) (own_units s n box units))
+
+other_units : (s n c m box : ℕ) (units : List Handed) → (eqb c s && eqb m n) ≡ false → of_sink s n (map (λ unit. record { source = c; sink = m; box = box; unit = unit }) units) ≡ []
+other_units s n c m box [] apart = refl
+other_units s n c m box (unit ∷ units) apart = rw apart (other_units s n c m box units apart)
+
+-- the units of an event, where one is closed
+abbrev pub handed_open : List Call → Option ℕ → List Handed
+handed_open calls None = []
+handed_open calls (Some event) = handed_at calls event
+
+own_closing : (s n event : ℕ) (calls : List Call) (box : Option ℕ) (mine : Bool) → (box ≡ None → place calls ≡ None)
+    → of_sink s n (cond mine (closing_in s event n calls box) []) ≡ cond mine (handed_at calls event) []
+own_closing s n event calls box false before = refl
+own_closing s n event calls None true before = sym (ap (ticked_by event calls) (before refl))
+own_closing s n event calls (Some box) true before = own_units s n box (handed_at calls event)
+
+other_closing : (s n c m event : ℕ) (calls : List Call) (box : Option ℕ) (its : Bool) → (eqb c s && eqb m n) ≡ false
+    → of_sink s n (cond its (closing_in c event m calls box) []) ≡ []
+other_closing s n c m event calls box false apart = refl
+other_closing s n c m event calls None true apart = refl
+other_closing s n c m event calls (Some box) true apart = other_units s n c m box (handed_at calls event) apart
+
+none_of : (g : ℕ → List Handed) (start count : ℕ) → ((m : ℕ) → start ≤ m → g m ≡ []) → flat_map g (range_with_len start count) ≡ []
+none_of g start zero none = refl
+none_of g start (suc count) none =
+    ap (λ xs. xs ++ flat_map g (range_with_len (start + 1) count)) (none start (omega arith))
+    ∙ none_of g (start + 1) count (λ m least. none m (omega (arith, least)))
+
+one_of : (g : ℕ → List Handed) (n start count : ℕ) → start ≤ n → n < start + count → ((m : ℕ) → m ≢ n → g m ≡ []) → flat_map g (range_with_len start count) ≡ g n
+one_of g n start zero least below others = absurd (omega (arith, least, below))
+one_of g n start (suc count) least below others = elim (cases_eq start n) [
+  | inl same ↦
+      ap (λ xs. g start ++ xs) (none_of g (start + 1) count (λ m past. others m (λ is. omega (arith, is, past, same))))
+      ∙ append-nil (g start) ∙ ap g same
+  | inr apart ↦
+      ap (λ xs. xs ++ flat_map g (range_with_len (start + 1) count)) (others start apart)
+      ∙ one_of g n (start + 1) count (omega (arith, least, apart)) (omega (arith, below)) others
+]
+
+and_false : (a b : Bool) → b ≡ false → (a && b) ≡ false
+and_false true b is = is
+and_false false b is = refl
+
+and_false_first : (a b : Bool) → a ≡ false → (a && b) ≡ false
+and_false_first true b is = absurd (false≢true (sym is))
+and_false_first false b is = refl
+
+sink_closing : (airs : Airs) (boxes s n : ℕ) (made : List Step) (event : ℕ) → Legal airs boxes made → n ≤ 7
+    → of_sink s n (closing_at airs s made (Some event)) ≡ cond (is_of s (source_of n made)) (handed_at (sink_calls airs n made) event) []
+unfolding sink_numbers
+sink_closing airs boxes s n made event legal within =
+    of_sinks s n (λ m. closing_by s event m (sink_calls airs m made) (source_of m made) (box_of m made)) (range_with_len 0 8)
+    ∙ one_of (λ m. of_sink s n (closing_by s event m (sink_calls airs m made) (source_of m made) (box_of m made))) n 0 8 (omega arith) (omega (arith, within))
+    (λ m apart. other_closing s n s m event (sink_calls airs m made) (box_of m made) (is_of s (source_of m made)) (and_false (eqb s s) (eqb m n) (ne_eqb m n apart)))
+    ∙ own_closing s n event (sink_calls airs n made) (box_of n made) (is_of s (source_of n made)) (housed airs boxes n made legal)
+
+unfold_other : (airs : Airs) (s c n : ℕ) (made : List Step) (event : ℕ) → c ≢ s → of_sink s n (closing_at airs c made (Some event)) ≡ []
+unfolding sink_numbers
+unfold_other airs s c n made event apart =
+    of_sinks s n (λ m. closing_by c event m (sink_calls airs m made) (source_of m made) (box_of m made)) (range_with_len 0 8)
+    ∙ none_of (λ m. of_sink s n (closing_by c event m (sink_calls airs m made) (source_of m made) (box_of m made))) 0 8
+    (λ m least. other_closing s n c m event (sink_calls airs m made) (box_of m made) (is_of c (source_of m made)) (and_false_first (eqb c s) (eqb m n) (ne_eqb c s apart)))
+
+other_source : (airs : Airs) (s c n : ℕ) (made : List Step) (last_open : Option ℕ) → c ≢ s → of_sink s n (closing_at airs c made last_open) ≡ []
+other_source airs s c n made None apart = refl
+other_source airs s c n made (Some event) apart = unfold_other airs s c n made event apart
+
+-- ---- what a step hands up of a sink and a source
+
+abbrev pub shown_if : Bool → List Call → Option ℕ → List Handed
+shown_if mine calls last_open = cond mine (handed_open calls last_open) []
+
+abbrev pub shown_with : Airs → ℕ → ℕ → List Step → List Handed
+shown_with airs s n earlier = shown_if (is_of s (source_of n earlier)) (sink_calls airs n earlier) (open_event (steps_of_source s earlier))
+
+abbrev pub shown_by : Airs → ℕ → ℕ → List Step → Step → List Handed
+shown_by airs s n earlier steps.Event = cond (chosen_of earlier == s) (shown_with airs s n earlier) []
+shown_by airs s n earlier steps.Stop = cond (chosen_of earlier == s) (shown_with airs s n earlier) []
+shown_by airs s n earlier (steps.Terminate reason) = cond (chosen_of earlier == s) (shown_with airs s n earlier) []
+shown_by airs s n earlier steps.End = shown_with airs s n earlier
+shown_by airs s n earlier _ = []
+
+cond_same : (units : List Handed) (b : Bool) → cond b units units ≡ units
+cond_same units true = refl
+cond_same units false = refl
+
+closing_open : (airs : Airs) (boxes s n : ℕ) (made : List Step) (last_open : Option ℕ) → Legal airs boxes made → n ≤ 7
+    → of_sink s n (closing_at airs s made last_open) ≡ shown_if (is_of s (source_of n made)) (sink_calls airs n made) last_open
+closing_open airs boxes s n made None legal within = sym (cond_same [] (is_of s (source_of n made)))
+closing_open airs boxes s n made (Some event) legal within = sink_closing airs boxes s n made event legal within
+
+pub closing_shown : (airs : Airs) (boxes s c n : ℕ) (made : List Step) → Legal airs boxes made → n ≤ 7
+    → of_sink s n (closing airs c made) ≡ cond (c == s) (shown_with airs s n made) []
+closing_shown airs boxes s c n made legal within = elim (cases_eq c s) [
+  | inl same ↦
+      ap (λ t. of_sink s n (closing airs t made)) same
+      ∙ closing_open airs boxes s n made (open_event (steps_of_source s made)) legal within
+      ∙ sym (cond-true (c == s) (shown_with airs s n made) [] (eq-eqb c s same))
+  | inr apart ↦
+      other_source airs s c n made (open_event (steps_of_source c made)) apart
+      ∙ sym (cond-false (c == s) (shown_with airs s n made) [] (ne_eqb c s apart))
+]
+
+-- one of the two sources is this one
+both_shown : (s : ℕ) (shown : List Handed) → s ≤ 1 → cond (0 == s) shown [] ++ cond (1 == s) shown [] ≡ shown
+both_shown zero shown least = append-nil shown
+both_shown (suc zero) shown least = refl
+both_shown (suc (suc s)) shown least = absurd (omega (arith, least))
+
+pub step_shown : (airs : Airs) (boxes s n : ℕ) (step : Step) (earlier : List Step) → Legal airs boxes earlier → s ≤ 1 → n ≤ 7
+    → of_sink s n (handed_by airs earlier step) ≡ shown_by airs s n earlier step
+step_shown airs boxes s n steps.Event earlier legal least within = closing_shown airs boxes s (chosen_of earlier) n earlier legal within
+step_shown airs boxes s n steps.Stop earlier legal least within = closing_shown airs boxes s (chosen_of earlier) n earlier legal within
+step_shown airs boxes s n (steps.Terminate reason) earlier legal least within = closing_shown airs boxes s (chosen_of earlier) n earlier legal within
+step_shown airs boxes s n steps.End earlier legal least within =
+    of_sink_on s n (closing airs 0 earlier) (closing airs 1 earlier)
+    ∙ ap (λ us. us ++ of_sink s n (closing airs 1 earlier)) (closing_shown airs boxes s 0 n earlier legal within)
+    ∙ ap (λ us. cond (0 == s) (shown_with airs s n earlier) [] ++ us) (closing_shown airs boxes s 1 n earlier legal within)
+    ∙ both_shown s (shown_with airs s n earlier) least
+step_shown airs boxes s n _ earlier legal least within = refl

@@ -1,0 +1,61 @@
+-- What is the source's own is read as what was laid.
+use Rattle.std.proofs.Common.{ℕ, ◌≡◌, ◌+◌, cond, eqb, ltb, Bool, true, false, List, [], ◌∷◌, ◌++◌, Option, None, Some, Result, Ok, Err, refl, sym, ◌∙◌, ap, subst}
+use Rattle.std.specs.List.{AllByRecursion}
+use Rattle.std.proofs.lemmas.Option.{none-some, same_Some}
+use Rattle.iso_pdu.specs.declared.fault.PduFault.{PduFault}
+use Rattle.iso_pdu.specs.Layout.{Content, PduIs, fragment, end, framed}
+use Rattle.iso_pdu.specs.Reading.{read_of}
+use Rattle.iso_pdu.specs.Spelling.{pdu}
+use Rattle.iso_pdu.proofs.Citable.{pdu-is, read_of-layout, read_of-spelled}
+use Rattle.isoal_base.specs.Hearing.{read_as, taken_of}
+use Rattle.isoal_base.specs.Stays as stays
+use Rattle.isoal_base.specs.Stays.{Stay}
+use Rattle.isoal_base.proofs.Citable.{heard_first}
+use Rattle.isoal_framed.specs.Struck.{FromSource as FramedFromSource, Sent, parts_at}
+use Rattle.isoal_framed.specs.Tokens.{segmented}
+use Rattle.isoal_unframed.specs.Slot.{fragments_of, laid}
+use Rattle.isoal_unframed.specs.Struck.{Slots, air_at, FromSource}
+use Rattle.isoal_unframed.specs.Units.{unframed}
+use Rattle.scenario_laws.proofs.Hears.{Own}
+
+laid_unframed : (a b : Bool) (x y z : List ℕ) → unframed (cond a (fragment x) (cond b (end y) (fragment z))) ≡ Some (cond a (fragment x) (cond b (end y) (fragment z)))
+laid_unframed true b x y z = refl
+laid_unframed false true x y z = refl
+laid_unframed false false x y z = refl
+
+slot_unframed : (max_pdu : ℕ) (slot : Option (List ℕ)) (r : ℕ) → unframed (laid max_pdu slot r) ≡ Some (laid max_pdu slot r)
+slot_unframed max_pdu None r = refl
+slot_unframed max_pdu (Some unit) r = laid_unframed (ltb (r + 1) (fragments_of max_pdu unit)) (eqb (r + 1) (fragments_of max_pdu unit)) _ _ _
+
+taken_cases : {A : Type 0} (takes : Content → Option A) (r : Result Content PduFault) (part : A) → taken_of takes r ≡ Some part → (got : Content) × (r ≡ Ok got) × (takes got ≡ Some part)
+taken_cases takes (Ok got) part is = (got, refl, is)
+taken_cases takes (Err fault) part is = absurd (none-some part is)
+
+same_ok : (a b : Content) → (let ok : Content → Result Content PduFault = λ c. Ok c in ok a ≡ ok b) → a ≡ b
+same_ok a b e = cc
+
+-- what is read of the octets of a PDU is what is taken of the PDU
+read_own : {A : Type 0} (takes : Content → Option A) (max_pdu : ℕ) (sent : Content) (part : A) (octets : List ℕ) → octets ≡ pdu sent
+    → read_as takes max_pdu octets ≡ Some part → takes sent ≡ Some part
+read_own takes max_pdu sent part octets is reads =
+    let got = taken_cases takes (read_of max_pdu octets) part reads in
+    let long = (read_of-spelled max_pdu got.0 octets got.1).1 in
+    let again : read_of max_pdu octets ≡ Ok sent = read_of-layout max_pdu sent octets (subst (PduIs sent) (sym is) (pdu-is sent), long) in
+    ap takes (same_ok sent got.0 (sym again ∙ got.1)) ∙ got.2
+
+all_at : {A : Type 0} (P : A → Type 0) (later : List A) (x : A) (earlier : List A) → AllByRecursion P (later ++ x ∷ earlier) → P x
+all_at P [] x earlier all = all.0
+all_at P (y ∷ later) x earlier all = all_at P later x earlier all.1
+
+pub from_source : (stay : Stay) (slots : Slots) (calls : List stays.Call) → AllByRecursion (Own (air_at stay slots)) calls → FromSource stay slots calls
+from_source stay slots calls all later number octets earlier content is reads =
+    same_Some content (air_at stay slots number) (sym (read_own unframed stay.info.max_pdu (air_at stay slots number) content octets
+    (all_at (Own (air_at stay slots)) later (stays.hear number octets) earlier (subst (AllByRecursion (Own (air_at stay slots))) is all)) reads)
+    ∙ slot_unframed stay.info.max_pdu _ _)
+
+pub framed_from_source : (stay : Stay) (units : List Sent) (calls : List stays.Call) → AllByRecursion (Own (λ number. framed (parts_at units number))) calls → FramedFromSource stay units calls
+framed_from_source stay units calls all number parts is =
+    let first = heard_first (read_as segmented stay.info.max_pdu) stay number parts calls is in
+    sym (same_Some (parts_at units number) parts (read_own segmented stay.info.max_pdu (framed (parts_at units number)) parts first.octets
+    (all_at (Own (λ n. framed (parts_at units n))) first.later (stays.hear number first.octets) first.earlier
+    (subst (AllByRecursion (Own (λ n. framed (parts_at units n)))) first.is_split all)) first.enters.reads))

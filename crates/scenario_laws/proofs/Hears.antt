@@ -1,0 +1,242 @@
+-- Each PDU that a sink hears on a stream of its group is the source's own at its payload number, where none is injected.
+use Rattle.std.proofs.Common.{ℕ, zero, suc, ◌≡◌, ◌≢◌, ◌<◌, ◌≤◌, ◌+◌, ◌*◌, ◌/◌, ◌%◌, ◌^◌, ◌&&◌, ◌||◌, ◌==◌, cond, ltb, leb}
+use Rattle.std.proofs.Common.{Bool, true, false, List, [], ◌∷◌, Option, None, Some, refl, sym, ◌∙◌, ap, subst, arith, inl, inr}
+use Rattle.std.specs.List.{AllByRecursion}
+use Rattle.std.proofs.Math.Nat.{div-lt_iff_lt-mul}
+use Rattle.std.proofs.lemmas.Bool.{and_parts, eqb-true, eqb-false, ltb-false, leb-false, false≢true}
+use Rattle.std.proofs.lemmas.Nat.{mod_below}
+use Rattle.std.proofs.lemmas.Option.{none-some}
+use Rattle.big_info.specs.Bounds.{Bounds}
+use Rattle.iso_pdu.specs.Layout.{Content}
+use Rattle.iso_pdu.specs.Spelling.{pdu}
+use Rattle.isoal_base.specs.Stays as stays
+use Rattle.isoal_base.specs.Stays.{Stay, opened}
+use Rattle.isoal_unframed.specs.Slot.{laid}
+use Rattle.radio_schedule.specs.PayloadNumber.{payload_number}
+use Rattle.radio_schedule.specs.declared.air.AirFault.{AirFault}
+use Rattle.source_machine.specs.Airs.{AreAirs}
+use Rattle.source_machine.specs.Calls.{Setup, Call as SourceCall, events, next_of}
+use Rattle.source_machine.specs.Faults.{air_fault}
+use Rattle.group_sink.specs.Calls.{Tuning, Call, tune, hear}
+use Rattle.group_sink.specs.Streams.{stay_on, stream_calls, with_hear}
+use Rattle.scenario_text.specs.declared.step.Step.{Step}
+use Rattle.scenario_text.specs.declared.step.Step.TheVariants as steps
+use Rattle.transcript_text.specs.declared.refusal.Refusal.TheVariants.{NotOnAir}
+use Rattle.scenario_history.specs.Steps.{chosen_of, chosen_steps, steps_of_source}
+use Rattle.scenario_history.specs.Source.{Airs, setup_of, source_calls, performed, event_back, is_started, pdu_in, open_event}
+use Rattle.scenario_history.specs.Airs.{MeetAirs}
+use Rattle.scenario_history.specs.Sinks.{spot_at, is_lost, is_of, hear_at, unless_lost, heard_on_air, reaches, sink_calls, source_of, spots_of, ticked, ticked_if, tuning_of, with_sink_call}
+use Rattle.scenario_history.specs.Refusals.{air_refusal, no_place}
+use Rattle.scenario_laws.specs.Laws.{injected_since, is_injected, is_tuned}
+use Rattle.scenario_laws.proofs.Legals.{Legal, Permitted, fails_not, maps_none, permitted}
+use Rattle.scenario_laws.proofs.Sources.{Lawful, are_accepted, bounds_in, group_in, lawful, settled}
+use Rattle.scenario_laws.proofs.Wholes.{Within, within_before}
+use Rattle.scenario_laws.proofs.Stays.{IsOn, OnSource, PutBy, on_before, on_source}
+
+-- each PDU of a stream that these steps of a source sent is the source's own, by what it lays at each number
+abbrev pub SendsOwn : Airs → (ℕ → Content) → Tuning → ℕ → List Step → Type 0
+SendsOwn airs laid tuning bis own = (event : ℕ) → (subevent : ℕ) → (setup_of own).first ≤ event → event < next_of (setup_of own) (source_calls own)
+    → 1 ≤ bis → bis ≤ (setup_of own).info.num_bis → subevent < (setup_of own).info.nse
+    → pdu_in airs own event bis subevent ≡ pdu (laid (payload_number tuning.info event subevent))
+
+-- the airs of a source that was started meet their relation
+pub its_airs : (airs : Airs) → MeetAirs airs → (own : List Step) → Lawful airs own → is_started own ≡ true → AreAirs (setup_of own) (source_calls own) (airs (setup_of own) (source_calls own))
+its_airs airs meets own legal started =
+    meets.meet (group_in own (settled airs own legal) started) (setup_of own) (source_calls own) refl (are_accepted airs own legal)
+
+-- ---- what a stay takes
+
+-- the call is no hear, or hears the source's own PDU, by what the source lays at each number
+abbrev pub Own : (ℕ → Content) → stays.Call → Type 0
+Own laid (stays.hear number octets) = octets ≡ pdu (laid number)
+Own laid stays.close = Unit {0}
+
+one_hear : (laid : ℕ → Content) (mine fits : Bool) (number : ℕ) (octets : List ℕ) (rest : List stays.Call) → AllByRecursion (Own laid) rest
+    → (mine ≡ true → octets ≡ pdu (laid number)) → AllByRecursion (Own laid) (cond mine (with_hear (cond fits (Some number) None) octets rest) rest)
+one_hear laid false fits number octets rest all own = all
+one_hear laid true false number octets rest all own = all
+one_hear laid true true number octets rest all own = (own refl, all)
+
+one_close : (laid : ℕ → Content) (over : Bool) (rest : List stays.Call) → AllByRecursion (Own laid) rest → AllByRecursion (Own laid) (cond over (stays.close ∷ rest) rest)
+one_close laid true rest all = (tt, all)
+one_close laid false rest all = all
+
+abbrev pub AllOwn : (ℕ → Content) → Tuning → ℕ → List Call → Type 0
+AllOwn laid tuning bis calls = AllByRecursion (Own laid) (stream_calls (stay_on tuning bis) calls)
+
+gone_own : (laid : ℕ → Content) (tuning : Tuning) (bis : ℕ) (gone : Bool) (calls : List Call)
+    → AllOwn laid tuning bis calls → AllOwn laid tuning bis (cond gone [] calls)
+gone_own laid tuning bis true calls all = tt
+gone_own laid tuning bis false calls all = all
+
+put_own : (laid : ℕ → Content) (tuning : Tuning) (bis : ℕ) (put injected : Bool) (on : Tuning) (calls : List Call)
+    → cond put false (false || injected) ≡ false → (injected ≡ false → AllOwn laid tuning bis calls) → AllOwn laid tuning bis (cond put (tune on ∷ calls) calls)
+put_own laid tuning bis true injected on calls clean before = tt
+put_own laid tuning bis false injected on calls clean before = before clean
+
+hear_own : (laid : ℕ → Content) (tuning : Tuning) (bis : ℕ) (event stream subevent : ℕ) (octets : List ℕ) (calls : List Call)
+    → AllOwn laid tuning bis calls
+    → (stream ≡ bis → octets ≡ pdu (laid (payload_number tuning.info event subevent)))
+    → AllOwn laid tuning bis (hear event stream subevent octets ∷ calls)
+hear_own laid tuning bis event stream subevent octets calls all own =
+    one_hear laid (stream == bis) (ltb subevent tuning.info.nse && ltb (payload_number tuning.info event subevent) (2 ^ 39))
+    (payload_number tuning.info event subevent) octets (stream_calls (stay_on tuning bis) calls) all (λ mine. own (eqb-true stream bis mine))
+
+mine_own : (laid : ℕ → Content) (tuning : Tuning) (bis : ℕ) (mine : Bool) (more calls : List Call)
+    → AllOwn laid tuning bis calls → (mine ≡ true → AllOwn laid tuning bis more) → AllOwn laid tuning bis (cond mine more calls)
+mine_own laid tuning bis true more calls all all_more = all_more refl
+mine_own laid tuning bis false more calls all all_more = all
+
+unless_own : (laid : ℕ → Content) (tuning : Tuning) (bis : ℕ) (gone : Bool) (call : Call) (calls : List Call)
+    → AllOwn laid tuning bis calls → AllOwn laid tuning bis (call ∷ calls) → AllOwn laid tuning bis (unless_lost gone call calls)
+unless_own laid tuning bis true call calls all all_more = all
+unless_own laid tuning bis false call calls all all_more = all_more
+
+-- a PDU of an event that was performed, of a stream and a subevent of the group
+place_own : (airs : Airs) (laid : ℕ → Content) (tuning : Tuning) (own : List Step) (bis back stream subevent : ℕ) → SendsOwn airs laid tuning bis own
+    → 1 ≤ bis → stream ≤ (setup_of own).info.num_bis → subevent < (setup_of own).info.nse → back < performed own → stream ≡ bis
+    → pdu_in airs own (event_back own back) stream subevent
+    ≡ pdu (laid (payload_number tuning.info (event_back own back) subevent))
+place_own airs laid tuning own bis back stream subevent sent least within below near mine =
+    ap (λ b. pdu_in airs own (event_back own back) b subevent) mine
+    ∙ sent (event_back own back) subevent (omega arith) (omega arith) least (omega (arith, within, mine)) below
+
+air_own : (airs : Airs) (laid : ℕ → Content) (tuning : Tuning) (own : List Step) (bis lose count : ℕ) (calls : List Call) → SendsOwn airs laid tuning bis own
+    → 1 ≤ bis → 1 ≤ (setup_of own).info.nse → 0 < performed own → count ≤ (setup_of own).info.num_bis * (setup_of own).info.nse
+    → AllOwn laid tuning bis calls → AllOwn laid tuning bis (heard_on_air airs own lose count calls)
+air_own airs laid tuning own bis lose zero calls sent least some near within all = all
+air_own airs laid tuning own bis lose (suc i) calls sent least some near within all =
+    let rest : AllOwn laid tuning bis (heard_on_air airs own lose i calls) =
+    air_own airs laid tuning own bis lose i calls sent least some near (omega (arith, within)) all in
+    let row : i / (setup_of own).info.nse < (setup_of own).info.num_bis = (div-lt_iff_lt-mul (omega (arith, some))).1 (omega (arith, within)) in
+    unless_own laid tuning bis (is_lost (setup_of own).info (event_back own 0) lose (spot_at (setup_of own).info i))
+    (hear_at airs own (event_back own 0) (spot_at (setup_of own).info i)) (heard_on_air airs own lose i calls) rest
+    (hear_own laid tuning bis (event_back own 0) (i / (setup_of own).info.nse + 1) (i % (setup_of own).info.nse) _ (heard_on_air airs own lose i calls) rest
+    (place_own airs laid tuning own bis 0 (i / (setup_of own).info.nse + 1) (i % (setup_of own).info.nse) sent least (omega (arith, row))
+    (mod_below i (setup_of own).info.nse (omega (arith, some))) near))
+
+tick_own : (laid : ℕ → Content) (tuning : Tuning) (bis : ℕ) (last_open : Option ℕ) (calls : List Call)
+    → AllOwn laid tuning bis calls → AllOwn laid tuning bis (ticked last_open calls)
+tick_own laid tuning bis None calls all = all
+tick_own laid tuning bis (Some event) calls all =
+    one_close laid (leb (opened (stay_on tuning bis) (stream_calls (stay_on tuning bis) calls)) event)
+    (stream_calls (stay_on tuning bis) calls) all
+
+tick_if_own : (laid : ℕ → Content) (tuning : Tuning) (bis : ℕ) (mine : Bool) (last_open : Option ℕ) (calls : List Call)
+    → AllOwn laid tuning bis calls → AllOwn laid tuning bis (ticked_if mine last_open calls)
+tick_if_own laid tuning bis true last_open calls all = tick_own laid tuning bis last_open calls all
+tick_if_own laid tuning bis false last_open calls all = all
+
+inject_own : (laid : ℕ → Content) (tuning : Tuning) (bis : ℕ) (mine its injected : Bool) (call : Call) (calls : List Call)
+    → (mine || injected) ≡ false → (injected ≡ false → AllOwn laid tuning bis calls) → AllOwn laid tuning bis (cond (mine && its) (call ∷ calls) calls)
+inject_own laid tuning bis true its injected call calls clean before = absurd (false≢true (sym clean))
+inject_own laid tuning bis false its injected call calls clean before = before clean
+
+-- ---- a place on the air that isn't refused
+
+pub record OnAir (own : List Step) (back bis subevent : ℕ) : Type 0 where
+  pub stream : bis ≤ (setup_of own).info.num_bis
+  pub subevent_below : subevent < (setup_of own).info.nse
+  pub performed_then : back < performed own
+
+on_air_tests : (a b c : Bool) (x y z : AirFault) → cond a (Some x) (cond b (Some y) (cond c (Some z) None)) ≡ None → (a ≡ false) × (b ≡ false) × (c ≡ false)
+on_air_tests true b c x y z none = absurd (none-some x (sym none))
+on_air_tests false true c x y z none = absurd (none-some y (sym none))
+on_air_tests false false true x y z none = absurd (none-some z (sym none))
+on_air_tests false false false x y z none = (refl, refl, refl)
+
+pub on_air : (own : List Step) (back bis subevent : ℕ) → no_place own back bis subevent ≡ None → OnAir own back bis subevent
+on_air own back bis subevent none =
+    let fault : air_fault (setup_of own) (source_calls own) back bis subevent ≡ None = maps_none air_refusal _ none in
+    let tests = on_air_tests (ltb (setup_of own).info.num_bis bis) (leb (setup_of own).info.nse subevent) (leb (events (source_calls own)) back) _ _ _ fault in
+    record {
+      stream = ltb-false (setup_of own).info.num_bis bis tests.0;
+      subevent_below = leb-false (setup_of own).info.nse subevent tests.1;
+      performed_then = leb-false (events (source_calls own)) back tests.2;
+    }
+
+-- ---- step by step
+
+-- what reaches a sink is of its source
+reached : (sink n s c : ℕ) (source : Option ℕ) → ((sink == n) && is_of c source) ≡ true → source ≡ Some s → s ≡ c
+reached sink n s c source is there =
+    eqb-true s c (ap (is_of c) (sym there) ∙ (and_parts (sink == n) (is_of c source) is).1)
+
+-- what is known before a step of a sink on a group of the source
+pub record Ready (airs : Airs) (laid : ℕ → Content) (tuning : Tuning) (bis : ℕ) (own : List Step) (calls : List Call) : Type 0 where
+  pub all : AllOwn laid tuning bis calls
+  pub sent : SendsOwn airs laid tuning bis own
+  pub bounds : Bounds (setup_of own).info
+
+sent_by : (airs : Airs) (laid : ℕ → Content) (tuning : Tuning) (bis s n sink : ℕ) (earlier : List Step) (calls : List Call) → source_of n earlier ≡ Some s
+    → reaches sink n earlier ≡ true → Ready airs laid tuning bis (steps_of_source s earlier) calls → Ready airs laid tuning bis (chosen_steps earlier) calls
+sent_by airs laid tuning bis s n sink earlier calls there mine ready =
+    subst (λ t. Ready airs laid tuning bis (steps_of_source t earlier) calls) (reached sink n s (chosen_of earlier) (source_of n earlier) mine there) ready
+
+own_after : (airs : Airs) (laid : ℕ → Content) (tuning : Tuning) (boxes s n bis : ℕ) (step : Step) (earlier : List Step) (calls : List Call) (injected : Bool)
+    → Permitted airs boxes earlier step → 1 ≤ bis → source_of n earlier ≡ Some s → cond (is_tuned n step) false (is_injected n step || injected) ≡ false
+    → (injected ≡ false → Ready airs laid tuning bis (steps_of_source s earlier) calls)
+    → AllOwn laid tuning bis (with_sink_call airs n step earlier calls)
+own_after airs laid tuning boxes s n bis (steps.Sink sink streams slots mtu) earlier calls injected permits least there clean ready =
+    gone_own laid tuning bis (sink == n) calls (ready clean).all
+own_after airs laid tuning boxes s n bis (steps.Drop sink) earlier calls injected permits least there clean ready =
+    gone_own laid tuning bis (sink == n) calls (ready clean).all
+own_after airs laid tuning boxes s n bis (steps.Tuned sink which) earlier calls injected permits least there clean ready =
+    put_own laid tuning bis (sink == n) injected (tuning_of (chosen_steps earlier) which) calls clean (λ none. (ready none).all)
+own_after airs laid tuning boxes s n bis (steps.Hear sink back stream subevent) earlier calls injected permits least there clean ready =
+    let at : OnAir (chosen_steps earlier) back stream subevent = on_air (chosen_steps earlier) back stream subevent permits.by_source in
+    mine_own laid tuning bis (reaches sink n earlier) _ calls (ready clean).all
+    (λ mine. let now = sent_by airs laid tuning bis s n sink earlier calls there mine (ready clean) in
+    hear_own laid tuning bis (event_back (chosen_steps earlier) back) stream subevent _ calls now.all
+    (place_own airs laid tuning (chosen_steps earlier) bis back stream subevent now.sent least at.stream at.subevent_below at.performed_then))
+own_after airs laid tuning boxes s n bis (steps.Air sink lose) earlier calls injected permits least there clean ready =
+    let some : (performed (chosen_steps earlier) == 0) ≡ false = fails_not (performed (chosen_steps earlier) == 0) NotOnAir permits.by_source in
+    let near : performed (chosen_steps earlier) ≢ 0 = eqb-false (performed (chosen_steps earlier)) 0 some in
+    mine_own laid tuning bis (reaches sink n earlier) (heard_on_air airs (chosen_steps earlier) lose (spots_of (chosen_steps earlier)) calls) calls (ready clean).all
+    (λ mine. let now = sent_by airs laid tuning bis s n sink earlier calls there mine (ready clean) in
+    air_own airs laid tuning (chosen_steps earlier) bis lose (spots_of (chosen_steps earlier)) calls now.sent least now.bounds.nse (omega (arith, near)) (omega arith) now.all)
+own_after airs laid tuning boxes s n bis (steps.Inject sink back stream subevent octets) earlier calls injected permits least there clean ready =
+    inject_own laid tuning bis (sink == n) (is_of (chosen_of earlier) (source_of n earlier)) injected (hear (event_back (chosen_steps earlier) back) stream subevent octets) calls clean
+    (λ none. (ready none).all)
+own_after airs laid tuning boxes s n bis steps.Event earlier calls injected permits least there clean ready =
+    tick_if_own laid tuning bis (is_of (chosen_of earlier) (source_of n earlier)) (open_event (chosen_steps earlier)) calls (ready clean).all
+own_after airs laid tuning boxes s n bis steps.Stop earlier calls injected permits least there clean ready =
+    tick_if_own laid tuning bis (is_of (chosen_of earlier) (source_of n earlier)) (open_event (chosen_steps earlier)) calls (ready clean).all
+own_after airs laid tuning boxes s n bis (steps.Terminate reason) earlier calls injected permits least there clean ready =
+    tick_if_own laid tuning bis (is_of (chosen_of earlier) (source_of n earlier)) (open_event (chosen_steps earlier)) calls (ready clean).all
+own_after airs laid tuning boxes s n bis steps.End earlier calls injected permits least there clean ready =
+    tick_if_own laid tuning bis (is_of 1 (source_of n earlier)) (open_event (steps_of_source 1 earlier))
+    (ticked_if (is_of 0 (source_of n earlier)) (open_event (steps_of_source 0 earlier)) calls)
+    (tick_if_own laid tuning bis (is_of 0 (source_of n earlier)) (open_event (steps_of_source 0 earlier)) calls (ready clean).all)
+own_after airs laid tuning boxes s n bis _ earlier calls injected permits least there clean ready = (ready clean).all
+
+put_first : (airs : Airs) (laid : ℕ → Content) (s n bis : ℕ) (step : Step) (earlier : List Step) (calls : List Call) (tuning : Tuning) → PutBy s n step earlier tuning
+    → AllOwn laid tuning bis (with_sink_call airs n step earlier calls)
+put_first airs laid s n bis (steps.Tuned sink which) earlier calls tuning put =
+    subst (λ b. AllOwn laid tuning bis (cond b (tune (tuning_of (chosen_steps earlier) which) ∷ calls) calls)) (sym put.2) tt
+put_first airs laid s n bis _ earlier calls tuning put = absurd put
+
+-- what the source sends, so far and later, is its own, by what it lays at each number in all
+abbrev pub WholeSends : Airs → Setup → List SourceCall → (ℕ → Content) → Tuning → ℕ → Type 0
+WholeSends airs setup whole laid tuning bis = (own : List Step) → Lawful airs own → is_started own ≡ true → Within setup whole own → SendsOwn airs laid tuning bis own
+
+-- all that a stay hears is the source's own
+pub all_own : (airs : Airs) (setup : Setup) (whole : List SourceCall) (laid : ℕ → Content) (tuning : Tuning) (boxes s n bis : ℕ) (made : List Step)
+    → WholeSends airs setup whole laid tuning bis → Legal airs boxes made
+    → Within setup whole (steps_of_source s made) → 1 ≤ bis → IsOn airs s n made tuning → injected_since (is_tuned n) n made ≡ false
+    → AllOwn laid tuning bis (sink_calls airs n made)
+all_own airs setup whole laid tuning boxes s n bis [] sends legal within least is clean = tt
+all_own airs setup whole laid tuning boxes s n bis (step ∷ earlier) sends legal within least is clean = elim (on_before airs s n step earlier tuning is) [
+  | inl before ↦
+      let shorter : Within setup whole (steps_of_source s earlier) = within_before airs boxes s setup whole earlier step legal within in
+      let on : OnSource (steps_of_source s earlier) tuning = on_source airs boxes s n earlier tuning legal.0 before in
+      let own_legal : Lawful airs (steps_of_source s earlier) = lawful airs boxes s earlier legal.0 in
+      own_after airs laid tuning boxes s n bis step earlier (sink_calls airs n earlier) (injected_since (is_tuned n) n earlier)
+      (permitted airs boxes earlier step legal.1) least before.source_is clean
+      (λ none. record {
+        all = all_own airs setup whole laid tuning boxes s n bis earlier sends legal.0 shorter least before none;
+        sent = sends (steps_of_source s earlier) own_legal on.started shorter;
+        bounds = bounds_in (steps_of_source s earlier) (settled airs (steps_of_source s earlier) own_legal) on.started;
+      })
+  | inr put ↦ put_first airs laid s n bis step earlier (sink_calls airs n earlier) tuning put
+]

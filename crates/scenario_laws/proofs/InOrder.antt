@@ -1,0 +1,288 @@
+-- The valid units that a sink hands up of a source are units that the source accepted, in order.
+use Rattle.std.proofs.Common.{ℕ, ◌≡◌, ◌<◌, ◌≤◌, ◌+◌, ◌==◌, ◌||◌, cond, leb, Bool, true, false, List, [], ◌∷◌, ◌++◌, length, map, Option, None, Some, refl, sym, ◌∙◌, ap, subst, arith, inl, inr}
+use Rattle.std.proofs.lemmas.Bool.{eq-eqb, cases_Bool, leb-true, or_parts, false≢true}
+use Rattle.std.proofs.lemmas.List.{append-nil}
+use Rattle.std.proofs.lemmas.List.Elements.{filter-append}
+use Rattle.std.proofs.lemmas.Option.{none-some}
+use Rattle.big_info.specs.declared.info.BigInfo.{BigInfo}
+use Rattle.unit_outlets.specs.Handed.{Handed}
+use Rattle.isoal_unframed.specs.Calls.{events as laid_events}
+use Rattle.isoal_unframed.specs.Histories.{units_of}
+use Rattle.source_machine.specs.Airs.{slots_of}
+use Rattle.source_machine.specs.Calls.{Setup, Call as SourceCall, events, stream_calls as source_stream}
+use Rattle.group_sink.specs.Calls.{Tuning, Call, tune, tick, place}
+use Rattle.group_sink.specs.Handing.{handed_at, handed_by as ticked_by, of_stream}
+use Rattle.group_sink.specs.Streams.{closes, is_in, stay_on, stream_calls}
+use Rattle.group_sink.proofs.Citable.{is_member, member_is}
+use Rattle.scenario_text.specs.declared.step.Step.{Step}
+use Rattle.scenario_text.specs.declared.step.Step.TheVariants as steps
+use Rattle.scenario_history.specs.Steps.{chosen_of, chosen_steps, steps_of_source}
+use Rattle.scenario_history.specs.Source.{Airs, setup_of, source_calls, open_event}
+use Rattle.scenario_history.specs.Airs.{MeetAirs}
+use Rattle.scenario_history.specs.Sinks.{is_of, sink_calls, source_after, source_of, ticked, tuning_of, with_sink_call}
+use Rattle.scenario_history.specs.Boxes.{SinkUnit, handed_by}
+use Rattle.scenario_laws.specs.Laws.{closed_by, handed_since, injected_since, is_injected, is_made, is_tuned, of_sink, shown_since}
+use Rattle.scenario_laws.specs.SourceUnits.{InSourceOrder, is_valid, valid_in}
+use Rattle.scenario_laws.proofs.Below.{Below}
+use Rattle.scenario_laws.proofs.Legals.{Legal, legal}
+use Rattle.scenario_laws.proofs.Sources.{lawful, true_not_false}
+use Rattle.scenario_laws.proofs.Wholes.{Within, events_more, next_in, next_rises, within_before, within_itself}
+use Rattle.scenario_laws.proofs.Stays.{IsOn, IsThere, OnSource, PutBy, TunedTo, on_before, on_source}
+use Rattle.scenario_laws.proofs.UnitsLaw.{slot_short}
+use Rattle.scenario_laws.proofs.Closings.{handed_open, shown_by, shown_if, step_shown}
+use Rattle.scenario_laws.proofs.Ticks.{end_ticks, event_ticks, is_its}
+use Rattle.scenario_laws.proofs.Closes.{Climb, climbs, closing, event_of, front, front_of, its_front, mine_in, moved, open_before}
+use Rattle.scenario_laws.proofs.Shown.{on_whole, shown_on, tick_hands, tick_others}
+use Rattle.scenario_laws.proofs.Numbers.{laid_least, Ordered, ordered_none, ordered_later, ordered_more, close_batch}
+
+-- ---- no PDU was injected into the sink
+
+gone_clean : (s : ℕ) (gone made_dirty tuned_dirty : Bool) (calls : List Call) (source : Option ℕ) (tuning : Tuning) → IsThere s tuning (cond gone [] calls) (cond gone None source)
+    → cond gone false made_dirty ≡ false → (IsThere s tuning calls source → made_dirty ≡ false → tuned_dirty ≡ false) → tuned_dirty ≡ false
+gone_clean s true made_dirty tuned_dirty calls source tuning is clean before = absurd (none-some tuning is.place_is)
+gone_clean s false made_dirty tuned_dirty calls source tuning is clean before = before is clean
+
+put_clean : (s : ℕ) (put made_dirty tuned_dirty : Bool) (on : Tuning) (chosen : ℕ) (calls : List Call) (source : Option ℕ) (tuning : Tuning)
+    → IsThere s tuning (cond put (tune on ∷ calls) calls) (cond put (Some chosen) source) → made_dirty ≡ false
+    → (IsThere s tuning calls source → made_dirty ≡ false → tuned_dirty ≡ false) → cond put false tuned_dirty ≡ false
+put_clean s true made_dirty tuned_dirty on chosen calls source tuning is clean before = refl
+put_clean s false made_dirty tuned_dirty on chosen calls source tuning is clean before = before is clean
+
+inject_clean : (mine made_dirty tuned_dirty : Bool) → (mine || made_dirty) ≡ false → (made_dirty ≡ false → tuned_dirty ≡ false) → (mine || tuned_dirty) ≡ false
+inject_clean true made_dirty tuned_dirty clean before = absurd (false≢true (sym clean))
+inject_clean false made_dirty tuned_dirty clean before = before clean
+
+-- a step that puts the sink nowhere
+still : (airs : Airs) (s n : ℕ) (step : Step) (earlier : List Step) (tuning : Tuning) (made_dirty tuned_dirty : Bool) → (PutBy s n step earlier tuning → ⊥)
+    → IsOn airs s n (step ∷ earlier) tuning → made_dirty ≡ false → (IsOn airs s n earlier tuning → made_dirty ≡ false → tuned_dirty ≡ false) → tuned_dirty ≡ false
+still airs s n step earlier tuning made_dirty tuned_dirty never is clean before = elim (on_before airs s n step earlier tuning is) [
+  | inl there ↦ before there clean
+  | inr put ↦ absurd (never put)
+]
+
+clean_after : (airs : Airs) (s n : ℕ) (step : Step) (earlier : List Step) (tuning : Tuning) (made_dirty tuned_dirty : Bool)
+    → IsOn airs s n (step ∷ earlier) tuning → cond (is_made n step) false (is_injected n step || made_dirty) ≡ false
+    → (IsOn airs s n earlier tuning → made_dirty ≡ false → tuned_dirty ≡ false) → cond (is_tuned n step) false (is_injected n step || tuned_dirty) ≡ false
+clean_after airs s n (steps.Sink sink streams slots mtu) earlier tuning made_dirty tuned_dirty is clean before =
+    gone_clean s (sink == n) made_dirty tuned_dirty (sink_calls airs n earlier) (source_of n earlier) tuning is clean before
+clean_after airs s n (steps.Tuned sink which) earlier tuning made_dirty tuned_dirty is clean before =
+    put_clean s (sink == n) made_dirty tuned_dirty (tuning_of (chosen_steps earlier) which) (chosen_of earlier) (sink_calls airs n earlier) (source_of n earlier) tuning is clean before
+clean_after airs s n (steps.Inject sink back bis subevent octets) earlier tuning made_dirty tuned_dirty is clean before =
+    elim (on_before airs s n (steps.Inject sink back bis subevent octets) earlier tuning is) [
+      | inl there ↦ inject_clean (sink == n) made_dirty tuned_dirty clean (before there)
+      | inr put ↦ absurd put
+    ]
+clean_after airs s n step earlier tuning made_dirty tuned_dirty is clean before = still airs s n step earlier tuning made_dirty tuned_dirty (λ put. put) is clean before
+
+pub clean_stay : (airs : Airs) (s n : ℕ) (made : List Step) (tuning : Tuning) → IsOn airs s n made tuning → injected_since (is_made n) n made ≡ false → injected_since (is_tuned n) n made ≡ false
+clean_stay airs s n [] tuning is clean = refl
+clean_stay airs s n (step ∷ earlier) tuning is clean =
+    clean_after airs s n step earlier tuning (injected_since (is_made n) n earlier) (injected_since (is_tuned n) n earlier) is clean
+    (λ there none. clean_stay airs s n earlier tuning there none)
+
+-- ---- step by step
+
+abbrev Fits : Setup → List SourceCall → ℕ → Type 0
+Fits setup whole bis = (event : ℕ) → (slot : ℕ) → (unit : List ℕ) → slots_of setup whole bis event slot ≡ Some unit → length unit ≤ setup.info.max_sdu
+
+climb_between : (low : ℕ) (xs : List ℕ) (high : ℕ) → Climb low xs high → low ≤ high
+climb_between low [] high climb = climb
+climb_between low (x ∷ xs) high climb = omega (arith, climb.0, climb_between (x + 1) xs high climb.1)
+
+ordered_same : (setup : Setup) (whole : List SourceCall) (bis next later : ℕ) (units more : List Handed) → next ≤ later → more ≡ [] → Ordered setup whole bis next units
+    → Ordered setup whole bis later (units ++ valid_in more)
+ordered_same setup whole bis next later units more past none order =
+    subst (λ (us : List Handed). Ordered setup whole bis later (units ++ valid_in us)) (sym none)
+    (subst (λ (us : List Handed). Ordered setup whole bis later us) (sym (append-nil units)) (ordered_later setup whole bis next later units past order))
+
+at_least : (over : Bool) (first count : ℕ) → first + count ≤ first + cond over (count + 1) count
+at_least true first count = omega arith
+at_least false first count = omega arith
+
+-- the premises that all steps share
+pub record Ready (airs : Airs) (boxes s n bis : ℕ) (setup : Setup) (whole : List SourceCall) (made : List Step) : Type 0 where
+  pub legal_is : Legal airs boxes made
+  pub within : Within setup whole (steps_of_source s made)
+  pub clean : injected_since (is_made n) n made ≡ false
+  pub plain : setup.info.framing ≡ 0
+  pub source_below : s ≤ 1
+  pub sink_below : n ≤ 7
+  pub least : 1 ≤ bis
+  pub greatest : bis ≤ 31
+  pub fits : Fits setup whole bis
+
+cond_true_more : (first count : ℕ) (over : Bool) → over ≡ true → first + count < first + cond over (count + 1) count
+cond_true_more first count true is = omega arith
+cond_true_more first count false is = absurd (false≢true is)
+
+-- the open event is closed
+closed_orders : Below → (airs : Airs) → MeetAirs airs → (boxes s n bis : ℕ) (setup : Setup) (whole : List SourceCall) (made : List Step) → Ready airs boxes s n bis setup whole made
+    → (event : ℕ) → event < next_in (steps_of_source s made) → (tuning : Tuning) → IsOn airs s n made tuning → (later : ℕ) → tuning.first + closes tuning (sink_calls airs n made) < later
+    → tuning.first + closes tuning (sink_calls airs n made) ≤ event → (units : List Handed) → Ordered setup whole bis (tuning.first + closes tuning (sink_calls airs n made)) units
+    → of_stream bis (handed_at (sink_calls airs n made) event)
+    ≡ units_of (stay_on tuning bis) (stream_calls (stay_on tuning bis) (sink_calls airs n made)) (tuning.first + closes tuning (sink_calls airs n made))
+    → Ordered setup whole bis later (units ++ valid_in (of_stream bis (handed_at (sink_calls airs n made) event)))
+closed_orders below airs meets boxes s n bis setup whole made ready event before tuning is later past over units order shown =
+    let own : List Step = steps_of_source s made in
+    let there : OnSource own tuning = on_source airs boxes s n made tuning ready.legal_is is in
+    let setup_is : setup_of own ≡ setup = ready.within.setup_is there.started in
+    let on : TunedTo setup tuning = subst (λ (setup' : Setup). TunedTo setup' tuning) setup_is there.tuned in
+    let same : (setup_of own).first ≡ setup.first = ap (λ (setup' : Setup). setup'.first) setup_is in
+    let more : events (source_calls own) ≤ events whole = subst (λ calls. events (source_calls own) ≤ events calls) (sym ready.within.calls.1) (events_more ready.within.calls.0 (source_calls own)) in
+    let laid : events whole ≤ laid_events (source_stream setup.info bis whole) = laid_least setup.info bis whole in
+    let last = close_batch below airs meets boxes s n bis setup whole tuning made ready.legal_is ready.within on ready.least is ready.plain (clean_stay airs s n made tuning is ready.clean) ready.fits
+    (tuning.first + closes tuning (sink_calls airs n made)) (below.one_open tuning (sink_calls airs n made) bis) (omega arith) (omega (arith, over, before, same, more)) in
+    subst (λ (us : List Handed). Ordered setup whole bis later (units ++ valid_in us)) (sym shown)
+    (ordered_more setup whole bis (tuning.first + closes tuning (sink_calls airs n made)) later units
+    (valid_in (units_of (stay_on tuning bis) (stream_calls (stay_on tuning bis) (sink_calls airs n made)) (tuning.first + closes tuning (sink_calls airs n made))))
+    (omega (arith, on.first)) past (omega (arith, over, before, same, more, laid, on.first)) order last)
+
+tuned_plain : (airs : Airs) (boxes s n bis : ℕ) (setup : Setup) (whole : List SourceCall) (made : List Step) → Ready airs boxes s n bis setup whole made
+    → (tuning : Tuning) → place (sink_calls airs n made) ≡ Some tuning → source_of n made ≡ Some s → tuning.info.framing ≡ 0
+tuned_plain airs boxes s n bis setup whole made ready tuning is its =
+    ap (λ (i : BigInfo). i.framing)
+    (on_whole airs boxes s n setup whole made ready.legal_is ready.within (ap (is_of s) its ∙ eq-eqb s s refl) tuning is).info ∙ ready.plain
+
+event_orders : Below → (airs : Airs) → MeetAirs airs → (boxes s n bis : ℕ) (setup : Setup) (whole : List SourceCall) (made : List Step) → Ready airs boxes s n bis setup whole made
+    → (event : ℕ) → event < next_in (steps_of_source s made) → source_of n made ≡ Some s → (p : Option Tuning) → place (sink_calls airs n made) ≡ p → (next later : ℕ)
+    → next_in (steps_of_source s made) ≤ next → front_of p (tick event ∷ sink_calls airs n made) next ≤ later → (units : List Handed)
+    → Ordered setup whole bis (front_of p (sink_calls airs n made) (next_in (steps_of_source s made))) units
+    → Ordered setup whole bis later (units ++ valid_in (of_stream bis (handed_at (sink_calls airs n made) event)))
+event_orders below airs meets boxes s n bis setup whole made ready event before its None is next later more past units order =
+    ordered_same setup whole bis (next_in (steps_of_source s made)) later units (of_stream bis (handed_at (sink_calls airs n made) event)) (omega (arith, more, past))
+    (ap (λ q. of_stream bis (ticked_by event (sink_calls airs n made) q)) is) order
+event_orders below airs meets boxes s n bis setup whole made ready event before its (Some tuning) is next later more past units order =
+    let calls : List Call = sink_calls airs n made in
+    let front_is : tuning.first + closes tuning calls ≤ later =
+    omega (arith, past, at_least (leb (tuning.first + closes tuning (sink_calls airs n made)) event) tuning.first (closes tuning (sink_calls airs n made))) in
+    elim (cases_Bool (is_in tuning.which bis)) [
+      | inr free ↦ ordered_same setup whole bis (tuning.first + closes tuning (sink_calls airs n made)) later units (of_stream bis (handed_at (sink_calls airs n made) event)) front_is
+          (tick_others below event (sink_calls airs n made) tuning bis is (λ taken. true_not_false (is_in tuning.which bis) (member_is tuning.which bis taken).0 free)) order
+      | inl taken ↦
+          let shown : of_stream bis (handed_at (sink_calls airs n made) event)
+          ≡ cond (leb (tuning.first + closes tuning (sink_calls airs n made)) event)
+          (units_of (stay_on tuning bis) (stream_calls (stay_on tuning bis) (sink_calls airs n made)) (tuning.first + closes tuning (sink_calls airs n made))) [] =
+          tick_hands below event (sink_calls airs n made) tuning bis (tuned_plain airs boxes s n bis setup whole made ready tuning is its) is
+          (is_member tuning.which bis ready.least ready.greatest taken)
+          ∙ ap (λ o. cond (leb o event) (units_of (stay_on tuning bis) (stream_calls (stay_on tuning bis) (sink_calls airs n made)) o) []) (below.one_open tuning (sink_calls airs n made) bis) in
+          elim (cases_Bool (leb (tuning.first + closes tuning (sink_calls airs n made)) event)) [
+            | inr not_over ↦ ordered_same setup whole bis (tuning.first + closes tuning (sink_calls airs n made)) later units (of_stream bis (handed_at (sink_calls airs n made) event)) front_is
+                (shown ∙ ap (λ over. cond over (units_of (stay_on tuning bis) (stream_calls (stay_on tuning bis) (sink_calls airs n made))
+                (tuning.first + closes tuning (sink_calls airs n made))) []) not_over) order
+            | inl over ↦ closed_orders below airs meets boxes s n bis setup whole made ready event before tuning (record { place_is = is; source_is = its }) later
+                (omega (arith, past, cond_true_more tuning.first (closes tuning (sink_calls airs n made)) (leb (tuning.first + closes tuning (sink_calls airs n made)) event) over))
+                (leb-true _ _ over) units order
+                (shown ∙ ap (λ b. cond b (units_of (stay_on tuning bis) (stream_calls (stay_on tuning bis) (sink_calls airs n made)) (tuning.first + closes tuning (sink_calls airs n made))) []) over)
+          ]
+    ]
+
+step_orders : Below → (airs : Airs) → MeetAirs airs → (boxes s n bis : ℕ) (setup : Setup) (whole : List SourceCall) (made : List Step) → Ready airs boxes s n bis setup whole made
+    → (shut : Option ℕ) → ((event : ℕ) → shut ≡ Some event → event < next_in (steps_of_source s made)) → source_of n made ≡ Some s → (next : ℕ) → next_in (steps_of_source s made) ≤ next
+    → (units : List Handed) → Ordered setup whole bis (front true (sink_calls airs n made) (next_in (steps_of_source s made))) units
+    → front true (sink_calls airs n made) (next_in (steps_of_source s made)) ≤ front true (ticked shut (sink_calls airs n made)) next
+    → Ordered setup whole bis (front true (ticked shut (sink_calls airs n made)) next) (units ++ valid_in (of_stream bis (handed_open (sink_calls airs n made) shut)))
+step_orders below airs meets boxes s n bis setup whole made ready None before its next more units order past =
+    ordered_same setup whole bis (front true (sink_calls airs n made) (next_in (steps_of_source s made))) (front true (sink_calls airs n made) next) units [] past refl order
+step_orders below airs meets boxes s n bis setup whole made ready (Some event) before its next more units order past =
+    event_orders below airs meets boxes s n bis setup whole made ready event (before event refl) its (place (sink_calls airs n made)) refl next
+    (front true (tick event ∷ sink_calls airs n made) next) more (omega arith) units order
+
+-- a close of an event of the source, or of another
+close_orders : Below → (airs : Airs) → MeetAirs airs → (boxes s n bis : ℕ) (setup : Setup) (whole : List SourceCall) (made : List Step) → Ready airs boxes s n bis setup whole made
+    → (shut : Option ℕ) → ((event : ℕ) → shut ≡ Some event → event < next_in (steps_of_source s made)) → (mine its : Bool) → is_of s (source_of n made) ≡ mine
+    → (calls' : List Call) → (mine ≡ true → calls' ≡ cond its (ticked shut (sink_calls airs n made)) (sink_calls airs n made)) → (next : ℕ) → next_in (steps_of_source s made) ≤ next
+    → (units : List Handed) → Ordered setup whole bis (front mine (sink_calls airs n made) (next_in (steps_of_source s made))) units
+    → front mine (sink_calls airs n made) (next_in (steps_of_source s made)) ≤ front mine calls' next
+    → Ordered setup whole bis (front mine calls' next) (units ++ valid_in (of_stream bis (cond its (shown_if mine (sink_calls airs n made) shut) [])))
+close_orders below airs meets boxes s n bis setup whole made ready shut before mine false is calls' same next more units order past =
+    ordered_same setup whole bis (front mine (sink_calls airs n made) (next_in (steps_of_source s made))) (front mine calls' next) units [] past refl order
+close_orders below airs meets boxes s n bis setup whole made ready shut before false true is calls' same next more units order past =
+    ordered_same setup whole bis (next_in (steps_of_source s made)) next units [] past refl order
+close_orders below airs meets boxes s n bis setup whole made ready shut before true true is calls' same next more units order past =
+    subst (λ cs. Ordered setup whole bis (front true cs next) (units ++ valid_in (of_stream bis (handed_open (sink_calls airs n made) shut)))) (sym (same refl))
+    (step_orders below airs meets boxes s n bis setup whole made ready shut before (is_its s (source_of n made) is) next more units order
+    (subst (λ cs. front true (sink_calls airs n made) (next_in (steps_of_source s made)) ≤ front true cs next) (same refl) past))
+
+by_step : Below → (airs : Airs) → MeetAirs airs → (boxes s n bis : ℕ) (setup : Setup) (whole : List SourceCall) (step : Step) (earlier : List Step)
+    → Ready airs boxes s n bis setup whole earlier → (next : ℕ) → next_in (steps_of_source s earlier) ≤ next → (units : List Handed)
+    → Ordered setup whole bis (its_front airs s n earlier) units
+    → its_front airs s n earlier ≤ front (is_of s (source_after n step earlier (source_of n earlier))) (with_sink_call airs n step earlier (sink_calls airs n earlier)) next
+    → Ordered setup whole bis (front (is_of s (source_after n step earlier (source_of n earlier))) (with_sink_call airs n step earlier (sink_calls airs n earlier)) next)
+    (units ++ valid_in (of_stream bis (shown_by airs s n earlier step)))
+by_step below airs meets boxes s n bis setup whole steps.Event earlier ready next more units order past =
+    close_orders below airs meets boxes s n bis setup whole earlier ready (open_event (steps_of_source s earlier)) (open_before (steps_of_source s earlier)) (mine_in s n earlier)
+    (chosen_of earlier == s) refl _
+    (λ mine. event_ticks (chosen_of earlier) s (λ t. open_event (steps_of_source t earlier)) (sink_calls airs n earlier) (source_of n earlier) (is_its s (source_of n earlier) mine))
+    next more units order past
+by_step below airs meets boxes s n bis setup whole steps.Stop earlier ready next more units order past =
+    close_orders below airs meets boxes s n bis setup whole earlier ready (open_event (steps_of_source s earlier)) (open_before (steps_of_source s earlier)) (mine_in s n earlier)
+    (chosen_of earlier == s) refl _
+    (λ mine. event_ticks (chosen_of earlier) s (λ t. open_event (steps_of_source t earlier)) (sink_calls airs n earlier) (source_of n earlier) (is_its s (source_of n earlier) mine))
+    next more units order past
+by_step below airs meets boxes s n bis setup whole (steps.Terminate reason) earlier ready next more units order past =
+    close_orders below airs meets boxes s n bis setup whole earlier ready (open_event (steps_of_source s earlier)) (open_before (steps_of_source s earlier)) (mine_in s n earlier)
+    (chosen_of earlier == s) refl _
+    (λ mine. event_ticks (chosen_of earlier) s (λ t. open_event (steps_of_source t earlier)) (sink_calls airs n earlier) (source_of n earlier) (is_its s (source_of n earlier) mine))
+    next more units order past
+by_step below airs meets boxes s n bis setup whole steps.End earlier ready next more units order past =
+    close_orders below airs meets boxes s n bis setup whole earlier ready (open_event (steps_of_source s earlier)) (open_before (steps_of_source s earlier)) (mine_in s n earlier) true refl _
+    (λ mine. end_ticks s (λ t. open_event (steps_of_source t earlier)) (sink_calls airs n earlier) (source_of n earlier) ready.source_below (is_its s (source_of n earlier) mine))
+    next more units order past
+by_step below airs meets boxes s n bis setup whole _ earlier ready next more units order past =
+    ordered_same setup whole bis (its_front airs s n earlier) _ units [] past refl order
+
+again_orders : (setup : Setup) (whole : List SourceCall) (s n bis next : ℕ) (again : Bool) (units others : List SinkUnit)
+    → (again ≡ false → Ordered setup whole bis next (valid_in (of_stream bis (of_sink s n units)) ++ valid_in (of_stream bis (of_sink s n others))))
+    → Ordered setup whole bis next (valid_in (of_stream bis (of_sink s n (cond again [] (units ++ others)))))
+again_orders setup whole s n bis next true units others order = ordered_none setup whole bis next
+again_orders setup whole s n bis next false units others order =
+    subst (λ (us : List Handed). Ordered setup whole bis next us)
+    (sym (ap valid_in (shown_on s n bis units others) ∙ filter-append is_valid (of_stream bis (of_sink s n units)) (of_stream bis (of_sink s n others)))) (order refl)
+
+pub clean_before : (again mine dirty : Bool) → cond again false (mine || dirty) ≡ false → again ≡ false → dirty ≡ false
+clean_before true mine dirty clean not_again = absurd (false≢true (sym not_again))
+clean_before false mine dirty clean not_again = (or_parts mine dirty clean).1
+
+orders : Below → (airs : Airs) → MeetAirs airs → (boxes s n bis : ℕ) (setup : Setup) (whole : List SourceCall) (made : List Step) → Ready airs boxes s n bis setup whole made
+    → Ordered setup whole bis (its_front airs s n made) (valid_in (shown_since (is_made n) airs s n bis made))
+orders below airs meets boxes s n bis setup whole [] ready = ordered_none setup whole bis (its_front airs s n [])
+orders below airs meets boxes s n bis setup whole (step ∷ earlier) ready =
+    let legal_before : Legal airs boxes earlier = ready.legal_is.0 in
+    let now = moved airs boxes s n step earlier ready.legal_is ready.source_below (closing airs boxes s n earlier legal_before ready.source_below).within in
+    again_orders setup whole s n bis (its_front airs s n (step ∷ earlier)) (is_made n step) (handed_since (is_made n) airs earlier) (handed_by airs earlier step)
+    (λ not_again.
+    let before : Ready airs boxes s n bis setup whole earlier = record {
+      legal_is = legal_before;
+      within = within_before airs boxes s setup whole earlier step ready.legal_is ready.within;
+      clean = clean_before (is_made n step) (is_injected n step) (injected_since (is_made n) n earlier) ready.clean not_again;
+      plain = ready.plain;
+      source_below = ready.source_below;
+      sink_below = ready.sink_below;
+      least = ready.least;
+      greatest = ready.greatest;
+      fits = ready.fits;
+    } in
+    subst (λ (us : List Handed). Ordered setup whole bis (its_front airs s n (step ∷ earlier)) (valid_in (shown_since (is_made n) airs s n bis earlier) ++ valid_in (of_stream bis us)))
+    (sym (step_shown airs boxes s n step earlier legal_before ready.source_below ready.sink_below))
+    (by_step below airs meets boxes s n bis setup whole step earlier before (next_in (steps_of_source s (step ∷ earlier))) (next_rises airs boxes s earlier step ready.legal_is)
+    (valid_in (shown_since (is_made n) airs s n bis earlier)) (orders below airs meets boxes s n bis setup whole earlier before)
+    (climb_between (its_front airs s n earlier) (map event_of (closed_by airs s n earlier step)) (its_front airs s n (step ∷ earlier)) now.climbs_on)))
+
+pub units_in_order : Below → (airs : Airs) → MeetAirs airs → (boxes s n bis : ℕ) (made : List Step) → Legal airs boxes made → (setup_of (steps_of_source s made)).info.framing ≡ 0 → s ≤ 1
+    → n ≤ 7 → 1 ≤ bis → bis ≤ 31
+    → injected_since (is_made n) n made ≡ false
+    → InSourceOrder (setup_of (steps_of_source s made)) (source_calls (steps_of_source s made)) bis (valid_in (shown_since (is_made n) airs s n bis made))
+units_in_order below airs meets boxes s n bis made legal plain source_below sink_below least greatest clean =
+    let order : Ordered (setup_of (steps_of_source s made)) (source_calls (steps_of_source s made)) bis (its_front airs s n made) (valid_in (shown_since (is_made n) airs s n bis made)) =
+    orders below airs meets boxes s n bis (setup_of (steps_of_source s made)) (source_calls (steps_of_source s made)) made (record {
+      legal_is = legal;
+      within = within_itself (steps_of_source s made);
+      clean = clean;
+      plain = plain;
+      source_below = source_below;
+      sink_below = sink_below;
+      least = least;
+      greatest = greatest;
+      fits = slot_short airs bis (steps_of_source s made) (lawful airs boxes s made legal);
+    }) in
+    record { numbers = order.numbers; rising = climbs 0 order.numbers order.high order.climb; given = order.given }

@@ -1,0 +1,10 @@
+-- Airs that meet the relation of their framing.
+use Rattle.std.proofs.Common.{sym, subst}
+use Rattle.scenario_history.specs.Airs.{MeetAirs}
+use Rattle.source_machine.specs.Airs.{airs_of}
+use Rattle.source_machine.specs.Setups.{IsChecked}
+use Rattle.scenario_laws.proofs.OneTranscript.{SomeAirs}
+use Rattle.scenario_laws.proofs.Sources.{checked}
+
+pub airs_meet : SomeAirs → MeetAirs airs_of
+airs_meet some = record { meet = λ group setup calls same accepted. some setup calls (subst IsChecked (sym same) (checked group)) }

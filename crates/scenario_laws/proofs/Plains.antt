@@ -1,0 +1,52 @@
+-- What a source of an unframed group sends is its own, by division.
+use Rattle.std.proofs.Common.{ℕ, ◌≡◌, ◌<◌, ◌≤◌, ◌/◌, ◌%◌}
+use Rattle.std.proofs.Common.{true, List, [], ◌++◌, Some, refl, sym, ◌∙◌, ap, subst, arith}
+use Rattle.std.specs.Prelude.{unwrap_or}
+use Rattle.big_info.specs.declared.info.BigInfo.{BigInfo}
+use Rattle.big_info.specs.declared.group.Group.{Group}
+use Rattle.big_info.specs.Schedule.{per_unit_of}
+use Rattle.iso_pdu.specs.Spelling.{pdu}
+use Rattle.isoal_base.specs.Air.{Air}
+use Rattle.isoal_unframed.specs.Slot.{laid}
+use Rattle.isoal_unframed.specs.Struck.{air_at}
+use Rattle.radio_schedule.specs.PayloadNumber.{payload_number}
+use Rattle.source_machine.specs.Airs.{AreAirs, airs_of, content_at, pdu_of, slots_of}
+use Rattle.source_machine.specs.Calls.{Setup, Call as SourceCall, next_of}
+use Rattle.source_machine.specs.Setups.{IsChecked}
+use Rattle.group_sink.specs.Calls.{Tuning}
+use Rattle.group_sink.specs.Streams.{stay_on}
+use Rattle.scenario_text.specs.declared.step.Step.{Step}
+use Rattle.scenario_history.specs.Source.{Airs, setup_of, source_calls, is_started}
+use Rattle.scenario_history.specs.Airs.{MeetAirs}
+use Rattle.scenario_laws.proofs.Below.{Below}
+use Rattle.scenario_laws.proofs.Sources.{Lawful, Settled, checked, group_in, settled}
+use Rattle.scenario_laws.proofs.Wholes.{Extends, Within, events_more}
+use Rattle.scenario_laws.proofs.Hears.{SendsOwn, its_airs}
+
+own_pdu : Below → (group : Group) (setup : Setup) (whole calls : List SourceCall) (airs : List Air) → Extends whole calls → AreAirs setup calls airs → (event bis subevent : ℕ)
+    → setup.info ≡ group.info → setup.info.framing ≡ 0 → setup.first ≤ event → event < next_of setup calls → 1 ≤ bis → bis ≤ group.info.num_bis → subevent < group.info.nse
+    → unwrap_or (pdu_of setup airs event bis subevent) [] ≡ pdu (content_at setup whole bis (payload_number setup.info event subevent))
+own_pdu below group setup whole calls airs more are event bis subevent same plain least past bis_least bis_within within =
+    let longer : event < next_of setup (more.0 ++ calls) = omega (arith, events_more more.0 calls, past) in
+    let all_are : AreAirs setup (more.0 ++ calls) (airs_of setup (more.0 ++ calls)) = below.some_airs setup (more.0 ++ calls) (subst IsChecked (sym same) (checked group)) in
+    let sent : pdu_of setup (airs_of setup (more.0 ++ calls)) event bis subevent ≡ Some (pdu (content_at setup (more.0 ++ calls) bis (payload_number setup.info event subevent))) =
+    below.counted group setup (more.0 ++ calls) (airs_of setup (more.0 ++ calls)) event bis subevent same plain all_are least longer bis_least bis_within within in
+    let here : pdu_of setup airs event bis subevent ≡ Some (pdu (content_at setup (more.0 ++ calls) bis (payload_number setup.info event subevent))) =
+    sym (below.sent_stays group setup more.0 calls airs (airs_of setup (more.0 ++ calls)) event bis subevent same are all_are least past bis_least bis_within within) ∙ sent in
+    ap (λ o. unwrap_or o []) here ∙ ap (λ all. pdu (content_at setup all bis (payload_number setup.info event subevent))) (sym more.1)
+
+air_same : (setup : Setup) (whole : List SourceCall) (tuning : Tuning) (bis : ℕ) (event subevent : ℕ) → tuning.info ≡ setup.info
+    → content_at setup whole bis (payload_number setup.info event subevent)
+    ≡ air_at (stay_on tuning bis) (slots_of setup whole bis) (payload_number tuning.info event subevent)
+air_same setup whole tuning bis event subevent same =
+    ap (λ (i : BigInfo). laid i.max_pdu (slots_of setup whole bis (payload_number i event subevent / i.bn) (payload_number i event subevent % i.bn / per_unit_of i))
+    (payload_number i event subevent % i.bn % per_unit_of i)) (sym same)
+
+pub sends_own : Below → (airs : Airs) → MeetAirs airs → (setup : Setup) (whole : List SourceCall) (tuning : Tuning) (bis : ℕ) (own : List Step) → Lawful airs own → is_started own ≡ true
+    → Within setup whole own → tuning.info ≡ setup.info → setup.info.framing ≡ 0 → SendsOwn airs (air_at (stay_on tuning bis) (slots_of setup whole bis)) tuning bis own
+sends_own below airs meets setup whole tuning bis own legal started within same plain event subevent least past bis_least bis_within inside =
+    let is : Settled own = settled airs own legal in
+    own_pdu below (group_in own is started) (setup_of own) whole (source_calls own) (airs (setup_of own) (source_calls own)) within.calls (its_airs airs meets own legal started)
+    event bis subevent refl (ap (λ (s : Setup). s.info.framing) (within.setup_is started) ∙ plain) least past bis_least bis_within inside
+    ∙ ap (λ (s : Setup). pdu (content_at s whole bis (payload_number s.info event subevent))) (within.setup_is started)
+    ∙ ap pdu (air_same setup whole tuning bis event subevent same)

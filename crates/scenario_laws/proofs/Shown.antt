@@ -1,0 +1,218 @@
+-- What a sink hands up on a stream of a source is one entry for each slot of each event of it that the sink closed.
+use Rattle.std.proofs.Common.{ℕ, zero, suc, ◌≡◌, ◌<◌, ◌≤◌, ◌+◌, ◌-◌, ◌*◌, ◌==◌, cond, leb, eqb, Bool, true, false}
+use Rattle.std.proofs.Common.{List, [], ◌∷◌, ◌++◌, map, Option, None, Some, refl, sym, ◌∙◌, ap, subst, arith, inl, inr}
+use Rattle.std.specs.List.{AllZip, Contains, range_with_len}
+use Rattle.std.proofs.Math.Nat.{add-mul}
+use Rattle.std.proofs.lemmas.Bool.{cases_Bool, cond-true}
+use Rattle.std.proofs.lemmas.Grind.{flat_map-append}
+use Rattle.std.proofs.lemmas.List.{append-nil, append_cancel_left}
+use Rattle.std.proofs.lemmas.List.Elements.{filter-append}
+use Rattle.big_info.specs.declared.info.BigInfo.{BigInfo}
+use Rattle.big_info.specs.Schedule.{per_event_of}
+use Rattle.big_info.specs.Time.{iso_us_of}
+use Rattle.unit_outlets.specs.Handed.{Handed}
+use Rattle.sync_reference.specs.Reference.{anchor_of, unframed_reference_of, render_of}
+use Rattle.isoal_base.specs.Stays as stays
+use Rattle.isoal_base.specs.Stays.{Stay, opened}
+use Rattle.isoal_unframed.specs.Histories.{handed, heard_in, numbers_of, unit_at, units_of}
+use Rattle.isoal_unframed.specs.Units.{unit_of}
+use Rattle.isoal_unframed.specs.State.Windows.{handed_of, time_of}
+use Rattle.source_machine.specs.Calls.{Setup, Call as SourceCall}
+use Rattle.group_sink.specs.Calls.{Tuning, Call, tick, place}
+use Rattle.group_sink.specs.Handing.{bis_of, handed_at, handed_by as ticked_by, handed_since as ticked_since, of_stream}
+use Rattle.group_sink.specs.Streams.{closes, is_in, stay_on, stream_calls, streams_of}
+use Rattle.group_sink.proofs.Citable.{is_member, member_is}
+use Rattle.scenario_text.specs.declared.step.Step.{Step}
+use Rattle.scenario_text.specs.declared.step.Step.TheVariants as steps
+use Rattle.scenario_history.specs.Steps.{chosen_of, steps_of_source}
+use Rattle.scenario_history.specs.Source.{Airs, open_event, setup_of, source_calls}
+use Rattle.scenario_history.specs.Sinks.{is_of, sink_calls, source_of}
+use Rattle.scenario_history.specs.Boxes.{SinkUnit, handed_by}
+use Rattle.scenario_laws.specs.Laws.{Closed, closed_at, closed_by, closed_if, closed_in, closed_since}
+use Rattle.scenario_laws.specs.SourceUnits.{IsOfSlot}
+use Rattle.scenario_laws.specs.Laws.{handed_since, is_made, of_sink, shown_since, slots_closed, slots_in}
+use Rattle.scenario_laws.specs.SourceUnits.{time_in, whole_stay}
+use Rattle.scenario_laws.proofs.Below.{Below}
+use Rattle.scenario_laws.proofs.Legals.{Legal}
+use Rattle.scenario_laws.proofs.Sources.{true_not_false}
+use Rattle.scenario_laws.proofs.Wholes.{Within, within_before, within_itself}
+use Rattle.scenario_laws.proofs.Stays.{OnSource, TunedTo, on_source}
+use Rattle.scenario_laws.proofs.Closings.{handed_open, of_sink_on, shown_by, shown_if, step_shown}
+use Rattle.scenario_laws.proofs.Ticks.{is_its}
+
+-- ---- the units of one close on one stream
+
+close_hands : (stay : Stay) (over : Bool) (calls : List stays.Call) → handed stay (cond over (stays.close ∷ calls) calls) ≡ handed stay calls ++ cond over (units_of stay calls (opened stay calls)) []
+close_hands stay true calls = refl
+close_hands stay false calls = sym (append-nil (handed stay calls))
+
+pub tick_hands : Below → (event : ℕ) (calls : List Call) (tuning : Tuning) (bis : ℕ) → tuning.info.framing ≡ 0 → place calls ≡ Some tuning → Contains (streams_of tuning.which) bis
+    → of_stream bis (handed_at calls event)
+    ≡ cond (leb (opened (stay_on tuning bis) (stream_calls (stay_on tuning bis) calls)) event)
+    (units_of (stay_on tuning bis) (stream_calls (stay_on tuning bis) calls) (opened (stay_on tuning bis) (stream_calls (stay_on tuning bis) calls))) []
+tick_hands below event calls tuning bis plain is taken =
+    let stay = stay_on tuning bis in
+    let sc = stream_calls stay calls in
+    let all : of_stream bis (ticked_since calls) ++ of_stream bis (handed_at calls event) ≡ handed stay sc ++ cond (leb (opened stay sc) event) (units_of stay sc (opened stay sc)) [] =
+    sym (filter-append (λ entry. eqb (bis_of entry) bis) (ticked_since calls) (handed_at calls event))
+    ∙ below.hands tuning (tick event ∷ calls) bis plain is taken ∙ close_hands stay (leb (opened stay sc) event) sc in
+    append_cancel_left (handed stay sc) (of_stream bis (handed_at calls event)) _
+    (ap (λ xs. xs ++ of_stream bis (handed_at calls event)) (sym (below.hands tuning calls bis plain is taken)) ∙ all)
+
+pub tick_others : Below → (event : ℕ) (calls : List Call) (tuning : Tuning) (bis : ℕ) → place calls ≡ Some tuning → ¬ Contains (streams_of tuning.which) bis
+    → of_stream bis (handed_at calls event) ≡ []
+tick_others below event calls tuning bis is out =
+    ap (λ xs. xs ++ of_stream bis (handed_at calls event)) (sym (below.others tuning calls bis is out))
+    ∙ sym (filter-append (λ entry. eqb (bis_of entry) bis) (ticked_since calls) (handed_at calls event))
+    ∙ below.others tuning (tick event ∷ calls) bis is out
+
+-- the time of a slot by the stay's anchor is that by the source's
+pub slot_time_is : (setup : Setup) (tuning : Tuning) (bis event slot : ℕ) → TunedTo setup tuning → tuning.first ≤ event
+    → time_of (stay_on tuning bis) event slot ≡ time_of (whole_stay setup bis) event slot
+slot_time_is setup tuning bis event slot on least =
+    let both : event - setup.first ≡ (tuning.first - setup.first) + (event - tuning.first) = omega (arith, least, on.first) in
+    let product : (event - setup.first) * iso_us_of setup.info ≡ (tuning.first - setup.first) * iso_us_of setup.info + (event - tuning.first) * iso_us_of setup.info =
+    ap (λ d. d * iso_us_of setup.info) both ∙ add-mul (tuning.first - setup.first) (event - tuning.first) (iso_us_of setup.info) in
+    let anchor : anchor_of tuning.anchor tuning.first event (iso_us_of setup.info) ≡ anchor_of setup.origin setup.first event (iso_us_of setup.info) =
+    omega (arith, product, on.anchor) in
+    ap (λ (i : BigInfo). render_of (unframed_reference_of i (anchor_of tuning.anchor tuning.first event (iso_us_of i)) slot) tuning.delay) on.info
+    ∙ ap (λ a. render_of (unframed_reference_of setup.info a slot) tuning.delay) anchor
+    ∙ ap (λ d. render_of (unframed_reference_of setup.info (anchor_of setup.origin setup.first event (iso_us_of setup.info)) slot) d) on.delay
+
+handed_is : (bis time : ℕ) (unit : Option (List ℕ)) → (bis_of (handed_of bis time unit) ≡ bis) × (time_in (handed_of bis time unit) ≡ time)
+handed_is bis time None = (refl, refl)
+handed_is bis time (Some octets) = (refl, refl)
+
+pub zip_maps : {A B : Type 0} (R : A → B → Type 0) (f : ℕ → A) (g : ℕ → B) (start count : ℕ) → ((i : ℕ) → i < start + count → R (f i) (g i))
+    → AllZip R (map f (range_with_len start count)) (map g (range_with_len start count))
+zip_maps R f g start zero each = tt
+zip_maps R f g start (suc count) each =
+    (each start (omega arith), zip_maps R f g (start + 1) count (λ i below. each i (omega (arith, below))))
+
+pub zip_on : {A B : Type 0} (R : A → B → Type 0) (xs xs' : List A) (ys ys' : List B) → AllZip R xs ys → AllZip R xs' ys' → AllZip R (xs ++ xs') (ys ++ ys')
+zip_on R [] xs' [] ys' first rest = rest
+zip_on R [] xs' (y ∷ ys) ys' first rest = absurd first
+zip_on R (x ∷ xs) xs' [] ys' first rest = absurd first
+zip_on R (x ∷ xs) xs' (y ∷ ys) ys' first rest = (first.0, zip_on R xs xs' ys ys' first.1 rest)
+
+units_in_slots : (setup : Setup) (tuning : Tuning) (bis : ℕ) (calls : List stays.Call) (event : ℕ) → TunedTo setup tuning → tuning.first ≤ event
+    → AllZip (IsOfSlot setup bis) (map (λ slot. record { event = event; slot = slot }) (range_with_len 0 (per_event_of setup.info)))
+    (map (unit_at (stay_on tuning bis) calls event) (range_with_len 0 (per_event_of setup.info)))
+units_in_slots setup tuning bis calls event on least =
+    zip_maps (IsOfSlot setup bis) (λ slot. record { event = event; slot = slot }) (unit_at (stay_on tuning bis) calls event) 0 (per_event_of setup.info)
+    (λ slot below.
+    let is = handed_is bis (time_of (stay_on tuning bis) event slot) (unit_of tuning.info.max_sdu (map (heard_in (stay_on tuning bis) calls) (numbers_of (stay_on tuning bis) event slot))) in
+    (is.0, is.1 ∙ slot_time_is setup tuning bis event slot on least))
+
+not_in_slots : (setup : Setup) (bis : ℕ) (over : Bool) (closed : Closed) → is_in closed.which bis ≡ false → slots_closed setup bis (cond over (closed ∷ []) []) ≡ []
+not_in_slots setup bis false closed out = refl
+not_in_slots setup bis true closed out = rw out refl
+
+one_slots : (setup : Setup) (bis : ℕ) (closed : Closed) → is_in closed.which bis ≡ true
+    → slots_closed setup bis (closed ∷ []) ≡ map (λ slot. record { event = closed.event; slot = slot }) (range_with_len 0 (per_event_of setup.info))
+one_slots setup bis closed taken =
+    append-nil (slots_in setup bis closed)
+    ∙ cond-true (is_in closed.which bis) (map (λ slot. record { event = closed.event; slot = slot }) (range_with_len 0 (per_event_of setup.info))) [] taken
+
+taken_zip : (setup : Setup) (tuning : Tuning) (bis : ℕ) (calls : List stays.Call) (count : ℕ) → TunedTo setup tuning → is_in tuning.which bis ≡ true → (over : Bool)
+    → AllZip (IsOfSlot setup bis) (slots_closed setup bis (cond over (record { event = tuning.first + count; which = tuning.which } ∷ []) []))
+    (cond over (units_of (stay_on tuning bis) calls (tuning.first + count)) [])
+taken_zip setup tuning bis calls count on taken false = tt
+taken_zip setup tuning bis calls count on taken true =
+    subst (λ places. AllZip (IsOfSlot setup bis) places (units_of (stay_on tuning bis) calls (tuning.first + count)))
+    (sym (one_slots setup bis (record { event = tuning.first + count; which = tuning.which }) taken))
+    (subst (λ (i : BigInfo). AllZip (IsOfSlot setup bis) (map (λ slot. record { event = tuning.first + count; slot = slot }) (range_with_len 0 (per_event_of setup.info)))
+    (map (unit_at (stay_on tuning bis) calls (tuning.first + count)) (range_with_len 0 (per_event_of i)))) (sym on.info)
+    (units_in_slots setup tuning bis calls (tuning.first + count) on (omega arith)))
+
+event_zip : Below → (setup : Setup) (bis event : ℕ) (calls : List Call) (p : Option Tuning) → place calls ≡ p → ((tuning : Tuning) → p ≡ Some tuning → TunedTo setup tuning)
+    → setup.info.framing ≡ 0 → 1 ≤ bis → bis ≤ 31 → AllZip (IsOfSlot setup bis) (slots_closed setup bis (closed_in p calls event)) (of_stream bis (handed_at calls event))
+event_zip below setup bis event calls None is on plain least within = subst (λ q. AllZip (IsOfSlot setup bis) [] (of_stream bis (ticked_by event calls q))) (sym is) tt
+event_zip below setup bis event calls (Some tuning) is on plain least within = elim (cases_Bool (is_in tuning.which bis)) [
+  | inl taken ↦
+      let units : of_stream bis (handed_at calls event)
+      ≡ cond (leb (tuning.first + closes tuning calls) event) (units_of (stay_on tuning bis) (stream_calls (stay_on tuning bis) calls) (tuning.first + closes tuning calls)) [] =
+      tick_hands below event calls tuning bis (ap (λ (i : BigInfo). i.framing) (on tuning refl).info ∙ plain) is (is_member tuning.which bis least within taken)
+      ∙ ap (λ o. cond (leb o event) (units_of (stay_on tuning bis) (stream_calls (stay_on tuning bis) calls) o) []) (below.one_open tuning calls bis) in
+      subst (λ shown. AllZip (IsOfSlot setup bis) (slots_closed setup bis (closed_in (Some tuning) calls event)) shown) (sym units)
+      (taken_zip setup tuning bis (stream_calls (stay_on tuning bis) calls) (closes tuning calls) (on tuning refl) taken (leb (tuning.first + closes tuning calls) event))
+  | inr free ↦
+      let none : of_stream bis (handed_at calls event) ≡ [] =
+      tick_others below event calls tuning bis is (λ at. true_not_false (is_in tuning.which bis) (member_is tuning.which bis at).0 free) in
+      subst (λ shown. AllZip (IsOfSlot setup bis) (slots_closed setup bis (closed_in (Some tuning) calls event)) shown) (sym none)
+      (subst (λ places. AllZip (IsOfSlot setup bis) places [])
+      (sym (not_in_slots setup bis (leb (tuning.first + closes tuning calls) event) (record { event = tuning.first + closes tuning calls; which = tuning.which }) free)) tt)
+]
+
+-- ---- step by step
+
+open_zip : Below → (setup : Setup) (bis : ℕ) (calls : List Call) (last_open : Option ℕ) → ((tuning : Tuning) → place calls ≡ Some tuning → TunedTo setup tuning)
+    → setup.info.framing ≡ 0 → 1 ≤ bis → bis ≤ 31 → AllZip (IsOfSlot setup bis) (slots_closed setup bis (closed_at calls last_open)) (of_stream bis (handed_open calls last_open))
+open_zip below setup bis calls None on plain least within = tt
+open_zip below setup bis calls (Some event) on plain least within = event_zip below setup bis event calls (place calls) refl on plain least within
+
+with_zip : Below → (setup : Setup) (bis : ℕ) (calls : List Call) (last_open : Option ℕ) (mine : Bool) → (mine ≡ true → (tuning : Tuning) → place calls ≡ Some tuning → TunedTo setup tuning)
+    → setup.info.framing ≡ 0 → 1 ≤ bis → bis ≤ 31 → AllZip (IsOfSlot setup bis) (slots_closed setup bis (closed_if mine calls last_open)) (of_stream bis (shown_if mine calls last_open))
+with_zip below setup bis calls last_open true on plain least within = open_zip below setup bis calls last_open (on refl) plain least within
+with_zip below setup bis calls last_open false on plain least within = tt
+
+zip_if : (setup : Setup) (bis : ℕ) (its : Bool) (closed : List Closed) (units : List Handed) → AllZip (IsOfSlot setup bis) (slots_closed setup bis closed) (of_stream bis units)
+    → AllZip (IsOfSlot setup bis) (slots_closed setup bis (cond its closed [])) (of_stream bis (cond its units []))
+zip_if setup bis true closed units all = all
+zip_if setup bis false closed units all = tt
+
+step_zip : Below → (airs : Airs) (s n bis : ℕ) (setup : Setup) (step : Step) (earlier : List Step)
+    → (is_of s (source_of n earlier) ≡ true → (tuning : Tuning) → place (sink_calls airs n earlier) ≡ Some tuning → TunedTo setup tuning) → setup.info.framing ≡ 0 → 1 ≤ bis → bis ≤ 31
+    → AllZip (IsOfSlot setup bis) (slots_closed setup bis (closed_by airs s n earlier step)) (of_stream bis (shown_by airs s n earlier step))
+step_zip below airs s n bis setup steps.Event earlier on plain least within =
+    zip_if setup bis (chosen_of earlier == s) _ _
+    (with_zip below setup bis (sink_calls airs n earlier) (open_event (steps_of_source s earlier)) (is_of s (source_of n earlier)) on plain least within)
+step_zip below airs s n bis setup steps.Stop earlier on plain least within =
+    zip_if setup bis (chosen_of earlier == s) _ _
+    (with_zip below setup bis (sink_calls airs n earlier) (open_event (steps_of_source s earlier)) (is_of s (source_of n earlier)) on plain least within)
+step_zip below airs s n bis setup (steps.Terminate reason) earlier on plain least within =
+    zip_if setup bis (chosen_of earlier == s) _ _
+    (with_zip below setup bis (sink_calls airs n earlier) (open_event (steps_of_source s earlier)) (is_of s (source_of n earlier)) on plain least within)
+step_zip below airs s n bis setup steps.End earlier on plain least within =
+    with_zip below setup bis (sink_calls airs n earlier) (open_event (steps_of_source s earlier)) (is_of s (source_of n earlier)) on plain least within
+step_zip below airs s n bis setup _ earlier on plain least within = tt
+
+stream_on : (bis : ℕ) (xs ys : List Handed) → of_stream bis (xs ++ ys) ≡ of_stream bis xs ++ of_stream bis ys
+stream_on bis xs ys = filter-append (λ entry. eqb (bis_of entry) bis) xs ys
+
+pub shown_on : (s n bis : ℕ) (xs ys : List SinkUnit) → of_stream bis (of_sink s n (xs ++ ys)) ≡ of_stream bis (of_sink s n xs) ++ of_stream bis (of_sink s n ys)
+shown_on s n bis xs ys = ap (of_stream bis) (of_sink_on s n xs ys) ∙ stream_on bis (of_sink s n xs) (of_sink s n ys)
+
+again_zip : (s n bis : ℕ) (setup : Setup) (again : Bool) (closed more : List Closed) (units others : List SinkUnit)
+    → AllZip (IsOfSlot setup bis) (slots_closed setup bis closed) (of_stream bis (of_sink s n units))
+    → AllZip (IsOfSlot setup bis) (slots_closed setup bis more) (of_stream bis (of_sink s n others))
+    → AllZip (IsOfSlot setup bis) (slots_closed setup bis (cond again [] (closed ++ more))) (of_stream bis (of_sink s n (cond again [] (units ++ others))))
+again_zip s n bis setup true closed more units others first rest = tt
+again_zip s n bis setup false closed more units others first rest =
+    subst (λ places. AllZip (IsOfSlot setup bis) places (of_stream bis (of_sink s n (units ++ others)))) (sym (flat_map-append (slots_in setup bis) closed more))
+    (subst (λ shown. AllZip (IsOfSlot setup bis) (slots_closed setup bis closed ++ slots_closed setup bis more) shown) (sym (shown_on s n bis units others))
+    (zip_on (IsOfSlot setup bis) (slots_closed setup bis closed) (slots_closed setup bis more) (of_stream bis (of_sink s n units)) (of_stream bis (of_sink s n others)) first rest))
+
+-- the stay that a sink is in, by what fixes the whole source
+pub on_whole : (airs : Airs) (boxes s n : ℕ) (setup : Setup) (whole : List SourceCall) (made : List Step) → Legal airs boxes made → Within setup whole (steps_of_source s made)
+    → is_of s (source_of n made) ≡ true → (tuning : Tuning) → place (sink_calls airs n made) ≡ Some tuning → TunedTo setup tuning
+on_whole airs boxes s n setup whole made legal within mine tuning is =
+    let on : OnSource (steps_of_source s made) tuning = on_source airs boxes s n made tuning legal (record { place_is = is; source_is = is_its s (source_of n made) mine }) in
+    subst (λ (setup' : Setup). TunedTo setup' tuning) (within.setup_is on.started) on.tuned
+
+slots_zip : Below → (airs : Airs) (boxes s n bis : ℕ) (setup : Setup) (whole : List SourceCall) (made : List Step) → Legal airs boxes made → Within setup whole (steps_of_source s made)
+    → setup.info.framing ≡ 0 → s ≤ 1 → n ≤ 7 → 1 ≤ bis → bis ≤ 31 → AllZip (IsOfSlot setup bis) (slots_closed setup bis (closed_since airs s n made)) (shown_since (is_made n) airs s n bis made)
+slots_zip below airs boxes s n bis setup whole [] legal within plain s_within n_within least upper = tt
+slots_zip below airs boxes s n bis setup whole (step ∷ earlier) legal within plain s_within n_within least upper =
+    let before : Within setup whole (steps_of_source s earlier) = within_before airs boxes s setup whole earlier step legal within in
+    again_zip s n bis setup (is_made n step) (closed_since airs s n earlier) (closed_by airs s n earlier step) (handed_since (is_made n) airs earlier) (handed_by airs earlier step)
+    (slots_zip below airs boxes s n bis setup whole earlier legal.0 before plain s_within n_within least upper)
+    (subst (λ units. AllZip (IsOfSlot setup bis) (slots_closed setup bis (closed_by airs s n earlier step)) (of_stream bis units))
+    (sym (step_shown airs boxes s n step earlier legal.0 s_within n_within))
+    (step_zip below airs s n bis setup step earlier (on_whole airs boxes s n setup whole earlier legal.0 before) plain least upper))
+
+pub slots_are_shown : Below → (airs : Airs) (boxes s n bis : ℕ) (made : List Step) → Legal airs boxes made → (setup_of (steps_of_source s made)).info.framing ≡ 0 → s ≤ 1 → n ≤ 7 → 1 ≤ bis → bis ≤ 31
+    → AllZip (IsOfSlot (setup_of (steps_of_source s made)) bis) (slots_closed (setup_of (steps_of_source s made)) bis (closed_since airs s n made)) (shown_since (is_made n) airs s n bis made)
+slots_are_shown below airs boxes s n bis made legal plain s_within n_within least upper =
+    slots_zip below airs boxes s n bis (setup_of (steps_of_source s made)) (source_calls (steps_of_source s made)) made legal (within_itself
+    (steps_of_source s made)) plain s_within n_within least upper

@@ -1,0 +1,350 @@
+-- The steps of one source of a scenario of which no line was refused: its group stands before its start, it takes calls only
+-- behind it, and what fixes it stays.
+use Rattle.std.proofs.Common.{ℕ, zero, suc, ◌≡◌, ◌⊎◌, ◌<◌, ◌≤◌, ◌||◌, ◌&&◌, ◌==◌, not, cond, Bool, true, false, List, [], ◌∷◌, Option, None, Some, refl, sym, ◌∙◌, ap, subst, arith, inl, inr}
+use Rattle.std.specs.Prelude.{unwrap_or}
+use Rattle.std.proofs.lemmas.Bool.{cases_Bool, eqb-true, false≢true, or_parts}
+use Rattle.std.proofs.lemmas.Option.{none-some}
+use Rattle.big_info.specs.declared.info.BigInfo.{BigInfo}
+use Rattle.big_info.specs.declared.group.Group.{Group}
+use Rattle.big_info.specs.Bounds.{Bounds}
+use Rattle.big_info.specs.Rows.{NoFault, first_fault}
+use Rattle.big_info.specs.Widths.{FitsWidths}
+use Rattle.big_info.proofs.Citable.{bounds_of, no_fault_within}
+use Rattle.source_machine.specs.declared.fault.EventFault.{EventFault}
+use Rattle.source_machine.specs.Ciphers.{without_cipher}
+use Rattle.source_machine.specs.Faults.{event_fault, give_fault}
+use Rattle.source_machine.specs.Setups.{IsChecked}
+use Rattle.scenario_text.specs.declared.step.Step.{Step}
+use Rattle.scenario_text.specs.declared.step.Step.TheVariants as steps
+use Rattle.scenario_text.specs.Ranges.{IsInRange, GroupRanges}
+use Rattle.transcript_text.specs.declared.refusal.Refusal.TheVariants.{BaseTooLong}
+use Rattle.scenario_history.proofs.Citable.{stage_same}
+use Rattle.scenario_history.specs.Steps.{chosen_of, is_common, is_of_source, is_source_line, is_unbegun_at, stage_after, stage_of, steps_of_source, version_of}
+use Rattle.scenario_history.specs.Source.{Airs, Phase, absent, checked_info, cipher_of, described, group_of, info_with, is_absent_at, is_ciphered, sending, stopped}
+use Rattle.scenario_history.specs.Source.{is_described_at, is_heard, is_sending, is_sending_at, is_started, no_group, takes_units, phase_of, setup_of, source_calls, start_of, was_started_at}
+use Rattle.scenario_history.specs.Airs.{AreAccepted}
+use Rattle.scenario_history.specs.Bases.{is_base_too_long, is_last_bare}
+use Rattle.scenario_history.specs.Refusals.{counter_ends, give_refusal, group_refusal, horizon_in, is_misplaced, is_out_of_phase, is_unbuilt, refuse_if, source_refusal}
+use Rattle.scenario_laws.proofs.Legals.{Legal, Permitted, maps_none, neither, permitted}
+use Rattle.scenario_laws.proofs.StartGroups.{may_be_sent}
+
+-- ---- tests
+
+pub true_not_false : (b : Bool) → b ≡ true → b ≡ false → ⊥
+true_not_false b holds fails = false≢true (sym fails ∙ holds)
+
+pub not_false : (b : Bool) → not b ≡ false → b ≡ true
+not_false true is = refl
+not_false false is = sym is
+
+-- ---- the phases
+
+absent_then : (p : Phase) → not (is_absent_at p) ≡ false → was_started_at p ≡ false
+absent_then absent is = refl
+absent_then described is = absurd (false≢true (sym is))
+absent_then sending is = absurd (false≢true (sym is))
+absent_then stopped is = absurd (false≢true (sym is))
+
+described_then : (p : Phase) → not (is_described_at p) ≡ false → was_started_at p ≡ false
+described_then absent is = absurd (false≢true (sym is))
+described_then described is = refl
+described_then sending is = absurd (false≢true (sym is))
+described_then stopped is = absurd (false≢true (sym is))
+
+sending_then : (p : Phase) → not (is_sending_at p) ≡ false → was_started_at p ≡ true
+sending_then absent is = absurd (false≢true (sym is))
+sending_then described is = absurd (false≢true (sym is))
+sending_then sending is = refl
+sending_then stopped is = absurd (false≢true (sym is))
+
+pub sends : (own : List Step) → not (is_sending own) ≡ false → is_started own ≡ true
+sends own is = sending_then (phase_of own) is
+
+pub not_started : (own : List Step) → not (is_described_at (phase_of own)) ≡ false → is_started own ≡ false
+not_started own is = described_then (phase_of own) is
+
+pub no_group_yet : (own : List Step) → not (is_absent_at (phase_of own)) ≡ false → is_started own ≡ false
+no_group_yet own is = absent_then (phase_of own) is
+
+left_fails : (a b : Bool) → not (a && b) ≡ false → not a ≡ false
+left_fails true b is = refl
+left_fails false b is = is
+
+pub takes : (own : List Step) → not (takes_units own) ≡ false → is_started own ≡ true
+takes own is = sends own (left_fails (is_sending own) (not (is_ciphered own)) is)
+
+pub hears : (own : List Step) → not (is_heard own) ≡ false → is_started own ≡ true
+hears own is = not_false (is_started own) (left_fails (is_started own) (not (is_ciphered own)) is)
+
+-- a step that stands before `start`, and not where something else holds
+pub not_yet : (own : List Step) (other : Bool) → (not (is_described_at (phase_of own)) || other) ≡ false → is_started own ≡ false
+not_yet own other is = not_started own (or_parts (not (is_described_at (phase_of own))) other is).0
+
+-- ---- the steps of a source
+
+-- the source takes the step after those before it
+pub record Allowed (airs : Airs) (own : List Step) (step : Step) : Type 0 where
+  pub version : ℕ
+  pub in_place : is_misplaced (stage_of own) step ≡ false
+  pub in_phase : is_out_of_phase own step ≡ false
+  pub built : is_unbuilt step ≡ false
+  pub by_source : source_refusal airs version own step ≡ None
+  pub ranged : IsInRange step
+
+abbrev pub Lawful : Airs → List Step → Type 0
+Lawful airs [] = Unit {0}
+Lawful airs (step ∷ own) = Lawful airs own × Allowed airs own step
+
+common_allowed : (airs : Airs) (own : List Step) (step : Step) → is_common step ≡ true → is_misplaced (stage_of own) step ≡ false → IsInRange step → Allowed airs own step
+common_allowed airs own (steps.Scenario number) common placed ranged =
+    record { version = 1; in_place = placed; in_phase = refl; built = refl; by_source = refl; ranged = ranged }
+common_allowed airs own steps.End common placed ranged = record { version = 1; in_place = placed; in_phase = refl; built = refl; by_source = refl; ranged = ranged }
+common_allowed airs own _ common placed ranged = absurd (false≢true common)
+
+of_source_parts : (a b c : Bool) → (a || (b && c)) ≡ true → (a ≡ true) ⊎ (c ≡ true)
+of_source_parts true b c is = inl refl
+of_source_parts false true c is = inr is
+of_source_parts false false c is = absurd (false≢true is)
+
+pub its_step : (airs : Airs) (boxes s : ℕ) (earlier : List Step) (step : Step) → Permitted airs boxes earlier step → IsInRange step → is_of_source s earlier step ≡ true
+    → Allowed airs (steps_of_source s earlier) step
+its_step airs boxes s earlier step permits ranged is =
+    let placed : (t : ℕ) → is_misplaced (stage_of (steps_of_source t earlier)) step ≡ false = λ t. ap (λ stage. is_misplaced stage step) (stage_same t earlier) ∙ permits.in_place in
+    elim (of_source_parts (is_common step) (is_source_line step) (chosen_of earlier == s) is) [
+      | inl common ↦ common_allowed airs (steps_of_source s earlier) step common (placed s) ranged
+      | inr chosen ↦
+          subst (λ t. Allowed airs (steps_of_source t earlier) step) (eqb-true (chosen_of earlier) s chosen)
+          (record { version = version_of earlier; in_place = placed (chosen_of earlier); in_phase = permits.in_phase; built = permits.built; by_source = permits.by_source; ranged = ranged })
+    ]
+
+lawful_if : (airs : Airs) (own : List Step) (step : Step) (is_its : Bool) → Lawful airs own → (is_its ≡ true → Allowed airs own step) → Lawful airs (cond is_its (step ∷ own) own)
+lawful_if airs own step true before allows = (before, allows refl)
+lawful_if airs own step false before allows = before
+
+pub lawful : (airs : Airs) (boxes s : ℕ) (made : List Step) → Legal airs boxes made → Lawful airs (steps_of_source s made)
+lawful airs boxes s [] legal = tt
+lawful airs boxes s (step ∷ earlier) legal =
+    lawful_if airs (steps_of_source s earlier) step (is_of_source s earlier step) (lawful airs boxes s earlier legal.0)
+    (its_step airs boxes s earlier step (permitted airs boxes earlier step legal.1) legal.2)
+
+horizon_greatest : (second : Bool) → cond second 31 15 ≤ 31
+horizon_greatest true = omega arith
+horizon_greatest false = omega arith
+
+-- ---- what holds of a source in its phase
+
+pub record Settled (own : List Step) : Type 0 where
+  pub widths : FitsWidths (unwrap_or (group_of own) no_group).info
+  pub uncoded : without_cipher (unwrap_or (group_of own) no_group).info ≡ (unwrap_or (group_of own) no_group).info
+  pub no_fault : is_started own ≡ true → NoFault 31 (unwrap_or (group_of own) no_group).info
+  pub quiet : is_started own ≡ false → source_calls own ≡ []
+  pub unbegun : is_started own ≡ false → unwrap_or (start_of own) 0 ≡ 0
+  pub under_way : is_started own ≡ true → is_unbegun_at (stage_of own) ≡ false
+
+widths_in : (framing origin delay iso sdu max_sdu max_pdu num_bis bn nse irc pto sub spacing phy : ℕ)
+    → GroupRanges framing origin delay iso sdu max_sdu max_pdu num_bis bn nse irc pto sub spacing phy
+    → FitsWidths (info_with framing iso sdu max_sdu max_pdu num_bis bn nse irc pto sub spacing phy)
+widths_in framing origin delay iso sdu max_sdu max_pdu num_bis bn nse irc pto sub spacing phy ranged = record {
+  big_offset = omega arith;
+  big_offset_units = omega arith;
+  iso_interval = ranged.iso_is;
+  num_bis = ranged.num_bis_is;
+  nse = ranged.nse_is;
+  bn = ranged.bn_is;
+  sub_interval = ranged.sub_is;
+  pto = ranged.pto_is;
+  bis_spacing = ranged.spacing_is;
+  irc = ranged.irc_is;
+  max_pdu = ranged.max_pdu_is;
+  seed_access_address = omega arith;
+  sdu_interval = ranged.sdu_is;
+  max_sdu = ranged.max_sdu_is;
+  base_crc_init = omega arith;
+  chm = omega arith;
+  phy = ranged.phy_is;
+  bis_payload_count = omega arith;
+  framing = omega (arith, ranged.framing_is);
+}
+
+no_widths : FitsWidths no_group.info
+no_widths = record {
+  big_offset = omega arith;
+  big_offset_units = omega arith;
+  iso_interval = omega arith;
+  num_bis = omega arith;
+  nse = omega arith;
+  bn = omega arith;
+  sub_interval = omega arith;
+  pto = omega arith;
+  bis_spacing = omega arith;
+  irc = omega arith;
+  max_pdu = omega arith;
+  seed_access_address = omega arith;
+  sdu_interval = omega arith;
+  max_sdu = omega arith;
+  base_crc_init = omega arith;
+  chm = omega arith;
+  phy = omega arith;
+  bis_payload_count = omega arith;
+  framing = omega arith;
+}
+
+begins : (own : List Step) → (is_started own ≡ true → is_unbegun_at (stage_of own) ≡ false) → not (is_unbegun_at (stage_of own)) ≡ false → is_started own ≡ false
+begins own before is = elim (cases_Bool (is_started own)) [
+  | inl started ↦ absurd (true_not_false (is_unbegun_at (stage_of own)) (not_false (is_unbegun_at (stage_of own)) is) (before started))
+  | inr idle ↦ idle
+]
+
+settled_after : (airs : Airs) (own : List Step) (step : Step) → Settled own → Allowed airs own step → Settled (step ∷ own)
+settled_after airs own (steps.Group framing origin delay iso sdu max_sdu max_pdu num_bis bn nse irc pto sub spacing phy) before allows = record {
+  widths = widths_in framing origin delay iso sdu max_sdu max_pdu num_bis bn nse irc pto sub spacing phy allows.ranged;
+  uncoded = refl;
+  no_fault = λ started. absurd (false≢true started);
+  quiet = λ idle. before.quiet (no_group_yet own allows.in_phase);
+  under_way = λ started. absurd (false≢true started);
+  unbegun = λ idle. before.unbegun (no_group_yet own allows.in_phase);
+}
+settled_after airs own (steps.Start first) before allows = record {
+  widths = before.widths;
+  uncoded = before.uncoded;
+  no_fault = λ started. no_fault_within (horizon_in allows.version) (unwrap_or (group_of own) no_group).info (horizon_greatest (allows.version == 2))
+      (subst (NoFault (horizon_in allows.version)) before.uncoded
+      (may_be_sent (horizon_in allows.version) (unwrap_or (group_of own) no_group).info (cipher_of own) (first_fault (horizon_in allows.version) (checked_info own)) refl
+      (neither (group_refusal (first_fault (horizon_in allows.version) (checked_info own))) (refuse_if (is_base_too_long own) BaseTooLong) allows.by_source).0));
+  quiet = λ idle. absurd (false≢true (sym idle));
+  under_way = λ started. allows.in_place;
+  unbegun = λ idle. absurd (false≢true (sym idle));
+}
+settled_after airs own steps.Stop before allows = record {
+  widths = before.widths;
+  uncoded = before.uncoded;
+  no_fault = λ started. before.no_fault (sends own allows.in_phase);
+  quiet = λ idle. absurd (false≢true (sym idle));
+  under_way = λ started. allows.in_place;
+  unbegun = λ idle. absurd (false≢true (sym idle));
+}
+settled_after airs own (steps.Terminate reason) before allows = record {
+  widths = before.widths;
+  uncoded = before.uncoded;
+  no_fault = λ started. before.no_fault (sends own allows.in_phase);
+  quiet = λ idle. absurd (false≢true (sym idle));
+  under_way = λ started. allows.in_place;
+  unbegun = λ idle. absurd (false≢true (sym idle));
+}
+settled_after airs own (steps.Unit bis time octets) before allows = record {
+  widths = before.widths;
+  uncoded = before.uncoded;
+  no_fault = before.no_fault;
+  quiet = λ idle. absurd (true_not_false (is_started own) (takes own allows.in_phase) idle);
+  under_way = λ started. allows.in_place;
+  unbegun = before.unbegun;
+}
+settled_after airs own steps.Event before allows = record {
+  widths = before.widths;
+  uncoded = before.uncoded;
+  no_fault = before.no_fault;
+  quiet = λ idle. absurd (true_not_false (is_started own) (takes own allows.in_phase) idle);
+  under_way = λ started. allows.in_place;
+  unbegun = before.unbegun;
+}
+settled_after airs own (steps.Scenario version) before allows = record {
+  widths = before.widths;
+  uncoded = before.uncoded;
+  no_fault = before.no_fault;
+  quiet = before.quiet;
+  under_way = λ started. refl;
+  unbegun = before.unbegun;
+}
+settled_after airs own steps.End before allows = record {
+  widths = before.widths;
+  uncoded = before.uncoded;
+  no_fault = before.no_fault;
+  quiet = before.quiet;
+  under_way = λ started. refl;
+  unbegun = before.unbegun;
+}
+settled_after airs own _ before allows = record {
+  widths = before.widths;
+  uncoded = before.uncoded;
+  no_fault = before.no_fault;
+  quiet = before.quiet;
+  under_way = λ started. allows.in_place;
+  unbegun = before.unbegun;
+}
+
+pub settled : (airs : Airs) (own : List Step) → Lawful airs own → Settled own
+settled airs [] legal = record {
+  widths = no_widths;
+  uncoded = refl;
+  no_fault = λ started. absurd (false≢true started);
+  quiet = λ idle. refl;
+  unbegun = λ idle. refl;
+  under_way = λ started. absurd (false≢true started);
+}
+settled airs (step ∷ own) legal = settled_after airs own step (settled airs own legal.0) legal.1
+
+-- a start stays, and with it what fixes the source
+pub started_stays : (airs : Airs) (own : List Step) (step : Step) → Allowed airs own step → is_started own ≡ true → is_started (step ∷ own) ≡ true
+started_stays airs own (steps.Group framing origin delay iso sdu max_sdu max_pdu num_bis bn nse irc pto sub spacing phy) allows started =
+    absurd (true_not_false (is_started own) started (no_group_yet own allows.in_phase))
+started_stays airs own (steps.Start first) allows started = refl
+started_stays airs own steps.Stop allows started = refl
+started_stays airs own (steps.Terminate reason) allows started = refl
+started_stays airs own _ allows started = started
+
+pub setup_stays : (airs : Airs) (own : List Step) (step : Step) → Settled own → Allowed airs own step → is_started own ≡ true → setup_of (step ∷ own) ≡ setup_of own
+setup_stays airs own (steps.Group framing origin delay iso sdu max_sdu max_pdu num_bis bn nse irc pto sub spacing phy) is allows started =
+    absurd (true_not_false (is_started own) started (no_group_yet own allows.in_phase))
+setup_stays airs own (steps.Start first) is allows started = absurd (true_not_false (is_started own) started (not_yet own (is_last_bare own) allows.in_phase))
+setup_stays airs own (steps.Scenario version) is allows started = absurd (true_not_false (is_started own) started (begins own is.under_way allows.in_place))
+setup_stays airs own _ is allows started = refl
+
+one_or_none : (n : ℕ) → n < 2 → (n ≡ 0) ⊎ (n ≡ 1)
+one_or_none zero below = inl refl
+one_or_none (suc zero) below = inr refl
+one_or_none (suc (suc n)) below = absurd (omega (arith, below))
+
+-- the group of a source that was started
+abbrev pub group_in : (own : List Step) → Settled own → is_started own ≡ true → Group
+group_in own is started = record {
+  info = (setup_of own).info;
+  widths = is.widths;
+  no_fault = is.no_fault started;
+  bounds = bounds_of (setup_of own).info (is.no_fault started);
+}
+
+-- a group is unframed or framed
+pub framings : (own : List Step) → Settled own → ((setup_of own).info.framing ≡ 0) ⊎ ((setup_of own).info.framing ≡ 1)
+framings own is = one_or_none (setup_of own).info.framing is.widths.framing
+
+pub checked : (group : Group) → IsChecked group.info
+checked group = record { bounds = group.bounds; framing = omega (arith, group.widths.framing) }
+
+pub bounds_in : (own : List Step) → Settled own → is_started own ≡ true → Bounds (setup_of own).info
+bounds_in own is started = bounds_of (setup_of own).info (is.no_fault started)
+
+-- ---- its calls were accepted
+
+pub no_end : (fault : Option EventFault) → counter_ends fault ≡ None → fault ≡ None
+no_end None none = refl
+no_end (Some fault) none = absurd (none-some _ (sym none))
+
+accepted_after : (airs : Airs) (own : List Step) (step : Step) → Settled own → Allowed airs own step → AreAccepted airs (setup_of own) (source_calls own)
+    → AreAccepted airs (setup_of (step ∷ own)) (source_calls (step ∷ own))
+accepted_after airs own (steps.Group framing origin delay iso sdu max_sdu max_pdu num_bis bn nse irc pto sub spacing phy) is allows before =
+    subst (λ calls. AreAccepted airs (setup_of (steps.Group framing origin delay iso sdu max_sdu max_pdu num_bis bn nse irc pto sub spacing phy ∷ own)) calls)
+    (sym (is.quiet (no_group_yet own allows.in_phase))) tt
+accepted_after airs own (steps.Start first) is allows before =
+    subst (λ calls. AreAccepted airs (setup_of (steps.Start first ∷ own)) calls) (sym (is.quiet (not_yet own (is_last_bare own) allows.in_phase))) tt
+accepted_after airs own (steps.Unit bis time octets) is allows before = (
+  before,
+  maps_none give_refusal (give_fault (setup_of own) (source_calls own) (airs (setup_of own) (source_calls own)) bis time octets) allows.by_source,
+)
+accepted_after airs own steps.Event is allows before = (before, no_end (event_fault (setup_of own) (source_calls own)) allows.by_source)
+accepted_after airs own (steps.Scenario version) is allows before =
+    subst (λ calls. AreAccepted airs (setup_of (steps.Scenario version ∷ own)) calls) (sym (is.quiet (begins own is.under_way allows.in_place))) tt
+accepted_after airs own _ is allows before = before
+
+pub are_accepted : (airs : Airs) (own : List Step) → Lawful airs own → AreAccepted airs (setup_of own) (source_calls own)
+are_accepted airs [] legal = tt
+are_accepted airs (step ∷ own) legal = accepted_after airs own step (settled airs own legal.0) legal.1 (are_accepted airs own legal.0)

@@ -1,0 +1,283 @@
+-- The entries of a framed stream over all stays of a sink with a source: each is of a unit that the source accepted, in order.
+use Rattle.std.proofs.Common.{ℕ, ◌≡◌, ◌⊎◌, ◌<◌, ◌≤◌, ◌+◌, ◌-◌, ◌*◌, ◌/◌, true, false, List, [], ◌∷◌, ◌++◌, map, refl, sym, ◌∙◌, ap, subst, arith, inl, inr}
+use Rattle.std.specs.List.{Contains}
+use Rattle.std.proofs.Math.Nat.{add-mul, mul-le-mul}
+use Rattle.std.proofs.lemmas.Bool.{cases_Bool}
+use Rattle.std.proofs.lemmas.List.{append-nil}
+use Rattle.std.proofs.lemmas.Nat.{div-mul-add}
+use Rattle.big_info.specs.declared.info.BigInfo.{BigInfo}
+use Rattle.big_info.specs.Time.{iso_us_of}
+use Rattle.unit_outlets.specs.Handed.{Handed, valid, lost}
+use Rattle.isoal_base.specs.Stays as stays
+use Rattle.isoal_base.specs.Stays.{Stay, opened}
+use Rattle.isoal_framed.specs.Calls.{Timed, accepted, anchors_of}
+use Rattle.isoal_framed.specs.Sends.{IsOf}
+use Rattle.isoal_framed.specs.Struck.{Sent, closed_end, entry_of, is_heard, octets_in, struck}
+use Rattle.isoal_framed.specs.Tokens.{time_of}
+use Rattle.sync_reference.specs.Reference.{anchor_of, framed_reference_of, render_of}
+use Rattle.source_machine.specs.Calls.{Setup, Call as SourceCall, framed_calls, next_of}
+use Rattle.group_sink.specs.Calls.{Tuning}
+use Rattle.group_sink.specs.Handing.{bis_of, handed_since as ticked_since, of_stream}
+use Rattle.group_sink.specs.Streams.{is_in, stay_on, streams_of}
+use Rattle.group_sink.proofs.Citable.{is_member, member_is}
+use Rattle.scenario_text.specs.declared.step.Step.{Step}
+use Rattle.scenario_history.specs.Steps.{steps_of_source}
+use Rattle.scenario_history.specs.Source.{Airs, is_started, setup_of, source_calls}
+use Rattle.scenario_history.specs.Airs.{MeetAirs}
+use Rattle.scenario_history.specs.Sinks.{sink_calls}
+use Rattle.scenario_laws.specs.SourceUnits.{InUnitOrder, IsOfUnit, anchor_in, by_payload, time_in, whole_stay}
+use Rattle.scenario_laws.specs.Laws.{Closed, calls_on, injected_since, is_injected, is_made, is_tuned, shown_since}
+use Rattle.scenario_laws.proofs.Below.{Below}
+use Rattle.scenario_laws.proofs.Legals.{Legal}
+use Rattle.scenario_laws.proofs.Sources.{Lawful, lawful, true_not_false}
+use Rattle.scenario_laws.proofs.Wholes.{Within, goes, next_in, within_before, within_itself}
+use Rattle.scenario_laws.proofs.Stays.{OnSource, TunedTo, on_source}
+use Rattle.scenario_laws.proofs.Closes.{climbs}
+use Rattle.scenario_laws.proofs.UnitsLaw.{since}
+use Rattle.scenario_laws.proofs.InOrder.{clean_before, clean_stay}
+use Rattle.scenario_laws.proofs.FramedCalls.{laid_by}
+use Rattle.scenario_laws.proofs.FramedSends.{FramedWhole, laid_end, sent_in_order}
+use Rattle.scenario_laws.proofs.FramedStays.{heard_least, mul_least, next_of_whole, opened_least, opened_within, stay_decided, stay_on_whole, taken_within, whole_units}
+use Rattle.scenario_laws.proofs.Entries.{Gives, IsEntry, IsNumbered, Numbered, Ordered, are_numbered, has_entry, le_total, ordered_later, ordered_none, ordered_on}
+use Rattle.scenario_laws.proofs.StaysInTurn.{OverStay, Turns, over_stays}
+
+-- ---- units by payload numbers
+
+-- the unit is of the one of this number among those accepted, of which the air sends one that has this place
+abbrev pub IsSent : Setup → List SourceCall → ℕ → ℕ → Sent → Type 0
+IsSent setup whole bis n unit =
+    (one : Sent) × (unit ≡ by_payload setup one) × IsNumbered setup.info.bn (anchors_of (framed_calls setup bis whole)) (accepted (framed_calls setup bis whole)) n one
+
+numbered_on : (setup : Setup) (whole : List SourceCall) (bis low : ℕ) (ns : List ℕ) (units : List Sent)
+    → Numbered (IsNumbered setup.info.bn (anchors_of (framed_calls setup bis whole)) (accepted (framed_calls setup bis whole))) low ns units
+    → Numbered (IsSent setup whole bis) low ns (map (by_payload setup) units)
+numbered_on setup whole bis low [] [] all = tt
+numbered_on setup whole bis low (n ∷ ns) [] all = absurd all
+numbered_on setup whole bis low [] (unit ∷ units) all = absurd all
+numbered_on setup whole bis low (n ∷ ns) (unit ∷ units) all = (all.0, (unit, refl, all.1), numbered_on setup whole bis (n + 1) ns units all.2)
+
+-- ---- an entry is of its unit
+
+-- the time of a start by the stay's anchor is that by the source's
+pub start_time_is : (setup : Setup) (tuning : Tuning) (bis event offset : ℕ) → TunedTo setup tuning → tuning.first ≤ event
+    → time_of (stay_on tuning bis) event offset ≡ time_of (whole_stay setup bis) event offset
+start_time_is setup tuning bis event offset on least =
+    let both : event - setup.first ≡ (tuning.first - setup.first) + (event - tuning.first) = omega (arith, least, on.first) in
+    let product : (event - setup.first) * iso_us_of setup.info ≡ (tuning.first - setup.first) * iso_us_of setup.info + (event - tuning.first) * iso_us_of setup.info =
+    ap (λ d. d * iso_us_of setup.info) both ∙ add-mul (tuning.first - setup.first) (event - tuning.first) (iso_us_of setup.info) in
+    let anchor : anchor_of tuning.anchor tuning.first event (iso_us_of setup.info) ≡ anchor_of setup.origin setup.first event (iso_us_of setup.info) =
+    omega (arith, product, on.anchor) in
+    ap (λ (i : BigInfo). render_of (framed_reference_of i (anchor_of tuning.anchor tuning.first event (iso_us_of i)) offset) tuning.delay) on.info
+    ∙ ap (λ a. render_of (framed_reference_of setup.info a offset) tuning.delay) anchor
+    ∙ ap (λ d. render_of (framed_reference_of setup.info (anchor_of setup.origin setup.first event (iso_us_of setup.info)) offset) d) on.delay
+
+event_is : (first bn event number : ℕ) → event * bn ≤ number → number < event * bn + bn → (first * bn + number) / bn ≡ first + event
+event_is first bn event number least below =
+    let product : (first + event) * bn ≡ first * bn + event * bn = add-mul first event bn in
+    let split : first * bn + number ≡ (first + event) * bn + (number - event * bn) = omega (arith, product, least) in
+    ap (λ n. n / bn) split ∙ div-mul-add (first + event) bn (number - event * bn) (omega (arith, least, below))
+
+event_below : (event number opens bn : ℕ) → event * bn ≤ number → number < opens * bn → event < opens
+event_below event number opens bn least below = elim (le_total opens event) [
+  | inl past ↦
+      let times : opens * bn ≤ event * bn = mul-le-mul past (omega arith) in
+      absurd (omega (arith, times, least, below))
+  | inr above ↦ above
+]
+
+entry_stream : (bis time : ℕ) (octets : List ℕ) (whole : Type 0) (entry : Handed) → ((entry ≡ lost bis time) ⊎ (whole × (entry ≡ valid bis time octets)))
+    → (bis_of entry ≡ bis) × (time_in entry ≡ time)
+entry_stream bis time octets whole entry is = elim is [
+  | inl gone ↦ (ap bis_of gone, ap time_in gone)
+  | inr here ↦ (ap bis_of here.1, ap time_in here.1)
+]
+
+abbrev octets_of : Handed → List ℕ
+octets_of (valid bis time octets) = octets
+octets_of (lost bis time) = []
+
+is_lost_no : (bis time bis' time' : ℕ) (octets : List ℕ) → lost bis time ≡ valid bis' time' octets → ⊥
+is_lost_no bis time bis' time' octets is = cc
+
+entry_octets : (bis time : ℕ) (octets all : List ℕ) (whole : Type 0) (entry : Handed) → (whole → octets ≡ all) → ((entry ≡ lost bis time) ⊎ (whole × (entry ≡ valid bis time octets)))
+    → (bis' time' : ℕ) (octets' : List ℕ) → entry ≡ valid bis' time' octets' → octets' ≡ all
+entry_octets bis time octets all whole entry of_unit is bis' time' octets' same = elim is [
+  | inl gone ↦ absurd (is_lost_no bis time bis' time' octets' (sym gone ∙ same))
+  | inr here ↦ ap octets_of (sym same ∙ here.1) ∙ of_unit here.0
+]
+
+one_entry : (setup : Setup) (whole : List SourceCall) (tuning : Tuning) (bis n : ℕ) (one : Sent) (entry : Handed) (calls : List stays.Call) → 1 ≤ setup.info.bn → TunedTo setup tuning
+    → opened (stay_on tuning bis) calls ≤ next_of setup whole
+    → IsNumbered setup.info.bn (anchors_of (framed_calls setup bis whole)) (accepted (framed_calls setup bis whole)) n one
+    → IsEntry (stay_on tuning bis) (is_heard (stay_on tuning bis) calls) (closed_end (stay_on tuning bis) calls) (by_payload setup one) entry
+    → IsOfUnit setup whole bis n entry
+one_entry setup whole tuning bis n one entry calls some on opens numbered is =
+    let unit : Timed = numbered.0 in
+    let is_of : IsOf setup.info.bn (anchors_of (framed_calls setup bis whole)) unit one = numbered.2 in
+    let bn_is : tuning.info.bn ≡ setup.info.bn = ap (λ (i : BigInfo). i.bn) on.info in
+    let at : (setup.first * setup.info.bn + one.first) / tuning.info.bn ≡ setup.first + is_of.timed.event =
+    ap (λ b. (setup.first * setup.info.bn + one.first) / b) bn_is ∙ event_is setup.first setup.info.bn is_of.timed.event one.first is_of.timed.least is_of.timed.below in
+    let event : ℕ = setup.first + is_of.timed.event in
+    let anchor : is_of.timed.anchor ≡ setup.origin + is_of.timed.event * iso_us_of setup.info =
+    (laid_by setup bis whole).each is_of.timed.event is_of.timed.anchor is_of.timed.anchor_is in
+    let behind : event - setup.first ≡ is_of.timed.event = omega arith in
+    let anchor_is : is_of.timed.anchor ≡ anchor_in setup event = anchor ∙ ap (λ d. setup.origin + d * iso_us_of setup.info) (sym behind) in
+    let first_event : tuning.first ≤ event = omega (arith, heard_least (stay_on tuning bis) calls (setup.first * setup.info.bn + one.first) is.start_heard, at) in
+    let product : event * setup.info.bn ≡ setup.first * setup.info.bn + is_of.timed.event * setup.info.bn = add-mul setup.first is_of.timed.event setup.info.bn in
+    let closed : setup.first * setup.info.bn + one.first < opened (stay_on tuning bis) calls * setup.info.bn =
+    subst (λ (b : ℕ). setup.first * setup.info.bn + one.first < opened (stay_on tuning bis) calls * b) bn_is is.start_closed in
+    let below : event < opened (stay_on tuning bis) calls =
+    event_below event (setup.first * setup.info.bn + one.first) (opened (stay_on tuning bis) calls) setup.info.bn (omega (arith, product, is_of.timed.least)) closed in
+    let parts = entry_stream bis (time_of (stay_on tuning bis) ((setup.first * setup.info.bn + one.first) / tuning.info.bn) one.offset) (octets_in one.segments) (one.whole ≡ true) entry is.is in
+    record {
+      event = event;
+      unit = unit;
+      least = omega arith;
+      performed = omega (arith, below, opens);
+      accepted = numbered.1;
+      ready = omega (arith, is_of.timed.ready, anchor_is);
+      stream = parts.0;
+      time_is = parts.1
+          ∙ ap (λ e. time_of (stay_on tuning bis) e one.offset) at
+          ∙ start_time_is setup tuning bis event one.offset on first_event
+          ∙ ap (λ o. time_of (whole_stay setup bis) event o) (is_of.timed.offset ∙ ap (λ a. a - unit.time) anchor_is);
+      valid_is = entry_octets bis (time_of (stay_on tuning bis) ((setup.first * setup.info.bn + one.first) / tuning.info.bn) one.offset) (octets_in one.segments) unit.octets (one.whole ≡ true) entry
+          is_of.octets is.is;
+    }
+
+stay_gives : (setup : Setup) (whole : List SourceCall) (tuning : Tuning) (bis : ℕ) (calls : List stays.Call) → 1 ≤ setup.info.bn → TunedTo setup tuning
+    → opened (stay_on tuning bis) calls ≤ next_of setup whole
+    → Gives (IsSent setup whole bis) (IsOfUnit setup whole bis) (tuning.first * tuning.info.bn) (closed_end (stay_on tuning bis) calls)
+    (entry_of (stay_on tuning bis) (is_heard (stay_on tuning bis) calls) (closed_end (stay_on tuning bis) calls))
+stay_gives setup whole tuning bis calls some on opens n unit sent long =
+    elim (has_entry (stay_on tuning bis) (is_heard (stay_on tuning bis) calls) (closed_end (stay_on tuning bis) calls) unit long) [
+      | inl none ↦ inl none
+      | inr one ↦
+          let is : IsEntry (stay_on tuning bis) (is_heard (stay_on tuning bis) calls) (closed_end (stay_on tuning bis) calls) (by_payload setup sent.0) one.0 =
+          subst (λ u. IsEntry (stay_on tuning bis) (is_heard (stay_on tuning bis) calls) (closed_end (stay_on tuning bis) calls) u one.0) sent.1 one.2 in
+          inr (
+            one.0,
+            one.1,
+            mul_least tuning.first unit.first tuning.info.bn (heard_least (stay_on tuning bis) calls unit.first one.2.start_heard),
+            one.2.start_closed,
+            one_entry setup whole tuning bis n sent.0 one.0 calls some on opens sent.2 is,
+          )
+    ]
+
+-- ---- over all stays
+
+record Fine (airs : Airs) (boxes s n : ℕ) (setup : Setup) (whole : List SourceCall) (all_started : Type 0) (made : List Step) : Type 0 where
+  pub legal_is : Legal airs boxes made
+  pub within : Within setup whole (steps_of_source s made)
+  pub clean : injected_since (is_made n) n made ≡ false
+  pub started : is_started (steps_of_source s made) ≡ true → all_started
+
+abbrev Claim : Setup → List SourceCall → ℕ → List ℕ → List Sent → ℕ → List Closed → List Handed → Type 0
+Claim setup whole bis ns units e closed entries = Ordered (IsOfUnit setup whole bis) (e * setup.info.bn) ns units entries
+
+over : Below → (airs : Airs) → MeetAirs airs → (boxes s n bis : ℕ) (setup : Setup) (whole : List SourceCall) (all_started : Type 0) (ns : List ℕ) (units : List Sent) → s ≤ 1 → n ≤ 7
+    → 1 ≤ bis → bis ≤ 31
+    → setup.info.framing ≡ 1 → Numbered (IsSent setup whole bis) 0 ns units → (all_started → bis ≤ setup.info.num_bis → FramedWhole airs setup whole bis units)
+    → OverStay (Claim setup whole bis ns units) (Fine airs boxes s n setup whole all_started) airs s n bis
+over below airs meets boxes s n bis setup whole all_started ns units source_within sink_within least greatest is_framed numbered facts made fine tuning is past entries claim =
+    let own : List Step = steps_of_source s made in
+    let on : OnSource own tuning = on_source airs boxes s n made tuning fine.legal_is is in
+    let to : TunedTo setup tuning = stay_on_whole airs boxes s n setup whole made tuning fine.legal_is fine.within is in
+    let bn_is : tuning.info.bn ≡ setup.info.bn = ap (λ (i : BigInfo). i.bn) to.info in
+    let clean : injected_since (is_tuned n) n made ≡ false = clean_stay airs s n made tuning is fine.clean in
+    let opens : opened (stay_on tuning bis) (calls_on airs made n tuning bis) ≤ next_in own = opened_within below airs boxes s n bis made tuning fine.legal_is source_within is in
+    let shown : shown_since (is_tuned n) airs s n bis made ≡ of_stream bis (ticked_since (sink_calls airs n made)) =
+    ap (of_stream bis) (since airs boxes s n made tuning fine.legal_is source_within sink_within is) in
+    let first_within : tuning.first ≤ next_in own = omega (arith, opened_least (stay_on tuning bis) (calls_on airs made n tuning bis), opens) in
+    let most : tuning.first * setup.info.bn ≤ next_in own * setup.info.bn = mul-le-mul first_within (omega arith) in
+    elim (cases_Bool (is_in tuning.which bis)) [
+      | inr free ↦
+          subst (λ us. Ordered (IsOfUnit setup whole bis) (next_in own * setup.info.bn) ns units us)
+          (sym (ap (λ us. entries ++ us) (shown ∙ below.others tuning (sink_calls airs n made) bis is.place_is
+          (λ taken. true_not_false (is_in tuning.which bis) (member_is tuning.which bis taken).0 free)) ∙ append-nil entries))
+          (ordered_later (IsOfUnit setup whole bis) (tuning.first * setup.info.bn) (next_in own * setup.info.bn) ns units entries most claim)
+      | inl taken ↦
+          let member : Contains (streams_of tuning.which) bis = is_member tuning.which bis least greatest taken in
+          let num_bis : (setup_of own).info.num_bis ≡ setup.info.num_bis = ap (λ (setup' : Setup). setup'.info.num_bis) (fine.within.setup_is on.started) in
+          let of_own : bis ≤ (setup_of own).info.num_bis = taken_within (setup_of own).info.num_bis tuning.which bis on.streams member in
+          let all : FramedWhole airs setup whole bis units = facts (fine.started on.started) (omega (arith, of_own, num_bis)) in
+          let struck_is : shown_since (is_tuned n) airs s n bis made ≡ struck (stay_on tuning bis) units (calls_on airs made n tuning bis) =
+          shown ∙ below.framed_hands tuning (sink_calls airs n made) bis (ap (λ (i : BigInfo). i.framing) to.info ∙ is_framed) is.place_is member
+          ∙ stay_decided below airs meets boxes s n bis setup whole units all made tuning fine.legal_is fine.within source_within is clean in
+          let until : closed_end (stay_on tuning bis) (calls_on airs made n tuning bis) ≤ next_in own * setup.info.bn =
+          subst (λ (b : ℕ). opened (stay_on tuning bis) (calls_on airs made n tuning bis) * b ≤ next_in own * setup.info.bn) (sym bn_is) (mul-le-mul opens (omega arith)) in
+          let from_until : tuning.first * tuning.info.bn ≤ closed_end (stay_on tuning bis) (calls_on airs made n tuning bis) =
+          mul-le-mul (opened_least (stay_on tuning bis) (calls_on airs made n tuning bis)) (omega arith) in
+          let middle : tuning.first * setup.info.bn ≤ tuning.first * tuning.info.bn = subst (λ (b : ℕ). tuning.first * b ≤ tuning.first * tuning.info.bn) bn_is (omega arith) in
+          let past_opens : opened (stay_on tuning bis) (calls_on airs made n tuning bis) ≤ next_of setup whole = omega (arith, opens, next_of_whole setup whole own fine.within on.started) in
+          subst (λ us. Ordered (IsOfUnit setup whole bis) (next_in own * setup.info.bn) ns units (entries ++ us)) (sym struck_is)
+          (ordered_later (IsOfUnit setup whole bis) (closed_end (stay_on tuning bis) (calls_on airs made n tuning bis)) (next_in own * setup.info.bn) ns units _ until
+          (ordered_on (IsSent setup whole bis) (IsOfUnit setup whole bis) (tuning.first * setup.info.bn) (tuning.first * tuning.info.bn)
+          (closed_end (stay_on tuning bis) (calls_on airs made n tuning bis)) 0 (laid_end setup all.has.air)
+          (entry_of (stay_on tuning bis) (is_heard (stay_on tuning bis) (calls_on airs made n tuning bis)) (closed_end (stay_on tuning bis) (calls_on airs made n tuning bis)))
+          ns units entries numbered (sent_in_order setup whole bis all.has.air units all.sent)
+          (stay_gives setup whole tuning bis (calls_on airs made n tuning bis) all.bounds.bn to past_opens) middle from_until claim))
+    ]
+
+-- the units that the air sends, with their numbers, where the source was started and has the stream
+record Known (airs : Airs) (setup : Setup) (whole : List SourceCall) (bis : ℕ) (all_started : Type 0) : Type 0 where
+  pub ns : List ℕ
+  pub units : List Sent
+  pub numbered : Numbered (IsSent setup whole bis) 0 ns units
+  pub facts : all_started → bis ≤ setup.info.num_bis → FramedWhole airs setup whole bis units
+
+in_order : Below → (airs : Airs) → MeetAirs airs → (boxes s n bis : ℕ) (made : List Step) → Legal airs boxes made → (setup_of (steps_of_source s made)).info.framing ≡ 1 → s ≤ 1 → n ≤ 7 → 1 ≤ bis
+    → bis ≤ 31 → injected_since (is_made n) n made ≡ false → (all_started : Type 0) → (is_started (steps_of_source s made) ≡ true → all_started)
+    → Known airs (setup_of (steps_of_source s made)) (source_calls (steps_of_source s made)) bis all_started
+    → InUnitOrder (setup_of (steps_of_source s made)) (source_calls (steps_of_source s made)) bis (shown_since (is_made n) airs s n bis made)
+in_order below airs meets boxes s n bis made legal is_framed source_within sink_within least greatest clean all_started started known =
+    let own : List Step = steps_of_source s made in
+    let setup : Setup = setup_of own in
+    let whole : List SourceCall = source_calls own in
+    let E : ℕ → Handed → Type 0 = IsOfUnit setup whole bis in
+    let turns : Turns (Claim setup whole bis known.ns known.units) (Fine airs boxes s n setup whole all_started) airs boxes s n bis = record {
+      none = λ e. ordered_none (IsSent setup whole bis) E (e * setup.info.bn) known.ns known.units known.numbered;
+      rises = λ e later closed entries more claim. ordered_later E (e * setup.info.bn) (later * setup.info.bn) known.ns known.units entries (mul-le-mul more (omega arith)) claim;
+      over = over below airs meets boxes s n bis setup whole all_started known.ns known.units source_within sink_within least greatest is_framed known.numbered known.facts;
+      legal = λ part fine. fine.legal_is;
+      before = λ step earlier still fine. record {
+        legal_is = fine.legal_is.0;
+        within = within_before airs boxes s setup whole earlier step fine.legal_is fine.within;
+        clean = clean_before (is_made n step) (is_injected n step) (injected_since (is_made n) n earlier) fine.clean still;
+        started = λ started_then. fine.started (goes airs boxes s earlier step fine.legal_is started_then).started;
+      };
+      source_within = source_within;
+      sink_within = sink_within;
+    } in
+    let all = over_stays (Claim setup whole bis known.ns known.units) (Fine airs boxes s n setup whole all_started) airs boxes s n bis turns made
+    (record { legal_is = legal; within = within_itself own; clean = clean; started = started }) in
+    record { numbers = all.all.numbers; rising = climbs 0 all.all.numbers all.all.high all.all.climb; each = all.all.each }
+
+known_units : Below → (airs : Airs) → MeetAirs airs → (own : List Step) (bis : ℕ) → Lawful airs own → is_started own ≡ true → (setup_of own).info.framing ≡ 1 → 1 ≤ bis
+    → Known airs (setup_of own) (source_calls own) bis (Unit {0})
+known_units below airs meets own bis legal started is_framed least = elim (le_total bis (setup_of own).info.num_bis) [
+  | inl within ↦
+      let units = whole_units below airs meets own bis legal started is_framed least within in
+      let numbered = are_numbered (setup_of own).info.bn (anchors_of (framed_calls (setup_of own) bis (source_calls own))) (accepted (framed_calls (setup_of own) bis (source_calls own)))
+      units.1.sent.in_air units.1.sent.sends.are in
+      record {
+        ns = numbered.0;
+        units = units.0;
+        numbered = subst (Numbered (IsSent (setup_of own) (source_calls own) bis) 0 numbered.0) (sym units.1.sent.numbered)
+            (numbered_on (setup_of own) (source_calls own) bis 0 numbered.0 units.1.sent.in_air numbered.1);
+        facts = λ all_started below_num. units.1;
+      }
+  | inr past ↦ record { ns = []; units = []; numbered = tt; facts = λ all_started below_num. absurd (omega (arith, past, below_num)) }
+]
+
+pub entries_in_order : Below → (airs : Airs) → MeetAirs airs → (boxes s n bis : ℕ) (made : List Step) → Legal airs boxes made → (setup_of (steps_of_source s made)).info.framing ≡ 1 → s ≤ 1 → n ≤ 7
+    → 1 ≤ bis → bis ≤ 31 → injected_since (is_made n) n made ≡ false
+    → InUnitOrder (setup_of (steps_of_source s made)) (source_calls (steps_of_source s made)) bis (shown_since (is_made n) airs s n bis made)
+entries_in_order below airs meets boxes s n bis made legal is_framed source_within sink_within least greatest clean = elim (cases_Bool (is_started (steps_of_source s made))) [
+  | inl started ↦
+      in_order below airs meets boxes s n bis made legal is_framed source_within sink_within least greatest clean (Unit {0}) (λ is. tt)
+      (known_units below airs meets (steps_of_source s made) bis (lawful airs boxes s made legal) started is_framed least)
+  | inr idle ↦
+      in_order below airs meets boxes s n bis made legal is_framed source_within sink_within least greatest clean ⊥ (λ is. true_not_false (is_started (steps_of_source s made)) is idle)
+      (record { ns = []; units = []; numbered = tt; facts = λ never below_num. absurd never })
+]

@@ -1,0 +1,282 @@
+-- The units law of a stay.
+use Rattle.std.proofs.Common.{ℕ, zero, suc, ◌≡◌, ◌≤◌, ◌+◌, ◌-◌, ◌==◌, cond, ltb, eqb, Bool, true, false, List, [], ◌∷◌, ◌++◌, length, Option, None, Some, refl, sym, ◌∙◌, ap, subst, inl, inr}
+use Rattle.std.specs.Prelude.{slice_get}
+use Rattle.std.specs.List.{AllByRecursion}
+use Rattle.std.proofs.lemmas.Bool.{eq-eqb, eqb-true, ltb-false}
+use Rattle.std.proofs.lemmas.List.{append-nil}
+use Rattle.std.proofs.lemmas.Option.{none-some, same_Some}
+use Rattle.big_info.specs.declared.info.BigInfo.{BigInfo}
+use Rattle.big_info.specs.Bounds.{Bounds}
+use Rattle.unit_outlets.specs.Account.{Account}
+use Rattle.unit_outlets.specs.Handed.{Handed}
+use Rattle.isoal_unframed.specs.Air.{before_event}
+use Rattle.isoal_unframed.specs.Calls.{Call as StreamCall, accept, lay, lays, accepted, begun, events as laid_events}
+use Rattle.isoal_unframed.specs.Histories.{handed}
+use Rattle.isoal_unframed.specs.Struck.{Struck, air_at}
+use Rattle.source_machine.specs.Airs.{slots_of}
+use Rattle.source_machine.specs.Calls.{Call as SourceCall, laid_with, stream_calls as source_stream}
+use Rattle.source_machine.specs.declared.fault.GiveFault.{GiveFault}
+use Rattle.source_machine.specs.Faults.{give_fault}
+use Rattle.group_sink.specs.Calls.{Tuning, Call, tune, hear, place}
+use Rattle.group_sink.specs.Handing.{handed_since as ticked_since, of_stream}
+use Rattle.group_sink.specs.Streams.{stay_on}
+use Rattle.group_sink.proofs.Citable.{member_is}
+use Rattle.scenario_text.specs.declared.step.Step.{Step}
+use Rattle.scenario_text.specs.declared.step.Step.TheVariants as steps
+use Rattle.scenario_text.specs.Ranges.{IsInRange}
+use Rattle.scenario_history.specs.Steps.{chosen_of, chosen_steps, steps_of_source}
+use Rattle.scenario_history.specs.Source.{Airs, event_back, open_event, setup_of, source_calls}
+use Rattle.scenario_history.specs.Airs.{MeetAirs}
+use Rattle.scenario_history.specs.Sinks.{heard_on_air, is_lost, is_of, reaches, sink_calls, source_of, spot_at, spots_of, ticked, ticked_if, tuning_of, unless_lost}
+use Rattle.scenario_history.specs.Boxes.{SinkUnit, handed_by}
+use Rattle.scenario_history.specs.Refusals.{give_refusal}
+use Rattle.scenario_history.specs.Lines.{steps_of}
+use Rattle.scenario_laws.specs.Laws.{UnitsLaw, calls_on, handed_since, injected_since, is_tuned, of_sink}
+use Rattle.scenario_laws.proofs.Below.{Below}
+use Rattle.scenario_laws.proofs.Legals.{Legal, legal, maps_none}
+use Rattle.scenario_laws.proofs.Sources.{Allowed, Lawful, Settled, bounds_in, lawful, no_group_yet, settled}
+use Rattle.scenario_laws.proofs.Wholes.{within_itself}
+use Rattle.scenario_laws.proofs.Stays.{IsOn, IsThere, OnSource, PutBy, on_before, on_source}
+use Rattle.scenario_laws.proofs.Hears.{all_own}
+use Rattle.scenario_laws.proofs.Plains.{sends_own}
+use Rattle.scenario_laws.proofs.FromSources.{from_source}
+use Rattle.scenario_laws.proofs.FramedStays.{framed_law}
+use Rattle.scenario_laws.proofs.Closings.{handed_open, of_sink_on, shown_by, shown_with, step_shown}
+use Rattle.scenario_laws.proofs.Ticks.{chosen_within, end_ticks, event_ticks}
+
+-- ---- no unit is longer than Max_SDU
+
+abbrev pub Short : ℕ → List StreamCall → Type 0
+Short most [] = Unit {0}
+Short most (accept octets ∷ earlier) = (length octets ≤ most) × Short most earlier
+Short most (lay ∷ earlier) = Short most earlier
+
+short_if : (most : ℕ) (test : Bool) (xs ys : List StreamCall) → Short most xs → Short most ys → Short most (cond test xs ys)
+short_if most true xs ys all others = all
+short_if most false xs ys all others = others
+
+short_lays : (most count : ℕ) (calls : List StreamCall) → Short most calls → Short most (lays count calls)
+short_lays most zero calls all = all
+short_lays most (suc count) calls all = short_lays most count calls all
+
+short_before : (most : ℕ) (calls : List StreamCall) (event : ℕ) → Short most calls → Short most (before_event calls event)
+short_before most [] event all = tt
+short_before most (accept octets ∷ earlier) event all = short_before most earlier event all.1
+short_before most (lay ∷ earlier) event all =
+    short_if most (eqb (laid_events earlier) event) earlier (before_event earlier event) all (short_before most earlier event all)
+
+all_push : {A : Type 0} (P : A → Type 0) (xs : List A) (x : A) → AllByRecursion P xs → P x → AllByRecursion P (xs ++ x ∷ [])
+all_push P [] x all last = (last, tt)
+all_push P (y ∷ xs) x all last = (all.0, all_push P xs x all.1 last)
+
+short_units : (most : ℕ) (calls : List StreamCall) → Short most calls → AllByRecursion (λ unit. length unit ≤ most) (accepted calls)
+short_units most [] all = tt
+short_units most (accept octets ∷ earlier) all = all_push (λ unit. length unit ≤ most) (accepted earlier) octets (short_units most earlier all.1) all.0
+short_units most (lay ∷ earlier) all = short_units most earlier all
+
+one_short : (most : ℕ) (units : List (List ℕ)) (i : ℕ) (unit : List ℕ) → AllByRecursion (λ unit. length unit ≤ most) units → slice_get units i ≡ Some unit → length unit ≤ most
+one_short most [] i unit all is = absurd (none-some unit is)
+one_short most (first ∷ units) zero unit all is = subst (λ u. length u ≤ most) (same_Some first unit is) all.0
+one_short most (first ∷ units) (suc i) unit all is = one_short most units i unit all.1 is
+
+short_none : (most : ℕ) (info : BigInfo) (bis : ℕ) (calls : List SourceCall) → calls ≡ [] → Short most (source_stream info bis calls)
+short_none most info bis calls none = subst (λ all. Short most (source_stream info bis all)) (sym none) tt
+
+second_false : (a b : Bool) (x y : GiveFault) (rest : Option GiveFault) → cond a (Some x) (cond b (Some y) rest) ≡ None → b ≡ false
+second_false true b x y rest none = absurd (none-some x (sym none))
+second_false false true x y rest none = absurd (none-some y (sym none))
+second_false false false x y rest none = refl
+
+abbrev ShortIn : ℕ → List Step → Type 0
+ShortIn bis own = Short (setup_of own).info.max_sdu (source_stream (setup_of own).info bis (source_calls own))
+
+short_after : (airs : Airs) (bis : ℕ) (own : List Step) (step : Step) → Settled own → Allowed airs own step → ShortIn bis own → ShortIn bis (step ∷ own)
+short_after airs bis own (steps.Group framing origin delay iso sdu max_sdu max_pdu num_bis bn nse irc pto sub spacing phy) is allows before =
+    short_none max_sdu (setup_of (steps.Group framing origin delay iso sdu max_sdu max_pdu num_bis bn nse irc pto sub spacing phy ∷ own)).info bis (source_calls own)
+    (is.quiet (no_group_yet own allows.in_phase))
+short_after airs bis own (steps.Unit stream time octets) is allows before =
+    let fault = maps_none give_refusal (give_fault (setup_of own) (source_calls own) (airs (setup_of own) (source_calls own)) stream time octets) allows.by_source in
+    let fits : length octets ≤ (setup_of own).info.max_sdu =
+    ltb-false (setup_of own).info.max_sdu (length octets)
+    (second_false (ltb (setup_of own).info.num_bis stream) (ltb (setup_of own).info.max_sdu (length octets)) _ _ _ fault) in
+    short_if (setup_of own).info.max_sdu (stream == bis) (accept octets ∷ source_stream (setup_of own).info bis (source_calls own))
+    (source_stream (setup_of own).info bis (source_calls own)) (fits, before) before
+short_after airs bis own steps.Event is allows before =
+    short_lays (setup_of own).info.max_sdu (laid_with (setup_of own).info (source_calls own)) (source_stream (setup_of own).info bis (source_calls own)) before
+short_after airs bis own _ is allows before = before
+
+short_of : (airs : Airs) (bis : ℕ) (own : List Step) → Lawful airs own → ShortIn bis own
+short_of airs bis [] legal = tt
+short_of airs bis (step ∷ own) legal = short_after airs bis own step (settled airs own legal.0) legal.1 (short_of airs bis own legal.0)
+
+pub slot_short : (airs : Airs) (bis : ℕ) (own : List Step) → Lawful airs own → (event slot : ℕ) (unit : List ℕ)
+    → slots_of (setup_of own) (source_calls own) bis event slot ≡ Some unit → length unit ≤ (setup_of own).info.max_sdu
+slot_short airs bis own legal event slot unit has =
+    let calls = source_stream (setup_of own).info bis (source_calls own) in
+    let at : List StreamCall = before_event calls (event - (setup_of own).first) in
+    one_short (setup_of own).info.max_sdu (accepted at) (begun (setup_of own).info at + slot) unit
+    (short_units (setup_of own).info.max_sdu at (short_before (setup_of own).info.max_sdu calls (event - (setup_of own).first) (short_of airs bis own legal))) has
+
+-- ---- what the closes of a stay hand is struck
+
+pub stay_struck : Below → (airs : Airs) → MeetAirs airs → (boxes s n bis : ℕ) (made : List Step) (tuning : Tuning) → Legal airs boxes made
+    → IsOn airs s n made tuning → 1 ≤ bis → (setup_of (steps_of_source s made)).info.framing ≡ 0 → injected_since (is_tuned n) n made ≡ false
+    → Struck (stay_on tuning bis) (slots_of (setup_of (steps_of_source s made)) (source_calls (steps_of_source s made)) bis)
+    (calls_on airs made n tuning bis) (handed (stay_on tuning bis) (calls_on airs made n tuning bis))
+stay_struck below airs meets boxes s n bis made tuning legal is least plain_source clean =
+    let own : List Step = steps_of_source s made in
+    let own_legal : Lawful airs own = lawful airs boxes s made legal in
+    let settles : Settled own = settled airs own own_legal in
+    let on : OnSource own tuning = on_source airs boxes s n made tuning legal is in
+    let bounds : Bounds tuning.info = subst Bounds (sym on.tuned.info) (bounds_in own settles on.started) in
+    let plain : tuning.info.framing ≡ 0 = ap (λ (i : BigInfo). i.framing) on.tuned.info ∙ plain_source in
+    below.struck (stay_on tuning bis) (slots_of (setup_of own) (source_calls own) bis) (calls_on airs made n tuning bis) bounds plain
+    (λ event slot unit has. subst (λ (i : BigInfo). length unit ≤ i.max_sdu) (sym on.tuned.info) (slot_short airs bis own own_legal event slot unit has))
+    (from_source (stay_on tuning bis) (slots_of (setup_of own) (source_calls own) bis) (calls_on airs made n tuning bis)
+    (all_own airs (setup_of own) (source_calls own) (air_at (stay_on tuning bis) (slots_of (setup_of own) (source_calls own) bis)) tuning boxes s n bis made
+    (λ part its_legal started within. sends_own below airs meets (setup_of own) (source_calls own) tuning bis part its_legal started within on.tuned.info plain_source)
+    legal (within_itself own) least is clean))
+
+-- ---- what a sink handed up in its stay is what its ticks handed
+
+lost_since : (gone : Bool) (event bis subevent : ℕ) (octets : List ℕ) (calls : List Call) → ticked_since (unless_lost gone (hear event bis subevent octets) calls) ≡ ticked_since calls
+lost_since true event bis subevent octets calls = refl
+lost_since false event bis subevent octets calls = refl
+
+air_since : (airs : Airs) (own : List Step) (lose count : ℕ) (calls : List Call) → ticked_since (heard_on_air airs own lose count calls) ≡ ticked_since calls
+air_since airs own lose zero calls = refl
+air_since airs own lose (suc i) calls =
+    lost_since (is_lost (setup_of own).info (event_back own 0) lose (spot_at (setup_of own).info i)) _ _ _ _ (heard_on_air airs own lose i calls)
+    ∙ air_since airs own lose i calls
+
+more_since : (mine : Bool) (more calls : List Call) → ticked_since more ≡ ticked_since calls → ticked_since (cond mine more calls) ≡ ticked_since calls ++ []
+more_since true more calls same = same ∙ sym (append-nil (ticked_since calls))
+more_since false more calls same = sym (append-nil (ticked_since calls))
+
+tick_since : (last_open : Option ℕ) (calls : List Call) → ticked_since (ticked last_open calls) ≡ ticked_since calls ++ handed_open calls last_open
+tick_since None calls = sym (append-nil (ticked_since calls))
+tick_since (Some event) calls = refl
+
+if_since : (its : Bool) (last_open : Option ℕ) (calls : List Call)
+    → ticked_since (cond its (ticked last_open calls) calls) ≡ ticked_since calls ++ cond its (handed_open calls last_open) []
+if_since true last_open calls = tick_since last_open calls
+if_since false last_open calls = sym (append-nil (ticked_since calls))
+
+own_if : (s : ℕ) (source : Option ℕ) (units : List Handed) → source ≡ Some s → cond (is_of s source) units [] ≡ units
+own_if s source units is = ap (λ o. cond (is_of s o) units []) is ∙ ap (λ b. cond b units []) (eq-eqb s s refl)
+
+closed_since_by : (airs : Airs) (s n : ℕ) (earlier : List Step) → source_of n earlier ≡ Some s
+    → ticked_since (ticked_if (is_of (chosen_of earlier) (source_of n earlier)) (open_event (chosen_steps earlier)) (sink_calls airs n earlier))
+    ≡ ticked_since (sink_calls airs n earlier) ++ cond (chosen_of earlier == s) (shown_with airs s n earlier) []
+closed_since_by airs s n earlier its =
+    ap ticked_since (event_ticks (chosen_of earlier) s (λ t. open_event (steps_of_source t earlier)) (sink_calls airs n earlier) (source_of n earlier) its)
+    ∙ if_since (chosen_of earlier == s) (open_event (steps_of_source s earlier)) (sink_calls airs n earlier)
+    ∙ ap (λ us. ticked_since (sink_calls airs n earlier) ++ cond (chosen_of earlier == s) us [])
+    (sym (own_if s (source_of n earlier) (handed_open (sink_calls airs n earlier) (open_event (steps_of_source s earlier))) its))
+
+gone_since : (gone : Bool) (calls : List Call) (tuning : Tuning) → place (cond gone [] calls) ≡ Some tuning → ticked_since (cond gone [] calls) ≡ ticked_since calls ++ []
+gone_since true calls tuning is = absurd (none-some tuning is)
+gone_since false calls tuning is = sym (append-nil (ticked_since calls))
+
+put_since : (s n : ℕ) (put : Bool) (on tuning : Tuning) (chosen : ℕ) (calls : List Call) (source : Option ℕ) (units : List SinkUnit)
+    → IsThere s tuning (cond put (tune on ∷ calls) calls) (cond put (Some chosen) source) → (IsThere s tuning calls source → of_sink s n units ≡ ticked_since calls)
+    → of_sink s n (cond put [] (units ++ [])) ≡ ticked_since (cond put (tune on ∷ calls) calls)
+put_since s n true on tuning chosen calls source units is before = refl
+put_since s n false on tuning chosen calls source units is before = ap (of_sink s n) (append-nil units) ∙ before is
+
+abbrev Since : Airs → ℕ → ℕ → List Step → Type 0
+Since airs s n made = of_sink s n (handed_since (is_tuned n) airs made) ≡ ticked_since (sink_calls airs n made)
+
+-- a step that puts the sink nowhere
+still_since : (airs : Airs) (boxes s n : ℕ) (step : Step) (earlier : List Step) (tuning : Tuning) → Legal airs boxes earlier → s ≤ 1 → n ≤ 7 → (PutBy s n step earlier tuning → ⊥)
+    → IsOn airs s n (step ∷ earlier) tuning → (IsOn airs s n earlier tuning → Since airs s n earlier)
+    → (source_of n earlier ≡ Some s → ticked_since (sink_calls airs n (step ∷ earlier)) ≡ ticked_since (sink_calls airs n earlier) ++ shown_by airs s n earlier step)
+    → of_sink s n (handed_since (is_tuned n) airs earlier ++ handed_by airs earlier step) ≡ ticked_since (sink_calls airs n (step ∷ earlier))
+still_since airs boxes s n step earlier tuning legal least within never is since grow = elim (on_before airs s n step earlier tuning is) [
+  | inl before ↦
+      of_sink_on s n (handed_since (is_tuned n) airs earlier) (handed_by airs earlier step)
+      ∙ ap (λ us. us ++ of_sink s n (handed_by airs earlier step)) (since before)
+      ∙ ap (λ us. ticked_since (sink_calls airs n earlier) ++ us) (step_shown airs boxes s n step earlier legal least within)
+      ∙ sym (grow before.source_is)
+  | inr put ↦ absurd (never put)
+]
+
+since_after : (airs : Airs) (boxes s n : ℕ) (step : Step) (earlier : List Step) (tuning : Tuning) → Legal airs boxes earlier → s ≤ 1 → n ≤ 7 → IsOn airs s n (step ∷ earlier) tuning
+    → (IsOn airs s n earlier tuning → Since airs s n earlier) → Since airs s n (step ∷ earlier)
+since_after airs boxes s n (steps.Tuned sink which) earlier tuning legal least within is since =
+    put_since s n (sink == n) (tuning_of (chosen_steps earlier) which) tuning (chosen_of earlier) (sink_calls airs n earlier) (source_of n earlier)
+    (handed_since (is_tuned n) airs earlier) is since
+since_after airs boxes s n (steps.Sink sink streams slots mtu) earlier tuning legal least within is since =
+    still_since airs boxes s n (steps.Sink sink streams slots mtu) earlier tuning legal least within (λ put. put) is since
+    (λ its. gone_since (sink == n) (sink_calls airs n earlier) tuning is.place_is)
+since_after airs boxes s n (steps.Drop sink) earlier tuning legal least within is since =
+    still_since airs boxes s n (steps.Drop sink) earlier tuning legal least within (λ put. put) is since
+    (λ its. gone_since (sink == n) (sink_calls airs n earlier) tuning is.place_is)
+since_after airs boxes s n (steps.Hear sink back bis subevent) earlier tuning legal least within is since =
+    still_since airs boxes s n (steps.Hear sink back bis subevent) earlier tuning legal least within (λ put. put) is since
+    (λ its. more_since (reaches sink n earlier) _ (sink_calls airs n earlier) refl)
+since_after airs boxes s n (steps.Air sink lose) earlier tuning legal least within is since =
+    still_since airs boxes s n (steps.Air sink lose) earlier tuning legal least within (λ put. put) is since
+    (λ its. more_since (reaches sink n earlier) _ (sink_calls airs n earlier) (air_since airs (chosen_steps earlier) lose (spots_of (chosen_steps earlier)) (sink_calls airs n earlier)))
+since_after airs boxes s n (steps.Inject sink back bis subevent octets) earlier tuning legal least within is since =
+    still_since airs boxes s n (steps.Inject sink back bis subevent octets) earlier tuning legal least within (λ put. put) is since
+    (λ its. more_since (reaches sink n earlier) _ (sink_calls airs n earlier) refl)
+since_after airs boxes s n steps.Event earlier tuning legal least within is since =
+    still_since airs boxes s n steps.Event earlier tuning legal least within (λ put. put) is since (λ its. closed_since_by airs s n earlier its)
+since_after airs boxes s n steps.Stop earlier tuning legal least within is since =
+    still_since airs boxes s n steps.Stop earlier tuning legal least within (λ put. put) is since (λ its. closed_since_by airs s n earlier its)
+since_after airs boxes s n (steps.Terminate reason) earlier tuning legal least within is since =
+    still_since airs boxes s n (steps.Terminate reason) earlier tuning legal least within (λ put. put) is since (λ its. closed_since_by airs s n earlier its)
+since_after airs boxes s n steps.End earlier tuning legal least within is since =
+    still_since airs boxes s n steps.End earlier tuning legal least within (λ put. put) is since
+    (λ its. ap ticked_since (end_ticks s (λ t. open_event (steps_of_source t earlier)) (sink_calls airs n earlier) (source_of n earlier) least its)
+    ∙ tick_since (open_event (steps_of_source s earlier)) (sink_calls airs n earlier)
+    ∙ ap (λ us. ticked_since (sink_calls airs n earlier) ++ us)
+    (sym (own_if s (source_of n earlier) (handed_open (sink_calls airs n earlier) (open_event (steps_of_source s earlier))) its)))
+since_after airs boxes s n step earlier tuning legal least within is since =
+    still_since airs boxes s n step earlier tuning legal least within (λ put. put) is since (λ its. sym (append-nil (ticked_since (sink_calls airs n earlier))))
+
+pub since : (airs : Airs) (boxes s n : ℕ) (made : List Step) (tuning : Tuning) → Legal airs boxes made → s ≤ 1 → n ≤ 7 → IsOn airs s n made tuning → Since airs s n made
+since airs boxes s n [] tuning legal least within is = refl
+since airs boxes s n (step ∷ earlier) tuning legal least within is =
+    since_after airs boxes s n step earlier tuning legal.0 least within is (λ before. since airs boxes s n earlier tuning legal.0 least within before)
+
+-- ---- the sinks and the sources that there are
+
+pub record Numbers (s n : ℕ) : Type 0 where
+  pub source_within : s ≤ 1
+  pub sink_within : n ≤ 7
+
+put_numbers : (airs : Airs) (boxes s n : ℕ) (step : Step) (earlier : List Step) (tuning : Tuning) → Legal airs boxes earlier → IsInRange step → PutBy s n step earlier tuning → Numbers s n
+put_numbers airs boxes s n (steps.Tuned sink which) earlier tuning legal ranged put = record {
+  source_within = subst (λ t. t ≤ 1) put.1 (chosen_within airs boxes earlier legal);
+  sink_within = subst (λ m. m ≤ 7) (eqb-true sink n put.2) ranged;
+}
+put_numbers airs boxes s n _ earlier tuning legal ranged put = absurd put
+
+pub numbers : (airs : Airs) (boxes s n : ℕ) (made : List Step) (tuning : Tuning) → Legal airs boxes made → IsOn airs s n made tuning → Numbers s n
+numbers airs boxes s n [] tuning legal is = absurd (none-some tuning is.place_is)
+numbers airs boxes s n (step ∷ earlier) tuning legal is = elim (on_before airs s n step earlier tuning is) [
+  | inl before ↦ numbers airs boxes s n earlier tuning legal.0 before
+  | inr put ↦ put_numbers airs boxes s n step earlier tuning legal.0 legal.2 put
+]
+
+-- ---- the law
+
+pub units_law_holds : Below → (starts : List Account) → UnitsLaw starts
+units_law_holds below starts airs meets lines accepted s n bis tuning there of_source taken clean =
+    let lawful_steps : Legal airs (length starts) (steps_of lines) = legal below.in_range airs starts lines accepted in
+    let is : IsOn airs s n (steps_of lines) tuning = record { place_is = there; source_is = of_source } in
+    let are : Numbers s n = numbers airs (length starts) s n (steps_of lines) tuning lawful_steps is in
+    let ticks : of_stream bis (of_sink s n (handed_since (is_tuned n) airs (steps_of lines))) ≡ of_stream bis (ticked_since (sink_calls airs n (steps_of lines))) =
+    ap (of_stream bis) (since airs (length starts) s n (steps_of lines) tuning lawful_steps are.source_within are.sink_within is) in
+    let on : OnSource (steps_of_source s (steps_of lines)) tuning = on_source airs (length starts) s n (steps_of lines) tuning lawful_steps is in
+    let tuned_framing : tuning.info.framing ≡ (setup_of (steps_of_source s (steps_of lines))).info.framing = ap (λ (i : BigInfo). i.framing) on.tuned.info in
+    record {
+      unframed = λ plain.
+          subst (λ units. Struck (stay_on tuning bis) (slots_of (setup_of (steps_of_source s (steps_of lines))) (source_calls (steps_of_source s (steps_of lines))) bis)
+          (calls_on airs (steps_of lines) n tuning bis) units)
+          (sym (ticks ∙ below.hands tuning (sink_calls airs n (steps_of lines)) bis (tuned_framing ∙ plain) there taken))
+          (stay_struck below airs meets (length starts) s n bis (steps_of lines) tuning lawful_steps is (member_is tuning.which bis taken).1 plain clean);
+      framed = λ is_framed. framed_law below airs meets (length starts) s n bis (steps_of lines) tuning lawful_steps are.source_within is is_framed taken clean ticks;
+    }

@@ -1,0 +1,30 @@
+use Rattle.scenario_laws.proofs.OneTranscript.{accepted_same, end_after_same, handed_on_same, out_of_same, transcript_end_same, transcript_same, units_same}
+use Rattle.scenario_laws.proofs.history_laws.one_transcript.Goals as goal
+
+pub returns-clause-octets : goal.returns-clause-octets
+returns-clause-octets c = λ airs others starts lines meets meet_too.
+    transcript_same airs others (record { both = record { one = c.one_air.ensures.same; meets = meets; meet_too = meet_too }; ranged = c.a_line_says_one_step.ensures.in_range }) starts lines
+
+pub returns-clause-end : goal.returns-clause-end
+returns-clause-end c = λ airs others starts lines meets meet_too.
+    transcript_end_same airs others (record { both = record { one = c.one_air.ensures.same; meets = meets; meet_too = meet_too }; ranged = c.a_line_says_one_step.ensures.in_range }) starts lines
+
+pub returns-clause-units : goal.returns-clause-units
+returns-clause-units c = λ airs others starts lines meets meet_too.
+    units_same airs others (record { both = record { one = c.one_air.ensures.same; meets = meets; meet_too = meet_too }; ranged = c.a_line_says_one_step.ensures.in_range }) starts lines
+
+pub returns-clause-out : goal.returns-clause-out
+returns-clause-out c = λ airs others starts lines meets meet_too.
+    out_of_same airs others (record { both = record { one = c.one_air.ensures.same; meets = meets; meet_too = meet_too }; ranged = c.a_line_says_one_step.ensures.in_range }) starts lines
+
+pub returns-clause-lines_end : goal.returns-clause-lines_end
+returns-clause-lines_end c = λ airs others starts lines meets meet_too.
+    end_after_same airs others (record { both = record { one = c.one_air.ensures.same; meets = meets; meet_too = meet_too }; ranged = c.a_line_says_one_step.ensures.in_range }) starts lines
+
+pub returns-clause-accepted : goal.returns-clause-accepted
+returns-clause-accepted c = λ airs others starts lines meets meet_too.
+    accepted_same airs others (record { both = record { one = c.one_air.ensures.same; meets = meets; meet_too = meet_too }; ranged = c.a_line_says_one_step.ensures.in_range }) starts lines
+
+pub returns-clause-handed : goal.returns-clause-handed
+returns-clause-handed c = λ airs others starts lines line meets meet_too.
+    handed_on_same airs others (record { both = record { one = c.one_air.ensures.same; meets = meets; meet_too = meet_too }; ranged = c.a_line_says_one_step.ensures.in_range }) starts lines line

@@ -1,0 +1,206 @@
+-- What the laws of the units speak of: the PDUs that were injected, the events of a source that a sink closed, the units
+-- that it handed up, and the units that the source accepted (Core 5.2, volume 6 part G, sections 2.1 and 3.2). Lists of
+-- steps have the newest first; lists of events, of slots and of units have the oldest first.
+use Rattle.std.specs.Prelude.{ℕ, ◌+◌, ◌-◌, ◌≤◌, ◌≡◌, ◌==◌, ◌&&◌, ◌||◌, nat_le, Bool, false, List, [], ◌∷◌, ◌++◌, map, Option, None, Some, slice_get, unwrap_or, if◌then◌else◌}
+use Rattle.std.specs.List.{AllZip, Contains, filter, flat_map, range_with_len}
+use Rattle.std.specs.List.Sorted.{IsStrictlyIncreasing}
+use Rattle.big_info.specs.Schedule.{per_event_of}
+use Rattle.bcast_io.specs.TextLines.{TextLine}
+use Rattle.unit_outlets.specs.Account.{Account}
+use Rattle.unit_outlets.specs.Handed.{Handed}
+use Rattle.isoal_base.specs.Air.{Air}
+use Rattle.isoal_base.specs.Stays as stays
+use Rattle.isoal_framed.specs.Struck.{Sent, struck}
+use Rattle.isoal_unframed.specs.Struck.{Place, Struck}
+use Rattle.line_runs.specs.Runs.{Accepted}
+use Rattle.source_machine.specs.Airs.{slots_of}
+use Rattle.source_machine.specs.Calls.{Setup}
+use Rattle.group_sink.specs.Calls.{Tuning, Call, place}
+use Rattle.group_sink.specs.Handing.{of_stream}
+use Rattle.group_sink.specs.Streams.{closes, is_in, stay_on, stream_calls, streams_of}
+use Rattle.scenario_text.specs.declared.step.Step.{Step}
+use Rattle.scenario_text.specs.declared.step.Step.TheVariants.{Sink, Tuned, Event, Inject, Announce, Train, Stop, Terminate, End}
+use Rattle.sink_histories.specs.Lives.{made_of}
+use Rattle.sink_histories.specs.Moves.{brings_by}
+use Rattle.scenario_history.specs.Steps.{chosen_of, steps_of_source}
+use Rattle.scenario_history.specs.Worlds.{life, source_at}
+use Rattle.scenario_history.specs.Source.{Airs, setup_of, source_calls, open_event}
+use Rattle.scenario_history.specs.Airs.{MeetAirs}
+use Rattle.scenario_history.specs.Sinks.{is_of, sink_calls, source_of}
+use Rattle.scenario_history.specs.Boxes.{SinkUnit, handed_by}
+use Rattle.scenario_history.specs.Lines.{rules_of, steps_of}
+use Rattle.scenario_laws.specs.SourceUnits.{AreSent, InSourceOrder, InStartOrder, InUnitOrder, IsOfSlot, valid_in}
+
+-- ---- what comes to a sink that its source did not send
+
+-- a PDU is injected into the sink of this number, or a train is given to it by its octets
+abbrev pub is_injected : ℕ → Step → Bool
+is_injected n (Inject sink back bis subevent octets) = sink == n
+is_injected n (Train sink time ext adv acad) = sink == n
+is_injected n _ = false
+
+-- a train is given to it by its octets
+abbrev pub is_given : ℕ → Step → Bool
+is_given n (Train sink time ext adv acad) = sink == n
+is_given n _ = false
+
+-- a train that the line hands the sink that it names puts it on a group
+abbrev pub brings_to : ℕ → ℕ → Step → List Step → Bool
+brings_to n sink step earlier = (sink == n) && brings_by (source_at earlier) step (made_of n earlier) (life n earlier)
+
+-- the sink is put on a group: by `tuned`, or by a train that is taken
+abbrev pub is_tuned : ℕ → List Step → Step → Bool
+is_tuned n earlier (Tuned sink which) = sink == n
+is_tuned n earlier (Announce sink) = brings_to n sink (Announce sink) earlier
+is_tuned n earlier (Train sink time ext adv acad) = brings_to n sink (Train sink time ext adv acad) earlier
+is_tuned n earlier _ = false
+
+-- the sink is made
+abbrev pub is_made : ℕ → List Step → Step → Bool
+is_made n earlier (Sink sink streams slots mtu) = sink == n
+is_made n earlier _ = false
+
+-- one of these steps was made since the last step that begins, or is the one that begins
+abbrev pub any_since : (List Step → Step → Bool) → (Step → Bool) → List Step → Bool
+any_since begins is_one [] = false
+any_since begins is_one (step ∷ earlier) = if begins earlier step then is_one step else (is_one step || any_since begins is_one earlier)
+
+-- something came to the sink that its source did not send
+abbrev pub injected_since : (List Step → Step → Bool) → ℕ → List Step → Bool
+injected_since begins n steps = any_since begins (is_injected n) steps
+
+-- a train was given to the sink by its octets, since it was made
+abbrev pub given_since_made : ℕ → List Step → Bool
+given_since_made n steps = any_since (is_made n) (is_given n) steps
+
+-- ---- what a sink handed up
+
+-- all that was handed up since the last step that begins
+abbrev pub handed_since : (List Step → Step → Bool) → Airs → List Step → List SinkUnit
+handed_since begins airs [] = []
+handed_since begins airs (step ∷ earlier) =
+    if begins earlier step then [] else handed_since begins airs earlier ++ handed_by airs earlier step
+
+-- the units that a sink handed up of a source
+abbrev pub of_sink : ℕ → ℕ → List SinkUnit → List Handed
+of_sink s n units = map (λ unit. unit.unit) (filter (λ unit. (unit.source == s) && (unit.sink == n)) units)
+
+-- what the sink handed up on a stream of a source since the last step that begins
+abbrev pub shown_since : (List Step → Step → Bool) → Airs → ℕ → ℕ → ℕ → List Step → List Handed
+shown_since begins airs s n bis steps = of_stream bis (of_sink s n (handed_since begins airs steps))
+
+-- ---- one stay
+
+-- what the stay on a stream took since the sink was put on its group
+abbrev pub calls_on : Airs → List Step → ℕ → Tuning → ℕ → List stays.Call
+calls_on airs steps n tuning bis = stream_calls (stay_on tuning bis) (sink_calls airs n steps)
+
+-- the air of a stream of a source
+abbrev pub air_in : Airs → List Step → ℕ → Air
+air_in airs own bis = unwrap_or (slice_get (airs (setup_of own) (source_calls own)) (bis - 1)) []
+
+-- in a stay on a framed stream: the air of the source sends units, and what the sink handed up on the stream since it was put
+-- on its group is struck over them: one entry for each unit whose start was heard, in order: valid where it is wholly laid and
+-- all numbers that carry it were heard before their events closed, lost where the first that wasn't is closed
+pub record IsFramedStruck (airs : Airs) (steps : List Step) (s n : ℕ) (tuning : Tuning) (bis : ℕ) : Type 0 where
+  pub some : (units : List Sent)
+      × AreSent (setup_of (steps_of_source s steps)) (source_calls (steps_of_source s steps)) bis (air_in airs (steps_of_source s steps) bis) units
+  pub each : (units : List Sent)
+      → AreSent (setup_of (steps_of_source s steps)) (source_calls (steps_of_source s steps)) bis (air_in airs (steps_of_source s steps) bis) units
+      → shown_since (is_tuned n) airs s n bis steps ≡ struck (stay_on tuning bis) units (calls_on airs steps n tuning bis)
+
+-- what the sink handed up on the stream since it was put on its group is struck, by the framing of the group. Unframed: over
+-- the slots of the source: one entry for each slot of each event that was closed in the stay, in order: the source's unit of
+-- the slot, valid, where the slot has one and all numbers that carry it are heard, else lost
+pub record IsStayStruck (airs : Airs) (steps : List Step) (s n : ℕ) (tuning : Tuning) (bis : ℕ) : Type 0 where
+  pub unframed : (setup_of (steps_of_source s steps)).info.framing ≡ 0
+      → Struck (stay_on tuning bis) (slots_of (setup_of (steps_of_source s steps)) (source_calls (steps_of_source s steps)) bis)
+      (calls_on airs steps n tuning bis) (shown_since (is_tuned n) airs s n bis steps)
+  pub framed : (setup_of (steps_of_source s steps)).info.framing ≡ 1 → IsFramedStruck airs steps s n tuning bis
+
+-- The units law: of a scenario of which no line was refused, where a sink is on a group, of source `s`, by `tuned` or by what a
+-- source announced, and since then no PDU was injected into it and no train was given to it by its octets, what it handed up
+-- since on a stream that it takes is struck. It holds after each step, so at the end of each stay too.
+abbrev pub UnitsLaw : List Account → Type 0
+UnitsLaw starts = (airs : Airs) → MeetAirs airs → (lines : List TextLine) → Accepted (rules_of airs starts) lines
+    → (s : ℕ) → (n : ℕ) → (bis : ℕ) → (tuning : Tuning) → place (sink_calls airs n (steps_of lines)) ≡ Some tuning
+    → source_of n (steps_of lines) ≡ Some s → Contains (streams_of tuning.which) bis
+    → injected_since (is_tuned n) n (steps_of lines) ≡ false → IsStayStruck airs (steps_of lines) s n tuning bis
+
+-- ---- the stays of a sink with a source
+
+-- an event that a sink closed, and the set of streams that it took in that stay
+pub record Closed : Type 0 where
+  pub event : ℕ
+  pub which : ℕ
+
+-- the open event of the sink, where it is at most this event
+abbrev pub closed_in : Option Tuning → List Call → ℕ → List Closed
+closed_in None calls event = []
+closed_in (Some tuning) calls event =
+    if nat_le (tuning.first + closes tuning calls) event
+    then record { event = tuning.first + closes tuning calls; which = tuning.which } ∷ [] else []
+
+abbrev pub closed_at : List Call → Option ℕ → List Closed
+closed_at calls None = []
+closed_at calls (Some event) = closed_in (place calls) calls event
+
+abbrev pub closed_if : Bool → List Call → Option ℕ → List Closed
+closed_if is_its calls last_open = if is_its then closed_at calls last_open else []
+
+-- what the sink closes as the open event of a source is closed
+abbrev pub closed_with : Airs → ℕ → ℕ → List Step → List Closed
+closed_with airs s n earlier =
+    closed_if (is_of s (source_of n earlier)) (sink_calls airs n earlier) (open_event (steps_of_source s earlier))
+
+-- what the sink closes of a source by the step after these
+abbrev pub closed_by : Airs → ℕ → ℕ → List Step → Step → List Closed
+closed_by airs s n earlier Event = if chosen_of earlier == s then closed_with airs s n earlier else []
+closed_by airs s n earlier Stop = if chosen_of earlier == s then closed_with airs s n earlier else []
+closed_by airs s n earlier (Terminate reason) = if chosen_of earlier == s then closed_with airs s n earlier else []
+closed_by airs s n earlier End = closed_with airs s n earlier
+closed_by airs s n earlier _ = []
+
+-- the events of a source that the sink closed since it was made, in all its stays
+abbrev pub closed_since : Airs → ℕ → ℕ → List Step → List Closed
+closed_since airs s n [] = []
+closed_since airs s n (step ∷ earlier) =
+    if is_made n earlier step then [] else closed_since airs s n earlier ++ closed_by airs s n earlier step
+
+-- the slots of a stream in these events, where the stream was taken
+abbrev pub slots_in : Setup → ℕ → Closed → List Place
+slots_in setup bis closed =
+    if is_in closed.which bis
+    then map (λ slot. record { event = closed.event; slot = slot }) (range_with_len 0 (per_event_of setup.info)) else []
+
+abbrev pub slots_closed : Setup → ℕ → List Closed → List Place
+slots_closed setup bis closed = flat_map (slots_in setup bis) closed
+
+-- Over all stays of a sink with one and the same source: the events of it that the sink closed since it was made rise, so
+-- that none is closed twice. What it handed up on an unframed stream of it is one entry for each slot of each of these events
+-- that it took the stream in, in order, at the slot's time by the source's anchors; on a framed stream its entries are, in
+-- order, of starts in events that never fall, at the time by the source's anchors and a TimeOffset. And where no PDU was
+-- injected into the sink, its valid units of an unframed stream are, in order, units that the source accepted on the stream,
+-- each at most once; and its entries of a framed stream are, in order, of such units, each at most once: each at the time by
+-- the source's anchor of the event of its start and its TimeOffset, and the valid ones with the unit's octets
+pub record StaysInOrder (airs : Airs) (steps : List Step) (s n : ℕ) : Type 0 where
+  pub rising : IsStrictlyIncreasing (map (λ (closed : Closed). closed.event) (closed_since airs s n steps))
+  pub slots : (bis : ℕ) → n ≤ 7 → 1 ≤ bis → bis ≤ 31 → (setup_of (steps_of_source s steps)).info.framing ≡ 0
+      → AllZip (IsOfSlot (setup_of (steps_of_source s steps)) bis)
+      (slots_closed (setup_of (steps_of_source s steps)) bis (closed_since airs s n steps)) (shown_since (is_made n) airs s n bis steps)
+  pub starts : (bis : ℕ) → n ≤ 7 → 1 ≤ bis → bis ≤ 31 → (setup_of (steps_of_source s steps)).info.framing ≡ 1
+      → InStartOrder (setup_of (steps_of_source s steps)) (source_calls (steps_of_source s steps)) bis (shown_since (is_made n) airs s n bis steps)
+  pub in_source_order : (bis : ℕ) → n ≤ 7 → 1 ≤ bis → bis ≤ 31 → (setup_of (steps_of_source s steps)).info.framing ≡ 0
+      → injected_since (is_made n) n steps ≡ false
+      → InSourceOrder (setup_of (steps_of_source s steps)) (source_calls (steps_of_source s steps)) bis
+      (valid_in (shown_since (is_made n) airs s n bis steps))
+  pub in_unit_order : (bis : ℕ) → n ≤ 7 → 1 ≤ bis → bis ≤ 31 → (setup_of (steps_of_source s steps)).info.framing ≡ 1
+      → injected_since (is_made n) n steps ≡ false
+      → InUnitOrder (setup_of (steps_of_source s steps)) (source_calls (steps_of_source s steps)) bis
+      (shown_since (is_made n) airs s n bis steps)
+
+-- The order law: of a scenario of which no line was refused, the stays of each sink with each source are in order, where no train
+-- was given to the sink by its octets since it was made.
+abbrev pub OrderLaw : List Account → Type 0
+OrderLaw starts = (airs : Airs) → MeetAirs airs → (lines : List TextLine) → Accepted (rules_of airs starts) lines
+    → (s : ℕ) → (n : ℕ) → s ≤ 1 → given_since_made n (steps_of lines) ≡ false → StaysInOrder airs (steps_of lines) s n

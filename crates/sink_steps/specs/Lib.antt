@@ -1,0 +1,4 @@
+pub mod Origins
+pub mod Making
+pub mod SinkLines
+pub mod State

@@ -1,0 +1,2 @@
+-- How a living sink stands for what it took.
+pub mod Living
