@@ -25,3 +25,7 @@ mod UnitOrder
 mod StartOrder
 mod OrderLaw
 mod MetAirs
+mod Places
+mod Nowhere
+mod Moves
+mod Announced
