@@ -29,3 +29,4 @@ mod Places
 mod Nowhere
 mod Moves
 mod Announced
+mod ByHand

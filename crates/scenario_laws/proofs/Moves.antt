@@ -91,6 +91,16 @@ plain_stays airs n step earlier none is same begins_not = record {
   begins_not = begins_not;
 }
 
+same_if : (hit : Bool) (calls : List Call) → cond hit calls calls ≡ calls
+same_if true calls = refl
+same_if false calls = refl
+
+-- of a sink that doesn't live
+pub unmoved : (n : ℕ) (named : Option ℕ) (step : Step) (earlier : List Step) (calls : List Call) → made_of n earlier ≡ None → moved n named step earlier calls ≡ calls
+unmoved n None step earlier calls none = refl
+unmoved n (Some sink) step earlier calls none =
+    ap (λ made. cond (sink == n) (received_by (source_at earlier) step made (life n earlier) (life n (step ∷ earlier)) calls) calls) none ∙ same_if (sink == n) calls
+
 -- a train that is given to another sink
 pub given_stays : (airs : Airs) (n sink time : ℕ) (ext adv acad : List ℕ) (earlier : List Step) → (sink == n) ≡ false → StaysBy airs n (steps.Train sink time ext adv acad) earlier
 given_stays airs n sink time ext adv acad earlier other = record {

@@ -19,9 +19,9 @@ use Rattle.sink_histories.specs.Moves.{joining_of, received_by, train_by}
 use Rattle.sink_histories.specs.Output.{sight_in}
 use Rattle.scenario_history.specs.Steps.{chosen_of, chosen_steps, steps_of_source}
 use Rattle.scenario_history.specs.Source.{Airs, event_back, open_event, pdu_in}
-use Rattle.scenario_history.specs.Sinks.{heard_on_air, is_of, moved, reaches, sink_calls, source_of, spots_of, ticked_if, tuning_of, with_sink_call}
+use Rattle.scenario_history.specs.Sinks.{heard_on_air, is_of, moved, reaches, sink_calls, source_of, spots_of, tuning_of, with_sink_call}
 use Rattle.scenario_history.specs.Worlds.{life, source_at, the_world}
-use Rattle.scenario_laws.proofs.Places.{air_place, same_place, tick_if_place}
+use Rattle.scenario_laws.proofs.Places.{air_place, end_place, same_place, tick_if_place}
 
 -- a living sink that is on no group by its life has receivers on none
 abbrev pub Nowhere : Option Made → List links.Call → List Call → Type 0
@@ -121,8 +121,7 @@ off_after airs n steps.Stop earlier calls before =
 off_after airs n (steps.Terminate reason) earlier calls before =
     λ m is off. tick_if_place (is_of (chosen_of earlier) (source_of n earlier)) (open_event (chosen_steps earlier)) calls ∙ before m is off
 off_after airs n steps.End earlier calls before =
-    λ m is off. tick_if_place (is_of 1 (source_of n earlier)) (open_event (steps_of_source 1 earlier)) (ticked_if (is_of 0 (source_of n earlier)) (open_event (steps_of_source 0 earlier)) calls)
-    ∙ tick_if_place (is_of 0 (source_of n earlier)) (open_event (steps_of_source 0 earlier)) calls ∙ before m is off
+    λ m is off. end_place (is_of 1 (source_of n earlier)) (is_of 0 (source_of n earlier)) (open_event (steps_of_source 1 earlier)) (open_event (steps_of_source 0 earlier)) calls ∙ before m is off
 off_after airs n (steps.Announce sink) earlier calls before =
     moved_off (sink == n) (source_at earlier) (steps.Announce sink) (made_of n earlier) (life n earlier) (stepped (train_heard (chosen_of earlier) (own_train (source_at earlier))) ∷ life n earlier) _ calls refl
     (λ m joining made_is brought. train_comes m (chosen_of earlier) (own_train (source_at earlier)) (life n earlier) joining brought) before

@@ -26,3 +26,7 @@ tick_place (Some event) calls = refl
 pub tick_if_place : (mine : Bool) (last_open : Option ℕ) (calls : List Call) → place (ticked_if mine last_open calls) ≡ place calls
 tick_if_place true last_open calls = tick_place last_open calls
 tick_if_place false last_open calls = refl
+
+-- at `end`
+pub end_place : (second first : Bool) (second_open first_open : Option ℕ) (calls : List Call) → place (ticked_if second second_open (ticked_if first first_open calls)) ≡ place calls
+end_place second first second_open first_open calls = tick_if_place second second_open (ticked_if first first_open calls) ∙ tick_if_place first first_open calls
