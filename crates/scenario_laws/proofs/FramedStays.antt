@@ -3,7 +3,7 @@ use Rattle.std.proofs.Common.{ℕ, zero, suc, ◌≡◌, ◌<◌, ◌≤◌, ◌
 use Rattle.std.specs.Prelude.{is_some, slice_index_or, unwrap_or}
 use Rattle.std.specs.List.{Contains, list_any}
 use Rattle.std.proofs.Math.Nat.{add-mul, div-mul-le_self, mul-le-mul}
-use Rattle.std.proofs.lemmas.Bool.{eq-eqb, eqb-true, false≢true, ltb-false, or_parts}
+use Rattle.std.proofs.lemmas.Bool.{eqb-true, false≢true, ltb-false, or_parts}
 use Rattle.big_info.specs.declared.info.BigInfo.{BigInfo}
 use Rattle.big_info.specs.declared.group.Group.{Group}
 use Rattle.big_info.specs.Schedule.{horizon_of}
@@ -16,15 +16,15 @@ use Rattle.isoal_framed.specs.Struck.{Fit, Sent, is_heard, struck}
 use Rattle.isoal_framed.specs.Tokens.{segmented}
 use Rattle.source_machine.specs.Airs.{AreAirs}
 use Rattle.source_machine.specs.Calls.{Setup, Call as SourceCall, events, framed_calls, laid_before, next_of}
-use Rattle.group_sink.specs.Calls.{Tuning, place}
+use Rattle.group_sink.specs.Calls.{Tuning}
 use Rattle.group_sink.specs.Handing.{handed_since as ticked_since, of_stream}
 use Rattle.group_sink.proofs.Citable.{member_is}
-use Rattle.group_sink.specs.Streams.{closes, stay_on, streams_of}
+use Rattle.group_sink.specs.Streams.{stay_on, streams_of}
 use Rattle.scenario_text.specs.declared.step.Step.{Step}
 use Rattle.scenario_history.specs.Steps.{steps_of_source}
 use Rattle.scenario_history.specs.Source.{Airs, is_started, setup_of, source_calls}
 use Rattle.scenario_history.specs.Airs.{MeetAirs}
-use Rattle.scenario_history.specs.Sinks.{is_of, sink_calls, source_of}
+use Rattle.scenario_history.specs.Sinks.{sink_calls}
 use Rattle.scenario_laws.specs.SourceUnits.{AreSent, by_payload}
 use Rattle.scenario_history.specs.Refusals.{has_beyond}
 use Rattle.scenario_laws.specs.Laws.{IsFramedStruck, air_in, calls_on, handed_since, injected_since, is_tuned, of_sink}
@@ -35,7 +35,7 @@ use Rattle.scenario_laws.proofs.Wholes.{Within, events_more, next_in, within_its
 use Rattle.scenario_laws.proofs.Stays.{IsOn, OnSource, TunedTo, on_source}
 use Rattle.scenario_laws.proofs.Hears.{all_own, its_airs}
 use Rattle.scenario_laws.proofs.FromSources.{framed_from_source}
-use Rattle.scenario_laws.proofs.Closes.{closing, front_of}
+use Rattle.scenario_laws.proofs.Closes.{stay_within}
 use Rattle.scenario_laws.proofs.FramedCalls.{events_in, unit_short}
 use Rattle.scenario_laws.proofs.FramedSends.{FramedWhole, HasAir, framed_sends, has_air, laid_end, laid_of, sent_fit, sent_in_order}
 
@@ -78,12 +78,7 @@ mul_least a b n least =
 pub opened_within : Below → (airs : Airs) (boxes s n bis : ℕ) (made : List Step) (tuning : Tuning) → Legal airs boxes made → s ≤ 1 → IsOn airs s n made tuning
     → opened (stay_on tuning bis) (calls_on airs made n tuning bis) ≤ next_in (steps_of_source s made)
 opened_within below airs boxes s n bis made tuning legal within is =
-    let mine : is_of s (source_of n made) ≡ true = ap (is_of s) is.source_is ∙ eq-eqb s s refl in
-    let at : front_of (cond (is_of s (source_of n made)) (place (sink_calls airs n made)) None) (sink_calls airs n made) (next_in (steps_of_source s made))
-    ≡ tuning.first + closes tuning (sink_calls airs n made) =
-    ap (λ b. front_of (cond b (place (sink_calls airs n made)) None) (sink_calls airs n made) (next_in (steps_of_source s made))) mine
-    ∙ ap (λ p. front_of p (sink_calls airs n made) (next_in (steps_of_source s made))) is.place_is in
-    omega (arith, below.one_open tuning (sink_calls airs n made) bis, at, (closing airs boxes s n made legal within).within)
+    omega (arith, below.one_open tuning (sink_calls airs n made) bis, stay_within airs boxes s n made tuning legal within is)
 
 -- ---- the units of a whole source
 

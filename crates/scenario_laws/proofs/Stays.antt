@@ -20,7 +20,7 @@ use Rattle.scenario_laws.proofs.Legals.{Legal, Permitted, fails_not, permitted}
 use Rattle.scenario_laws.proofs.Moves.{Left, PutBy, StaysBy, announced, given_stays, plain_stays}
 use Rattle.scenario_laws.proofs.Places.{air_place, end_place, same_place, tick_if_place}
 use Rattle.scenario_laws.proofs.Sources.{sends, takes, true_not_false}
-use Rattle.scenario_laws.proofs.Wholes.{goes}
+use Rattle.scenario_laws.proofs.Wholes.{goes, next_in}
 
 -- where the stay is on the source's group
 pub record TunedTo (setup : Setup) (tuning : Tuning) : Type 0 where
@@ -253,6 +253,16 @@ begins_to airs boxes s n (steps.Announce sink) earlier tuning legal permits begi
     let by_hand = as_by_hand airs boxes n sink earlier begins.put.joining legal permits begins.put.brings in
     tuned_to airs boxes s earlier tuning begins.put.joining.which (sends (chosen_steps earlier) permits.in_phase) (sym by_hand.0 ∙ begins.tuning_is) by_hand.1 begins.chosen_is
 begins_to airs boxes s n _ earlier tuning legal permits begins = absurd begins
+
+-- such a stay begins with the source's next event
+pub begins_next : (airs : Airs) (boxes s n : ℕ) (step : Step) (earlier : List Step) (tuning : Tuning) → Legal airs boxes earlier → Permitted airs boxes earlier step
+    → BeginsBy airs s n step earlier tuning → tuning.first ≡ next_in (steps_of_source s earlier)
+begins_next airs boxes s n (steps.Tuned sink which) earlier tuning legal permits begins =
+    ap (λ (t : Tuning). t.first) (sym begins.0) ∙ ap (λ t. next_in (steps_of_source t earlier)) begins.1
+begins_next airs boxes s n (steps.Announce sink) earlier tuning legal permits begins =
+    ap (λ (t : Tuning). t.first) (sym begins.tuning_is ∙ (as_by_hand airs boxes n sink earlier begins.put.joining legal permits begins.put.brings).0)
+    ∙ ap (λ t. next_in (steps_of_source t earlier)) begins.chosen_is
+begins_next airs boxes s n _ earlier tuning legal permits begins = absurd begins
 
 still_to : (airs : Airs) (boxes s : ℕ) (step : Step) (earlier : List Step) (tuning : Tuning) → Legal airs boxes (step ∷ earlier) → OnSource (steps_of_source s earlier) tuning
     → OnSource (steps_of_source s (step ∷ earlier)) tuning
