@@ -291,7 +291,7 @@ moved airs boxes s n step earlier legal ungiven least within =
     (next_rises airs boxes s earlier step legal) within
 
 -- a sink that was just made
-made_nothing : (airs : Airs) (n : ℕ) (step : Step) (earlier : List Step) → is_made n earlier step ≡ true → sink_calls airs n (step ∷ earlier) ≡ []
+pub made_nothing : (airs : Airs) (n : ℕ) (step : Step) (earlier : List Step) → is_made n earlier step ≡ true → sink_calls airs n (step ∷ earlier) ≡ []
 made_nothing airs n (steps.Sink sink streams slots mtu) earlier made = ap (λ b. cond b [] (sink_calls airs n earlier)) made
 made_nothing airs n _ earlier made = absurd (false≢true made)
 

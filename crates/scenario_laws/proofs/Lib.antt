@@ -21,6 +21,7 @@ mod InOrder
 mod OneTranscript
 mod Entries
 mod StaysInTurn
+mod Turning
 mod UnitOrder
 mod StartOrder
 mod OrderLaw

@@ -41,24 +41,24 @@ all_closed airs s n [] = refl
 all_closed airs s n (step ∷ earlier) = ap (λ closed. cond (is_made n earlier step) [] (closed ++ closed_by airs s n earlier step)) (all_closed airs s n earlier)
 
 -- the group of the source that the sink is on
-abbrev here_at : Airs → ℕ → ℕ → List Step → Option Tuning
+abbrev pub here_at : Airs → ℕ → ℕ → List Step → Option Tuning
 here_at airs s n made = stay_if (mine_in s n made) (sink_calls airs n made)
 
 stay_is : (mine : Bool) (calls : List Call) (tuning : Tuning) → stay_if mine calls ≡ Some tuning → (mine ≡ true) × (place calls ≡ Some tuning)
 stay_is true calls tuning is = (refl, is)
 stay_is false calls tuning is = absurd (none-some tuning is)
 
-no_stay : (mine : Bool) (calls : List Call) → place calls ≡ None → stay_if mine calls ≡ None
+pub no_stay : (mine : Bool) (calls : List Call) → place calls ≡ None → stay_if mine calls ≡ None
 no_stay true calls nowhere = nowhere
 no_stay false calls nowhere = refl
 
 -- the first event of the stay, or the next event of the source
-abbrev first_of : Option Tuning → ℕ → ℕ
+abbrev pub first_of : Option Tuning → ℕ → ℕ
 first_of None next = next
 first_of (Some tuning) next = tuning.first
 
 -- what is of the stay, where there is one
-abbrev in_stay : {A : Type 0} → Option Tuning → List A → List A
+abbrev pub in_stay : {A : Type 0} → Option Tuning → List A → List A
 in_stay None xs = []
 in_stay (Some tuning) xs = xs
 
@@ -67,7 +67,7 @@ in_stay_none None = refl
 in_stay_none (Some tuning) = refl
 
 -- all events and entries are those of the stay behind past ones, of which the claim holds up to the first event of the stay
-record InTurn (Q : ℕ → List Closed → List Handed → Type 0) (s n bis : ℕ) (here : Option Tuning) (next : ℕ) (closed now : List Closed) (units units_now : List SinkUnit) : Type 0 where
+pub record InTurn (Q : ℕ → List Closed → List Handed → Type 0) (s n bis : ℕ) (here : Option Tuning) (next : ℕ) (closed now : List Closed) (units units_now : List SinkUnit) : Type 0 where
   pub past : List Closed
   pub entries : List Handed
   pub claim : Q (first_of here next) past entries
@@ -159,7 +159,7 @@ none_shown airs boxes s n bis step earlier legal least within nowhere =
 
 -- ---- what holds of all stays
 
-abbrev InTurnAt : (ℕ → List Closed → List Handed → Type 0) → Airs → ℕ → ℕ → ℕ → List Step → Type 0
+abbrev pub InTurnAt : (ℕ → List Closed → List Handed → Type 0) → Airs → ℕ → ℕ → ℕ → List Step → Type 0
 InTurnAt Q airs s n bis made =
     InTurn Q s n bis (here_at airs s n made) (next_in (steps_of_source s made)) (closed_from (is_made n) airs s n made) (closed_from (is_tuned n) airs s n made)
     (handed_since (is_made n) airs made) (handed_since (is_tuned n) airs made)
@@ -179,7 +179,7 @@ pub record Turns (Q : ℕ → List Closed → List Handed → Type 0) (Fine : Li
   pub source_within : s ≤ 1
   pub sink_within : n ≤ 7
 
-at_end : (Q : ℕ → List Closed → List Handed → Type 0) (Fine : List Step → Type 0) (airs : Airs) (boxes s n bis : ℕ) → Turns Q Fine airs boxes s n bis → (made : List Step) → Fine made
+pub at_end : (Q : ℕ → List Closed → List Handed → Type 0) (Fine : List Step → Type 0) (airs : Airs) (boxes s n bis : ℕ) → Turns Q Fine airs boxes s n bis → (made : List Step) → Fine made
     → (here : Option Tuning) → here_at airs s n made ≡ here
     → InTurn Q s n bis here (next_in (steps_of_source s made)) (closed_from (is_made n) airs s n made) (closed_from (is_tuned n) airs s n made) (handed_since (is_made n) airs made)
     (handed_since (is_tuned n) airs made)
@@ -194,7 +194,7 @@ at_end Q Fine airs boxes s n bis turns made fine (Some tuning) there all =
     (turns.over made fine tuning (on_since_made airs s n made tuning on.1 (is_its s (source_of n made) on.0) (turns.ungiven made fine)) all.past all.entries all.claim))
 
 -- what is known before a step
-record Before (Q : ℕ → List Closed → List Handed → Type 0) (Fine : List Step → Type 0) (airs : Airs) (boxes s n bis : ℕ) (step : Step) (earlier : List Step) : Type 0 where
+pub record Before (Q : ℕ → List Closed → List Handed → Type 0) (Fine : List Step → Type 0) (airs : Airs) (boxes s n bis : ℕ) (step : Step) (earlier : List Step) : Type 0 where
   pub turns : Turns Q Fine airs boxes s n bis
   pub fine : Fine earlier
   pub legal_is : Legal airs boxes (step ∷ earlier)
@@ -217,7 +217,7 @@ on_turn Q Fine airs boxes s n bis step earlier before begins_not same =
     (none_shown airs boxes s n bis step earlier before.legal_is.0 before.turns.source_within before.turns.sink_within) before.all)
 
 -- the place and the source are the same
-still_turn : (Q : ℕ → List Closed → List Handed → Type 0) (Fine : List Step → Type 0) (airs : Airs) (boxes s n bis : ℕ) (step : Step) (earlier : List Step)
+pub still_turn : (Q : ℕ → List Closed → List Handed → Type 0) (Fine : List Step → Type 0) (airs : Airs) (boxes s n bis : ℕ) (step : Step) (earlier : List Step)
     → Before Q Fine airs boxes s n bis step earlier → is_tuned n earlier step ≡ false → source_of n (step ∷ earlier) ≡ source_of n earlier
     → place (sink_calls airs n (step ∷ earlier)) ≡ place (sink_calls airs n earlier) → InTurnAt Q airs s n bis (step ∷ earlier)
 still_turn Q Fine airs boxes s n bis step earlier before begins_not source_same same =
@@ -272,7 +272,7 @@ anew_turn Q Fine airs boxes s n bis step earlier before no_closed no_shown least
     }
 
 -- the sink is on no group then
-off_turn : (Q : ℕ → List Closed → List Handed → Type 0) (Fine : List Step → Type 0) (airs : Airs) (boxes s n bis : ℕ) (step : Step) (earlier : List Step)
+pub off_turn : (Q : ℕ → List Closed → List Handed → Type 0) (Fine : List Step → Type 0) (airs : Airs) (boxes s n bis : ℕ) (step : Step) (earlier : List Step)
     → Before Q Fine airs boxes s n bis step earlier → closed_by airs s n earlier step ≡ [] → handed_by airs earlier step ≡ []
     → place (sink_calls airs n (step ∷ earlier)) ≡ None → InTurnAt Q airs s n bis (step ∷ earlier)
 off_turn Q Fine airs boxes s n bis step earlier before no_closed no_shown nowhere =
@@ -286,7 +286,7 @@ put_least : (chosen s : ℕ) (on : Tuning) (rest : List Call) (next next' : ℕ)
 put_least chosen s on rest next next' more first true is = omega (arith, first is)
 put_least chosen s on rest next next' more first false is = more
 
-put_turn : (Q : ℕ → List Closed → List Handed → Type 0) (Fine : List Step → Type 0) (airs : Airs) (boxes s n bis : ℕ) (step : Step) (earlier : List Step) (on : Tuning)
+pub put_turn : (Q : ℕ → List Closed → List Handed → Type 0) (Fine : List Step → Type 0) (airs : Airs) (boxes s n bis : ℕ) (step : Step) (earlier : List Step) (on : Tuning)
     → Before Q Fine airs boxes s n bis step earlier → closed_by airs s n earlier step ≡ [] → handed_by airs earlier step ≡ [] → is_tuned n earlier step ≡ true
     → sink_calls airs n (step ∷ earlier) ≡ tune on ∷ sink_calls airs n earlier → source_of n (step ∷ earlier) ≡ Some (chosen_of earlier) → on.first ≡ next_in (chosen_steps earlier)
     → InTurnAt Q airs s n bis (step ∷ earlier)

@@ -1,6 +1,7 @@
 -- Step by step, the stays of a sink with a source, one after the other.
 use Rattle.std.proofs.Common.{ℕ, ◌≡◌, ◌==◌, cond, Bool, true, false, List, [], ◌∷◌, ◌++◌, Option, None, Some, refl, sym, ◌∙◌, ap, subst, inl, inr}
 use Rattle.std.proofs.lemmas.Bool.{cases_Bool, false≢true}
+use Rattle.std.proofs.lemmas.Option.{none-some}
 use Rattle.delegator_machine.specs.Groups as machine
 use Rattle.unit_outlets.specs.Handed.{Handed}
 use Rattle.group_sink.specs.Calls.{Tuning, tune, hear, place}
@@ -18,7 +19,7 @@ use Rattle.scenario_laws.proofs.Places.{air_place, end_place, same_place, tick_i
 use Rattle.scenario_laws.proofs.Wholes.{next_in, next_rises}
 use Rattle.scenario_laws.proofs.Stays.{last_not}
 use Rattle.scenario_laws.proofs.Closes.{made_nothing, mine_in}
-use Rattle.scenario_laws.proofs.StaysInTurn.{Before, InTurn, InTurnAt, Turns, all_closed, at_end, closed_from, here_at, in_stay, no_stay, off_turn, on_turn, put_turn, still_turn}
+use Rattle.scenario_laws.proofs.StaysInTurn.{Before, InTurn, InTurnAt, Turns, all_closed, at_end, closed_from, here_at, no_stay, off_turn, put_turn, still_turn}
 
 -- ---- one step
 
