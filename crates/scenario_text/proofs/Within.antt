@@ -174,17 +174,20 @@ write_within : RowWithin rows.write_row
 write_within v0 h0 v1 h1 = (h0.1, h1.0, h1.1)
 
 add_within : RowWithin rows.add_row
-add_within v0 h0 v1 h1 v2 h2 v3 h3 v4 h4 v5 h5 v6 h6 v7 h7 =
-    (h0.1, h7.1, add_octets _ (record {
-      address_type = omega (arith, h1.1);
-      address = h2.1;
-      sid = omega (arith, h3.1);
-      broadcast_id = h4.1;
-      pa_sync = omega (arith, h5.1);
-      few = h7.0;
-      fits = h7.1;
-      are = h7.2;
-    }))
+add_within v0 h0 v1 h1 v2 h2 v3 h3 v4 h4 v5 h5 v6 h6 v7 h7 = (
+  h0.1,
+  h7.1,
+  add_octets _ (record {
+    address_type = omega (arith, h1.1);
+    address = h2.1;
+    sid = omega (arith, h3.1);
+    broadcast_id = h4.1;
+    pa_sync = omega (arith, h5.1);
+    few = h7.0;
+    fits = h7.1;
+    are = h7.2;
+  }),
+)
 
 modify_within : RowWithin rows.modify_row
 modify_within v0 h0 v1 h1 v2 h2 v3 h3 v4 h4 =

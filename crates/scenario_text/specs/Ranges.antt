@@ -1,5 +1,6 @@
 -- What the numbers of a step keep to, whatever its line: the ranges of the scenario language, which for a group are
--- the widths of the BIGInfo (Core 5.2, volume 6 part B, section 4.4.6.11).
+-- the widths of the BIGInfo (Core 5.2, volume 6 part B, section 4.4.6.11). What is spelled by pairs of digits for a source or
+-- as an operation is octets, and so are the fields of an operation (Broadcast Audio Scan Service 1.0, section 3.1.1).
 use Rattle.std.specs.Prelude.{ℕ, ◌≡◌, ◌≤◌, ◌<◌, ◌^◌, ⊤, length, None}
 use Rattle.std.specs.Option.{ForSome}
 use Rattle.ltv_codec.specs.Reading.{bad_of}
