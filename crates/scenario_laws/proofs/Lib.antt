@@ -25,3 +25,6 @@ mod UnitOrder
 mod StartOrder
 mod OrderLaw
 mod MetAirs
+mod Bases
+mod Announcers
+mod Announced
