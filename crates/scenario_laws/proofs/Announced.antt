@@ -1,6 +1,6 @@
 -- Where a sink is that `announce` puts on a group: where the group's source is for its next event (Basic Audio Profile 1.0,
 -- sections 3.7.2 and 6.5.4).
-use Rattle.std.proofs.Common.{ℕ, ◌≡◌, ◌≤◌, ◌∷◌, [], Bool, List, None, Some, refl, ◌∙◌, ap}
+use Rattle.std.proofs.Common.{ℕ, ◌≡◌, ◌<◌, ◌≤◌, ◌^◌, ◌∷◌, [], Bool, List, None, Some, refl, ◌∙◌, ap}
 use Rattle.std.specs.Prelude.{unwrap_or}
 use Rattle.std.proofs.lemmas.Option.{none-some}
 use Rattle.base_grammar.specs.declared.subgroup.Subgroup.{Subgroup}
@@ -81,9 +81,12 @@ told laws airs own legal may least =
     (next_of (setup_of own) (source_calls own)) (next_anchor_of (setup_of own) (source_calls own)) least
     (laws.is_train (identity_of own).broadcast_id (base_of own) (checked_info own) (next_of (setup_of own) (source_calls own)) (next_anchor_of (setup_of own) (source_calls own)) may)
 
-same_tuning : (own : List Step) (joining : Joining) → Settled own → Tellable own
-    → IsOnGroup (base_of own) (checked_info own) (next_of (setup_of own) (source_calls own)) (next_anchor_of (setup_of own) (source_calls own)) joining
-    → tuning_joined joining ≡ tuning_of own joining.which
+-- the sink is where the source is for its next event
+abbrev pub IsOn : List Step → Joining → Type 0
+IsOn own joining =
+    IsOnGroup (base_of own) (checked_info own) (next_of (setup_of own) (source_calls own)) (next_anchor_of (setup_of own) (source_calls own)) joining
+
+same_tuning : (own : List Step) (joining : Joining) → Settled own → Tellable own → IsOn own joining → tuning_joined joining ≡ tuning_of own joining.which
 same_tuning own joining is tells on =
     ap (λ info. tuning_with info joining.which joining.first joining.anchor joining.delay) (on.group_is ∙ its_numbers own is tells on.plain)
     ∙ ap (λ first. tuning_with (setup_of own).info joining.which first joining.anchor joining.delay) on.first_is
@@ -91,19 +94,33 @@ same_tuning own joining is tells on =
     ∙ ap (tuning_with (setup_of own).info joining.which (next_of (setup_of own) (source_calls own)) (next_anchor_of (setup_of own) (source_calls own)))
     (on.delay_is ∙ base_delay (unwrap_or (group_of own) no_group) (subgroups_of own))
 
+-- the train puts the sink on the group of the source
+pub announced_on : Announcing → (airs : Airs) (boxes n : ℕ) (earlier : List Step) (made : Made) (joining : Joining) → Legal airs boxes earlier
+    → Permitted airs boxes earlier (steps.Announce n)
+    → joining_of made (sight_in made (life n earlier)) (Some (own_train (source_at earlier))) ≡ Some joining
+    → IsOn (chosen_steps earlier) joining
+announced_on laws airs boxes n earlier made joining legal permits is =
+    let own : List Step = chosen_steps earlier in
+    let legal_own : Lawful airs own = lawful airs boxes (chosen_of earlier) earlier legal in
+    let may = may_announce airs own legal_own permits.in_phase permits.by_source in
+    let tells = told laws airs own legal_own may (bounds_in own (settled airs own legal_own) (sends own permits.in_phase)).bn in
+    let took : Taken (brought_by made.setup (sight_in made (life n earlier)) (own_train (source_at earlier))) joining =
+    it_was_taken (brought_by made.setup (sight_in made (life n earlier)) (own_train (source_at earlier))) joining is in
+    laws.is_put made.setup (sight_in made (life n earlier)) (source_at earlier).address_type (source_at earlier).sid (announced_of own)
+    (identity_of own).broadcast_id (base_of own) (checked_info own) (next_of (setup_of own) (source_calls own)) (next_anchor_of (setup_of own) (source_calls own))
+    took.slot took.bits took.encrypted joining tells took.is
+
 pub announced_tuning : Announcing → (airs : Airs) (boxes n : ℕ) (earlier : List Step) (made : Made) (joining : Joining) → Legal airs boxes earlier
     → Permitted airs boxes earlier (steps.Announce n)
     → joining_of made (sight_in made (life n earlier)) (Some (own_train (source_at earlier))) ≡ Some joining
     → tuning_joined joining ≡ tuning_of (chosen_steps earlier) joining.which
 announced_tuning laws airs boxes n earlier made joining legal permits is =
-    let own : List Step = chosen_steps earlier in
-    let legal_own : Lawful airs own = lawful airs boxes (chosen_of earlier) earlier legal in
-    let settles : Settled own = settled airs own legal_own in
-    let may = may_announce airs own legal_own permits.in_phase permits.by_source in
-    let tells = told laws airs own legal_own may (bounds_in own settles (sends own permits.in_phase)).bn in
-    let took : Taken (brought_by made.setup (sight_in made (life n earlier)) (own_train (source_at earlier))) joining =
-    it_was_taken (brought_by made.setup (sight_in made (life n earlier)) (own_train (source_at earlier))) joining is in
-    same_tuning own joining settles (tellable airs own legal_own)
-    (laws.is_put made.setup (sight_in made (life n earlier)) (source_at earlier).address_type (source_at earlier).sid (announced_of own)
-    (identity_of own).broadcast_id (base_of own) (checked_info own) (next_of (setup_of own) (source_calls own)) (next_anchor_of (setup_of own) (source_calls own))
-    took.slot took.bits took.encrypted joining tells took.is)
+    let legal_own : Lawful airs (chosen_steps earlier) = lawful airs boxes (chosen_of earlier) earlier legal in
+    same_tuning (chosen_steps earlier) joining (settled airs (chosen_steps earlier) legal_own) (tellable airs (chosen_steps earlier) legal_own)
+    (announced_on laws airs boxes n earlier made joining legal permits is)
+
+pub announced_within : Announcing → (airs : Airs) (boxes n : ℕ) (earlier : List Step) (made : Made) (joining : Joining) → Legal airs boxes earlier
+    → Permitted airs boxes earlier (steps.Announce n)
+    → joining_of made (sight_in made (life n earlier)) (Some (own_train (source_at earlier))) ≡ Some joining
+    → joining.which < 2 ^ (setup_of (chosen_steps earlier)).info.num_bis
+announced_within laws airs boxes n earlier made joining legal permits is = (announced_on laws airs boxes n earlier made joining legal permits is).within

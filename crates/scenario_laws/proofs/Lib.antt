@@ -28,3 +28,5 @@ mod MetAirs
 mod Bases
 mod Announcers
 mod Announced
+mod LifeOctets
+mod Linked
