@@ -12,7 +12,7 @@ use Rattle.scenario_history.specs.Refusals.{has_beyond}
 use Rattle.scenario_history.specs.Source.{Airs, setup_of}
 use Rattle.scenario_history.specs.Sinks.{tuning_of}
 use Rattle.scenario_history.specs.Steps.{chosen_steps}
-use Rattle.scenario_laws.proofs.Announced.{announced_tuning, announced_within}
+use Rattle.scenario_laws.proofs.Announced.{Announcing, announced_tuning, announced_within}
 use Rattle.scenario_laws.proofs.Legals.{Legal, Permitted}
 use Rattle.scenario_laws.proofs.Moves.{Brings}
 use Rattle.scenario_laws.proofs.Sources.{true_not_false}
@@ -41,10 +41,10 @@ none_beyond num_bis which small =
 
 -- ---- as by hand
 
-pub as_by_hand : (airs : Airs) (boxes n sink : ℕ) (earlier : List Step) (joining : Joining) → Legal airs boxes earlier → Permitted airs boxes earlier (steps.Announce sink) → Brings n sink earlier joining
+pub as_by_hand : Announcing → (airs : Airs) (boxes n sink : ℕ) (earlier : List Step) (joining : Joining) → Legal airs boxes earlier → Permitted airs boxes earlier (steps.Announce sink) → Brings n sink earlier joining
     → (group_of joining ≡ tuning_of (chosen_steps earlier) joining.which) × (has_beyond (setup_of (chosen_steps earlier)).info.num_bis joining.which ≡ false)
-as_by_hand airs boxes n sink earlier joining legal permits brings =
+as_by_hand laws airs boxes n sink earlier joining legal permits brings =
     let permits_it : Permitted airs boxes earlier (steps.Announce n) = subst (λ m. Permitted airs boxes earlier (steps.Announce m)) (eqb-true sink n brings.0) permits in (
-      announced_tuning airs boxes n earlier brings.1.made joining legal permits_it brings.1.is,
-      none_beyond (setup_of (chosen_steps earlier)).info.num_bis joining.which (announced_within airs boxes n earlier brings.1.made joining legal permits_it brings.1.is),
+      announced_tuning laws airs boxes n earlier brings.1.made joining legal permits_it brings.1.is,
+      none_beyond (setup_of (chosen_steps earlier)).info.num_bis joining.which (announced_within laws airs boxes n earlier brings.1.made joining legal permits_it brings.1.is),
     )

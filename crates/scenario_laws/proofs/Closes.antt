@@ -12,6 +12,7 @@ use Rattle.scenario_history.specs.Steps.{chosen_of, chosen_steps, is_over, steps
 use Rattle.scenario_history.specs.Source.{Airs, event_back, is_sending, open_event, pdu_in, performed, setup_of}
 use Rattle.scenario_history.specs.Sinks.{heard_on_air, is_lost, is_of, reaches, sink_calls, source_of, spot_at, spots_of, ticked, tuning_of, unless_lost}
 use Rattle.scenario_laws.specs.Laws.{Closed, closed_at, closed_by, closed_if, closed_in, closed_since, any_since, given_since_made, is_given, is_made, is_tuned}
+use Rattle.scenario_laws.proofs.Announced.{Announcing}
 use Rattle.scenario_laws.proofs.ByHand.{as_by_hand}
 use Rattle.scenario_laws.proofs.Legals.{Legal, Permitted, permitted}
 use Rattle.scenario_laws.proofs.Moves.{Left, StaysBy, announced, given_stays, plain_stays}
@@ -211,11 +212,11 @@ stays_move airs s n step earlier next' stays more within =
     left_moves (mine_in s n earlier) (mine_in s n (step ∷ earlier)) (sink_calls airs n earlier) (sink_calls airs n (step ∷ earlier)) (next_in (steps_of_source s earlier)) next' more
     (ap (is_of s) stays.same) stays.left within
 
-announced_moves : (airs : Airs) (boxes s n sink : ℕ) (earlier : List Step) (next' : ℕ) → Legal airs boxes earlier → Permitted airs boxes earlier (steps.Announce sink)
+announced_moves : Announcing → (airs : Airs) (boxes s n sink : ℕ) (earlier : List Step) (next' : ℕ) → Legal airs boxes earlier → Permitted airs boxes earlier (steps.Announce sink)
     → next_in (steps_of_source s earlier) ≤ next' → its_front airs s n earlier ≤ next_in (steps_of_source s earlier)
     → Moves (mine_in s n earlier) (sink_calls airs n earlier) (next_in (steps_of_source s earlier)) []
     (mine_in s n (steps.Announce sink ∷ earlier)) (sink_calls airs n (steps.Announce sink ∷ earlier)) next'
-announced_moves airs boxes s n sink earlier next' legal permits more within = elim (announced airs n sink earlier) [
+announced_moves laws airs boxes s n sink earlier next' legal permits more within = elim (announced airs n sink earlier) [
   | inl stays ↦ stays_move airs s n (steps.Announce sink) earlier next' stays more within
   | inr goes ↦ elim goes [
     | inl follows ↦
@@ -223,7 +224,7 @@ announced_moves airs boxes s n sink earlier next' legal permits more within = el
         (next_in (steps_of_source s earlier)) next' more (ap place follows.same ∙ follows.nowhere) within
     | inr put ↦
         let on : Tuning = machine.tuning_of put.joining in
-        let first_is : on.first ≡ next_in (chosen_steps earlier) = ap (λ (t : Tuning). t.first) (as_by_hand airs boxes n sink earlier put.joining legal permits put.brings).0 in
+        let first_is : on.first ≡ next_in (chosen_steps earlier) = ap (λ (t : Tuning). t.first) (as_by_hand laws airs boxes n sink earlier put.joining legal permits put.brings).0 in
         subst (λ calls. Moves (mine_in s n earlier) (sink_calls airs n earlier) (next_in (steps_of_source s earlier)) [] (mine_in s n (steps.Announce sink ∷ earlier)) calls next') (sym put.calls_is)
         (subst (λ source. Moves (mine_in s n earlier) (sink_calls airs n earlier) (next_in (steps_of_source s earlier)) [] (is_of s source) (tune on ∷ sink_calls airs n earlier) next')
         (sym put.source_is)
@@ -232,49 +233,49 @@ announced_moves airs boxes s n sink earlier next' legal permits more within = el
   ]
 ]
 
-pub moves_by : (airs : Airs) (boxes s n : ℕ) (step : Step) (earlier : List Step) (next' : ℕ) → Legal airs boxes earlier → Permitted airs boxes earlier step → is_given n step ≡ false → s ≤ 1
+pub moves_by : Announcing → (airs : Airs) (boxes s n : ℕ) (step : Step) (earlier : List Step) (next' : ℕ) → Legal airs boxes earlier → Permitted airs boxes earlier step → is_given n step ≡ false → s ≤ 1
     → next_in (steps_of_source s earlier) ≤ next' → its_front airs s n earlier ≤ next_in (steps_of_source s earlier)
     → Moves (mine_in s n earlier) (sink_calls airs n earlier) (next_in (steps_of_source s earlier)) (closed_by airs s n earlier step)
     (mine_in s n (step ∷ earlier)) (sink_calls airs n (step ∷ earlier)) next'
-moves_by airs boxes s n (steps.Sink sink streams slots mtu) earlier next' legal permits ungiven least more within =
+moves_by laws airs boxes s n (steps.Sink sink streams slots mtu) earlier next' legal permits ungiven least more within =
     gone_moves s (sink == n) (sink_calls airs n earlier) (source_of n earlier) (next_in (steps_of_source s earlier)) next' more within
-moves_by airs boxes s n (steps.Drop sink) earlier next' legal permits ungiven least more within =
+moves_by laws airs boxes s n (steps.Drop sink) earlier next' legal permits ungiven least more within =
     gone_moves s (sink == n) (sink_calls airs n earlier) (source_of n earlier) (next_in (steps_of_source s earlier)) next' more within
-moves_by airs boxes s n (steps.Tuned sink which) earlier next' legal permits ungiven least more within =
+moves_by laws airs boxes s n (steps.Tuned sink which) earlier next' legal permits ungiven least more within =
     put_moves s (sink == n) (tuning_of (chosen_steps earlier) which) (chosen_of earlier) (sink_calls airs n earlier) (source_of n earlier) (next_in (steps_of_source s earlier)) next' more
     (λ same. ap (λ t. next_in (steps_of_source t earlier)) (eqb-true (chosen_of earlier) s same)) within
-moves_by airs boxes s n (steps.Hear sink back bis subevent) earlier next' legal permits ungiven least more within =
+moves_by laws airs boxes s n (steps.Hear sink back bis subevent) earlier next' legal permits ungiven least more within =
     more_moves (mine_in s n earlier) (reaches sink n earlier)
     (hear (event_back (chosen_steps earlier) back) bis subevent (pdu_in airs (chosen_steps earlier) (event_back (chosen_steps earlier) back) bis subevent) ∷ sink_calls airs n earlier)
     (sink_calls airs n earlier) (next_in (steps_of_source s earlier)) next' more refl (λ tuning. refl) within
-moves_by airs boxes s n (steps.Air sink lose) earlier next' legal permits ungiven least more within =
+moves_by laws airs boxes s n (steps.Air sink lose) earlier next' legal permits ungiven least more within =
     more_moves (mine_in s n earlier) (reaches sink n earlier) (heard_on_air airs (chosen_steps earlier) lose (spots_of (chosen_steps earlier)) (sink_calls airs n earlier))
     (sink_calls airs n earlier) (next_in (steps_of_source s earlier)) next' more
     (air_place airs (chosen_steps earlier) lose (spots_of (chosen_steps earlier)) (sink_calls airs n earlier))
     (air_closes airs (chosen_steps earlier) lose (spots_of (chosen_steps earlier)) (sink_calls airs n earlier)) within
-moves_by airs boxes s n (steps.Inject sink back bis subevent octets) earlier next' legal permits ungiven least more within =
+moves_by laws airs boxes s n (steps.Inject sink back bis subevent octets) earlier next' legal permits ungiven least more within =
     more_moves (mine_in s n earlier) (reaches sink n earlier) (hear (event_back (chosen_steps earlier) back) bis subevent octets ∷ sink_calls airs n earlier)
     (sink_calls airs n earlier) (next_in (steps_of_source s earlier)) next' more refl (λ tuning. refl) within
-moves_by airs boxes s n steps.Event earlier next' legal permits ungiven least more within =
+moves_by laws airs boxes s n steps.Event earlier next' legal permits ungiven least more within =
     close_moves (mine_in s n earlier) (chosen_of earlier == s) (open_event (steps_of_source s earlier)) (sink_calls airs n earlier) _ (next_in (steps_of_source s earlier)) next'
     (open_before (steps_of_source s earlier)) more within
     (λ mine. event_ticks (chosen_of earlier) s (λ t. open_event (steps_of_source t earlier)) (sink_calls airs n earlier) (source_of n earlier) (is_its s (source_of n earlier) mine))
-moves_by airs boxes s n steps.Stop earlier next' legal permits ungiven least more within =
+moves_by laws airs boxes s n steps.Stop earlier next' legal permits ungiven least more within =
     close_moves (mine_in s n earlier) (chosen_of earlier == s) (open_event (steps_of_source s earlier)) (sink_calls airs n earlier) _ (next_in (steps_of_source s earlier)) next'
     (open_before (steps_of_source s earlier)) more within
     (λ mine. event_ticks (chosen_of earlier) s (λ t. open_event (steps_of_source t earlier)) (sink_calls airs n earlier) (source_of n earlier) (is_its s (source_of n earlier) mine))
-moves_by airs boxes s n (steps.Terminate reason) earlier next' legal permits ungiven least more within =
+moves_by laws airs boxes s n (steps.Terminate reason) earlier next' legal permits ungiven least more within =
     close_moves (mine_in s n earlier) (chosen_of earlier == s) (open_event (steps_of_source s earlier)) (sink_calls airs n earlier) _ (next_in (steps_of_source s earlier)) next'
     (open_before (steps_of_source s earlier)) more within
     (λ mine. event_ticks (chosen_of earlier) s (λ t. open_event (steps_of_source t earlier)) (sink_calls airs n earlier) (source_of n earlier) (is_its s (source_of n earlier) mine))
-moves_by airs boxes s n steps.End earlier next' legal permits ungiven least more within =
+moves_by laws airs boxes s n steps.End earlier next' legal permits ungiven least more within =
     close_moves (mine_in s n earlier) true (open_event (steps_of_source s earlier)) (sink_calls airs n earlier) _ (next_in (steps_of_source s earlier)) next'
     (open_before (steps_of_source s earlier)) more within
     (λ mine. end_ticks s (λ t. open_event (steps_of_source t earlier)) (sink_calls airs n earlier) (source_of n earlier) least (is_its s (source_of n earlier) mine))
-moves_by airs boxes s n (steps.Announce sink) earlier next' legal permits ungiven least more within = announced_moves airs boxes s n sink earlier next' legal permits more within
-moves_by airs boxes s n (steps.Train sink time ext adv acad) earlier next' legal permits ungiven least more within =
+moves_by laws airs boxes s n (steps.Announce sink) earlier next' legal permits ungiven least more within = announced_moves laws airs boxes s n sink earlier next' legal permits more within
+moves_by laws airs boxes s n (steps.Train sink time ext adv acad) earlier next' legal permits ungiven least more within =
     stays_move airs s n (steps.Train sink time ext adv acad) earlier next' (given_stays airs n sink time ext adv acad earlier ungiven) more within
-moves_by airs boxes s n step earlier next' legal permits ungiven least more within = stays_move airs s n step earlier next' (plain_stays airs n step earlier refl refl refl refl) more within
+moves_by laws airs boxes s n step earlier next' legal permits ungiven least more within = stays_move airs s n step earlier next' (plain_stays airs n step earlier refl refl refl refl) more within
 
 -- ---- all events that a sink closed
 
@@ -282,12 +283,12 @@ pub record Closing (airs : Airs) (s n : ℕ) (made : List Step) : Type 0 where
   pub rise : Climb 0 (map event_of (closed_since airs s n made)) (its_front airs s n made)
   pub within : its_front airs s n made ≤ next_in (steps_of_source s made)
 
-pub moved : (airs : Airs) (boxes s n : ℕ) (step : Step) (earlier : List Step) → Legal airs boxes (step ∷ earlier) → is_given n step ≡ false → s ≤ 1
+pub moved : Announcing → (airs : Airs) (boxes s n : ℕ) (step : Step) (earlier : List Step) → Legal airs boxes (step ∷ earlier) → is_given n step ≡ false → s ≤ 1
     → its_front airs s n earlier ≤ next_in (steps_of_source s earlier)
     → Moves (mine_in s n earlier) (sink_calls airs n earlier) (next_in (steps_of_source s earlier)) (closed_by airs s n earlier step)
     (mine_in s n (step ∷ earlier)) (sink_calls airs n (step ∷ earlier)) (next_in (steps_of_source s (step ∷ earlier)))
-moved airs boxes s n step earlier legal ungiven least within =
-    moves_by airs boxes s n step earlier (next_in (steps_of_source s (step ∷ earlier))) legal.0 (permitted airs boxes earlier step legal.1) ungiven least
+moved laws airs boxes s n step earlier legal ungiven least within =
+    moves_by laws airs boxes s n step earlier (next_in (steps_of_source s (step ∷ earlier))) legal.0 (permitted airs boxes earlier step legal.1) ungiven least
     (next_rises airs boxes s earlier step legal) within
 
 -- a sink that was just made
@@ -310,28 +311,28 @@ climbs_further true before now low high on first rest = absurd (false≢true (sy
 climbs_further false before now low high on first rest =
     subst (λ xs. Climb 0 xs high) (sym (map_on event_of before now)) (climb_on 0 (map event_of before) low (map event_of now) high first rest)
 
-closing_on : (airs : Airs) (boxes s n : ℕ) (step : Step) (earlier : List Step) → Legal airs boxes (step ∷ earlier) → is_given n step ≡ false → s ≤ 1 → is_made n earlier step ≡ false
+closing_on : Announcing → (airs : Airs) (boxes s n : ℕ) (step : Step) (earlier : List Step) → Legal airs boxes (step ∷ earlier) → is_given n step ≡ false → s ≤ 1 → is_made n earlier step ≡ false
     → Closing airs s n earlier → Closing airs s n (step ∷ earlier)
-closing_on airs boxes s n step earlier legal ungiven least on before =
-    let now = moved airs boxes s n step earlier legal ungiven least before.within in
+closing_on laws airs boxes s n step earlier legal ungiven least on before =
+    let now = moved laws airs boxes s n step earlier legal ungiven least before.within in
     record {
       rise = climbs_further (is_made n earlier step) (closed_since airs s n earlier) (closed_by airs s n earlier step) (its_front airs s n earlier) (its_front airs s n (step ∷ earlier)) on
           before.rise now.climbs_on;
       within = now.within;
     }
 
-pub closing : (airs : Airs) (boxes s n : ℕ) (made : List Step) → Legal airs boxes made → given_since_made n made ≡ false → s ≤ 1 → Closing airs s n made
-closing airs boxes s n [] legal ungiven least = record { rise = omega arith; within = omega arith }
-closing airs boxes s n (step ∷ earlier) legal ungiven least = elim (cases_Bool (is_made n earlier step)) [
+pub closing : Announcing → (airs : Airs) (boxes s n : ℕ) (made : List Step) → Legal airs boxes made → given_since_made n made ≡ false → s ≤ 1 → Closing airs s n made
+closing laws airs boxes s n [] legal ungiven least = record { rise = omega arith; within = omega arith }
+closing laws airs boxes s n (step ∷ earlier) legal ungiven least = elim (cases_Bool (is_made n earlier step)) [
   | inl again ↦ closing_anew airs s n step earlier again
   | inr on ↦
-      closing_on airs boxes s n step earlier legal (last_not (is_made n earlier step) (is_given n step) (given_since_made n earlier) ungiven) least on
-      (closing airs boxes s n earlier legal.0 (rest_not (is_made n earlier step) (is_given n step) (given_since_made n earlier) ungiven on) least)
+      closing_on laws airs boxes s n step earlier legal (last_not (is_made n earlier step) (is_given n step) (given_since_made n earlier) ungiven) least on
+      (closing laws airs boxes s n earlier legal.0 (rest_not (is_made n earlier step) (is_given n step) (given_since_made n earlier) ungiven on) least)
 ]
 
-pub closes_rise : (airs : Airs) (boxes s n : ℕ) (made : List Step) → Legal airs boxes made → given_since_made n made ≡ false → s ≤ 1 → IsStrictlyIncreasing (map event_of (closed_since airs s n made))
-closes_rise airs boxes s n made legal ungiven least =
-    climbs 0 (map event_of (closed_since airs s n made)) (its_front airs s n made) (closing airs boxes s n made legal ungiven least).rise
+pub closes_rise : Announcing → (airs : Airs) (boxes s n : ℕ) (made : List Step) → Legal airs boxes made → given_since_made n made ≡ false → s ≤ 1 → IsStrictlyIncreasing (map event_of (closed_since airs s n made))
+closes_rise laws airs boxes s n made legal ungiven least =
+    climbs 0 (map event_of (closed_since airs s n made)) (its_front airs s n made) (closing laws airs boxes s n made legal ungiven least).rise
 
 -- ---- the open event of one stay
 
@@ -342,17 +343,17 @@ stay_front airs s n made tuning is =
     ∙ ap (λ p. front_of p (sink_calls airs n made) (next_in (steps_of_source s made))) is.place_is
 
 -- the open event of a stay is at most the source's next one
-pub stay_within : (airs : Airs) (boxes s n : ℕ) (made : List Step) (tuning : Tuning) → Legal airs boxes made → s ≤ 1 → IsOn airs s n made tuning
+pub stay_within : Announcing → (airs : Airs) (boxes s n : ℕ) (made : List Step) (tuning : Tuning) → Legal airs boxes made → s ≤ 1 → IsOn airs s n made tuning
     → tuning.first + closes tuning (sink_calls airs n made) ≤ next_in (steps_of_source s made)
-stay_within airs boxes s n [] tuning legal least is = absurd (none-some tuning is.place_is)
-stay_within airs boxes s n (step ∷ earlier) tuning legal least is = elim (on_before airs s n step earlier tuning is) [
+stay_within laws airs boxes s n [] tuning legal least is = absurd (none-some tuning is.place_is)
+stay_within laws airs boxes s n (step ∷ earlier) tuning legal least is = elim (on_before airs s n step earlier tuning is) [
   | inl before ↦
       let within : its_front airs s n earlier ≤ next_in (steps_of_source s earlier) =
-      omega (arith, stay_front airs s n earlier tuning before, stay_within airs boxes s n earlier tuning legal.0 least before) in
-      let now = moved airs boxes s n step earlier legal (last_not (is_tuned n earlier step) (is_given n step) (any_since (is_tuned n) (is_given n) earlier) is.ungiven) least within in
+      omega (arith, stay_front airs s n earlier tuning before, stay_within laws airs boxes s n earlier tuning legal.0 least before) in
+      let now = moved laws airs boxes s n step earlier legal (last_not (is_tuned n earlier step) (is_given n step) (any_since (is_tuned n) (is_given n) earlier) is.ungiven) least within in
       omega (arith, stay_front airs s n (step ∷ earlier) tuning is, now.within)
   | inr begins ↦
       let none : closes tuning (sink_calls airs n (step ∷ earlier)) ≡ 0 = ap (closes tuning) (begins_calls airs s n step earlier tuning begins) in
-      let first : tuning.first ≡ next_in (steps_of_source s earlier) = begins_next airs boxes s n step earlier tuning legal.0 (permitted airs boxes earlier step legal.1) begins in
+      let first : tuning.first ≡ next_in (steps_of_source s earlier) = begins_next laws airs boxes s n step earlier tuning legal.0 (permitted airs boxes earlier step legal.1) begins in
       omega (arith, none, first, next_rises airs boxes s earlier step legal)
 ]

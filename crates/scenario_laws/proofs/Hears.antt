@@ -28,6 +28,7 @@ use Rattle.scenario_history.specs.Airs.{MeetAirs}
 use Rattle.scenario_history.specs.Sinks.{spot_at, is_lost, is_of, hear_at, unless_lost, heard_on_air, reaches, sink_calls, source_of, spots_of, ticked, ticked_if, tuning_of}
 use Rattle.scenario_history.specs.Refusals.{air_refusal, no_place}
 use Rattle.scenario_laws.specs.Laws.{injected_since, is_injected, is_tuned}
+use Rattle.scenario_laws.proofs.Announced.{Announcing}
 use Rattle.scenario_laws.proofs.Legals.{Legal, Permitted, fails_not, maps_none, permitted}
 use Rattle.scenario_laws.proofs.Sources.{Lawful, are_accepted, bounds_in, group_in, lawful, settled}
 use Rattle.scenario_laws.proofs.Wholes.{Within, within_before}
@@ -246,20 +247,20 @@ abbrev pub WholeSends : Airs → Setup → List SourceCall → (ℕ → Content)
 WholeSends airs setup whole laid tuning bis = (own : List Step) → Lawful airs own → is_started own ≡ true → Within setup whole own → SendsOwn airs laid tuning bis own
 
 -- all that a stay hears is the source's own
-pub all_own : (airs : Airs) (setup : Setup) (whole : List SourceCall) (laid : ℕ → Content) (tuning : Tuning) (boxes s n bis : ℕ) (made : List Step)
+pub all_own : Announcing → (airs : Airs) (setup : Setup) (whole : List SourceCall) (laid : ℕ → Content) (tuning : Tuning) (boxes s n bis : ℕ) (made : List Step)
     → WholeSends airs setup whole laid tuning bis → Legal airs boxes made
     → Within setup whole (steps_of_source s made) → 1 ≤ bis → IsOn airs s n made tuning → injected_since (is_tuned n) n made ≡ false
     → AllOwn laid tuning bis (sink_calls airs n made)
-all_own airs setup whole laid tuning boxes s n bis [] sends legal within least is clean = tt
-all_own airs setup whole laid tuning boxes s n bis (step ∷ earlier) sends legal within least is clean = elim (on_before airs s n step earlier tuning is) [
+all_own laws airs setup whole laid tuning boxes s n bis [] sends legal within least is clean = tt
+all_own laws airs setup whole laid tuning boxes s n bis (step ∷ earlier) sends legal within least is clean = elim (on_before airs s n step earlier tuning is) [
   | inl before ↦
       let shorter : Within setup whole (steps_of_source s earlier) = within_before airs boxes s setup whole earlier step legal within in
-      let on : OnSource (steps_of_source s earlier) tuning = on_source airs boxes s n earlier tuning legal.0 before in
+      let on : OnSource (steps_of_source s earlier) tuning = on_source laws airs boxes s n earlier tuning legal.0 before in
       let own_legal : Lawful airs (steps_of_source s earlier) = lawful airs boxes s earlier legal.0 in
       own_after airs laid tuning boxes s n bis step earlier (injected_since (is_tuned n) n earlier)
       (permitted airs boxes earlier step legal.1) least before.source_is clean
       (λ none. record {
-        all = all_own airs setup whole laid tuning boxes s n bis earlier sends legal.0 shorter least before none;
+        all = all_own laws airs setup whole laid tuning boxes s n bis earlier sends legal.0 shorter least before none;
         sent = sends (steps_of_source s earlier) own_legal on.started shorter;
         bounds = bounds_in (steps_of_source s earlier) (settled airs (steps_of_source s earlier) own_legal) on.started;
       })

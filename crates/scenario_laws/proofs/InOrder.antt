@@ -23,6 +23,7 @@ use Rattle.scenario_history.specs.Sinks.{is_of, sink_calls, source_of, ticked}
 use Rattle.scenario_history.specs.Boxes.{SinkUnit, handed_by}
 use Rattle.scenario_laws.specs.Laws.{closed_by, given_since_made, handed_since, injected_since, is_given, is_injected, is_made, is_tuned, of_sink, shown_since}
 use Rattle.scenario_laws.specs.SourceUnits.{InSourceOrder, is_valid, valid_in}
+use Rattle.scenario_laws.proofs.Announced.{Announcing}
 use Rattle.scenario_laws.proofs.Below.{Below}
 use Rattle.scenario_laws.proofs.Legals.{Legal, legal}
 use Rattle.scenario_laws.proofs.Sources.{lawful, true_not_false}
@@ -86,7 +87,7 @@ closed_orders : Below → (airs : Airs) → MeetAirs airs → (boxes s n bis : �
     → Ordered setup whole bis later (units ++ valid_in (of_stream bis (handed_at (sink_calls airs n made) event)))
 closed_orders below airs meets boxes s n bis setup whole made ready event before tuning is later past over units order shown =
     let own : List Step = steps_of_source s made in
-    let there : OnSource own tuning = on_source airs boxes s n made tuning ready.legal_is is in
+    let there : OnSource own tuning = on_source below.announcing airs boxes s n made tuning ready.legal_is is in
     let setup_is : setup_of own ≡ setup = ready.within.setup_is there.started in
     let on : TunedTo setup tuning = subst (λ (setup' : Setup). TunedTo setup' tuning) setup_is there.tuned in
     let same : (setup_of own).first ≡ setup.first = ap (λ (setup' : Setup). setup'.first) setup_is in
@@ -99,11 +100,11 @@ closed_orders below airs meets boxes s n bis setup whole made ready event before
     (valid_in (units_of (stay_on tuning bis) (stream_calls (stay_on tuning bis) (sink_calls airs n made)) (tuning.first + closes tuning (sink_calls airs n made))))
     (omega (arith, on.first)) past (omega (arith, over, before, same, more, laid, on.first)) order last)
 
-tuned_plain : (airs : Airs) (boxes s n bis : ℕ) (setup : Setup) (whole : List SourceCall) (made : List Step) → Ready airs boxes s n bis setup whole made
+tuned_plain : Announcing → (airs : Airs) (boxes s n bis : ℕ) (setup : Setup) (whole : List SourceCall) (made : List Step) → Ready airs boxes s n bis setup whole made
     → (tuning : Tuning) → place (sink_calls airs n made) ≡ Some tuning → source_of n made ≡ Some s → tuning.info.framing ≡ 0
-tuned_plain airs boxes s n bis setup whole made ready tuning is its =
+tuned_plain laws airs boxes s n bis setup whole made ready tuning is its =
     ap (λ (i : BigInfo). i.framing)
-    (on_whole airs boxes s n setup whole made ready.legal_is ready.ungiven ready.within (ap (is_of s) its ∙ eq-eqb s s refl) tuning is).info ∙ ready.plain
+    (on_whole laws airs boxes s n setup whole made ready.legal_is ready.ungiven ready.within (ap (is_of s) its ∙ eq-eqb s s refl) tuning is).info ∙ ready.plain
 
 event_orders : Below → (airs : Airs) → MeetAirs airs → (boxes s n bis : ℕ) (setup : Setup) (whole : List SourceCall) (made : List Step) → Ready airs boxes s n bis setup whole made
     → (event : ℕ) → event < next_in (steps_of_source s made) → source_of n made ≡ Some s → (p : Option Tuning) → place (sink_calls airs n made) ≡ p → (next later : ℕ)
@@ -124,7 +125,7 @@ event_orders below airs meets boxes s n bis setup whole made ready event before 
           let shown : of_stream bis (handed_at (sink_calls airs n made) event)
           ≡ cond (leb (tuning.first + closes tuning (sink_calls airs n made)) event)
           (units_of (stay_on tuning bis) (stream_calls (stay_on tuning bis) (sink_calls airs n made)) (tuning.first + closes tuning (sink_calls airs n made))) [] =
-          tick_hands below event (sink_calls airs n made) tuning bis (tuned_plain airs boxes s n bis setup whole made ready tuning is its) is
+          tick_hands below event (sink_calls airs n made) tuning bis (tuned_plain below.announcing airs boxes s n bis setup whole made ready tuning is its) is
           (is_member tuning.which bis ready.least ready.greatest taken)
           ∙ ap (λ o. cond (leb o event) (units_of (stay_on tuning bis) (stream_calls (stay_on tuning bis) (sink_calls airs n made)) o) []) (below.one_open tuning (sink_calls airs n made) bis) in
           elim (cases_Bool (leb (tuning.first + closes tuning (sink_calls airs n made)) event)) [
@@ -220,8 +221,8 @@ orders below airs meets boxes s n bis setup whole (step ∷ earlier) ready =
       greatest = ready.greatest;
       fits = ready.fits;
     } in
-    let now = moved airs boxes s n step earlier ready.legal_is (last_not (is_made n earlier step) (is_given n step) (given_since_made n earlier) ready.ungiven) ready.source_below
-    (closing airs boxes s n earlier legal_before before.ungiven ready.source_below).within in
+    let now = moved below.announcing airs boxes s n step earlier ready.legal_is (last_not (is_made n earlier step) (is_given n step) (given_since_made n earlier) ready.ungiven) ready.source_below
+    (closing below.announcing airs boxes s n earlier legal_before before.ungiven ready.source_below).within in
     subst (λ (us : List Handed). Ordered setup whole bis (its_front airs s n (step ∷ earlier)) (valid_in (shown_since (is_made n) airs s n bis earlier) ++ valid_in (of_stream bis us)))
     (sym (step_shown airs boxes s n step earlier legal_before ready.source_below ready.sink_below))
     (by_step below airs meets boxes s n bis setup whole step earlier before (next_in (steps_of_source s (step ∷ earlier))) (next_rises airs boxes s earlier step ready.legal_is)

@@ -2,7 +2,14 @@ mod Legals
 mod StartGroups
 mod Sources
 mod Wholes
+mod Bases
+mod Announcers
+mod Announced
 mod Below
+mod Places
+mod Nowhere
+mod Moves
+mod ByHand
 mod Stays
 mod Hears
 mod Plains
@@ -26,8 +33,5 @@ mod UnitOrder
 mod StartOrder
 mod OrderLaw
 mod MetAirs
-mod Places
-mod Nowhere
-mod Moves
-mod Announced
-mod ByHand
+mod LifeOctets
+mod Linked

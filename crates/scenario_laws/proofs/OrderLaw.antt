@@ -15,7 +15,7 @@ pub order_law_holds : Below → (starts : List Account) → OrderLaw starts
 order_law_holds below starts airs meets lines accepted s n source_below ungiven =
     let lawful_steps : Legal airs (length starts) (steps_of lines) = legal below.in_range airs starts lines accepted in
     record {
-      rising = closes_rise airs (length starts) s n (steps_of lines) lawful_steps ungiven source_below;
+      rising = closes_rise below.announcing airs (length starts) s n (steps_of lines) lawful_steps ungiven source_below;
       slots = λ bis sink_below least greatest plain. slots_are_shown below airs (length starts) s n bis (steps_of lines) lawful_steps ungiven plain source_below sink_below least greatest;
       starts = λ bis sink_below least greatest is_framed.
           starts_in_order below airs (length starts) s n bis (steps_of lines) lawful_steps is_framed source_below sink_below least greatest ungiven;

@@ -32,6 +32,7 @@ use Rattle.scenario_laws.specs.Laws.{Closed, closed_at, closed_by, closed_if, cl
 use Rattle.scenario_laws.specs.SourceUnits.{IsOfSlot}
 use Rattle.scenario_laws.specs.Laws.{given_since_made, handed_since, is_given, is_made, of_sink, shown_since, slots_closed, slots_in}
 use Rattle.scenario_laws.specs.SourceUnits.{time_in, whole_stay}
+use Rattle.scenario_laws.proofs.Announced.{Announcing}
 use Rattle.scenario_laws.proofs.Below.{Below}
 use Rattle.scenario_laws.proofs.Legals.{Legal}
 use Rattle.scenario_laws.proofs.Sources.{true_not_false}
@@ -194,11 +195,11 @@ again_zip s n bis setup false closed more units others first rest =
     (zip_on (IsOfSlot setup bis) (slots_closed setup bis closed) (slots_closed setup bis more) (of_stream bis (of_sink s n units)) (of_stream bis (of_sink s n others)) (first refl) (rest refl)))
 
 -- the stay that a sink is in, by what fixes the whole source
-pub on_whole : (airs : Airs) (boxes s n : ℕ) (setup : Setup) (whole : List SourceCall) (made : List Step) → Legal airs boxes made → given_since_made n made ≡ false
+pub on_whole : Announcing → (airs : Airs) (boxes s n : ℕ) (setup : Setup) (whole : List SourceCall) (made : List Step) → Legal airs boxes made → given_since_made n made ≡ false
     → Within setup whole (steps_of_source s made) → is_of s (source_of n made) ≡ true → (tuning : Tuning) → place (sink_calls airs n made) ≡ Some tuning → TunedTo setup tuning
-on_whole airs boxes s n setup whole made legal ungiven within mine tuning is =
+on_whole laws airs boxes s n setup whole made legal ungiven within mine tuning is =
     let on : OnSource (steps_of_source s made) tuning =
-    on_source airs boxes s n made tuning legal (on_since_made airs s n made tuning is (is_its s (source_of n made) mine) ungiven) in
+    on_source laws airs boxes s n made tuning legal (on_since_made airs s n made tuning is (is_its s (source_of n made) mine) ungiven) in
     subst (λ (setup' : Setup). TunedTo setup' tuning) (within.setup_is on.started) on.tuned
 
 slots_zip : Below → (airs : Airs) (boxes s n bis : ℕ) (setup : Setup) (whole : List SourceCall) (made : List Step) → Legal airs boxes made → given_since_made n made ≡ false
@@ -212,7 +213,7 @@ slots_zip below airs boxes s n bis setup whole (step ∷ earlier) legal ungiven 
     (λ on. slots_zip below airs boxes s n bis setup whole earlier legal.0 (none on) before plain s_within n_within least upper)
     (λ on. subst (λ units. AllZip (IsOfSlot setup bis) (slots_closed setup bis (closed_by airs s n earlier step)) (of_stream bis units))
     (sym (step_shown airs boxes s n step earlier legal.0 s_within n_within))
-    (step_zip below airs s n bis setup step earlier (on_whole airs boxes s n setup whole earlier legal.0 (none on) before) plain least upper))
+    (step_zip below airs s n bis setup step earlier (on_whole below.announcing airs boxes s n setup whole earlier legal.0 (none on) before) plain least upper))
 
 pub slots_are_shown : Below → (airs : Airs) (boxes s n bis : ℕ) (made : List Step) → Legal airs boxes made → given_since_made n made ≡ false → (setup_of (steps_of_source s made)).info.framing ≡ 0
     → s ≤ 1 → n ≤ 7 → 1 ≤ bis → bis ≤ 31

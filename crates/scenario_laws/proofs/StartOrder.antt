@@ -183,8 +183,8 @@ over : Below → (airs : Airs) (boxes s n bis : ℕ) (setup : Setup) (calls : Li
     → OverStay (λ e closed entries. Claim setup calls bis (e - setup.first) closed entries) (Fine airs boxes s n setup calls) airs s n bis
 over below airs boxes s n bis setup calls source_within sink_within least greatest is_framed made fine tuning is past entries claim =
     let own : List Step = steps_of_source s made in
-    let on : OnSource own tuning = on_source airs boxes s n made tuning fine.legal_is is in
-    let to : TunedTo setup tuning = stay_on_whole airs boxes s n setup calls made tuning fine.legal_is fine.within is in
+    let on : OnSource own tuning = on_source below.announcing airs boxes s n made tuning fine.legal_is is in
+    let to : TunedTo setup tuning = stay_on_whole below.announcing airs boxes s n setup calls made tuning fine.legal_is fine.within is in
     let opens : opened (stay_on tuning bis) (calls_on airs made n tuning bis) ≤ next_in own = opened_within below airs boxes s n bis made tuning fine.legal_is source_within is in
     let first_opens : tuning.first ≤ opened (stay_on tuning bis) (calls_on airs made n tuning bis) = opened_least (stay_on tuning bis) (calls_on airs made n tuning bis) in
     let shown : shown_since (is_tuned n) airs s n bis made ≡ of_stream bis (ticked_since (sink_calls airs n made)) =
@@ -224,6 +224,7 @@ starts_in_order below airs boxes s n bis made legal is_framed source_within sink
     let own : List Step = steps_of_source s made in
     let setup : Setup = setup_of own in
     let turns : Turns (λ e closed entries. Claim setup (source_calls own) bis (e - setup.first) closed entries) (Fine airs boxes s n setup (source_calls own)) airs boxes s n bis = record {
+      laws = below.announcing;
       none = λ e. record { events = []; rise = omega arith; each = tt };
       rises = λ e later closed entries more claim. claim_more setup (source_calls own) bis (e - setup.first) (later - setup.first) closed closed entries (omega (arith, more)) claim;
       over = over below airs boxes s n bis setup (source_calls own) source_within sink_within least greatest is_framed;

@@ -15,6 +15,7 @@ use Rattle.scenario_history.specs.Source.{Airs, event_back, is_started, open_eve
 use Rattle.scenario_history.specs.Sinks.{heard_on_air, is_of, reaches, sink_calls, source_of, spots_of, tuning_of}
 use Rattle.scenario_history.specs.Refusals.{has_beyond}
 use Rattle.scenario_laws.specs.Laws.{any_since, given_since_made, injected_since, is_given, is_injected, is_made, is_tuned}
+use Rattle.scenario_laws.proofs.Announced.{Announcing}
 use Rattle.scenario_laws.proofs.ByHand.{as_by_hand}
 use Rattle.scenario_laws.proofs.Legals.{Legal, Permitted, fails_not, permitted}
 use Rattle.scenario_laws.proofs.Moves.{Left, PutBy, StaysBy, announced, given_stays, plain_stays}
@@ -244,25 +245,25 @@ tuned_to airs boxes s earlier tuning which started same within chosen =
       streams = subst (λ (t : Tuning). has_beyond (setup_of (chosen_steps earlier)).info.num_bis t.which ≡ false) same within;
     })
 
-begins_to : (airs : Airs) (boxes s n : ℕ) (step : Step) (earlier : List Step) (tuning : Tuning) → Legal airs boxes earlier → Permitted airs boxes earlier step
+begins_to : Announcing → (airs : Airs) (boxes s n : ℕ) (step : Step) (earlier : List Step) (tuning : Tuning) → Legal airs boxes earlier → Permitted airs boxes earlier step
     → BeginsBy airs s n step earlier tuning → OnSource (steps_of_source s earlier) tuning
-begins_to airs boxes s n (steps.Tuned sink which) earlier tuning legal permits begins =
+begins_to laws airs boxes s n (steps.Tuned sink which) earlier tuning legal permits begins =
     tuned_to airs boxes s earlier tuning which (takes (chosen_steps earlier) permits.in_phase) begins.0
     (fails_not (has_beyond (setup_of (chosen_steps earlier)).info.num_bis which) NoSuchBis permits.by_source) begins.1
-begins_to airs boxes s n (steps.Announce sink) earlier tuning legal permits begins =
-    let by_hand = as_by_hand airs boxes n sink earlier begins.put.joining legal permits begins.put.brings in
+begins_to laws airs boxes s n (steps.Announce sink) earlier tuning legal permits begins =
+    let by_hand = as_by_hand laws airs boxes n sink earlier begins.put.joining legal permits begins.put.brings in
     tuned_to airs boxes s earlier tuning begins.put.joining.which (sends (chosen_steps earlier) permits.in_phase) (sym by_hand.0 ∙ begins.tuning_is) by_hand.1 begins.chosen_is
-begins_to airs boxes s n _ earlier tuning legal permits begins = absurd begins
+begins_to laws airs boxes s n _ earlier tuning legal permits begins = absurd begins
 
 -- such a stay begins with the source's next event
-pub begins_next : (airs : Airs) (boxes s n : ℕ) (step : Step) (earlier : List Step) (tuning : Tuning) → Legal airs boxes earlier → Permitted airs boxes earlier step
+pub begins_next : Announcing → (airs : Airs) (boxes s n : ℕ) (step : Step) (earlier : List Step) (tuning : Tuning) → Legal airs boxes earlier → Permitted airs boxes earlier step
     → BeginsBy airs s n step earlier tuning → tuning.first ≡ next_in (steps_of_source s earlier)
-begins_next airs boxes s n (steps.Tuned sink which) earlier tuning legal permits begins =
+begins_next laws airs boxes s n (steps.Tuned sink which) earlier tuning legal permits begins =
     ap (λ (t : Tuning). t.first) (sym begins.0) ∙ ap (λ t. next_in (steps_of_source t earlier)) begins.1
-begins_next airs boxes s n (steps.Announce sink) earlier tuning legal permits begins =
-    ap (λ (t : Tuning). t.first) (sym begins.tuning_is ∙ (as_by_hand airs boxes n sink earlier begins.put.joining legal permits begins.put.brings).0)
+begins_next laws airs boxes s n (steps.Announce sink) earlier tuning legal permits begins =
+    ap (λ (t : Tuning). t.first) (sym begins.tuning_is ∙ (as_by_hand laws airs boxes n sink earlier begins.put.joining legal permits begins.put.brings).0)
     ∙ ap (λ t. next_in (steps_of_source t earlier)) begins.chosen_is
-begins_next airs boxes s n _ earlier tuning legal permits begins = absurd begins
+begins_next laws airs boxes s n _ earlier tuning legal permits begins = absurd begins
 
 still_to : (airs : Airs) (boxes s : ℕ) (step : Step) (earlier : List Step) (tuning : Tuning) → Legal airs boxes (step ∷ earlier) → OnSource (steps_of_source s earlier) tuning
     → OnSource (steps_of_source s (step ∷ earlier)) tuning
@@ -275,9 +276,9 @@ still_to airs boxes s step earlier tuning legal on =
     }
 
 -- a sink on a group is on that of its source, which was started
-pub on_source : (airs : Airs) (boxes s n : ℕ) (made : List Step) (tuning : Tuning) → Legal airs boxes made → IsOn airs s n made tuning → OnSource (steps_of_source s made) tuning
-on_source airs boxes s n [] tuning legal is = absurd (none-some tuning is.place_is)
-on_source airs boxes s n (step ∷ earlier) tuning legal is = still_to airs boxes s step earlier tuning legal (elim (on_before airs s n step earlier tuning is) [
-  | inl before ↦ on_source airs boxes s n earlier tuning legal.0 before
-  | inr begins ↦ begins_to airs boxes s n step earlier tuning legal.0 (permitted airs boxes earlier step legal.1) begins
+pub on_source : Announcing → (airs : Airs) (boxes s n : ℕ) (made : List Step) (tuning : Tuning) → Legal airs boxes made → IsOn airs s n made tuning → OnSource (steps_of_source s made) tuning
+on_source laws airs boxes s n [] tuning legal is = absurd (none-some tuning is.place_is)
+on_source laws airs boxes s n (step ∷ earlier) tuning legal is = still_to airs boxes s step earlier tuning legal (elim (on_before airs s n step earlier tuning is) [
+  | inl before ↦ on_source laws airs boxes s n earlier tuning legal.0 before
+  | inr begins ↦ begins_to laws airs boxes s n step earlier tuning legal.0 (permitted airs boxes earlier step legal.1) begins
 ])

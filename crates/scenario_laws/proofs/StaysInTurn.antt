@@ -15,6 +15,7 @@ use Rattle.scenario_history.specs.Source.{Airs, event_back, open_event, pdu_in}
 use Rattle.scenario_history.specs.Sinks.{heard_on_air, is_of, reaches, sink_calls, source_of, spots_of, tuning_of}
 use Rattle.scenario_history.specs.Boxes.{SinkUnit, handed_by}
 use Rattle.scenario_laws.specs.Laws.{Closed, closed_by, closed_if, closed_in, closed_since, given_since_made, handed_since, is_given, is_made, is_tuned, of_sink, shown_since}
+use Rattle.scenario_laws.proofs.Announced.{Announcing}
 use Rattle.scenario_laws.proofs.ByHand.{as_by_hand}
 use Rattle.scenario_laws.proofs.Legals.{Legal, permitted}
 use Rattle.scenario_laws.proofs.Moves.{StaysBy, announced, given_stays, plain_stays}
@@ -170,6 +171,7 @@ OverStay Q Fine airs s n bis = (made : List Step) → Fine made → (tuning : Tu
     → Q (next_in (steps_of_source s made)) (past ++ closed_from (is_tuned n) airs s n made) (entries ++ shown_since (is_tuned n) airs s n bis made)
 
 pub record Turns (Q : ℕ → List Closed → List Handed → Type 0) (Fine : List Step → Type 0) (airs : Airs) (boxes s n bis : ℕ) : Type 0 where
+  pub laws : Announcing
   pub none : (e : ℕ) → Q e [] []
   pub rises : Rises Q
   pub over : OverStay Q Fine airs s n bis

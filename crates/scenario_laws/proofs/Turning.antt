@@ -82,7 +82,7 @@ turn_after Q Fine airs boxes s n bis (steps.Announce sink) earlier before = elim
     | inr put ↦
         put_turn Q Fine airs boxes s n bis (steps.Announce sink) earlier (machine.tuning_of put.joining) before refl refl put.begins_is put.calls_is put.source_is
         (ap (λ (t : Tuning). t.first)
-        (as_by_hand airs boxes n sink earlier put.joining before.legal_is.0 (permitted airs boxes earlier (steps.Announce sink) before.legal_is.1) put.brings).0)
+        (as_by_hand before.turns.laws airs boxes n sink earlier put.joining before.legal_is.0 (permitted airs boxes earlier (steps.Announce sink) before.legal_is.1) put.brings).0)
   ]
 ]
 turn_after Q Fine airs boxes s n bis (steps.Train sink time ext adv acad) earlier before =

@@ -183,8 +183,8 @@ over : Below → (airs : Airs) → MeetAirs airs → (boxes s n bis : ℕ) (setu
     → OverStay (Claim setup whole bis ns units) (Fine airs boxes s n setup whole all_started) airs s n bis
 over below airs meets boxes s n bis setup whole all_started ns units source_within sink_within least greatest is_framed numbered facts made fine tuning is past entries claim =
     let own : List Step = steps_of_source s made in
-    let on : OnSource own tuning = on_source airs boxes s n made tuning fine.legal_is is in
-    let to : TunedTo setup tuning = stay_on_whole airs boxes s n setup whole made tuning fine.legal_is fine.within is in
+    let on : OnSource own tuning = on_source below.announcing airs boxes s n made tuning fine.legal_is is in
+    let to : TunedTo setup tuning = stay_on_whole below.announcing airs boxes s n setup whole made tuning fine.legal_is fine.within is in
     let bn_is : tuning.info.bn ≡ setup.info.bn = ap (λ (i : BigInfo). i.bn) to.info in
     let clean : injected_since (is_tuned n) n made ≡ false = clean_stay airs s n made tuning is fine.ungiven fine.clean in
     let opens : opened (stay_on tuning bis) (calls_on airs made n tuning bis) ≤ next_in own = opened_within below airs boxes s n bis made tuning fine.legal_is source_within is in
@@ -238,6 +238,7 @@ in_order below airs meets boxes s n bis made legal is_framed source_within sink_
     let whole : List SourceCall = source_calls own in
     let E : ℕ → Handed → Type 0 = IsOfUnit setup whole bis in
     let turns : Turns (Claim setup whole bis known.ns known.units) (Fine airs boxes s n setup whole all_started) airs boxes s n bis = record {
+      laws = below.announcing;
       none = λ e. ordered_none (IsSent setup whole bis) E (e * setup.info.bn) known.ns known.units known.numbered;
       rises = λ e later closed entries more claim. ordered_later E (e * setup.info.bn) (later * setup.info.bn) known.ns known.units entries (mul-le-mul more (omega arith)) claim;
       over = over below airs meets boxes s n bis setup whole all_started known.ns known.units source_within sink_within least greatest is_framed known.numbered known.facts;

@@ -128,13 +128,13 @@ stay_struck below airs meets boxes s n bis made tuning legal is least plain_sour
     let own : List Step = steps_of_source s made in
     let own_legal : Lawful airs own = lawful airs boxes s made legal in
     let settles : Settled own = settled airs own own_legal in
-    let on : OnSource own tuning = on_source airs boxes s n made tuning legal is in
+    let on : OnSource own tuning = on_source below.announcing airs boxes s n made tuning legal is in
     let bounds : Bounds tuning.info = subst Bounds (sym on.tuned.info) (bounds_in own settles on.started) in
     let plain : tuning.info.framing ≡ 0 = ap (λ (i : BigInfo). i.framing) on.tuned.info ∙ plain_source in
     below.struck (stay_on tuning bis) (slots_of (setup_of own) (source_calls own) bis) (calls_on airs made n tuning bis) bounds plain
     (λ event slot unit has. subst (λ (i : BigInfo). length unit ≤ i.max_sdu) (sym on.tuned.info) (slot_short airs bis own own_legal event slot unit has))
     (from_source (stay_on tuning bis) (slots_of (setup_of own) (source_calls own) bis) (calls_on airs made n tuning bis)
-    (all_own airs (setup_of own) (source_calls own) (air_at (stay_on tuning bis) (slots_of (setup_of own) (source_calls own) bis)) tuning boxes s n bis made
+    (all_own below.announcing airs (setup_of own) (source_calls own) (air_at (stay_on tuning bis) (slots_of (setup_of own) (source_calls own) bis)) tuning boxes s n bis made
     (λ part its_legal started within. sends_own below airs meets (setup_of own) (source_calls own) tuning bis part its_legal started within on.tuned.info plain_source)
     legal (within_itself own) least is clean))
 
@@ -311,7 +311,7 @@ units_law_holds below starts airs meets lines accepted s n bis tuning there of_s
     let are : Numbers s n = numbers airs (length starts) s n (steps_of lines) tuning lawful_steps is in
     let ticks : of_stream bis (of_sink s n (handed_since (is_tuned n) airs (steps_of lines))) ≡ of_stream bis (ticked_since (sink_calls airs n (steps_of lines))) =
     ap (of_stream bis) (since airs (length starts) s n (steps_of lines) tuning lawful_steps are.source_within are.sink_within is) in
-    let on : OnSource (steps_of_source s (steps_of lines)) tuning = on_source airs (length starts) s n (steps_of lines) tuning lawful_steps is in
+    let on : OnSource (steps_of_source s (steps_of lines)) tuning = on_source below.announcing airs (length starts) s n (steps_of lines) tuning lawful_steps is in
     let tuned_framing : tuning.info.framing ≡ (setup_of (steps_of_source s (steps_of lines))).info.framing = ap (λ (i : BigInfo). i.framing) on.tuned.info in
     record {
       unframed = λ plain.
