@@ -10,6 +10,8 @@ ghost use Rattle.scenario_history.specs.Lines.{handed_on, rules_of};
 ghost use Rattle.scenario_history.specs.Transcript.{end_after, out_of, transcript_end, transcript_of, units_of};
 ghost use Rattle.scenario_laws.specs.Laws.{OrderLaw, UnitsLaw};
 
+use announced_groups::{a_sink_is_put_where_its_source_is, a_source_has_one_train};
+use announcement_train::an_announcement_is_read;
 use group_sink::{each_stream_hands_its_units, one_event_is_open};
 use isoal_framed::{a_framed_air_sends_units, framed_units_are_struck};
 use isoal_unframed::units_are_struck;
@@ -65,6 +67,9 @@ pub fn units_law()
     a_framed_air_sends_units();
     one_event_is_open();
     each_stream_hands_its_units();
+    a_source_has_one_train();
+    an_announcement_is_read();
+    a_sink_is_put_where_its_source_is();
 }
 
 /// The order of units over all stays of a sink with one and the same source since it was made (Core 5.2, volume 6 part G,
@@ -85,4 +90,7 @@ pub fn order_law()
     a_framed_air_sends_units();
     one_event_is_open();
     each_stream_hands_its_units();
+    a_source_has_one_train();
+    an_announcement_is_read();
+    a_sink_is_put_where_its_source_is();
 }
