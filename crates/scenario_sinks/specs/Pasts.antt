@@ -85,9 +85,9 @@ with_close source closed past = record {
 
 -- only a train may bring the sink to another source
 abbrev pub sourced_by : ℕ → Source → Step → Option Train → Past → ℕ → Option ℕ
-sourced_by n source step None past m = past.sources m
-sourced_by n source step (Some train) past m =
-    if n == m then source_by source step (past.mades m) (past.lives m) (past.sources m) else past.sources m
+sourced_by n source line None past m = past.sources m
+sourced_by n source line (Some train) past m =
+    if n == m then source_by source line (past.mades m) (past.lives m) (past.sources m) else past.sources m
 
 abbrev pub lived_with : ℕ → Source → Step → Past → ℕ → List links.Call
 lived_with n source step past m = if n == m then lived_by source step (past.mades m) (past.lives m) else past.lives m

@@ -41,12 +41,12 @@ EntryHears box made own life received source event bis subevent octets entry (So
 
 -- a line names it, which means this source: it is refused, or else prints its lines behind a text
 abbrev pub EntryRuns : Option ℕ → Option Made → Option ℕ → List links.Call → List Call → Source → Step → Option Sink → (text told : List ℕ) → Result (Unit {0}) Stop → Type 0
-EntryRuns box made own life received source step entry text told (Ok _) =
-    (refused_where step made life ≡ None)
-    × EntryIs box made (source_by source step made life own) (lived_by source step made life)
-    (received_by source step made life (lived_by source step made life) received) (Some entry)
-    × (told ≡ text ++ concat (printed_where source step made life))
-EntryRuns box made own life received source step entry text told (Err (Refused reason)) =
-    (refused_where step made life ≡ Some reason) × (told ≡ text)
-EntryRuns box made own life received source step entry text told (Err OutletFault) = ⊥
-EntryRuns box made own life received source step entry text told (Err Memory) = Unit {0}
+EntryRuns box made own life received source line entry text told (Ok _) =
+    (refused_where line made life ≡ None)
+    × EntryIs box made (source_by source line made life own) (lived_by source line made life)
+    (received_by source line made life (lived_by source line made life) received) (Some entry)
+    × (told ≡ text ++ concat (printed_where source line made life))
+EntryRuns box made own life received source line entry text told (Err (Refused reason)) =
+    (refused_where line made life ≡ Some reason) × (told ≡ text)
+EntryRuns box made own life received source line entry text told (Err OutletFault) = ⊥
+EntryRuns box made own life received source line entry text told (Err Memory) = Unit {0}

@@ -15,7 +15,7 @@ abbrev pub EntryIs : Option ℕ → Option Made → Option ℕ → List links.Ca
 EntryIs None made source life received entry = (entry ≡ Some None) × (made ≡ None)
 EntryIs (Some box) made source life received entry =
     (sink : Sink) × (entry ≡ Some (Some sink)) × (sink.outlet ≡ box)
-    × (as : Made) × (made ≡ Some as) × Lives as source life received sink.living
+    × (how : Made) × (made ≡ Some how) × Lives how source life received sink.living
 
 abbrev pub EntryAt : Past → ℕ → Option (Option Sink) → Type 0
 EntryAt past n entry = EntryIs (past.boxes n) (past.mades n) (past.sources n) (past.lives n) (past.received n) entry
