@@ -140,7 +140,8 @@ between_next_at past source event number at sinks entry gathered next text told 
     subst P (sym same) (between_next past source event number sinks entry gathered next text told told2 before mid after eight within b s)
 
 -- the sinks after a close
-pub all_closed : (past : Past) (source event : ℕ) (closed : Option ℕ) (old new : Sinks) (sinks : List (Option Sink)) (text told : List ℕ) (before after : List Account) (r : Result (Unit {0}) Stop)
+pub all_closed : (past : Past) (source event : ℕ) (closed : Option ℕ) (old new : Sinks) (sinks : List (Option Sink)) (text told : List ℕ)
+    (before after : List Account) (r : Result (Unit {0}) Stop)
     → SinksStand past old → closed ≡ Some event → new.entries.items ≡ sinks → AllClose past source event sinks new.gathered text told before after r → new.outlets ≡ old.outlets
     → Closes past source closed new text told before after r
 all_closed past source event closed old new sinks text told before after r stands is items c more =
