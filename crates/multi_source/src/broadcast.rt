@@ -1,19 +1,22 @@
 ghost use Rattle.std.specs.Prelude.{◌≡◌, ◌≤◌, ◌<◌, ◌+◌, ◌-◌, ◌%◌, ◌^◌, ◌∷◌, [], List, Some, None, is_some, IfOk, IfErr, IfSome, OnOk, OnErr};
+ghost use Rattle.announcement_train.specs.Layout.{IsTrain};
 ghost use Rattle.iso_pdu.specs.Control.{terminate};
 ghost use Rattle.iso_pdu.specs.Layout.{control};
 ghost use Rattle.iso_pdu.specs.Spelling.{pdu};
 ghost use Rattle.isoal_base.specs.Air.{Air as StreamAir};
 ghost use Rattle.source_machine.specs.Airs.{AreAirs, pdu_of, stale_of};
 ghost use Rattle.source_machine.specs.Calls.{Call, give as gives, event as performs, last_of, next_anchor_of, next_of};
-ghost use Rattle.source_machine.specs.Faults.{air_fault, event_fault, give_fault, refused_event, refused_unit};
+ghost use Rattle.source_machine.specs.Faults.{air_fault, announce_fault, event_fault, give_fault, refused_event, refused_train, refused_unit};
 ghost use Rattle.source_machine.specs.Setups.{IsChecked, started};
+ghost use Rattle.source_machine.specs.State.Sources.{anchor_in, group_in};
 ghost use Rattle.multi_source.specs.State.Broadcasts.{AfterFault, StandsFor};
 
+use announcement_train::Train;
 use bcast_base::{Bis, Memory};
 use big_info::Group;
 use radio_schedule::{Air, AirFault};
 use source_machine::{
-    EventFault, GiveFault, Identity, SourceConfigured, SourceStreaming, StaleList,
+    AnnounceFault, EventFault, GiveFault, Identity, SourceConfigured, SourceStreaming, StaleList,
 };
 use std::alloc::Global;
 use std::marker::Model;
@@ -99,6 +102,19 @@ impl Broadcast {
             }
             Err(fault) => Err(fault),
         }
+    }
+
+    /// Announces the next event, as `SourceStreaming::announce` does.
+    pub fn announce(&self) -> Result<Train, AnnounceFault>
+        ensures train { IfOk result (λ train. IsTrain self.now.source.identity.broadcast_id self.now.source.base (group_in self.now.source) self.now.source.next
+            (anchor_in self.now.source) train) }
+        ensures ok { OnOk result ((calls : List Call) → StandsFor calls self.now → announce_fault self.now.source.setup calls ≡ None) }
+        ensures cause { IfErr result (λ fault. (calls : List Call) → StandsFor calls self.now
+            → announce_fault self.now.source.setup calls ≡ refused_train fault) }
+        ensures greatest { IfOk result (λ train. train.time ≤ 2 ^ 61) }
+    {
+        let _anchor = self.source.next_anchor();
+        self.source.announce()
     }
 
     /// The PDU of a stream that was sent in a subevent, from 0, of the event `back` events before the last one.

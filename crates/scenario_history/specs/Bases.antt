@@ -1,6 +1,6 @@
 -- The BASE of a source (Basic Audio Profile 1.0, section 3.7.2.2), of what its lines say. The steps here are those of one
 -- source, the newest first.
-use Rattle.std.specs.Prelude.{ℕ, ◌++◌, nat_lt, is_some, Bool, List, [], ◌∷◌, length, Option, None, Some, unwrap_or}
+use Rattle.std.specs.Prelude.{ℕ, nat_lt, is_some, Bool, List, [], ◌∷◌, length, unwrap_or}
 use Rattle.base_grammar.specs.Draft.{is_empty_last, last_of}
 use Rattle.base_grammar.specs.Layout.{Endpoint, endpoint, indices, spelling, stands_in}
 use Rattle.base_grammar.specs.declared.subgroup.Subgroup.{Subgroup}

@@ -25,3 +25,8 @@ mod UnitOrder
 mod StartOrder
 mod OrderLaw
 mod MetAirs
+mod Bases
+mod Announcers
+mod Announced
+mod LifeOctets
+mod Linked

@@ -1,4 +1,5 @@
 mod Rows
+mod Octets
 mod Within
 mod Operations
 mod Steps

@@ -247,7 +247,7 @@ fn a_source_announces_its_next_event(rt: HostRuntime) {
 }
 
 /// Whether the additional controller data of a train begins so.
-fn announces(source: &SourceStreaming, front: &[u8]) -> bool {
+fn announces(source: &Broadcast, front: &[u8]) -> bool {
     match source.announce() {
         Ok(train) => train.acad.as_slice().starts_with(front),
         Err(_) => false,
@@ -264,7 +264,7 @@ fn an_encrypted_group_is_announced(rt: HostRuntime) {
         ..SINGLE
     };
     assert!(rt; info.fits());
-    let Ok(source) = streaming(rt.alloc(), info, 0) else {
+    let Ok(source) = started(rt.alloc(), info, 0) else {
         return assert!(rt; false);
     };
     assert!(rt; source.is_ciphered());

@@ -1,0 +1,105 @@
+-- What a word of digits spells is octets, and so is what an operation of such octets spells.
+use Rattle.std.proofs.Common.{◌≤◌, ◌<◌, ◌≡◌, ℕ, zero, suc, ◌/◌, ◌%◌, List, [], ◌∷◌, ◌++◌, length, Ok, arith, inl, inr}
+use Rattle.std.specs.List.{flat_map, AllByRecursion}
+use Rattle.hex.specs.Hex.{decode_of}
+use Rattle.hex.proofs.HexLemmas.{decode_of-ok}
+use Rattle.octet_fields.specs.Layout.{laid}
+use Rattle.octet_fields.specs.Spelling.{IsOctets, number}
+use Rattle.octet_fields.specs.Subgroups.{subgroup_fields}
+use Rattle.bass_operations.specs.declared.wishes.Wish.{Wish}
+use Rattle.bass_operations.specs.declared.operation.AddSource.{AddSource}
+use Rattle.bass_operations.specs.declared.operation.ModifySource.{ModifySource}
+use Rattle.bass_operations.specs.declared.operation.Operation.TheVariants.{Add, Modify}
+use Rattle.bass_operations.specs.Layout.{MetadataFits, group_of, spelling}
+use Rattle.scenario_words.specs.Spelling.{SpellsOctets, SpellsWishes}
+
+-- each metadata is octets
+abbrev pub AreOctets : List Wish → Type 0
+AreOctets wishes = AllByRecursion (λ wish. IsOctets wish.metadata) wishes
+
+nil_octets : IsOctets []
+nil_octets i = omega arith
+
+cons_octets : (first : ℕ) (rest : List ℕ) → first < 256 → IsOctets rest → IsOctets (first ∷ rest)
+cons_octets first rest h hs zero = h
+cons_octets first rest h hs (suc i) = hs i
+
+append_octets : (front rest : List ℕ) → IsOctets front → IsOctets rest → IsOctets (front ++ rest)
+append_octets [] rest h hs = hs
+append_octets (first ∷ front) rest h hs = cons_octets first (front ++ rest) (h 0) (append_octets front rest (λ i. h (suc i)) hs)
+
+number_octets : (k value : ℕ) → IsOctets (number k value)
+unfolding number
+number_octets zero value = nil_octets
+number_octets (suc k) value = cons_octets (value % 256) (number k (value / 256)) (omega arith) (number_octets k (value / 256))
+
+-- ---- what words spell
+
+pub decoded : (word octets : List ℕ) → decode_of word ≡ Ok octets → IsOctets octets
+decoded word octets e = (decode_of-ok word octets e).3
+
+pub are_octets : (most : ℕ) (octets word : List ℕ) → SpellsOctets most octets word → IsOctets octets
+are_octets most octets word h = elim h [
+  | inl none ↦ rw none.0 nil_octets
+  | inr some ↦ decoded word octets some.1
+]
+
+pub few_octets : (most : ℕ) (octets word : List ℕ) → SpellsOctets most octets word → length octets ≤ most
+few_octets most octets word h = elim h [
+  | inl none ↦ rw none.0 (omega arith)
+  | inr some ↦ some.2
+]
+
+pub wishes_spelled : (all : List Wish) (words : List (List ℕ)) → SpellsWishes all words → MetadataFits all × AreOctets all
+wishes_spelled [] words h = (tt, tt)
+wishes_spelled (wish ∷ others) [] h = absurd h
+wishes_spelled (wish ∷ others) (bits ∷ []) h = absurd h
+wishes_spelled (wish ∷ others) (bits ∷ metadata ∷ words) h =
+    let rest = wishes_spelled others words h.2 in
+    ((few_octets 255 wish.metadata metadata h.1, rest.0), (are_octets 255 wish.metadata metadata h.1, rest.1))
+
+-- ---- what operations spell
+
+groups_octets : (wishes : List Wish) → MetadataFits wishes → AreOctets wishes → IsOctets (laid (flat_map (λ wish. subgroup_fields (group_of wish)) wishes))
+groups_octets [] fits are = nil_octets
+groups_octets (wish ∷ wishes) fits are =
+    let all = laid (flat_map (λ w. subgroup_fields (group_of w)) wishes) in
+    let rest = groups_octets wishes fits.1 are.1 in
+    let metadata = append_octets wish.metadata all are.0 rest in
+    let counted = cons_octets (length wish.metadata) (wish.metadata ++ all) (omega (arith, fits.0)) metadata in
+    append_octets (number 4 wish.bis_sync) (length wish.metadata ∷ (wish.metadata ++ all)) (number_octets 4 wish.bis_sync) counted
+
+-- PA_Interval, and the subgroups
+ends_octets : (interval : ℕ) (wishes : List Wish) → length wishes ≤ 31 → MetadataFits wishes → AreOctets wishes
+    → IsOctets (number 2 interval ++ length wishes ∷ laid (flat_map (λ wish. subgroup_fields (group_of wish)) wishes))
+ends_octets interval wishes few fits are =
+    let all = laid (flat_map (λ w. subgroup_fields (group_of w)) wishes) in
+    append_octets (number 2 interval) (length wishes ∷ all) (number_octets 2 interval) (cons_octets (length wishes) all (omega (arith, few)) (groups_octets wishes fits are))
+
+-- the fields of one octet
+pub record AddOctets (op : AddSource) : Type 0 where
+  pub address_type : op.address_type < 256
+  pub address : IsOctets op.address
+  pub sid : op.sid < 256
+  pub broadcast_id : IsOctets op.broadcast_id
+  pub pa_sync : op.pa_sync < 256
+  pub few : length op.wishes ≤ 31
+  pub fits : MetadataFits op.wishes
+  pub are : AreOctets op.wishes
+
+pub add_octets : (op : AddSource) → AddOctets op → IsOctets (spelling (Add op))
+add_octets op are =
+    let ends = number 2 op.pa_interval ++ length op.wishes ∷ laid (flat_map (λ w. subgroup_fields (group_of w)) op.wishes) in
+    let synced = cons_octets op.pa_sync ends are.pa_sync (ends_octets op.pa_interval op.wishes are.few are.fits are.are) in
+    let id = append_octets op.broadcast_id (op.pa_sync ∷ ends) are.broadcast_id synced in
+    let set = cons_octets op.sid (op.broadcast_id ++ op.pa_sync ∷ ends) are.sid id in
+    let address = append_octets op.address (op.sid ∷ (op.broadcast_id ++ op.pa_sync ∷ ends)) are.address set in
+    let typed = cons_octets op.address_type (op.address ++ op.sid ∷ (op.broadcast_id ++ op.pa_sync ∷ ends)) are.address_type address in
+    cons_octets 2 (op.address_type ∷ (op.address ++ op.sid ∷ (op.broadcast_id ++ op.pa_sync ∷ ends))) (omega arith) typed
+
+pub modify_octets : (op : ModifySource) → op.source_id < 256 → op.pa_sync < 256 → length op.wishes ≤ 31 → MetadataFits op.wishes → AreOctets op.wishes → IsOctets (spelling (Modify op))
+modify_octets op source_id pa_sync few fits are =
+    let ends = number 2 op.pa_interval ++ length op.wishes ∷ laid (flat_map (λ w. subgroup_fields (group_of w)) op.wishes) in
+    let synced = cons_octets op.pa_sync ends pa_sync (ends_octets op.pa_interval op.wishes few fits are) in
+    let named = cons_octets op.source_id (op.pa_sync ∷ ends) source_id synced in
+    cons_octets 3 (op.source_id ∷ op.pa_sync ∷ ends) (omega arith) named
