@@ -5,6 +5,8 @@ use Rattle.unit_outlets.specs.Account.{Account}
 use Rattle.unit_outlets.specs.Took.{TookAt}
 use Rattle.unit_outlets.specs.declared.fault.OutletFault.TheVariants.{Failed}
 use Rattle.group_sink.specs.Calls.{Call}
+use Rattle.link_histories.specs.Calls as links
+use Rattle.sink_histories.specs.Lives.{Made}
 use Rattle.scenario_history.specs.Boxes.{SinkUnit, accounts_after, with_handed}
 use Rattle.scenario_history.specs.Output.{unit_line, unit_lines}
 use Rattle.transcript_text.specs.declared.stop.Stop.{Stop}
@@ -76,18 +78,22 @@ hands_stop us vs text told old new Memory h = record {
 
 pub record SamePast (one other : Past) : Type 0 where
   pub boxes : (n : ℕ) → one.boxes n ≡ other.boxes n
+  pub mades : (n : ℕ) → one.mades n ≡ other.mades n
   pub sources : (n : ℕ) → one.sources n ≡ other.sources n
-  pub calls : (n : ℕ) → one.calls n ≡ other.calls n
+  pub lives : (n : ℕ) → one.lives n ≡ other.lives n
+  pub received : (n : ℕ) → one.received n ≡ other.received n
   pub made : one.made ≡ other.made
 
 pub stands_same : (one other : Past) (sinks : Sinks) → SamePast one other → SinksStand one sinks → SinksStand other sinks
 stands_same one other sinks same stands = record {
   entries = λ n below.
       let entry : Option (Option Sink) = slice_get sinks.entries.items n in
-      let B : Option ℕ → Type 0 = λ b. EntryIs b (other.sources n) (other.calls n) entry in
-      let S : Option ℕ → Type 0 = λ s. EntryIs (one.boxes n) s (other.calls n) entry in
-      let C : List Call → Type 0 = λ c. EntryIs (one.boxes n) (one.sources n) c entry in
-      subst B (same.boxes n) (subst S (same.sources n) (subst C (same.calls n) (stands.entries n below)));
+      let B : Option ℕ → Type 0 = λ b. EntryIs b (other.mades n) (other.sources n) (other.lives n) (other.received n) entry in
+      let M : Option Made → Type 0 = λ made. EntryIs (one.boxes n) made (other.sources n) (other.lives n) (other.received n) entry in
+      let S : Option ℕ → Type 0 = λ s. EntryIs (one.boxes n) (one.mades n) s (other.lives n) (other.received n) entry in
+      let L : List links.Call → Type 0 = λ life. EntryIs (one.boxes n) (one.mades n) (one.sources n) life (other.received n) entry in
+      let C : List Call → Type 0 = λ c. EntryIs (one.boxes n) (one.mades n) (one.sources n) (one.lives n) c entry in
+      subst B (same.boxes n) (subst M (same.mades n) (subst S (same.sources n) (subst L (same.lives n) (subst C (same.received n) (stands.entries n below)))));
   made = stands.made ∙ same.made;
   empty = stands.empty;
 }

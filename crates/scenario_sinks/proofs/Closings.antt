@@ -10,7 +10,7 @@ use Rattle.unit_outlets.specs.Account.{Account}
 use Rattle.unit_outlets.specs.Handed.{Handed}
 use Rattle.group_sink.specs.Calls.{Call, tick}
 use Rattle.group_sink.specs.Handing.{handed_at}
-use Rattle.group_sink.specs.State.Sinks.{StandsFor}
+use Rattle.link_histories.specs.Calls as links
 use Rattle.scenario_history.specs.Sinks.{is_of, ticked_if}
 use Rattle.scenario_history.specs.Boxes.{SinkUnit, most_sinks, sink_numbers, closing_by, accounts_after}
 use Rattle.scenario_history.specs.Output.{unit_lines}
@@ -26,14 +26,16 @@ use Rattle.scenario_sinks.specs.Closing.{Closes, closings}
 use Rattle.scenario_sinks.specs.State.Gathering.{handed_of, units_for}
 use Rattle.scenario_sinks.specs.State.Standing.{EntryIs, EntryAt, EntriesAre, SinksStand}
 use Rattle.scenario_sinks.specs.State.Between.{SinkCloses, AllClose, Between}
+use Rattle.sink_histories.specs.Lives.{Made}
+use Rattle.sink_steps.specs.State.Living.{Lives}
 use Rattle.scenario_sinks.proofs.Entries.{SinkIs, entry_of}
 use Rattle.scenario_sinks.proofs.Citable.{hands_stop, hands_then}
 use Rattle.scenario_sinks.proofs.Ranges.{range_append, get_set_here, get_set_other, nat_same}
 
 pub closings_more : (source event : ℕ) (past : Past) (n : ℕ)
-    → closings source event past (range_with_len 0 (n + 1)) ≡ closings source event past (range_with_len 0 n) ++ closing_by source event n (past.calls n) (past.sources n) (past.boxes n)
+    → closings source event past (range_with_len 0 (n + 1)) ≡ closings source event past (range_with_len 0 n) ++ closing_by source event n (past.received n) (past.sources n) (past.boxes n)
 closings_more source event past n =
-    let each : ℕ → List SinkUnit = λ i. closing_by source event i (past.calls i) (past.sources i) (past.boxes i) in
+    let each : ℕ → List SinkUnit = λ i. closing_by source event i (past.received i) (past.sources i) (past.boxes i) in
     let e : 0 + n ≡ n = omega arith in
     ap (flat_map each) (range_append 0 n 1)
     ∙ flat_map-append each (range_with_len 0 n) (range_with_len (0 + n) 1)
@@ -43,7 +45,7 @@ pub closings_split : (source event : ℕ) (past : Past) (n k : ℕ) → n + k �
     → closings source event past sink_numbers ≡ closings source event past (range_with_len 0 n) ++ closings source event past (range_with_len n k)
 unfolding sink_numbers
 closings_split source event past n k e =
-    let each : ℕ → List SinkUnit = λ i. closing_by source event i (past.calls i) (past.sources i) (past.boxes i) in
+    let each : ℕ → List SinkUnit = λ i. closing_by source event i (past.received i) (past.sources i) (past.boxes i) in
     let f : 0 + n ≡ n = omega arith in
     ap (λ m. flat_map each (range_with_len 0 m)) (sym e)
     ∙ ap (flat_map each) (range_append 0 n k)
@@ -68,11 +70,11 @@ entry_after past source event number sinks entry n within here done below (inr o
 pub between_next : (past : Past) (source event number : ℕ) (sinks : List (Option Sink)) (entry : Option Sink) (gathered next : Gathered)
     (text told told2 : List ℕ) (before mid after : List Account) → length sinks ≡ most_sinks → number < most_sinks
     → Between past source event number sinks gathered text told before mid
-    → SinkCloses (past.boxes number) (past.sources number) (past.calls number) number source event entry next told told2 mid after (Ok tt)
+    → SinkCloses (past.boxes number) (past.mades number) (past.sources number) (past.lives number) (past.received number) number source event entry next told told2 mid after (Ok tt)
     → Between past source event (number + 1) (slice_set sinks number entry) next text told2 before after
 between_next past source event number sinks entry gathered next text told told2 before mid after eight within b s =
     let inside : number < length sinks = omega arith in
-    let h = hands_then (closings source event past (range_with_len 0 number)) (closing_by source event number (past.calls number) (past.sources number) (past.boxes number)) text told
+    let h = hands_then (closings source event past (range_with_len 0 number)) (closing_by source event number (past.received number) (past.sources number) (past.boxes number)) text told
     told2 before mid after (Ok tt) b.lines b.boxes_are s.hands in
     record {
       done = λ n below. entry_after past source event number sinks entry n inside s.is_ticked.entry_is b.done below (nat_same n number);
@@ -89,11 +91,11 @@ between_next past source event number sinks entry gathered next text told told2 
 pub between_ends : (past : Past) (source event number k : ℕ) (sinks sinks2 : List (Option Sink)) (entry : Option Sink) (gathered next : Gathered)
     (text told told2 : List ℕ) (before mid after : List Account) (stop : Stop) → number + 1 + k ≡ most_sinks
     → Between past source event number sinks gathered text told before mid
-    → SinkCloses (past.boxes number) (past.sources number) (past.calls number) number source event entry next told told2 mid after (Err stop)
+    → SinkCloses (past.boxes number) (past.mades number) (past.sources number) (past.lives number) (past.received number) number source event entry next told told2 mid after (Err stop)
     → AllClose past source event sinks2 next text told2 before after (Err stop)
 between_ends past source event number k sinks sinks2 entry gathered next text told told2 before mid after stop all b s =
     let front : List SinkUnit = closings source event past (range_with_len 0 number) in
-    let here : List SinkUnit = closing_by source event number (past.calls number) (past.sources number) (past.boxes number) in
+    let here : List SinkUnit = closing_by source event number (past.received number) (past.sources number) (past.boxes number) in
     let rest : List SinkUnit = closings source event past (range_with_len (number + 1) k) in
     let P : List SinkUnit → Type 0 = λ units. Hands units text told2 before after (Err stop) in
     record {
@@ -131,7 +133,7 @@ entry_here past source event number at sinks d gathered text told before after s
 pub between_next_at : (past : Past) (source event number at : ℕ) (sinks : List (Option Sink)) (entry : Option Sink) (gathered next : Gathered)
     (text told told2 : List ℕ) (before mid after : List Account) → at ≡ number → length sinks ≡ most_sinks → number < most_sinks
     → Between past source event number sinks gathered text told before mid
-    → SinkCloses (past.boxes number) (past.sources number) (past.calls number) number source event entry next told told2 mid after (Ok tt)
+    → SinkCloses (past.boxes number) (past.mades number) (past.sources number) (past.lives number) (past.received number) number source event entry next told told2 mid after (Ok tt)
     → Between past source event (number + 1) (slice_set sinks at entry) next text told2 before after
 between_next_at past source event number at sinks entry gathered next text told told2 before mid after same eight within b s =
     let P : ℕ → Type 0 = λ i. Between past source event (number + 1) (slice_set sinks i entry) next text told2 before after in
@@ -149,9 +151,10 @@ all_closed past source event closed old new sinks text told before after r stand
       stands = on_ok_weaker r (λ t. record { entries = subst E (sym items) t.entries; made = more ∙ stands.made; empty = t.empty }) c.is_ticked;
     })
 
-entry_kept : (box own : Option ℕ) (calls : List Call) (source : ℕ) (b : Bool) (entry : Option (Option Sink)) → EntryIs box own calls entry → EntryIs box own (ticked_if b None calls) entry
-entry_kept box own calls source true entry is = is
-entry_kept box own calls source false entry is = is
+entry_kept : (past : Past) (n : ℕ) (b : Bool) (entry : Option (Option Sink)) → EntryAt past n entry
+    → EntryIs (past.boxes n) (past.mades n) (past.sources n) (past.lives n) (ticked_if b None (past.received n)) entry
+entry_kept past n true entry is = is
+entry_kept past n false entry is = is
 
 -- no event is open
 pub none_closed : (past : Past) (source : ℕ) (closed : Option ℕ) (old : Sinks) (text : List ℕ) (before : List Account)
@@ -161,7 +164,7 @@ none_closed past source closed old text before stands is =
     subst P (sym is) (record {
       hands = (sym (append-nil text), refl);
       stands = record {
-        entries = λ n below. entry_kept (past.boxes n) (past.sources n) (past.calls n) source (is_of source (past.sources n)) (slice_get old.entries.items n) (stands.entries n below);
+        entries = λ n below. entry_kept past n (is_of source (past.sources n)) (slice_get old.entries.items n) (stands.entries n below);
         made = stands.made;
         empty = stands.empty;
       };
@@ -175,18 +178,20 @@ lent_entries past sinks lent is are = let E : List (Option Sink) → Type 0 = λ
 pub gathered_are : (old new slice : List HandedUnit) (units : List Handed) → old ≡ [] → map handed_of new ≡ map handed_of old ++ units → slice ≡ new → map handed_of slice ≡ units
 gathered_are old new slice units empty e is = ap (map handed_of) is ∙ e ∙ ap (λ xs. map handed_of xs ++ units) empty
 
-pub sink_closes : (box own : Option ℕ) (calls : List Call) (n source event : ℕ) (sink new : Sink) (of : Bool) (units : List Handed) (gathered : Gathered)
-    (text told : List ℕ) (before after : List Account) (r : Result (Unit {0}) Stop) → SinkIs box own calls sink → of ≡ is_of source sink.source → of ≡ true
-    → units ≡ handed_at calls event
+pub sink_closes : (box : Option ℕ) (made : Option Made) (own : Option ℕ) (life : List links.Call) (received : List Call) (n source event : ℕ) (sink new : Sink)
+    (from : Option ℕ) (of : Bool) (units : List Handed) (gathered : Gathered) (text told : List ℕ) (before after : List Account) (r : Result (Unit {0}) Stop)
+    → (is : SinkIs box made own life received sink) → from ≡ own → of ≡ is_of source from → of ≡ true
+    → units ≡ handed_at received event
     → (let owner : Owner = record { source = source; sink = n; outlet = sink.outlet } in Hands (units_for owner units) text told before after r)
-    → new.outlet ≡ sink.outlet → new.source ≡ sink.source → StandsFor (tick event ∷ calls) new.delegator → OnOk r (gathered.units.items ≡ [])
-    → SinkCloses box own calls n source event (Some new) gathered text told before after r
-sink_closes box own calls n source event sink new of units gathered text told before after r is o t e hands outlet from stands empty =
+    → new.outlet ≡ sink.outlet → Lives is.how own life (tick event ∷ received) new.living → OnOk r (gathered.units.items ≡ [])
+    → SinkCloses box made own life received n source event (Some new) gathered text told before after r
+sink_closes box made own life received n source event sink new from of units gathered text told before after r is f o t e hands outlet lives empty =
     let owner : Owner = record { source = source; sink = n; outlet = sink.outlet } in
-    let mine : is_of source own ≡ true = ap (is_of source) is.own_is ∙ sym o ∙ t in
-    let own_units : closing_by source event n calls own box ≡ units_for owner (handed_at calls event) = rw (mine, is.box_is) refl in
-    let here : EntryIs box own (ticked_if (is_of source own) (Some event) calls) (Some (Some new)) =
-    rw mine (entry_of box own (tick event ∷ calls) new (record { box_is = is.box_is ∙ ap Some (sym outlet); own_is = is.own_is ∙ sym from; stands = stands })) in
+    let mine : is_of source own ≡ true = ap (is_of source) (sym f) ∙ sym o ∙ t in
+    let own_units : closing_by source event n received own box ≡ units_for owner (handed_at received event) = rw (mine, is.box_is) refl in
+    let here : EntryIs box made own life (ticked_if (is_of source own) (Some event) received) (Some (Some new)) =
+    rw mine (entry_of box made own life (tick event ∷ received) new
+    (record { box_is = is.box_is ∙ ap Some (sym outlet); how = is.how; made_is = is.made_is; lives = lives })) in
     let P : List SinkUnit → Type 0 = λ us. Hands us text told before after r in
     record {
       hands = subst P (ap (units_for owner) e ∙ sym own_units) hands;

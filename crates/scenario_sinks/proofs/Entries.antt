@@ -2,53 +2,80 @@
 use Rattle.std.proofs.Common.{◌≡◌, ◌≢◌, ℕ, zero, suc, ◌<◌, ◌==◌, ◌∷◌, Bool, true, false, List, length, replicate, refl, sym, ◌∙◌, ap, subst, ne_eqb, slice_get, slice_set, get_or, is_some}
 use Rattle.std.proofs.Common.{arith, Option, None, Some, Ok, ◌⊎◌, inl, inr}
 use Rattle.std.proofs.lemmas.Option.{slice_get-get_or}
-use Rattle.group_sink.specs.Calls.{Call, Tuning, hear, tune}
+use Rattle.delegator_machine.specs.Groups.{tuning_of}
+use Rattle.delegator_states.specs.States.{put_on}
+use Rattle.delegator_states.specs.Trains.{Joining}
+use Rattle.group_sink.specs.Calls.{Call, hear, tune}
 use Rattle.group_sink.specs.Hearings.{hearing_of}
 use Rattle.isoal_base.specs.declared.hearing.Hearing.{Hearing}
 use Rattle.scenario_history.specs.Refusals.{has_beyond}
 use Rattle.scenario_history.specs.Sinks.{is_of}
-use Rattle.group_sink.specs.State.Sinks.{StandsFor}
+use Rattle.link_histories.specs.Calls as links
+use Rattle.link_histories.specs.Calls.{stepped}
 use Rattle.scenario_history.specs.Boxes.{most_sinks}
 use Rattle.scenario_sinks.specs.declared.sink.Sink.{Sink}
 use Rattle.scenario_sinks.specs.Pasts.{Past}
 use Rattle.scenario_sinks.specs.State.Standing.{EntryIs, EntryAt, EntriesAre}
 use Rattle.scenario_sinks.specs.State.Entries.{EntryHears, EntryTunes}
+use Rattle.sink_histories.specs.Lives.{Made}
+use Rattle.sink_steps.specs.State.Living.{Lives}
 use Rattle.scenario_sinks.proofs.Ranges.{get_set_here, get_set_other, nat_same}
 
 -- ---- the sink of one entry
 
-pub none_lives : (box own : Option ℕ) (calls : List Call) (entry : Option Sink) → EntryIs box own calls (Some entry) → is_some entry ≡ false → box ≡ None
-none_lives None own calls entry is none = refl
-none_lives (Some box) own calls entry is none =
+pub none_lives : (box : Option ℕ) (made : Option Made) (own : Option ℕ) (life : List links.Call) (received : List Call) (entry : Option Sink)
+    → EntryIs box made own life received (Some entry) → is_some entry ≡ false → box ≡ None
+none_lives None made own life received entry is none = refl
+none_lives (Some box) made own life received entry is none =
     let e : entry ≡ Some is.0 = cc (is.1) in
     let f : true ≡ false = sym (ap is_some e) ∙ none in
     cc
 
 -- what an entry says of its sink
-pub record SinkIs (box own : Option ℕ) (calls : List Call) (sink : Sink) : Type 0 where
+pub record SinkIs (box : Option ℕ) (made : Option Made) (own : Option ℕ) (life : List links.Call) (received : List Call) (sink : Sink) : Type 0 where
   pub box_is : box ≡ Some sink.outlet
-  pub own_is : own ≡ sink.source
-  pub stands : StandsFor calls sink.delegator
+  pub how : Made
+  pub made_is : made ≡ Some how
+  pub lives : Lives how own life received sink.living
 
-pub sink_in : (box own : Option ℕ) (calls : List Call) (entry : Option Sink) (sink : Sink) → EntryIs box own calls (Some entry) → entry ≡ Some sink → SinkIs box own calls sink
-sink_in None own calls entry sink is e = absurd (cc (is, e))
-sink_in (Some b) own calls entry sink is e =
-    let same : is.0 ≡ sink = cc (is.1, e) in
+some_same : {A : Type 0} (entry : Option A) (one other : A) → Some entry ≡ Some (Some one) → entry ≡ Some other → one ≡ other
+some_same entry one other e f = cc (e, f)
+
+none_some : {A : Type 0} (entry : Option A) (one : A) → Some entry ≡ Some None → entry ≡ Some one → ⊥
+none_some entry one e f = cc (e, f)
+
+pub sink_in : (box : Option ℕ) (made : Option Made) (own : Option ℕ) (life : List links.Call) (received : List Call) (entry : Option Sink) (sink : Sink)
+    → EntryIs box made own life received (Some entry) → entry ≡ Some sink → SinkIs box made own life received sink
+sink_in None made own life received entry sink is e = absurd (none_some entry sink is.0 e)
+sink_in (Some b) made own life received entry sink is e =
+    let same : is.0 ≡ sink = some_same entry is.0 sink is.1 e in
     record {
       box_is = ap Some (sym is.2 ∙ ap (λ (s : Sink). s.outlet) same);
-      own_is = sym is.3 ∙ ap (λ (s : Sink). s.source) same;
-      stands = subst (λ (s : Sink). StandsFor calls s.delegator) same is.4;
+      how = is.3;
+      made_is = is.4;
+      lives = subst (λ (s : Sink). Lives is.3 own life received s.living) same is.5;
     }
 
-pub entry_of : (box own : Option ℕ) (calls : List Call) (sink : Sink) → SinkIs box own calls sink → EntryIs box own calls (Some (Some sink))
-entry_of None own calls sink is = absurd (cc is.box_is)
-entry_of (Some box) own calls sink is =
+pub entry_of : (box : Option ℕ) (made : Option Made) (own : Option ℕ) (life : List links.Call) (received : List Call) (sink : Sink)
+    → SinkIs box made own life received sink → EntryIs box made own life received (Some (Some sink))
+entry_of None made own life received sink is = absurd (cc is.box_is)
+entry_of (Some box) made own life received sink is =
     let outlet : sink.outlet ≡ box = cc is.box_is in
-    (sink, refl, outlet, sym is.own_is, is.stands)
+    (sink, refl, outlet, is.how, is.made_is, is.lives)
 
-pub lives_in : (box own : Option ℕ) (calls : List Call) (entry : Option Sink) → EntryIs box own calls (Some entry) → is_some entry ≡ is_some box
-lives_in None own calls entry is = let e : entry ≡ None = cc is in ap is_some e
-lives_in (Some box) own calls entry is = let e : entry ≡ Some is.0 = cc is.1 in ap is_some e
+pub lives_in : (box : Option ℕ) (made : Option Made) (own : Option ℕ) (life : List links.Call) (received : List Call) (entry : Option Sink)
+    → EntryIs box made own life received (Some entry) → is_some entry ≡ is_some box
+lives_in None made own life received entry is = let e : entry ≡ None = cc is.0 in ap is_some e
+lives_in (Some box) made own life received entry is = let e : entry ≡ Some is.0 = cc is.1 in ap is_some e
+
+some_none : {A : Type 0} (entry : Option A) (one : A) → Some entry ≡ Some (Some one) → entry ≡ None → ⊥
+some_none entry one e f = cc (e, f)
+
+-- no sink lives, and none was made
+pub made_none : (box : Option ℕ) (made : Option Made) (own : Option ℕ) (life : List links.Call) (received : List Call) (entry : Option Sink)
+    → EntryIs box made own life received (Some entry) → entry ≡ None → made ≡ None
+made_none None made own life received entry is none = is.1
+made_none (Some box) made own life received entry is none = absurd (some_none entry is.0 is.1 none)
 
 -- ---- one entry among all
 
@@ -64,8 +91,10 @@ entry_read past n at sinks entry same eight below is are =
 -- the past of the sinks of all other numbers stays
 pub record OthersStay (n : ℕ) (old new : Past) : Type 0 where
   pub boxes : (m : ℕ) → (n == m) ≡ false → new.boxes m ≡ old.boxes m
+  pub mades : (m : ℕ) → (n == m) ≡ false → new.mades m ≡ old.mades m
   pub sources : (m : ℕ) → (n == m) ≡ false → new.sources m ≡ old.sources m
-  pub calls : (m : ℕ) → (n == m) ≡ false → new.calls m ≡ old.calls m
+  pub lives : (m : ℕ) → (n == m) ≡ false → new.lives m ≡ old.lives m
+  pub received : (m : ℕ) → (n == m) ≡ false → new.received m ≡ old.received m
 
 touched : (n m : ℕ) (old new : Past) (sinks : List (Option Sink)) (entry : Option Sink) → n < length sinks → m < most_sinks
     → OthersStay n old new → EntriesAre old sinks → EntryAt new n (Some entry)
@@ -77,12 +106,15 @@ touched n m old new sinks entry inside below others entries here (inl e) =
 touched n m old new sinks entry inside below others entries here (inr other) =
     let apart : (n == m) ≡ false = ne_eqb n m (λ e. other (sym e)) in
     let at : Option (Option Sink) = slice_get (slice_set sinks n entry) m in
-    let B : Option ℕ → Type 0 = λ b. EntryIs b (new.sources m) (new.calls m) at in
-    let S : Option ℕ → Type 0 = λ s. EntryIs (old.boxes m) s (new.calls m) at in
-    let C : List Call → Type 0 = λ c. EntryIs (old.boxes m) (old.sources m) c at in
+    let B : Option ℕ → Type 0 = λ b. EntryIs b (new.mades m) (new.sources m) (new.lives m) (new.received m) at in
+    let M : Option Made → Type 0 = λ made. EntryIs (old.boxes m) made (new.sources m) (new.lives m) (new.received m) at in
+    let S : Option ℕ → Type 0 = λ s. EntryIs (old.boxes m) (old.mades m) s (new.lives m) (new.received m) at in
+    let L : List links.Call → Type 0 = λ life. EntryIs (old.boxes m) (old.mades m) (old.sources m) life (new.received m) at in
+    let C : List Call → Type 0 = λ c. EntryIs (old.boxes m) (old.mades m) (old.sources m) (old.lives m) c at in
     let Q : Option (Option Sink) → Type 0 = λ o. EntryAt old m o in
-    subst B (sym (others.boxes m apart)) (subst S (sym (others.sources m apart)) (subst C (sym (others.calls m apart))
-    (subst Q (sym (get_set_other sinks n m entry other)) (entries m below))))
+    subst B (sym (others.boxes m apart)) (subst M (sym (others.mades m apart)) (subst S (sym (others.sources m apart))
+    (subst L (sym (others.lives m apart)) (subst C (sym (others.received m apart))
+    (subst Q (sym (get_set_other sinks n m entry other)) (entries m below))))))
 
 -- the entries where the one of a number is new
 pub one_entry : (n at : ℕ) (old new : Past) (sinks : List (Option Sink)) (entry : Option Sink)
@@ -105,24 +137,26 @@ none_made sinks n k is below = ap (λ s. slice_get s n) is ∙ get_replicate Non
 
 -- ---- what comes to the sink of an entry
 
-own_of : (box own : Option ℕ) (calls : List Call) (source : ℕ) (sink : Sink) (of : Bool) → SinkIs box own calls sink → of ≡ is_of source sink.source → of ≡ true → is_of source own ≡ true
-own_of box own calls source sink of is e t = ap (is_of source) is.own_is ∙ sym e ∙ t
-
-pub entry_tuned : (box own : Option ℕ) (calls : List Call) (source : ℕ) (tuning : Tuning) (sink new : Sink) (beyond : Bool) → SinkIs box own calls sink
-    → new.outlet ≡ sink.outlet → new.source ≡ Some source → StandsFor (tune tuning ∷ calls) new.delegator
-    → beyond ≡ has_beyond tuning.info.num_bis tuning.which → beyond ≡ false → EntryTunes box own calls source tuning (Some new) (Ok tt)
-entry_tuned box own calls source tuning sink new beyond is outlet from stands b within = (
+pub entry_tuned : (box : Option ℕ) (made : Option Made) (own : Option ℕ) (life : List links.Call) (received : List Call) (source : ℕ) (joining : Joining)
+    (sink new : Sink) (beyond : Bool) → (is : SinkIs box made own life received sink) → new.outlet ≡ sink.outlet
+    → Lives is.how (Some source) (stepped (put_on source joining) ∷ life) (tune (tuning_of joining) ∷ received) new.living
+    → beyond ≡ has_beyond joining.info.num_bis joining.which → beyond ≡ false
+    → EntryTunes box made own life received source joining (Some new) (Ok tt)
+entry_tuned box made own life received source joining sink new beyond is outlet lives b within = (
   rw (is.box_is, sym b ∙ within) refl,
-  entry_of box (Some source) (tune tuning ∷ calls) new (record { box_is = is.box_is ∙ ap Some (sym outlet); own_is = sym from; stands = stands }),
+  entry_of box made (Some source) (stepped (put_on source joining) ∷ life) (tune (tuning_of joining) ∷ received) new
+  (record { box_is = is.box_is ∙ ap Some (sym outlet); how = is.how; made_is = is.made_is; lives = lives }),
 )
 
-pub entry_heard : (box own : Option ℕ) (calls : List Call) (source event bis subevent : ℕ) (octets : List ℕ) (sink new : Sink) (of : Bool) (hearing : Hearing)
-    → SinkIs box own calls sink → new.outlet ≡ sink.outlet → new.source ≡ sink.source → of ≡ is_of source sink.source → of ≡ true
-    → hearing ≡ hearing_of calls event bis subevent octets → StandsFor (hear event bis subevent octets ∷ calls) new.delegator
-    → EntryHears box own calls source event bis subevent octets (Some new) (Some hearing)
-entry_heard box own calls source event bis subevent octets sink new of hearing is outlet from o t answer stands =
-    let mine : is_of source own ≡ true = own_of box own calls source sink of is o t in (
+pub entry_heard : (box : Option ℕ) (made : Option Made) (own : Option ℕ) (life : List links.Call) (received : List Call) (source event bis subevent : ℕ) (octets : List ℕ)
+    (sink new : Sink) (from : Option ℕ) (of : Bool) (hearing : Hearing) → (is : SinkIs box made own life received sink) → new.outlet ≡ sink.outlet → from ≡ own
+    → of ≡ is_of source from → of ≡ true → hearing ≡ hearing_of received event bis subevent octets
+    → Lives is.how own life (hear event bis subevent octets ∷ received) new.living
+    → EntryHears box made own life received source event bis subevent octets (Some new) (Some hearing)
+entry_heard box made own life received source event bis subevent octets sink new from of hearing is outlet f o t answer lives =
+    let mine : is_of source own ≡ true = ap (is_of source) (sym f) ∙ sym o ∙ t in (
       rw is.box_is refl,
       answer ∙ rw mine refl,
-      rw mine (entry_of box own (hear event bis subevent octets ∷ calls) new (record { box_is = is.box_is ∙ ap Some (sym outlet); own_is = is.own_is ∙ sym from; stands = stands })),
+      rw mine (entry_of box made own life (hear event bis subevent octets ∷ received) new
+      (record { box_is = is.box_is ∙ ap Some (sym outlet); how = is.how; made_is = is.made_is; lives = lives })),
     )

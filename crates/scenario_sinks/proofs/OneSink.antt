@@ -2,8 +2,9 @@
 use Rattle.std.proofs.Common.{◌≡◌, ℕ, ◌+◌, ◌<◌, ◌≤◌, ◌==◌, ◌&&◌, ◌∷◌, [], true, false, nat_le, not, List, length, refl, sym, ◌∙◌, ap, subst, is_some, slice_set, get_or, eq-eqb, cond, Bool}
 use Rattle.std.proofs.Common.{if◌then◌else◌, arith, Option, None, Some, Result, Ok, Err}
 use Rattle.std.proofs.lemmas.Bool.{le-leb, lt-leb}
-use Rattle.group_sink.specs.Calls.{Tuning, Call, hear, tune}
-use Rattle.group_sink.specs.State.Sinks.{StandsFor}
+use Rattle.delegator_states.specs.Trains.{Joining}
+use Rattle.group_sink.specs.Calls.{Call, hear, tune}
+use Rattle.linked_sink.specs.Taken.{born}
 use Rattle.isoal_base.specs.declared.hearing.Hearing.{Hearing}
 use Rattle.transcript_text.specs.declared.refusal.Refusal.TheVariants.{NoSuchSink, SinkTwice, NoOutlet}
 use Rattle.scenario_history.specs.Boxes.{most_sinks}
@@ -16,9 +17,11 @@ use Rattle.transcript_text.specs.declared.stop.Stop.{Stop}
 use Rattle.transcript_text.specs.declared.stop.Stop.TheVariants.{Refused, OutletFault, Memory}
 use Rattle.scenario_sinks.specs.Hearing.{Hears}
 use Rattle.scenario_sinks.specs.Pasts.{Past, with_sink, without, with_tuning, with_hearing}
-use Rattle.scenario_sinks.specs.Refusals.{Answers, not_made, not_living, not_tuned}
+use Rattle.scenario_sinks.specs.Refusals.{Answers, Tunes, not_made, not_living, not_tuned}
 use Rattle.scenario_sinks.specs.State.Standing.{EntryIs, EntryAt, EntriesAre, SinksStand}
 use Rattle.scenario_sinks.specs.State.Entries.{EntryHears, EntryTunes}
+use Rattle.sink_histories.specs.Lives.{Made}
+use Rattle.sink_steps.specs.State.Living.{Lives}
 use Rattle.scenario_sinks.proofs.Entries.{OthersStay, one_entry, entry_read, none_lives, lives_in, sink_in}
 
 -- the sinks where the entry of a number is new
@@ -35,84 +38,108 @@ one_changed n at past next old new entry same within eight others stands here se
 
 -- ---- a sink is made
 
-make_stays : (n : ℕ) (past : Past) → OthersStay n past (with_sink n past)
-make_stays n past = record { boxes = λ m apart. rw apart refl; sources = λ m apart. rw apart refl; calls = λ m apart. rw apart refl }
+make_stays : (n : ℕ) (how : Made) (past : Past) → OthersStay n past (with_sink n how past)
+make_stays n how past = record {
+  boxes = λ m apart. rw apart refl;
+  mades = λ m apart. rw apart refl;
+  sources = λ m apart. rw apart refl;
+  lives = λ m apart. rw apart refl;
+  received = λ m apart. rw apart refl;
+}
 
-pub made : (boxes n at : ℕ) (past : Past) (old new : Sinks) (entry : Option Sink) (sink : Sink) → SinksStand past old → at ≡ n → n < most_sinks
+pub made : (boxes n at : ℕ) (how : Made) (past : Past) (old new : Sinks) (entry : Option Sink) (sink : Sink) → SinksStand past old → at ≡ n → n < most_sinks
     → length old.entries.items ≡ most_sinks → entry ≡ get_or old.entries.items at entry → is_some entry ≡ false → old.outlets < boxes
-    → sink.outlet ≡ old.outlets → sink.source ≡ None → StandsFor [] sink.delegator
+    → sink.outlet ≡ old.outlets → Lives how None (born how.mtu) [] sink.living
     → new.entries.items ≡ slice_set old.entries.items at (Some sink) → new.outlets ≡ old.outlets + 1 → new.gathered ≡ old.gathered
-    → Answers (not_made (past.boxes n) past.made boxes) past (with_sink n past) new (Ok tt)
-made boxes n at past old new entry sink stands same within eight is none room outlet source fresh set more gathered =
-    let free : past.boxes n ≡ None = none_lives (past.boxes n) (past.sources n) (past.calls n) entry (entry_read past n at old.entries.items entry same eight within is stands.entries) none in
+    → Answers (not_made (past.boxes n) past.made boxes) past (with_sink n how past) new (Ok tt)
+made boxes n at how past old new entry sink stands same within eight is none room outlet fresh set more gathered =
+    let free : past.boxes n ≡ None = none_lives (past.boxes n) (past.mades n) (past.sources n) (past.lives n) (past.received n) entry (entry_read past n at old.entries.items entry same eight within is stands.entries) none in
     let left : past.made < boxes = omega (arith, stands.made) in
-    let here : EntryAt (with_sink n past) n (Some (Some sink)) = rw (eq-eqb n n refl) (sink, refl, outlet ∙ stands.made, source, fresh) in (
+    let here : EntryAt (with_sink n how past) n (Some (Some sink)) = rw (eq-eqb n n refl) (sink, refl, outlet ∙ stands.made, how, refl, fresh) in (
       rw (free, lt-leb boxes past.made left) refl,
-      one_changed n at past (with_sink n past) old new (Some sink) same within eight (make_stays n past) stands here set (more ∙ ap (λ k. k + 1) stands.made) gathered,
+      one_changed n at past (with_sink n how past) old new (Some sink) same within eight (make_stays n how past) stands here set (more ∙ ap (λ k. k + 1) stands.made) gathered,
     )
 
 -- a sink of the number lives
-pub taken : (boxes n at : ℕ) (past : Past) (old : Sinks) (entry : Option Sink) → SinksStand past old → at ≡ n → n < most_sinks
+pub taken : (boxes n at : ℕ) (how : Made) (past : Past) (old : Sinks) (entry : Option Sink) → SinksStand past old → at ≡ n → n < most_sinks
     → length old.entries.items ≡ most_sinks → entry ≡ get_or old.entries.items at entry → is_some entry ≡ true
-    → Answers (not_made (past.boxes n) past.made boxes) past (with_sink n past) old (Err (Refused SinkTwice))
-taken boxes n at past old entry stands same within eight is some =
-    let lives : is_some (past.boxes n) ≡ true = sym (lives_in (past.boxes n) (past.sources n) (past.calls n) entry (entry_read past n at old.entries.items entry same eight within is
+    → Answers (not_made (past.boxes n) past.made boxes) past (with_sink n how past) old (Err (Refused SinkTwice))
+taken boxes n at how past old entry stands same within eight is some =
+    let lives : is_some (past.boxes n) ≡ true = sym (lives_in (past.boxes n) (past.mades n) (past.sources n) (past.lives n) (past.received n) entry (entry_read past n at old.entries.items entry same eight within is
     stands.entries)) ∙ some in
     (rw lives refl, stands)
 
 -- no box is left
-pub no_box : (boxes n at : ℕ) (past : Past) (old : Sinks) (entry : Option Sink) → SinksStand past old → at ≡ n → n < most_sinks
+pub no_box : (boxes n at : ℕ) (how : Made) (past : Past) (old : Sinks) (entry : Option Sink) → SinksStand past old → at ≡ n → n < most_sinks
     → length old.entries.items ≡ most_sinks → entry ≡ get_or old.entries.items at entry → is_some entry ≡ false → boxes ≤ old.outlets
-    → Answers (not_made (past.boxes n) past.made boxes) past (with_sink n past) old (Err (Refused NoOutlet))
-no_box boxes n at past old entry stands same within eight is none full =
-    let free : past.boxes n ≡ None = none_lives (past.boxes n) (past.sources n) (past.calls n) entry (entry_read past n at old.entries.items entry same eight within is stands.entries) none in
+    → Answers (not_made (past.boxes n) past.made boxes) past (with_sink n how past) old (Err (Refused NoOutlet))
+no_box boxes n at how past old entry stands same within eight is none full =
+    let free : past.boxes n ≡ None = none_lives (past.boxes n) (past.mades n) (past.sources n) (past.lives n) (past.received n) entry (entry_read past n at old.entries.items entry same eight within is stands.entries) none in
     let less : boxes ≤ past.made = omega (arith, stands.made) in
     (rw (free, le-leb boxes past.made less) refl, stands)
 
 -- ---- a sink ends
 
 end_stays : (n : ℕ) (past : Past) → OthersStay n past (without n past)
-end_stays n past = record { boxes = λ m apart. rw apart refl; sources = λ m apart. rw apart refl; calls = λ m apart. rw apart refl }
+end_stays n past = record {
+  boxes = λ m apart. rw apart refl;
+  mades = λ m apart. rw apart refl;
+  sources = λ m apart. rw apart refl;
+  lives = λ m apart. rw apart refl;
+  received = λ m apart. rw apart refl;
+}
 
 pub ended : (n at : ℕ) (past : Past) (old new : Sinks) (sink : Sink) → SinksStand past old → at ≡ n → n < most_sinks
     → length old.entries.items ≡ most_sinks → Some sink ≡ get_or old.entries.items at (Some sink)
     → new.entries.items ≡ slice_set old.entries.items at None → new.outlets ≡ old.outlets → new.gathered ≡ old.gathered
     → Answers (not_living (past.boxes n)) past (without n past) new (Ok tt)
 ended n at past old new sink stands same within eight is set more gathered =
-    let was = sink_in (past.boxes n) (past.sources n) (past.calls n) (Some sink) sink (entry_read past n at old.entries.items (Some sink) same eight within is stands.entries) refl in
-    let here : EntryAt (without n past) n (Some None) = rw (eq-eqb n n refl) refl in (
+    let was = sink_in (past.boxes n) (past.mades n) (past.sources n) (past.lives n) (past.received n) (Some sink) sink (entry_read past n at old.entries.items (Some sink) same eight within is stands.entries) refl in
+    let here : EntryAt (without n past) n (Some None) = rw (eq-eqb n n refl) (refl, refl) in (
       rw was.box_is refl,
       one_changed n at past (without n past) old new None same within eight (end_stays n past) stands here set (more ∙ stands.made) gathered,
     )
 
 -- ---- a sink is put on a group
 
-tune_stays : (n source : ℕ) (tuning : Tuning) (past : Past) → OthersStay n past (with_tuning n source tuning past)
-tune_stays n source tuning past = record { boxes = λ m apart. refl; sources = λ m apart. rw apart refl; calls = λ m apart. rw apart refl }
+tune_stays : (n source : ℕ) (joining : Joining) (past : Past) → OthersStay n past (with_tuning n source joining past)
+tune_stays n source joining past = record {
+  boxes = λ m apart. refl;
+  mades = λ m apart. refl;
+  sources = λ m apart. rw apart refl;
+  lives = λ m apart. rw apart refl;
+  received = λ m apart. rw apart refl;
+}
 
 same_stays : (n : ℕ) (past : Past) → OthersStay n past past
-same_stays n past = record { boxes = λ m apart. refl; sources = λ m apart. refl; calls = λ m apart. refl }
+same_stays n past = record { boxes = λ m apart. refl; mades = λ m apart. refl; sources = λ m apart. refl; lives = λ m apart. refl; received = λ m apart. refl }
 
-pub tuned : (n at source : ℕ) (tuning : Tuning) (past : Past) (old new : Sinks) (entry : Option Sink) (r : Result (Unit {0}) Stop) → SinksStand past old → at ≡ n
-    → n < most_sinks → length old.entries.items ≡ most_sinks → EntryTunes (past.boxes n) (past.sources n) (past.calls n) source tuning entry r
+pub tuned : (n at source : ℕ) (joining : Joining) (past : Past) (old new : Sinks) (entry : Option Sink) (r : Result (Unit {0}) Stop) → SinksStand past old → at ≡ n
+    → n < most_sinks → length old.entries.items ≡ most_sinks
+    → EntryTunes (past.boxes n) (past.mades n) (past.sources n) (past.lives n) (past.received n) source joining entry r
     → new.entries.items ≡ slice_set old.entries.items at entry → new.outlets ≡ old.outlets → new.gathered ≡ old.gathered
-    → Answers (not_tuned (past.boxes n) tuning.info.num_bis tuning.which) past (with_tuning n source tuning past) new r
-tuned n at source tuning past old new entry (Ok x) stands same within eight t set more gathered =
-    let here : EntryAt (with_tuning n source tuning past) n (Some entry) = rw (eq-eqb n n refl) t.1 in
-    (t.0, one_changed n at past (with_tuning n source tuning past) old new entry same within eight (tune_stays n source tuning past) stands here set (more ∙ stands.made) gathered)
-tuned n at source tuning past old new entry (Err (Refused reason)) stands same within eight t set more gathered =
+    → Tunes (not_tuned (past.boxes n) joining.info.num_bis joining.which) past (with_tuning n source joining past) new r
+tuned n at source joining past old new entry (Ok x) stands same within eight t set more gathered =
+    let here : EntryAt (with_tuning n source joining past) n (Some entry) = rw (eq-eqb n n refl) t.1 in
+    (t.0, one_changed n at past (with_tuning n source joining past) old new entry same within eight (tune_stays n source joining past) stands here set (more ∙ stands.made) gathered)
+tuned n at source joining past old new entry (Err (Refused reason)) stands same within eight t set more gathered =
     (t.0, one_changed n at past past old new entry same within eight (same_stays n past) stands t.1 set (more ∙ stands.made) gathered)
-tuned n at source tuning past old new entry (Err OutletFault) stands same within eight t set more gathered = t
-tuned n at source tuning past old new entry (Err Memory) stands same within eight t set more gathered =
-    one_changed n at past past old new entry same within eight (same_stays n past) stands t set (more ∙ stands.made) gathered
+tuned n at source joining past old new entry (Err OutletFault) stands same within eight t set more gathered = t
+tuned n at source joining past old new entry (Err Memory) stands same within eight t set more gathered = tt
 
 -- ---- a sink hears
 
 hear_stays : (n source event bis subevent : ℕ) (octets : List ℕ) (past : Past) → OthersStay n past (with_hearing n source event bis subevent octets past)
-hear_stays n source event bis subevent octets past = record { boxes = λ m apart. refl; sources = λ m apart. refl; calls = λ m apart. rw apart refl }
+hear_stays n source event bis subevent octets past = record {
+  boxes = λ m apart. refl;
+  mades = λ m apart. refl;
+  sources = λ m apart. refl;
+  lives = λ m apart. refl;
+  received = λ m apart. rw apart refl;
+}
 
 pub heard : (n at source event bis subevent : ℕ) (octets : List ℕ) (past : Past) (old new : Sinks) (entry : Option Sink) (r : Option Hearing) → SinksStand past old → at ≡ n
-    → n < most_sinks → length old.entries.items ≡ most_sinks → EntryHears (past.boxes n) (past.sources n) (past.calls n) source event bis subevent octets entry r
+    → n < most_sinks → length old.entries.items ≡ most_sinks → EntryHears (past.boxes n) (past.mades n) (past.sources n) (past.lives n) (past.received n) source event bis subevent octets entry r
     → new.entries.items ≡ slice_set old.entries.items at entry → new.outlets ≡ old.outlets → new.gathered ≡ old.gathered
     → Hears past n source event bis subevent octets new r
 heard n at source event bis subevent octets past old new entry None stands same within eight h set more gathered = h

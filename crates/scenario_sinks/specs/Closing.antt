@@ -11,7 +11,7 @@ use Rattle.scenario_sinks.specs.State.Standing.{SinksStand}
 
 -- the units of the sinks with these numbers
 abbrev pub closings : ℕ → ℕ → Past → List ℕ → List SinkUnit
-closings source event past numbers = flat_map (λ n. closing_by source event n (past.calls n) (past.sources n) (past.boxes n)) numbers
+closings source event past numbers = flat_map (λ n. closing_by source event n (past.received n) (past.sources n) (past.boxes n)) numbers
 
 -- the units of all sinks, by rising number, where an event is open
 abbrev pub closings_at : ℕ → Option ℕ → Past → List SinkUnit

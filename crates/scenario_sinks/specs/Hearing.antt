@@ -11,12 +11,12 @@ use Rattle.scenario_sinks.specs.State.Standing.{SinksStand}
 
 -- a sink that isn't of the source is on no group of it
 abbrev pub hearing_by : Option ℕ → List Call → (source event bis subevent : ℕ) → List ℕ → Hearing
-hearing_by own calls source event bis subevent octets =
-    if is_of source own then hearing_of calls event bis subevent octets else NotOnGroup
+hearing_by own received source event bis subevent octets =
+    if is_of source own then hearing_of received event bis subevent octets else NotOnGroup
 
 -- what the sink of a number, where it lives, made of them
 abbrev pub Hears : Past → (n source event bis subevent : ℕ) → List ℕ → Sinks → Option Hearing → Type 0
 Hears past n source event bis subevent octets new None = past.boxes n ≡ None
 Hears past n source event bis subevent octets new (Some hearing) =
-    (is_some (past.boxes n) ≡ true) × (hearing ≡ hearing_by (past.sources n) (past.calls n) source event bis subevent octets)
+    (is_some (past.boxes n) ≡ true) × (hearing ≡ hearing_by (past.sources n) (past.received n) source event bis subevent octets)
     × SinksStand (with_hearing n source event bis subevent octets past) new

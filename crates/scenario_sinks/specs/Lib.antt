@@ -5,4 +5,5 @@ pub mod Handing
 pub mod Closing
 pub mod Hearing
 pub mod Sums
+pub mod SinkLines
 pub mod State

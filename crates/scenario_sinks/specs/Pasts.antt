@@ -1,26 +1,39 @@
--- What the sinks of a scenario took so far, by their numbers: the box of the sink of a number, where one lives; the source
--- that it is of; its calls, the newest first; and how many sinks were made, each with the next box. A sink is of the
--- source that put it where it is, takes the PDUs of that source alone, and closes the events of that source alone (Core
--- 5.2, volume 6 part B, section 4.4.6).
+-- What the sinks of a scenario took so far, by their numbers: the box of the sink of a number, where one lives; what its
+-- `sink` line says; the source that it is of; its life, and the calls of its receivers, the newest first; and how many sinks
+-- were made, each with the next box. A sink is of the source that put it where it is, takes the PDUs of that source alone, and
+-- closes the events of that source alone (Core 5.2, volume 6 part B, section 4.4.6).
 use Rattle.std.specs.Prelude.{ℕ, ◌+◌, ◌==◌, ◌&&◌, List, [], ◌∷◌, Option, None, Some, if◌then◌else◌}
-use Rattle.group_sink.specs.Calls.{Tuning, Call, tune, hear}
+use Rattle.delegator_machine.specs.Groups.{tuning_of}
+use Rattle.delegator_states.specs.States.{put_on}
+use Rattle.delegator_states.specs.Trains.{Joining, Train}
+use Rattle.group_sink.specs.Calls.{Call, tune, hear}
+use Rattle.link_histories.specs.Calls as links
+use Rattle.link_histories.specs.Calls.{stepped}
+use Rattle.linked_sink.specs.Taken.{born}
 use Rattle.scenario_history.specs.Sinks.{is_of, ticked_if}
+use Rattle.scenario_text.specs.declared.step.Step.{Step}
+use Rattle.sink_histories.specs.Lives.{Made, Source, lived_by}
+use Rattle.sink_histories.specs.Moves.{received_by, source_by, train_by}
 
 pub record Past : Type 0 where
   pub boxes : ℕ → Option ℕ
+  pub mades : ℕ → Option Made
   pub sources : ℕ → Option ℕ
-  pub calls : ℕ → List Call
+  pub lives : ℕ → List links.Call
+  pub received : ℕ → List Call
   pub made : ℕ
 
 abbrev pub nothing : Past
-nothing = record { boxes = λ m. None; sources = λ m. None; calls = λ m. []; made = 0 }
+nothing = record { boxes = λ m. None; mades = λ m. None; sources = λ m. None; lives = λ m. []; received = λ m. []; made = 0 }
 
--- a sink of this number is made, with the next box
-abbrev pub with_sink : ℕ → Past → Past
-with_sink n past = record {
+-- a sink of this number is made so, with the next box
+abbrev pub with_sink : ℕ → Made → Past → Past
+with_sink n made past = record {
   boxes = λ m. if n == m then Some past.made else past.boxes m;
+  mades = λ m. if n == m then Some made else past.mades m;
   sources = λ m. if n == m then None else past.sources m;
-  calls = λ m. if n == m then [] else past.calls m;
+  lives = λ m. if n == m then born made.mtu else past.lives m;
+  received = λ m. if n == m then [] else past.received m;
   made = past.made + 1;
 }
 
@@ -28,17 +41,21 @@ with_sink n past = record {
 abbrev pub without : ℕ → Past → Past
 without n past = record {
   boxes = λ m. if n == m then None else past.boxes m;
+  mades = λ m. if n == m then None else past.mades m;
   sources = λ m. if n == m then None else past.sources m;
-  calls = λ m. if n == m then [] else past.calls m;
+  lives = λ m. if n == m then [] else past.lives m;
+  received = λ m. if n == m then [] else past.received m;
   made = past.made;
 }
 
 -- a source puts the sink of this number on its group
-abbrev pub with_tuning : ℕ → ℕ → Tuning → Past → Past
-with_tuning n source tuning past = record {
+abbrev pub with_tuning : ℕ → ℕ → Joining → Past → Past
+with_tuning n source joining past = record {
   boxes = past.boxes;
+  mades = past.mades;
   sources = λ m. if n == m then Some source else past.sources m;
-  calls = λ m. if n == m then tune tuning ∷ past.calls m else past.calls m;
+  lives = λ m. if n == m then stepped (put_on source joining) ∷ past.lives m else past.lives m;
+  received = λ m. if n == m then tune (tuning_of joining) ∷ past.received m else past.received m;
   made = past.made;
 }
 
@@ -46,8 +63,10 @@ with_tuning n source tuning past = record {
 abbrev pub with_hearing : (n source event bis subevent : ℕ) → List ℕ → Past → Past
 with_hearing n source event bis subevent octets past = record {
   boxes = past.boxes;
+  mades = past.mades;
   sources = past.sources;
-  calls = λ m. if (n == m) && is_of source (past.sources m) then hear event bis subevent octets ∷ past.calls m else past.calls m;
+  lives = past.lives;
+  received = λ m. if (n == m) && is_of source (past.sources m) then hear event bis subevent octets ∷ past.received m else past.received m;
   made = past.made;
 }
 
@@ -55,7 +74,32 @@ with_hearing n source event bis subevent octets past = record {
 abbrev pub with_close : ℕ → Option ℕ → Past → Past
 with_close source closed past = record {
   boxes = past.boxes;
+  mades = past.mades;
   sources = past.sources;
-  calls = λ m. ticked_if (is_of source (past.sources m)) closed (past.calls m);
+  lives = past.lives;
+  received = λ m. ticked_if (is_of source (past.sources m)) closed (past.received m);
+  made = past.made;
+}
+
+-- ---- a line of the control or of the links of the sink of this number, which means this source
+
+-- only a train may bring the sink to another source
+abbrev pub sourced_by : ℕ → Source → Step → Option Train → Past → ℕ → Option ℕ
+sourced_by n source line None past m = past.sources m
+sourced_by n source line (Some train) past m =
+    if n == m then source_by source line (past.mades m) (past.lives m) (past.sources m) else past.sources m
+
+abbrev pub lived_with : ℕ → Source → Step → Past → ℕ → List links.Call
+lived_with n source step past m = if n == m then lived_by source step (past.mades m) (past.lives m) else past.lives m
+
+abbrev pub with_line : ℕ → Source → Step → Past → Past
+with_line n source step past = record {
+  boxes = past.boxes;
+  mades = past.mades;
+  sources = λ m. sourced_by n source step (train_by source step) past m;
+  lives = λ m. lived_with n source step past m;
+  received = λ m.
+      if n == m then received_by source step (past.mades m) (past.lives m) (lived_with n source step past m) (past.received m)
+      else past.received m;
   made = past.made;
 }

@@ -28,3 +28,10 @@ Answers fault old next new (Ok _) = (fault ≡ None) × SinksStand next new
 Answers fault old next new (Err (Refused reason)) = (fault ≡ Some reason) × SinksStand old new
 Answers fault old next new (Err OutletFault) = ⊥
 Answers fault old next new (Err Memory) = SinksStand old new
+
+-- the same of a step that changes the sink itself, of which nothing is said after want of memory
+abbrev pub Tunes : Option Refusal → Past → Past → Sinks → Result (Unit {0}) Stop → Type 0
+Tunes fault old next new (Ok _) = (fault ≡ None) × SinksStand next new
+Tunes fault old next new (Err (Refused reason)) = (fault ≡ Some reason) × SinksStand old new
+Tunes fault old next new (Err OutletFault) = ⊥
+Tunes fault old next new (Err Memory) = Unit {0}

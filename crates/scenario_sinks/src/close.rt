@@ -1,6 +1,8 @@
 //! Closing an event of a source: each of its sinks hands its units up.
 ghost use Rattle.std.specs.Prelude.{◌≡◌, ◌<◌, ◌^◌, ℕ, List, [], Option, Some, length, map};
 ghost use Rattle.group_sink.specs.Calls.{Call};
+ghost use Rattle.link_histories.specs.Calls as links;
+ghost use Rattle.sink_histories.specs.Lives.{Made};
 ghost use Rattle.scenario_sinks.specs.Pasts.{Past};
 ghost use Rattle.scenario_sinks.specs.State.Standing.{EntryIs, EntriesAre};
 ghost use Rattle.scenario_sinks.specs.State.Between.{SinkCloses, AllClose};
@@ -24,16 +26,17 @@ fn close_sink(
     text: &mut Octets,
 ) -> Result<(), Stop>
     requires { event < 2 ^ 39 }
-    ensures { (box own : Option ℕ) (calls : List Call) → EntryIs box own calls (Some entry.old) → gathered.old.units.items ≡ []
-        → SinkCloses box own calls number source event entry.new gathered.new text.old text.new (map account outlets.old.items) (map account outlets.new.items) result }
+    ensures { (box : Option ℕ) (made : Option Made) (own : Option ℕ) (life : List links.Call) (received : List Call)
+        → EntryIs box made own life received (Some entry.old) → gathered.old.units.items ≡ []
+        → SinkCloses box made own life received number source event entry.new gathered.new text.old text.new (map account outlets.old.items) (map account outlets.new.items) result }
 {
     let Some(sink) = entry else {
         return Ok(());
     };
-    if !is_of(sink.source, source) {
+    if !is_of(sink.living.source(), source) {
         return Ok(());
     }
-    match sink.delegator.tick(event, gathered) {
+    match sink.living.tick(event, gathered) {
         Ok(()) => {}
         Err(_) => return Err(Stop::Memory),
     }

@@ -2,16 +2,25 @@
 ghost use Rattle.std.specs.Prelude.{◌≡◌, ◌≤◌, ◌^◌, ◌∷◌, ℕ, List, Option, Some};
 ghost use Rattle.group_sink.specs.Calls.{Call, hear};
 ghost use Rattle.group_sink.specs.Hearings.{hearing_of};
-ghost use Rattle.group_sink.specs.State.Sinks.{StandsFor};
-ghost use Rattle.scenario_sinks.specs.Joinings.{tuning_in};
-ghost use Rattle.scenario_sinks.specs.State.Entries.{EntryHears, EntryTunes};
+ghost use Rattle.link_histories.specs.Calls as links;
+ghost use Rattle.scenario_sinks.specs.Joinings.{joining_in};
+ghost use Rattle.scenario_sinks.specs.State.Entries.{EntryHears, EntryRuns, EntryTunes};
 ghost use Rattle.scenario_sinks.specs.State.Standing.{EntryIs};
+ghost use Rattle.scenario_text.specs.Ranges.{IsInRange};
+ghost use Rattle.scenario_text.specs.declared.step.Step.TheVariants.{Announce};
+ghost use Rattle.sink_histories.specs.Lives.{Made, Source};
+ghost use Rattle.sink_steps.specs.Origins.{IsFrom};
+ghost use Rattle.sink_steps.specs.SinkLines.{IsSinkLine};
+ghost use Rattle.sink_steps.specs.State.Living.{Lives};
 
 use crate::beyond::is_beyond;
 use crate::joining::Joining;
 use crate::sink::{Sink, is_of};
-use bcast_base::Bis;
+use announcement_train::Train;
+use bcast_base::{Bis, Octets};
 use isoal_base::Hearing;
+use scenario_text::Step;
+use sink_steps::Origin;
 use transcript_text::{Refusal, Stop};
 
 /// Puts the sink of an entry on the group of a source.
@@ -20,8 +29,9 @@ pub(crate) fn tune_entry(
     source: u8,
     joining: &Joining,
 ) -> Result<(), Stop>
-    ensures { (box own : Option ℕ) (calls : List Call) → EntryIs box own calls (Some entry.old)
-        → EntryTunes box own calls source (tuning_in joining.now) entry.new result }
+    ensures { (box : Option ℕ) (made : Option Made) (own : Option ℕ) (life : List links.Call) (received : List Call)
+        → EntryIs box made own life received (Some entry.old)
+        → EntryTunes box made own life received source (joining_in joining.now) entry.new result }
 {
     let Some(sink) = entry else {
         return Err(Stop::Refused(Refusal::NoSuchSink));
@@ -29,18 +39,54 @@ pub(crate) fn tune_entry(
     if is_beyond(joining.group.info.num_bis, joining.which) {
         return Err(Stop::Refused(Refusal::NoSuchBis));
     }
-    match sink.delegator.tune(
+    match sink.living.tune(
+        source,
         &joining.group,
         joining.which,
         joining.event,
         joining.anchor,
         joining.delay,
     ) {
-        Ok(()) => {}
-        Err(_) => return Err(Stop::Memory),
+        Ok(()) => Ok(()),
+        Err(_) => Err(Stop::Memory),
     }
-    sink.source = Some(source);
-    Ok(())
+}
+
+/// Runs a line that names the sink of an entry.
+pub(crate) fn run_entry(
+    entry: &mut Option<Sink>,
+    step: Step,
+    origin: Origin,
+    text: &mut Octets,
+) -> Result<(), Stop>
+    requires { IsInRange step }
+    ensures { (source : Source) (box : Option ℕ) (made : Option Made) (own : Option ℕ) (life : List links.Call) (received : List Call) → IsFrom origin source
+        → IsSinkLine step → EntryIs box made own life received (Some entry.old)
+        → EntryRuns box made own life received source step entry.new text.old text.new result }
+{
+    let Some(sink) = entry else {
+        return Err(Stop::Refused(Refusal::NoSuchSink));
+    };
+    sink.living.line(step, origin, text)
+}
+
+/// Hands the sink of an entry, which has this number, the train of its source.
+pub(crate) fn announce_entry(
+    entry: &mut Option<Sink>,
+    number: u8,
+    origin: Origin,
+    train: &Train,
+    text: &mut Octets,
+) -> Result<(), Stop>
+    requires { train.now.time ≤ 2 ^ 61 }
+    ensures { (source : Source) (box : Option ℕ) (made : Option Made) (own : Option ℕ) (life : List links.Call) (received : List Call) → IsFrom origin source
+        → source.announced ≡ train.now → EntryIs box made own life received (Some entry.old)
+        → EntryRuns box made own life received source (Announce number) entry.new text.old text.new result }
+{
+    let Some(sink) = entry else {
+        return Err(Stop::Refused(Refusal::NoSuchSink));
+    };
+    sink.living.announce(number, origin, train, text)
 }
 
 /// Hands the sink of an entry octets in the place of a PDU of a source.
@@ -53,13 +99,14 @@ pub(crate) fn hear_entry(
     octets: &[u8],
 ) -> Option<Hearing>
     requires { event ≤ 2 ^ 39 }
-    ensures { (box own : Option ℕ) (calls : List Call) → EntryIs box own calls (Some entry.old)
-        → EntryHears box own calls source event bis subevent octets.now entry.new result }
+    ensures { (box : Option ℕ) (made : Option Made) (own : Option ℕ) (life : List links.Call) (received : List Call)
+        → EntryIs box made own life received (Some entry.old)
+        → EntryHears box made own life received source event bis subevent octets.now entry.new result }
 {
     let Some(sink) = entry else {
         return None;
     };
-    if !is_of(sink.source, source) {
+    if !is_of(sink.living.source(), source) {
         return Some(Hearing::NotOnGroup);
     }
     Some(deliver(sink, event, bis, subevent, octets))
@@ -68,10 +115,11 @@ pub(crate) fn hear_entry(
 /// Hands a sink octets in the place of a PDU.
 fn deliver(sink: &mut Sink, event: u64, bis: Bis, subevent: u8, octets: &[u8]) -> Hearing
     requires { event ≤ 2 ^ 39 }
-    ensures answer { (calls : List Call) → StandsFor calls sink.old.delegator → result ≡ hearing_of calls event bis subevent octets.now }
-    ensures stands { (calls : List Call) → StandsFor calls sink.old.delegator → StandsFor (hear event bis subevent octets.now ∷ calls) sink.new.delegator }
+    ensures answer { (made : Made) (own : Option ℕ) (life : List links.Call) (received : List Call) → Lives made own life received sink.old.living
+        → result ≡ hearing_of received event bis subevent octets.now }
+    ensures lives { (made : Made) (own : Option ℕ) (life : List links.Call) (received : List Call) → Lives made own life received sink.old.living
+        → Lives made own life (hear event bis subevent octets.now ∷ received) sink.new.living }
     ensures outlet { sink.new.outlet ≡ sink.old.outlet }
-    ensures source { sink.new.source ≡ sink.old.source }
 {
-    sink.delegator.hear(event, bis, subevent, octets)
+    sink.living.hear(event, bis, subevent, octets)
 }

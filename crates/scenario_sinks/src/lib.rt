@@ -7,6 +7,7 @@ mod entry;
 mod gathered;
 mod hand;
 mod joining;
+mod lines;
 mod sink;
 mod sinks;
 mod sums;

@@ -1,16 +1,15 @@
 ghost use Rattle.std.specs.Prelude.{◌≡◌};
 ghost use Rattle.scenario_history.specs.Sinks.{is_of};
 
-use group_sink::GroupSink;
+use sink_steps::LivingSink;
 
 /// A sink of a scenario.
 #[derive(Drop)]
 pub(crate) struct Sink {
     /// The place of its box in the list.
     pub(crate) outlet: usize,
-    /// The source that it is of: the one that put it where it is.
-    pub(crate) source: Option<u8>,
-    pub(crate) delegator: GroupSink,
+    /// The sink, with the source that it is of: the one that put it where it is.
+    pub(crate) living: LivingSink,
 }
 
 /// Whose units are handed up: the source and the number of a sink, and the place of its box.

@@ -8,8 +8,8 @@ use crate::joining::Joining;
 use crate::sink::Sink;
 use crate::sums::{put_sum_at, put_sums};
 use bcast_base::{Bis, Memory, Octets};
-use group_sink::GroupSink;
 use isoal_base::Hearing;
+use sink_steps::LivingSink;
 use std::alloc::Global;
 use transcript_text::{Refusal, Stop};
 use unit_outlets::Outlet;
@@ -21,7 +21,7 @@ const SINKS: usize = 8;
 #[derive(Drop)]
 pub struct Sinks {
     alloc: Global,
-    entries: Vec<Option<Sink>>,
+    pub(crate) entries: Vec<Option<Sink>>,
     /// How many boxes of the list were taken.
     outlets: usize,
     gathered: Gathered,
@@ -29,12 +29,13 @@ pub struct Sinks {
 }
 
 impl Sinks {
+    ghost use Rattle.multi_assist.specs.Mtus.{IsMtu};
     ghost use Rattle.scenario_history.specs.Boxes.{sink_numbers};
     ghost use Rattle.scenario_sinks.specs.Closing.{Closes};
     ghost use Rattle.scenario_sinks.specs.Hearing.{Hears};
-    ghost use Rattle.scenario_sinks.specs.Joinings.{tuning_in};
+    ghost use Rattle.scenario_sinks.specs.Joinings.{joining_in};
     ghost use Rattle.scenario_sinks.specs.Pasts.{Past, nothing, with_sink, with_tuning, without};
-    ghost use Rattle.scenario_sinks.specs.Refusals.{Answers, not_living, not_made, not_tuned};
+    ghost use Rattle.scenario_sinks.specs.Refusals.{Answers, Tunes, not_living, not_made, not_tuned};
     ghost use Rattle.scenario_sinks.specs.State.Standing.{SinksStand};
     ghost use Rattle.scenario_sinks.specs.Sums.{Puts, sum_where, sums_where};
 
@@ -58,11 +59,28 @@ impl Sinks {
         self.entries[usize::from(sink)].is_some()
     }
 
-    /// Makes a sink with the next box, of so many. It is refused with SinkTwice where a sink of this number lives, else
-    /// with NoOutlet where no box is left. It takes no memory.
-    pub fn make(&mut self, sink: u8, boxes: usize) -> Result<(), Stop>
-        requires { sink ≤ 7 }
-        ensures { (past : Past) → SinksStand past self.old → Answers (not_made (past.boxes sink) past.made boxes) past (with_sink sink past) self.new result }
+    /// Makes a sink with the next box, of so many. It takes so many streams at once, 1 to 31, has so many slots, 1 to 8, goes on
+    /// groups that send a payload at most so many events ahead, and has this MTU on every link, where it has one. It is refused
+    /// with SinkTwice where a sink of this number lives, else with NoOutlet where no box is left.
+    pub fn make(
+        &mut self,
+        sink: u8,
+        streams: u8,
+        slots: u8,
+        horizon: u8,
+        mtu: Option<u16>,
+        boxes: usize,
+    ) -> Result<(), Stop>
+        requires sink { sink ≤ 7 }
+        requires least_streams { 1 ≤ streams }
+        requires most_streams { streams ≤ 31 }
+        requires least_slots { 1 ≤ slots }
+        requires few { slots ≤ 8 }
+        requires horizon { horizon ≤ 31 }
+        requires mtu { IsMtu mtu }
+        ensures { (past : Past) → SinksStand past self.old
+            → Answers (not_made (past.boxes sink) past.made boxes) past
+            (with_sink sink (record { setup = record { streams = streams; slots = slots; horizon = horizon }; mtu = mtu }) past) self.new result }
     {
         let place = usize::from(sink);
         if self.entries[place].is_some() {
@@ -71,10 +89,12 @@ impl Sinks {
         if self.outlets >= boxes {
             return Err(Stop::Refused(Refusal::NoOutlet));
         }
+        let Ok(living) = LivingSink::new(self.alloc, streams, slots, horizon, mtu) else {
+            return Err(Stop::Memory);
+        };
         self.entries[place] = Some(Sink {
             outlet: self.outlets,
-            source: None,
-            delegator: GroupSink::new(self.alloc),
+            living,
         });
         self.outlets += 1;
         Ok(())
@@ -108,7 +128,7 @@ impl Sinks {
     pub fn tune(&mut self, sink: u8, source: u8, joining: &Joining) -> Result<(), Stop>
         requires { sink ≤ 7 }
         ensures { (past : Past) → SinksStand past self.old
-            → Answers (not_tuned (past.boxes sink) joining.now.group.info.num_bis joining.now.which) past (with_tuning sink source (tuning_in joining.now) past) self.new result }
+            → Tunes (not_tuned (past.boxes sink) joining.now.group.info.num_bis joining.now.which) past (with_tuning sink source (joining_in joining.now) past) self.new result }
     {
         tune_entry(&mut self.entries[usize::from(sink)], source, joining)
     }

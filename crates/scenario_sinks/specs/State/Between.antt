@@ -3,9 +3,11 @@ use Rattle.std.specs.Prelude.{ℕ, ◌≡◌, ◌≤◌, ◌<◌, slice_get, Lis
 use Rattle.std.specs.List.{range_with_len}
 use Rattle.unit_outlets.specs.Account.{Account}
 use Rattle.group_sink.specs.Calls.{Call}
+use Rattle.link_histories.specs.Calls as links
 use Rattle.scenario_history.specs.Boxes.{most_sinks, accounts_after, closing_by}
 use Rattle.scenario_history.specs.Sinks.{is_of, ticked_if}
 use Rattle.scenario_history.specs.Output.{unit_lines}
+use Rattle.sink_histories.specs.Lives.{Made}
 use Rattle.scenario_sinks.specs.declared.gathered.Gathered.{Gathered}
 use Rattle.scenario_sinks.specs.declared.sink.Sink.{Sink}
 use Rattle.transcript_text.specs.declared.stop.Stop.{Stop}
@@ -15,15 +17,16 @@ use Rattle.scenario_sinks.specs.Closing.{closings, closings_at}
 use Rattle.scenario_sinks.specs.State.Standing.{EntryIs, EntryAt, EntriesAre}
 
 -- one sink is ticked, where it is of the source
-pub record SinkTicked (box own : Option ℕ) (calls : List Call) (source event : ℕ) (entry : Option Sink) (gathered : Gathered) : Type 0 where
-  pub entry_is : EntryIs box own (ticked_if (is_of source own) (Some event) calls) (Some entry)
+pub record SinkTicked (box : Option ℕ) (made : Option Made) (own : Option ℕ) (life : List links.Call) (received : List Call) (source event : ℕ)
+    (entry : Option Sink) (gathered : Gathered) : Type 0 where
+  pub entry_is : EntryIs box made own life (ticked_if (is_of source own) (Some event) received) (Some entry)
   pub empty : gathered.units.items ≡ []
 
 -- what became of a close of one sink
-pub record SinkCloses (box own : Option ℕ) (calls : List Call) (n source event : ℕ) (entry : Option Sink) (gathered : Gathered)
-    (text told : List ℕ) (before after : List Account) (result : Result (Unit {0}) Stop) : Type 0 where
-  pub hands : Hands (closing_by source event n calls own box) text told before after result
-  pub is_ticked : OnOk result (SinkTicked box own calls source event entry gathered)
+pub record SinkCloses (box : Option ℕ) (made : Option Made) (own : Option ℕ) (life : List links.Call) (received : List Call) (n source event : ℕ)
+    (entry : Option Sink) (gathered : Gathered) (text told : List ℕ) (before after : List Account) (result : Result (Unit {0}) Stop) : Type 0 where
+  pub hands : Hands (closing_by source event n received own box) text told before after result
+  pub is_ticked : OnOk result (SinkTicked box made own life received source event entry gathered)
 
 -- the sinks below a number are ticked, and the others not yet
 pub record Between (past : Past) (source event number : ℕ) (sinks : List (Option Sink)) (gathered : Gathered)

@@ -1,20 +1,24 @@
 -- What the sinks of a scenario keep, and the past that it stands for.
 use Rattle.std.specs.Prelude.{ℕ, ◌≡◌, ◌<◌, List, [], Option, None, Some, slice_get}
 use Rattle.group_sink.specs.Calls.{Call}
-use Rattle.group_sink.specs.State.Sinks.{StandsFor}
+use Rattle.link_histories.specs.Calls as links
 use Rattle.scenario_history.specs.Boxes.{most_sinks}
 use Rattle.scenario_sinks.specs.declared.sink.Sink.{Sink}
 use Rattle.scenario_sinks.specs.declared.sinks.Sinks.{Sinks}
 use Rattle.scenario_sinks.specs.Pasts.{Past}
+use Rattle.sink_histories.specs.Lives.{Made}
+use Rattle.sink_steps.specs.State.Living.{Lives}
 
--- the entry of a number with this box, or none where no sink lives; the sink is of this source and took these calls
-abbrev pub EntryIs : Option ℕ → Option ℕ → List Call → Option (Option Sink) → Type 0
-EntryIs None source calls entry = entry ≡ Some None
-EntryIs (Some box) source calls entry =
-    (sink : Sink) × (entry ≡ Some (Some sink)) × (sink.outlet ≡ box) × (sink.source ≡ source) × StandsFor calls sink.delegator
+-- the entry of a number with this box, or none where no sink lives; the sink was made so, is of this source, has this life, and
+-- its receivers took these calls
+abbrev pub EntryIs : Option ℕ → Option Made → Option ℕ → List links.Call → List Call → Option (Option Sink) → Type 0
+EntryIs None made source life received entry = (entry ≡ Some None) × (made ≡ None)
+EntryIs (Some box) made source life received entry =
+    (sink : Sink) × (entry ≡ Some (Some sink)) × (sink.outlet ≡ box)
+    × (how : Made) × (made ≡ Some how) × Lives how source life received sink.living
 
 abbrev pub EntryAt : Past → ℕ → Option (Option Sink) → Type 0
-EntryAt past n entry = EntryIs (past.boxes n) (past.sources n) (past.calls n) entry
+EntryAt past n entry = EntryIs (past.boxes n) (past.mades n) (past.sources n) (past.lives n) (past.received n) entry
 
 abbrev pub EntriesAre : Past → List (Option Sink) → Type 0
 EntriesAre past sinks = (n : ℕ) → n < most_sinks → EntryAt past n (slice_get sinks n)

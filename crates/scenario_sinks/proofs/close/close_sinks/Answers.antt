@@ -8,7 +8,7 @@ sinks-preserved g c past are empty =
     let eight = c.sinks.auto.sinks ∙ c.requires.eight in
     between_next_at past c.args.source c.args.event c.sinks.number c.from.result c.sinks.sinks c.close_sink.new.entry c.sinks.gathered c.close_sink.new.gathered
     c.args.text.now c.sinks.text c.close_sink.new.text _ _ _ c.from.ensures eight c.sinks-test.true b
-    (c.in-Ok.ensures (past.boxes c.sinks.number) (past.sources c.sinks.number) (past.calls c.sinks.number)
+    (c.in-Ok.ensures (past.boxes c.sinks.number) (past.mades c.sinks.number) (past.sources c.sinks.number) (past.lives c.sinks.number) (past.received c.sinks.number)
     (entry_here past c.args.source c.args.event c.sinks.number c.from.result c.sinks.sinks c.index-sinks-from.result c.sinks.gathered c.args.text.now c.sinks.text _ _ c.from.ensures
     eight c.sinks-test.true b)
     b.empty)
@@ -19,7 +19,7 @@ returns-in-Err g c past are empty =
     let eight = c.sinks.auto.sinks ∙ c.requires.eight in
     between_ends past c.args.source c.args.event c.sinks.number (7 - c.sinks.number) c.sinks.sinks _ c.close_sink.new.entry c.sinks.gathered c.close_sink.new.gathered
     c.args.text.now c.sinks.text c.close_sink.new.text _ _ _ c.in-Err.stop (omega arith) b
-    (c.in-Err.ensures (past.boxes c.sinks.number) (past.sources c.sinks.number) (past.calls c.sinks.number)
+    (c.in-Err.ensures (past.boxes c.sinks.number) (past.mades c.sinks.number) (past.sources c.sinks.number) (past.lives c.sinks.number) (past.received c.sinks.number)
     (entry_here past c.args.source c.args.event c.sinks.number c.from.result c.sinks.sinks c.index-sinks-from.result c.sinks.gathered c.args.text.now c.sinks.text _ _ c.from.ensures
     eight c.sinks-test.true b)
     b.empty)

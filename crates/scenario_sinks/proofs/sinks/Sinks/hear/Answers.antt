@@ -9,4 +9,4 @@ returns c past stands =
     let entry = entry_read past c.args.sink c.from.result c.args.self.now.entries.items c.index_mut.result.now c.from.ensures eight (omega arith) c.index_mut.ensures.value stands.entries in
     heard c.args.sink c.from.result c.args.source c.args.event c.args.bis c.args.subevent c.args.octets.now past c.args.self.now _ c.hear_entry.new.entry c.hear_entry.result
     stands c.from.ensures (omega arith) eight
-    (c.hear_entry.ensures (past.boxes c.args.sink) (past.sources c.args.sink) (past.calls c.args.sink) entry) refl refl refl
+    (c.hear_entry.ensures (past.boxes c.args.sink) (past.mades c.args.sink) (past.sources c.args.sink) (past.lives c.args.sink) (past.received c.args.sink) entry) refl refl refl

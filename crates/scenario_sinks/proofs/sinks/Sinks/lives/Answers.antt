@@ -4,6 +4,6 @@ use Rattle.scenario_sinks.proofs.sinks.Sinks.lives.Goals as goal
 
 pub returns : goal.returns
 returns c past stands =
-    c.is_some.ensures ∙ lives_in (past.boxes c.args.sink) (past.sources c.args.sink) (past.calls c.args.sink) c.index.result.now
+    c.is_some.ensures ∙ lives_in (past.boxes c.args.sink) (past.mades c.args.sink) (past.sources c.args.sink) (past.lives c.args.sink) (past.received c.args.sink) c.index.result.now
     (entry_read past c.args.sink c.from.result c.args.self.now.entries.items c.index.result.now c.from.ensures (sym c.args.self.now.entries.ok.0 ∙ c.args.self.now.eight) (omega arith)
     c.index.ensures stands.entries)

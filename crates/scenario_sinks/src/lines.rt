@@ -1,0 +1,57 @@
+//! The lines of a sink's control and of its links.
+ghost use Rattle.std.specs.Prelude.{◌≡◌, ◌≤◌, ◌^◌};
+ghost use Rattle.scenario_sinks.specs.Pasts.{Past};
+ghost use Rattle.scenario_sinks.specs.SinkLines.{SinkLineMakes};
+ghost use Rattle.scenario_sinks.specs.State.Standing.{SinksStand};
+ghost use Rattle.scenario_text.specs.Ranges.{IsInRange};
+ghost use Rattle.scenario_text.specs.declared.step.Step.TheVariants.{Announce};
+ghost use Rattle.sink_histories.specs.Lives.{Source};
+ghost use Rattle.sink_steps.specs.Origins.{IsFrom};
+ghost use Rattle.sink_steps.specs.SinkLines.{IsSinkLine};
+
+use crate::entry::{announce_entry, run_entry};
+use crate::sinks::Sinks;
+use announcement_train::Train;
+use bcast_base::Octets;
+use scenario_text::Step;
+use sink_steps::Origin;
+use transcript_text::Stop;
+
+impl Sinks {
+    /// Runs a line that names the sink of this number, and puts what it prints at the end of the text. It is refused with
+    /// NoSuchSink where no sink of this number lives, else by the first reason that holds of the sink: NoSuchLink, LinkTwice,
+    /// NothingWaiting, RecordsTooLong. A train may put the sink on a group of the source that the line means (Basic Audio
+    /// Profile 1.0, section 6.5.4).
+    pub fn line(
+        &mut self,
+        sink: u8,
+        step: Step,
+        origin: Origin,
+        text: &mut Octets,
+    ) -> Result<(), Stop>
+        requires sink { sink ≤ 7 }
+        requires range { IsInRange step }
+        ensures { (past : Past) (source : Source) → IsFrom origin source → IsSinkLine step → SinksStand past self.old
+            → SinkLineMakes past sink source step self.new text.old text.new result }
+    {
+        Err(Stop::Memory)
+    }
+
+    /// `announce`: puts the train of a source at the end of the text, hands it to the sink of this number, and puts the answer
+    /// behind it (Basic Audio Profile 1.0, sections 3.7.2 and 6.5.4). It is refused with NoSuchSink where no sink of this number
+    /// lives.
+    pub fn announce(
+        &mut self,
+        sink: u8,
+        origin: Origin,
+        train: &Train,
+        text: &mut Octets,
+    ) -> Result<(), Stop>
+        requires sink { sink ≤ 7 }
+        requires time { train.now.time ≤ 2 ^ 61 }
+        ensures { (past : Past) (source : Source) → IsFrom origin source → source.announced ≡ train.now → SinksStand past self.old
+            → SinkLineMakes past sink source (Announce sink) self.new text.old text.new result }
+    {
+        Err(Stop::Memory)
+    }
+}
