@@ -1,8 +1,11 @@
 //! What comes to the sink of one number.
-ghost use Rattle.std.specs.Prelude.{◌≡◌, ◌≤◌, ◌^◌, ◌∷◌, ℕ, List, Option, Some};
-ghost use Rattle.group_sink.specs.Calls.{Call, hear};
+ghost use Rattle.std.specs.Prelude.{◌≡◌, ◌≤◌, ◌^◌, ◌∷◌, ℕ, List, Option, Some, OnOk};
+ghost use Rattle.delegator_machine.specs.Groups.{tuning_of};
+ghost use Rattle.delegator_states.specs.States.{put_on};
+ghost use Rattle.group_sink.specs.Calls.{Call, hear, tune};
 ghost use Rattle.group_sink.specs.Hearings.{hearing_of};
 ghost use Rattle.link_histories.specs.Calls as links;
+ghost use Rattle.link_histories.specs.Calls.{stepped};
 ghost use Rattle.scenario_sinks.specs.Joinings.{joining_in};
 ghost use Rattle.scenario_sinks.specs.State.Entries.{EntryHears, EntryRuns, EntryTunes};
 ghost use Rattle.scenario_sinks.specs.State.Standing.{EntryIs};
@@ -17,7 +20,7 @@ use crate::beyond::is_beyond;
 use crate::joining::Joining;
 use crate::sink::{Sink, is_of};
 use announcement_train::Train;
-use bcast_base::{Bis, Octets};
+use bcast_base::{Bis, Memory, Octets};
 use isoal_base::Hearing;
 use scenario_text::Step;
 use sink_steps::Origin;
@@ -39,17 +42,27 @@ pub(crate) fn tune_entry(
     if is_beyond(joining.group.info.num_bis, joining.which) {
         return Err(Stop::Refused(Refusal::NoSuchBis));
     }
-    match sink.living.tune(
+    match put_on_group(sink, source, joining) {
+        Ok(()) => {}
+        Err(_) => return Err(Stop::Memory),
+    }
+    Ok(())
+}
+
+/// Puts a sink on the group of a source.
+fn put_on_group(sink: &mut Sink, source: u8, joining: &Joining) -> Result<(), Memory>
+    ensures lives { (made : Made) (own : Option ℕ) (life : List links.Call) (received : List Call) → Lives made own life received sink.old.living
+        → OnOk result (Lives made (Some source) (stepped (put_on source (joining_in joining.now)) ∷ life) (tune (tuning_of (joining_in joining.now)) ∷ received) sink.new.living) }
+    ensures outlet { sink.new.outlet ≡ sink.old.outlet }
+{
+    sink.living.tune(
         source,
         &joining.group,
         joining.which,
         joining.event,
         joining.anchor,
         joining.delay,
-    ) {
-        Ok(()) => Ok(()),
-        Err(_) => Err(Stop::Memory),
-    }
+    )
 }
 
 /// Runs a line that names the sink of an entry.
