@@ -145,7 +145,7 @@ pub entry_tuned : (box : Option ℕ) (made : Option Made) (own : Option ℕ) (li
 entry_tuned box made own life received source joining sink new beyond is outlet lives b within = (
   rw (is.box_is, sym b ∙ within) refl,
   entry_of box made (Some source) (stepped (put_on source joining) ∷ life) (tune (tuning_of joining) ∷ received) new
-  (record { box_is = is.box_is ∙ ap Some (sym outlet); how = is.how; made_is = is.made_is; lives = lives }),
+      (record { box_is = is.box_is ∙ ap Some (sym outlet); how = is.how; made_is = is.made_is; lives = lives }),
 )
 
 pub entry_heard : (box : Option ℕ) (made : Option Made) (own : Option ℕ) (life : List links.Call) (received : List Call) (source event bis subevent : ℕ) (octets : List ℕ)
@@ -158,5 +158,5 @@ entry_heard box made own life received source event bis subevent octets sink new
       rw is.box_is refl,
       answer ∙ rw mine refl,
       rw mine (entry_of box made own life (hear event bis subevent octets ∷ received) new
-      (record { box_is = is.box_is ∙ ap Some (sym outlet); how = is.how; made_is = is.made_is; lives = lives })),
+          (record { box_is = is.box_is ∙ ap Some (sym outlet); how = is.how; made_is = is.made_is; lives = lives })),
     )

@@ -6,3 +6,4 @@ pub mod Closings
 pub mod SumLaws
 pub mod Beyonds
 pub mod OneSink
+pub mod SinkLines

@@ -34,7 +34,7 @@ impl Sinks {
         ensures { (past : Past) (source : Source) → IsFrom origin source → IsSinkLine step → SinksStand past self.old
             → SinkLineMakes past sink source step self.new text.old text.new result }
     {
-        Err(Stop::Memory)
+        run_entry(&mut self.entries[usize::from(sink)], step, origin, text)
     }
 
     /// `announce`: puts the train of a source at the end of the text, hands it to the sink of this number, and puts the answer
@@ -52,6 +52,12 @@ impl Sinks {
         ensures { (past : Past) (source : Source) → IsFrom origin source → source.announced ≡ train.now → SinksStand past self.old
             → SinkLineMakes past sink source (Announce sink) self.new text.old text.new result }
     {
-        Err(Stop::Memory)
+        announce_entry(
+            &mut self.entries[usize::from(sink)],
+            sink,
+            origin,
+            train,
+            text,
+        )
     }
 }

@@ -1,19 +1,19 @@
 -- What upper crates may cite: a step that says nothing of the sources leaves them.
-use Rattle.std.proofs.Common.{◌≡◌, ℕ, Bool, true, false, List, ◌∷◌, if◌then◌else◌, refl, sym, ◌∙◌, ap, subst, slice_get, Option, None, Some}
+use Rattle.std.proofs.Common.{◌≡◌, ℕ, Bool, true, false, List, ◌∷◌, if◌then◌else◌, refl, sym, ◌∙◌, ap, subst, slice_get, unwrap_or, Option, None, Some}
 use Rattle.source_machine.specs.Calls.{Call}
-use Rattle.multi_source.specs.State.Broadcasts.{StandsFor}
+use Rattle.source_machine.specs.declared.setup.Identity.{Identity}
+use Rattle.multi_source.specs.State.Broadcasts.{Broadcasting, StandsFor}
 use Rattle.scenario_text.specs.declared.step.Step.{Step}
 use Rattle.scenario_text.specs.declared.step.Step.TheVariants.{Scenario, Sink, Tuned, Hear, Air, Inject, Sniff, Drop, End}
 use Rattle.scenario_history.specs.Steps.{chosen_given, is_of_source, is_unbegun, is_unbegun_at, stage_of, steps_of_source, unbegun}
 use Rattle.base_grammar.specs.Layout.{endpoint}
 use Rattle.scenario_bases.specs.Lines.{subgroups_in}
 use Rattle.scenario_history.specs.Bases.{base_lines, base_of}
-use Rattle.scenario_history.specs.Source.{cipher_of, group_of, ident_of, phase_of, setup_of, source_calls}
+use Rattle.scenario_history.specs.Source.{cipher_of, group_of, ident_of, no_identity, phase_of, setup_of, source_calls}
 use Rattle.std.proofs.lemmas.Bool.{false≢true}
 use Rattle.scenario_history.proofs.Citable.{stage_same}
 use Rattle.scenario_sources.specs.declared.phase.Phase.{Phase}
 use Rattle.scenario_sources.specs.declared.phase.Phase.TheVariants as phases
-use Rattle.scenario_sources.specs.declared.phase.Started.{Started}
 use Rattle.scenario_sources.specs.declared.sources.Sources.{Sources}
 use Rattle.scenario_sources.specs.State.Phases.{PhaseAt, PhaseIs, StartedIs}
 use Rattle.scenario_sources.specs.State.Standing.{SourcesStand}
@@ -34,14 +34,14 @@ pub record SaysNothing (made : Step) : Type 0 where
 base_stays : (made : Step) (own : List Step) → SaysNothing made → base_of (made ∷ own) ≡ base_of own
 base_stays made own nothing = rw (nothing.group own, nothing.lines own) refl
 
-started_stays : (made : Step) (own : List Step) (started : Started) → SaysNothing made → StartedIs own started → StartedIs (made ∷ own) started
+started_stays : (made : Step) (own : List Step) (started : Broadcasting) → SaysNothing made → StartedIs own started → StartedIs (made ∷ own) started
 started_stays made own started nothing is = record {
-  ident = is.ident ∙ sym (nothing.ident own);
+  identity = is.identity ∙ sym (ap (λ (o : Option Identity). unwrap_or o no_identity) (nothing.ident own));
   setup = is.setup ∙ sym (nothing.setup own is.under_way);
   under_way = nothing.under_way own is.under_way;
   base = is.base ∙ sym (base_stays made own nothing);
   cipher = is.cipher ∙ sym (nothing.cipher own);
-  calls = let P : List Call → Type 0 = λ calls. StandsFor calls started.source in subst P (sym (nothing.calls own)) is.calls;
+  calls = let P : List Call → Type 0 = λ calls. StandsFor calls started in subst P (sym (nothing.calls own)) is.calls;
 }
 
 phase_stays : (made : Step) (own : List Step) (phase : Phase) → SaysNothing made → PhaseIs own phase → PhaseIs (made ∷ own) phase

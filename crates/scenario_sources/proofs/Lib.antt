@@ -3,3 +3,4 @@ pub mod Phasing
 pub mod Drafts
 pub mod Starts
 pub mod Citable
+pub mod Trains

@@ -28,7 +28,6 @@ use Rattle.scenario_history.specs.Refusals.{air_refusal, give_refusal, no_place}
 use Rattle.source_machine.specs.declared.setup.Identity.{Identity}
 use Rattle.scenario_sources.specs.declared.phase.Described.{Described}
 use Rattle.scenario_sources.specs.declared.phase.Phase.TheVariants as phases
-use Rattle.scenario_sources.specs.declared.phase.Started.{Started}
 use Rattle.scenario_sources.specs.declared.terminated.Terminated.{Terminated}
 use Rattle.scenario_sources.specs.Described.{IsPlain, group_step}
 use Rattle.scenario_sources.specs.State.Phases.{AbsentIs, Becomes, DescribedIs, StartedIs, Terminates}
@@ -126,10 +125,10 @@ gives_not old new bis time octets fault (Refused reason) same cause g =
 gives_not old new bis time octets fault OutletFault same cause g = g
 gives_not old new bis time octets fault Memory same cause g = tt
 
-pub gives : (version : ℕ) (own : List Step) (old new : Started) (bis : ℕ) (time : Option ℕ) (octets : List ℕ) (r : Result (Unit {0}) Stop)
-    → (phase_of own ≡ sending) × StartedIs own old → is_some old.source.source.cipher ≡ false → new.identity ≡ old.identity
-    → (new.source.source.base ≡ old.source.source.base) × (new.source.source.cipher ≡ old.source.source.cipher)
-    → GivesTo old.source bis time octets new.source r → Becomes version own (UnitStep bis time octets) (phases.Sending new) r
+pub gives : (version : ℕ) (own : List Step) (old new : Broadcasting) (bis : ℕ) (time : Option ℕ) (octets : List ℕ) (r : Result (Unit {0}) Stop)
+    → (phase_of own ≡ sending) × StartedIs own old → is_some old.source.cipher ≡ false → new.source.identity ≡ old.source.identity
+    → (new.source.base ≡ old.source.base) × (new.source.cipher ≡ old.source.cipher)
+    → GivesTo old bis time octets new r → Becomes version own (UnitStep bis time octets) (phases.Sending new) r
 gives version own old new bis time octets (Ok x) is plain identity said g =
     let given = g.1 (source_calls own) is.1.calls in let uncoded : is_ciphered own ≡ false = ap is_some (sym is.1.cipher) ∙ plain in (
       rw (is.0, uncoded) (ap (λ (s : Setup). option_map give_refusal (give_fault s (source_calls own) (airs_of s (source_calls own)) bis time octets)) (sym is.1.setup)
@@ -137,7 +136,7 @@ gives version own old new bis time octets (Ok x) is plain identity said g =
       (
         is.0,
         record {
-          ident = identity ∙ is.1.ident;
+          identity = identity ∙ is.1.identity;
           setup = g.0 ∙ is.1.setup;
           under_way = is.1.under_way;
           base = said.0 ∙ is.1.base;
@@ -152,7 +151,7 @@ gives version own old new bis time octets (Err (Refused reason)) is plain identi
   (
     is.0,
     record {
-      ident = identity ∙ is.1.ident;
+      identity = identity ∙ is.1.identity;
       setup = ap (λ (s : Broadcasting). s.source.setup) g.0 ∙ is.1.setup;
       under_way = is.1.under_way;
       base = said.0 ∙ is.1.base;
@@ -165,10 +164,10 @@ gives version own old new bis time octets (Err OutletFault) is plain identity sa
 gives version own old new bis time octets (Err Memory) is plain identity said g = tt
 
 -- the group is encrypted
-pub coded : (own : List Step) (started : Started) → (phase_of own ≡ sending) × StartedIs own started → is_some started.source.source.cipher ≡ true → takes_units own ≡ false
+pub coded : (own : List Step) (started : Broadcasting) → (phase_of own ≡ sending) × StartedIs own started → is_some started.source.cipher ≡ true → takes_units own ≡ false
 coded own started is some = let stands : is_ciphered own ≡ true = ap is_some (sym is.1.cipher) ∙ some in rw (is.0, stands) refl
 
-pub uncoded : (own : List Step) (started : Started) → (phase_of own ≡ sending) × StartedIs own started → is_some started.source.source.cipher ≡ false → takes_units own ≡ true
+pub uncoded : (own : List Step) (started : Broadcasting) → (phase_of own ≡ sending) × StartedIs own started → is_some started.source.cipher ≡ false → takes_units own ≡ true
 uncoded own started is none = let plain : is_ciphered own ≡ false = ap is_some (sym is.1.cipher) ∙ none in rw (is.0, plain) refl
 
 -- ---- event
@@ -191,15 +190,15 @@ ended : (own : List Step) (reason : ℕ) (source : Broadcasting) (octets : List 
 ended own reason source octets is setup stands =
     is ∙ ap (λ n. pdu (control (terminate reason (n % 2 ^ 16)))) (stands.source.next ∙ ap (λ s. next_of s (source_calls own)) setup)
 
-pub ends : (version reason : ℕ) (own : List Step) (old : Started) (closed : Option ℕ) (octets : List ℕ) → (phase_of own ≡ sending) × StartedIs own old
-    → (is_over own ≡ false → closed ≡ open_event own) → octets ≡ pdu (control (terminate reason (old.source.source.next % 2 ^ 16)))
+pub ends : (version reason : ℕ) (own : List Step) (old : Broadcasting) (closed : Option ℕ) (octets : List ℕ) → (phase_of own ≡ sending) × StartedIs own old
+    → (is_over own ≡ false → closed ≡ open_event own) → octets ≡ pdu (control (terminate reason (old.source.next % 2 ^ 16)))
     → (let answer : Terminated = record { closed = closed; pdu = octets } in Terminates version own reason (phases.Stopped old) (Ok answer))
 ends version reason own old closed octets is last is_pdu = (
   rw is.0 refl,
   (
     refl,
-    record { ident = is.1.ident; setup = is.1.setup; under_way = is.1.under_way; base = is.1.base; cipher = is.1.cipher; calls = is.1.calls },
+    record { identity = is.1.identity; setup = is.1.setup; under_way = is.1.under_way; base = is.1.base; cipher = is.1.cipher; calls = is.1.calls },
   ),
   last,
-  ended own reason old.source octets is_pdu is.1.setup is.1.calls,
+  ended own reason old octets is_pdu is.1.setup is.1.calls,
 )

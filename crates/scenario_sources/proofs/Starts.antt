@@ -35,7 +35,6 @@ use Rattle.source_machine.specs.declared.setup.Identity.{Identity}
 use Rattle.scenario_sources.specs.Described.{identity_or_none}
 use Rattle.scenario_sources.specs.declared.phase.Described.{Described}
 use Rattle.scenario_sources.specs.declared.phase.Phase.{Phase as Phases}
-use Rattle.scenario_sources.specs.declared.phase.Started.{Started}
 use Rattle.scenario_sources.specs.State.Phases.{Becomes, Begins, DescribedIs, MayStart, StartedIs, line_of}
 use Rattle.scenario_sources.specs.State.Stops.{FinishStops, Finishes, StartStops}
 
@@ -241,31 +240,31 @@ setup_same : (i j : BigInfo) (o p d e first : ℕ) (f g : Bool) → i ≡ j → 
     let other : Setup = record { info = j; origin = p; delay = e; first = first; ahead = g } in one ≡ other
 setup_same i j o p d e first f g a b c h = rw (a, b, c, h) refl
 
-pub begins : (version first : ℕ) (ahead : Bool) (own : List Step) (said : Described) (plain : Option Endpoint) (base : Endpoint) (source : Broadcasting) → ahead ≡ is_ahead_in version
+pub identity_is : (own : List Step) (said : Described) (identity : Identity) → DescribedIs own said → identity ≡ identity_or_none said.identity
+    → identity ≡ identity_of own
+identity_is own said identity is e = e ∙ ap (λ (o : Option Identity). unwrap_or o no_identity) is.ident
+
+pub begins : (version first : ℕ) (ahead : Bool) (own : List Step) (said : Described) (plain : Option Endpoint) (base : Endpoint) (started : Broadcasting) → ahead ≡ is_ahead_in version
     → stage_of own ≡ running version → DescribedSo own said → MayStart version first own plain → Finishes said.base plain base
-    → (let setup : Setup = record { info = without_cipher said.info; origin = said.origin; delay = base.delay; first = first; ahead = ahead } in source.source.setup ≡ setup)
-    → source.source.base ≡ base → source.source.cipher ≡ said.info.cipher → StandsFor [] source
-    → (let new : Started = record { identity = said.identity; source = source } in StartedIs (Start first ∷ own) new)
-begins version first ahead own said plain base source a stage is may finishes setup b c stands =
+    → started.source.identity ≡ identity_or_none said.identity
+    → (let setup : Setup = record { info = without_cipher said.info; origin = said.origin; delay = base.delay; first = first; ahead = ahead } in started.source.setup ≡ setup)
+    → started.source.base ≡ base → started.source.cipher ≡ said.info.cipher → StandsFor [] started → StartedIs (Start first ∷ own) started
+begins version first ahead own said plain base started a stage is may finishes identity setup b c stands =
     let same : base ≡ base_of own = based version first own said plain base is may finishes in
     let delay : base.delay ≡ said.delay =
     ap (λ (v : Endpoint). v.delay) (same ∙ base_is own said is.1) ∙ delay_from (line_of said) (subgroups_of own) in
     record {
-      ident = is.1.ident;
+      identity = identity_is own said started.source.identity is.1 identity;
       setup = setup
           ∙ setup_same (without_cipher said.info) (without_cipher said.info) said.origin said.origin base.delay said.delay first ahead (is_ahead_in version) refl refl delay a
           ∙ rw (is.1.group, stage) refl;
       under_way = ap is_unbegun_at stage;
       base = b ∙ same;
       cipher = c ∙ is.1.cipher;
-      calls = let P : List Call → Type 0 = λ calls. StandsFor calls source in subst P (sym is.1.calls) stands;
+      calls = let P : List Call → Type 0 = λ calls. StandsFor calls started in subst P (sym is.1.calls) stands;
     }
 
 pub begin_stops : (version first : ℕ) (own : List Step) (phase : Phases) (stop : Stop) → Begins first own (Err stop) → Becomes version own (Start first) phase (Err stop)
 begin_stops version first own phase (Refused reason) b = absurd b
 begin_stops version first own phase OutletFault b = b
 begin_stops version first own phase Memory b = tt
-
-pub identity_is : (own : List Step) (said : Described) (identity : Identity) → DescribedIs own said → identity ≡ identity_or_none said.identity
-    → identity ≡ identity_of own
-identity_is own said identity is e = e ∙ ap (λ (o : Option Identity). unwrap_or o no_identity) is.ident

@@ -1,15 +1,20 @@
 -- What became of the sources of a scenario at a step, and what they answer.
-use Rattle.std.specs.Prelude.{ℕ, ◌≡◌, ◌<◌, ◌∷◌, true, false, List, Option, None, Some, Result, Ok, Err}
+use Rattle.std.specs.Prelude.{ℕ, ◌≡◌, ◌<◌, ◌∷◌, not, true, false, List, Option, None, Some, Result, Ok, Err}
+use Rattle.std.specs.Option.{option_or}
+use Rattle.announcement_train.specs.declared.train.Train.{Train}
 use Rattle.big_info.specs.declared.group.Group.{Group}
 use Rattle.source_machine.specs.Airs.{airs_of}
+use Rattle.source_machine.specs.Faults.{announce_fault}
+use Rattle.transcript_text.specs.declared.refusal.Refusal.TheVariants.{Order}
 use Rattle.transcript_text.specs.declared.stop.Stop.{Stop}
 use Rattle.transcript_text.specs.declared.stop.Stop.TheVariants.{Refused, OutletFault, Memory}
 use Rattle.scenario_text.specs.declared.step.Step.{Step}
 use Rattle.scenario_text.specs.declared.step.Step.TheVariants.{Event, Terminate}
 use Rattle.scenario_history.specs.Steps.{chosen_steps, is_over}
-use Rattle.scenario_history.specs.Source.{end_pdu, event_back, is_heard, open_event, performed, setup_of, stale_in, takes_units}
+use Rattle.scenario_history.specs.Source.{end_pdu, event_back, is_heard, is_sending, open_event, performed, setup_of, source_calls, stale_in, takes_units}
 use Rattle.scenario_history.specs.Sinks.{tuning_of}
-use Rattle.scenario_history.specs.Refusals.{no_place}
+use Rattle.scenario_history.specs.Refusals.{no_place, refuse_if, train_ends}
+use Rattle.scenario_history.specs.Worlds.{announced_of}
 use Rattle.scenario_sources.specs.declared.performed.Performed.{Performed}
 use Rattle.scenario_sources.specs.declared.standpoint.Standpoint.{Standpoint}
 use Rattle.scenario_sources.specs.declared.terminated.Terminated.{Terminated}
@@ -52,6 +57,15 @@ Terminates version steps reason new (Ok ended) =
 Terminates version steps reason new (Err (Refused cause)) = (fault_of version steps (Terminate reason) ≡ Some cause) × SourcesStand steps new
 Terminates version steps reason new (Err OutletFault) = ⊥
 Terminates version steps reason new (Err Memory) = Unit {0}
+
+-- the train of a source for its next event, or why there is none; these are its steps
+abbrev pub AnnouncesAs : List Step → Result Train Stop → Type 0
+AnnouncesAs own (Ok train) =
+    (is_sending own ≡ true) × (announce_fault (setup_of own) (source_calls own) ≡ None) × (train ≡ announced_of own)
+AnnouncesAs own (Err (Refused reason)) =
+    option_or (refuse_if (not (is_sending own)) Order) (train_ends (announce_fault (setup_of own) (source_calls own))) ≡ Some reason
+AnnouncesAs own (Err OutletFault) = ⊥
+AnnouncesAs own (Err Memory) = Unit {0}
 
 -- where a source stands before its next event, where it takes units; these are its steps
 abbrev pub StandsAt : List Step → Option Standpoint → Type 0

@@ -2,6 +2,7 @@
 //! its air. Lines mean the source that was chosen last.
 #![tactic(auto)]
 
+mod announcing;
 mod basing;
 mod describing;
 mod identity;

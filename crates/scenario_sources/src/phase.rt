@@ -24,13 +24,6 @@ pub(crate) struct Described {
     pub(crate) ghost delay_is: { delay < 2 ^ 24 },
 }
 
-/// A source that was started.
-#[derive(Drop)]
-pub(crate) struct Started {
-    pub(crate) identity: Option<Identity>,
-    pub(crate) source: Broadcast,
-}
-
 /// Where a source stands.
 #[derive(Drop)]
 pub(crate) enum Phase {
@@ -39,7 +32,7 @@ pub(crate) enum Phase {
     /// It has a group.
     Described(Described),
     /// It is between its start and its end by `stop` or `terminate`.
-    Sending(Started),
+    Sending(Broadcast),
     /// It was stopped. What it sent is still heard.
-    Stopped(Started),
+    Stopped(Broadcast),
 }

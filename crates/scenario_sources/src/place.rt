@@ -8,9 +8,10 @@ ghost use Rattle.scenario_history.specs.Source.{event_back, is_heard, is_started
 ghost use Rattle.scenario_sources.specs.Answers.{GroupIs, LastIs, NoPlace};
 ghost use Rattle.scenario_sources.specs.State.Phases.{PhaseIs, StartedIs};
 
-use crate::phase::{Phase, Started};
+use crate::phase::Phase;
 use bcast_base::Bis;
 use big_info::Group;
+use multi_source::Broadcast;
 use radio_schedule::AirFault;
 use transcript_text::{Refusal, Stop};
 
@@ -34,17 +35,14 @@ fn place_refusal(fault: AirFault) -> Refusal
 }
 
 /// The PDU at a place on the air of a source that was started.
-fn heard_from(started: &Started, place: Place) -> Result<&[u8], Stop>
+fn heard_from(started: &Broadcast, place: Place) -> Result<&[u8], Stop>
     requires { place.back ≤ 31 }
     ensures ok { IfOk result (λ pdu. (own : List Step) → StartedIs own started.now
         → (no_place own place.back place.bis place.subevent ≡ None)
         × (pdu.now ≡ pdu_in airs_of own (event_back own place.back) place.bis place.subevent)) }
     ensures err { IfErr result (λ stop. (own : List Step) → StartedIs own started.now → NoPlace own place.back place.bis place.subevent stop) }
 {
-    match started
-        .source
-        .heard_at(place.back, place.bis, place.subevent)
-    {
+    match started.heard_at(place.back, place.bis, place.subevent) {
         Ok(pdu) => Ok(pdu),
         Err(fault) => Err(Stop::Refused(place_refusal(fault))),
     }
@@ -66,12 +64,11 @@ pub(crate) fn heard_in(phase: &Phase, place: Place) -> Result<&[u8], Stop>
 }
 
 /// The event `back` events before the last one of a source that was started.
-fn event_before(started: &Started, back: u8) -> u64
+fn event_before(started: &Broadcast, back: u8) -> u64
     ensures event { (own : List Step) → StartedIs own started.now → result ≡ event_back own back }
     ensures within { result ≤ 2 ^ 39 }
 {
     started
-        .source
         .next_event()
         .saturating_sub(1)
         .saturating_sub(u64::from(back))
@@ -90,11 +87,11 @@ pub(crate) fn event_in(phase: &Phase, back: u8) -> u64
 }
 
 /// The last event of a source that was started.
-fn last_from(started: &Started) -> Option<u64>
+fn last_from(started: &Broadcast) -> Option<u64>
     ensures last { (own : List Step) → StartedIs own started.now → LastIs own result }
     ensures within { ForSome result (λ event. event < 2 ^ 39) }
 {
-    started.source.last_event()
+    started.last_event()
 }
 
 /// The last event of a source, where it performed one.
@@ -110,13 +107,13 @@ pub(crate) fn last_in(phase: &Phase) -> Option<u64>
 }
 
 /// The group of a source that was started, unless it is encrypted.
-fn group_from(started: &Started) -> Option<Group>
+fn group_from(started: &Broadcast) -> Option<Group>
     ensures { (own : List Step) → StartedIs own started.now → is_started own ≡ true → GroupIs own result }
 {
-    if started.source.is_ciphered() {
+    if started.is_ciphered() {
         return None;
     }
-    Some(*started.source.group())
+    Some(*started.group())
 }
 
 /// The group of a source that may be heard.

@@ -10,10 +10,11 @@ ghost use Rattle.scenario_sources.specs.Answers.{StandsAt};
 ghost use Rattle.scenario_sources.specs.State.Stops.{GiveStops, GivesTo};
 
 use crate::performed::Performed;
-use crate::phase::{Phase, Started};
+use crate::phase::Phase;
 use crate::standpoint::Standpoint;
 use crate::terminated::Terminated;
 use bcast_base::Bis;
+use multi_source::Broadcast;
 use source_machine::{EventFault, GiveFault};
 use std::mem::replace;
 use transcript_text::{Refusal, Stop};
@@ -30,20 +31,20 @@ pub(crate) fn give(
     let Phase::Sending(started) = phase else {
         return Err(Stop::Refused(Refusal::Order));
     };
-    if started.source.is_ciphered() {
+    if started.is_ciphered() {
         return Err(Stop::Refused(Refusal::Order));
     }
     give_to(started, bis, time, octets)
 }
 
 /// Gives a source that was started a unit of a stream.
-fn give_to(started: &mut Started, bis: Bis, time: Option<u64>, octets: &[u8]) -> Result<(), Stop>
-    requires { started.old.source.source.cipher ≡ None }
-    ensures identity { started.new.identity ≡ started.old.identity }
-    ensures announced { (started.new.source.source.base ≡ started.old.source.source.base) × (started.new.source.source.cipher ≡ started.old.source.source.cipher) }
-    ensures source { GivesTo started.old.source bis time octets.now started.new.source result }
+fn give_to(started: &mut Broadcast, bis: Bis, time: Option<u64>, octets: &[u8]) -> Result<(), Stop>
+    requires { started.old.source.cipher ≡ None }
+    ensures identity { started.new.source.identity ≡ started.old.source.identity }
+    ensures announced { (started.new.source.base ≡ started.old.source.base) × (started.new.source.cipher ≡ started.old.source.cipher) }
+    ensures source { GivesTo started.old bis time octets.now started.new result }
 {
-    match started.source.give(bis, time, octets) {
+    match started.give(bis, time, octets) {
         Ok(()) => Ok(()),
         Err(fault) => Err(give_stop(fault)),
     }
@@ -70,11 +71,11 @@ pub(crate) fn perform(phase: &mut Phase) -> Result<Performed, Stop>
     let Phase::Sending(started) = phase else {
         return Err(Stop::Refused(Refusal::Order));
     };
-    if started.source.is_ciphered() {
+    if started.is_ciphered() {
         return Err(Stop::Refused(Refusal::Order));
     }
-    let closed = started.source.last_event();
-    match started.source.event() {
+    let closed = started.last_event();
+    match started.event() {
         Ok(stale) => return Ok(Performed { closed, stale }),
         Err(EventFault::CounterEnds) => return Err(Stop::Refused(Refusal::CounterEnds)),
         Err(EventFault::Memory) => return Err(Stop::Memory),
@@ -88,7 +89,7 @@ pub(crate) fn stop(phase: &mut Phase) -> Result<Option<u64>, Stop>
 {
     match replace(phase, Phase::Absent) {
         Phase::Sending(started) => {
-            let closed = started.source.last_event();
+            let closed = started.last_event();
             *phase = Phase::Stopped(started);
             Ok(closed)
         }
@@ -106,8 +107,8 @@ pub(crate) fn terminate(phase: &mut Phase, reason: u8) -> Result<Terminated, Sto
 {
     match replace(phase, Phase::Absent) {
         Phase::Sending(started) => {
-            let closed = started.source.last_event();
-            let pdu = started.source.terminate_pdu(reason);
+            let closed = started.last_event();
+            let pdu = started.terminate_pdu(reason);
             *phase = Phase::Stopped(started);
             Ok(Terminated { closed, pdu })
         }
@@ -131,7 +132,7 @@ pub(crate) fn open(phase: &Phase) -> Option<u64>
     ensures within { ForSome result (λ event. event < 2 ^ 39) }
 {
     match phase {
-        Phase::Sending(started) => started.source.last_event(),
+        Phase::Sending(started) => started.last_event(),
         _ => None,
     }
 }
@@ -143,13 +144,13 @@ pub(crate) fn standpoint_in(phase: &Phase) -> Option<Standpoint>
     let Phase::Sending(started) = phase else {
         return None;
     };
-    if started.source.is_ciphered() {
+    if started.is_ciphered() {
         return None;
     }
     Some(Standpoint {
-        group: *started.source.group(),
-        event: started.source.next_event(),
-        anchor: started.source.next_anchor(),
-        delay: started.source.delay(),
+        group: *started.group(),
+        event: started.next_event(),
+        anchor: started.next_anchor(),
+        delay: started.delay(),
     })
 }

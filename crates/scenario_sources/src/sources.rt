@@ -2,8 +2,10 @@ ghost use Rattle.std.specs.Prelude.{◌≡◌, ◌≤◌, ◌<◌, ◌^◌, ◌�
 ghost use Rattle.std.specs.Option.{ForSome};
 ghost use Rattle.big_info.specs.Widths.{FitsWidths};
 
+use crate::announcing::announce;
 use crate::basing::{add_stream, give_metadata, open_subgroup};
 use crate::describing::{describe, encrypt, identify};
+use crate::identity::identity_in;
 use crate::performed::Performed;
 use crate::phase::Phase;
 use crate::place::{Place, event_in, group_in, heard_in, last_in};
@@ -11,6 +13,7 @@ use crate::sending::{give, is_sending_in, open, perform, standpoint_in, stop, te
 use crate::standpoint::Standpoint;
 use crate::starting::{begin, check_start, is_twice};
 use crate::terminated::Terminated;
+use announcement_train::Train;
 use bcast_base::{Bis, Memory};
 use big_info::{BigInfo, Cipher, Group, Limits};
 use source_machine::Identity;
@@ -34,9 +37,9 @@ impl Sources {
     ghost use Rattle.scenario_text.specs.declared.step.Step.TheVariants.{Ident as IdentStep, Subgroup as SubgroupStep, Meta as MetaStep, Bis as BisStep, Cipher as CipherStep};
     ghost use Rattle.scenario_text.specs.declared.step.Step.TheVariants.{Start as StartStep, Unit as UnitStep, Stop as StopStep, Source as SourceStep};
     ghost use Rattle.scenario_history.specs.Refusals.{horizon_in, no_place};
-    ghost use Rattle.scenario_history.specs.Source.{event_back, is_ahead_in, is_heard, is_sending, open_event, pdu_in};
+    ghost use Rattle.scenario_history.specs.Source.{event_back, identity_of, is_ahead_in, is_heard, is_sending, open_event, pdu_in};
     ghost use Rattle.scenario_history.specs.Steps.{chosen_of, chosen_steps, is_over, running, stage_of, steps_of_source};
-    ghost use Rattle.scenario_sources.specs.Answers.{Answers, Closes, GroupIs, LastIs, NoPlace, Performs, StandsAt, Terminates};
+    ghost use Rattle.scenario_sources.specs.Answers.{AnnouncesAs, Answers, Closes, GroupIs, LastIs, NoPlace, Performs, StandsAt, Terminates};
     ghost use Rattle.scenario_sources.specs.Described.{IsPlain, group_step};
     ghost use Rattle.scenario_sources.specs.State.Standing.{SourcesStand};
 
@@ -205,6 +208,23 @@ impl Sources {
         ensures { (steps : List Step) → SourcesStand steps self.now → result ≡ is_sending (chosen_steps steps) }
     {
         is_sending_in(&self.phases[usize::from(self.chosen)])
+    }
+
+    /// `announce`: the train of the chosen source for its next event (Basic Audio Profile 1.0, section 3.7.2). The first
+    /// refusal that holds is answered: Order outside its start and its end, CounterEnds where the payload count of the event
+    /// is 2^39 or more. A source of an encrypted group announces too.
+    pub fn announce(&self) -> Result<Train, Stop>
+        ensures announces { (steps : List Step) → SourcesStand steps self.now → AnnouncesAs (chosen_steps steps) result }
+        ensures within { IfOk result (λ train. train.time ≤ 2 ^ 61) }
+    {
+        announce(&self.phases[usize::from(self.chosen)])
+    }
+
+    /// Who the chosen source is. Without `ident` it is of type 0, and its address, its SID and its Broadcast_ID are 0.
+    pub fn identity(&self) -> Identity
+        ensures { (steps : List Step) → SourcesStand steps self.now → result ≡ identity_of (chosen_steps steps) }
+    {
+        identity_in(&self.phases[usize::from(self.chosen)])
     }
 
     /// The open event of a source, before `end`.

@@ -16,7 +16,7 @@ ghost use Rattle.scenario_sources.specs.declared.phase.Phase.TheVariants.{Descri
 
 use crate::basing::{draft_stop, has_subgroup, is_last_bare};
 use crate::identity::identity_or;
-use crate::phase::{Described, Phase, Started};
+use crate::phase::{Described, Phase};
 use base_grammar::{Base, BaseDraft, DraftFault};
 use big_info::{BigInfo, GroupFault, Limits, check_group_within};
 use multi_source::Broadcast;
@@ -102,8 +102,8 @@ pub(crate) fn is_twice(own: Identity, phase: &Phase) -> bool
         → result ≡ (is_started steps && are_twins own (identity_of steps)) }
 {
     match phase {
-        Phase::Sending(started) => own.is_twin(identity_or(started.identity)),
-        Phase::Stopped(started) => own.is_twin(identity_or(started.identity)),
+        Phase::Sending(started) => own.is_twin(started.identity()),
+        Phase::Stopped(started) => own.is_twin(started.identity()),
         _ => false,
     }
 }
@@ -143,7 +143,7 @@ fn begin_with(
     plain: Option<Base>,
     limits: Limits,
     first: u64,
-) -> Result<Started, Stop>
+) -> Result<Broadcast, Stop>
     requires limits { limits.horizon ≤ 31 }
     requires first { first < 2 ^ 39 }
     ensures { (version : ℕ) (own : List Step) → limits.horizon ≡ horizon_in version → limits.ahead ≡ is_ahead_in version → stage_of own ≡ running version
@@ -171,7 +171,7 @@ fn begin_with(
         Err(kept) => return Err(start_stop(kept.fault)),
     };
     match Broadcast::start(alloc, configured, first) {
-        Ok(source) => Ok(Started { identity, source }),
+        Ok(started) => Ok(started),
         Err(_) => Err(Stop::Memory),
     }
 }

@@ -1,0 +1,3 @@
+mod Air
+mod Fresh
+mod Grown

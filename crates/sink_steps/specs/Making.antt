@@ -1,8 +1,17 @@
 -- What became of a line that names a sink. The refusals are the scenario language's own.
-use Rattle.std.specs.Prelude.{ℕ, ◌≡◌, List, ◌++◌, Option, None, Some, Result, Ok, Err}
+use Rattle.std.specs.Prelude.{ℕ, ◌≡◌, Bool, true, false, List, ◌++◌, ◌∷◌, [], Option, None, Some, Result, Ok, Err, codes, decimal, is_none}
 use Rattle.std.specs.List.{concat}
-use Rattle.sink_histories.specs.Output.{Lines}
+use Rattle.delegator_machine.specs.Groups.{with_step}
+use Rattle.group_sink.specs.Calls as sinks
+use Rattle.link_histories.specs.Calls.{Call}
+use Rattle.scenario_text.specs.declared.step.Step.{Step}
+use Rattle.sink_histories.specs.Lives.{Made, Source, lived_by}
+use Rattle.sink_histories.specs.Moves.{received_by, source_by}
+use Rattle.sink_histories.specs.Output.{Lines, printed_of, sight_in, stated, viewed}
+use Rattle.sink_histories.specs.Refusals.{refused_by}
+use Rattle.sink_lines.specs.Lines.{value_line}
 use Rattle.sink_steps.specs.declared.sink.LivingSink.{LivingSink}
+use Rattle.sink_steps.specs.State.Living.{Lives}
 use Rattle.transcript_text.specs.declared.refusal.Refusal.{Refusal}
 use Rattle.transcript_text.specs.declared.stop.Stop.{Stop}
 use Rattle.transcript_text.specs.declared.stop.Stop.TheVariants.{Refused, OutletFault, Memory}
@@ -13,3 +22,52 @@ Makes refusal lines next text told new (Ok _) = (refusal ≡ None) × next new �
 Makes refusal lines next text told new (Err (Refused reason)) = (refusal ≡ Some reason) × (told ≡ text)
 Makes refusal lines next text told new (Err OutletFault) = ⊥
 Makes refusal lines next text told new (Err Memory) = Unit {0}
+
+-- the same of a line that prints nothing
+abbrev pub Quietly : Option Refusal → (LivingSink → Type 0) → LivingSink → Result (Unit {0}) Stop → Type 0
+Quietly refusal next new (Ok _) = (refusal ≡ None) × next new
+Quietly refusal next new (Err (Refused reason)) = refusal ≡ Some reason
+Quietly refusal next new (Err OutletFault) = ⊥
+Quietly refusal next new (Err Memory) = Unit {0}
+
+-- ---- a line that means this source
+
+-- the sink has the life of the line then
+abbrev pub Next : Source → Step → Made → Option ℕ → List Call → List sinks.Call → LivingSink → Type 0
+Next source step made its life received living =
+    Lives made (source_by source step (Some made) life its) (lived_by source step (Some made) life)
+    (received_by source step (Some made) life (lived_by source step (Some made) life) received) living
+
+abbrev pub Prints : Source → Step → Made → Option ℕ → List Call → List sinks.Call → List ℕ → List ℕ → LivingSink → Result (Unit {0}) Stop → Type 0
+Prints source step made its life received text told new result =
+    Makes (refused_by step made life) (printed_of source step made life) (Next source step made its life received) text told new result
+
+abbrev pub Does : Source → Step → Made → Option ℕ → List Call → List sinks.Call → LivingSink → Result (Unit {0}) Stop → Type 0
+Does source step made its life received new result = Quietly (refused_by step made life) (Next source step made its life received) new result
+
+-- ---- calls on a link
+
+-- the calls of the receivers where no train puts the sink on a group
+abbrev pub stayed : Made → (before after : List Call) → List sinks.Call → List sinks.Call
+stayed made before after received = with_step None (sight_in made before) (sight_in made after) received
+
+-- the sink went from this life to that one, and these lines stand behind the text
+abbrev pub Goes : Made → Option ℕ → (before after : List Call) → List sinks.Call → Lines → List ℕ → List ℕ → LivingSink → Type 0
+Goes made its before after received lines text told new = Lives made its after (stayed made before after received) new × (told ≡ text ++ concat lines)
+
+-- the first that waited was taken, or none waited and nothing changed
+abbrev pub Turns : {A E : Type 0} → Option A → (LivingSink → List ℕ → Type 0) → (LivingSink → List ℕ → Type 0) → LivingSink → List ℕ → Result Bool E → Type 0
+Turns first next same new told (Ok true) = (is_none first ≡ false) × next new told
+Turns first next same new told (Ok false) = (is_none first ≡ true) × same new told
+Turns first next same new told (Err memory) = Unit {0}
+
+-- the sink and the text are as before
+abbrev pub Stays : Made → Option ℕ → List Call → List sinks.Call → List ℕ → LivingSink → List ℕ → Type 0
+Stays made its life received text new told = Lives made its life received new × (told ≡ text)
+
+-- ---- a slot
+
+-- the lines of its state, and of what the assistant on link 0 knows of it
+abbrev pub slot_lines : ℕ → Made → List Call → ℕ → Lines
+slot_lines sink made life slot =
+    value_line (codes "state") (decimal sink ∷ []) (stated made life slot) ∷ value_line (codes "view") (decimal sink ∷ []) (viewed made 0 life slot) ∷ []

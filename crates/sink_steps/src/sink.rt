@@ -7,6 +7,7 @@ ghost use Rattle.isoal_unframed.specs.State.Windows.{HandsOver};
 ghost use Rattle.unit_outlets.specs.Handed.{Caused};
 ghost use Rattle.multi_assist.specs.Mtus.{IsMtu};
 ghost use Rattle.delegator_states.specs.States.{put_on};
+ghost use Rattle.delegator_states.specs.Trains.{Joining};
 ghost use Rattle.link_histories.specs.Calls.{Call, stepped};
 ghost use Rattle.linked_sink.specs.Taken.{born};
 
@@ -23,6 +24,7 @@ use unit_outlets::{TakerFault, UnitTaker};
 /// After want of memory nothing is said of it.
 #[derive(Drop)]
 pub struct LivingSink {
+    pub(crate) alloc: Global,
     pub(crate) sink: LinkedSink,
     pub(crate) source: Option<u8>,
 }
@@ -50,6 +52,7 @@ impl LivingSink {
         ensures { IfOk result (Lives (record { setup = record { streams = streams; slots = slots; horizon = horizon }; mtu = mtu }) None (born mtu) []) }
     {
         Ok(LivingSink {
+            alloc,
             sink: LinkedSink::new(alloc, streams, slots, horizon, mtu)?,
             source: None,
         })
@@ -76,7 +79,7 @@ impl LivingSink {
         requires event { event ≤ 2 ^ 39 }
         requires anchor { anchor ≤ 2 ^ 61 + 2 ^ 23 }
         requires delay { delay < 2 ^ 24 }
-        ensures { let joining = record { info = group.now.info; which = which; first = event; anchor = anchor; delay = delay } in
+        ensures { let joining : Joining = record { info = group.now.info; which = which; first = event; anchor = anchor; delay = delay } in
             (made : Made) (before : Option ℕ) (life : List Call) (received : List sinks.Call) → Lives made before life received self.old
             → OnOk result (Lives made (Some source) (stepped (put_on source joining) ∷ life) (sinks.tune (tuning_of joining) ∷ received) self.new) }
     {

@@ -15,7 +15,8 @@ returns-in-Err-configure_within c version own h a running may is =
 pub returns-in-Ok-start : goal.returns-in-Ok-start
 returns-in-Ok-start c version own h a running may is =
     let ready = c.in-Ok-configure_within.ensures.ok.0 in
-    begins version c.args.first c.args.limits.ahead own c.args.described c.args.plain c.in-Ok.base c.in-Ok-start.source a running is may c.in-Ok.ensures.ok
+    begins version c.args.first c.args.limits.ahead own c.args.described c.args.plain c.in-Ok.base c.in-Ok-start.started a running is may c.in-Ok.ensures.ok
+    (c.in-Ok-start.ensures.started.0 ∙ ap (λ (s : Configured). s.identity) ready ∙ c.identity_or.ensures)
     (c.in-Ok-start.ensures.started.1 ∙ ap (λ (s : Configured). started s c.args.first) ready)
     (c.in-Ok-start.ensures.announced.0 ∙ ap (λ (s : Configured). s.base) ready)
     (c.in-Ok-start.ensures.announced.1 ∙ ap (λ (s : Configured). s.cipher) ready) c.in-Ok-start.ensures.started.2
