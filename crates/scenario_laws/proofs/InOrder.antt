@@ -93,7 +93,8 @@ closed_orders below airs meets boxes s n bis setup whole made ready event before
     let more : events (source_calls own) ≤ events whole = subst (λ calls. events (source_calls own) ≤ events calls) (sym ready.within.calls.1) (events_more ready.within.calls.0 (source_calls own)) in
     let laid : events whole ≤ laid_events (source_stream setup.info bis whole) = laid_least setup.info bis whole in
     let last = close_batch below airs meets boxes s n bis setup whole tuning made ready.legal_is ready.within on ready.least is ready.plain
-    (clean_stay airs s n made tuning is ready.ungiven ready.clean) ready.fits (tuning.first + closes tuning (sink_calls airs n made)) (below.one_open tuning (sink_calls airs n made) bis) (omega arith) (omega (arith, over, before, same, more)) in
+    (clean_stay airs s n made tuning is ready.ungiven ready.clean) ready.fits (tuning.first + closes tuning (sink_calls airs n made))
+    (below.one_open tuning (sink_calls airs n made) bis) (omega arith) (omega (arith, over, before, same, more)) in
     subst (λ (us : List Handed). Ordered setup whole bis later (units ++ valid_in us)) (sym shown)
     (ordered_more setup whole bis (tuning.first + closes tuning (sink_calls airs n made)) later units
     (valid_in (units_of (stay_on tuning bis) (stream_calls (stay_on tuning bis) (sink_calls airs n made)) (tuning.first + closes tuning (sink_calls airs n made))))
