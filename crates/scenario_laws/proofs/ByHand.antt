@@ -1,11 +1,11 @@
 -- A stay that an announced train begins is the one that `tuned` would begin with the same streams, which are the group's.
-use Rattle.std.proofs.Common.{ℕ, suc, ◌≡◌, ◌<◌, ◌≤◌, ◌-◌, ◌/◌, ◌%◌, ◌^◌, ◌==◌, cond, ltb, Bool, true, false, List, [], ◌∷◌, refl, sym, ◌∙◌, ap, subst, arith, inl, inr}
+use Rattle.std.proofs.Common.{ℕ, ◌≡◌, ◌<◌, ◌≤◌, ◌-◌, ◌/◌, ◌%◌, ◌^◌, ◌==◌, cond, ltb, Bool, true, false, List, [], ◌∷◌, refl, sym, ◌∙◌, ap, subst, arith, inl, inr}
 use Rattle.std.specs.List.{filter, list_any, range_with_len}
 use Rattle.std.proofs.Math.Nat.{div-eq_of_lt, pow-le-pow_right}
 use Rattle.std.proofs.lemmas.Bool.{cases_Bool, eqb-true, false≢true, ltb-true}
 use Rattle.delegator_machine.specs.Groups.{tuning_of as group_of}
 use Rattle.delegator_states.specs.Trains.{Joining}
-use Rattle.group_sink.specs.Streams.{is_in, streams_of}
+use Rattle.group_sink.specs.Streams.{is_in}
 use Rattle.scenario_text.specs.declared.step.Step.{Step}
 use Rattle.scenario_text.specs.declared.step.Step.TheVariants as steps
 use Rattle.scenario_history.specs.Refusals.{has_beyond}
@@ -15,7 +15,6 @@ use Rattle.scenario_history.specs.Steps.{chosen_steps}
 use Rattle.scenario_laws.proofs.Announced.{Announcing, announced_tuning, announced_within}
 use Rattle.scenario_laws.proofs.Legals.{Legal, Permitted}
 use Rattle.scenario_laws.proofs.Moves.{Brings}
-use Rattle.scenario_laws.proofs.Sources.{true_not_false}
 
 -- ---- the streams are those of the group
 
@@ -41,7 +40,8 @@ none_beyond num_bis which small =
 
 -- ---- as by hand
 
-pub as_by_hand : Announcing → (airs : Airs) (boxes n sink : ℕ) (earlier : List Step) (joining : Joining) → Legal airs boxes earlier → Permitted airs boxes earlier (steps.Announce sink) → Brings n sink earlier joining
+pub as_by_hand : Announcing → (airs : Airs) (boxes n sink : ℕ) (earlier : List Step) (joining : Joining) → Legal airs boxes earlier
+    → Permitted airs boxes earlier (steps.Announce sink) → Brings n sink earlier joining
     → (group_of joining ≡ tuning_of (chosen_steps earlier) joining.which) × (has_beyond (setup_of (chosen_steps earlier)).info.num_bis joining.which ≡ false)
 as_by_hand laws airs boxes n sink earlier joining legal permits brings =
     let permits_it : Permitted airs boxes earlier (steps.Announce n) = subst (λ m. Permitted airs boxes earlier (steps.Announce m)) (eqb-true sink n brings.0) permits in (

@@ -1,5 +1,6 @@
 -- The events of a source that a sink closes rise, over all its stays with the source.
-use Rattle.std.proofs.Common.{ℕ, zero, suc, ◌≡◌, ◌≢◌, ◌<◌, ◌≤◌, ◌+◌, ◌==◌, ◌||◌, cond, leb, not, Bool, true, false, List, [], ◌∷◌, ◌++◌, map, Option, None, Some, refl, sym, ◌∙◌, ap, subst, arith, inl, inr}
+use Rattle.std.proofs.Common.{ℕ, zero, suc, ◌≡◌, ◌≢◌, ◌<◌, ◌≤◌, ◌+◌, ◌==◌, ◌||◌, cond, leb, not, Bool, true, false, List, [], ◌∷◌, ◌++◌, map, Option, None, Some}
+use Rattle.std.proofs.Common.{refl, sym, ◌∙◌, ap, subst, arith, inl, inr}
 use Rattle.std.specs.List.Sorted.{IsStrictlyIncreasing}
 use Rattle.std.proofs.lemmas.Bool.{cases_Bool, eq-eqb, eqb-true, eqb-false, false≢true, leb-true, or_parts}
 use Rattle.std.proofs.lemmas.Option.{none-some, same_Some}
@@ -233,8 +234,8 @@ announced_moves laws airs boxes s n sink earlier next' legal permits more within
   ]
 ]
 
-pub moves_by : Announcing → (airs : Airs) (boxes s n : ℕ) (step : Step) (earlier : List Step) (next' : ℕ) → Legal airs boxes earlier → Permitted airs boxes earlier step → is_given n step ≡ false → s ≤ 1
-    → next_in (steps_of_source s earlier) ≤ next' → its_front airs s n earlier ≤ next_in (steps_of_source s earlier)
+pub moves_by : Announcing → (airs : Airs) (boxes s n : ℕ) (step : Step) (earlier : List Step) (next' : ℕ) → Legal airs boxes earlier → Permitted airs boxes earlier step
+    → is_given n step ≡ false → s ≤ 1 → next_in (steps_of_source s earlier) ≤ next' → its_front airs s n earlier ≤ next_in (steps_of_source s earlier)
     → Moves (mine_in s n earlier) (sink_calls airs n earlier) (next_in (steps_of_source s earlier)) (closed_by airs s n earlier step)
     (mine_in s n (step ∷ earlier)) (sink_calls airs n (step ∷ earlier)) next'
 moves_by laws airs boxes s n (steps.Sink sink streams slots mtu) earlier next' legal permits ungiven least more within =
@@ -330,7 +331,8 @@ closing laws airs boxes s n (step ∷ earlier) legal ungiven least = elim (cases
       (closing laws airs boxes s n earlier legal.0 (rest_not (is_made n earlier step) (is_given n step) (given_since_made n earlier) ungiven on) least)
 ]
 
-pub closes_rise : Announcing → (airs : Airs) (boxes s n : ℕ) (made : List Step) → Legal airs boxes made → given_since_made n made ≡ false → s ≤ 1 → IsStrictlyIncreasing (map event_of (closed_since airs s n made))
+pub closes_rise : Announcing → (airs : Airs) (boxes s n : ℕ) (made : List Step) → Legal airs boxes made → given_since_made n made ≡ false → s ≤ 1
+    → IsStrictlyIncreasing (map event_of (closed_since airs s n made))
 closes_rise laws airs boxes s n made legal ungiven least =
     climbs 0 (map event_of (closed_since airs s n made)) (its_front airs s n made) (closing laws airs boxes s n made legal ungiven least).rise
 

@@ -207,12 +207,13 @@ own_after airs laid tuning boxes s n bis (steps.Hear sink back stream subevent) 
 own_after airs laid tuning boxes s n bis (steps.Air sink lose) earlier injected permits least there clean ready =
     let some : (performed (chosen_steps earlier) == 0) ≡ false = fails_not (performed (chosen_steps earlier) == 0) NotOnAir permits.by_source in
     let near : performed (chosen_steps earlier) ≢ 0 = eqb-false (performed (chosen_steps earlier)) 0 some in
-    mine_own laid tuning bis (reaches sink n earlier) (heard_on_air airs (chosen_steps earlier) lose (spots_of (chosen_steps earlier)) (sink_calls airs n earlier)) (sink_calls airs n earlier) (ready clean).all
+    mine_own laid tuning bis (reaches sink n earlier) (heard_on_air airs (chosen_steps earlier) lose (spots_of (chosen_steps earlier)) (sink_calls airs n earlier)) (sink_calls airs n earlier)
+    (ready clean).all
     (λ mine. let now = sent_by airs laid tuning bis s n sink earlier (sink_calls airs n earlier) there mine (ready clean) in
     air_own airs laid tuning (chosen_steps earlier) bis lose (spots_of (chosen_steps earlier)) (sink_calls airs n earlier) now.sent least now.bounds.nse (omega (arith, near)) (omega arith) now.all)
 own_after airs laid tuning boxes s n bis (steps.Inject sink back stream subevent octets) earlier injected permits least there clean ready =
-    inject_own laid tuning bis (sink == n) (is_of (chosen_of earlier) (source_of n earlier)) injected (hear (event_back (chosen_steps earlier) back) stream subevent octets) (sink_calls airs n earlier) clean
-    (λ none. (ready none).all)
+    inject_own laid tuning bis (sink == n) (is_of (chosen_of earlier) (source_of n earlier)) injected (hear (event_back (chosen_steps earlier) back) stream subevent octets)
+    (sink_calls airs n earlier) clean (λ none. (ready none).all)
 own_after airs laid tuning boxes s n bis steps.Event earlier injected permits least there clean ready =
     tick_if_own laid tuning bis (is_of (chosen_of earlier) (source_of n earlier)) (open_event (chosen_steps earlier)) (sink_calls airs n earlier) (ready clean).all
 own_after airs laid tuning boxes s n bis steps.Stop earlier injected permits least there clean ready =

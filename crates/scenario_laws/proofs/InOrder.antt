@@ -1,22 +1,21 @@
 -- The valid units that a sink hands up of a source are units that the source accepted, in order.
-use Rattle.std.proofs.Common.{ℕ, ◌≡◌, ◌<◌, ◌≤◌, ◌+◌, ◌==◌, ◌||◌, cond, leb, Bool, true, false, List, [], ◌∷◌, ◌++◌, length, map, Option, None, Some, refl, sym, ◌∙◌, ap, subst, arith, inl, inr}
-use Rattle.std.proofs.lemmas.Bool.{eq-eqb, cases_Bool, leb-true, or_parts, false≢true}
+use Rattle.std.proofs.Common.{ℕ, ◌≡◌, ◌<◌, ◌≤◌, ◌+◌, ◌==◌, cond, leb, Bool, true, false, List, [], ◌∷◌, ◌++◌, length, map, Option, None, Some, refl, sym, ◌∙◌, ap, subst, arith, inl, inr}
+use Rattle.std.proofs.lemmas.Bool.{eq-eqb, cases_Bool, leb-true, false≢true}
 use Rattle.std.proofs.lemmas.List.{append-nil}
 use Rattle.std.proofs.lemmas.List.Elements.{filter-append}
-use Rattle.std.proofs.lemmas.Option.{none-some}
 use Rattle.big_info.specs.declared.info.BigInfo.{BigInfo}
 use Rattle.unit_outlets.specs.Handed.{Handed}
 use Rattle.isoal_unframed.specs.Calls.{events as laid_events}
 use Rattle.isoal_unframed.specs.Histories.{units_of}
 use Rattle.source_machine.specs.Airs.{slots_of}
 use Rattle.source_machine.specs.Calls.{Setup, Call as SourceCall, events, stream_calls as source_stream}
-use Rattle.group_sink.specs.Calls.{Tuning, Call, tune, tick, place}
+use Rattle.group_sink.specs.Calls.{Tuning, Call, tick, place}
 use Rattle.group_sink.specs.Handing.{handed_at, handed_by as ticked_by, of_stream}
 use Rattle.group_sink.specs.Streams.{closes, is_in, stay_on, stream_calls}
 use Rattle.group_sink.proofs.Citable.{is_member, member_is}
 use Rattle.scenario_text.specs.declared.step.Step.{Step}
 use Rattle.scenario_text.specs.declared.step.Step.TheVariants as steps
-use Rattle.scenario_history.specs.Steps.{chosen_of, chosen_steps, steps_of_source}
+use Rattle.scenario_history.specs.Steps.{chosen_of, steps_of_source}
 use Rattle.scenario_history.specs.Source.{Airs, setup_of, source_calls, open_event}
 use Rattle.scenario_history.specs.Airs.{MeetAirs}
 use Rattle.scenario_history.specs.Sinks.{is_of, sink_calls, source_of, ticked}
@@ -93,8 +92,9 @@ closed_orders below airs meets boxes s n bis setup whole made ready event before
     let same : (setup_of own).first ≡ setup.first = ap (λ (setup' : Setup). setup'.first) setup_is in
     let more : events (source_calls own) ≤ events whole = subst (λ calls. events (source_calls own) ≤ events calls) (sym ready.within.calls.1) (events_more ready.within.calls.0 (source_calls own)) in
     let laid : events whole ≤ laid_events (source_stream setup.info bis whole) = laid_least setup.info bis whole in
-    let last = close_batch below airs meets boxes s n bis setup whole tuning made ready.legal_is ready.within on ready.least is ready.plain (clean_stay airs s n made tuning is ready.ungiven ready.clean) ready.fits
-    (tuning.first + closes tuning (sink_calls airs n made)) (below.one_open tuning (sink_calls airs n made) bis) (omega arith) (omega (arith, over, before, same, more)) in
+    let last = close_batch below airs meets boxes s n bis setup whole tuning made ready.legal_is ready.within on ready.least is ready.plain
+    (clean_stay airs s n made tuning is ready.ungiven ready.clean) ready.fits (tuning.first + closes tuning (sink_calls airs n made))
+    (below.one_open tuning (sink_calls airs n made) bis) (omega arith) (omega (arith, over, before, same, more)) in
     subst (λ (us : List Handed). Ordered setup whole bis later (units ++ valid_in us)) (sym shown)
     (ordered_more setup whole bis (tuning.first + closes tuning (sink_calls airs n made)) later units
     (valid_in (units_of (stay_on tuning bis) (stream_calls (stay_on tuning bis) (sink_calls airs n made)) (tuning.first + closes tuning (sink_calls airs n made))))

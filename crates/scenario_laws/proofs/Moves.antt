@@ -1,8 +1,6 @@
 -- What a line makes of a sink that it names by its control or by its links: its receivers stay or leave, or a train puts them on
 -- a group; and a sink that follows a train on no group may be of another source then.
 use Rattle.std.proofs.Common.{ℕ, ◌≡◌, ◌⊎◌, ◌==◌, ◌&&◌, not, cond, Bool, true, false, List, ◌∷◌, Option, None, Some, is_some, refl, sym, ◌∙◌, ap, subst, inl, inr}
-use Rattle.std.proofs.lemmas.Bool.{false≢true}
-use Rattle.std.proofs.lemmas.Option.{none-some}
 use Rattle.delegator_machine.specs.Groups.{joining_brought, tuning_of, with_leave, with_step}
 use Rattle.delegator_states.specs.declared.train_heard.TrainHeard.{TrainHeard}
 use Rattle.delegator_states.specs.Sights.{Place, Sight, idle, is_on_group, is_slot, on_group, on_train}
@@ -105,7 +103,7 @@ unmoved n (Some sink) step earlier calls none =
 pub given_stays : (airs : Airs) (n sink time : ℕ) (ext adv acad : List ℕ) (earlier : List Step) → (sink == n) ≡ false → StaysBy airs n (steps.Train sink time ext adv acad) earlier
 given_stays airs n sink time ext adv acad earlier other = record {
   left = inl (ap (λ b. cond b (received_by (source_at earlier) (steps.Train sink time ext adv acad) (made_of n earlier) (life n earlier) (life n (steps.Train sink time ext adv acad ∷ earlier))
-  (sink_calls airs n earlier)) (sink_calls airs n earlier)) other);
+      (sink_calls airs n earlier)) (sink_calls airs n earlier)) other);
   same = ap (λ b. cond b (source_by (source_at earlier) (steps.Train sink time ext adv acad) (made_of n earlier) (life n earlier) (source_of n earlier)) (source_of n earlier)) other;
   begins_not = ap (λ b. b && brings_by (source_at earlier) (steps.Train sink time ext adv acad) (made_of n earlier) (life n earlier)) other;
 }

@@ -8,7 +8,7 @@ use Rattle.delegator_states.specs.States.{put_on, train_heard}
 use Rattle.delegator_states.specs.Steps.{after}
 use Rattle.delegator_states.specs.Trains.{Brought, Joining, Train, brought_by, done_brought, heard, ignored, taken}
 use Rattle.delegator_states.proofs.Citable.{sight_goes_on}
-use Rattle.group_sink.specs.Calls.{Tuning, Call, tune, hear, leave, place}
+use Rattle.group_sink.specs.Calls.{Tuning, Call, tune, hear, place}
 use Rattle.link_histories.specs.Calls as links
 use Rattle.link_histories.specs.Calls.{stepped, steps_of}
 use Rattle.scan_delegator.specs.Groups.{has_group}
@@ -123,7 +123,8 @@ off_after airs n (steps.Terminate reason) earlier calls before =
 off_after airs n steps.End earlier calls before =
     λ m is off. end_place (is_of 1 (source_of n earlier)) (is_of 0 (source_of n earlier)) (open_event (steps_of_source 1 earlier)) (open_event (steps_of_source 0 earlier)) calls ∙ before m is off
 off_after airs n (steps.Announce sink) earlier calls before =
-    moved_off (sink == n) (source_at earlier) (steps.Announce sink) (made_of n earlier) (life n earlier) (stepped (train_heard (chosen_of earlier) (own_train (source_at earlier))) ∷ life n earlier) _ calls refl
+    moved_off (sink == n) (source_at earlier) (steps.Announce sink) (made_of n earlier) (life n earlier)
+    (stepped (train_heard (chosen_of earlier) (own_train (source_at earlier))) ∷ life n earlier) _ calls refl
     (λ m joining made_is brought. train_comes m (chosen_of earlier) (own_train (source_at earlier)) (life n earlier) joining brought) before
 off_after airs n (steps.Train sink time ext adv acad) earlier calls before =
     moved_off (sink == n) (source_at earlier) (steps.Train sink time ext adv acad) (made_of n earlier) (life n earlier)

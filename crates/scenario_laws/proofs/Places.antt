@@ -1,5 +1,5 @@
 -- The group that the receivers of a sink are on, before a line of the air and after it: the same.
-use Rattle.std.proofs.Common.{ℕ, zero, suc, ◌≡◌, cond, Bool, true, false, List, ◌∷◌, Option, None, Some, refl, ◌∙◌}
+use Rattle.std.proofs.Common.{ℕ, zero, suc, ◌≡◌, cond, Bool, true, false, List, Option, None, Some, refl, ◌∙◌}
 use Rattle.group_sink.specs.Calls.{Call, hear, place}
 use Rattle.scenario_text.specs.declared.step.Step.{Step}
 use Rattle.scenario_history.specs.Source.{Airs, event_back, setup_of}

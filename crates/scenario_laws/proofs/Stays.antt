@@ -164,7 +164,8 @@ there_before airs s n (steps.Terminate reason) earlier tuning ungiven is =
     inl (still_there airs s n (steps.Terminate reason) earlier tuning refl refl refl
     (tick_if_place (is_of (chosen_of earlier) (source_of n earlier)) (open_event (chosen_steps earlier)) (sink_calls airs n earlier)) is)
 there_before airs s n steps.End earlier tuning ungiven is =
-    inl (still_there airs s n steps.End earlier tuning refl refl refl (end_place (is_of 1 (source_of n earlier)) (is_of 0 (source_of n earlier)) (open_event (steps_of_source 1 earlier)) (open_event (steps_of_source 0 earlier)) (sink_calls airs n earlier)) is)
+    inl (still_there airs s n steps.End earlier tuning refl refl refl
+    (end_place (is_of 1 (source_of n earlier)) (is_of 0 (source_of n earlier)) (open_event (steps_of_source 1 earlier)) (open_event (steps_of_source 0 earlier)) (sink_calls airs n earlier)) is)
 there_before airs s n (steps.Announce sink) earlier tuning ungiven is = elim (announced airs n sink earlier) [
   | inl stays ↦ inl (stays_there airs s n (steps.Announce sink) earlier tuning stays refl is)
   | inr goes ↦ elim goes [

@@ -1,29 +1,25 @@
 -- One stay after the other: what holds of the events and the entries of the earlier stays of a sink with a source, and goes on
 -- over one stay, holds of all of them.
 use Rattle.std.proofs.Common.{ℕ, ◌≡◌, ◌⊎◌, ◌≤◌, ◌==◌, cond, Bool, true, false, List, [], ◌∷◌, ◌++◌, Option, None, Some, refl, sym, ◌∙◌, ap, subst, arith, inl, inr, append_assoc}
-use Rattle.std.proofs.lemmas.Bool.{cases_Bool, eqb-true, false≢true}
+use Rattle.std.proofs.lemmas.Bool.{eqb-true, false≢true}
 use Rattle.std.proofs.lemmas.List.{append-nil}
 use Rattle.std.proofs.lemmas.Option.{none-some}
-use Rattle.delegator_machine.specs.Groups as machine
 use Rattle.unit_outlets.specs.Handed.{Handed}
-use Rattle.group_sink.specs.Calls.{Tuning, Call, tune, hear, place}
+use Rattle.group_sink.specs.Calls.{Tuning, Call, tune, place}
 use Rattle.group_sink.specs.Handing.{handed_by as ticked_by, of_stream}
 use Rattle.scenario_text.specs.declared.step.Step.{Step}
 use Rattle.scenario_text.specs.declared.step.Step.TheVariants as steps
 use Rattle.scenario_history.specs.Steps.{chosen_of, chosen_steps, steps_of_source}
-use Rattle.scenario_history.specs.Source.{Airs, event_back, open_event, pdu_in}
-use Rattle.scenario_history.specs.Sinks.{heard_on_air, is_of, reaches, sink_calls, source_of, spots_of, tuning_of}
+use Rattle.scenario_history.specs.Source.{Airs, open_event}
+use Rattle.scenario_history.specs.Sinks.{is_of, sink_calls, source_of}
 use Rattle.scenario_history.specs.Boxes.{SinkUnit, handed_by}
 use Rattle.scenario_laws.specs.Laws.{Closed, closed_by, closed_if, closed_in, closed_since, given_since_made, handed_since, is_given, is_made, is_tuned, of_sink, shown_since}
 use Rattle.scenario_laws.proofs.Announced.{Announcing}
-use Rattle.scenario_laws.proofs.ByHand.{as_by_hand}
-use Rattle.scenario_laws.proofs.Legals.{Legal, permitted}
-use Rattle.scenario_laws.proofs.Moves.{StaysBy, announced, given_stays, plain_stays}
-use Rattle.scenario_laws.proofs.Places.{air_place, end_place, same_place, tick_if_place}
-use Rattle.scenario_laws.proofs.Wholes.{next_in, next_rises}
-use Rattle.scenario_laws.proofs.Stays.{IsOn, last_not, on_since_made}
+use Rattle.scenario_laws.proofs.Legals.{Legal}
+use Rattle.scenario_laws.proofs.Wholes.{next_in}
+use Rattle.scenario_laws.proofs.Stays.{IsOn, on_since_made}
 use Rattle.scenario_laws.proofs.Closings.{shown_by, shown_if, step_shown}
-use Rattle.scenario_laws.proofs.Closes.{made_nothing, mine_in, stay_if}
+use Rattle.scenario_laws.proofs.Closes.{mine_in, stay_if}
 use Rattle.scenario_laws.proofs.Shown.{shown_on}
 use Rattle.scenario_laws.proofs.Ticks.{is_its}
 

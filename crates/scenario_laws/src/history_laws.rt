@@ -49,10 +49,10 @@ pub fn one_transcript()
     one_air();
 }
 
-/// The units law of a stay (Core 5.2, volume 6 part G, sections 2.1 and 2.2): where no PDU was injected into a sink since it
-/// was put on its group, what it handed up since on a stream that it takes is struck. Unframed: one entry for each slot of
-/// each event closed in the stay, in order: the source's unit of the slot, valid, where the slot has one and all numbers that
-/// carry it are heard, else lost. Framed: one entry for each unit of the source whose start is heard, in order: valid where it
+/// The units law of a stay (Core 5.2, volume 6 part G, sections 2.1 and 2.2): where a sink was put on its group by hand or by
+/// what a source announced, and since then no PDU was injected into it and no train was given to it by its octets, what it
+/// handed up since on a stream that it takes is struck. Unframed: one entry for each slot of each event closed in the stay, in
+/// order: the source's unit of the slot, valid, where the slot has one and all numbers that carry it are heard, else lost. Framed: one entry for each unit of the source whose start is heard, in order: valid where it
 /// is wholly laid and all numbers that carry it were heard before their events closed, lost where the first that wasn't is
 /// closed. It holds after each step, so at the end of each stay too.
 pub fn units_law()
@@ -72,8 +72,8 @@ pub fn units_law()
     a_sink_is_put_where_its_source_is();
 }
 
-/// The order of units over all stays of a sink with one and the same source since it was made (Core 5.2, volume 6 part G,
-/// sections 2.1, 2.2 and 3.2): the events that it closed rise, so none is closed twice; what it handed up on an unframed
+/// The order of units over all stays of a sink with one and the same source since it was made, where no train was given to it by
+/// its octets (Core 5.2, volume 6 part G, sections 2.1, 2.2 and 3.2): the events that it closed rise, so none is closed twice; what it handed up on an unframed
 /// stream is one entry for each slot of each of these events that it took the stream in, in order, at the slot's time by the
 /// source's anchors. Where no PDU was injected into it, its valid units of an unframed stream are, in order, units that the
 /// source accepted on the stream, each at most once; and its entries of a framed stream are, in order, of such units, each at
