@@ -40,7 +40,8 @@ returns-in-Locate c source made its life received from is lives =
 
 pub returns-in-Context : goal.returns-in-Context
 returns-in-Context c source made its life received from is lives =
-    does_so source c.args.step _ made its life received c.args.text.now c.context.new.self c.context.result c.in-Context.is refl (c.context.ensures source c.in-Context.sink c.in-Context.source_bits made its life received lives)
+    does_so source c.args.step _ made its life received c.args.text.now c.context.new.self c.context.result c.in-Context.is refl
+    (c.context.ensures source c.in-Context.sink c.in-Context.source_bits made its life received lives)
 
 pub returns-in-Add : goal.returns-in-Add
 returns-in-Add c source made its life received from is lives =
@@ -72,11 +73,14 @@ returns-in-Pac c source made its life received from is lives =
 
 pub returns-in-Write : goal.returns-in-Write
 returns-in-Write c source made its life received from is lives =
-    does_so source c.args.step _ made its life received c.args.text.now c.write.new.self c.write.result (c.in-Write.is ∙ ap (λ octets. steps.Write c.in-Write.sink octets) (sym c.as_slice-in-Write.ensures)) refl (c.write.ensures source c.in-Write.sink made its life received lives)
+    does_so source c.args.step _ made its life received c.args.text.now c.write.new.self c.write.result
+    (c.in-Write.is ∙ ap (λ octets. steps.Write c.in-Write.sink octets) (sym c.as_slice-in-Write.ensures)) refl (c.write.ensures source c.in-Write.sink made its life received lives)
 
 pub returns-in-AWrite : goal.returns-in-AWrite
 returns-in-AWrite c source made its life received from is lives =
-    does_so source c.args.step _ made its life received c.args.text.now c.write_on.new.self c.write_on.result (c.in-AWrite.is ∙ ap (λ octets. steps.AWrite c.in-AWrite.sink c.in-AWrite.link octets) (sym c.as_slice-in-AWrite.ensures)) refl (c.write_on.ensures source c.in-AWrite.sink made its life received lives)
+    does_so source c.args.step _ made its life received c.args.text.now c.write_on.new.self c.write_on.result
+    (c.in-AWrite.is ∙ ap (λ octets. steps.AWrite c.in-AWrite.sink c.in-AWrite.link octets) (sym c.as_slice-in-AWrite.ensures)) refl
+    (c.write_on.ensures source c.in-AWrite.sink made its life received lives)
 
 pub returns-in-Serve : goal.returns-in-Serve
 returns-in-Serve c source made its life received from is lives =
@@ -104,7 +108,8 @@ returns-in-Lose c source made its life received from is lives =
 
 pub returns-in-AServe : goal.returns-in-AServe
 returns-in-AServe c source made its life received from is lives =
-    prints_so source c.args.step _ made its life received c.args.text.now c.serve_on.new.text c.serve_on.new.self c.serve_on.result c.in-AServe.is (c.serve_on.ensures source made its life received lives)
+    prints_so source c.args.step _ made its life received c.args.text.now c.serve_on.new.text c.serve_on.new.self c.serve_on.result c.in-AServe.is
+    (c.serve_on.ensures source made its life received lives)
 
 pub returns-in-ATell : goal.returns-in-ATell
 returns-in-ATell c source made its life received from is lives =
@@ -116,7 +121,8 @@ returns-in-ARead c source made its life received from is lives =
 
 pub returns-in-ADrain : goal.returns-in-ADrain
 returns-in-ADrain c source made its life received from is lives =
-    prints_so source c.args.step _ made its life received c.args.text.now c.drain_on.new.text c.drain_on.new.self c.drain_on.result c.in-ADrain.is (c.drain_on.ensures source made its life received lives)
+    prints_so source c.args.step _ made its life received c.args.text.now c.drain_on.new.text c.drain_on.new.self c.drain_on.result c.in-ADrain.is
+    (c.drain_on.ensures source made its life received lives)
 
 pub returns-in-AShow : goal.returns-in-AShow
 returns-in-AShow c source made its life received from is lives =
@@ -124,12 +130,16 @@ returns-in-AShow c source made its life received from is lives =
 
 pub returns-in-Control : goal.returns-in-Control
 returns-in-Control c source made its life received from is lives =
-    prints_so source c.args.step _ made its life received c.args.text.now c.control.new.text c.control.new.self c.control.result (c.in-Control.is ∙ ap (λ octets. steps.Control c.in-Control.sink octets) (sym c.as_slice-in-Control.ensures)) (c.control.ensures source made its life received lives)
+    prints_so source c.args.step _ made its life received c.args.text.now c.control.new.text c.control.new.self c.control.result
+    (c.in-Control.is ∙ ap (λ octets. steps.Control c.in-Control.sink octets) (sym c.as_slice-in-Control.ensures)) (c.control.ensures source made its life received lives)
 
 pub returns-in-Forge : goal.returns-in-Forge
 returns-in-Forge c source made its life received from is lives =
-    prints_so source c.args.step _ made its life received c.args.text.now c.forge.new.text c.forge.new.self c.forge.result (c.in-Forge.is ∙ ap (λ octets. steps.Forge c.in-Forge.sink c.in-Forge.slot octets) (sym c.as_slice-in-Forge.ensures)) (c.forge.ensures source made its life received lives)
+    prints_so source c.args.step _ made its life received c.args.text.now c.forge.new.text c.forge.new.self c.forge.result
+    (c.in-Forge.is ∙ ap (λ octets. steps.Forge c.in-Forge.sink c.in-Forge.slot octets) (sym c.as_slice-in-Forge.ensures)) (c.forge.ensures source made its life received lives)
 
 pub returns-in-Train : goal.returns-in-Train
 returns-in-Train c source made its life received from is lives =
-    prints_so source c.args.step _ made its life received c.args.text.now c.train.new.text c.train.new.self c.train.result (c.in-Train.is ∙ (λ i. steps.Train c.in-Train.sink c.in-Train.time (sym c.as_slice.ensures i) (sym c.as_slice-in-Train.ensures i) (sym c.as_slice-in-Train-2.ensures i))) (c.train.ensures source made its life received from lives)
+    prints_so source c.args.step _ made its life received c.args.text.now c.train.new.text c.train.new.self c.train.result
+    (c.in-Train.is ∙ (λ i. steps.Train c.in-Train.sink c.in-Train.time (sym c.as_slice.ensures i) (sym c.as_slice-in-Train.ensures i) (sym c.as_slice-in-Train-2.ensures i)))
+    (c.train.ensures source made its life received from lives)

@@ -25,6 +25,7 @@ returns c made its life received lives on =
       some_there (stated made life) (slice_get (reads_waiting made.setup made.mtu c.args.link life) 0) c.in-Some.notice answer,
       (
         lives_more made its its (calls.read c.args.link) life received c.args.self.now _ tt lives (c.in_ok-notice.ensures.stands made.setup made.mtu lives.all lives.stands there) lives.source_is,
-        its_line (value_line (label_of c.args.label).read (label_of c.args.label).numbers) (was_read made c.args.link life) c.in-Some.notice c.args.text.now c.put_read.new.text answer c.in_ok-put_read.ensures,
+        its_line (value_line (label_of c.args.label).read (label_of c.args.label).numbers) (was_read made c.args.link life) c.in-Some.notice c.args.text.now c.put_read.new.text answer
+            c.in_ok-put_read.ensures,
       ),
     )

@@ -21,8 +21,11 @@ each-preserved c = record {
   within = let most = c.slots-slot-end.ensures.slots in omega (arith, most);
   shown = λ made its life received lives on.
       let before = c.each.invariant.shown made its life received lives on in
-      let shown = c.in_ok-show_view.ensures.shows made its life received before.0 on in
-      (shown.0, view_put (λ slot. value_line (codes "aview") (decimal c.args.sink ∷ decimal c.args.link ∷ []) (viewed made c.args.link life slot)) c.each.slot c.args.text.now c.each.text c.show_view.new.text before.1 shown.1);
+      let shown = c.in_ok-show_view.ensures.shows made its life received before.0 on in (
+        shown.0,
+        view_put (λ slot. value_line (codes "aview") (decimal c.args.sink ∷ decimal c.args.link ∷ []) (viewed made c.args.link life slot)) c.each.slot c.args.text.now c.each.text
+            c.show_view.new.text before.1 shown.1,
+      );
 }
 
 pub returns : goal.returns
@@ -31,5 +34,8 @@ returns c made its life received lives on =
     let most = c.slots-slot-end.ensures.slots in
     let within = c.each.invariant.within in
     let all : c.each.slot ≡ made.setup.slots = omega (arith, count, most, within) in
-    let shown = c.each.invariant.shown made its life received lives on in
-    (shown.0, shown.1 ∙ ap (λ n. c.args.text.now ++ concat (map (λ slot. value_line (codes "aview") (decimal c.args.sink ∷ decimal c.args.link ∷ []) (viewed made c.args.link life slot)) (range_with_len 0 n))) all)
+    let shown = c.each.invariant.shown made its life received lives on in (
+      shown.0,
+      shown.1 ∙ ap (λ n. c.args.text.now ++ concat (map (λ slot. value_line (codes "aview") (decimal c.args.sink ∷ decimal c.args.link ∷ []) (viewed made c.args.link life slot))
+          (range_with_len 0 n))) all,
+    )
