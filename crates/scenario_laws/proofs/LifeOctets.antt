@@ -8,10 +8,9 @@ use Rattle.octet_fields.specs.Spelling.{IsOctets}
 use Rattle.bcast_io.specs.TextLines.{TextLine}
 use Rattle.bass_operations.specs.Layout.{spelling}
 use Rattle.bass_operations.specs.declared.operation.Operation.TheVariants as operations
-use Rattle.link_histories.specs.Calls.{Call, read, served, told}
+use Rattle.link_histories.specs.Calls.{Call, read, served, told, born}
 use Rattle.link_histories.specs.Drains.{repeated, served_out, told_out}
 use Rattle.link_histories.specs.Octets.{AreOctets, IsAsked}
-use Rattle.linked_sink.specs.Taken.{born}
 use Rattle.scenario_text.specs.declared.step.Step.{Step}
 use Rattle.scenario_text.specs.declared.step.Step.TheVariants as steps
 use Rattle.scenario_text.specs.Ranges.{IsInRange}
