@@ -140,7 +140,8 @@ between_next_at past source event number at sinks entry gathered next text told 
     subst P (sym same) (between_next past source event number sinks entry gathered next text told told2 before mid after eight within b s)
 
 -- the sinks after a close
-pub all_closed : (past : Past) (source event : ℕ) (closed : Option ℕ) (old new : Sinks) (sinks : List (Option Sink)) (text told : List ℕ) (before after : List Account) (r : Result (Unit {0}) Stop)
+pub all_closed : (past : Past) (source event : ℕ) (closed : Option ℕ) (old new : Sinks) (sinks : List (Option Sink)) (text told : List ℕ)
+    (before after : List Account) (r : Result (Unit {0}) Stop)
     → SinksStand past old → closed ≡ Some event → new.entries.items ≡ sinks → AllClose past source event sinks new.gathered text told before after r → new.outlets ≡ old.outlets
     → Closes past source closed new text told before after r
 all_closed past source event closed old new sinks text told before after r stands is items c more =
@@ -196,4 +197,18 @@ sink_closes box made own life received n source event sink new from of units gat
     record {
       hands = subst P (ap (units_for owner) e ∙ sym own_units) hands;
       is_ticked = on_ok_weaker r (λ none. record { entry_is = here; empty = none }) empty;
+    }
+
+-- a sink of another source
+pub sink_left : (box : Option ℕ) (made : Option Made) (own : Option ℕ) (life : List links.Call) (received : List Call) (n source event : ℕ) (sink : Sink)
+    (from : Option ℕ) (of : Bool) (gathered : Gathered) (text : List ℕ) (before : List Account) → SinkIs box made own life received sink
+    → from ≡ own → of ≡ is_of source from → of ≡ false → gathered.units.items ≡ []
+    → SinkCloses box made own life received n source event (Some sink) gathered text text before before (Ok tt)
+sink_left box made own life received n source event sink from of gathered text before is f o t empty =
+    let other : is_of source own ≡ false = ap (is_of source) (sym f) ∙ sym o ∙ t in
+    let here : EntryIs box made own life (ticked_if (is_of source own) (Some event) received) (Some (Some sink)) =
+    rw other (entry_of box made own life received sink is) in
+    record {
+      hands = rw other (sym (append-nil text), refl);
+      is_ticked = record { entry_is = here; empty = empty };
     }

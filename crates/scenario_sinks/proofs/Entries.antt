@@ -1,6 +1,6 @@
 -- The entries of the sinks, of which one changes.
 use Rattle.std.proofs.Common.{◌≡◌, ◌≢◌, ℕ, zero, suc, ◌<◌, ◌==◌, ◌∷◌, Bool, true, false, List, length, replicate, refl, sym, ◌∙◌, ap, subst, ne_eqb, slice_get, slice_set, get_or, is_some}
-use Rattle.std.proofs.Common.{arith, Option, None, Some, Ok, ◌⊎◌, inl, inr}
+use Rattle.std.proofs.Common.{arith, Option, None, Some, Result, Ok, Err, ◌⊎◌, inl, inr}
 use Rattle.std.proofs.lemmas.Option.{slice_get-get_or}
 use Rattle.delegator_machine.specs.Groups.{tuning_of}
 use Rattle.delegator_states.specs.States.{put_on}
@@ -8,6 +8,7 @@ use Rattle.delegator_states.specs.Trains.{Joining}
 use Rattle.group_sink.specs.Calls.{Call, hear, tune}
 use Rattle.group_sink.specs.Hearings.{hearing_of}
 use Rattle.isoal_base.specs.declared.hearing.Hearing.{Hearing}
+use Rattle.isoal_base.specs.declared.hearing.Hearing.TheVariants.{NotOnGroup}
 use Rattle.scenario_history.specs.Refusals.{has_beyond}
 use Rattle.scenario_history.specs.Sinks.{is_of}
 use Rattle.link_histories.specs.Calls as links
@@ -16,8 +17,12 @@ use Rattle.scenario_history.specs.Boxes.{most_sinks}
 use Rattle.scenario_sinks.specs.declared.sink.Sink.{Sink}
 use Rattle.scenario_sinks.specs.Pasts.{Past}
 use Rattle.scenario_sinks.specs.State.Standing.{EntryIs, EntryAt, EntriesAre}
-use Rattle.scenario_sinks.specs.State.Entries.{EntryHears, EntryTunes}
-use Rattle.sink_histories.specs.Lives.{Made}
+use Rattle.scenario_sinks.specs.State.Entries.{EntryHears, EntryRuns, EntryTunes, LineMakes}
+use Rattle.scenario_text.specs.declared.step.Step.{Step}
+use Rattle.sink_histories.specs.Lives.{Made, Source, lived_by}
+use Rattle.sink_histories.specs.Moves.{received_by, source_by}
+use Rattle.transcript_text.specs.declared.stop.Stop.{Stop}
+use Rattle.transcript_text.specs.declared.stop.Stop.TheVariants.{Refused, OutletFault, Memory}
 use Rattle.sink_steps.specs.State.Living.{Lives}
 use Rattle.scenario_sinks.proofs.Ranges.{get_set_here, get_set_other, nat_same}
 
@@ -160,3 +165,33 @@ entry_heard box made own life received source event bis subevent octets sink new
       rw mine (entry_of box made own life (hear event bis subevent octets ∷ received) new
           (record { box_is = is.box_is ∙ ap Some (sym outlet); how = is.how; made_is = is.made_is; lives = lives })),
     )
+
+-- a PDU of another source
+pub entry_passed : (box : Option ℕ) (made : Option Made) (own : Option ℕ) (life : List links.Call) (received : List Call) (source event bis subevent : ℕ) (octets : List ℕ)
+    (sink : Sink) (from : Option ℕ) (of : Bool) → SinkIs box made own life received sink → from ≡ own → of ≡ is_of source from → of ≡ false
+    → EntryHears box made own life received source event bis subevent octets (Some sink) (Some NotOnGroup)
+entry_passed box made own life received source event bis subevent octets sink from of is f o t =
+    let other : is_of source own ≡ false = ap (is_of source) (sym f) ∙ sym o ∙ t in
+    (rw is.box_is refl, rw other refl, rw other (entry_of box made own life received sink is))
+
+line_ran : (box : Option ℕ) (how : Made) (own : Option ℕ) (life : List links.Call) (received : List Call) (source : Source) (line : Step) (new : Sink) (text told : List ℕ)
+    (r : Result (Unit {0}) Stop) → box ≡ Some new.outlet → LineMakes how own life received source line text told new.living r
+    → EntryRuns box (Some how) own life received source line (Some new) text told r
+line_ran box how own life received source line new text told (Ok x) here makes =
+    let after : List links.Call = lived_by source line (Some how) life in (
+      makes.0,
+      entry_of box (Some how) (source_by source line (Some how) life own) after (received_by source line (Some how) life after received) new
+          (record { box_is = here; how = how; made_is = refl; lives = makes.1 }),
+      makes.2,
+    )
+line_ran box how own life received source line new text told (Err (Refused reason)) here makes = makes
+line_ran box how own life received source line new text told (Err OutletFault) here makes = makes
+line_ran box how own life received source line new text told (Err Memory) here makes = makes
+
+-- a line runs on the sink
+pub entry_ran : (box : Option ℕ) (made : Option Made) (own : Option ℕ) (life : List links.Call) (received : List Call) (source : Source) (step : Step) (sink new : Sink)
+    (text told : List ℕ) (r : Result (Unit {0}) Stop) → (is : SinkIs box made own life received sink) → new.outlet ≡ sink.outlet
+    → LineMakes is.how own life received source step text told new.living r → EntryRuns box made own life received source step (Some new) text told r
+entry_ran box made own life received source step sink new text told r is outlet makes =
+    let P : Option Made → Type 0 = λ m. EntryRuns box m own life received source step (Some new) text told r in
+    subst P (sym is.made_is) (line_ran box is.how own life received source step new text told r (is.box_is ∙ ap Some (sym outlet)) makes)

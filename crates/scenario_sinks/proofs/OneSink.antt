@@ -53,11 +53,12 @@ pub made : (boxes n at : ℕ) (how : Made) (past : Past) (old new : Sinks) (entr
     → new.entries.items ≡ slice_set old.entries.items at (Some sink) → new.outlets ≡ old.outlets + 1 → new.gathered ≡ old.gathered
     → Answers (not_made (past.boxes n) past.made boxes) past (with_sink n how past) new (Ok tt)
 made boxes n at how past old new entry sink stands same within eight is none room outlet fresh set more gathered =
-    let free : past.boxes n ≡ None = none_lives (past.boxes n) (past.mades n) (past.sources n) (past.lives n) (past.received n) entry (entry_read past n at old.entries.items entry same eight within is stands.entries) none in
+    let here : EntryAt past n (Some entry) = entry_read past n at old.entries.items entry same eight within is stands.entries in
+    let free : past.boxes n ≡ None = none_lives (past.boxes n) (past.mades n) (past.sources n) (past.lives n) (past.received n) entry here none in
     let left : past.made < boxes = omega (arith, stands.made) in
-    let here : EntryAt (with_sink n how past) n (Some (Some sink)) = rw (eq-eqb n n refl) (sink, refl, outlet ∙ stands.made, how, refl, fresh) in (
+    let next : EntryAt (with_sink n how past) n (Some (Some sink)) = rw (eq-eqb n n refl) (sink, refl, outlet ∙ stands.made, how, refl, fresh) in (
       rw (free, lt-leb boxes past.made left) refl,
-      one_changed n at past (with_sink n how past) old new (Some sink) same within eight (make_stays n how past) stands here set (more ∙ ap (λ k. k + 1) stands.made) gathered,
+      one_changed n at past (with_sink n how past) old new (Some sink) same within eight (make_stays n how past) stands next set (more ∙ ap (λ k. k + 1) stands.made) gathered,
     )
 
 -- a sink of the number lives
@@ -65,8 +66,8 @@ pub taken : (boxes n at : ℕ) (how : Made) (past : Past) (old : Sinks) (entry :
     → length old.entries.items ≡ most_sinks → entry ≡ get_or old.entries.items at entry → is_some entry ≡ true
     → Answers (not_made (past.boxes n) past.made boxes) past (with_sink n how past) old (Err (Refused SinkTwice))
 taken boxes n at how past old entry stands same within eight is some =
-    let lives : is_some (past.boxes n) ≡ true = sym (lives_in (past.boxes n) (past.mades n) (past.sources n) (past.lives n) (past.received n) entry (entry_read past n at old.entries.items entry same eight within is
-    stands.entries)) ∙ some in
+    let here : EntryAt past n (Some entry) = entry_read past n at old.entries.items entry same eight within is stands.entries in
+    let lives : is_some (past.boxes n) ≡ true = sym (lives_in (past.boxes n) (past.mades n) (past.sources n) (past.lives n) (past.received n) entry here) ∙ some in
     (rw lives refl, stands)
 
 -- no box is left
@@ -74,7 +75,8 @@ pub no_box : (boxes n at : ℕ) (how : Made) (past : Past) (old : Sinks) (entry 
     → length old.entries.items ≡ most_sinks → entry ≡ get_or old.entries.items at entry → is_some entry ≡ false → boxes ≤ old.outlets
     → Answers (not_made (past.boxes n) past.made boxes) past (with_sink n how past) old (Err (Refused NoOutlet))
 no_box boxes n at how past old entry stands same within eight is none full =
-    let free : past.boxes n ≡ None = none_lives (past.boxes n) (past.mades n) (past.sources n) (past.lives n) (past.received n) entry (entry_read past n at old.entries.items entry same eight within is stands.entries) none in
+    let here : EntryAt past n (Some entry) = entry_read past n at old.entries.items entry same eight within is stands.entries in
+    let free : past.boxes n ≡ None = none_lives (past.boxes n) (past.mades n) (past.sources n) (past.lives n) (past.received n) entry here none in
     let less : boxes ≤ past.made = omega (arith, stands.made) in
     (rw (free, le-leb boxes past.made less) refl, stands)
 
@@ -94,7 +96,8 @@ pub ended : (n at : ℕ) (past : Past) (old new : Sinks) (sink : Sink) → Sinks
     → new.entries.items ≡ slice_set old.entries.items at None → new.outlets ≡ old.outlets → new.gathered ≡ old.gathered
     → Answers (not_living (past.boxes n)) past (without n past) new (Ok tt)
 ended n at past old new sink stands same within eight is set more gathered =
-    let was = sink_in (past.boxes n) (past.mades n) (past.sources n) (past.lives n) (past.received n) (Some sink) sink (entry_read past n at old.entries.items (Some sink) same eight within is stands.entries) refl in
+    let before : EntryAt past n (Some (Some sink)) = entry_read past n at old.entries.items (Some sink) same eight within is stands.entries in
+    let was = sink_in (past.boxes n) (past.mades n) (past.sources n) (past.lives n) (past.received n) (Some sink) sink before refl in
     let here : EntryAt (without n past) n (Some None) = rw (eq-eqb n n refl) (refl, refl) in (
       rw was.box_is refl,
       one_changed n at past (without n past) old new None same within eight (end_stays n past) stands here set (more ∙ stands.made) gathered,
@@ -139,7 +142,8 @@ hear_stays n source event bis subevent octets past = record {
 }
 
 pub heard : (n at source event bis subevent : ℕ) (octets : List ℕ) (past : Past) (old new : Sinks) (entry : Option Sink) (r : Option Hearing) → SinksStand past old → at ≡ n
-    → n < most_sinks → length old.entries.items ≡ most_sinks → EntryHears (past.boxes n) (past.mades n) (past.sources n) (past.lives n) (past.received n) source event bis subevent octets entry r
+    → n < most_sinks → length old.entries.items ≡ most_sinks
+    → EntryHears (past.boxes n) (past.mades n) (past.sources n) (past.lives n) (past.received n) source event bis subevent octets entry r
     → new.entries.items ≡ slice_set old.entries.items at entry → new.outlets ≡ old.outlets → new.gathered ≡ old.gathered
     → Hears past n source event bis subevent octets new r
 heard n at source event bis subevent octets past old new entry None stands same within eight h set more gathered = h

@@ -7,7 +7,7 @@ ghost use Rattle.group_sink.specs.Hearings.{hearing_of};
 ghost use Rattle.link_histories.specs.Calls as links;
 ghost use Rattle.link_histories.specs.Calls.{stepped};
 ghost use Rattle.scenario_sinks.specs.Joinings.{joining_in};
-ghost use Rattle.scenario_sinks.specs.State.Entries.{EntryHears, EntryRuns, EntryTunes};
+ghost use Rattle.scenario_sinks.specs.State.Entries.{EntryHears, EntryRuns, EntryTunes, LineMakes};
 ghost use Rattle.scenario_sinks.specs.State.Standing.{EntryIs};
 ghost use Rattle.scenario_text.specs.Ranges.{IsInRange};
 ghost use Rattle.scenario_text.specs.declared.step.Step.TheVariants.{Announce};
@@ -80,6 +80,16 @@ pub(crate) fn run_entry(
     let Some(sink) = entry else {
         return Err(Stop::Refused(Refusal::NoSuchSink));
     };
+    run(sink, step, origin, text)
+}
+
+/// Runs a line on a sink.
+fn run(sink: &mut Sink, step: Step, origin: Origin, text: &mut Octets) -> Result<(), Stop>
+    requires { IsInRange step }
+    ensures makes { (source : Source) (made : Made) (own : Option ℕ) (life : List links.Call) (received : List Call) → IsFrom origin source → IsSinkLine step
+        → Lives made own life received sink.old.living → LineMakes made own life received source step text.old text.new sink.new.living result }
+    ensures outlet { sink.new.outlet ≡ sink.old.outlet }
+{
     sink.living.line(step, origin, text)
 }
 
@@ -99,6 +109,23 @@ pub(crate) fn announce_entry(
     let Some(sink) = entry else {
         return Err(Stop::Refused(Refusal::NoSuchSink));
     };
+    tell(sink, number, origin, train, text)
+}
+
+/// Hands a sink of this number the train of its source.
+fn tell(
+    sink: &mut Sink,
+    number: u8,
+    origin: Origin,
+    train: &Train,
+    text: &mut Octets,
+) -> Result<(), Stop>
+    requires { train.now.time ≤ 2 ^ 61 }
+    ensures makes { (source : Source) (made : Made) (own : Option ℕ) (life : List links.Call) (received : List Call) → IsFrom origin source
+        → source.announced ≡ train.now → Lives made own life received sink.old.living
+        → LineMakes made own life received source (Announce number) text.old text.new sink.new.living result }
+    ensures outlet { sink.new.outlet ≡ sink.old.outlet }
+{
     sink.living.announce(number, origin, train, text)
 }
 

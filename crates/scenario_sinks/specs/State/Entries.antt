@@ -14,8 +14,11 @@ use Rattle.scenario_sinks.specs.declared.sink.Sink.{Sink}
 use Rattle.scenario_text.specs.declared.step.Step.{Step}
 use Rattle.sink_histories.specs.Lives.{Made, Source, lived_by}
 use Rattle.sink_histories.specs.Moves.{received_by, source_by}
-use Rattle.sink_histories.specs.Output.{printed_where}
-use Rattle.sink_histories.specs.Refusals.{refused_where}
+use Rattle.sink_histories.specs.Output.{printed_of, printed_where}
+use Rattle.sink_histories.specs.Refusals.{refused_by, refused_where}
+use Rattle.sink_steps.specs.Making.{Makes}
+use Rattle.sink_steps.specs.State.Living.{Lives}
+use Rattle.sink_steps.specs.declared.sink.LivingSink.{LivingSink}
 use Rattle.transcript_text.specs.declared.stop.Stop.{Stop}
 use Rattle.transcript_text.specs.declared.stop.Stop.TheVariants.{Refused, OutletFault, Memory}
 use Rattle.scenario_sinks.specs.Hearing.{hearing_by}
@@ -38,6 +41,13 @@ EntryHears box made own life received source event bis subevent octets entry Non
 EntryHears box made own life received source event bis subevent octets entry (Some hearing) =
     (is_some box ≡ true) × (hearing ≡ hearing_by own received source event bis subevent octets)
     × EntryIs box made own life (if is_of source own then hear event bis subevent octets ∷ received else received) (Some entry)
+
+-- a line on a living sink that was made so, which means this source
+abbrev pub LineMakes : Made → Option ℕ → List links.Call → List Call → Source → Step → (text told : List ℕ) → LivingSink → Result (Unit {0}) Stop → Type 0
+LineMakes made own life received source step text told living result =
+    Makes (refused_by step made life) (printed_of source step made life)
+    (Lives made (source_by source step (Some made) life own) (lived_by source step (Some made) life)
+    (received_by source step (Some made) life (lived_by source step (Some made) life) received)) text told living result
 
 -- a line names it, which means this source: it is refused, or else prints its lines behind a text
 abbrev pub EntryRuns : Option ℕ → Option Made → Option ℕ → List links.Call → List Call → Source → Step → Option Sink → (text told : List ℕ) → Result (Unit {0}) Stop → Type 0
