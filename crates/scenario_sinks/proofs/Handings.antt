@@ -1,5 +1,5 @@
 -- Units that go to their boxes one after the other.
-use Rattle.std.proofs.Common.{◌≡◌, ℕ, ◌+◌, ◌<◌, ◌≤◌, List, [], ◌∷◌, ◌++◌, length, map, take, drop, refl, sym, ◌∙◌, ap, subst, append_assoc, slice_get, slice_set, get_or, arith, Result, Ok}
+use Rattle.std.proofs.Common.{◌≡◌, ℕ, ◌+◌, ◌<◌, ◌≤◌, List, [], ◌∷◌, ◌++◌, length, map, take, drop, refl, sym, ◌∙◌, ap, subst, slice_get, slice_set, get_or, arith, Result, Ok}
 use Rattle.std.proofs.Common.{Err, Some, zero, suc}
 use Rattle.std.proofs.lemmas.List.{append-nil, map-append, take-append-drop, take_more}
 use Rattle.std.proofs.lemmas.Option.{get_or_from_slice_get}
@@ -7,9 +7,9 @@ use Rattle.unit_outlets.specs.Account.{Account, with_unit}
 use Rattle.unit_outlets.specs.Handed.{valid, lost}
 use Rattle.unit_outlets.specs.Took.{TookAt}
 use Rattle.unit_outlets.specs.declared.fault.OutletFault.{OutletFault as Refusal}
-use Rattle.unit_outlets.specs.declared.fault.OutletFault.TheVariants.{Failed, Memory as NoMemory}
-use Rattle.scenario_history.specs.Boxes.{SinkUnit, account_at, accounts_after, no_account, with_handed}
-use Rattle.scenario_history.specs.Output.{unit_line, unit_lines}
+use Rattle.unit_outlets.specs.declared.fault.OutletFault.TheVariants.{Memory as NoMemory}
+use Rattle.scenario_history.specs.Boxes.{SinkUnit, account_at, accounts_after, no_account}
+use Rattle.scenario_history.specs.Output.{unit_lines}
 use Rattle.transcript_text.specs.declared.stop.Stop.{Stop}
 use Rattle.transcript_text.specs.declared.stop.Stop.TheVariants.{Refused, OutletFault, Memory}
 use Rattle.scenario_sinks.specs.State.Gathering.{handed_of, units_for}

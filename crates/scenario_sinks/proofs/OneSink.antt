@@ -1,15 +1,12 @@
 -- The sinks after a call for one of them.
-use Rattle.std.proofs.Common.{◌≡◌, ℕ, ◌+◌, ◌<◌, ◌≤◌, ◌==◌, ◌&&◌, ◌∷◌, [], true, false, nat_le, not, List, length, refl, sym, ◌∙◌, ap, subst, is_some, slice_set, get_or, eq-eqb, cond, Bool}
-use Rattle.std.proofs.Common.{if◌then◌else◌, arith, Option, None, Some, Result, Ok, Err}
+use Rattle.std.proofs.Common.{◌≡◌, ℕ, ◌+◌, ◌<◌, ◌≤◌, [], true, false, List, length, refl, sym, ◌∙◌, ap, subst, is_some, slice_set, get_or, eq-eqb}
+use Rattle.std.proofs.Common.{arith, Option, None, Some, Result, Ok, Err}
 use Rattle.std.proofs.lemmas.Bool.{le-leb, lt-leb}
 use Rattle.delegator_states.specs.Trains.{Joining}
-use Rattle.group_sink.specs.Calls.{Call, hear, tune}
 use Rattle.linked_sink.specs.Taken.{born}
 use Rattle.isoal_base.specs.declared.hearing.Hearing.{Hearing}
-use Rattle.transcript_text.specs.declared.refusal.Refusal.TheVariants.{NoSuchSink, SinkTwice, NoOutlet}
+use Rattle.transcript_text.specs.declared.refusal.Refusal.TheVariants.{SinkTwice, NoOutlet}
 use Rattle.scenario_history.specs.Boxes.{most_sinks}
-use Rattle.scenario_history.specs.Refusals.{has_beyond}
-use Rattle.scenario_history.specs.Sinks.{is_of}
 use Rattle.scenario_sinks.specs.declared.gathered.Gathered.{Gathered}
 use Rattle.scenario_sinks.specs.declared.sink.Sink.{Sink}
 use Rattle.scenario_sinks.specs.declared.sinks.Sinks.{Sinks}
@@ -18,7 +15,7 @@ use Rattle.transcript_text.specs.declared.stop.Stop.TheVariants.{Refused, Outlet
 use Rattle.scenario_sinks.specs.Hearing.{Hears}
 use Rattle.scenario_sinks.specs.Pasts.{Past, with_sink, without, with_tuning, with_hearing}
 use Rattle.scenario_sinks.specs.Refusals.{Answers, Tunes, not_made, not_living, not_tuned}
-use Rattle.scenario_sinks.specs.State.Standing.{EntryIs, EntryAt, EntriesAre, SinksStand}
+use Rattle.scenario_sinks.specs.State.Standing.{EntryAt, EntriesAre, SinksStand}
 use Rattle.scenario_sinks.specs.State.Entries.{EntryHears, EntryTunes}
 use Rattle.sink_histories.specs.Lives.{Made}
 use Rattle.sink_steps.specs.State.Living.{Lives}

@@ -1,5 +1,5 @@
 -- Ranges of numbers, and lists of which one place changes.
-use Rattle.std.proofs.Common.{◌≡◌, ◌≢◌, ℕ, zero, suc, ◌+◌, ◌<◌, List, [], ◌∷◌, ◌++◌, length, refl, ◌∙◌, ap, slice_get, slice_set, arith, Option, Some, ◌⊎◌, inl, inr, Bool, true, false, if◌then◌else◌}
+use Rattle.std.proofs.Common.{◌≡◌, ◌≢◌, ℕ, zero, suc, ◌+◌, ◌<◌, List, [], ◌∷◌, ◌++◌, length, refl, ◌∙◌, ap, slice_get, slice_set, arith, Some, ◌⊎◌, inl, inr, Bool, true, false, if◌then◌else◌}
 use Rattle.std.specs.List.{range_with_len}
 
 pub range_append : (a m n : ℕ) → range_with_len a (m + n) ≡ range_with_len a m ++ range_with_len (a + m) n

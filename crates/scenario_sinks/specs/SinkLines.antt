@@ -1,6 +1,6 @@
 -- What became of a line of the control or of the links of the sink of a number, which means this source. The lines are the
 -- scenario language's own.
-use Rattle.std.specs.Prelude.{ℕ, ◌≡◌, List, ◌++◌, Option, None, Some, Result, Ok, Err}
+use Rattle.std.specs.Prelude.{ℕ, ◌≡◌, List, ◌++◌, None, Some, Result, Ok, Err}
 use Rattle.std.specs.List.{concat}
 use Rattle.scenario_text.specs.declared.step.Step.{Step}
 use Rattle.sink_histories.specs.Lives.{Source}

@@ -116,3 +116,8 @@ lives_served made its link life received old new l stands source =
     (ap (λ joining. with_step joining (sight_in made life) (sight_in made (served link ∷ life)) received)
     (none_given made.setup (sight_in made life) link (slice_get (writes_waiting link life) 0)))
     (lives_more made its its (served link) life received old new tt l stands (source ∙ l.source_is))
+
+-- no call at all
+pub lives_stayed : (made : Made) (its : Option ℕ) (life : List Call) (received : List sinks.Call) (living : LivingSink) → Lives made its life received living
+    → Lives made its life (stayed made life life received) living
+lives_stayed made its life received living lives = subst (λ past. Lives made its life past living) (sym (stays (has_group (sight_in made life).place) received)) lives

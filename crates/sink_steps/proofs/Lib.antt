@@ -1,3 +1,16 @@
 mod Air
+mod Arms
+mod Draining
+mod Following
+mod Forging
 mod Fresh
 mod Grown
+mod Joins
+mod Leaving
+mod Printing
+mod Queues
+mod Recorded
+mod Results
+mod Shown
+mod Trained
+mod Turning

@@ -1,6 +1,7 @@
 -- What became of a line that names a sink. The refusals are the scenario language's own.
 use Rattle.std.specs.Prelude.{ℕ, ◌≡◌, Bool, true, false, List, ◌++◌, ◌∷◌, [], Option, None, Some, Result, Ok, Err, codes, decimal, is_none}
 use Rattle.std.specs.List.{concat}
+use Rattle.bcast_base.specs.declared.memory.Memory.{Memory as NoMemory}
 use Rattle.delegator_machine.specs.Groups.{with_step}
 use Rattle.group_sink.specs.Calls as sinks
 use Rattle.link_histories.specs.Calls.{Call}
@@ -56,14 +57,14 @@ abbrev pub Goes : Made → Option ℕ → (before after : List Call) → List si
 Goes made its before after received lines text told new = Lives made its after (stayed made before after received) new × (told ≡ text ++ concat lines)
 
 -- the first that waited was taken, or none waited and nothing changed
-abbrev pub Turns : {A E : Type 0} → Option A → (LivingSink → List ℕ → Type 0) → (LivingSink → List ℕ → Type 0) → LivingSink → List ℕ → Result Bool E → Type 0
-Turns first next same new told (Ok true) = (is_none first ≡ false) × next new told
-Turns first next same new told (Ok false) = (is_none first ≡ true) × same new told
-Turns first next same new told (Err memory) = Unit {0}
+abbrev pub Turns : {A : Type 0} → Option A → (List ℕ → LivingSink → Type 0) → (List ℕ → LivingSink → Type 0) → List ℕ → LivingSink → Result Bool NoMemory → Type 0
+Turns first next same told new (Ok true) = (is_none first ≡ false) × next told new
+Turns first next same told new (Ok false) = (is_none first ≡ true) × same told new
+Turns first next same told new (Err memory) = Unit {0}
 
 -- the sink and the text are as before
-abbrev pub Stays : Made → Option ℕ → List Call → List sinks.Call → List ℕ → LivingSink → List ℕ → Type 0
-Stays made its life received text new told = Lives made its life received new × (told ≡ text)
+abbrev pub Stays : Made → Option ℕ → List Call → List sinks.Call → List ℕ → List ℕ → LivingSink → Type 0
+Stays made its life received text told new = Lives made its life received new × (told ≡ text)
 
 -- ---- a slot
 

@@ -15,6 +15,7 @@ use crate::origin::Origin;
 use crate::sink::LivingSink;
 use announcement_train::Train;
 use bcast_base::Octets;
+use sink_lines::{put_train, put_train_heard};
 use transcript_text::Stop;
 
 impl LivingSink {
@@ -34,6 +35,12 @@ impl LivingSink {
             (Lives made (source_by source (Announce sink) (Some made) life its) (lived_by source (Announce sink) (Some made) life)
             (received_by source (Announce sink) (Some made) life (lived_by source (Announce sink) (Some made) life) received)) text.old text.new self.new result }
     {
-        Err(Stop::Memory)
+        put_train(text, sink, train)?;
+        let ext = train.ext.as_slice();
+        let adv = train.adv.as_slice();
+        let acad = train.acad.as_slice();
+        let heard = self.hear_train(origin, ext, adv, acad, train.time)?;
+        put_train_heard(text, sink, heard)?;
+        Ok(())
     }
 }

@@ -2,9 +2,16 @@
 #![tactic(auto)]
 
 mod announce;
+mod drains;
 mod line;
+mod links;
 mod origin;
+mod served;
+mod settings;
+mod shows;
 mod sink;
+mod trains;
+mod writes;
 
 pub use origin::Origin;
 pub use sink::LivingSink;

@@ -29,6 +29,56 @@ impl LivingSink {
             (Lives made (source_by source step (Some made) life its) (lived_by source step (Some made) life)
             (received_by source step (Some made) life (lived_by source step (Some made) life) received)) text.old text.new self.new result }
     {
-        Err(Stop::Memory)
+        match step {
+            Step::Pac {
+                codec,
+                caps,
+                metadata,
+                ..
+            } => self.pac(codec, caps, metadata),
+            Step::Locate { bits, .. } => self.locate(bits),
+            Step::Context { sink_bits, .. } => self.context(sink_bits),
+            Step::Train {
+                sink,
+                time,
+                ext,
+                adv,
+                acad,
+            } => self.train(
+                sink,
+                origin,
+                time,
+                ext.as_slice(),
+                adv.as_slice(),
+                acad.as_slice(),
+                text,
+            ),
+            Step::Write { octets, .. } => self.write(octets.as_slice()),
+            Step::Add { op, .. } => self.add(op),
+            Step::Modify { op, .. } => self.modify(op),
+            Step::Remove { source_id, .. } => self.remove(source_id),
+            Step::Code {
+                source_id,
+                code,
+                ..
+            } => self.code(source_id, code),
+            Step::Serve { sink } => self.serve(sink, text),
+            Step::Tell { sink } => self.tell(sink, text),
+            Step::Read { sink } => self.read(sink, text),
+            Step::Drain { sink } => self.drain(sink, text),
+            Step::Show { sink } => self.show(sink, text),
+            Step::Lose { sink } => self.lose(sink, text),
+            Step::Control { sink, octets } => self.control(sink, octets.as_slice(), text),
+            Step::Forge { sink, slot, octets } => self.forge(sink, slot, octets.as_slice(), text),
+            Step::Assist { link, .. } => self.assist(link),
+            Step::Apart { link, .. } => self.apart(link),
+            Step::AWrite { link, octets, .. } => self.write_on(link, octets.as_slice()),
+            Step::AServe { sink, link } => self.serve_on(sink, link, text),
+            Step::ATell { sink, link } => self.tell_on(sink, link, text),
+            Step::ARead { sink, link } => self.read_on(sink, link, text),
+            Step::ADrain { sink, link } => self.drain_on(sink, link, text),
+            Step::AShow { sink, link } => self.show_on(sink, link, text),
+            _ => Err(Stop::Memory),
+        }
     }
 }

@@ -1,4 +1,3 @@
-use Rattle.std.proofs.Common.{refl}
 use Rattle.scenario_sinks.specs.Joinings.{joining_in}
 use Rattle.scenario_sinks.proofs.Entries.{entry_tuned, sink_in}
 use Rattle.scenario_sinks.proofs.entry.tune_entry.Goals as goal

@@ -1,0 +1,138 @@
+-- Calls of one kind on a link, for as long as something waits for them.
+use Rattle.std.proofs.Common.{ℕ, zero, suc, ◌≡◌, ◌≤◌, true, false, List, [], ◌∷◌, ◌++◌, drop, length, slice_get, Option, Some, None, refl, sym, ap, ◌∙◌, append_assoc, subst, arith}
+use Rattle.std.specs.List.{concat}
+use Rattle.std.specs.Prelude.{is_none}
+use Rattle.group_sink.specs.Calls as sinks
+use Rattle.link_histories.specs.Calls as calls
+use Rattle.link_histories.specs.Calls.{Call, is_joined, writes_waiting}
+use Rattle.link_histories.specs.Drains.{drained, repeated, served_out, told_out}
+use Rattle.link_histories.specs.Links.{notices_waiting, reads_waiting}
+use Rattle.sink_histories.specs.Lives.{Made}
+use Rattle.sink_histories.specs.Output.{Lines, drain_lines, read_lines, serve_lines, tell_lines}
+use Rattle.sink_lines.specs.Lines.{Label}
+use Rattle.sink_steps.specs.declared.sink.LivingSink.{LivingSink}
+use Rattle.sink_steps.specs.Making.{Goes, Stays, stayed}
+use Rattle.sink_steps.specs.State.Living.{Lives}
+use Rattle.sink_steps.proofs.Grown.{lives_stayed}
+use Rattle.sink_steps.proofs.Leaving.{StaysOff, goes_on, served_off}
+use Rattle.sink_steps.proofs.Printing.{more_put, nothing_put}
+use Rattle.sink_steps.proofs.Queues.{no_more, notices_one, one_more, reads_one, writes_one}
+
+-- ---- a kind of call
+
+-- each such call takes the first that waits, puts the sink on no group, and lets nobody leave the link
+pub record IsKind {A : Type 0} (made : Made) (link : ℕ) (call : Call) (waiting : List Call → List A) : Type 0 where
+  pub each : (past : List Call) → waiting (call ∷ past) ≡ drop 1 (waiting past)
+  pub off : (past : List Call) → StaysOff made.setup past (call ∷ past)
+  pub joined : (past : List Call) → is_joined link (call ∷ past) ≡ is_joined link past
+
+pub serving : (made : Made) (link : ℕ) → IsKind made link (calls.served link) (writes_waiting link)
+serving made link = record { each = writes_one link; off = served_off made.setup link; joined = λ past. refl }
+
+pub telling : (made : Made) (link : ℕ) → IsKind made link (calls.told link) (notices_waiting made.setup made.mtu link)
+telling made link = record { each = notices_one made.setup made.mtu link; off = λ calls off. off; joined = λ past. refl }
+
+pub reading : (made : Made) (link : ℕ) → IsKind made link (calls.read link) (reads_waiting made.setup made.mtu link)
+reading made link = record { each = reads_one made.setup made.mtu link; off = λ calls off. off; joined = λ past. refl }
+
+pub all_off : {A : Type 0} (made : Made) (link : ℕ) (call : Call) (waiting : List Call → List A) → IsKind made link call waiting → (count : ℕ) (life : List Call)
+    → StaysOff made.setup life (repeated count call life)
+all_off made link call waiting kind zero life off = off
+all_off made link call waiting kind (suc count) life off = kind.off (repeated count call life) (all_off made link call waiting kind count life off)
+
+pub all_joined : {A : Type 0} (made : Made) (link : ℕ) (call : Call) (waiting : List Call → List A) → IsKind made link call waiting → (count : ℕ) (life : List Call)
+    → is_joined link (repeated count call life) ≡ is_joined link life
+all_joined made link call waiting kind zero life = refl
+all_joined made link call waiting kind (suc count) life = kind.joined (repeated count call life) ∙ all_joined made link call waiting kind count life
+
+-- ---- one life after another
+
+pub goes_then : (made : Made) (its : Option ℕ) (before mid after : List Call) (received : List sinks.Call) (lines others : Lines) (text between told : List ℕ)
+    (first last : LivingSink) → StaysOff made.setup before mid → StaysOff made.setup mid after → Goes made its before mid received lines text between first
+    → Goes made its mid after (stayed made before mid received) others between told last → Goes made its before after received (lines ++ others) text told last
+goes_then made its before mid after received lines others text between told first last off more goes then_goes = (
+  subst (λ past. Lives made its after past last) (goes_on made.setup before mid after received off more) then_goes.0,
+  more_put text between told lines others goes.1 then_goes.1,
+)
+
+-- ---- so many of them
+
+pub record Repeats {A : Type 0} (made : Made) (its : Option ℕ) (call : Call) (waiting : List Call → List A) (lines : ℕ → Lines) (life : List Call)
+    (received : List sinks.Call) (text told : List ℕ) (living : LivingSink) : Type 0 where
+  pub count : ℕ
+  pub within : count ≤ length (waiting life)
+  pub goes : Goes made its life (repeated count call life) received (lines count) text told living
+
+pub none_yet : {A : Type 0} (made : Made) (its : Option ℕ) (call : Call) (waiting : List Call → List A) (lines : ℕ → Lines) (life : List Call) (received : List sinks.Call)
+    (text : List ℕ) (living : LivingSink) → lines 0 ≡ [] → Lives made its life received living → Repeats made its call waiting lines life received text text living
+none_yet made its call waiting lines life received text living first lives = record {
+  count = 0;
+  within = omega arith;
+  goes = (
+    lives_stayed made its life received living lives,
+    nothing_put text ∙ ap (λ (ls : Lines). text ++ concat ls) (sym first),
+  );
+}
+
+some_is : {A : Type 0} (first : Option A) → is_none first ≡ false → (x : A) × (first ≡ Some x)
+some_is (Some x) is = (x, refl)
+some_is None is = absurd cc
+
+none_is : {A : Type 0} (first : Option A) → is_none first ≡ true → first ≡ None
+none_is (Some x) is = absurd cc
+none_is None is = refl
+
+pub one_again : {A : Type 0} (made : Made) (its : Option ℕ) (link : ℕ) (call : Call) (waiting : List Call → List A) (lines : ℕ → Lines) (line : List Call → Lines)
+    (life : List Call) (received : List sinks.Call) (text told next : List ℕ) (old new : LivingSink) → IsKind made link call waiting
+    → ((n : ℕ) → lines (suc n) ≡ lines n ++ line (repeated n call life)) → (r : Repeats made its call waiting lines life received text told old)
+    → (is_none (slice_get (waiting (repeated r.count call life)) 0) ≡ false)
+    × Goes made its (repeated r.count call life) (call ∷ repeated r.count call life) (stayed made life (repeated r.count call life) received) (line (repeated r.count call life))
+    told next new
+    → Repeats made its call waiting lines life received text next new
+one_again made its link call waiting lines line life received text told next old new kind more r turn =
+    let there = some_is (slice_get (waiting (repeated r.count call life)) 0) turn.0 in
+    let goes : Goes made its life (call ∷ repeated r.count call life) received (lines r.count ++ line (repeated r.count call life)) text next new =
+    goes_then made its life (repeated r.count call life) (call ∷ repeated r.count call life) received (lines r.count) (line (repeated r.count call life)) text told next old new
+    (all_off made link call waiting kind r.count life) (kind.off (repeated r.count call life)) r.goes turn.1 in
+    record {
+      count = suc r.count;
+      within = one_more call waiting kind.each r.count life there.0 there.1;
+      goes = (goes.0, goes.1 ∙ ap (λ (ls : Lines). text ++ concat ls) (sym (more r.count)));
+    }
+
+pub all_done : {A : Type 0} (made : Made) (its : Option ℕ) (link : ℕ) (call : Call) (waiting : List Call → List A) (lines : ℕ → Lines) (life : List Call)
+    (received : List sinks.Call) (text told next : List ℕ) (old new : LivingSink) → IsKind made link call waiting → (r : Repeats made its call waiting lines life received text told old)
+    → (is_none (slice_get (waiting (repeated r.count call life)) 0) ≡ true)
+    × Stays made its (repeated r.count call life) (stayed made life (repeated r.count call life) received) told next new
+    → Goes made its life (repeated (length (waiting life)) call life) received (lines (length (waiting life))) text next new
+all_done made its link call waiting lines life received text told next old new kind r turn =
+    let all : r.count ≡ length (waiting life) =
+    no_more call waiting kind.each r.count life r.within (none_is (slice_get (waiting (repeated r.count call life)) 0) turn.0) in
+    subst (λ n. Goes made its life (repeated n call life) received (lines n) text next new) all (turn.1.0, turn.1.1 ∙ r.goes.1)
+
+-- ---- a drain
+
+pub drain_goes : (made : Made) (its : Option ℕ) (link : ℕ) (label : Label) (life : List Call) (received : List sinks.Call) (text first mid last : List ℕ) (one two three : LivingSink)
+    → Goes made its life (served_out link life) received (serve_lines label made link (length (writes_waiting link life)) life) text first one
+    → Goes made its (served_out link life) (told_out made.setup made.mtu link (served_out link life)) (stayed made life (served_out link life) received)
+    (tell_lines label made link (length (notices_waiting made.setup made.mtu link (served_out link life))) (served_out link life)) first mid two
+    → Goes made its (told_out made.setup made.mtu link (served_out link life)) (drained made.setup made.mtu link life)
+    (stayed made (served_out link life) (told_out made.setup made.mtu link (served_out link life)) (stayed made life (served_out link life) received))
+    (read_lines label made link (length (reads_waiting made.setup made.mtu link (told_out made.setup made.mtu link (served_out link life))))
+    (told_out made.setup made.mtu link (served_out link life))) mid last three
+    → Goes made its life (drained made.setup made.mtu link life) received (drain_lines label made link life) text last three
+drain_goes made its link label life received text first mid last one two three serves tells reads =
+    let served : List Call = served_out link life in
+    let told : List Call = told_out made.setup made.mtu link served in
+    let writes : ℕ = length (writes_waiting link life) in
+    let notices : ℕ = length (notices_waiting made.setup made.mtu link served) in
+    let count : ℕ = length (reads_waiting made.setup made.mtu link told) in
+    let off = all_off made link (calls.served link) (writes_waiting link) (serving made link) writes life in
+    let off_told = all_off made link (calls.told link) (notices_waiting made.setup made.mtu link) (telling made link) notices served in
+    let off_read = all_off made link (calls.read link) (reads_waiting made.setup made.mtu link) (reading made link) count told in
+    subst (λ lines. Goes made its life (drained made.setup made.mtu link life) received lines text last three)
+    (sym (append_assoc (serve_lines label made link writes life) (tell_lines label made link notices served) (read_lines label made link count told)))
+    (goes_then made its life served (drained made.setup made.mtu link life) received (serve_lines label made link writes life)
+    (tell_lines label made link notices served ++ read_lines label made link count told) text first last one three off (λ none. off_read (off_told none)) serves
+    (goes_then made its served told (drained made.setup made.mtu link life) (stayed made life served received) (tell_lines label made link notices served)
+    (read_lines label made link count told) first mid last two three off_told off_read tells reads))

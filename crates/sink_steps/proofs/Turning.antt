@@ -1,0 +1,73 @@
+-- What waits first on a link: it is taken, or none waits.
+use Rattle.std.proofs.Common.{ℕ, ◌≡◌, Bool, true, false, List, ◌++◌, slice_get, Option, Some, None, Ok, refl, ap, ◌∙◌}
+use Rattle.std.specs.Prelude.{is_none, not, option_map}
+use Rattle.std.specs.List.{concat}
+use Rattle.std.specs.Option.{option_or}
+use Rattle.delegator_states.specs.declared.notice.Notice.{Notice}
+use Rattle.delegator_states.specs.States.{Step, sight_of}
+use Rattle.delegator_states.specs.Values.{state_at, value}
+use Rattle.delegator_states.specs.Writes.{reply_of}
+use Rattle.link_histories.specs.Calls.{Call, steps_of, writes_waiting}
+use Rattle.link_histories.specs.Links.{delivered, language, notices_waiting, reads_waiting}
+use Rattle.notice_links.specs.Links.{reads_of, waiting_of}
+use Rattle.sink_histories.specs.Lives.{Made}
+use Rattle.sink_histories.specs.Output.{if_there, notified, replied, stated, was_read}
+use Rattle.sink_histories.specs.Refusals.{refuse_if}
+use Rattle.sink_steps.specs.declared.sink.LivingSink.{LivingSink}
+use Rattle.sink_steps.specs.Making.{Turns}
+use Rattle.sink_steps.proofs.Air.{Same, waiting_same}
+use Rattle.sink_steps.proofs.Printing.{one_put}
+use Rattle.transcript_text.specs.declared.refusal.Refusal.{Refusal}
+use Rattle.transcript_text.specs.declared.refusal.Refusal.TheVariants.{NoSuchLink, NothingWaiting}
+
+-- ---- a call that answers what there was
+
+pub some_there : {A B : Type 0} (f : A → B) (first : Option A) (x : B) → Some x ≡ option_map f first → is_none first ≡ false
+some_there f (Some y) x is = refl
+some_there f None x is = absurd cc
+
+pub none_there : {A B : Type 0} (f : A → B) (first : Option A) → None ≡ option_map f first → is_none first ≡ true
+none_there f (Some y) is = absurd cc
+none_there f None is = refl
+
+pub its_line : {B : Type 0} (line : B → List ℕ) (first : Option B) (x : B) (text told : List ℕ) → Some x ≡ first → told ≡ text ++ line x → told ≡ text ++ concat (if_there line first)
+its_line line first x text told is put = one_put text told (line x) put ∙ ap (λ (o : Option _). text ++ concat (if_there line o)) is
+
+pub replied_same : (made : Made) (link : ℕ) (all life : List Call) → Same all life
+    → option_map (reply_of (sight_of made.setup (steps_of all))) (slice_get (writes_waiting link all) 0) ≡ replied made link life
+replied_same made link all life same = λ i. option_map (reply_of (sight_of made.setup (same.steps i))) (slice_get (waiting_same link all life same i) 0)
+
+pub notified_same : (made : Made) (link : ℕ) (all life : List Call) → Same all life
+    → option_map (delivered made.mtu) (slice_get (notices_waiting made.setup made.mtu link all) 0) ≡ notified made link life
+notified_same made link all life same = ap (λ acts. option_map (delivered made.mtu) (slice_get (waiting_of acts) 0)) (same.acts made.setup made.mtu link)
+
+pub was_read_same : (made : Made) (link : ℕ) (all life : List Call) → Same all life
+    → option_map (stated made all) (slice_get (reads_waiting made.setup made.mtu link all) 0) ≡ was_read made link life
+was_read_same made link all life same =
+    let stated_by : List Step → ℕ → Notice = λ steps slot. record { slot = slot; value = value (state_at (sight_of made.setup steps) slot) } in
+    λ i. option_map (stated_by (same.steps i)) (slice_get (reads_of (language made.mtu) made.setup.slots (same.acts made.setup made.mtu link i)) 0)
+
+-- ---- whether one was taken
+
+pub one_taken : {A : Type 0} (first : Option A) (next same : List ℕ → LivingSink → Type 0) (told : List ℕ) (new : LivingSink) (some : Bool) → some ≡ true
+    → Turns first next same told new (Ok some) → (is_none first ≡ false) × next told new
+one_taken first next same told new true is turn = turn
+one_taken first next same told new false is turn = absurd cc
+
+pub none_taken : {A : Type 0} (first : Option A) (next same : List ℕ → LivingSink → Type 0) (told : List ℕ) (new : LivingSink) (some : Bool) → some ≡ false
+    → Turns first next same told new (Ok some) → (is_none first ≡ true) × same told new
+none_taken first next same told new true is turn = absurd cc
+none_taken first next same told new false is turn = turn
+
+-- ---- why a line is refused
+
+-- that nothing waits
+abbrev pub idle_refusal : Bool → Option Refusal
+idle_refusal none = option_or (refuse_if none NothingWaiting) None
+
+-- that the link is not joined, or else this
+abbrev pub link_refusal : Bool → Option Refusal → Option Refusal
+link_refusal joined others = option_or (refuse_if (not joined) NoSuchLink) others
+
+pub no_link : (joined : Bool) (others : Option Refusal) → joined ≡ false → link_refusal joined others ≡ Some NoSuchLink
+no_link joined others is = ap (λ b. link_refusal b others) is

@@ -1,0 +1,19 @@
+use Rattle.std.proofs.Common.{◌++◌, refl, ap, ◌∙◌}
+use Rattle.delegator_states.specs.Controls.{control_heard}
+use Rattle.delegator_states.specs.States.{control_heard as controlled, sight_of}
+use Rattle.link_histories.specs.Calls.{stepped}
+use Rattle.sink_lines.specs.Lines.{control_words, sink_line}
+use Rattle.sink_steps.proofs.Grown.{its_same, lives_more}
+use Rattle.sink_steps.proofs.Printing.{one_put}
+use Rattle.sink_steps.proofs.sink.LivingSink.control.Goals as goal
+
+pub returns : goal.returns
+returns c source made its life received lives =
+    let heard = c.in_ok-heard.ensures.answer made.setup made.mtu lives.all lives.stands
+    ∙ ap (λ ss. control_heard (sight_of made.setup ss).place c.args.octets.now) (its_same made its life received c.args.self.now lives).steps in (
+      refl,
+      lives_more made its its (stepped (controlled c.args.octets.now)) life received c.args.self.now _ tt lives
+          (c.in_ok-heard.ensures.stands made.setup made.mtu lives.all lives.stands) lives.source_is,
+      one_put c.args.text.now c.put_control_heard.new.text _
+          (c.in_ok-put_control_heard.ensures ∙ ap (λ answer. c.args.text.now ++ sink_line c.args.sink (control_words answer)) heard),
+    )

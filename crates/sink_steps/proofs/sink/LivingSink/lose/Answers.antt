@@ -1,0 +1,13 @@
+use Rattle.std.proofs.Common.{refl}
+use Rattle.delegator_states.specs.States.{train_lost}
+use Rattle.link_histories.specs.Calls.{stepped}
+use Rattle.sink_steps.proofs.Grown.{lives_more}
+use Rattle.sink_steps.proofs.Printing.{one_put}
+use Rattle.sink_steps.proofs.sink.LivingSink.lose.Goals as goal
+
+pub returns : goal.returns
+returns c source made its life received lives = (
+  refl,
+  lives_more made its its (stepped train_lost) life received c.args.self.now _ tt lives (c.in_ok-lost.ensures.stands made.setup made.mtu lives.all lives.stands) lives.source_is,
+  one_put c.args.text.now c.put_idle.new.text _ c.in_ok-put_idle.ensures,
+)

@@ -1,0 +1,31 @@
+use Rattle.std.proofs.Common.{Ok, slice_get, refl, sym, ap, ◌∙◌}
+use Rattle.link_histories.specs.Links.{delivered, notices_waiting}
+use Rattle.sink_histories.specs.Output.{notified}
+use Rattle.link_histories.specs.Calls as calls
+use Rattle.sink_lines.specs.Labels.{label_of}
+use Rattle.sink_lines.specs.Lines.{value_line}
+use Rattle.sink_steps.proofs.Grown.{its_joined, its_same, lives_more, lives_on}
+use Rattle.sink_steps.proofs.Turning.{its_line, none_there, notified_same, some_there}
+use Rattle.sink_steps.proofs.sink.LivingSink.tell_next.Goals as goal
+
+pub returns-in_default : goal.returns-in_default
+returns-in_default c made its life received lives on =
+    let same = its_same made its life received c.args.self.now lives in
+    let there = its_joined c.args.link made its life received c.args.self.now lives ∙ on in
+    let answer = sym c.in_default.is ∙ c.in_ok-notice.ensures.answer made.setup made.mtu lives.all lives.stands there ∙ notified_same made c.args.link lives.all life same in (
+      none_there (delivered made.mtu) (slice_get (notices_waiting made.setup made.mtu c.args.link life) 0) answer,
+      (lives_on made its life received c.args.self.now _ lives (c.in_ok-notice.ensures.none made.setup made.mtu lives.all lives.stands there (ap Ok c.in_default.is)) refl, refl),
+    )
+
+pub returns : goal.returns
+returns c made its life received lives on =
+    let same = its_same made its life received c.args.self.now lives in
+    let there = its_joined c.args.link made its life received c.args.self.now lives ∙ on in
+    let answer = sym c.in-Some.is ∙ c.in_ok-notice.ensures.answer made.setup made.mtu lives.all lives.stands there ∙ notified_same made c.args.link lives.all life same in (
+      some_there (delivered made.mtu) (slice_get (notices_waiting made.setup made.mtu c.args.link life) 0) c.in-Some.notice answer,
+      (
+        lives_more made its its (calls.told c.args.link) life received c.args.self.now _ tt lives (c.in_ok-notice.ensures.stands made.setup made.mtu lives.all lives.stands there) lives.source_is,
+        its_line (value_line (label_of c.args.label).notice (label_of c.args.label).numbers) (notified made c.args.link life) c.in-Some.notice c.args.text.now c.put_notice.new.text answer
+            c.in_ok-put_notice.ensures,
+      ),
+    )

@@ -1,0 +1,13 @@
+use Rattle.std.proofs.Common.{◌++◌, refl, ap, ◌∙◌}
+use Rattle.sink_lines.specs.Lines.{sink_line, train_words}
+use Rattle.sink_steps.proofs.Printing.{one_put}
+use Rattle.sink_steps.proofs.sink.LivingSink.train.Goals as goal
+
+pub returns : goal.returns
+returns c source made its life received from lives = (
+  refl,
+  c.in_ok-heard.ensures.lives source made its life received from lives,
+  one_put c.args.text.now c.put_train_heard.new.text _
+      (c.in_ok-put_train_heard.ensures
+      ∙ ap (λ heard. c.args.text.now ++ sink_line c.args.sink (train_words heard)) (c.in_ok-heard.ensures.answer source made its life received from lives)),
+)
