@@ -19,11 +19,13 @@ use Rattle.transcript_text.specs.declared.stop.Stop.{Stop}
 use Rattle.transcript_text.specs.declared.stop.Stop.TheVariants.{Refused, OutletFault, Memory}
 use Rattle.scenario_text.specs.declared.step.Step.{Step}
 use Rattle.scenario_text.specs.declared.step.Step.TheVariants.{Air, Hear, Inject, Sniff}
-use Rattle.scenario_history.specs.Steps.{chosen_of, chosen_steps, running, stage_of}
+use Rattle.scenario_history.specs.Steps.{chosen_of, chosen_steps, running, sinks_made, stage_of}
 use Rattle.scenario_history.specs.Source.{event_back, is_heard, pdu_in, performed, setup_of, source_calls}
-use Rattle.scenario_history.specs.Sinks.{Spot, hear_at, heard_on_air, is_lost, reaches, sink_calls, source_of, spot_at, unless_lost}
+use Rattle.scenario_history.specs.Sinks.{Spot, hear_at, heard_on_air, is_lost, reaches, sink_calls, source_of, spot_at, spots_of, unless_lost}
 use Rattle.scenario_history.specs.Boxes.{box_of}
 use Rattle.scenario_history.specs.Output.{injected_hearing}
+use Rattle.scenario_history.specs.Worlds.{life}
+use Rattle.sink_histories.specs.Lives.{made_of}
 use Rattle.scenario_history.specs.Refusals.{air_refusal, no_place, no_sink, phase_refusal, refuse_if, source_refusal}
 use Rattle.scenario_sources.specs.Answers.{NoPlace}
 use Rattle.scenario_sources.specs.declared.sources.Sources.{Sources}
@@ -39,7 +41,7 @@ use Rattle.replay_steps.specs.Airing.{OnAir, Reaches, past_on_air}
 use Rattle.replay_steps.specs.Machines.{Stands, past_of}
 use Rattle.replay_steps.specs.Meets.{Quiet, Tells}
 use Rattle.replay_steps.specs.Versions.{stage_in}
-use Rattle.replay_steps.proofs.Stepping.{or_none}
+use Rattle.replay_steps.proofs.Stepping.{brought, or_none}
 
 -- ---- whether a PDU may be handed to a sink
 
@@ -92,13 +94,20 @@ heard_as past n s t d e bis subevent o p new a b c h =
     let O : List ℕ → Type 0 = λ x. SinksStand (with_hearing n s d bis subevent x past) new in
     subst S a (subst E b (subst O c h))
 
-brought : (steps : List Step) (made : Step) (old new : Machine) → Stands steps old → SaysNothing made → stage_of (made ∷ steps) ≡ stage_of steps
-    → new.stage ≡ old.stage → new.sources ≡ old.sources → SinksStand (past_of (made ∷ steps)) new.sinks → Stands (made ∷ steps) new
-brought steps made old new stands nothing on stage same heard = record {
-  stage = ap stage_in stage ∙ stands.stage ∙ sym on;
-  sources = let S : Sources → Type 0 = λ s. SourcesStand (made ∷ steps) s in subst S (sym same) (sources_stay made steps old.sources nothing stands.sources);
-  sinks = heard;
-}
+-- the same past, where the sinks have their lives by a line that leaves them
+if_same : {A : Type 0} (b : Bool) (x : A) → x ≡ (if b then x else x)
+if_same true x = refl
+if_same false x = refl
+
+hearing_stays : (steps : List Step) (made : Step) (n event bis subevent : ℕ) (octets : List ℕ) (sinks : Sinks)
+    → ((m : ℕ) → box_of m steps ≡ box_of m (made ∷ steps)) → ((m : ℕ) → made_of m steps ≡ made_of m (made ∷ steps))
+    → ((m : ℕ) → source_of m steps ≡ source_of m (made ∷ steps)) → ((m : ℕ) → life m steps ≡ life m (made ∷ steps))
+    → ((m : ℕ) → (with_hearing n (chosen_of steps) event bis subevent octets (past_of steps)).received m ≡ sink_calls airs_of m (made ∷ steps))
+    → sinks_made steps ≡ sinks_made (made ∷ steps)
+    → SinksStand (with_hearing n (chosen_of steps) event bis subevent octets (past_of steps)) sinks → SinksStand (past_of (made ∷ steps)) sinks
+hearing_stays steps made n event bis subevent octets sinks boxes mades sources lives received count stands =
+    stands_same (with_hearing n (chosen_of steps) event bis subevent octets (past_of steps)) (past_of (made ∷ steps)) sinks
+    (record { boxes = boxes; mades = mades; sources = sources; lives = lives; received = received; made = count }) stands
 
 pub hear_meets : (boxes version n source event back bis subevent : ℕ) (pdu : List ℕ) (steps : List Step) (old new : Machine) (o : Option Hearing) (group : Group)
     → Stands steps old → stage_of steps ≡ running version → Reaches steps n (Ok group)
@@ -109,9 +118,12 @@ pub hear_meets : (boxes version n source event back bis subevent : ℕ) (pdu : L
 hear_meets boxes version n source event back bis subevent pdu steps old new o group stands e r place chosen is stage same h = (
   own_fault boxes version n steps (Hear n back bis subevent) (hear_brings n back bis subevent) e r.0 r.2 ∙ place.0,
   brought steps (Hear n back bis subevent) old new stands (hear_says n back bis subevent) refl stage same
+      (hearing_stays steps (Hear n back bis subevent) n (event_back (chosen_steps steps) back) bis subevent
+      (pdu_in airs_of (chosen_steps steps) (event_back (chosen_steps steps) back) bis subevent) new.sinks
+      (λ m. refl) (λ m. refl) (λ m. refl) (λ m. if_same (n == m) (life m steps)) (λ m. refl) refl
       (heard_as (past_of steps) n source (chosen_of steps) event (event_back (chosen_steps steps) back) bis subevent pdu
       (pdu_in airs_of (chosen_steps steps) (event_back (chosen_steps steps) back) bis subevent) new.sinks chosen is place.1
-      (some_heard (past_of steps) n source event bis subevent pdu new.sinks o r.2 h)),
+      (some_heard (past_of steps) n source event bis subevent pdu new.sinks o r.2 h))),
 )
 
 pub place_fails : (boxes version n back bis subevent : ℕ) (steps : List Step) (made : Step) (new : Machine) (group : Group) (stop : Stop) → Brings n made
@@ -141,7 +153,9 @@ inject_meets starts version n source event back bis subevent octets steps old ne
     ∙ ap (λ d. hearing_by (source_of n steps) (sink_calls airs_of n steps) (chosen_of steps) d bis subevent octets) is in (
       own_fault (length starts) version n steps made (inject_brings n back bis subevent octets) e r.0 r.2 ∙ place,
       brought steps made old new stands (inject_says n back bis subevent octets) refl stage same
-          (heard_as (past_of steps) n source (chosen_of steps) event (event_back (chosen_steps steps) back) bis subevent octets octets new.sinks chosen is refl h.2),
+          (hearing_stays steps made n (event_back (chosen_steps steps) back) bis subevent octets new.sinks
+          (λ m. refl) (λ m. refl) (λ m. refl) (λ m. if_same (n == m) (life m steps)) (λ m. refl) refl
+          (heard_as (past_of steps) n source (chosen_of steps) event (event_back (chosen_steps steps) back) bis subevent octets octets new.sinks chosen is refl h.2)),
       t ∙ ap (λ x. text ++ heard_line n x) answer,
     )
 
@@ -184,14 +198,30 @@ pub air_fails : (boxes version n lose : ℕ) (steps : List Step) (group : Group)
 air_fails boxes version n lose steps group e r none =
     own_fault boxes version n steps (Air n lose) (air_brings n lose) e r.0 r.2 ∙ ap (λ k. refuse_if (k == 0) NotOnAir) none
 
-if_same : {A : Type 0} (b : Bool) (x : A) → x ≡ (if b then x else x)
-if_same true x = refl
-if_same false x = refl
-
 pub air_begins : (steps : List Step) (n lose : ℕ) (sinks : Sinks) → SinksStand (past_of steps) sinks → SinksStand (past_on_air steps n lose 0) sinks
 air_begins steps n lose sinks stands =
     stands_same (past_of steps) (past_on_air steps n lose 0) sinks
-    (record { boxes = λ m. refl; sources = λ m. refl; calls = λ m. if_same (reaches n m steps) (sink_calls airs_of m steps); made = refl }) stands
+    (record {
+      boxes = λ m. refl;
+      mades = λ m. refl;
+      sources = λ m. refl;
+      lives = λ m. refl;
+      received = λ m. if_same (reaches n m steps) (sink_calls airs_of m steps);
+      made = refl;
+    }) stands
+
+-- all spots of the event were heard
+pub air_ends : (steps : List Step) (n lose : ℕ) (sinks : Sinks) → SinksStand (past_on_air steps n lose (spots_of (chosen_steps steps))) sinks
+    → SinksStand (past_of (Air n lose ∷ steps)) sinks
+air_ends steps n lose sinks stands =
+    stands_same (past_on_air steps n lose (spots_of (chosen_steps steps))) (past_of (Air n lose ∷ steps)) sinks (record {
+      boxes = λ m. refl;
+      mades = λ m. refl;
+      sources = λ m. refl;
+      lives = λ m. if_same (n == m) (life m steps);
+      received = λ m. refl;
+      made = refl;
+    }) stands
 
 -- the PDU at a spot is lost
 spot_lost : (b : Bool) (lost : Bool) (call : Call) (calls heard : List Call) → lost ≡ true
@@ -208,8 +238,10 @@ lost_next steps n lose i sinks lost stands =
     subst P (sym (add-one i)) (stands_same (past_on_air steps n lose i) (past_on_air steps n lose (suc i)) sinks
     (record {
       boxes = λ m. refl;
+      mades = λ m. refl;
       sources = λ m. refl;
-      calls = λ m. spot_lost (reaches n m steps) _ (hear_at airs_of own (event_back own 0) (spot_at (setup_of own).info i)) (sink_calls airs_of m steps)
+      lives = λ m. refl;
+      received = λ m. spot_lost (reaches n m steps) _ (hear_at airs_of own (event_back own 0) (spot_at (setup_of own).info i)) (sink_calls airs_of m steps)
           (heard_on_air airs_of own lose i (sink_calls airs_of m steps)) lost;
       made = refl;
     }) stands)
@@ -240,8 +272,10 @@ heard_next steps n lose i source event bis subevent pdu sinks o kept lives chose
     (past_on_air steps n lose (suc i)) sinks
     (record {
       boxes = λ m. refl;
+      mades = λ m. refl;
       sources = λ m. refl;
-      calls = λ m. spot_heard (reaches n m steps) _ (hear_at airs_of own (event_back own 0) (spot_at (setup_of own).info i)) (sink_calls airs_of m steps)
+      lives = λ m. refl;
+      received = λ m. spot_heard (reaches n m steps) _ (hear_at airs_of own (event_back own 0) (spot_at (setup_of own).info i)) (sink_calls airs_of m steps)
           (heard_on_air airs_of own lose i (sink_calls airs_of m steps)) kept;
       made = refl;
     }) (subst S s (subst B b heard)))

@@ -1,5 +1,6 @@
 pub mod Citable
 pub mod Stepping
+pub mod SinkLines
 pub mod Airing
 pub mod Closing
 pub mod Ending

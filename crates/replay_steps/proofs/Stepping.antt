@@ -1,20 +1,26 @@
 -- A step by the room that it belongs to.
-use Rattle.std.proofs.Common.{◌≡◌, ℕ, List, ◌∷◌, true, false, refl, sym, ◌∙◌, ap, subst, Option, None, Some, Result, Ok, Err}
+use Rattle.std.proofs.Common.{◌≡◌, ℕ, ◌==◌, List, [], ◌∷◌, true, false, if◌then◌else◌, unwrap_or, refl, sym, ◌∙◌, ap, subst, Option, None, Some, Result, Ok, Err}
 use Rattle.std.specs.Option.{option_or}
 use Rattle.source_machine.specs.Airs.{airs_of}
-use Rattle.group_sink.specs.Calls.{Tuning}
+use Rattle.big_info.specs.declared.info.BigInfo.{BigInfo}
+use Rattle.delegator_machine.specs.Groups.{numbers_alone, tuning_of as tuning_to}
+use Rattle.delegator_states.specs.LastGiven.{last_given}
+use Rattle.delegator_states.specs.Trains.{Joining}
+use Rattle.group_sink.specs.Calls.{Tuning, tune}
 use Rattle.transcript_text.specs.declared.refusal.Refusal.{Refusal}
 use Rattle.transcript_text.specs.declared.refusal.Refusal.TheVariants.{NoSuchBis, NotBuilt, Order}
 use Rattle.transcript_text.specs.declared.stop.Stop.{Stop}
 use Rattle.transcript_text.specs.declared.stop.Stop.TheVariants.{Refused, OutletFault, Memory}
 use Rattle.scenario_text.specs.declared.step.Step.{Step}
-use Rattle.scenario_text.specs.declared.step.Step.TheVariants.{Announce, Sink, Source, Tuned}
-use Rattle.scenario_history.specs.Steps.{Stage, chosen_of, chosen_steps, running, stage_after, stage_of}
-use Rattle.scenario_history.specs.Source.{is_sending, setup_of, takes_units}
+use Rattle.scenario_text.specs.declared.step.Step.TheVariants.{End, Group, Scenario, Sink, Source, Tuned}
+use Rattle.scenario_history.specs.Steps.{Stage, chosen_of, chosen_steps, running, stage_after, stage_of, version_at}
+use Rattle.scenario_history.specs.Source.{group_of, no_group, setup_of, takes_units}
 use Rattle.scenario_history.specs.Sinks.{tuning_of}
 use Rattle.scenario_history.specs.Boxes.{box_of}
+use Rattle.scenario_history.specs.Worlds.{joining_on}
+use Rattle.sink_histories.specs.Lives.{Made, horizon_of, version_given}
 use Rattle.scenario_history.specs.Steps.{sinks_made}
-use Rattle.scenario_history.specs.Refusals.{has_beyond, is_misplaced, is_out_of_phase, is_unbuilt, no_sink, phase_refusal, refuse_if, sink_refusal, source_refusal, twin_refusal}
+use Rattle.scenario_history.specs.Refusals.{has_beyond, horizon_in, is_misplaced, is_out_of_phase, is_unbuilt, no_sink, phase_refusal, refuse_if, sink_refusal, source_refusal, twin_refusal}
 use Rattle.scenario_sources.specs.declared.sources.Sources.{Sources}
 use Rattle.scenario_sources.specs.Answers as sources
 use Rattle.scenario_sources.specs.Faults.{fault_of}
@@ -55,6 +61,15 @@ source_fault boxes version steps made on e =
 stage_stays : (steps : List Step) (made : Step) (old new : Machine) → GoesOn made → Stands steps old → new.stage ≡ old.stage → stage_in new.stage ≡ stage_of (made ∷ steps)
 stage_stays steps made old new on stands same = ap stage_in same ∙ stands.stage ∙ sym (on.stage (stage_of steps))
 
+-- a step that says nothing of a source, by what it made of the sinks
+pub brought : (steps : List Step) (made : Step) (old new : Machine) → Stands steps old → SaysNothing made → stage_of (made ∷ steps) ≡ stage_of steps
+    → new.stage ≡ old.stage → new.sources ≡ old.sources → SinksStand (past_of (made ∷ steps)) new.sinks → Stands (made ∷ steps) new
+brought steps made old new stands nothing on stage same heard = record {
+  stage = ap stage_in stage ∙ stands.stage ∙ sym on;
+  sources = let S : Sources → Type 0 = λ s. SourcesStand (made ∷ steps) s in subst S (sym same) (sources_stay made steps old.sources nothing stands.sources);
+  sinks = heard;
+}
+
 -- ---- a step of the sources alone
 
 pub sources_meet : (boxes version : ℕ) (steps : List Step) (made : Step) (old new : Machine) (r : Result (Unit {0}) Stop) → GoesOn made
@@ -86,9 +101,16 @@ choose_meets boxes version source steps old new stands e stage same s = (
 
 -- ---- a step of the sinks alone
 
+-- less is said after want of memory
+pub less_said : (fault : Option Refusal) (past next : Past) (new : Sinks) (r : Result (Unit {0}) Stop) → sinks.Answers fault past next new r → sinks.Tunes fault past next new r
+less_said fault past next new (Ok x) a = a
+less_said fault past next new (Err (Refused reason)) a = a
+less_said fault past next new (Err OutletFault) a = a
+less_said fault past next new (Err Memory) a = tt
+
 pub sinks_meet : (boxes : ℕ) (steps : List Step) (made : Step) (fault : Option Refusal) (next : Past) (old new : Machine) (r : Result (Unit {0}) Stop) → Stands steps old
     → phase_refusal airs_of boxes steps made ≡ fault → SaysNothing made → stage_of (made ∷ steps) ≡ stage_of steps → past_of (made ∷ steps) ≡ next
-    → new.stage ≡ old.stage → new.sources ≡ old.sources → sinks.Answers fault (past_of steps) next new.sinks r → Quiet boxes steps made new r
+    → new.stage ≡ old.stage → new.sources ≡ old.sources → sinks.Tunes fault (past_of steps) next new.sinks r → Quiet boxes steps made new r
 sinks_meet boxes steps made fault next old new (Ok x) stands is nothing on past stage same a = (
   is ∙ a.0,
   record {
@@ -101,38 +123,78 @@ sinks_meet boxes steps made fault next old new (Err (Refused reason)) stands is 
 sinks_meet boxes steps made fault next old new (Err OutletFault) stands is nothing on past stage same a = a
 sinks_meet boxes steps made fault next old new (Err Memory) stands is nothing on past stage same a = tt
 
-pub make_meets : (boxes version n streams slots : ℕ) (mtu : Option ℕ) (steps : List Step) (old new : Machine) (r : Result (Unit {0}) Stop) → Stands steps old
-    → stage_of steps ≡ running version → new.stage ≡ old.stage → new.sources ≡ old.sources
-    → sinks.Answers (not_made (box_of n steps) (sinks_made steps) boxes) (past_of steps) (with_sink n (past_of steps)) new.sinks r
+-- ---- sink
+
+-- a scenario has one version, whether its first step says it or where it stands
+version_by : (step : Step) (earlier : List Step) → unwrap_or (last_given version_given earlier) 1 ≡ version_at (stage_of earlier)
+    → unwrap_or (last_given version_given (step ∷ earlier)) 1 ≡ version_at (stage_of (step ∷ earlier))
+version_by (Scenario version) earlier same = refl
+version_by End earlier same = same
+version_by other earlier same = same
+
+version_said : (steps : List Step) → unwrap_or (last_given version_given steps) 1 ≡ version_at (stage_of steps)
+version_said [] = refl
+version_said (step ∷ earlier) = version_by step earlier (version_said earlier)
+
+horizon_said : (version horizon : ℕ) (steps : List Step) → stage_of steps ≡ running version → horizon ≡ horizon_in version → horizon ≡ horizon_of steps
+horizon_said version horizon steps e is = is ∙ ap horizon_in (sym (version_said steps ∙ ap version_at e))
+
+-- what the line says, in a scenario whose groups reach so far ahead
+abbrev made_with : (streams slots horizon : ℕ) → Option ℕ → Made
+made_with streams slots horizon mtu = record { setup = record { streams = streams; slots = slots; horizon = horizon }; mtu = mtu }
+
+pub make_meets : (boxes version n streams slots horizon : ℕ) (mtu : Option ℕ) (steps : List Step) (old new : Machine) (r : Result (Unit {0}) Stop) → Stands steps old
+    → stage_of steps ≡ running version → horizon ≡ horizon_in version → new.stage ≡ old.stage → new.sources ≡ old.sources
+    → sinks.Answers (not_made (box_of n steps) (sinks_made steps) boxes) (past_of steps) (with_sink n (made_with streams slots horizon mtu) (past_of steps)) new.sinks r
     → Quiet boxes steps (Sink n streams slots mtu) new r
-make_meets boxes version n streams slots mtu steps old new r stands e stage same a =
-    sinks_meet boxes steps (Sink n streams slots mtu) (not_made (box_of n steps) (sinks_made steps) boxes) (with_sink n (past_of steps)) old new r stands
-    (rw e (or_none (not_made (box_of n steps) (sinks_made steps) boxes))) (sink_says n streams slots mtu) refl refl stage same a
+make_meets boxes version n streams slots horizon mtu steps old new r stands e is stage same a =
+    let fault : Option Refusal = not_made (box_of n steps) (sinks_made steps) boxes in
+    let next : Past = with_sink n (made_with streams slots horizon mtu) (past_of steps) in
+    sinks_meet boxes steps (Sink n streams slots mtu) fault next old new r stands (rw e (or_none fault)) (sink_says n streams slots mtu) refl
+    (ap (λ h. with_sink n (made_with streams slots h mtu) (past_of steps)) (sym (horizon_said version horizon steps e is))) stage same
+    (less_said fault (past_of steps) next new.sinks r a)
+
+-- ---- tuned
 
 -- the chosen source is not between its start and its stop
 pub tuned_early : (boxes version n which : ℕ) (steps : List Step) → stage_of steps ≡ running version → takes_units (chosen_steps steps) ≡ false
     → phase_refusal airs_of boxes steps (Tuned n which) ≡ Some Order
 tuned_early boxes version n which steps e going = rw (e, going) refl
 
+-- a `group` line says the numbers of a group and nothing more
+plain_by : (step : Step) (own : List Step) → numbers_alone (unwrap_or (group_of own) no_group).info ≡ (unwrap_or (group_of own) no_group).info
+    → numbers_alone (unwrap_or (group_of (step ∷ own)) no_group).info ≡ (unwrap_or (group_of (step ∷ own)) no_group).info
+plain_by (Group framing origin delay iso sdu max_sdu max_pdu num_bis bn nse irc pto sub spacing phy) own same = refl
+plain_by other own same = same
+
+plain_in : (own : List Step) → numbers_alone (unwrap_or (group_of own) no_group).info ≡ (unwrap_or (group_of own) no_group).info
+plain_in [] = refl
+plain_in (step ∷ own) = plain_by step own (plain_in own)
+
+-- the group that the source stands before, and the one that its receivers go by
+abbrev joined_by : Tuning → Joining
+joined_by tuning = record { info = tuning.info; which = tuning.which; first = tuning.first; anchor = tuning.anchor; delay = tuning.delay }
+
+tuned_to : (own : List Step) (which : ℕ) → tuning_of own which ≡ tuning_to (joining_on own which)
+tuned_to own which = ap (λ (info : BigInfo). record (tuning_of own which) { info = info }) (sym (plain_in own))
+
+-- the sink is put on a group, and its receivers go by this one
+abbrev with_both : ℕ → ℕ → Joining → Tuning → Past → Past
+with_both n source joining tuning past =
+    record (with_tuning n source joining past) { received = λ m. if n == m then tune tuning ∷ past.received m else past.received m }
+
 pub tuned_meets : (boxes version n source which : ℕ) (steps : List Step) (tuning : Tuning) (old new : Machine) (r : Result (Unit {0}) Stop) → Stands steps old
     → stage_of steps ≡ running version → takes_units (chosen_steps steps) ≡ true → source ≡ chosen_of steps → tuning ≡ tuning_of (chosen_steps steps) which
     → new.stage ≡ old.stage → new.sources ≡ old.sources
-    → sinks.Answers (not_tuned (box_of n steps) tuning.info.num_bis tuning.which) (past_of steps) (with_tuning n source tuning (past_of steps)) new.sinks r
+    → sinks.Tunes (not_tuned (box_of n steps) tuning.info.num_bis tuning.which) (past_of steps) (with_tuning n source (joined_by tuning) (past_of steps)) new.sinks r
     → Quiet boxes steps (Tuned n which) new r
 tuned_meets boxes version n source which steps tuning old new r stands e going chosen is stage same a =
     let own : List Step = chosen_steps steps in
     let fault : phase_refusal airs_of boxes steps (Tuned n which) ≡ not_tuned (box_of n steps) tuning.info.num_bis tuning.which =
     rw (e, going) (ap (option_or (no_sink n steps)) (or_none (refuse_if (has_beyond (setup_of own).info.num_bis which) NoSuchBis))
     ∙ ap (λ (t : Tuning). not_tuned (box_of n steps) t.info.num_bis t.which) (sym is)) in
-    sinks_meet boxes steps (Tuned n which) (not_tuned (box_of n steps) tuning.info.num_bis tuning.which) (with_tuning n source tuning (past_of steps)) old new r stands fault
-    (tuned_says n which) refl (ap (λ s. with_tuning n s (tuning_of own which) (past_of steps)) (sym chosen) ∙ ap (λ t. with_tuning n source t (past_of steps)) (sym is)) stage same a
-
--- ---- announce
-
-pub announce_early : (boxes version n : ℕ) (steps : List Step) → stage_of steps ≡ running version → is_sending (chosen_steps steps) ≡ false
-    → phase_refusal airs_of boxes steps (Announce n) ≡ Some Order
-announce_early boxes version n steps e going = rw (e, going) refl
-
-pub announce_unbuilt : (boxes version n : ℕ) (steps : List Step) → stage_of steps ≡ running version → is_sending (chosen_steps steps) ≡ true
-    → phase_refusal airs_of boxes steps (Announce n) ≡ Some NotBuilt
-announce_unbuilt boxes version n steps e going = rw (e, going) refl
+    sinks_meet boxes steps (Tuned n which) (not_tuned (box_of n steps) tuning.info.num_bis tuning.which) (with_tuning n source (joined_by tuning) (past_of steps)) old new r stands fault
+    (tuned_says n which) refl
+    (ap (λ (t : Tuning). with_both n (chosen_of steps) (joining_on own which) t (past_of steps)) (tuned_to own which)
+    ∙ ap (λ s. with_tuning n s (joining_on own which) (past_of steps)) (sym chosen)
+    ∙ ap (λ (t : Tuning). with_tuning n source (joined_by t) (past_of steps)) (sym is)) stage same a

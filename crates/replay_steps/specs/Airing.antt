@@ -11,6 +11,8 @@ use Rattle.scenario_history.specs.Steps.{chosen_steps, sinks_made}
 use Rattle.scenario_history.specs.Source.{event_back, is_heard, performed, setup_of}
 use Rattle.scenario_history.specs.Sinks.{heard_on_air, reaches, sink_calls, source_of}
 use Rattle.scenario_history.specs.Boxes.{box_of}
+use Rattle.scenario_history.specs.Worlds.{life}
+use Rattle.sink_histories.specs.Lives.{made_of}
 use Rattle.scenario_history.specs.Refusals.{no_sink, refuse_if}
 use Rattle.scenario_sinks.specs.Pasts.{Past}
 
@@ -27,8 +29,10 @@ Reaches steps sink (Err Memory) = ⊥
 abbrev pub past_on_air : List Step → ℕ → ℕ → ℕ → Past
 past_on_air steps sink lose count = record {
   boxes = λ n. box_of n steps;
+  mades = λ n. made_of n steps;
   sources = λ n. source_of n steps;
-  calls = λ n. if reaches sink n steps then heard_on_air airs_of (chosen_steps steps) lose count (sink_calls airs_of n steps) else sink_calls airs_of n steps;
+  lives = λ n. life n steps;
+  received = λ n. if reaches sink n steps then heard_on_air airs_of (chosen_steps steps) lose count (sink_calls airs_of n steps) else sink_calls airs_of n steps;
   made = sinks_made steps;
 }
 

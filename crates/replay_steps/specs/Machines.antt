@@ -5,6 +5,8 @@ use Rattle.scenario_text.specs.declared.step.Step.{Step}
 use Rattle.scenario_history.specs.Steps.{stage_of, sinks_made}
 use Rattle.scenario_history.specs.Sinks.{sink_calls, source_of}
 use Rattle.scenario_history.specs.Boxes.{box_of}
+use Rattle.scenario_history.specs.Worlds.{life}
+use Rattle.sink_histories.specs.Lives.{made_of}
 use Rattle.scenario_sources.specs.State.Standing.{SourcesStand}
 use Rattle.scenario_sinks.specs.Pasts.{Past}
 use Rattle.scenario_sinks.specs.State.Standing.{SinksStand}
@@ -15,8 +17,10 @@ use Rattle.replay_steps.specs.declared.machine.Machine.{Machine}
 abbrev pub past_of : List Step → Past
 past_of steps = record {
   boxes = λ n. box_of n steps;
+  mades = λ n. made_of n steps;
   sources = λ n. source_of n steps;
-  calls = λ n. sink_calls airs_of n steps;
+  lives = λ n. life n steps;
+  received = λ n. sink_calls airs_of n steps;
   made = sinks_made steps;
 }
 

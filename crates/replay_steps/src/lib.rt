@@ -3,8 +3,9 @@
 
 mod air_steps;
 mod close_steps;
+mod life_steps;
+mod line_steps;
 mod machine;
-mod sink_steps;
 mod source_steps;
 mod stale;
 mod step;

@@ -4,7 +4,7 @@ ghost use Rattle.ltv_codec.specs.Reading.{bad_of};
 ghost use Rattle.big_info.specs.Widths.{FitsWidths};
 ghost use Rattle.scenario_text.specs.declared.step.Step.{Step};
 ghost use Rattle.scenario_text.specs.declared.step.Step.TheVariants.{Ident as IdentStep, Subgroup as SubgroupStep, Meta as MetaStep, Bis as BisStep, Cipher as CipherStep};
-ghost use Rattle.scenario_text.specs.declared.step.Step.TheVariants.{Announce as AnnounceStep, Start as StartStep, Unit as UnitStep, Source as SourceStep};
+ghost use Rattle.scenario_text.specs.declared.step.Step.TheVariants.{Start as StartStep, Unit as UnitStep, Source as SourceStep};
 ghost use Rattle.scenario_history.specs.Steps.{running, stage_of};
 ghost use Rattle.scenario_sources.specs.Described.{IsPlain, group_step};
 ghost use Rattle.replay_steps.specs.Machines.{Stands};
@@ -16,7 +16,7 @@ use crate::version::Version;
 use bcast_base::Bis;
 use big_info::{BigInfo, Cipher};
 use source_machine::Identity;
-use transcript_text::{Refusal, Stop};
+use transcript_text::Stop;
 
 impl Machine {
     /// `group`: describes the chosen source. Origin and delay are in µs.
@@ -78,17 +78,6 @@ impl Machine {
             → Quiet boxes steps (CipherStep cipher.giv cipher.gskd) self.new result }
     {
         self.sources.encrypt(cipher)
-    }
-
-    /// `announce`: not built yet, between the start and the end of the chosen source.
-    pub(crate) fn announce(&self) -> Result<(), Stop>
-        ensures { (boxes version sink : ℕ) (steps : List Step) → Stands steps self.now → stage_of steps ≡ running version
-            → Quiet boxes steps (AnnounceStep sink) self.now result }
-    {
-        if !self.sources.is_sending() {
-            return Err(Stop::Refused(Refusal::Order));
-        }
-        Err(Stop::Refused(Refusal::NotBuilt))
     }
 
     /// `start`: starts the chosen source.

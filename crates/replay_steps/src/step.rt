@@ -92,7 +92,12 @@ impl Machine {
             Step::Bis { bis, config } => self.bis(bis, config.as_slice()),
             Step::Cipher { giv, gskd } => self.cipher(Cipher { giv, gskd }),
             Step::Start { first } => self.start(version, first),
-            Step::Sink { sink, .. } => self.sink(sink, outlets.len()),
+            Step::Sink {
+                sink,
+                streams,
+                slots,
+                mtu,
+            } => self.sink(version, sink, streams, slots, mtu, outlets.len()),
             Step::Tuned { sink, which } => self.tuned(sink, which),
             Step::Unit { bis, time, octets } => self.unit(bis, time, octets.as_slice()),
             Step::Event => self.event(outlets, text),
@@ -137,37 +142,37 @@ impl Machine {
                 self.sniff(place, text)
             }
             Step::Drop { sink } => self.drop_sink(sink, outlets, text),
-            Step::Announce { .. } => self.announce(),
+            Step::Announce { sink } => self.announce(sink, text),
             Step::Stop => self.stop(outlets, text),
             Step::Terminate { reason } => self.terminate(reason, outlets, text),
             Step::End => self.end(version, outlets, text),
             Step::Source { source } => self.choose(source),
-            Step::Pac { .. }
-            | Step::Locate { .. }
-            | Step::Context { .. }
-            | Step::Train { .. }
-            | Step::Write { .. }
-            | Step::Add { .. }
-            | Step::Modify { .. }
-            | Step::Remove { .. }
-            | Step::Code { .. }
-            | Step::Serve { .. }
-            | Step::Tell { .. }
-            | Step::Read { .. }
-            | Step::Drain { .. }
-            | Step::Show { .. }
-            | Step::Lose { .. }
-            | Step::Control { .. }
-            | Step::Forge { .. }
-            | Step::Assist { .. }
-            | Step::Apart { .. }
-            | Step::AWrite { .. }
-            | Step::AServe { .. }
-            | Step::ATell { .. }
-            | Step::ARead { .. }
-            | Step::ADrain { .. }
-            | Step::AShow { .. }
-            | Step::Relay { .. } => Err(Stop::Refused(Refusal::NotBuilt)),
+            Step::Pac { sink, .. }
+            | Step::Locate { sink, .. }
+            | Step::Context { sink, .. }
+            | Step::Train { sink, .. }
+            | Step::Write { sink, .. }
+            | Step::Add { sink, .. }
+            | Step::Modify { sink, .. }
+            | Step::Remove { sink, .. }
+            | Step::Code { sink, .. }
+            | Step::Serve { sink, .. }
+            | Step::Tell { sink, .. }
+            | Step::Read { sink, .. }
+            | Step::Drain { sink, .. }
+            | Step::Show { sink, .. }
+            | Step::Lose { sink, .. }
+            | Step::Control { sink, .. }
+            | Step::Forge { sink, .. }
+            | Step::Assist { sink, .. }
+            | Step::Apart { sink, .. }
+            | Step::AWrite { sink, .. }
+            | Step::AServe { sink, .. }
+            | Step::ATell { sink, .. }
+            | Step::ARead { sink, .. }
+            | Step::ADrain { sink, .. }
+            | Step::AShow { sink, .. } => self.sink_line(sink, step, text),
+            Step::Relay { .. } => Err(Stop::Refused(Refusal::NotBuilt)),
         }
     }
 

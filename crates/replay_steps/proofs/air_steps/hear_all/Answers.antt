@@ -2,7 +2,7 @@ use Rattle.std.proofs.Common.{◌≡◌, ℕ, ◌*◌, ◌∙◌, ap, subst, ari
 use Rattle.big_info.specs.declared.info.BigInfo.{BigInfo}
 use Rattle.scenario_sinks.specs.State.Standing.{SinksStand}
 use Rattle.replay_steps.specs.Airing.{past_on_air}
-use Rattle.replay_steps.proofs.Airing.{air_begins}
+use Rattle.replay_steps.proofs.Airing.{air_begins, air_ends}
 use Rattle.replay_steps.proofs.air_steps.hear_all.Goals as goal
 
 pub spots-init : goal.spots-init
@@ -17,4 +17,4 @@ returns c steps on sources sinks =
     let spots : BigInfo → ℕ = λ info. info.num_bis * info.nse in
     let all : c.spots.spot ≡ c.from.result * c.from-2.result = omega arith in
     let count : c.from.result * c.from-2.result ≡ c.args.group.now.info.num_bis * c.args.group.now.info.nse = cc in
-    subst P (all ∙ count ∙ ap spots on.info) (c.spots.invariant steps on sources sinks)
+    air_ends steps c.args.sink c.args.lose c.spots.sinks (subst P (all ∙ count ∙ ap spots on.info) (c.spots.invariant steps on sources sinks))

@@ -1,6 +1,10 @@
-use Rattle.std.proofs.Common.{refl, sym, ◌∙◌, ap, length}
+use Rattle.std.proofs.Common.{◌≡◌, Some, refl, sym, ◌∙◌, ap, subst, length, arith}
+use Rattle.std.proofs.lemmas.Grind.{common_steps}
 use Rattle.scenario_text.specs.declared.step.Step.TheVariants.{Bis as BisStep, Inject as InjectStep, Meta as MetaStep, Subgroup as SubgroupStep, Unit as UnitStep}
+use Rattle.sink_histories.specs.Lives.{named_by}
+use Rattle.sink_steps.specs.SinkLines.{IsSinkLine}
 use Rattle.replay_steps.specs.Versions.{number_of}
+use Rattle.replay_steps.proofs.SinkLines.{nothing_handed_by}
 use Rattle.replay_steps.proofs.StepLaws.{boxes_counted, quiet_as, tells_as, meets_as}
 use Rattle.replay_steps.proofs.machine.Machine.later_step.Goals as goal
 
@@ -16,7 +20,7 @@ returns-in-Start g c starts steps stands e boxes =
 pub returns-in-Sink : goal.returns-in-Sink
 returns-in-Sink g c starts steps stands e boxes =
     quiet_as starts c.len.result steps c.args.step _ c.sink.new.self c.args.text.now _ c.sink.result c.in-Sink.is (boxes_counted _ c.args.outlets.now.items starts steps c.len.result
-    (c.len.ensures ∙ c.args.outlets.now.ok.0) boxes) refl refl (c.sink.ensures (number_of c.args.version) steps c.in-Sink.streams c.in-Sink.slots c.in-Sink.mtu stands e)
+    (c.len.ensures ∙ c.args.outlets.now.ok.0) boxes) refl refl (c.sink.ensures steps stands e)
 
 pub returns-in-Tuned : goal.returns-in-Tuned
 returns-in-Tuned g c starts steps stands e boxes =
@@ -87,8 +91,22 @@ returns-in-Cipher g c starts steps stands e boxes =
 
 pub returns-in-Announce : goal.returns-in-Announce
 returns-in-Announce g c starts steps stands e boxes =
-    quiet_as starts (length starts) steps c.args.step _ c.args.self.now c.args.text.now _ c.announce.result c.in-Announce.is refl refl refl (c.announce.ensures (length starts) (number_of
-    c.args.version) c.in-Announce.sink steps stands e)
+    tells_as starts steps c.args.step _ c.announce.new.self c.args.text.now c.announce.new.text _ c.announce.result c.in-Announce.is refl
+    (c.announce.ensures starts (number_of c.args.version) steps stands e)
+
+pub returns-in-Pac : goal.returns-in-Pac
+returns-in-Pac g c starts steps stands e boxes =
+    let is_line : IsSinkLine c.args.step = grind (arith, common_steps) in
+    let names : named_by c.args.step ≡ Some c.in-Pac.sink = grind (arith, common_steps) in
+    let line : IsSinkLine c.in-Pac.step = subst IsSinkLine (sym c.in-Pac.step-is) is_line in
+    let named : named_by c.in-Pac.step ≡ Some c.in-Pac.sink = ap named_by c.in-Pac.step-is ∙ names in
+    tells_as starts steps c.args.step c.in-Pac.step c.sink_line.new.self c.args.text.now c.sink_line.new.text _ c.sink_line.result (sym c.in-Pac.step-is)
+    (nothing_handed_by steps c.in-Pac.step line) (c.sink_line.ensures starts (number_of c.args.version) steps stands e line named)
+
+pub returns-in-Drop : goal.returns-in-Drop
+returns-in-Drop g c starts steps stands e boxes =
+    tells_as starts steps c.args.step _ c.drop_sink.new.self c.args.text.now c.drop_sink.new.text _ c.drop_sink.result c.in-Drop.is refl
+    (c.drop_sink.ensures starts (number_of c.args.version) steps stands e boxes)
 
 pub returns-in-Terminate : goal.returns-in-Terminate
 returns-in-Terminate g c starts steps stands e boxes =

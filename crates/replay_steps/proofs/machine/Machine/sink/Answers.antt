@@ -1,8 +1,10 @@
 use Rattle.std.proofs.Common.{refl}
 use Rattle.replay_steps.specs.Machines.{past_of}
+use Rattle.replay_steps.specs.Versions.{number_of}
 use Rattle.replay_steps.proofs.Stepping.{make_meets}
 use Rattle.replay_steps.proofs.machine.Machine.sink.Goals as goal
 
 pub returns : goal.returns
-returns c version steps streams slots mtu stands e =
-    make_meets c.args.boxes version c.args.sink streams slots mtu steps c.args.self.now _ c.make.result stands e refl refl (c.make.ensures (past_of steps) stands.sinks)
+returns c steps stands e =
+    make_meets c.args.boxes (number_of c.args.version) c.args.sink c.args.streams c.args.slots _ c.args.mtu steps c.args.self.now _ c.make.result stands e
+    c.limits-horizon.ensures.horizon refl refl (c.make.ensures (past_of steps) stands.sinks)

@@ -1,27 +1,46 @@
 //! The steps that make a sink, put it on the group of the chosen source and end it.
-ghost use Rattle.std.specs.Prelude.{◌≡◌, ◌≤◌, ℕ, List, Option, map};
+ghost use Rattle.std.specs.Prelude.{◌≡◌, ◌≤◌, ℕ, List, map};
+ghost use Rattle.multi_assist.specs.Mtus.{IsMtu};
 ghost use Rattle.unit_outlets.specs.Account.{Account};
 ghost use Rattle.scenario_text.specs.declared.step.Step.{Step};
 ghost use Rattle.scenario_text.specs.declared.step.Step.TheVariants.{Sink as SinkStep, Tuned as TunedStep, Drop as DropStep};
 ghost use Rattle.scenario_history.specs.Steps.{running, stage_of};
 ghost use Rattle.replay_steps.specs.Machines.{Stands};
 ghost use Rattle.replay_steps.specs.Meets.{BoxesStand, Quiet, Tells};
+ghost use Rattle.replay_steps.specs.Versions.{number_of};
 
 use crate::machine::Machine;
+use crate::version::Version;
 use bcast_base::{BisSet, Octets};
 use scenario_sinks::Joining;
 use transcript_text::{Refusal, Stop};
 use unit_outlets::Outlet;
 
 impl Machine {
-    /// `sink`: a new sink with the next box, of so many.
+    /// `sink`: a new sink with the next box, of so many, on whose links an assistant is on link 0 alone. It takes so many
+    /// streams at once, has so many slots, and has this MTU on every link, where it has one. Its groups send a payload at most
+    /// so many events ahead as they may in this version.
     #[inline(never)]
-    pub(crate) fn sink(&mut self, sink: u8, boxes: usize) -> Result<(), Stop>
-        requires { sink ≤ 7 }
-        ensures { (version : ℕ) (steps : List Step) (streams slots : ℕ) (mtu : Option ℕ) → Stands steps self.old → stage_of steps ≡ running version
+    pub(crate) fn sink(
+        &mut self,
+        version: Version,
+        sink: u8,
+        streams: u8,
+        slots: u8,
+        mtu: Option<u16>,
+        boxes: usize,
+    ) -> Result<(), Stop>
+        requires sink { sink ≤ 7 }
+        requires least_streams { 1 ≤ streams }
+        requires most_streams { streams ≤ 31 }
+        requires least_slots { 1 ≤ slots }
+        requires few { slots ≤ 8 }
+        requires mtu { IsMtu mtu }
+        ensures { (steps : List Step) → Stands steps self.old → stage_of steps ≡ running (number_of version)
             → Quiet boxes steps (SinkStep sink streams slots mtu) self.new result }
     {
-        self.sinks.make(sink, boxes)
+        let horizon = version.limits().horizon;
+        self.sinks.make(sink, streams, slots, horizon, mtu, boxes)
     }
 
     /// `tuned`: puts a sink on the group of the chosen source from the next event on.

@@ -1,0 +1,264 @@
+-- The lines of a sink's control and of its links.
+use Rattle.std.proofs.Common.{◌≡◌, ℕ, ◌==◌, List, [], ◌∷◌, ◌++◌, Bool, true, false, is_some, cond, refl, sym, ◌∙◌, ap, subst, Option, None, Some, Result, Ok, Err, length}
+use Rattle.std.specs.List.{concat}
+use Rattle.std.specs.Option.{option_or}
+use Rattle.unit_outlets.specs.Account.{Account}
+use Rattle.announcement_train.specs.declared.train.Train.{Train as Announced}
+use Rattle.link_histories.specs.Calls.{Call}
+use Rattle.source_machine.specs.Airs.{airs_of}
+use Rattle.source_machine.specs.Faults.{announce_fault}
+use Rattle.transcript_text.specs.declared.refusal.Refusal.{Refusal}
+use Rattle.transcript_text.specs.declared.refusal.Refusal.TheVariants.{NoSuchSink, Order}
+use Rattle.transcript_text.specs.declared.stop.Stop.{Stop}
+use Rattle.transcript_text.specs.declared.stop.Stop.TheVariants.{Refused, OutletFault, Memory}
+use Rattle.scenario_text.specs.declared.step.Step.{Step}
+use Rattle.scenario_text.specs.declared.step.Step.TheVariants.{Scenario, Group, Ident, Subgroup, Meta, Bis, Cipher, Start, Sink, Tuned, Unit as UnitLine, Event}
+use Rattle.scenario_text.specs.declared.step.Step.TheVariants.{Hear, Air, Inject, Sniff, Announce, Drop, Terminate, Stop as StopLine, End, Source as SourceLine, Relay}
+use Rattle.scenario_text.specs.declared.step.Step.TheVariants.{Pac, Locate, Context, Write, Add, Modify, Remove, Code, Assist, Apart, AWrite}
+use Rattle.scenario_history.specs.Steps.{Stage, chosen_steps, running, stage_after, stage_of}
+use Rattle.scenario_history.specs.Source.{is_sending, setup_of, source_calls}
+use Rattle.scenario_history.specs.Boxes.{box_of, handed_by}
+use Rattle.scenario_history.specs.Output.{output_of, sink_lines}
+use Rattle.scenario_history.specs.Refusals.{is_misplaced, phase_refusal, train_ends}
+use Rattle.scenario_history.specs.Worlds.{announced_of, life, source_at, the_world}
+use Rattle.sink_histories.specs.Lives.{Made, Source, made_of, named_by}
+use Rattle.sink_histories.specs.Output.{printed_at, printed_of, printed_where}
+use Rattle.sink_histories.specs.Refusals.{refused_at, refused_where, refusal_of}
+use Rattle.sink_steps.specs.SinkLines.{IsSinkLine}
+use Rattle.scenario_sources.specs.Answers.{AnnouncesAs}
+use Rattle.scenario_sources.proofs.Citable.{SaysNothing}
+use Rattle.scenario_sinks.specs.Pasts.{Past, with_line}
+use Rattle.scenario_sinks.specs.SinkLines.{SinkLineMakes}
+use Rattle.scenario_sinks.specs.State.Standing.{SinksStand}
+use Rattle.replay_steps.specs.declared.machine.Machine.{Machine}
+use Rattle.replay_steps.specs.Machines.{Stands, past_of}
+use Rattle.replay_steps.specs.Meets.{Tells}
+use Rattle.replay_steps.proofs.Stepping.{brought, or_none}
+
+-- ---- what such a line says
+
+-- it says nothing of a source
+line_says : (made : Step) → IsSinkLine made → SaysNothing made
+line_says (Scenario version) line = absurd line
+line_says (Group framing origin delay iso sdu max_sdu max_pdu num_bis bn nse irc pto sub spacing phy) line = absurd line
+line_says (Ident address_type address sid broadcast_id) line = absurd line
+line_says (Subgroup codec config) line = absurd line
+line_says (Meta metadata) line = absurd line
+line_says (Bis bis config) line = absurd line
+line_says (Cipher giv gskd) line = absurd line
+line_says (Start first) line = absurd line
+line_says (UnitLine bis time octets) line = absurd line
+line_says Event line = absurd line
+line_says StopLine line = absurd line
+line_says (Terminate reason) line = absurd line
+line_says End line = absurd line
+line_says (SourceLine source) line = absurd line
+line_says made line = record {
+  chosen = refl;
+  phase = λ own. refl;
+  group = λ own. refl;
+  ident = λ own. refl;
+  cipher = λ own. refl;
+  lines = λ own. refl;
+  setup = λ own going. refl;
+  under_way = λ own going. going;
+  calls = λ own. refl;
+}
+
+-- the past of the sinks with a line that names this sink
+abbrev with_named : Option ℕ → Step → List Step → Past
+with_named None made steps = past_of steps
+with_named (Some n) made steps = with_line n (source_at steps) made (past_of steps)
+
+-- what the line is to the sinks, and that it leaves the scenario where it stands and hands up nothing
+record Runs (made : Step) : Type 0 where
+  stage : (stage : Stage) → stage_after made stage ≡ stage
+  refusal : (boxes version : ℕ) (steps : List Step) → stage_of steps ≡ running version → phase_refusal airs_of boxes steps made ≡ refusal_of the_world steps made
+  past : (steps : List Step) → past_of (made ∷ steps) ≡ with_named (named_by made) made steps
+  handed : (steps : List Step) → handed_by airs_of steps made ≡ []
+
+line_runs : (made : Step) → IsSinkLine made → Runs made
+line_runs (Scenario version) line = absurd line
+line_runs (Group framing origin delay iso sdu max_sdu max_pdu num_bis bn nse irc pto sub spacing phy) line = absurd line
+line_runs (Ident address_type address sid broadcast_id) line = absurd line
+line_runs (Subgroup codec config) line = absurd line
+line_runs (Meta metadata) line = absurd line
+line_runs (Bis bis config) line = absurd line
+line_runs (Cipher giv gskd) line = absurd line
+line_runs (Start first) line = absurd line
+line_runs (Sink sink streams slots mtu) line = absurd line
+line_runs (Tuned sink which) line = absurd line
+line_runs (UnitLine bis time octets) line = absurd line
+line_runs Event line = absurd line
+line_runs (Hear sink back bis subevent) line = absurd line
+line_runs (Air sink lose) line = absurd line
+line_runs (Inject sink back bis subevent octets) line = absurd line
+line_runs (Sniff back bis subevent) line = absurd line
+line_runs (Announce sink) line = absurd line
+line_runs (Drop sink) line = absurd line
+line_runs StopLine line = absurd line
+line_runs (Terminate reason) line = absurd line
+line_runs End line = absurd line
+line_runs (SourceLine source) line = absurd line
+line_runs (Relay sink bis to) line = absurd line
+line_runs made line = record {
+  stage = λ stage. refl;
+  refusal = λ boxes version steps e. rw e (or_none (refusal_of the_world steps made));
+  past = λ steps. refl;
+  handed = λ steps. refl;
+}
+
+pub nothing_handed_by : (steps : List Step) (made : Step) → IsSinkLine made → handed_by airs_of steps made ≡ []
+nothing_handed_by steps made line = (line_runs made line).handed steps
+
+-- ---- what it prints
+
+silent : (source : Source) (made : Step) (calls : List Call) (o : Option Made) → ((sink : Made) → printed_of source made sink calls ≡ [])
+    → [] ≡ concat (printed_where source made o calls)
+silent source made calls None quiet = refl
+silent source made calls (Some sink) quiet = ap concat (sym (quiet sink))
+
+line_prints : (starts : List Account) (steps : List Step) (made : Step) → IsSinkLine made → output_of airs_of starts steps made ≡ sink_lines steps made
+line_prints starts steps (Pac sink codec caps metadata) line =
+    silent (source_at steps) (Pac sink codec caps metadata) (life sink steps) (made_of sink steps) (λ one. refl)
+line_prints starts steps (Locate sink bits) line = silent (source_at steps) (Locate sink bits) (life sink steps) (made_of sink steps) (λ one. refl)
+line_prints starts steps (Context sink as_sink as_source) line =
+    silent (source_at steps) (Context sink as_sink as_source) (life sink steps) (made_of sink steps) (λ one. refl)
+line_prints starts steps (Write sink octets) line = silent (source_at steps) (Write sink octets) (life sink steps) (made_of sink steps) (λ one. refl)
+line_prints starts steps (Add sink op) line = silent (source_at steps) (Add sink op) (life sink steps) (made_of sink steps) (λ one. refl)
+line_prints starts steps (Modify sink op) line = silent (source_at steps) (Modify sink op) (life sink steps) (made_of sink steps) (λ one. refl)
+line_prints starts steps (Remove sink source_id) line = silent (source_at steps) (Remove sink source_id) (life sink steps) (made_of sink steps) (λ one. refl)
+line_prints starts steps (Code sink source_id code) line =
+    silent (source_at steps) (Code sink source_id code) (life sink steps) (made_of sink steps) (λ one. refl)
+line_prints starts steps (Assist sink link) line = silent (source_at steps) (Assist sink link) (life sink steps) (made_of sink steps) (λ one. refl)
+line_prints starts steps (Apart sink link) line = silent (source_at steps) (Apart sink link) (life sink steps) (made_of sink steps) (λ one. refl)
+line_prints starts steps (AWrite sink link octets) line =
+    silent (source_at steps) (AWrite sink link octets) (life sink steps) (made_of sink steps) (λ one. refl)
+line_prints starts steps (Scenario version) line = absurd line
+line_prints starts steps (Group framing origin delay iso sdu max_sdu max_pdu num_bis bn nse irc pto sub spacing phy) line = absurd line
+line_prints starts steps (Ident address_type address sid broadcast_id) line = absurd line
+line_prints starts steps (Subgroup codec config) line = absurd line
+line_prints starts steps (Meta metadata) line = absurd line
+line_prints starts steps (Bis bis config) line = absurd line
+line_prints starts steps (Cipher giv gskd) line = absurd line
+line_prints starts steps (Start first) line = absurd line
+line_prints starts steps (Sink sink streams slots mtu) line = absurd line
+line_prints starts steps (Tuned sink which) line = absurd line
+line_prints starts steps (UnitLine bis time octets) line = absurd line
+line_prints starts steps Event line = absurd line
+line_prints starts steps (Hear sink back bis subevent) line = absurd line
+line_prints starts steps (Air sink lose) line = absurd line
+line_prints starts steps (Inject sink back bis subevent octets) line = absurd line
+line_prints starts steps (Sniff back bis subevent) line = absurd line
+line_prints starts steps (Drop sink) line = absurd line
+line_prints starts steps StopLine line = absurd line
+line_prints starts steps (Terminate reason) line = absurd line
+line_prints starts steps End line = absurd line
+line_prints starts steps (SourceLine source) line = absurd line
+line_prints starts steps (Relay sink bis to) line = absurd line
+line_prints starts steps made line = refl
+
+-- ---- what it does
+
+-- a line of a sink that says nothing of a source, by what it is to the sinks
+named_meets : (starts : List Account) (n : ℕ) (steps : List Step) (made : Step) (old new : Machine) (text told : List ℕ) (r : Result (Unit {0}) Stop)
+    → Stands steps old → phase_refusal airs_of (length starts) steps made ≡ refused_where made (made_of n steps) (life n steps) → SaysNothing made
+    → stage_of (made ∷ steps) ≡ stage_of steps → past_of (made ∷ steps) ≡ with_line n (source_at steps) made (past_of steps)
+    → output_of airs_of starts steps made ≡ concat (printed_where (source_at steps) made (made_of n steps) (life n steps))
+    → new.stage ≡ old.stage → new.sources ≡ old.sources
+    → SinkLineMakes (past_of steps) n (source_at steps) made new.sinks text told r → Tells starts steps made new text told r
+named_meets starts n steps made old new text told (Ok x) stands is nothing on past output stage same m = (
+  is ∙ m.0,
+  brought steps made old new stands nothing on stage same (let P : Past → Type 0 = λ p. SinksStand p new.sinks in subst P (sym past) m.1),
+  m.2 ∙ ap (λ l. text ++ l) (sym output),
+)
+named_meets starts n steps made old new text told (Err (Refused reason)) stands is nothing on past output stage same m = (is ∙ m.0, m.1)
+named_meets starts n steps made old new text told (Err OutletFault) stands is nothing on past output stage same m = m
+named_meets starts n steps made old new text told (Err Memory) stands is nothing on past output stage same m = tt
+
+pub line_meets : (starts : List Account) (version n : ℕ) (steps : List Step) (made : Step) (old new : Machine) (text told : List ℕ) (r : Result (Unit {0}) Stop)
+    → Stands steps old → stage_of steps ≡ running version → IsSinkLine made → named_by made ≡ Some n → new.stage ≡ old.stage → new.sources ≡ old.sources
+    → SinkLineMakes (past_of steps) n (source_at steps) made new.sinks text told r → Tells starts steps made new text told r
+line_meets starts version n steps made old new text told r stands e line named stage same m =
+    let runs = line_runs made line in
+    named_meets starts n steps made old new text told r stands
+    (runs.refusal (length starts) version steps e ∙ ap (refused_at the_world steps made) named) (line_says made line) (runs.stage (stage_of steps))
+    (runs.past steps ∙ ap (λ o. with_named o made steps) named)
+    (line_prints starts steps made line ∙ ap (λ o. concat (printed_at the_world steps made o)) named) stage same m
+
+-- ---- announce
+
+announce_says : (n : ℕ) → SaysNothing (Announce n)
+announce_says n = record {
+  chosen = refl;
+  phase = λ own. refl;
+  group = λ own. refl;
+  ident = λ own. refl;
+  cipher = λ own. refl;
+  lines = λ own. refl;
+  setup = λ own going. refl;
+  under_way = λ own going. going;
+  calls = λ own. refl;
+}
+
+pub announce_early : (boxes version n : ℕ) (steps : List Step) → stage_of steps ≡ running version → is_sending (chosen_steps steps) ≡ false
+    → phase_refusal airs_of boxes steps (Announce n) ≡ Some Order
+announce_early boxes version n steps e going = rw (e, going) refl
+
+-- a sink was made where it has a box
+cond_same : {A B : Type 0} (b : Bool) (o p : Option A) (q r : Option B) → is_some o ≡ is_some q → is_some p ≡ is_some r → is_some (cond b o p) ≡ is_some (cond b q r)
+cond_same true o p q r one other = one
+cond_same false o p q r one other = other
+
+made_by_box : (n : ℕ) (step : Step) (earlier : List Step) → is_some (made_of n earlier) ≡ is_some (box_of n earlier)
+    → is_some (made_of n (step ∷ earlier)) ≡ is_some (box_of n (step ∷ earlier))
+made_by_box n (Sink sink streams slots mtu) earlier same = cond_same (sink == n) _ (made_of n earlier) _ (box_of n earlier) refl same
+made_by_box n (Drop sink) earlier same = cond_same (sink == n) None (made_of n earlier) None (box_of n earlier) refl same
+made_by_box n other earlier same = same
+
+made_with_box : (n : ℕ) (steps : List Step) → is_some (made_of n steps) ≡ is_some (box_of n steps)
+made_with_box n [] = refl
+made_with_box n (step ∷ earlier) = made_by_box n step earlier (made_with_box n earlier)
+
+hears_train : (n : ℕ) (calls : List Call) (o : Option Made) → is_some o ≡ true → refused_where (Announce n) o calls ≡ None
+hears_train n calls None e = absurd (cc e)
+hears_train n calls (Some sink) e = refl
+
+not_there : (n : ℕ) (calls : List Call) (o : Option Made) → is_some o ≡ false → refused_where (Announce n) o calls ≡ Some NoSuchSink
+not_there n calls None e = refl
+not_there n calls (Some sink) e = absurd (cc e)
+
+announce_fault_is : (boxes version n : ℕ) (steps : List Step) → stage_of steps ≡ running version → is_sending (chosen_steps steps) ≡ true
+    → phase_refusal airs_of boxes steps (Announce n)
+    ≡ option_or (refused_where (Announce n) (made_of n steps) (life n steps)) (train_ends (announce_fault (setup_of (chosen_steps steps)) (source_calls (chosen_steps steps))))
+announce_fault_is boxes version n steps e going =
+    rw (e, going) (ap (option_or (refused_where (Announce n) (made_of n steps) (life n steps)))
+    (or_none (train_ends (announce_fault (setup_of (chosen_steps steps)) (source_calls (chosen_steps steps))))))
+
+pub announce_nowhere : (boxes version n : ℕ) (steps : List Step) → stage_of steps ≡ running version → is_sending (chosen_steps steps) ≡ true
+    → is_some (box_of n steps) ≡ false → phase_refusal airs_of boxes steps (Announce n) ≡ Some NoSuchSink
+announce_nowhere boxes version n steps e going lives =
+    let ends = train_ends (announce_fault (setup_of (chosen_steps steps)) (source_calls (chosen_steps steps))) in
+    announce_fault_is boxes version n steps e going
+    ∙ ap (λ o. option_or o ends) (not_there n (life n steps) (made_of n steps) (made_with_box n steps ∙ lives))
+
+pub announce_fails : (starts : List Account) (version n : ℕ) (steps : List Step) (new : Machine) (text : List ℕ) (stop : Stop) → stage_of steps ≡ running version
+    → is_sending (chosen_steps steps) ≡ true → is_some (box_of n steps) ≡ true → AnnouncesAs (chosen_steps steps) (Err stop)
+    → Tells starts steps (Announce n) new text text (Err stop)
+announce_fails starts version n steps new text (Refused reason) e going lives a =
+    let ends = train_ends (announce_fault (setup_of (chosen_steps steps)) (source_calls (chosen_steps steps))) in
+    let own : ends ≡ Some reason = sym (rw going refl) ∙ a in (
+      announce_fault_is (length starts) version n steps e going
+          ∙ ap (λ o. option_or o ends) (hears_train n (life n steps) (made_of n steps) (made_with_box n steps ∙ lives)) ∙ own,
+      refl,
+    )
+announce_fails starts version n steps new text OutletFault e going lives a = a
+announce_fails starts version n steps new text Memory e going lives a = tt
+
+pub announce_meets : (starts : List Account) (version n : ℕ) (steps : List Step) (train : Announced) (old new : Machine) (text told : List ℕ) (r : Result (Unit {0}) Stop)
+    → Stands steps old → stage_of steps ≡ running version → AnnouncesAs (chosen_steps steps) (Ok train) → new.stage ≡ old.stage → new.sources ≡ old.sources
+    → SinkLineMakes (past_of steps) n (source_at steps) (Announce n) new.sinks text told r → Tells starts steps (Announce n) new text told r
+announce_meets starts version n steps train old new text told r stands e a stage same m =
+    named_meets starts n steps (Announce n) old new text told r stands
+    (announce_fault_is (length starts) version n steps e a.0 ∙ ap (λ f. option_or (refused_where (Announce n) (made_of n steps) (life n steps)) (train_ends f)) a.1
+    ∙ or_none (refused_where (Announce n) (made_of n steps) (life n steps))) (announce_says n) refl refl refl stage same m
