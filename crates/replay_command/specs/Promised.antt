@@ -63,8 +63,9 @@ pub record Promised (old new : World) (status : Status) : Type 0 where
   -- A sink's units are in the order of the source, and each comes at most once.
   pub order_law : OrderLaw old.boxes
   -- On each link of a living sink over which no notice was forged since it was joined, a slot for which neither a notice nor a
-  -- read waits has its state as the assistant's view, and once the link is drained all views are the states.
+  -- read waits has its state as the assistant's view; once the waiting notices are delivered and the waiting reads are served,
+  -- all views are the states (Broadcast Audio Scan Service 1.0, section 3.2).
   pub agreement_law : AgreementLaw
-  -- On each link but 0 the same holds whatever the others do: they change nothing of it but through the states of the slots, and
-  -- a link that is joined begins anew.
+  -- On each link but 0 the same holds whatever the other links do: they change nothing of it but through the states of the slots,
+  -- and a link that is joined begins anew.
   pub links_law : LinksLaw

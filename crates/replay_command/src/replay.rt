@@ -39,10 +39,10 @@ use unit_outlets::Outlet;
 /// `WriteFault` and `OutletFault` come only where the count of the source, of the sink or of a box rose. After `Memory` a
 /// front of the transcript was written.
 ///
-/// On each link of a living sink over which no notice was forged since it was joined, a slot for which neither a notice nor a read
-/// waits has its state as the assistant's view (Broadcast Audio Scan Service 1.0, section 3.2). Once the waiting notices of the link
-/// are delivered and its waiting reads are served, all views are the states. A link but 0 is joined anew each time, and no other
-/// link changes more of it than the states do.
+/// On each link of a living sink over which no notice was forged since it was joined, a slot for which neither a notice nor a
+/// read waits has its state as the assistant's view (Broadcast Audio Scan Service 1.0, section 3.2). Once the waiting notices of
+/// the link are delivered and its waiting reads are served, all views are the states. On a link but 0 that holds whatever the
+/// other links do: they change nothing of it but through the states of the slots, and a link that is joined begins anew.
 pub fn replay<S: ByteSource, K: ByteSink>(
     alloc: Global,
     words: &Words,
