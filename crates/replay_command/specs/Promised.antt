@@ -57,10 +57,10 @@ pub record Promised (old new : World) (status : Status) : Type 0 where
   pub some_airs : (airs : Airs) × MeetAirs airs
   pub one_transcript : (airs : Airs) → (others : Airs) → MeetAirs airs → MeetAirs others → (lines : List TextLine)
       → transcript_of airs old.boxes lines ≡ transcript_of others old.boxes lines
-  -- In a stay without injected PDUs each closed slot, and each framed unit whose start was heard, hands what the source's PDUs
-  -- that were heard make of it.
+  -- In a stay without injected PDUs, and without trains that are given by their octets, each closed slot, and each framed unit
+  -- whose start was heard, hands what the source's PDUs that were heard make of it.
   pub units_law : UnitsLaw old.boxes
-  -- A sink's units are in the order of the source, and each comes at most once.
+  -- The units of a sink to which no train was given by its octets are in the order of the source, and each comes at most once.
   pub order_law : OrderLaw old.boxes
   -- On each link of a living sink over which no notice was forged since it was joined, a slot for which neither a notice nor a
   -- read waits has its state as the assistant's view; once the waiting notices are delivered and the waiting reads are served,

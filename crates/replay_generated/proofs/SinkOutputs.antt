@@ -3,7 +3,6 @@ use Rattle.std.proofs.Common.{ℕ, zero, suc, List, [], ◌∷◌, ◌++◌, cod
 use Rattle.std.specs.List.{concat, flat_map, range_with_len}
 use Rattle.assistant_machine.specs.Answers.{answer_of as forged_answer}
 use Rattle.delegator_states.specs.declared.notice.Notice.{Notice}
-use Rattle.delegator_states.specs.declared.replies.Reply.{Reply}
 use Rattle.delegator_states.specs.Controls as controls
 use Rattle.delegator_states.specs.Trains.{Train, answer_of, brought_by}
 use Rattle.link_histories.specs.Calls as links
@@ -13,7 +12,7 @@ use Rattle.link_histories.specs.Links.{notices_waiting, reads_waiting}
 use Rattle.printed_words.specs.Digits.{digits}
 use Rattle.printed_words.specs.Lines.{joined}
 use Rattle.transcript_text.specs.Lines.{line_of}
-use Rattle.sink_lines.specs.Lines.{Label, control_words, forged_words, on_link, plain, reply_line, reply_words, train_line, train_words, value_line}
+use Rattle.sink_lines.specs.Lines.{Label, control_words, forged_words, on_link, plain, reply_line, reply_words, train_words, value_line}
 use Rattle.scenario_text.specs.declared.step.Step.{Step}
 use Rattle.scenario_text.specs.declared.step.Step.TheVariants as steps
 use Rattle.sink_histories.specs.Lives.{Made, Source, World, given_train, life_of, made_of, named_by, own_train}
