@@ -3,7 +3,7 @@
 -- is joined from the start.
 use Rattle.std.specs.Prelude.{ℕ, ◌+◌, ◌==◌, min, Bool, true, false, List, [], ◌∷◌, ◌++◌, length, drop, slice_get, Option, Some, None, option_map, unwrap_or, if◌then◌else◌}
 use Rattle.delegator_states.specs.LastGiven.{last_given}
-use Rattle.delegator_states.specs.States.{Step, written}
+use Rattle.delegator_states.specs.States.{Step, mtu_set, written}
 
 pub data Call : Type 0 where
   stepped : (step : Step) → Call  -- a call of the delegator, but a write that waited on a link
@@ -16,6 +16,11 @@ pub data Call : Type 0 where
   told : (link : ℕ) → Call  -- the first notice that waits for it is delivered
   read : (link : ℕ) → Call  -- of its reads that wait the one of the lowest slot is served
   forged : (slot : ℕ) (octets : List ℕ) → Call  -- over link 0 a notice comes that the delegator did not send
+
+-- the calls of a new sink: its MTU is set where it has one
+abbrev pub born : Option ℕ → List Call
+born None = []
+born (Some mtu) = stepped (mtu_set mtu) ∷ []
 
 -- ---- who is there
 

@@ -5,7 +5,7 @@ use Rattle.std.proofs.lemmas.Bool.{ne_eqb}
 use Rattle.delegator_machine.specs.State.Halves.{StandsFor}
 use Rattle.delegator_states.specs.States.{mtu_set}
 use Rattle.delegator_states.specs.Trains.{Setup}
-use Rattle.link_histories.specs.Calls.{stepped, is_joined}
+use Rattle.link_histories.specs.Calls.{stepped, is_joined, born}
 use Rattle.multi_assist.specs.State.Links.{link_at, linked, mtu_of, slots_of}
 use Rattle.multi_assist.specs.State.Places.{Linked}
 use Rattle.multi_assist.specs.State.Terms.{joining}
@@ -13,7 +13,7 @@ use Rattle.multi_assist.specs.declared.links.Links.{Links}
 use Rattle.linked_sink.specs.declared.sink.LinkedSink.{LinkedSink}
 use Rattle.linked_sink.specs.State.Links.{OnLink}
 use Rattle.linked_sink.specs.State.Stands.{HasStepped, LinkedStands}
-use Rattle.linked_sink.specs.Taken.{born, delegator_calls}
+use Rattle.linked_sink.specs.Taken.{delegator_calls}
 use Rattle.linked_sink.proofs.Fresh.{first_holds}
 use Rattle.linked_sink.proofs.Stands.{Tells, has_stepped, no_notices, on_none, on_some, settled, waiting_is}
 

@@ -1,10 +1,10 @@
 -- What a Scan Delegator takes of the calls of a sink and of its links (Basic Audio Profile 1.0, section 6.5; Broadcast Audio
 -- Scan Service 1.0, section 3). Lists of calls have the newest first.
 use Rattle.std.specs.Prelude.{ℕ, List, [], ◌∷◌, Option, Some, None}
-use Rattle.delegator_states.specs.States.{Step, mtu_set}
+use Rattle.delegator_states.specs.States.{Step}
 use Rattle.delegator_machine.specs.Calls as machine
 use Rattle.link_histories.specs.Calls as links
-use Rattle.link_histories.specs.Calls.{Call, step_by, stepped}
+use Rattle.link_histories.specs.Calls.{Call, step_by}
 
 abbrev pub with_control : Option Step → List machine.Call → List machine.Call
 with_control None calls = calls
@@ -16,8 +16,3 @@ delegator_calls [] = []
 delegator_calls (links.heard event bis subevent octets ∷ earlier) = machine.hear event bis subevent octets ∷ delegator_calls earlier
 delegator_calls (links.ticked event ∷ earlier) = machine.tick event ∷ delegator_calls earlier
 delegator_calls (call ∷ earlier) = with_control (step_by call earlier) (delegator_calls earlier)
-
--- the calls of a new sink: its MTU is set where it has one
-abbrev pub born : Option ℕ → List Call
-born None = []
-born (Some mtu) = stepped (mtu_set mtu) ∷ []

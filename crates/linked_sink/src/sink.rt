@@ -1,7 +1,8 @@
 ghost use Rattle.std.specs.Prelude.{ℕ, ◌≡◌, ◌≤◌, ◌<◌, ◌∷◌, List, Option, IfOk, OnOk};
 ghost use Rattle.delegator_machine.specs.State.Halves.{StandsFor};
 ghost use Rattle.multi_assist.specs.Mtus.{IsMtu};
-ghost use Rattle.linked_sink.specs.Taken.{born, delegator_calls};
+ghost use Rattle.link_histories.specs.Calls.{born};
+ghost use Rattle.linked_sink.specs.Taken.{delegator_calls};
 
 use bcast_base::{Memory, Octets};
 use big_info::Limits;

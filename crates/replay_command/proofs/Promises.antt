@@ -15,6 +15,7 @@ use Rattle.replay_command.specs.Replayed.{ReadsAtMost, read_limit}
 use Rattle.source_machine.specs.Airs.{airs_of}
 use Rattle.scenario_history.specs.Airs.{MeetAirs}
 use Rattle.scenario_laws.specs.Laws.{UnitsLaw, OrderLaw}
+use Rattle.scenario_laws.specs.Links.{AgreementLaw, LinksLaw}
 use Rattle.scenario_history.specs.Source.{Airs}
 use Rattle.scenario_history.specs.Transcript.{transcript_of}
 use Rattle.replay_command.specs.World.{World}
@@ -35,6 +36,8 @@ pub record Laws (boxes : List Account) : Type 0 where
   pub meet : MeetAirs airs_of
   pub units : UnitsLaw boxes
   pub order : OrderLaw boxes
+  pub agreement : AgreementLaw
+  pub links : LinksLaw
 
 one_of : (boxes : List Account) → Laws boxes → (airs others : Airs) → MeetAirs airs → MeetAirs others → (lines : List TextLine) → transcript_of airs boxes lines ≡ transcript_of others boxes lines
 one_of boxes laws airs others meets meet_too lines = sym ((laws.same airs meets).octets boxes lines) ∙ (laws.same others meet_too).octets boxes lines
@@ -73,6 +76,8 @@ module _ (old new : World) (status : Status) where
     one_transcript = one_of old.boxes laws;
     units_law = laws.units;
     order_law = laws.order;
+    agreement_law = laws.agreement;
+    links_law = laws.links;
   }
 
 -- the call of words that mean replay

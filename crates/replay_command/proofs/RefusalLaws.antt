@@ -11,11 +11,18 @@ use Rattle.radio_schedule.specs.declared.air.AirFault.{AirFault}
 use Rattle.radio_schedule.specs.declared.air.AirFault.TheVariants as places
 use Rattle.source_machine.specs.declared.fault.GiveFault.{GiveFault}
 use Rattle.source_machine.specs.declared.fault.GiveFault.TheVariants as gives
+use Rattle.source_machine.specs.declared.fault.AnnounceFault.{AnnounceFault}
 use Rattle.source_machine.specs.declared.fault.EventFault.{EventFault}
 use Rattle.source_machine.specs.Airs.{airs_of}
-use Rattle.source_machine.specs.Faults.{event_fault, air_fault}
+use Rattle.source_machine.specs.Faults.{event_fault, announce_fault, air_fault}
 use Rattle.transcript_text.specs.declared.refusal.Refusal.{Refusal}
 use Rattle.transcript_text.specs.declared.refusal.Refusal.TheVariants.{AfterEnd, Order, BaseTooLong, IdentTwice, NoSuchSink, SinkTwice, NoOutlet, NoSuchBis, NotBuilt, NotOnAir, NoEnd}
+use Rattle.transcript_text.specs.declared.refusal.Refusal.TheVariants.{NoSuchLink, LinkTwice, NothingWaiting, RecordsTooLong}
+use Rattle.link_histories.specs.Calls.{Call}
+use Rattle.sink_histories.specs.Lives.{Made, World, life_of, made_of, named_by}
+use Rattle.sink_histories.specs.Refusals.{link_named, link_twice, no_link, no_record_room, nothing_waits, refused_at, refused_by, refused_where}
+use Rattle.sink_histories.specs.Refusals.{refusal_of as refusal_of_sink, refuse_if as refuse_sink_if}
+use Rattle.scenario_history.specs.Worlds.{the_world}
 use Rattle.scenario_text.specs.declared.step.Step.{Step}
 use Rattle.scenario_text.specs.declared.step.Step.TheVariants as kinds
 use Rattle.scenario_words.specs.declared.fault.LineFault.{LineFault}
@@ -26,7 +33,7 @@ use Rattle.scenario_history.specs.Bases.{has_bis, is_base_too_long}
 use Rattle.scenario_history.specs.Source.{checked_info, group_of, no_group, performed, setup_of, source_calls}
 use Rattle.scenario_history.specs.Boxes.{box_of}
 use Rattle.scenario_history.specs.Refusals.{group_refusal, horizon_in, refuse_if, no_sink, no_place, has_beyond, is_ident_twice, is_out_of_order, is_unbuilt}
-use Rattle.scenario_history.specs.Refusals.{give_refusal, air_refusal, counter_ends, sink_refusal, source_refusal, twin_refusal, own_refusal, phase_refusal, refusal_of}
+use Rattle.scenario_history.specs.Refusals.{give_refusal, air_refusal, counter_ends, train_ends, sink_refusal, source_refusal, twin_refusal, own_refusal, phase_refusal, refusal_of}
 use Rattle.scenario_history.specs.Lines.{said_by, said_in, steps_of, refusal_said}
 use Rattle.replay_steps.specs.LineMeets.{refusal_at}
 
@@ -79,6 +86,10 @@ other_counter : (o : Option EventFault) → OtherThan (counter_ends o)
 other_counter None = tt
 other_counter (Some fault) = λ e. cc
 
+other_train : (o : Option AnnounceFault) → OtherThan (train_ends o)
+other_train None = tt
+other_train (Some fault) = λ e. cc
+
 other_sink : (b : Bool) → OtherThan (refuse_if b NoSuchSink)
 other_sink b = other_if b NoSuchSink (λ e. cc)
 
@@ -87,6 +98,53 @@ other_no_sink sink steps = other_sink (not (is_some (box_of sink steps)))
 
 other_no_place : (steps : List Step) (back bis subevent : ℕ) → OtherThan (no_place steps back bis subevent)
 other_no_place steps back bis subevent = other_map air_refusal other_place (air_fault (setup_of steps) (source_calls steps) back bis subevent)
+
+-- ---- what the sink that a step names and its links are
+
+other_sink_if : (b : Bool) (reason : Refusal) → reason ≢ NoEnd → OtherThan (refuse_sink_if b reason)
+other_sink_if true reason other = other
+other_sink_if false reason other = tt
+
+other_link : (calls : List Call) (link : Option ℕ) → OtherThan (no_link calls link)
+other_link calls None = tt
+other_link calls (Some link) = other_sink_if _ NoSuchLink (λ e. cc)
+
+other_twice : (calls : List Call) (step : Step) → OtherThan (link_twice calls step)
+other_twice calls (kinds.Assist sink link) = other_sink_if _ LinkTwice (λ e. cc)
+other_twice calls _ = tt
+
+other_waits : (made : Made) (calls : List Call) (step : Step) → OtherThan (nothing_waits made calls step)
+other_waits made calls (kinds.Serve sink) = other_sink_if _ NothingWaiting (λ e. cc)
+other_waits made calls (kinds.Tell sink) = other_sink_if _ NothingWaiting (λ e. cc)
+other_waits made calls (kinds.Read sink) = other_sink_if _ NothingWaiting (λ e. cc)
+other_waits made calls (kinds.AServe sink link) = other_sink_if _ NothingWaiting (λ e. cc)
+other_waits made calls (kinds.ATell sink link) = other_sink_if _ NothingWaiting (λ e. cc)
+other_waits made calls (kinds.ARead sink link) = other_sink_if _ NothingWaiting (λ e. cc)
+other_waits made calls _ = tt
+
+other_room : (made : Made) (calls : List Call) (step : Step) → OtherThan (no_record_room made calls step)
+other_room made calls (kinds.Pac sink codec caps metadata) = other_sink_if _ RecordsTooLong (λ e. cc)
+other_room made calls _ = tt
+
+other_by : (step : Step) (made : Made) (calls : List Call) → OtherThan (refused_by step made calls)
+other_by step made calls =
+    other_or (no_link calls (link_named step)) (option_or (link_twice calls step) (option_or (nothing_waits made calls step) (no_record_room made calls step)))
+    (other_link calls (link_named step))
+    (other_or (link_twice calls step) (option_or (nothing_waits made calls step) (no_record_room made calls step)) (other_twice calls step)
+    (other_or (nothing_waits made calls step) (no_record_room made calls step) (other_waits made calls step) (other_room made calls step)))
+
+other_where : (next : Step) (made : Option Made) (calls : List Call) → OtherThan (refused_where next made calls)
+other_where next None calls = λ e. cc
+other_where next (Some made) calls = other_by next made calls
+
+other_at : (world : World) (earlier : List Step) (next : Step) (named : Option ℕ) → OtherThan (refused_at world earlier next named)
+other_at world earlier next None = tt
+other_at world earlier next (Some n) = other_where next (made_of n earlier) (life_of world n earlier)
+
+other_named : (world : World) (earlier : List Step) (step : Step) → OtherThan (refusal_of_sink world earlier step)
+other_named world earlier step = other_at world earlier step (named_by step)
+
+-- ---- all reasons
 
 other_of_sinks : (boxes : ℕ) (steps : List Step) (step : Step) → OtherThan (sink_refusal boxes steps step)
 other_of_sinks boxes steps (kinds.Sink sink streams slots mtu) =
@@ -97,13 +155,7 @@ other_of_sinks boxes steps (kinds.Tuned sink which) = other_no_sink sink steps
 other_of_sinks boxes steps (kinds.Hear sink back bis subevent) = other_no_sink sink steps
 other_of_sinks boxes steps (kinds.Air sink lose) = other_no_sink sink steps
 other_of_sinks boxes steps (kinds.Inject sink back bis subevent octets) = other_no_sink sink steps
-other_of_sinks boxes steps (kinds.Group framing origin delay iso sdu max_sdu max_pdu num_bis bn nse irc pto sub spacing phy) = tt
-other_of_sinks boxes steps (kinds.Ident address_type address sid broadcast_id) = tt
-other_of_sinks boxes steps (kinds.Start first) = tt
-other_of_sinks boxes steps (kinds.Unit bis time octets) = tt
-other_of_sinks boxes steps kinds.Event = tt
-other_of_sinks boxes steps (kinds.Sniff back bis subevent) = tt
-other_of_sinks boxes steps _ = tt
+other_of_sinks boxes steps step = other_named the_world steps step
 
 other_of_source : (version : ℕ) (own : List Step) (step : Step) → OtherThan (source_refusal airs_of version own step)
 other_of_source version own (kinds.Bis bis config) =
@@ -118,6 +170,7 @@ other_of_source version own (kinds.Hear sink back bis subevent) = other_no_place
 other_of_source version own (kinds.Air sink lose) = other_if (performed own == 0) NotOnAir (λ e. cc)
 other_of_source version own (kinds.Inject sink back bis subevent octets) = other_no_place own back bis subevent
 other_of_source version own (kinds.Sniff back bis subevent) = other_no_place own back bis subevent
+other_of_source version own (kinds.Announce sink) = other_train (announce_fault (setup_of own) (source_calls own))
 other_of_source version own (kinds.Group framing origin delay iso sdu max_sdu max_pdu num_bis bn nse irc pto sub spacing phy) = tt
 other_of_source version own (kinds.Ident address_type address sid broadcast_id) = tt
 other_of_source version own (kinds.Sink sink streams slots mtu) = tt

@@ -13,6 +13,7 @@ use Rattle.replay_command.specs.declared.status.Status.TheVariants as statuses
 use Rattle.replay_command.specs.Ended.{AheadOf, Complete, Ended, IsWhole}
 use Rattle.replay_command.specs.Replayed.{ReadsAtMost, read_limit}
 use Rattle.scenario_laws.specs.Laws.{UnitsLaw, OrderLaw}
+use Rattle.scenario_laws.specs.Links.{AgreementLaw, LinksLaw}
 use Rattle.replay_command.specs.World.{World}
 
 -- between these worlds a call read, wrote and handed to the boxes what this status says
@@ -61,3 +62,10 @@ pub record Promised (old new : World) (status : Status) : Type 0 where
   pub units_law : UnitsLaw old.boxes
   -- A sink's units are in the order of the source, and each comes at most once.
   pub order_law : OrderLaw old.boxes
+  -- On each link of a living sink over which no notice was forged since it was joined, a slot for which neither a notice nor a
+  -- read waits has its state as the assistant's view; once the waiting notices are delivered and the waiting reads are served,
+  -- all views are the states (Broadcast Audio Scan Service 1.0, section 3.2).
+  pub agreement_law : AgreementLaw
+  -- On each link but 0 the same holds whatever the other links do: they change nothing of it but through the states of the slots,
+  -- and a link that is joined begins anew.
+  pub links_law : LinksLaw

@@ -21,7 +21,9 @@ use replay_generated::run_generated;
 use replay_migration::run_migration;
 use replay_steps::Machine;
 use replay_words::{Mode, Words, mode_of};
-use scenario_laws::{one_transcript, order_law, some_airs_meet, units_law};
+use scenario_laws::{
+    agreement_law, links_law, one_transcript, order_law, some_airs_meet, units_law,
+};
 use std::alloc::Global;
 use transcript_text::{Refusal, Stop, put_refusal};
 use unit_outlets::Outlet;
@@ -36,6 +38,11 @@ use unit_outlets::Outlet;
 /// the line of the refusal was written, and nothing behind it was run. `Usage` comes for words that ask for nothing built. `ReadFault`,
 /// `WriteFault` and `OutletFault` come only where the count of the source, of the sink or of a box rose. After `Memory` a
 /// front of the transcript was written.
+///
+/// On each link of a living sink over which no notice was forged since it was joined, a slot for which neither a notice nor a
+/// read waits has its state as the assistant's view (Broadcast Audio Scan Service 1.0, section 3.2). Once the waiting notices of
+/// the link are delivered and its waiting reads are served, all views are the states. On a link but 0 that holds whatever the
+/// other links do: they change nothing of it but through the states of the slots, and a link that is joined begins anew.
 pub fn replay<S: ByteSource, K: ByteSink>(
     alloc: Global,
     words: &Words,
@@ -61,6 +68,8 @@ pub fn replay<S: ByteSource, K: ByteSink>(
     one_transcript();
     units_law();
     order_law();
+    agreement_law();
+    links_law();
     match mode_of(alloc, words) {
         Ok(Mode::Replay) => run(alloc, source, sink, outlets),
         Ok(Mode::Migrate) => Status::from(run_migration(alloc, source, sink)),

@@ -1,5 +1,6 @@
 mod GeneratedText
 mod EndLines
+mod SinkOutputs
 mod Outputs
 mod Runs
 mod Standing

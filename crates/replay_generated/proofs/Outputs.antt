@@ -18,6 +18,7 @@ use Rattle.scenario_history.specs.Source.{end_pdu, event_back, pdu_in, stale_in}
 use Rattle.scenario_history.specs.Steps.{chosen_of, chosen_steps}
 use Rattle.transcript_summary.specs.Lines.{IsWhole}
 use Rattle.transcript_summary.proofs.Citable.{whole_append, whole_ended, whole_none}
+use Rattle.replay_generated.proofs.SinkOutputs.{sink_lines_whole}
 
 line_whole : (first : List ℕ) (words : List (List ℕ)) → IsWhole (line_of first words)
 line_whole first words = whole_ended (joined first words)
@@ -68,6 +69,21 @@ output_whole starts steps (kinds.Inject sink back bis subevent octets) =
 output_whole starts steps (kinds.Sniff back bis subevent) =
     let event = event_back (chosen_steps steps) back in
     line_whole (codes "pdu") (decimal event ∷ decimal bis ∷ decimal subevent ∷ digits (pdu_in airs_of (chosen_steps steps) event bis subevent) ∷ [])
+output_whole starts steps (kinds.Announce sink) = sink_lines_whole steps (kinds.Announce sink)
+output_whole starts steps (kinds.Train sink time ext adv acad) = sink_lines_whole steps (kinds.Train sink time ext adv acad)
+output_whole starts steps (kinds.Serve sink) = sink_lines_whole steps (kinds.Serve sink)
+output_whole starts steps (kinds.Tell sink) = sink_lines_whole steps (kinds.Tell sink)
+output_whole starts steps (kinds.Read sink) = sink_lines_whole steps (kinds.Read sink)
+output_whole starts steps (kinds.Drain sink) = sink_lines_whole steps (kinds.Drain sink)
+output_whole starts steps (kinds.Show sink) = sink_lines_whole steps (kinds.Show sink)
+output_whole starts steps (kinds.Lose sink) = sink_lines_whole steps (kinds.Lose sink)
+output_whole starts steps (kinds.Control sink octets) = sink_lines_whole steps (kinds.Control sink octets)
+output_whole starts steps (kinds.Forge sink slot octets) = sink_lines_whole steps (kinds.Forge sink slot octets)
+output_whole starts steps (kinds.AServe sink link) = sink_lines_whole steps (kinds.AServe sink link)
+output_whole starts steps (kinds.ATell sink link) = sink_lines_whole steps (kinds.ATell sink link)
+output_whole starts steps (kinds.ARead sink link) = sink_lines_whole steps (kinds.ARead sink link)
+output_whole starts steps (kinds.ADrain sink link) = sink_lines_whole steps (kinds.ADrain sink link)
+output_whole starts steps (kinds.AShow sink link) = sink_lines_whole steps (kinds.AShow sink link)
 output_whole starts steps _ = whole_none
 
 pub said_whole : (starts : List Account) (steps : List Step) (said : Said) → IsWhole (output_said airs_of starts steps said)

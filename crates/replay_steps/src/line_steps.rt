@@ -33,12 +33,7 @@ impl Machine {
 
     /// A line of the control or of the links of a sink.
     #[inline(never)]
-    pub(crate) fn sink_line(
-        &mut self,
-        sink: u8,
-        step: Step,
-        text: &mut Octets,
-    ) -> Result<(), Stop>
+    pub(crate) fn sink_line(&mut self, sink: u8, step: Step, text: &mut Octets) -> Result<(), Stop>
         requires sink { sink ≤ 7 }
         requires range { IsInRange step }
         ensures { (starts : List Account) (version : ℕ) (steps : List Said) → Stands steps self.old → stage_of steps ≡ running version

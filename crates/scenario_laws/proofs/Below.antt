@@ -22,6 +22,7 @@ use Rattle.source_machine.specs.Setups.{IsChecked}
 use Rattle.group_sink.specs.Calls.{Tuning, Call, place}
 use Rattle.group_sink.specs.Handing.{handed_since, of_stream}
 use Rattle.group_sink.specs.Streams.{closes, stay_on, stream_calls, streams_of}
+use Rattle.scenario_laws.proofs.Announced.{Announcing}
 use Rattle.scenario_laws.proofs.Legals.{LinesInRange}
 
 pub record Below : Type 0 where
@@ -59,3 +60,5 @@ pub record Below : Type 0 where
   pub framed_hands : (tuning : Tuning) → (calls : List Call) → (bis : ℕ) → tuning.info.framing ≡ 1 → place calls ≡ Some tuning → Contains (streams_of tuning.which) bis
       → of_stream bis (handed_since calls) ≡ decided (stay_on tuning bis) (stream_calls (stay_on tuning bis) calls)
   pub others : (tuning : Tuning) → (calls : List Call) → (bis : ℕ) → place calls ≡ Some tuning → ¬ Contains (streams_of tuning.which) bis → of_stream bis (handed_since calls) ≡ []
+  -- the laws of announcements
+  pub announcing : Announcing

@@ -1,19 +1,25 @@
 -- The events of a source that a sink closes rise, over all its stays with the source.
-use Rattle.std.proofs.Common.{ℕ, zero, suc, ◌≡◌, ◌≢◌, ◌<◌, ◌≤◌, ◌+◌, ◌==◌, ◌||◌, cond, leb, not, Bool, true, false, List, [], ◌∷◌, ◌++◌, map, Option, None, Some, refl, sym, ◌∙◌, ap, subst, arith}
+use Rattle.std.proofs.Common.{ℕ, zero, suc, ◌≡◌, ◌≢◌, ◌<◌, ◌≤◌, ◌+◌, ◌==◌, ◌||◌, cond, leb, not, Bool, true, false, List, [], ◌∷◌, ◌++◌, map, Option, None, Some}
+use Rattle.std.proofs.Common.{refl, sym, ◌∙◌, ap, subst, arith, inl, inr}
 use Rattle.std.specs.List.Sorted.{IsStrictlyIncreasing}
-use Rattle.std.proofs.lemmas.Bool.{eqb-true, eqb-false, leb-true, or_parts}
+use Rattle.std.proofs.lemmas.Bool.{cases_Bool, eq-eqb, eqb-true, eqb-false, false≢true, leb-true, or_parts}
 use Rattle.std.proofs.lemmas.Option.{none-some, same_Some}
+use Rattle.delegator_machine.specs.Groups as machine
 use Rattle.group_sink.specs.Calls.{Tuning, Call, tune, hear, tick, place}
 use Rattle.group_sink.specs.Streams.{closes}
 use Rattle.scenario_text.specs.declared.step.Step.{Step}
 use Rattle.scenario_text.specs.declared.step.Step.TheVariants as steps
 use Rattle.scenario_history.specs.Steps.{chosen_of, chosen_steps, is_over, steps_of_source}
 use Rattle.scenario_history.specs.Source.{Airs, event_back, is_sending, open_event, pdu_in, performed, setup_of}
-use Rattle.scenario_history.specs.Sinks.{heard_on_air, is_lost, is_of, reaches, sink_calls, source_after, source_of, spot_at, spots_of, ticked, tuning_of, unless_lost, with_sink_call}
-use Rattle.scenario_laws.specs.Laws.{Closed, closed_at, closed_by, closed_if, closed_in, closed_since, is_made}
-use Rattle.scenario_laws.proofs.Legals.{Legal}
+use Rattle.scenario_history.specs.Sinks.{heard_on_air, is_lost, is_of, reaches, sink_calls, source_of, spot_at, spots_of, ticked, tuning_of, unless_lost}
+use Rattle.scenario_laws.specs.Laws.{Closed, closed_at, closed_by, closed_if, closed_in, closed_since, any_since, given_since_made, is_given, is_made, is_tuned}
+use Rattle.scenario_laws.proofs.Announced.{Announcing}
+use Rattle.scenario_laws.proofs.ByHand.{as_by_hand}
+use Rattle.scenario_laws.proofs.Legals.{Legal, Permitted, permitted}
+use Rattle.scenario_laws.proofs.Moves.{Left, StaysBy, announced, given_stays, plain_stays}
 use Rattle.scenario_laws.proofs.Wholes.{next_in, next_rises}
-use Rattle.scenario_laws.proofs.Stays.{air_place}
+use Rattle.scenario_laws.proofs.Places.{air_place}
+use Rattle.scenario_laws.proofs.Stays.{IsOn, begins_calls, begins_next, last_not, on_before, rest_not}
 use Rattle.scenario_laws.proofs.Ticks.{end_ticks, event_ticks, is_its}
 
 -- ---- numbers that rise between two bounds
@@ -125,6 +131,25 @@ air_closes airs own lose (suc i) calls tuning =
     lost_closes (is_lost (setup_of own).info (event_back own 0) lose (spot_at (setup_of own).info i)) _ _ _ _ (heard_on_air airs own lose i calls) tuning
     ∙ air_closes airs own lose i calls tuning
 
+-- a group that is left, and none that is entered
+none_front : (mine : Bool) (calls : List Call) (next : ℕ) → place calls ≡ None → front mine calls next ≡ next
+none_front true calls next nowhere = ap (λ p. front_of p calls next) nowhere
+none_front false calls next nowhere = refl
+
+off_moves : (mine mine' : Bool) (calls later : List Call) (next next' : ℕ) → next ≤ next' → place later ≡ None → front mine calls next ≤ next → Moves mine calls next [] mine' later next'
+off_moves mine mine' calls later next next' more nowhere within =
+    let is : front mine' later next' ≡ next' = none_front mine' later next' nowhere in
+    record { climbs_on = omega (arith, is, more, within); within = omega (arith, is) }
+
+left_moves : (mine mine' : Bool) (calls later : List Call) (next next' : ℕ) → next ≤ next' → mine' ≡ mine → Left later calls → front mine calls next ≤ next
+    → Moves mine calls next [] mine' later next'
+left_moves mine mine' calls later next next' more its left within = elim left [
+  | inl same ↦
+      subst (λ cs. Moves mine calls next [] mine' cs next') (sym same)
+      (subst (λ its. Moves mine calls next [] its calls next') (sym its) (stay_moves mine calls next next' more within))
+  | inr gone ↦ off_moves mine mine' calls later next next' more (ap place gone) within
+]
+
 -- an event of the source is over
 closed_one : (tuning : Tuning) (calls : List Call) (event next next' : ℕ) (over : Bool) → leb (tuning.first + closes tuning calls) event ≡ over
     → event < next → next ≤ next' → tuning.first + closes tuning calls ≤ next
@@ -181,47 +206,77 @@ mine_in s n made = is_of s (source_of n made)
 abbrev pub its_front : Airs → ℕ → ℕ → List Step → ℕ
 its_front airs s n made = front (mine_in s n made) (sink_calls airs n made) (next_in (steps_of_source s made))
 
-pub moves_by : (airs : Airs) (s n : ℕ) (step : Step) (earlier : List Step) (next' : ℕ) → s ≤ 1 → next_in (steps_of_source s earlier) ≤ next'
+stays_move : (airs : Airs) (s n : ℕ) (step : Step) (earlier : List Step) (next' : ℕ) → StaysBy airs n step earlier → next_in (steps_of_source s earlier) ≤ next'
     → its_front airs s n earlier ≤ next_in (steps_of_source s earlier)
+    → Moves (mine_in s n earlier) (sink_calls airs n earlier) (next_in (steps_of_source s earlier)) [] (mine_in s n (step ∷ earlier)) (sink_calls airs n (step ∷ earlier)) next'
+stays_move airs s n step earlier next' stays more within =
+    left_moves (mine_in s n earlier) (mine_in s n (step ∷ earlier)) (sink_calls airs n earlier) (sink_calls airs n (step ∷ earlier)) (next_in (steps_of_source s earlier)) next' more
+    (ap (is_of s) stays.same) stays.left within
+
+announced_moves : Announcing → (airs : Airs) (boxes s n sink : ℕ) (earlier : List Step) (next' : ℕ) → Legal airs boxes earlier → Permitted airs boxes earlier (steps.Announce sink)
+    → next_in (steps_of_source s earlier) ≤ next' → its_front airs s n earlier ≤ next_in (steps_of_source s earlier)
+    → Moves (mine_in s n earlier) (sink_calls airs n earlier) (next_in (steps_of_source s earlier)) []
+    (mine_in s n (steps.Announce sink ∷ earlier)) (sink_calls airs n (steps.Announce sink ∷ earlier)) next'
+announced_moves laws airs boxes s n sink earlier next' legal permits more within = elim (announced airs n sink earlier) [
+  | inl stays ↦ stays_move airs s n (steps.Announce sink) earlier next' stays more within
+  | inr goes ↦ elim goes [
+    | inl follows ↦
+        off_moves (mine_in s n earlier) (mine_in s n (steps.Announce sink ∷ earlier)) (sink_calls airs n earlier) (sink_calls airs n (steps.Announce sink ∷ earlier))
+        (next_in (steps_of_source s earlier)) next' more (ap place follows.same ∙ follows.nowhere) within
+    | inr put ↦
+        let on : Tuning = machine.tuning_of put.joining in
+        let first_is : on.first ≡ next_in (chosen_steps earlier) = ap (λ (t : Tuning). t.first) (as_by_hand laws airs boxes n sink earlier put.joining legal permits put.brings).0 in
+        subst (λ calls. Moves (mine_in s n earlier) (sink_calls airs n earlier) (next_in (steps_of_source s earlier)) [] (mine_in s n (steps.Announce sink ∷ earlier)) calls next') (sym put.calls_is)
+        (subst (λ source. Moves (mine_in s n earlier) (sink_calls airs n earlier) (next_in (steps_of_source s earlier)) [] (is_of s source) (tune on ∷ sink_calls airs n earlier) next')
+        (sym put.source_is)
+        (on_moves (mine_in s n earlier) (chosen_of earlier == s) on (sink_calls airs n earlier) (next_in (steps_of_source s earlier)) next' more
+        (λ same. first_is ∙ ap (λ t. next_in (steps_of_source t earlier)) (eqb-true (chosen_of earlier) s same)) within))
+  ]
+]
+
+pub moves_by : Announcing → (airs : Airs) (boxes s n : ℕ) (step : Step) (earlier : List Step) (next' : ℕ) → Legal airs boxes earlier → Permitted airs boxes earlier step
+    → is_given n step ≡ false → s ≤ 1 → next_in (steps_of_source s earlier) ≤ next' → its_front airs s n earlier ≤ next_in (steps_of_source s earlier)
     → Moves (mine_in s n earlier) (sink_calls airs n earlier) (next_in (steps_of_source s earlier)) (closed_by airs s n earlier step)
-    (is_of s (source_after n step earlier (source_of n earlier))) (with_sink_call airs n step earlier (sink_calls airs n earlier)) next'
-moves_by airs s n (steps.Sink sink streams slots mtu) earlier next' least more within =
+    (mine_in s n (step ∷ earlier)) (sink_calls airs n (step ∷ earlier)) next'
+moves_by laws airs boxes s n (steps.Sink sink streams slots mtu) earlier next' legal permits ungiven least more within =
     gone_moves s (sink == n) (sink_calls airs n earlier) (source_of n earlier) (next_in (steps_of_source s earlier)) next' more within
-moves_by airs s n (steps.Drop sink) earlier next' least more within =
+moves_by laws airs boxes s n (steps.Drop sink) earlier next' legal permits ungiven least more within =
     gone_moves s (sink == n) (sink_calls airs n earlier) (source_of n earlier) (next_in (steps_of_source s earlier)) next' more within
-moves_by airs s n (steps.Tuned sink which) earlier next' least more within =
+moves_by laws airs boxes s n (steps.Tuned sink which) earlier next' legal permits ungiven least more within =
     put_moves s (sink == n) (tuning_of (chosen_steps earlier) which) (chosen_of earlier) (sink_calls airs n earlier) (source_of n earlier) (next_in (steps_of_source s earlier)) next' more
     (λ same. ap (λ t. next_in (steps_of_source t earlier)) (eqb-true (chosen_of earlier) s same)) within
-moves_by airs s n (steps.Hear sink back bis subevent) earlier next' least more within =
+moves_by laws airs boxes s n (steps.Hear sink back bis subevent) earlier next' legal permits ungiven least more within =
     more_moves (mine_in s n earlier) (reaches sink n earlier)
     (hear (event_back (chosen_steps earlier) back) bis subevent (pdu_in airs (chosen_steps earlier) (event_back (chosen_steps earlier) back) bis subevent) ∷ sink_calls airs n earlier)
     (sink_calls airs n earlier) (next_in (steps_of_source s earlier)) next' more refl (λ tuning. refl) within
-moves_by airs s n (steps.Air sink lose) earlier next' least more within =
+moves_by laws airs boxes s n (steps.Air sink lose) earlier next' legal permits ungiven least more within =
     more_moves (mine_in s n earlier) (reaches sink n earlier) (heard_on_air airs (chosen_steps earlier) lose (spots_of (chosen_steps earlier)) (sink_calls airs n earlier))
     (sink_calls airs n earlier) (next_in (steps_of_source s earlier)) next' more
     (air_place airs (chosen_steps earlier) lose (spots_of (chosen_steps earlier)) (sink_calls airs n earlier))
     (air_closes airs (chosen_steps earlier) lose (spots_of (chosen_steps earlier)) (sink_calls airs n earlier)) within
-moves_by airs s n (steps.Inject sink back bis subevent octets) earlier next' least more within =
+moves_by laws airs boxes s n (steps.Inject sink back bis subevent octets) earlier next' legal permits ungiven least more within =
     more_moves (mine_in s n earlier) (reaches sink n earlier) (hear (event_back (chosen_steps earlier) back) bis subevent octets ∷ sink_calls airs n earlier)
     (sink_calls airs n earlier) (next_in (steps_of_source s earlier)) next' more refl (λ tuning. refl) within
-moves_by airs s n steps.Event earlier next' least more within =
+moves_by laws airs boxes s n steps.Event earlier next' legal permits ungiven least more within =
     close_moves (mine_in s n earlier) (chosen_of earlier == s) (open_event (steps_of_source s earlier)) (sink_calls airs n earlier) _ (next_in (steps_of_source s earlier)) next'
     (open_before (steps_of_source s earlier)) more within
     (λ mine. event_ticks (chosen_of earlier) s (λ t. open_event (steps_of_source t earlier)) (sink_calls airs n earlier) (source_of n earlier) (is_its s (source_of n earlier) mine))
-moves_by airs s n steps.Stop earlier next' least more within =
+moves_by laws airs boxes s n steps.Stop earlier next' legal permits ungiven least more within =
     close_moves (mine_in s n earlier) (chosen_of earlier == s) (open_event (steps_of_source s earlier)) (sink_calls airs n earlier) _ (next_in (steps_of_source s earlier)) next'
     (open_before (steps_of_source s earlier)) more within
     (λ mine. event_ticks (chosen_of earlier) s (λ t. open_event (steps_of_source t earlier)) (sink_calls airs n earlier) (source_of n earlier) (is_its s (source_of n earlier) mine))
-moves_by airs s n (steps.Terminate reason) earlier next' least more within =
+moves_by laws airs boxes s n (steps.Terminate reason) earlier next' legal permits ungiven least more within =
     close_moves (mine_in s n earlier) (chosen_of earlier == s) (open_event (steps_of_source s earlier)) (sink_calls airs n earlier) _ (next_in (steps_of_source s earlier)) next'
     (open_before (steps_of_source s earlier)) more within
     (λ mine. event_ticks (chosen_of earlier) s (λ t. open_event (steps_of_source t earlier)) (sink_calls airs n earlier) (source_of n earlier) (is_its s (source_of n earlier) mine))
-moves_by airs s n steps.End earlier next' least more within =
+moves_by laws airs boxes s n steps.End earlier next' legal permits ungiven least more within =
     close_moves (mine_in s n earlier) true (open_event (steps_of_source s earlier)) (sink_calls airs n earlier) _ (next_in (steps_of_source s earlier)) next'
     (open_before (steps_of_source s earlier)) more within
     (λ mine. end_ticks s (λ t. open_event (steps_of_source t earlier)) (sink_calls airs n earlier) (source_of n earlier) least (is_its s (source_of n earlier) mine))
-moves_by airs s n _ earlier next' least more within =
-    stay_moves (mine_in s n earlier) (sink_calls airs n earlier) (next_in (steps_of_source s earlier)) next' more within
+moves_by laws airs boxes s n (steps.Announce sink) earlier next' legal permits ungiven least more within = announced_moves laws airs boxes s n sink earlier next' legal permits more within
+moves_by laws airs boxes s n (steps.Train sink time ext adv acad) earlier next' legal permits ungiven least more within =
+    stays_move airs s n (steps.Train sink time ext adv acad) earlier next' (given_stays airs n sink time ext adv acad earlier ungiven) more within
+moves_by laws airs boxes s n step earlier next' legal permits ungiven least more within = stays_move airs s n step earlier next' (plain_stays airs n step earlier refl refl refl refl) more within
 
 -- ---- all events that a sink closed
 
@@ -229,27 +284,78 @@ pub record Closing (airs : Airs) (s n : ℕ) (made : List Step) : Type 0 where
   pub rise : Climb 0 (map event_of (closed_since airs s n made)) (its_front airs s n made)
   pub within : its_front airs s n made ≤ next_in (steps_of_source s made)
 
-made_again : (again : Bool) (before now : List Closed) (low high : ℕ) → Climb 0 (map event_of before) low → Climb low (map event_of now) high
-    → Climb 0 (map event_of (cond again [] (before ++ now))) high
-made_again true before now low high first rest = omega arith
-made_again false before now low high first rest =
-    subst (λ xs. Climb 0 xs high) (sym (map_on event_of before now)) (climb_on 0 (map event_of before) low (map event_of now) high first rest)
-
-pub moved : (airs : Airs) (boxes s n : ℕ) (step : Step) (earlier : List Step) → Legal airs boxes (step ∷ earlier) → s ≤ 1 → its_front airs s n earlier ≤ next_in (steps_of_source s earlier)
+pub moved : Announcing → (airs : Airs) (boxes s n : ℕ) (step : Step) (earlier : List Step) → Legal airs boxes (step ∷ earlier) → is_given n step ≡ false → s ≤ 1
+    → its_front airs s n earlier ≤ next_in (steps_of_source s earlier)
     → Moves (mine_in s n earlier) (sink_calls airs n earlier) (next_in (steps_of_source s earlier)) (closed_by airs s n earlier step)
     (mine_in s n (step ∷ earlier)) (sink_calls airs n (step ∷ earlier)) (next_in (steps_of_source s (step ∷ earlier)))
-moved airs boxes s n step earlier legal least within =
-    moves_by airs s n step earlier (next_in (steps_of_source s (step ∷ earlier))) least (next_rises airs boxes s earlier step legal) within
+moved laws airs boxes s n step earlier legal ungiven least within =
+    moves_by laws airs boxes s n step earlier (next_in (steps_of_source s (step ∷ earlier))) legal.0 (permitted airs boxes earlier step legal.1) ungiven least
+    (next_rises airs boxes s earlier step legal) within
 
-pub closing : (airs : Airs) (boxes s n : ℕ) (made : List Step) → Legal airs boxes made → s ≤ 1 → Closing airs s n made
-closing airs boxes s n [] legal least = record { rise = omega arith; within = omega arith }
-closing airs boxes s n (step ∷ earlier) legal least =
-    let before : Closing airs s n earlier = closing airs boxes s n earlier legal.0 least in
-    let now = moved airs boxes s n step earlier legal least before.within in
+-- a sink that was just made
+pub made_nothing : (airs : Airs) (n : ℕ) (step : Step) (earlier : List Step) → is_made n earlier step ≡ true → sink_calls airs n (step ∷ earlier) ≡ []
+made_nothing airs n (steps.Sink sink streams slots mtu) earlier made = ap (λ b. cond b [] (sink_calls airs n earlier)) made
+made_nothing airs n _ earlier made = absurd (false≢true made)
+
+closing_anew : (airs : Airs) (s n : ℕ) (step : Step) (earlier : List Step) → is_made n earlier step ≡ true → Closing airs s n (step ∷ earlier)
+closing_anew airs s n step earlier made =
+    let is : its_front airs s n (step ∷ earlier) ≡ next_in (steps_of_source s (step ∷ earlier)) =
+    none_front (mine_in s n (step ∷ earlier)) (sink_calls airs n (step ∷ earlier)) (next_in (steps_of_source s (step ∷ earlier))) (ap place (made_nothing airs n step earlier made)) in
     record {
-      rise = made_again (is_made n step) (closed_since airs s n earlier) (closed_by airs s n earlier step) (its_front airs s n earlier) (its_front airs s n (step ∷ earlier)) before.rise now.climbs_on;
+      rise = subst (λ again. Climb 0 (map event_of (cond again [] (closed_since airs s n earlier ++ closed_by airs s n earlier step))) (its_front airs s n (step ∷ earlier))) (sym made) (omega arith);
+      within = omega (arith, is);
+    }
+
+climbs_further : (again : Bool) (before now : List Closed) (low high : ℕ) → again ≡ false → Climb 0 (map event_of before) low → Climb low (map event_of now) high
+    → Climb 0 (map event_of (cond again [] (before ++ now))) high
+climbs_further true before now low high on first rest = absurd (false≢true (sym on))
+climbs_further false before now low high on first rest =
+    subst (λ xs. Climb 0 xs high) (sym (map_on event_of before now)) (climb_on 0 (map event_of before) low (map event_of now) high first rest)
+
+closing_on : Announcing → (airs : Airs) (boxes s n : ℕ) (step : Step) (earlier : List Step) → Legal airs boxes (step ∷ earlier) → is_given n step ≡ false → s ≤ 1 → is_made n earlier step ≡ false
+    → Closing airs s n earlier → Closing airs s n (step ∷ earlier)
+closing_on laws airs boxes s n step earlier legal ungiven least on before =
+    let now = moved laws airs boxes s n step earlier legal ungiven least before.within in
+    record {
+      rise = climbs_further (is_made n earlier step) (closed_since airs s n earlier) (closed_by airs s n earlier step) (its_front airs s n earlier) (its_front airs s n (step ∷ earlier)) on
+          before.rise now.climbs_on;
       within = now.within;
     }
 
-pub closes_rise : (airs : Airs) (boxes s n : ℕ) (made : List Step) → Legal airs boxes made → s ≤ 1 → IsStrictlyIncreasing (map event_of (closed_since airs s n made))
-closes_rise airs boxes s n made legal least = climbs 0 (map event_of (closed_since airs s n made)) (its_front airs s n made) (closing airs boxes s n made legal least).rise
+pub closing : Announcing → (airs : Airs) (boxes s n : ℕ) (made : List Step) → Legal airs boxes made → given_since_made n made ≡ false → s ≤ 1 → Closing airs s n made
+closing laws airs boxes s n [] legal ungiven least = record { rise = omega arith; within = omega arith }
+closing laws airs boxes s n (step ∷ earlier) legal ungiven least = elim (cases_Bool (is_made n earlier step)) [
+  | inl again ↦ closing_anew airs s n step earlier again
+  | inr on ↦
+      closing_on laws airs boxes s n step earlier legal (last_not (is_made n earlier step) (is_given n step) (given_since_made n earlier) ungiven) least on
+      (closing laws airs boxes s n earlier legal.0 (rest_not (is_made n earlier step) (is_given n step) (given_since_made n earlier) ungiven on) least)
+]
+
+pub closes_rise : Announcing → (airs : Airs) (boxes s n : ℕ) (made : List Step) → Legal airs boxes made → given_since_made n made ≡ false → s ≤ 1
+    → IsStrictlyIncreasing (map event_of (closed_since airs s n made))
+closes_rise laws airs boxes s n made legal ungiven least =
+    climbs 0 (map event_of (closed_since airs s n made)) (its_front airs s n made) (closing laws airs boxes s n made legal ungiven least).rise
+
+-- ---- the open event of one stay
+
+stay_front : (airs : Airs) (s n : ℕ) (made : List Step) (tuning : Tuning) → IsOn airs s n made tuning → its_front airs s n made ≡ tuning.first + closes tuning (sink_calls airs n made)
+stay_front airs s n made tuning is =
+    ap (λ source. front (is_of s source) (sink_calls airs n made) (next_in (steps_of_source s made))) is.source_is
+    ∙ ap (λ b. front b (sink_calls airs n made) (next_in (steps_of_source s made))) (eq-eqb s s refl)
+    ∙ ap (λ p. front_of p (sink_calls airs n made) (next_in (steps_of_source s made))) is.place_is
+
+-- the open event of a stay is at most the source's next one
+pub stay_within : Announcing → (airs : Airs) (boxes s n : ℕ) (made : List Step) (tuning : Tuning) → Legal airs boxes made → s ≤ 1 → IsOn airs s n made tuning
+    → tuning.first + closes tuning (sink_calls airs n made) ≤ next_in (steps_of_source s made)
+stay_within laws airs boxes s n [] tuning legal least is = absurd (none-some tuning is.place_is)
+stay_within laws airs boxes s n (step ∷ earlier) tuning legal least is = elim (on_before airs s n step earlier tuning is) [
+  | inl before ↦
+      let within : its_front airs s n earlier ≤ next_in (steps_of_source s earlier) =
+      omega (arith, stay_front airs s n earlier tuning before, stay_within laws airs boxes s n earlier tuning legal.0 least before) in
+      let now = moved laws airs boxes s n step earlier legal (last_not (is_tuned n earlier step) (is_given n step) (any_since (is_tuned n) (is_given n) earlier) is.ungiven) least within in
+      omega (arith, stay_front airs s n (step ∷ earlier) tuning is, now.within)
+  | inr begins ↦
+      let none : closes tuning (sink_calls airs n (step ∷ earlier)) ≡ 0 = ap (closes tuning) (begins_calls airs s n step earlier tuning begins) in
+      let first : tuning.first ≡ next_in (steps_of_source s earlier) = begins_next laws airs boxes s n step earlier tuning legal.0 (permitted airs boxes earlier step legal.1) begins in
+      omega (arith, none, first, next_rises airs boxes s earlier step legal)
+]

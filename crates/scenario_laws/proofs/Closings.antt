@@ -12,15 +12,17 @@ use Rattle.group_sink.specs.Handing.{handed_at, handed_by as ticked_by}
 use Rattle.scenario_text.specs.declared.step.Step.{Step}
 use Rattle.scenario_text.specs.declared.step.Step.TheVariants as steps
 use Rattle.transcript_text.specs.declared.refusal.Refusal.TheVariants.{NoSuchSink}
+use Rattle.sink_histories.specs.Lives.{Made, made_of, named_by}
 use Rattle.scenario_history.specs.Steps.{chosen_of, chosen_steps, sinks_made, steps_of_source}
 use Rattle.scenario_history.specs.Source.{Airs, event_back, open_event, pdu_in}
-use Rattle.scenario_history.specs.Sinks.{heard_on_air, is_of, reaches, sink_calls, source_of, spots_of, ticked_if, tuning_of, with_sink_call}
+use Rattle.scenario_history.specs.Sinks.{heard_on_air, is_of, reaches, sink_calls, source_of, spots_of, tuning_of, with_sink_call}
 use Rattle.scenario_history.specs.Boxes.{SinkUnit, box_after, box_of, closing, closing_at, closing_by, closing_in, handed_by, sink_numbers}
 use Rattle.scenario_history.specs.Refusals.{no_sink}
 use Rattle.scenario_laws.specs.Laws.{of_sink}
 use Rattle.scenario_laws.proofs.Legals.{Legal, Permitted, fails_not, permitted}
 use Rattle.scenario_laws.proofs.Sources.{not_false}
-use Rattle.scenario_laws.proofs.Stays.{air_place, same_place, tick_if_place}
+use Rattle.scenario_laws.proofs.Moves.{unmoved}
+use Rattle.scenario_laws.proofs.Places.{air_place, end_place, same_place, tick_if_place}
 
 -- ---- a sink that is on a group has a box
 
@@ -41,6 +43,21 @@ put_housed : (n sink : ℕ) (on : Tuning) (earlier : List Step) (calls : List Ca
 put_housed n sink on earlier calls has before none true is =
     absurd (is_none (box_of sink earlier) has (ap (λ m. box_of m earlier) (eqb-true sink n is) ∙ none))
 put_housed n sink on earlier calls has before none false is = before none
+
+made_as : (gone : Bool) (box : Option ℕ) (made : Option Made) → (box ≡ None → made ≡ None) → cond gone None box ≡ None → cond gone None made ≡ None
+made_as true box made before none = refl
+made_as false box made before none = before none
+
+made_anew : (again : Bool) (count : ℕ) (anew : Made) (box : Option ℕ) (made : Option Made) → (box ≡ None → made ≡ None) → cond again (Some count) box ≡ None → cond again (Some anew) made ≡ None
+made_anew true count anew box made before none = absurd (none-some count (sym none))
+made_anew false count anew box made before none = before none
+
+-- a sink without a box doesn't live
+unmade : (n : ℕ) (made : List Step) → box_of n made ≡ None → made_of n made ≡ None
+unmade n [] none = refl
+unmade n (steps.Sink sink streams slots mtu ∷ earlier) none = made_anew (sink == n) (sinks_made earlier) _ (box_of n earlier) (made_of n earlier) (unmade n earlier) none
+unmade n (steps.Drop sink ∷ earlier) none = made_as (sink == n) (box_of n earlier) (made_of n earlier) (unmade n earlier) none
+unmade n (_ ∷ earlier) none = unmade n earlier none
 
 has_box : (sink : ℕ) (earlier : List Step) → no_sink sink earlier ≡ None → is_some (box_of sink earlier) ≡ true
 has_box sink earlier none = not_false (is_some (box_of sink earlier)) (fails_not (not (is_some (box_of sink earlier))) NoSuchSink none)
@@ -66,9 +83,8 @@ housed_after airs boxes n steps.Stop earlier calls permits before none =
 housed_after airs boxes n (steps.Terminate reason) earlier calls permits before none =
     tick_if_place (is_of (chosen_of earlier) (source_of n earlier)) (open_event (chosen_steps earlier)) calls ∙ before none
 housed_after airs boxes n steps.End earlier calls permits before none =
-    tick_if_place (is_of 1 (source_of n earlier)) (open_event (steps_of_source 1 earlier)) (ticked_if (is_of 0 (source_of n earlier)) (open_event (steps_of_source 0 earlier)) calls)
-    ∙ tick_if_place (is_of 0 (source_of n earlier)) (open_event (steps_of_source 0 earlier)) calls ∙ before none
-housed_after airs boxes n _ earlier calls permits before none = before none
+    end_place (is_of 1 (source_of n earlier)) (is_of 0 (source_of n earlier)) (open_event (steps_of_source 1 earlier)) (open_event (steps_of_source 0 earlier)) calls ∙ before none
+housed_after airs boxes n step earlier calls permits before none = ap place (unmoved n (named_by step) step earlier calls (unmade n earlier none)) ∙ before none
 
 housed : (airs : Airs) (boxes n : ℕ) (made : List Step) → Legal airs boxes made → box_of n made ≡ None → place (sink_calls airs n made) ≡ None
 housed airs boxes n [] legal none = refl

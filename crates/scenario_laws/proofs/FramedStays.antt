@@ -3,7 +3,7 @@ use Rattle.std.proofs.Common.{ℕ, zero, suc, ◌≡◌, ◌<◌, ◌≤◌, ◌
 use Rattle.std.specs.Prelude.{is_some, slice_index_or, unwrap_or}
 use Rattle.std.specs.List.{Contains, list_any}
 use Rattle.std.proofs.Math.Nat.{add-mul, div-mul-le_self, mul-le-mul}
-use Rattle.std.proofs.lemmas.Bool.{eq-eqb, eqb-true, false≢true, ltb-false, or_parts}
+use Rattle.std.proofs.lemmas.Bool.{eqb-true, false≢true, ltb-false, or_parts}
 use Rattle.big_info.specs.declared.info.BigInfo.{BigInfo}
 use Rattle.big_info.specs.declared.group.Group.{Group}
 use Rattle.big_info.specs.Schedule.{horizon_of}
@@ -16,18 +16,19 @@ use Rattle.isoal_framed.specs.Struck.{Fit, Sent, is_heard, struck}
 use Rattle.isoal_framed.specs.Tokens.{segmented}
 use Rattle.source_machine.specs.Airs.{AreAirs}
 use Rattle.source_machine.specs.Calls.{Setup, Call as SourceCall, events, framed_calls, laid_before, next_of}
-use Rattle.group_sink.specs.Calls.{Tuning, place}
+use Rattle.group_sink.specs.Calls.{Tuning}
 use Rattle.group_sink.specs.Handing.{handed_since as ticked_since, of_stream}
 use Rattle.group_sink.proofs.Citable.{member_is}
-use Rattle.group_sink.specs.Streams.{closes, stay_on, streams_of}
+use Rattle.group_sink.specs.Streams.{stay_on, streams_of}
 use Rattle.scenario_text.specs.declared.step.Step.{Step}
 use Rattle.scenario_history.specs.Steps.{steps_of_source}
 use Rattle.scenario_history.specs.Source.{Airs, is_started, setup_of, source_calls}
 use Rattle.scenario_history.specs.Airs.{MeetAirs}
-use Rattle.scenario_history.specs.Sinks.{is_of, sink_calls, source_of}
+use Rattle.scenario_history.specs.Sinks.{sink_calls}
 use Rattle.scenario_laws.specs.SourceUnits.{AreSent, by_payload}
 use Rattle.scenario_history.specs.Refusals.{has_beyond}
 use Rattle.scenario_laws.specs.Laws.{IsFramedStruck, air_in, calls_on, handed_since, injected_since, is_tuned, of_sink}
+use Rattle.scenario_laws.proofs.Announced.{Announcing}
 use Rattle.scenario_laws.proofs.Below.{Below}
 use Rattle.scenario_laws.proofs.Legals.{Legal}
 use Rattle.scenario_laws.proofs.Sources.{Lawful, Settled, are_accepted, bounds_in, group_in, lawful, settled}
@@ -35,7 +36,7 @@ use Rattle.scenario_laws.proofs.Wholes.{Within, events_more, next_in, within_its
 use Rattle.scenario_laws.proofs.Stays.{IsOn, OnSource, TunedTo, on_source}
 use Rattle.scenario_laws.proofs.Hears.{all_own, its_airs}
 use Rattle.scenario_laws.proofs.FromSources.{framed_from_source}
-use Rattle.scenario_laws.proofs.Closes.{closing, front_of}
+use Rattle.scenario_laws.proofs.Closes.{stay_within}
 use Rattle.scenario_laws.proofs.FramedCalls.{events_in, unit_short}
 use Rattle.scenario_laws.proofs.FramedSends.{FramedWhole, HasAir, framed_sends, has_air, laid_end, laid_of, sent_fit, sent_in_order}
 
@@ -78,12 +79,7 @@ mul_least a b n least =
 pub opened_within : Below → (airs : Airs) (boxes s n bis : ℕ) (made : List Step) (tuning : Tuning) → Legal airs boxes made → s ≤ 1 → IsOn airs s n made tuning
     → opened (stay_on tuning bis) (calls_on airs made n tuning bis) ≤ next_in (steps_of_source s made)
 opened_within below airs boxes s n bis made tuning legal within is =
-    let mine : is_of s (source_of n made) ≡ true = ap (is_of s) is.source_is ∙ eq-eqb s s refl in
-    let at : front_of (cond (is_of s (source_of n made)) (place (sink_calls airs n made)) None) (sink_calls airs n made) (next_in (steps_of_source s made))
-    ≡ tuning.first + closes tuning (sink_calls airs n made) =
-    ap (λ b. front_of (cond b (place (sink_calls airs n made)) None) (sink_calls airs n made) (next_in (steps_of_source s made))) mine
-    ∙ ap (λ p. front_of p (sink_calls airs n made) (next_in (steps_of_source s made))) is.place_is in
-    omega (arith, below.one_open tuning (sink_calls airs n made) bis, at, (closing airs boxes s n made legal within).within)
+    omega (arith, below.one_open tuning (sink_calls airs n made) bis, stay_within below.announcing airs boxes s n made tuning legal within is)
 
 -- ---- the units of a whole source
 
@@ -111,10 +107,10 @@ whole_units below airs meets own bis legal started is_framed least within =
 
 -- ---- what is decided in the stay is struck
 
-pub stay_on_whole : (airs : Airs) (boxes s n : ℕ) (setup : Setup) (whole : List SourceCall) (made : List Step) (tuning : Tuning) → Legal airs boxes made
+pub stay_on_whole : Announcing → (airs : Airs) (boxes s n : ℕ) (setup : Setup) (whole : List SourceCall) (made : List Step) (tuning : Tuning) → Legal airs boxes made
     → Within setup whole (steps_of_source s made) → IsOn airs s n made tuning → TunedTo setup tuning
-stay_on_whole airs boxes s n setup whole made tuning legal within is =
-    let on : OnSource (steps_of_source s made) tuning = on_source airs boxes s n made tuning legal is in
+stay_on_whole laws airs boxes s n setup whole made tuning legal within is =
+    let on : OnSource (steps_of_source s made) tuning = on_source laws airs boxes s n made tuning legal is in
     subst (λ (setup' : Setup). TunedTo setup' tuning) (within.setup_is on.started) on.tuned
 
 pub next_of_whole : (setup : Setup) (whole : List SourceCall) (own : List Step) → Within setup whole own → is_started own ≡ true → next_in own ≤ next_of setup whole
@@ -137,8 +133,8 @@ pub stay_decided : Below → (airs : Airs) → MeetAirs airs → (boxes s n bis 
     → (made : List Step) (tuning : Tuning) → Legal airs boxes made → Within setup whole (steps_of_source s made) → s ≤ 1 → IsOn airs s n made tuning → injected_since (is_tuned n) n made ≡ false
     → decided (stay_on tuning bis) (calls_on airs made n tuning bis) ≡ struck (stay_on tuning bis) units (calls_on airs made n tuning bis)
 stay_decided below airs meets boxes s n bis setup whole units all made tuning legal within source_within is clean =
-    let on : OnSource (steps_of_source s made) tuning = on_source airs boxes s n made tuning legal is in
-    let to : TunedTo setup tuning = stay_on_whole airs boxes s n setup whole made tuning legal within is in
+    let on : OnSource (steps_of_source s made) tuning = on_source below.announcing airs boxes s n made tuning legal is in
+    let to : TunedTo setup tuning = stay_on_whole below.announcing airs boxes s n setup whole made tuning legal within is in
     let bn_is : tuning.info.bn ≡ setup.info.bn = ap (λ (i : BigInfo). i.bn) to.info in
     let long : length all.has.air ≡ laid_before setup.info whole = events_in setup bis whole all.has.air (all.has.is.framed all.is_framed) in
     let opens : opened (stay_on tuning bis) (calls_on airs made n tuning bis) ≤ next_of setup whole =
@@ -151,7 +147,7 @@ stay_decided below airs meets boxes s n bis setup whole units all made tuning le
     (subst (λ (b : ℕ). opened (stay_on tuning bis) (calls_on airs made n tuning bis) * b ≤ laid_end setup all.has.air) (sym bn_is) closes_within)
     (subst (λ (i : BigInfo). Fit i.max_sdu units) (sym to.info) (sent_fit setup whole bis all.has.air units all.sent))
     (framed_from_source (stay_on tuning bis) units (calls_on airs made n tuning bis)
-    (all_own airs setup whole (laid_of units) tuning boxes s n bis made (framed_sends below airs meets setup whole tuning bis units all to.info) legal within all.least is clean))
+    (all_own below.announcing airs setup whole (laid_of units) tuning boxes s n bis made (framed_sends below airs meets setup whole tuning bis units all to.info) legal within all.least is clean))
 
 -- ---- the framed units law of a stay
 
@@ -164,7 +160,7 @@ pub framed_law : Below → (airs : Airs) → MeetAirs airs → (boxes s n bis : 
 framed_law below airs meets boxes s n bis made tuning legal within is is_framed taken clean ticks =
     let own : List Step = steps_of_source s made in
     let own_legal : Lawful airs own = lawful airs boxes s made legal in
-    let on : OnSource own tuning = on_source airs boxes s n made tuning legal is in
+    let on : OnSource own tuning = on_source below.announcing airs boxes s n made tuning legal is in
     let num_bis : tuning.info.num_bis ≡ (setup_of own).info.num_bis = ap (λ (i : BigInfo). i.num_bis) on.tuned.info in
     let of_group : bis ≤ (setup_of own).info.num_bis = taken_within (setup_of own).info.num_bis tuning.which bis on.streams taken in
     let whole = whole_units below airs meets own bis own_legal on.started is_framed (member_is tuning.which bis taken).1 of_group in

@@ -25,13 +25,15 @@ use Rattle.transcript_text.specs.declared.refusal.Refusal.TheVariants.{NotOnAir}
 use Rattle.scenario_history.specs.Steps.{chosen_of, chosen_steps, steps_of_source}
 use Rattle.scenario_history.specs.Source.{Airs, setup_of, source_calls, performed, event_back, is_started, pdu_in, open_event}
 use Rattle.scenario_history.specs.Airs.{MeetAirs}
-use Rattle.scenario_history.specs.Sinks.{spot_at, is_lost, is_of, hear_at, unless_lost, heard_on_air, reaches, sink_calls, source_of, spots_of, ticked, ticked_if, tuning_of, with_sink_call}
+use Rattle.scenario_history.specs.Sinks.{spot_at, is_lost, is_of, hear_at, unless_lost, heard_on_air, reaches, sink_calls, source_of, spots_of, ticked, ticked_if, tuning_of}
 use Rattle.scenario_history.specs.Refusals.{air_refusal, no_place}
 use Rattle.scenario_laws.specs.Laws.{injected_since, is_injected, is_tuned}
+use Rattle.scenario_laws.proofs.Announced.{Announcing}
 use Rattle.scenario_laws.proofs.Legals.{Legal, Permitted, fails_not, maps_none, permitted}
 use Rattle.scenario_laws.proofs.Sources.{Lawful, are_accepted, bounds_in, group_in, lawful, settled}
 use Rattle.scenario_laws.proofs.Wholes.{Within, within_before}
-use Rattle.scenario_laws.proofs.Stays.{IsOn, OnSource, PutBy, on_before, on_source}
+use Rattle.scenario_laws.proofs.Moves.{Left, StaysBy, announced, given_stays, plain_stays}
+use Rattle.scenario_laws.proofs.Stays.{BeginsBy, IsOn, OnSource, begins_calls, last_not, on_before, on_source, rest_not}
 
 -- each PDU of a stream that these steps of a source sent is the source's own, by what it lays at each number
 abbrev pub SendsOwn : Airs → (ℕ → Content) → Tuning → ℕ → List Step → Type 0
@@ -127,6 +129,12 @@ tick_if_own : (laid : ℕ → Content) (tuning : Tuning) (bis : ℕ) (mine : Boo
 tick_if_own laid tuning bis true last_open calls all = tick_own laid tuning bis last_open calls all
 tick_if_own laid tuning bis false last_open calls all = all
 
+left_own : (laid : ℕ → Content) (tuning : Tuning) (bis : ℕ) (later calls : List Call) → Left later calls → AllOwn laid tuning bis calls → AllOwn laid tuning bis later
+left_own laid tuning bis later calls left all = elim left [
+  | inl same ↦ subst (AllOwn laid tuning bis) (sym same) all
+  | inr gone ↦ subst (AllOwn laid tuning bis) (sym gone) tt
+]
+
 inject_own : (laid : ℕ → Content) (tuning : Tuning) (bis : ℕ) (mine its injected : Bool) (call : Call) (calls : List Call)
     → (mine || injected) ≡ false → (injected ≡ false → AllOwn laid tuning bis calls) → AllOwn laid tuning bis (cond (mine && its) (call ∷ calls) calls)
 inject_own laid tuning bis true its injected call calls clean before = absurd (false≢true (sym clean))
@@ -173,70 +181,89 @@ sent_by : (airs : Airs) (laid : ℕ → Content) (tuning : Tuning) (bis s n sink
 sent_by airs laid tuning bis s n sink earlier calls there mine ready =
     subst (λ t. Ready airs laid tuning bis (steps_of_source t earlier) calls) (reached sink n s (chosen_of earlier) (source_of n earlier) mine there) ready
 
-own_after : (airs : Airs) (laid : ℕ → Content) (tuning : Tuning) (boxes s n bis : ℕ) (step : Step) (earlier : List Step) (calls : List Call) (injected : Bool)
-    → Permitted airs boxes earlier step → 1 ≤ bis → source_of n earlier ≡ Some s → cond (is_tuned n step) false (is_injected n step || injected) ≡ false
-    → (injected ≡ false → Ready airs laid tuning bis (steps_of_source s earlier) calls)
-    → AllOwn laid tuning bis (with_sink_call airs n step earlier calls)
-own_after airs laid tuning boxes s n bis (steps.Sink sink streams slots mtu) earlier calls injected permits least there clean ready =
-    gone_own laid tuning bis (sink == n) calls (ready clean).all
-own_after airs laid tuning boxes s n bis (steps.Drop sink) earlier calls injected permits least there clean ready =
-    gone_own laid tuning bis (sink == n) calls (ready clean).all
-own_after airs laid tuning boxes s n bis (steps.Tuned sink which) earlier calls injected permits least there clean ready =
-    put_own laid tuning bis (sink == n) injected (tuning_of (chosen_steps earlier) which) calls clean (λ none. (ready none).all)
-own_after airs laid tuning boxes s n bis (steps.Hear sink back stream subevent) earlier calls injected permits least there clean ready =
+stays_own : (airs : Airs) (laid : ℕ → Content) (tuning : Tuning) (n bis : ℕ) (step : Step) (earlier : List Step) (injected : Bool)
+    → cond (is_tuned n earlier step) (is_injected n step) (is_injected n step || injected) ≡ false → StaysBy airs n step earlier
+    → (injected ≡ false → AllOwn laid tuning bis (sink_calls airs n earlier)) → AllOwn laid tuning bis (sink_calls airs n (step ∷ earlier))
+stays_own airs laid tuning n bis step earlier injected clean stays before =
+    left_own laid tuning bis (sink_calls airs n (step ∷ earlier)) (sink_calls airs n earlier) stays.left
+    (before (rest_not (is_tuned n earlier step) (is_injected n step) injected clean stays.begins_not))
+
+own_after : (airs : Airs) (laid : ℕ → Content) (tuning : Tuning) (boxes s n bis : ℕ) (step : Step) (earlier : List Step) (injected : Bool)
+    → Permitted airs boxes earlier step → 1 ≤ bis → source_of n earlier ≡ Some s → cond (is_tuned n earlier step) (is_injected n step) (is_injected n step || injected) ≡ false
+    → (injected ≡ false → Ready airs laid tuning bis (steps_of_source s earlier) (sink_calls airs n earlier))
+    → AllOwn laid tuning bis (sink_calls airs n (step ∷ earlier))
+own_after airs laid tuning boxes s n bis (steps.Sink sink streams slots mtu) earlier injected permits least there clean ready =
+    gone_own laid tuning bis (sink == n) (sink_calls airs n earlier) (ready clean).all
+own_after airs laid tuning boxes s n bis (steps.Drop sink) earlier injected permits least there clean ready =
+    gone_own laid tuning bis (sink == n) (sink_calls airs n earlier) (ready clean).all
+own_after airs laid tuning boxes s n bis (steps.Tuned sink which) earlier injected permits least there clean ready =
+    put_own laid tuning bis (sink == n) injected (tuning_of (chosen_steps earlier) which) (sink_calls airs n earlier) clean (λ none. (ready none).all)
+own_after airs laid tuning boxes s n bis (steps.Hear sink back stream subevent) earlier injected permits least there clean ready =
     let at : OnAir (chosen_steps earlier) back stream subevent = on_air (chosen_steps earlier) back stream subevent permits.by_source in
-    mine_own laid tuning bis (reaches sink n earlier) _ calls (ready clean).all
-    (λ mine. let now = sent_by airs laid tuning bis s n sink earlier calls there mine (ready clean) in
-    hear_own laid tuning bis (event_back (chosen_steps earlier) back) stream subevent _ calls now.all
+    mine_own laid tuning bis (reaches sink n earlier) _ (sink_calls airs n earlier) (ready clean).all
+    (λ mine. let now = sent_by airs laid tuning bis s n sink earlier (sink_calls airs n earlier) there mine (ready clean) in
+    hear_own laid tuning bis (event_back (chosen_steps earlier) back) stream subevent _ (sink_calls airs n earlier) now.all
     (place_own airs laid tuning (chosen_steps earlier) bis back stream subevent now.sent least at.stream at.subevent_below at.performed_then))
-own_after airs laid tuning boxes s n bis (steps.Air sink lose) earlier calls injected permits least there clean ready =
+own_after airs laid tuning boxes s n bis (steps.Air sink lose) earlier injected permits least there clean ready =
     let some : (performed (chosen_steps earlier) == 0) ≡ false = fails_not (performed (chosen_steps earlier) == 0) NotOnAir permits.by_source in
     let near : performed (chosen_steps earlier) ≢ 0 = eqb-false (performed (chosen_steps earlier)) 0 some in
-    mine_own laid tuning bis (reaches sink n earlier) (heard_on_air airs (chosen_steps earlier) lose (spots_of (chosen_steps earlier)) calls) calls (ready clean).all
-    (λ mine. let now = sent_by airs laid tuning bis s n sink earlier calls there mine (ready clean) in
-    air_own airs laid tuning (chosen_steps earlier) bis lose (spots_of (chosen_steps earlier)) calls now.sent least now.bounds.nse (omega (arith, near)) (omega arith) now.all)
-own_after airs laid tuning boxes s n bis (steps.Inject sink back stream subevent octets) earlier calls injected permits least there clean ready =
-    inject_own laid tuning bis (sink == n) (is_of (chosen_of earlier) (source_of n earlier)) injected (hear (event_back (chosen_steps earlier) back) stream subevent octets) calls clean
-    (λ none. (ready none).all)
-own_after airs laid tuning boxes s n bis steps.Event earlier calls injected permits least there clean ready =
-    tick_if_own laid tuning bis (is_of (chosen_of earlier) (source_of n earlier)) (open_event (chosen_steps earlier)) calls (ready clean).all
-own_after airs laid tuning boxes s n bis steps.Stop earlier calls injected permits least there clean ready =
-    tick_if_own laid tuning bis (is_of (chosen_of earlier) (source_of n earlier)) (open_event (chosen_steps earlier)) calls (ready clean).all
-own_after airs laid tuning boxes s n bis (steps.Terminate reason) earlier calls injected permits least there clean ready =
-    tick_if_own laid tuning bis (is_of (chosen_of earlier) (source_of n earlier)) (open_event (chosen_steps earlier)) calls (ready clean).all
-own_after airs laid tuning boxes s n bis steps.End earlier calls injected permits least there clean ready =
+    mine_own laid tuning bis (reaches sink n earlier) (heard_on_air airs (chosen_steps earlier) lose (spots_of (chosen_steps earlier)) (sink_calls airs n earlier)) (sink_calls airs n earlier)
+    (ready clean).all
+    (λ mine. let now = sent_by airs laid tuning bis s n sink earlier (sink_calls airs n earlier) there mine (ready clean) in
+    air_own airs laid tuning (chosen_steps earlier) bis lose (spots_of (chosen_steps earlier)) (sink_calls airs n earlier) now.sent least now.bounds.nse (omega (arith, near)) (omega arith) now.all)
+own_after airs laid tuning boxes s n bis (steps.Inject sink back stream subevent octets) earlier injected permits least there clean ready =
+    inject_own laid tuning bis (sink == n) (is_of (chosen_of earlier) (source_of n earlier)) injected (hear (event_back (chosen_steps earlier) back) stream subevent octets)
+    (sink_calls airs n earlier) clean (λ none. (ready none).all)
+own_after airs laid tuning boxes s n bis steps.Event earlier injected permits least there clean ready =
+    tick_if_own laid tuning bis (is_of (chosen_of earlier) (source_of n earlier)) (open_event (chosen_steps earlier)) (sink_calls airs n earlier) (ready clean).all
+own_after airs laid tuning boxes s n bis steps.Stop earlier injected permits least there clean ready =
+    tick_if_own laid tuning bis (is_of (chosen_of earlier) (source_of n earlier)) (open_event (chosen_steps earlier)) (sink_calls airs n earlier) (ready clean).all
+own_after airs laid tuning boxes s n bis (steps.Terminate reason) earlier injected permits least there clean ready =
+    tick_if_own laid tuning bis (is_of (chosen_of earlier) (source_of n earlier)) (open_event (chosen_steps earlier)) (sink_calls airs n earlier) (ready clean).all
+own_after airs laid tuning boxes s n bis steps.End earlier injected permits least there clean ready =
     tick_if_own laid tuning bis (is_of 1 (source_of n earlier)) (open_event (steps_of_source 1 earlier))
-    (ticked_if (is_of 0 (source_of n earlier)) (open_event (steps_of_source 0 earlier)) calls)
-    (tick_if_own laid tuning bis (is_of 0 (source_of n earlier)) (open_event (steps_of_source 0 earlier)) calls (ready clean).all)
-own_after airs laid tuning boxes s n bis _ earlier calls injected permits least there clean ready = (ready clean).all
+    (ticked_if (is_of 0 (source_of n earlier)) (open_event (steps_of_source 0 earlier)) (sink_calls airs n earlier))
+    (tick_if_own laid tuning bis (is_of 0 (source_of n earlier)) (open_event (steps_of_source 0 earlier)) (sink_calls airs n earlier) (ready clean).all)
+own_after airs laid tuning boxes s n bis (steps.Announce sink) earlier injected permits least there clean ready = elim (announced airs n sink earlier) [
+  | inl stays ↦ stays_own airs laid tuning n bis (steps.Announce sink) earlier injected clean stays (λ none. (ready none).all)
+  | inr goes ↦ elim goes [
+    | inl follows ↦
+        subst (AllOwn laid tuning bis) (sym follows.same)
+        (ready (rest_not (is_tuned n earlier (steps.Announce sink)) false injected clean follows.begins_not)).all
+    | inr put ↦ subst (AllOwn laid tuning bis) (sym put.calls_is) tt
+  ]
+]
+own_after airs laid tuning boxes s n bis (steps.Train sink time ext adv acad) earlier injected permits least there clean ready =
+    stays_own airs laid tuning n bis (steps.Train sink time ext adv acad) earlier injected clean
+    (given_stays airs n sink time ext adv acad earlier (last_not (is_tuned n earlier (steps.Train sink time ext adv acad)) (sink == n) injected clean)) (λ none. (ready none).all)
+own_after airs laid tuning boxes s n bis step earlier injected permits least there clean ready =
+    stays_own airs laid tuning n bis step earlier injected clean (plain_stays airs n step earlier refl refl refl refl) (λ none. (ready none).all)
 
-put_first : (airs : Airs) (laid : ℕ → Content) (s n bis : ℕ) (step : Step) (earlier : List Step) (calls : List Call) (tuning : Tuning) → PutBy s n step earlier tuning
-    → AllOwn laid tuning bis (with_sink_call airs n step earlier calls)
-put_first airs laid s n bis (steps.Tuned sink which) earlier calls tuning put =
-    subst (λ b. AllOwn laid tuning bis (cond b (tune (tuning_of (chosen_steps earlier) which) ∷ calls) calls)) (sym put.2) tt
-put_first airs laid s n bis _ earlier calls tuning put = absurd put
+begins_own : (airs : Airs) (laid : ℕ → Content) (s n bis : ℕ) (step : Step) (earlier : List Step) (tuning : Tuning) → BeginsBy airs s n step earlier tuning
+    → AllOwn laid tuning bis (sink_calls airs n (step ∷ earlier))
+begins_own airs laid s n bis step earlier tuning begins = subst (AllOwn laid tuning bis) (sym (begins_calls airs s n step earlier tuning begins)) tt
 
 -- what the source sends, so far and later, is its own, by what it lays at each number in all
 abbrev pub WholeSends : Airs → Setup → List SourceCall → (ℕ → Content) → Tuning → ℕ → Type 0
 WholeSends airs setup whole laid tuning bis = (own : List Step) → Lawful airs own → is_started own ≡ true → Within setup whole own → SendsOwn airs laid tuning bis own
 
 -- all that a stay hears is the source's own
-pub all_own : (airs : Airs) (setup : Setup) (whole : List SourceCall) (laid : ℕ → Content) (tuning : Tuning) (boxes s n bis : ℕ) (made : List Step)
+pub all_own : Announcing → (airs : Airs) (setup : Setup) (whole : List SourceCall) (laid : ℕ → Content) (tuning : Tuning) (boxes s n bis : ℕ) (made : List Step)
     → WholeSends airs setup whole laid tuning bis → Legal airs boxes made
     → Within setup whole (steps_of_source s made) → 1 ≤ bis → IsOn airs s n made tuning → injected_since (is_tuned n) n made ≡ false
     → AllOwn laid tuning bis (sink_calls airs n made)
-all_own airs setup whole laid tuning boxes s n bis [] sends legal within least is clean = tt
-all_own airs setup whole laid tuning boxes s n bis (step ∷ earlier) sends legal within least is clean = elim (on_before airs s n step earlier tuning is) [
+all_own laws airs setup whole laid tuning boxes s n bis [] sends legal within least is clean = tt
+all_own laws airs setup whole laid tuning boxes s n bis (step ∷ earlier) sends legal within least is clean = elim (on_before airs s n step earlier tuning is) [
   | inl before ↦
       let shorter : Within setup whole (steps_of_source s earlier) = within_before airs boxes s setup whole earlier step legal within in
-      let on : OnSource (steps_of_source s earlier) tuning = on_source airs boxes s n earlier tuning legal.0 before in
+      let on : OnSource (steps_of_source s earlier) tuning = on_source laws airs boxes s n earlier tuning legal.0 before in
       let own_legal : Lawful airs (steps_of_source s earlier) = lawful airs boxes s earlier legal.0 in
-      own_after airs laid tuning boxes s n bis step earlier (sink_calls airs n earlier) (injected_since (is_tuned n) n earlier)
+      own_after airs laid tuning boxes s n bis step earlier (injected_since (is_tuned n) n earlier)
       (permitted airs boxes earlier step legal.1) least before.source_is clean
       (λ none. record {
-        all = all_own airs setup whole laid tuning boxes s n bis earlier sends legal.0 shorter least before none;
+        all = all_own laws airs setup whole laid tuning boxes s n bis earlier sends legal.0 shorter least before none;
         sent = sends (steps_of_source s earlier) own_legal on.started shorter;
         bounds = bounds_in (steps_of_source s earlier) (settled airs (steps_of_source s earlier) own_legal) on.started;
       })
-  | inr put ↦ put_first airs laid s n bis step earlier (sink_calls airs n earlier) tuning put
+  | inr begins ↦ begins_own airs laid s n bis step earlier tuning begins
 ]

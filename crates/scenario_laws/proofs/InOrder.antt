@@ -1,33 +1,33 @@
 -- The valid units that a sink hands up of a source are units that the source accepted, in order.
-use Rattle.std.proofs.Common.{ℕ, ◌≡◌, ◌<◌, ◌≤◌, ◌+◌, ◌==◌, ◌||◌, cond, leb, Bool, true, false, List, [], ◌∷◌, ◌++◌, length, map, Option, None, Some, refl, sym, ◌∙◌, ap, subst, arith, inl, inr}
-use Rattle.std.proofs.lemmas.Bool.{eq-eqb, cases_Bool, leb-true, or_parts, false≢true}
+use Rattle.std.proofs.Common.{ℕ, ◌≡◌, ◌<◌, ◌≤◌, ◌+◌, ◌==◌, cond, leb, Bool, true, false, List, [], ◌∷◌, ◌++◌, length, map, Option, None, Some, refl, sym, ◌∙◌, ap, subst, arith, inl, inr}
+use Rattle.std.proofs.lemmas.Bool.{eq-eqb, cases_Bool, leb-true, false≢true}
 use Rattle.std.proofs.lemmas.List.{append-nil}
 use Rattle.std.proofs.lemmas.List.Elements.{filter-append}
-use Rattle.std.proofs.lemmas.Option.{none-some}
 use Rattle.big_info.specs.declared.info.BigInfo.{BigInfo}
 use Rattle.unit_outlets.specs.Handed.{Handed}
 use Rattle.isoal_unframed.specs.Calls.{events as laid_events}
 use Rattle.isoal_unframed.specs.Histories.{units_of}
 use Rattle.source_machine.specs.Airs.{slots_of}
 use Rattle.source_machine.specs.Calls.{Setup, Call as SourceCall, events, stream_calls as source_stream}
-use Rattle.group_sink.specs.Calls.{Tuning, Call, tune, tick, place}
+use Rattle.group_sink.specs.Calls.{Tuning, Call, tick, place}
 use Rattle.group_sink.specs.Handing.{handed_at, handed_by as ticked_by, of_stream}
 use Rattle.group_sink.specs.Streams.{closes, is_in, stay_on, stream_calls}
 use Rattle.group_sink.proofs.Citable.{is_member, member_is}
 use Rattle.scenario_text.specs.declared.step.Step.{Step}
 use Rattle.scenario_text.specs.declared.step.Step.TheVariants as steps
-use Rattle.scenario_history.specs.Steps.{chosen_of, chosen_steps, steps_of_source}
+use Rattle.scenario_history.specs.Steps.{chosen_of, steps_of_source}
 use Rattle.scenario_history.specs.Source.{Airs, setup_of, source_calls, open_event}
 use Rattle.scenario_history.specs.Airs.{MeetAirs}
-use Rattle.scenario_history.specs.Sinks.{is_of, sink_calls, source_after, source_of, ticked, tuning_of, with_sink_call}
+use Rattle.scenario_history.specs.Sinks.{is_of, sink_calls, source_of, ticked}
 use Rattle.scenario_history.specs.Boxes.{SinkUnit, handed_by}
-use Rattle.scenario_laws.specs.Laws.{closed_by, handed_since, injected_since, is_injected, is_made, is_tuned, of_sink, shown_since}
+use Rattle.scenario_laws.specs.Laws.{closed_by, given_since_made, handed_since, injected_since, is_given, is_injected, is_made, is_tuned, of_sink, shown_since}
 use Rattle.scenario_laws.specs.SourceUnits.{InSourceOrder, is_valid, valid_in}
+use Rattle.scenario_laws.proofs.Announced.{Announcing}
 use Rattle.scenario_laws.proofs.Below.{Below}
 use Rattle.scenario_laws.proofs.Legals.{Legal, legal}
 use Rattle.scenario_laws.proofs.Sources.{lawful, true_not_false}
 use Rattle.scenario_laws.proofs.Wholes.{Within, events_more, next_in, next_rises, within_before, within_itself}
-use Rattle.scenario_laws.proofs.Stays.{IsOn, IsThere, OnSource, PutBy, TunedTo, on_before, on_source}
+use Rattle.scenario_laws.proofs.Stays.{IsOn, OnSource, TunedTo, last_not, not_in_stay, on_since_made, on_source, rest_not}
 use Rattle.scenario_laws.proofs.UnitsLaw.{slot_short}
 use Rattle.scenario_laws.proofs.Closings.{handed_open, shown_by, shown_if, step_shown}
 use Rattle.scenario_laws.proofs.Ticks.{end_ticks, event_ticks, is_its}
@@ -37,48 +37,9 @@ use Rattle.scenario_laws.proofs.Numbers.{laid_least, Ordered, ordered_none, orde
 
 -- ---- no PDU was injected into the sink
 
-gone_clean : (s : ℕ) (gone made_dirty tuned_dirty : Bool) (calls : List Call) (source : Option ℕ) (tuning : Tuning) → IsThere s tuning (cond gone [] calls) (cond gone None source)
-    → cond gone false made_dirty ≡ false → (IsThere s tuning calls source → made_dirty ≡ false → tuned_dirty ≡ false) → tuned_dirty ≡ false
-gone_clean s true made_dirty tuned_dirty calls source tuning is clean before = absurd (none-some tuning is.place_is)
-gone_clean s false made_dirty tuned_dirty calls source tuning is clean before = before is clean
-
-put_clean : (s : ℕ) (put made_dirty tuned_dirty : Bool) (on : Tuning) (chosen : ℕ) (calls : List Call) (source : Option ℕ) (tuning : Tuning)
-    → IsThere s tuning (cond put (tune on ∷ calls) calls) (cond put (Some chosen) source) → made_dirty ≡ false
-    → (IsThere s tuning calls source → made_dirty ≡ false → tuned_dirty ≡ false) → cond put false tuned_dirty ≡ false
-put_clean s true made_dirty tuned_dirty on chosen calls source tuning is clean before = refl
-put_clean s false made_dirty tuned_dirty on chosen calls source tuning is clean before = before is clean
-
-inject_clean : (mine made_dirty tuned_dirty : Bool) → (mine || made_dirty) ≡ false → (made_dirty ≡ false → tuned_dirty ≡ false) → (mine || tuned_dirty) ≡ false
-inject_clean true made_dirty tuned_dirty clean before = absurd (false≢true (sym clean))
-inject_clean false made_dirty tuned_dirty clean before = before clean
-
--- a step that puts the sink nowhere
-still : (airs : Airs) (s n : ℕ) (step : Step) (earlier : List Step) (tuning : Tuning) (made_dirty tuned_dirty : Bool) → (PutBy s n step earlier tuning → ⊥)
-    → IsOn airs s n (step ∷ earlier) tuning → made_dirty ≡ false → (IsOn airs s n earlier tuning → made_dirty ≡ false → tuned_dirty ≡ false) → tuned_dirty ≡ false
-still airs s n step earlier tuning made_dirty tuned_dirty never is clean before = elim (on_before airs s n step earlier tuning is) [
-  | inl there ↦ before there clean
-  | inr put ↦ absurd (never put)
-]
-
-clean_after : (airs : Airs) (s n : ℕ) (step : Step) (earlier : List Step) (tuning : Tuning) (made_dirty tuned_dirty : Bool)
-    → IsOn airs s n (step ∷ earlier) tuning → cond (is_made n step) false (is_injected n step || made_dirty) ≡ false
-    → (IsOn airs s n earlier tuning → made_dirty ≡ false → tuned_dirty ≡ false) → cond (is_tuned n step) false (is_injected n step || tuned_dirty) ≡ false
-clean_after airs s n (steps.Sink sink streams slots mtu) earlier tuning made_dirty tuned_dirty is clean before =
-    gone_clean s (sink == n) made_dirty tuned_dirty (sink_calls airs n earlier) (source_of n earlier) tuning is clean before
-clean_after airs s n (steps.Tuned sink which) earlier tuning made_dirty tuned_dirty is clean before =
-    put_clean s (sink == n) made_dirty tuned_dirty (tuning_of (chosen_steps earlier) which) (chosen_of earlier) (sink_calls airs n earlier) (source_of n earlier) tuning is clean before
-clean_after airs s n (steps.Inject sink back bis subevent octets) earlier tuning made_dirty tuned_dirty is clean before =
-    elim (on_before airs s n (steps.Inject sink back bis subevent octets) earlier tuning is) [
-      | inl there ↦ inject_clean (sink == n) made_dirty tuned_dirty clean (before there)
-      | inr put ↦ absurd put
-    ]
-clean_after airs s n step earlier tuning made_dirty tuned_dirty is clean before = still airs s n step earlier tuning made_dirty tuned_dirty (λ put. put) is clean before
-
-pub clean_stay : (airs : Airs) (s n : ℕ) (made : List Step) (tuning : Tuning) → IsOn airs s n made tuning → injected_since (is_made n) n made ≡ false → injected_since (is_tuned n) n made ≡ false
-clean_stay airs s n [] tuning is clean = refl
-clean_stay airs s n (step ∷ earlier) tuning is clean =
-    clean_after airs s n step earlier tuning (injected_since (is_made n) n earlier) (injected_since (is_tuned n) n earlier) is clean
-    (λ there none. clean_stay airs s n earlier tuning there none)
+pub clean_stay : (airs : Airs) (s n : ℕ) (made : List Step) (tuning : Tuning) → IsOn airs s n made tuning → given_since_made n made ≡ false → injected_since (is_made n) n made ≡ false
+    → injected_since (is_tuned n) n made ≡ false
+clean_stay airs s n made tuning is ungiven clean = not_in_stay (is_injected n) airs s n made tuning (record { place_is = is.place_is; source_is = is.source_is }) ungiven clean
 
 -- ---- step by step
 
@@ -103,6 +64,7 @@ at_least false first count = omega arith
 pub record Ready (airs : Airs) (boxes s n bis : ℕ) (setup : Setup) (whole : List SourceCall) (made : List Step) : Type 0 where
   pub legal_is : Legal airs boxes made
   pub within : Within setup whole (steps_of_source s made)
+  pub ungiven : given_since_made n made ≡ false
   pub clean : injected_since (is_made n) n made ≡ false
   pub plain : setup.info.framing ≡ 0
   pub source_below : s ≤ 1
@@ -124,24 +86,25 @@ closed_orders : Below → (airs : Airs) → MeetAirs airs → (boxes s n bis : �
     → Ordered setup whole bis later (units ++ valid_in (of_stream bis (handed_at (sink_calls airs n made) event)))
 closed_orders below airs meets boxes s n bis setup whole made ready event before tuning is later past over units order shown =
     let own : List Step = steps_of_source s made in
-    let there : OnSource own tuning = on_source airs boxes s n made tuning ready.legal_is is in
+    let there : OnSource own tuning = on_source below.announcing airs boxes s n made tuning ready.legal_is is in
     let setup_is : setup_of own ≡ setup = ready.within.setup_is there.started in
     let on : TunedTo setup tuning = subst (λ (setup' : Setup). TunedTo setup' tuning) setup_is there.tuned in
     let same : (setup_of own).first ≡ setup.first = ap (λ (setup' : Setup). setup'.first) setup_is in
     let more : events (source_calls own) ≤ events whole = subst (λ calls. events (source_calls own) ≤ events calls) (sym ready.within.calls.1) (events_more ready.within.calls.0 (source_calls own)) in
     let laid : events whole ≤ laid_events (source_stream setup.info bis whole) = laid_least setup.info bis whole in
-    let last = close_batch below airs meets boxes s n bis setup whole tuning made ready.legal_is ready.within on ready.least is ready.plain (clean_stay airs s n made tuning is ready.clean) ready.fits
-    (tuning.first + closes tuning (sink_calls airs n made)) (below.one_open tuning (sink_calls airs n made) bis) (omega arith) (omega (arith, over, before, same, more)) in
+    let last = close_batch below airs meets boxes s n bis setup whole tuning made ready.legal_is ready.within on ready.least is ready.plain
+    (clean_stay airs s n made tuning is ready.ungiven ready.clean) ready.fits (tuning.first + closes tuning (sink_calls airs n made))
+    (below.one_open tuning (sink_calls airs n made) bis) (omega arith) (omega (arith, over, before, same, more)) in
     subst (λ (us : List Handed). Ordered setup whole bis later (units ++ valid_in us)) (sym shown)
     (ordered_more setup whole bis (tuning.first + closes tuning (sink_calls airs n made)) later units
     (valid_in (units_of (stay_on tuning bis) (stream_calls (stay_on tuning bis) (sink_calls airs n made)) (tuning.first + closes tuning (sink_calls airs n made))))
     (omega (arith, on.first)) past (omega (arith, over, before, same, more, laid, on.first)) order last)
 
-tuned_plain : (airs : Airs) (boxes s n bis : ℕ) (setup : Setup) (whole : List SourceCall) (made : List Step) → Ready airs boxes s n bis setup whole made
+tuned_plain : Announcing → (airs : Airs) (boxes s n bis : ℕ) (setup : Setup) (whole : List SourceCall) (made : List Step) → Ready airs boxes s n bis setup whole made
     → (tuning : Tuning) → place (sink_calls airs n made) ≡ Some tuning → source_of n made ≡ Some s → tuning.info.framing ≡ 0
-tuned_plain airs boxes s n bis setup whole made ready tuning is its =
+tuned_plain laws airs boxes s n bis setup whole made ready tuning is its =
     ap (λ (i : BigInfo). i.framing)
-    (on_whole airs boxes s n setup whole made ready.legal_is ready.within (ap (is_of s) its ∙ eq-eqb s s refl) tuning is).info ∙ ready.plain
+    (on_whole laws airs boxes s n setup whole made ready.legal_is ready.ungiven ready.within (ap (is_of s) its ∙ eq-eqb s s refl) tuning is).info ∙ ready.plain
 
 event_orders : Below → (airs : Airs) → MeetAirs airs → (boxes s n bis : ℕ) (setup : Setup) (whole : List SourceCall) (made : List Step) → Ready airs boxes s n bis setup whole made
     → (event : ℕ) → event < next_in (steps_of_source s made) → source_of n made ≡ Some s → (p : Option Tuning) → place (sink_calls airs n made) ≡ p → (next later : ℕ)
@@ -162,14 +125,14 @@ event_orders below airs meets boxes s n bis setup whole made ready event before 
           let shown : of_stream bis (handed_at (sink_calls airs n made) event)
           ≡ cond (leb (tuning.first + closes tuning (sink_calls airs n made)) event)
           (units_of (stay_on tuning bis) (stream_calls (stay_on tuning bis) (sink_calls airs n made)) (tuning.first + closes tuning (sink_calls airs n made))) [] =
-          tick_hands below event (sink_calls airs n made) tuning bis (tuned_plain airs boxes s n bis setup whole made ready tuning is its) is
+          tick_hands below event (sink_calls airs n made) tuning bis (tuned_plain below.announcing airs boxes s n bis setup whole made ready tuning is its) is
           (is_member tuning.which bis ready.least ready.greatest taken)
           ∙ ap (λ o. cond (leb o event) (units_of (stay_on tuning bis) (stream_calls (stay_on tuning bis) (sink_calls airs n made)) o) []) (below.one_open tuning (sink_calls airs n made) bis) in
           elim (cases_Bool (leb (tuning.first + closes tuning (sink_calls airs n made)) event)) [
             | inr not_over ↦ ordered_same setup whole bis (tuning.first + closes tuning (sink_calls airs n made)) later units (of_stream bis (handed_at (sink_calls airs n made) event)) front_is
                 (shown ∙ ap (λ over. cond over (units_of (stay_on tuning bis) (stream_calls (stay_on tuning bis) (sink_calls airs n made))
                 (tuning.first + closes tuning (sink_calls airs n made))) []) not_over) order
-            | inl over ↦ closed_orders below airs meets boxes s n bis setup whole made ready event before tuning (record { place_is = is; source_is = its }) later
+            | inl over ↦ closed_orders below airs meets boxes s n bis setup whole made ready event before tuning (on_since_made airs s n made tuning is its ready.ungiven) later
                 (omega (arith, past, cond_true_more tuning.first (closes tuning (sink_calls airs n made)) (leb (tuning.first + closes tuning (sink_calls airs n made)) event) over))
                 (leb-true _ _ over) units order
                 (shown ∙ ap (λ b. cond b (units_of (stay_on tuning bis) (stream_calls (stay_on tuning bis) (sink_calls airs n made)) (tuning.first + closes tuning (sink_calls airs n made))) []) over)
@@ -206,8 +169,8 @@ close_orders below airs meets boxes s n bis setup whole made ready shut before t
 by_step : Below → (airs : Airs) → MeetAirs airs → (boxes s n bis : ℕ) (setup : Setup) (whole : List SourceCall) (step : Step) (earlier : List Step)
     → Ready airs boxes s n bis setup whole earlier → (next : ℕ) → next_in (steps_of_source s earlier) ≤ next → (units : List Handed)
     → Ordered setup whole bis (its_front airs s n earlier) units
-    → its_front airs s n earlier ≤ front (is_of s (source_after n step earlier (source_of n earlier))) (with_sink_call airs n step earlier (sink_calls airs n earlier)) next
-    → Ordered setup whole bis (front (is_of s (source_after n step earlier (source_of n earlier))) (with_sink_call airs n step earlier (sink_calls airs n earlier)) next)
+    → its_front airs s n earlier ≤ front (mine_in s n (step ∷ earlier)) (sink_calls airs n (step ∷ earlier)) next
+    → Ordered setup whole bis (front (mine_in s n (step ∷ earlier)) (sink_calls airs n (step ∷ earlier)) next)
     (units ++ valid_in (of_stream bis (shown_by airs s n earlier step)))
 by_step below airs meets boxes s n bis setup whole steps.Event earlier ready next more units order past =
     close_orders below airs meets boxes s n bis setup whole earlier ready (open_event (steps_of_source s earlier)) (open_before (steps_of_source s earlier)) (mine_in s n earlier)
@@ -239,22 +202,18 @@ again_orders setup whole s n bis next false units others order =
     subst (λ (us : List Handed). Ordered setup whole bis next us)
     (sym (ap valid_in (shown_on s n bis units others) ∙ filter-append is_valid (of_stream bis (of_sink s n units)) (of_stream bis (of_sink s n others)))) (order refl)
 
-pub clean_before : (again mine dirty : Bool) → cond again false (mine || dirty) ≡ false → again ≡ false → dirty ≡ false
-clean_before true mine dirty clean not_again = absurd (false≢true (sym not_again))
-clean_before false mine dirty clean not_again = (or_parts mine dirty clean).1
-
 orders : Below → (airs : Airs) → MeetAirs airs → (boxes s n bis : ℕ) (setup : Setup) (whole : List SourceCall) (made : List Step) → Ready airs boxes s n bis setup whole made
     → Ordered setup whole bis (its_front airs s n made) (valid_in (shown_since (is_made n) airs s n bis made))
 orders below airs meets boxes s n bis setup whole [] ready = ordered_none setup whole bis (its_front airs s n [])
 orders below airs meets boxes s n bis setup whole (step ∷ earlier) ready =
     let legal_before : Legal airs boxes earlier = ready.legal_is.0 in
-    let now = moved airs boxes s n step earlier ready.legal_is ready.source_below (closing airs boxes s n earlier legal_before ready.source_below).within in
-    again_orders setup whole s n bis (its_front airs s n (step ∷ earlier)) (is_made n step) (handed_since (is_made n) airs earlier) (handed_by airs earlier step)
-    (λ not_again.
+    again_orders setup whole s n bis (its_front airs s n (step ∷ earlier)) (is_made n earlier step) (handed_since (is_made n) airs earlier) (handed_by airs earlier step)
+    (λ on.
     let before : Ready airs boxes s n bis setup whole earlier = record {
       legal_is = legal_before;
       within = within_before airs boxes s setup whole earlier step ready.legal_is ready.within;
-      clean = clean_before (is_made n step) (is_injected n step) (injected_since (is_made n) n earlier) ready.clean not_again;
+      ungiven = rest_not (is_made n earlier step) (is_given n step) (given_since_made n earlier) ready.ungiven on;
+      clean = rest_not (is_made n earlier step) (is_injected n step) (injected_since (is_made n) n earlier) ready.clean on;
       plain = ready.plain;
       source_below = ready.source_below;
       sink_below = ready.sink_below;
@@ -262,6 +221,8 @@ orders below airs meets boxes s n bis setup whole (step ∷ earlier) ready =
       greatest = ready.greatest;
       fits = ready.fits;
     } in
+    let now = moved below.announcing airs boxes s n step earlier ready.legal_is (last_not (is_made n earlier step) (is_given n step) (given_since_made n earlier) ready.ungiven) ready.source_below
+    (closing below.announcing airs boxes s n earlier legal_before before.ungiven ready.source_below).within in
     subst (λ (us : List Handed). Ordered setup whole bis (its_front airs s n (step ∷ earlier)) (valid_in (shown_since (is_made n) airs s n bis earlier) ++ valid_in (of_stream bis us)))
     (sym (step_shown airs boxes s n step earlier legal_before ready.source_below ready.sink_below))
     (by_step below airs meets boxes s n bis setup whole step earlier before (next_in (steps_of_source s (step ∷ earlier))) (next_rises airs boxes s earlier step ready.legal_is)
@@ -269,14 +230,14 @@ orders below airs meets boxes s n bis setup whole (step ∷ earlier) ready =
     (climb_between (its_front airs s n earlier) (map event_of (closed_by airs s n earlier step)) (its_front airs s n (step ∷ earlier)) now.climbs_on)))
 
 pub units_in_order : Below → (airs : Airs) → MeetAirs airs → (boxes s n bis : ℕ) (made : List Step) → Legal airs boxes made → (setup_of (steps_of_source s made)).info.framing ≡ 0 → s ≤ 1
-    → n ≤ 7 → 1 ≤ bis → bis ≤ 31
-    → injected_since (is_made n) n made ≡ false
+    → n ≤ 7 → 1 ≤ bis → bis ≤ 31 → given_since_made n made ≡ false → injected_since (is_made n) n made ≡ false
     → InSourceOrder (setup_of (steps_of_source s made)) (source_calls (steps_of_source s made)) bis (valid_in (shown_since (is_made n) airs s n bis made))
-units_in_order below airs meets boxes s n bis made legal plain source_below sink_below least greatest clean =
+units_in_order below airs meets boxes s n bis made legal plain source_below sink_below least greatest ungiven clean =
     let order : Ordered (setup_of (steps_of_source s made)) (source_calls (steps_of_source s made)) bis (its_front airs s n made) (valid_in (shown_since (is_made n) airs s n bis made)) =
     orders below airs meets boxes s n bis (setup_of (steps_of_source s made)) (source_calls (steps_of_source s made)) made (record {
       legal_is = legal;
       within = within_itself (steps_of_source s made);
+      ungiven = ungiven;
       clean = clean;
       plain = plain;
       source_below = source_below;

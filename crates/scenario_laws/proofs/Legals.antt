@@ -25,7 +25,7 @@ Legal airs boxes (step ∷ earlier) = Legal airs boxes earlier × (refusal_of ai
 abbrev pub LinesInRange : Type 0
 LinesInRange = (version : ℕ) → (line : List ℕ) → (step : Step) → read_of version line ≡ Ok (Some step) → IsInRange step
 
-abbrev InRange : Said → Type 0
+abbrev pub InRange : Said → Type 0
 InRange (a_step step) = IsInRange step
 InRange nothing = Unit {0}
 InRange (unsaid reason) = Unit {0}
@@ -36,7 +36,7 @@ by_reading (Ok (Some step)) ranged = ranged step refl
 by_reading (Err (Misfit word)) ranged = tt
 by_reading (Err NoMemory) ranged = tt
 
-in_range : LinesInRange → (version : ℕ) (line : TextLine) → InRange (said_in version line)
+pub in_range : LinesInRange → (version : ℕ) (line : TextLine) → InRange (said_in version line)
 in_range ranged version (plain octets) = by_reading (read_of version octets) (ranged version octets)
 in_range ranged version too_long = tt
 in_range ranged version past = tt

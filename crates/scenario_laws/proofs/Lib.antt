@@ -2,7 +2,14 @@ mod Legals
 mod StartGroups
 mod Sources
 mod Wholes
+mod Bases
+mod Announcers
+mod Announced
 mod Below
+mod Places
+mod Nowhere
+mod Moves
+mod ByHand
 mod Stays
 mod Hears
 mod Plains
@@ -21,7 +28,10 @@ mod InOrder
 mod OneTranscript
 mod Entries
 mod StaysInTurn
+mod Turning
 mod UnitOrder
 mod StartOrder
 mod OrderLaw
 mod MetAirs
+mod LifeOctets
+mod Linked

@@ -290,14 +290,14 @@ pub close_batch : Below → (airs : Airs) → MeetAirs airs → (boxes s n bis :
 close_batch below airs meets boxes s n bis setup whole tuning made legal within on least is plain_source clean fits event opened_at past performed_then =
     let own : List Step = steps_of_source s made in
     let settles : Settled own = settled airs own (lawful airs boxes s made legal) in
-    let there : OnSource own tuning = on_source airs boxes s n made tuning legal is in
+    let there : OnSource own tuning = on_source below.announcing airs boxes s n made tuning legal is in
     let bounds : Bounds tuning.info = subst Bounds (sym there.tuned.info) (bounds_in own settles there.started) in
     let plain : tuning.info.framing ≡ 0 = ap (λ (i : BigInfo). i.framing) on.info ∙ plain_source in
     let calls : List stays.Call = stream_calls (stay_on tuning bis) (sink_calls airs n made) in
     let short : (e : ℕ) → (slot : ℕ) → (unit : List ℕ) → slots_of setup whole bis e slot ≡ Some unit → length unit ≤ tuning.info.max_sdu =
     λ e slot unit has. subst (λ (i : BigInfo). length unit ≤ i.max_sdu) (sym on.info) (fits e slot unit has) in
     let all : AllByRecursion (Own (air_at (stay_on tuning bis) (slots_of setup whole bis))) calls =
-    all_own airs setup whole (air_at (stay_on tuning bis) (slots_of setup whole bis)) tuning boxes s n bis made
+    all_own below.announcing airs setup whole (air_at (stay_on tuning bis) (slots_of setup whole bis)) tuning boxes s n bis made
     (λ part its_legal started inside. sends_own below airs meets setup whole tuning bis part its_legal started inside on.info plain_source) legal within least is clean in
     let before : Struck (stay_on tuning bis) (slots_of setup whole bis) calls (handed (stay_on tuning bis) calls) =
     below.struck (stay_on tuning bis) (slots_of setup whole bis) calls bounds plain short (from_source (stay_on tuning bis) (slots_of setup whole bis) calls all) in

@@ -12,15 +12,15 @@ use Rattle.scenario_laws.proofs.StartOrder.{starts_in_order}
 use Rattle.scenario_laws.proofs.UnitOrder.{entries_in_order}
 
 pub order_law_holds : Below → (starts : List Account) → OrderLaw starts
-order_law_holds below starts airs meets lines accepted s n source_below =
+order_law_holds below starts airs meets lines accepted s n source_below ungiven =
     let lawful_steps : Legal airs (length starts) (steps_of lines) = legal below.in_range airs starts lines accepted in
     record {
-      rising = closes_rise airs (length starts) s n (steps_of lines) lawful_steps source_below;
-      slots = λ bis sink_below least greatest plain. slots_are_shown below airs (length starts) s n bis (steps_of lines) lawful_steps plain source_below sink_below least greatest;
+      rising = closes_rise below.announcing airs (length starts) s n (steps_of lines) lawful_steps ungiven source_below;
+      slots = λ bis sink_below least greatest plain. slots_are_shown below airs (length starts) s n bis (steps_of lines) lawful_steps ungiven plain source_below sink_below least greatest;
       starts = λ bis sink_below least greatest is_framed.
-          starts_in_order below airs (length starts) s n bis (steps_of lines) lawful_steps is_framed source_below sink_below least greatest;
+          starts_in_order below airs (length starts) s n bis (steps_of lines) lawful_steps is_framed source_below sink_below least greatest ungiven;
       in_source_order = λ bis sink_below least greatest plain clean.
-          units_in_order below airs meets (length starts) s n bis (steps_of lines) lawful_steps plain source_below sink_below least greatest clean;
+          units_in_order below airs meets (length starts) s n bis (steps_of lines) lawful_steps plain source_below sink_below least greatest ungiven clean;
       in_unit_order = λ bis sink_below least greatest is_framed clean.
-          entries_in_order below airs meets (length starts) s n bis (steps_of lines) lawful_steps is_framed source_below sink_below least greatest clean;
+          entries_in_order below airs meets (length starts) s n bis (steps_of lines) lawful_steps is_framed source_below sink_below least greatest ungiven clean;
     }

@@ -30,13 +30,14 @@ use Rattle.scenario_history.specs.Sinks.{is_of, sink_calls, source_of}
 use Rattle.scenario_history.specs.Boxes.{SinkUnit, handed_by}
 use Rattle.scenario_laws.specs.Laws.{Closed, closed_at, closed_by, closed_if, closed_in, closed_since}
 use Rattle.scenario_laws.specs.SourceUnits.{IsOfSlot}
-use Rattle.scenario_laws.specs.Laws.{handed_since, is_made, of_sink, shown_since, slots_closed, slots_in}
+use Rattle.scenario_laws.specs.Laws.{given_since_made, handed_since, is_given, is_made, of_sink, shown_since, slots_closed, slots_in}
 use Rattle.scenario_laws.specs.SourceUnits.{time_in, whole_stay}
+use Rattle.scenario_laws.proofs.Announced.{Announcing}
 use Rattle.scenario_laws.proofs.Below.{Below}
 use Rattle.scenario_laws.proofs.Legals.{Legal}
 use Rattle.scenario_laws.proofs.Sources.{true_not_false}
 use Rattle.scenario_laws.proofs.Wholes.{Within, within_before, within_itself}
-use Rattle.scenario_laws.proofs.Stays.{OnSource, TunedTo, on_source}
+use Rattle.scenario_laws.proofs.Stays.{OnSource, TunedTo, on_since_made, on_source, rest_not}
 use Rattle.scenario_laws.proofs.Closings.{handed_open, of_sink_on, shown_by, shown_if, step_shown}
 use Rattle.scenario_laws.proofs.Ticks.{is_its}
 
@@ -184,35 +185,39 @@ pub shown_on : (s n bis : ℕ) (xs ys : List SinkUnit) → of_stream bis (of_sin
 shown_on s n bis xs ys = ap (of_stream bis) (of_sink_on s n xs ys) ∙ stream_on bis (of_sink s n xs) (of_sink s n ys)
 
 again_zip : (s n bis : ℕ) (setup : Setup) (again : Bool) (closed more : List Closed) (units others : List SinkUnit)
-    → AllZip (IsOfSlot setup bis) (slots_closed setup bis closed) (of_stream bis (of_sink s n units))
-    → AllZip (IsOfSlot setup bis) (slots_closed setup bis more) (of_stream bis (of_sink s n others))
+    → (again ≡ false → AllZip (IsOfSlot setup bis) (slots_closed setup bis closed) (of_stream bis (of_sink s n units)))
+    → (again ≡ false → AllZip (IsOfSlot setup bis) (slots_closed setup bis more) (of_stream bis (of_sink s n others)))
     → AllZip (IsOfSlot setup bis) (slots_closed setup bis (cond again [] (closed ++ more))) (of_stream bis (of_sink s n (cond again [] (units ++ others))))
 again_zip s n bis setup true closed more units others first rest = tt
 again_zip s n bis setup false closed more units others first rest =
     subst (λ places. AllZip (IsOfSlot setup bis) places (of_stream bis (of_sink s n (units ++ others)))) (sym (flat_map-append (slots_in setup bis) closed more))
     (subst (λ shown. AllZip (IsOfSlot setup bis) (slots_closed setup bis closed ++ slots_closed setup bis more) shown) (sym (shown_on s n bis units others))
-    (zip_on (IsOfSlot setup bis) (slots_closed setup bis closed) (slots_closed setup bis more) (of_stream bis (of_sink s n units)) (of_stream bis (of_sink s n others)) first rest))
+    (zip_on (IsOfSlot setup bis) (slots_closed setup bis closed) (slots_closed setup bis more) (of_stream bis (of_sink s n units)) (of_stream bis (of_sink s n others)) (first refl) (rest refl)))
 
 -- the stay that a sink is in, by what fixes the whole source
-pub on_whole : (airs : Airs) (boxes s n : ℕ) (setup : Setup) (whole : List SourceCall) (made : List Step) → Legal airs boxes made → Within setup whole (steps_of_source s made)
-    → is_of s (source_of n made) ≡ true → (tuning : Tuning) → place (sink_calls airs n made) ≡ Some tuning → TunedTo setup tuning
-on_whole airs boxes s n setup whole made legal within mine tuning is =
-    let on : OnSource (steps_of_source s made) tuning = on_source airs boxes s n made tuning legal (record { place_is = is; source_is = is_its s (source_of n made) mine }) in
+pub on_whole : Announcing → (airs : Airs) (boxes s n : ℕ) (setup : Setup) (whole : List SourceCall) (made : List Step) → Legal airs boxes made → given_since_made n made ≡ false
+    → Within setup whole (steps_of_source s made) → is_of s (source_of n made) ≡ true → (tuning : Tuning) → place (sink_calls airs n made) ≡ Some tuning → TunedTo setup tuning
+on_whole laws airs boxes s n setup whole made legal ungiven within mine tuning is =
+    let on : OnSource (steps_of_source s made) tuning =
+    on_source laws airs boxes s n made tuning legal (on_since_made airs s n made tuning is (is_its s (source_of n made) mine) ungiven) in
     subst (λ (setup' : Setup). TunedTo setup' tuning) (within.setup_is on.started) on.tuned
 
-slots_zip : Below → (airs : Airs) (boxes s n bis : ℕ) (setup : Setup) (whole : List SourceCall) (made : List Step) → Legal airs boxes made → Within setup whole (steps_of_source s made)
-    → setup.info.framing ≡ 0 → s ≤ 1 → n ≤ 7 → 1 ≤ bis → bis ≤ 31 → AllZip (IsOfSlot setup bis) (slots_closed setup bis (closed_since airs s n made)) (shown_since (is_made n) airs s n bis made)
-slots_zip below airs boxes s n bis setup whole [] legal within plain s_within n_within least upper = tt
-slots_zip below airs boxes s n bis setup whole (step ∷ earlier) legal within plain s_within n_within least upper =
+slots_zip : Below → (airs : Airs) (boxes s n bis : ℕ) (setup : Setup) (whole : List SourceCall) (made : List Step) → Legal airs boxes made → given_since_made n made ≡ false
+    → Within setup whole (steps_of_source s made) → setup.info.framing ≡ 0 → s ≤ 1 → n ≤ 7 → 1 ≤ bis → bis ≤ 31
+    → AllZip (IsOfSlot setup bis) (slots_closed setup bis (closed_since airs s n made)) (shown_since (is_made n) airs s n bis made)
+slots_zip below airs boxes s n bis setup whole [] legal ungiven within plain s_within n_within least upper = tt
+slots_zip below airs boxes s n bis setup whole (step ∷ earlier) legal ungiven within plain s_within n_within least upper =
     let before : Within setup whole (steps_of_source s earlier) = within_before airs boxes s setup whole earlier step legal within in
-    again_zip s n bis setup (is_made n step) (closed_since airs s n earlier) (closed_by airs s n earlier step) (handed_since (is_made n) airs earlier) (handed_by airs earlier step)
-    (slots_zip below airs boxes s n bis setup whole earlier legal.0 before plain s_within n_within least upper)
-    (subst (λ units. AllZip (IsOfSlot setup bis) (slots_closed setup bis (closed_by airs s n earlier step)) (of_stream bis units))
+    let none : is_made n earlier step ≡ false → given_since_made n earlier ≡ false = rest_not (is_made n earlier step) (is_given n step) (given_since_made n earlier) ungiven in
+    again_zip s n bis setup (is_made n earlier step) (closed_since airs s n earlier) (closed_by airs s n earlier step) (handed_since (is_made n) airs earlier) (handed_by airs earlier step)
+    (λ on. slots_zip below airs boxes s n bis setup whole earlier legal.0 (none on) before plain s_within n_within least upper)
+    (λ on. subst (λ units. AllZip (IsOfSlot setup bis) (slots_closed setup bis (closed_by airs s n earlier step)) (of_stream bis units))
     (sym (step_shown airs boxes s n step earlier legal.0 s_within n_within))
-    (step_zip below airs s n bis setup step earlier (on_whole airs boxes s n setup whole earlier legal.0 before) plain least upper))
+    (step_zip below airs s n bis setup step earlier (on_whole below.announcing airs boxes s n setup whole earlier legal.0 (none on) before) plain least upper))
 
-pub slots_are_shown : Below → (airs : Airs) (boxes s n bis : ℕ) (made : List Step) → Legal airs boxes made → (setup_of (steps_of_source s made)).info.framing ≡ 0 → s ≤ 1 → n ≤ 7 → 1 ≤ bis → bis ≤ 31
+pub slots_are_shown : Below → (airs : Airs) (boxes s n bis : ℕ) (made : List Step) → Legal airs boxes made → given_since_made n made ≡ false → (setup_of (steps_of_source s made)).info.framing ≡ 0
+    → s ≤ 1 → n ≤ 7 → 1 ≤ bis → bis ≤ 31
     → AllZip (IsOfSlot (setup_of (steps_of_source s made)) bis) (slots_closed (setup_of (steps_of_source s made)) bis (closed_since airs s n made)) (shown_since (is_made n) airs s n bis made)
-slots_are_shown below airs boxes s n bis made legal plain s_within n_within least upper =
-    slots_zip below airs boxes s n bis (setup_of (steps_of_source s made)) (source_calls (steps_of_source s made)) made legal (within_itself
+slots_are_shown below airs boxes s n bis made legal ungiven plain s_within n_within least upper =
+    slots_zip below airs boxes s n bis (setup_of (steps_of_source s made)) (source_calls (steps_of_source s made)) made legal ungiven (within_itself
     (steps_of_source s made)) plain s_within n_within least upper

@@ -4,7 +4,6 @@ use Rattle.std.proofs.Common.{ℕ, zero, suc, ◌≡◌, ◌⊎◌, ◌<◌, ◌
 use Rattle.std.specs.Prelude.{unwrap_or}
 use Rattle.std.proofs.lemmas.Bool.{cases_Bool, eqb-true, false≢true, or_parts}
 use Rattle.std.proofs.lemmas.Option.{none-some}
-use Rattle.big_info.specs.declared.info.BigInfo.{BigInfo}
 use Rattle.big_info.specs.declared.group.Group.{Group}
 use Rattle.big_info.specs.Bounds.{Bounds}
 use Rattle.big_info.specs.Rows.{NoFault, first_fault}
@@ -19,7 +18,7 @@ use Rattle.scenario_text.specs.declared.step.Step.TheVariants as steps
 use Rattle.scenario_text.specs.Ranges.{IsInRange, GroupRanges}
 use Rattle.transcript_text.specs.declared.refusal.Refusal.TheVariants.{BaseTooLong}
 use Rattle.scenario_history.proofs.Citable.{stage_same}
-use Rattle.scenario_history.specs.Steps.{chosen_of, is_common, is_of_source, is_source_line, is_unbegun_at, stage_after, stage_of, steps_of_source, version_of}
+use Rattle.scenario_history.specs.Steps.{chosen_of, is_common, is_of_source, is_source_line, is_unbegun_at, stage_of, steps_of_source, version_of}
 use Rattle.scenario_history.specs.Source.{Airs, Phase, absent, checked_info, cipher_of, described, group_of, info_with, is_absent_at, is_ciphered, sending, stopped}
 use Rattle.scenario_history.specs.Source.{is_described_at, is_heard, is_sending, is_sending_at, is_started, no_group, takes_units, phase_of, setup_of, source_calls, start_of, was_started_at}
 use Rattle.scenario_history.specs.Airs.{AreAccepted}

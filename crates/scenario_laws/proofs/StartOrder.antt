@@ -1,6 +1,6 @@
 -- The entries of a framed stream over all stays of a sink with a source, whatever was injected: each is of a start in an event
 -- of its stay, and these events never fall.
-use Rattle.std.proofs.Common.{ℕ, zero, suc, ◌≡◌, ◌<◌, ◌≤◌, ◌+◌, ◌-◌, ◌*◌, List, [], ◌∷◌, ◌++◌, map, Option, Some, None, refl, sym, ◌∙◌, ap, subst, arith, inl, inr, append_assoc}
+use Rattle.std.proofs.Common.{ℕ, zero, suc, ◌≡◌, ◌<◌, ◌≤◌, ◌+◌, ◌-◌, ◌*◌, false, List, [], ◌∷◌, ◌++◌, map, Option, Some, None, refl, sym, ◌∙◌, ap, subst, arith, inl, inr, append_assoc}
 use Rattle.std.specs.List.{AllByRecursion, AllZip, Contains, flat_map, range_with_len}
 use Rattle.std.proofs.lemmas.Bool.{cases_Bool}
 use Rattle.std.proofs.lemmas.List.{append-nil}
@@ -22,17 +22,18 @@ use Rattle.scenario_history.specs.Steps.{steps_of_source}
 use Rattle.scenario_history.specs.Source.{Airs, setup_of, source_calls}
 use Rattle.scenario_history.specs.Sinks.{sink_calls}
 use Rattle.scenario_laws.specs.SourceUnits.{InStartOrder, IsOfStart, NeverFall, time_in}
-use Rattle.scenario_laws.specs.Laws.{Closed, calls_on, is_made, is_tuned, shown_since}
+use Rattle.scenario_laws.specs.Laws.{Closed, calls_on, given_since_made, is_given, is_made, is_tuned, shown_since}
 use Rattle.scenario_laws.proofs.Below.{Below}
 use Rattle.scenario_laws.proofs.Legals.{Legal}
 use Rattle.scenario_laws.proofs.Sources.{true_not_false}
 use Rattle.scenario_laws.proofs.Wholes.{Within, next_in, within_before, within_itself}
-use Rattle.scenario_laws.proofs.Stays.{OnSource, TunedTo, on_source}
+use Rattle.scenario_laws.proofs.Stays.{OnSource, TunedTo, on_source, rest_not}
 use Rattle.scenario_laws.proofs.Shown.{zip_on}
 use Rattle.scenario_laws.proofs.UnitsLaw.{since}
 use Rattle.scenario_laws.proofs.FramedStays.{next_of_whole, opened_least, opened_within, stay_on_whole}
 use Rattle.scenario_laws.proofs.UnitOrder.{start_time_is}
-use Rattle.scenario_laws.proofs.StaysInTurn.{OverStay, Turns, closed_from, over_stays}
+use Rattle.scenario_laws.proofs.StaysInTurn.{OverStay, Turns, closed_from}
+use Rattle.scenario_laws.proofs.Turning.{over_stays}
 
 -- ---- events that never fall
 
@@ -149,6 +150,7 @@ decided_told stay calls =
 record Fine (airs : Airs) (boxes s n : ℕ) (setup : Setup) (whole_calls : List SourceCall) (made : List Step) : Type 0 where
   pub legal_is : Legal airs boxes made
   pub within : Within setup whole_calls (steps_of_source s made)
+  pub ungiven : given_since_made n made ≡ false
 
 record Claim (setup : Setup) (calls : List SourceCall) (bis : ℕ) (e : ℕ) (closed : List Closed) (entries : List Handed) : Type 0 where
   pub events : List ℕ
@@ -181,8 +183,8 @@ over : Below → (airs : Airs) (boxes s n bis : ℕ) (setup : Setup) (calls : Li
     → OverStay (λ e closed entries. Claim setup calls bis (e - setup.first) closed entries) (Fine airs boxes s n setup calls) airs s n bis
 over below airs boxes s n bis setup calls source_within sink_within least greatest is_framed made fine tuning is past entries claim =
     let own : List Step = steps_of_source s made in
-    let on : OnSource own tuning = on_source airs boxes s n made tuning fine.legal_is is in
-    let to : TunedTo setup tuning = stay_on_whole airs boxes s n setup calls made tuning fine.legal_is fine.within is in
+    let on : OnSource own tuning = on_source below.announcing airs boxes s n made tuning fine.legal_is is in
+    let to : TunedTo setup tuning = stay_on_whole below.announcing airs boxes s n setup calls made tuning fine.legal_is fine.within is in
     let opens : opened (stay_on tuning bis) (calls_on airs made n tuning bis) ≤ next_in own = opened_within below airs boxes s n bis made tuning fine.legal_is source_within is in
     let first_opens : tuning.first ≤ opened (stay_on tuning bis) (calls_on airs made n tuning bis) = opened_least (stay_on tuning bis) (calls_on airs made n tuning bis) in
     let shown : shown_since (is_tuned n) airs s n bis made ≡ of_stream bis (ticked_since (sink_calls airs n made)) =
@@ -216,19 +218,26 @@ over below airs boxes s n bis setup calls source_within sink_within least greate
     ]
 
 pub starts_in_order : Below → (airs : Airs) (boxes s n bis : ℕ) (made : List Step) → Legal airs boxes made → (setup_of (steps_of_source s made)).info.framing ≡ 1 → s ≤ 1 → n ≤ 7 → 1 ≤ bis → bis ≤ 31
+    → given_since_made n made ≡ false
     → InStartOrder (setup_of (steps_of_source s made)) (source_calls (steps_of_source s made)) bis (shown_since (is_made n) airs s n bis made)
-starts_in_order below airs boxes s n bis made legal is_framed source_within sink_within least greatest =
+starts_in_order below airs boxes s n bis made legal is_framed source_within sink_within least greatest ungiven =
     let own : List Step = steps_of_source s made in
     let setup : Setup = setup_of own in
     let turns : Turns (λ e closed entries. Claim setup (source_calls own) bis (e - setup.first) closed entries) (Fine airs boxes s n setup (source_calls own)) airs boxes s n bis = record {
+      laws = below.announcing;
       none = λ e. record { events = []; rise = omega arith; each = tt };
       rises = λ e later closed entries more claim. claim_more setup (source_calls own) bis (e - setup.first) (later - setup.first) closed closed entries (omega (arith, more)) claim;
       over = over below airs boxes s n bis setup (source_calls own) source_within sink_within least greatest is_framed;
       legal = λ part fine. fine.legal_is;
-      before = λ step earlier still fine. record { legal_is = fine.legal_is.0; within = within_before airs boxes s setup (source_calls own) earlier step fine.legal_is fine.within };
+      ungiven = λ part fine. fine.ungiven;
+      before = λ step earlier still fine. record {
+        legal_is = fine.legal_is.0;
+        within = within_before airs boxes s setup (source_calls own) earlier step fine.legal_is fine.within;
+        ungiven = rest_not (is_made n earlier step) (is_given n step) (given_since_made n earlier) fine.ungiven still;
+      };
       source_within = source_within;
       sink_within = sink_within;
     } in
     let all = over_stays (λ e closed entries. Claim setup (source_calls own) bis (e - setup.first) closed entries) (Fine airs boxes s n setup (source_calls own)) airs boxes s n bis turns made
-    (record { legal_is = legal; within = within_itself own }) in
+    (record { legal_is = legal; within = within_itself own; ungiven = ungiven }) in
     record { events = all.events; order = never_falls setup.first setup.first all.events _ (omega arith) all.rise; each = all.each }

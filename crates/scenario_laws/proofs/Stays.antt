@@ -1,7 +1,9 @@
 -- The stays of a sink: it is on the group of the source that it is of, by what fixes the source.
-use Rattle.std.proofs.Common.{ℕ, zero, suc, ◌≡◌, ◌⊎◌, ◌≤◌, ◌==◌, cond, Bool, true, false, List, [], ◌∷◌, Option, None, Some, refl, sym, ◌∙◌, subst, arith, inl, inr}
+use Rattle.std.proofs.Common.{ℕ, ◌≡◌, ◌⊎◌, ◌≤◌, ◌==◌, ◌||◌, cond, Bool, true, false, List, [], ◌∷◌, Option, None, Some, refl, sym, ◌∙◌, ap, subst, arith, inl, inr}
+use Rattle.std.proofs.lemmas.Bool.{false≢true, or_parts}
 use Rattle.std.proofs.lemmas.Option.{none-some, same_Some}
 use Rattle.big_info.specs.Time.{iso_us_of}
+use Rattle.delegator_machine.specs.Groups as machine
 use Rattle.sync_reference.specs.Reference.{anchor_of}
 use Rattle.source_machine.specs.Calls.{Setup}
 use Rattle.group_sink.specs.Calls.{Tuning, Call, tune, hear, place}
@@ -10,11 +12,16 @@ use Rattle.scenario_text.specs.declared.step.Step.TheVariants as steps
 use Rattle.transcript_text.specs.declared.refusal.Refusal.TheVariants.{NoSuchBis}
 use Rattle.scenario_history.specs.Steps.{chosen_of, chosen_steps, steps_of_source}
 use Rattle.scenario_history.specs.Source.{Airs, event_back, is_started, open_event, pdu_in, setup_of}
-use Rattle.scenario_history.specs.Sinks.{heard_on_air, is_lost, is_of, reaches, sink_calls, source_after, source_of, spot_at, spots_of, ticked, ticked_if, tuning_of, unless_lost, with_sink_call}
+use Rattle.scenario_history.specs.Sinks.{heard_on_air, is_of, reaches, sink_calls, source_of, spots_of, tuning_of}
 use Rattle.scenario_history.specs.Refusals.{has_beyond}
+use Rattle.scenario_laws.specs.Laws.{any_since, given_since_made, injected_since, is_given, is_injected, is_made, is_tuned}
+use Rattle.scenario_laws.proofs.Announced.{Announcing}
+use Rattle.scenario_laws.proofs.ByHand.{as_by_hand}
 use Rattle.scenario_laws.proofs.Legals.{Legal, Permitted, fails_not, permitted}
-use Rattle.scenario_laws.proofs.Sources.{takes}
-use Rattle.scenario_laws.proofs.Wholes.{goes}
+use Rattle.scenario_laws.proofs.Moves.{Left, PutBy, StaysBy, announced, given_stays, plain_stays}
+use Rattle.scenario_laws.proofs.Places.{air_place, end_place, same_place, tick_if_place}
+use Rattle.scenario_laws.proofs.Sources.{sends, takes, true_not_false}
+use Rattle.scenario_laws.proofs.Wholes.{goes, next_in}
 
 -- where the stay is on the source's group
 pub record TunedTo (setup : Setup) (tuning : Tuning) : Type 0 where
@@ -23,87 +30,205 @@ pub record TunedTo (setup : Setup) (tuning : Tuning) : Type 0 where
   pub anchor : tuning.anchor ≡ anchor_of setup.origin setup.first tuning.first (iso_us_of setup.info)
   pub delay : tuning.delay ≡ setup.delay
 
--- ---- the place of a sink before a step and after it
+-- ---- since a step that begins
 
-pub same_place : (mine : Bool) (more calls : List Call) → place more ≡ place calls → place (cond mine more calls) ≡ place calls
-same_place true more calls is = is
-same_place false more calls is = refl
+-- what is not so since the last step that begins is not so by the last step, nor before it where that step begins nothing
+pub last_not : (begins now rest : Bool) → cond begins now (now || rest) ≡ false → now ≡ false
+last_not true now rest clean = clean
+last_not false now rest clean = (or_parts now rest clean).0
 
-lost_place : (gone : Bool) (event bis subevent : ℕ) (octets : List ℕ) (calls : List Call) → place (unless_lost gone (hear event bis subevent octets) calls) ≡ place calls
-lost_place true event bis subevent octets calls = refl
-lost_place false event bis subevent octets calls = refl
+pub rest_not : (begins now rest : Bool) → cond begins now (now || rest) ≡ false → begins ≡ false → rest ≡ false
+rest_not true now rest clean is = absurd (false≢true (sym is))
+rest_not false now rest clean is = (or_parts now rest clean).1
 
-pub air_place : (airs : Airs) (own : List Step) (lose count : ℕ) (calls : List Call) → place (heard_on_air airs own lose count calls) ≡ place calls
-air_place airs own lose zero calls = refl
-air_place airs own lose (suc i) calls =
-    lost_place (is_lost (setup_of own).info (event_back own 0) lose (spot_at (setup_of own).info i)) _ _ _ _ (heard_on_air airs own lose i calls)
-    ∙ air_place airs own lose i calls
+both_not : (begins now rest : Bool) → now ≡ false → (begins ≡ false → rest ≡ false) → cond begins now (now || rest) ≡ false
+both_not true now rest last before = last
+both_not false true rest last before = absurd (false≢true (sym last))
+both_not false false rest last before = before refl
 
-tick_place : (last_open : Option ℕ) (calls : List Call) → place (ticked last_open calls) ≡ place calls
-tick_place None calls = refl
-tick_place (Some event) calls = refl
+given_is_injected : (n : ℕ) (step : Step) → is_injected n step ≡ false → is_given n step ≡ false
+given_is_injected n (steps.Train sink time ext adv acad) clean = clean
+given_is_injected n _ clean = refl
 
-pub tick_if_place : (mine : Bool) (last_open : Option ℕ) (calls : List Call) → place (ticked_if mine last_open calls) ≡ place calls
-tick_if_place true last_open calls = tick_place last_open calls
-tick_if_place false last_open calls = refl
+-- where nothing was injected, no train was given
+pub none_given : (begins : List Step → Step → Bool) (n : ℕ) (made : List Step) → injected_since begins n made ≡ false → any_since begins (is_given n) made ≡ false
+none_given begins n [] clean = refl
+none_given begins n (step ∷ earlier) clean =
+    both_not (begins earlier step) (is_given n step) (any_since begins (is_given n) earlier)
+    (given_is_injected n step (last_not (begins earlier step) (is_injected n step) (injected_since begins n earlier) clean))
+    (λ begins_not. none_given begins n earlier (rest_not (begins earlier step) (is_injected n step) (injected_since begins n earlier) clean begins_not))
+
+-- ---- where a sink is
 
 -- the sink is there, on this source
 pub record IsThere (s : ℕ) (tuning : Tuning) (calls : List Call) (source : Option ℕ) : Type 0 where
   pub place_is : place calls ≡ Some tuning
   pub source_is : source ≡ Some s
 
-abbrev pub IsOn : Airs → ℕ → ℕ → List Step → Tuning → Type 0
-IsOn airs s n made tuning = IsThere s tuning (sink_calls airs n made) (source_of n made)
+-- and no train was given to it since it was put there
+pub record IsOn (airs : Airs) (s n : ℕ) (made : List Step) (tuning : Tuning) : Type 0 where
+  pub place_is : place (sink_calls airs n made) ≡ Some tuning
+  pub source_is : source_of n made ≡ Some s
+  pub ungiven : any_since (is_tuned n) (is_given n) made ≡ false
 
 there_still : (s : ℕ) (tuning : Tuning) (more calls : List Call) (source : Option ℕ) → place more ≡ place calls → IsThere s tuning more source → IsThere s tuning calls source
 there_still s tuning more calls source same is = record { place_is = sym same ∙ is.place_is; source_is = is.source_is }
 
-gone_there : (s : ℕ) (tuning : Tuning) (gone : Bool) (calls : List Call) (source : Option ℕ) → IsThere s tuning (cond gone [] calls) (cond gone None source) → IsThere s tuning calls source
+gone_there : (s : ℕ) (tuning : Tuning) (gone : Bool) (calls : List Call) (source : Option ℕ) → IsThere s tuning (cond gone [] calls) (cond gone None source)
+    → IsThere s tuning calls source × (gone ≡ false)
 gone_there s tuning true calls source is = absurd (none-some tuning is.place_is)
-gone_there s tuning false calls source is = is
+gone_there s tuning false calls source is = (is, refl)
 
 put_there : (s : ℕ) (tuning : Tuning) (put : Bool) (on : Tuning) (chosen : ℕ) (calls : List Call) (source : Option ℕ)
     → IsThere s tuning (cond put (tune on ∷ calls) calls) (cond put (Some chosen) source)
-    → IsThere s tuning calls source ⊎ ((on ≡ tuning) × (chosen ≡ s) × (put ≡ true))
+    → (IsThere s tuning calls source × (put ≡ false)) ⊎ ((on ≡ tuning) × (chosen ≡ s) × (put ≡ true))
 put_there s tuning true on chosen calls source is = inr (same_Some on tuning is.place_is, same_Some chosen s is.source_is, refl)
-put_there s tuning false on chosen calls source is = inl is
+put_there s tuning false on chosen calls source is = inl (is, refl)
+
+-- `announce` puts the sink there, on this source
+pub record AnnouncedBy (airs : Airs) (s n sink : ℕ) (earlier : List Step) (tuning : Tuning) : Type 0 where
+  pub put : PutBy airs n sink earlier
+  pub tuning_is : machine.tuning_of put.joining ≡ tuning
+  pub chosen_is : chosen_of earlier ≡ s
 
 -- the step puts the sink there, on this source
-abbrev pub PutBy : ℕ → ℕ → Step → List Step → Tuning → Type 0
-PutBy s n (steps.Tuned sink which) earlier tuning = (tuning_of (chosen_steps earlier) which ≡ tuning) × (chosen_of earlier ≡ s) × ((sink == n) ≡ true)
-PutBy s n _ earlier tuning = ⊥
+abbrev pub BeginsBy : Airs → ℕ → ℕ → Step → List Step → Tuning → Type 0
+BeginsBy airs s n (steps.Tuned sink which) earlier tuning = (tuning_of (chosen_steps earlier) which ≡ tuning) × (chosen_of earlier ≡ s) × ((sink == n) ≡ true)
+BeginsBy airs s n (steps.Announce sink) earlier tuning = AnnouncedBy airs s n sink earlier tuning
+BeginsBy airs s n _ earlier tuning = ⊥
 
-there_before : (airs : Airs) (s n : ℕ) (step : Step) (earlier : List Step) (tuning : Tuning) (calls : List Call) (source : Option ℕ)
-    → IsThere s tuning (with_sink_call airs n step earlier calls) (source_after n step earlier source) → IsThere s tuning calls source ⊎ PutBy s n step earlier tuning
-there_before airs s n (steps.Sink sink streams slots mtu) earlier tuning calls source is = inl (gone_there s tuning (sink == n) calls source is)
-there_before airs s n (steps.Drop sink) earlier tuning calls source is = inl (gone_there s tuning (sink == n) calls source is)
-there_before airs s n (steps.Tuned sink which) earlier tuning calls source is =
-    put_there s tuning (sink == n) (tuning_of (chosen_steps earlier) which) (chosen_of earlier) calls source is
-there_before airs s n (steps.Hear sink back bis subevent) earlier tuning calls source is =
-    inl (there_still s tuning _ calls source
+-- or it was there before, and the step begins nothing
+pub record WasThere (airs : Airs) (s n : ℕ) (step : Step) (earlier : List Step) (tuning : Tuning) : Type 0 where
+  pub there : IsThere s tuning (sink_calls airs n earlier) (source_of n earlier)
+  pub begins_not : is_tuned n earlier step ≡ false
+  pub made_not : is_made n earlier step ≡ false
+
+left_there : (s : ℕ) (tuning : Tuning) (later calls : List Call) (source source' : Option ℕ) → Left later calls → source' ≡ source → IsThere s tuning later source' → IsThere s tuning calls source
+left_there s tuning later calls source source' left same is = record {
+  place_is = elim left [
+    | inl stays ↦ ap place (sym stays) ∙ is.place_is
+    | inr gone ↦ absurd (none-some tuning (sym (ap place gone) ∙ is.place_is))
+  ];
+  source_is = sym same ∙ is.source_is;
+}
+
+stays_there : (airs : Airs) (s n : ℕ) (step : Step) (earlier : List Step) (tuning : Tuning) → StaysBy airs n step earlier → is_made n earlier step ≡ false
+    → IsThere s tuning (sink_calls airs n (step ∷ earlier)) (source_of n (step ∷ earlier)) → WasThere airs s n step earlier tuning
+stays_there airs s n step earlier tuning stays made_not is = record {
+  there = left_there s tuning (sink_calls airs n (step ∷ earlier)) (sink_calls airs n earlier) (source_of n earlier) (source_of n (step ∷ earlier)) stays.left stays.same is;
+  begins_not = stays.begins_not;
+  made_not = made_not;
+}
+
+still_there : (airs : Airs) (s n : ℕ) (step : Step) (earlier : List Step) (tuning : Tuning) → is_tuned n earlier step ≡ false → is_made n earlier step ≡ false
+    → source_of n (step ∷ earlier) ≡ source_of n earlier → place (sink_calls airs n (step ∷ earlier)) ≡ place (sink_calls airs n earlier)
+    → IsThere s tuning (sink_calls airs n (step ∷ earlier)) (source_of n (step ∷ earlier)) → WasThere airs s n step earlier tuning
+still_there airs s n step earlier tuning begins_not made_not source_same same is = record {
+  there = record { place_is = sym same ∙ is.place_is; source_is = sym source_same ∙ is.source_is };
+  begins_not = begins_not;
+  made_not = made_not;
+}
+
+pub there_before : (airs : Airs) (s n : ℕ) (step : Step) (earlier : List Step) (tuning : Tuning) → is_given n step ≡ false
+    → IsThere s tuning (sink_calls airs n (step ∷ earlier)) (source_of n (step ∷ earlier)) → WasThere airs s n step earlier tuning ⊎ BeginsBy airs s n step earlier tuning
+there_before airs s n (steps.Sink sink streams slots mtu) earlier tuning ungiven is =
+    let before = gone_there s tuning (sink == n) (sink_calls airs n earlier) (source_of n earlier) is in
+    inl (record { there = before.0; begins_not = refl; made_not = before.1 })
+there_before airs s n (steps.Drop sink) earlier tuning ungiven is =
+    let before = gone_there s tuning (sink == n) (sink_calls airs n earlier) (source_of n earlier) is in
+    inl (record { there = before.0; begins_not = refl; made_not = refl })
+there_before airs s n (steps.Tuned sink which) earlier tuning ungiven is =
+    elim (put_there s tuning (sink == n) (tuning_of (chosen_steps earlier) which) (chosen_of earlier) (sink_calls airs n earlier) (source_of n earlier) is) [
+      | inl before ↦ inl (record { there = before.0; begins_not = before.1; made_not = refl })
+      | inr put ↦ inr put
+    ]
+there_before airs s n (steps.Hear sink back bis subevent) earlier tuning ungiven is =
+    inl (still_there airs s n (steps.Hear sink back bis subevent) earlier tuning refl refl refl
     (same_place (reaches sink n earlier)
-    (hear (event_back (chosen_steps earlier) back) bis subevent (pdu_in airs (chosen_steps earlier) (event_back (chosen_steps earlier) back) bis subevent) ∷ calls) calls refl) is)
-there_before airs s n (steps.Air sink lose) earlier tuning calls source is =
-    inl (there_still s tuning _ calls source
-    (same_place (reaches sink n earlier) (heard_on_air airs (chosen_steps earlier) lose (spots_of (chosen_steps earlier)) calls) calls
-    (air_place airs (chosen_steps earlier) lose (spots_of (chosen_steps earlier)) calls)) is)
-there_before airs s n (steps.Inject sink back bis subevent octets) earlier tuning calls source is =
-    inl (there_still s tuning _ calls source (same_place (reaches sink n earlier) (hear (event_back (chosen_steps earlier) back) bis subevent octets ∷ calls) calls refl) is)
-there_before airs s n steps.Event earlier tuning calls source is =
-    inl (there_still s tuning _ calls source (tick_if_place (is_of (chosen_of earlier) (source_of n earlier)) (open_event (chosen_steps earlier)) calls) is)
-there_before airs s n steps.Stop earlier tuning calls source is =
-    inl (there_still s tuning _ calls source (tick_if_place (is_of (chosen_of earlier) (source_of n earlier)) (open_event (chosen_steps earlier)) calls) is)
-there_before airs s n (steps.Terminate reason) earlier tuning calls source is =
-    inl (there_still s tuning _ calls source (tick_if_place (is_of (chosen_of earlier) (source_of n earlier)) (open_event (chosen_steps earlier)) calls) is)
-there_before airs s n steps.End earlier tuning calls source is =
-    inl (there_still s tuning _ calls source
-    (tick_if_place (is_of 1 (source_of n earlier)) (open_event (steps_of_source 1 earlier)) (ticked_if (is_of 0 (source_of n earlier)) (open_event (steps_of_source 0 earlier)) calls)
-    ∙ tick_if_place (is_of 0 (source_of n earlier)) (open_event (steps_of_source 0 earlier)) calls) is)
-there_before airs s n _ earlier tuning calls source is = inl is
+    (hear (event_back (chosen_steps earlier) back) bis subevent (pdu_in airs (chosen_steps earlier) (event_back (chosen_steps earlier) back) bis subevent) ∷ sink_calls airs n earlier)
+    (sink_calls airs n earlier) refl) is)
+there_before airs s n (steps.Air sink lose) earlier tuning ungiven is =
+    inl (still_there airs s n (steps.Air sink lose) earlier tuning refl refl refl
+    (same_place (reaches sink n earlier) (heard_on_air airs (chosen_steps earlier) lose (spots_of (chosen_steps earlier)) (sink_calls airs n earlier)) (sink_calls airs n earlier)
+    (air_place airs (chosen_steps earlier) lose (spots_of (chosen_steps earlier)) (sink_calls airs n earlier))) is)
+there_before airs s n (steps.Inject sink back bis subevent octets) earlier tuning ungiven is =
+    inl (still_there airs s n (steps.Inject sink back bis subevent octets) earlier tuning refl refl refl
+    (same_place (reaches sink n earlier) (hear (event_back (chosen_steps earlier) back) bis subevent octets ∷ sink_calls airs n earlier) (sink_calls airs n earlier) refl) is)
+there_before airs s n steps.Event earlier tuning ungiven is =
+    inl (still_there airs s n steps.Event earlier tuning refl refl refl
+    (tick_if_place (is_of (chosen_of earlier) (source_of n earlier)) (open_event (chosen_steps earlier)) (sink_calls airs n earlier)) is)
+there_before airs s n steps.Stop earlier tuning ungiven is =
+    inl (still_there airs s n steps.Stop earlier tuning refl refl refl
+    (tick_if_place (is_of (chosen_of earlier) (source_of n earlier)) (open_event (chosen_steps earlier)) (sink_calls airs n earlier)) is)
+there_before airs s n (steps.Terminate reason) earlier tuning ungiven is =
+    inl (still_there airs s n (steps.Terminate reason) earlier tuning refl refl refl
+    (tick_if_place (is_of (chosen_of earlier) (source_of n earlier)) (open_event (chosen_steps earlier)) (sink_calls airs n earlier)) is)
+there_before airs s n steps.End earlier tuning ungiven is =
+    inl (still_there airs s n steps.End earlier tuning refl refl refl
+    (end_place (is_of 1 (source_of n earlier)) (is_of 0 (source_of n earlier)) (open_event (steps_of_source 1 earlier)) (open_event (steps_of_source 0 earlier)) (sink_calls airs n earlier)) is)
+there_before airs s n (steps.Announce sink) earlier tuning ungiven is = elim (announced airs n sink earlier) [
+  | inl stays ↦ inl (stays_there airs s n (steps.Announce sink) earlier tuning stays refl is)
+  | inr goes ↦ elim goes [
+    | inl follows ↦ absurd (none-some tuning (sym (ap place follows.same ∙ follows.nowhere) ∙ is.place_is))
+    | inr put ↦ inr (record {
+      put = put;
+      tuning_is = same_Some (machine.tuning_of put.joining) tuning (sym (ap place put.calls_is) ∙ is.place_is);
+      chosen_is = same_Some (chosen_of earlier) s (sym put.source_is ∙ is.source_is);
+    })
+  ]
+]
+there_before airs s n (steps.Train sink time ext adv acad) earlier tuning ungiven is =
+    inl (stays_there airs s n (steps.Train sink time ext adv acad) earlier tuning (given_stays airs n sink time ext adv acad earlier ungiven) refl is)
+there_before airs s n step earlier tuning ungiven is = inl (stays_there airs s n step earlier tuning (plain_stays airs n step earlier refl refl refl refl) refl is)
 
 pub on_before : (airs : Airs) (s n : ℕ) (step : Step) (earlier : List Step) (tuning : Tuning) → IsOn airs s n (step ∷ earlier) tuning
-    → IsOn airs s n earlier tuning ⊎ PutBy s n step earlier tuning
-on_before airs s n step earlier tuning is = there_before airs s n step earlier tuning (sink_calls airs n earlier) (source_of n earlier) is
+    → IsOn airs s n earlier tuning ⊎ BeginsBy airs s n step earlier tuning
+on_before airs s n step earlier tuning is =
+    elim (there_before airs s n step earlier tuning (last_not (is_tuned n earlier step) (is_given n step) (any_since (is_tuned n) (is_given n) earlier) is.ungiven)
+    (record { place_is = is.place_is; source_is = is.source_is })) [
+      | inl before ↦ inl (record {
+        place_is = before.there.place_is;
+        source_is = before.there.source_is;
+        ungiven = rest_not (is_tuned n earlier step) (is_given n step) (any_since (is_tuned n) (is_given n) earlier) is.ungiven before.begins_not;
+      })
+      | inr begins ↦ inr begins
+    ]
+
+-- the step that begins a stay
+tuned_by : (airs : Airs) (s n : ℕ) (step : Step) (earlier : List Step) (tuning : Tuning) → BeginsBy airs s n step earlier tuning → is_tuned n earlier step ≡ true
+tuned_by airs s n (steps.Tuned sink which) earlier tuning begins = begins.2
+tuned_by airs s n (steps.Announce sink) earlier tuning begins = begins.put.begins_is
+tuned_by airs s n _ earlier tuning begins = absurd begins
+
+pub begins_calls : (airs : Airs) (s n : ℕ) (step : Step) (earlier : List Step) (tuning : Tuning) → BeginsBy airs s n step earlier tuning
+    → sink_calls airs n (step ∷ earlier) ≡ tune tuning ∷ sink_calls airs n earlier
+begins_calls airs s n (steps.Tuned sink which) earlier tuning begins =
+    ap (λ put. cond put (tune (tuning_of (chosen_steps earlier) which) ∷ sink_calls airs n earlier) (sink_calls airs n earlier)) begins.2
+    ∙ ap (λ on. tune on ∷ sink_calls airs n earlier) begins.0
+begins_calls airs s n (steps.Announce sink) earlier tuning begins = begins.put.calls_is ∙ ap (λ on. tune on ∷ sink_calls airs n earlier) begins.tuning_is
+begins_calls airs s n _ earlier tuning begins = absurd begins
+
+-- what is not so since a sink was made is not so since the stay began
+pub not_in_stay : (is_one : Step → Bool) (airs : Airs) (s n : ℕ) (made : List Step) (tuning : Tuning) → IsThere s tuning (sink_calls airs n made) (source_of n made)
+    → given_since_made n made ≡ false → any_since (is_made n) is_one made ≡ false → any_since (is_tuned n) is_one made ≡ false
+not_in_stay is_one airs s n [] tuning is ungiven clean = refl
+not_in_stay is_one airs s n (step ∷ earlier) tuning is ungiven clean =
+    both_not (is_tuned n earlier step) (is_one step) (any_since (is_tuned n) is_one earlier) (last_not (is_made n earlier step) (is_one step) (any_since (is_made n) is_one earlier) clean)
+    (λ begins_not. elim (there_before airs s n step earlier tuning (last_not (is_made n earlier step) (is_given n step) (given_since_made n earlier) ungiven) is) [
+      | inl before ↦ not_in_stay is_one airs s n earlier tuning before.there
+          (rest_not (is_made n earlier step) (is_given n step) (given_since_made n earlier) ungiven before.made_not)
+          (rest_not (is_made n earlier step) (is_one step) (any_since (is_made n) is_one earlier) clean before.made_not)
+      | inr begins ↦ absurd (true_not_false (is_tuned n earlier step) (tuned_by airs s n step earlier tuning begins) begins_not)
+    ])
+
+-- a sink to which no train was given since it was made
+pub on_since_made : (airs : Airs) (s n : ℕ) (made : List Step) (tuning : Tuning) → place (sink_calls airs n made) ≡ Some tuning → source_of n made ≡ Some s → given_since_made n made ≡ false
+    → IsOn airs s n made tuning
+on_since_made airs s n made tuning place_is source_is ungiven = record {
+  place_is = place_is;
+  source_is = source_is;
+  ungiven = not_in_stay (is_given n) airs s n made tuning (record { place_is = place_is; source_is = source_is }) ungiven ungiven;
+}
 
 -- ---- the stay is on the source's group
 
@@ -112,16 +237,34 @@ pub record OnSource (own : List Step) (tuning : Tuning) : Type 0 where
   pub tuned : TunedTo (setup_of own) tuning
   pub streams : has_beyond (setup_of own).info.num_bis tuning.which ≡ false
 
-put_to : (airs : Airs) (boxes s n : ℕ) (step : Step) (earlier : List Step) (tuning : Tuning) → Permitted airs boxes earlier step → PutBy s n step earlier tuning
-    → OnSource (steps_of_source s earlier) tuning
-put_to airs boxes s n (steps.Tuned sink which) earlier tuning permits put =
-    subst (λ t. OnSource (steps_of_source t earlier) tuning) put.1 (record {
-      started = takes (chosen_steps earlier) permits.in_phase;
-      tuned = subst (TunedTo (setup_of (chosen_steps earlier))) put.0 (record { info = refl; first = omega arith; anchor = refl; delay = refl });
-      streams = subst (λ (t : Tuning). has_beyond (setup_of (chosen_steps earlier)).info.num_bis t.which ≡ false) put.0
-          (fails_not (has_beyond (setup_of (chosen_steps earlier)).info.num_bis which) NoSuchBis permits.by_source);
+tuned_to : (airs : Airs) (boxes s : ℕ) (earlier : List Step) (tuning : Tuning) (which : ℕ) → is_started (chosen_steps earlier) ≡ true → tuning_of (chosen_steps earlier) which ≡ tuning
+    → has_beyond (setup_of (chosen_steps earlier)).info.num_bis which ≡ false → chosen_of earlier ≡ s → OnSource (steps_of_source s earlier) tuning
+tuned_to airs boxes s earlier tuning which started same within chosen =
+    subst (λ t. OnSource (steps_of_source t earlier) tuning) chosen (record {
+      started = started;
+      tuned = subst (TunedTo (setup_of (chosen_steps earlier))) same (record { info = refl; first = omega arith; anchor = refl; delay = refl });
+      streams = subst (λ (t : Tuning). has_beyond (setup_of (chosen_steps earlier)).info.num_bis t.which ≡ false) same within;
     })
-put_to airs boxes s n _ earlier tuning permits put = absurd put
+
+begins_to : Announcing → (airs : Airs) (boxes s n : ℕ) (step : Step) (earlier : List Step) (tuning : Tuning) → Legal airs boxes earlier → Permitted airs boxes earlier step
+    → BeginsBy airs s n step earlier tuning → OnSource (steps_of_source s earlier) tuning
+begins_to laws airs boxes s n (steps.Tuned sink which) earlier tuning legal permits begins =
+    tuned_to airs boxes s earlier tuning which (takes (chosen_steps earlier) permits.in_phase) begins.0
+    (fails_not (has_beyond (setup_of (chosen_steps earlier)).info.num_bis which) NoSuchBis permits.by_source) begins.1
+begins_to laws airs boxes s n (steps.Announce sink) earlier tuning legal permits begins =
+    let by_hand = as_by_hand laws airs boxes n sink earlier begins.put.joining legal permits begins.put.brings in
+    tuned_to airs boxes s earlier tuning begins.put.joining.which (sends (chosen_steps earlier) permits.in_phase) (sym by_hand.0 ∙ begins.tuning_is) by_hand.1 begins.chosen_is
+begins_to laws airs boxes s n _ earlier tuning legal permits begins = absurd begins
+
+-- such a stay begins with the source's next event
+pub begins_next : Announcing → (airs : Airs) (boxes s n : ℕ) (step : Step) (earlier : List Step) (tuning : Tuning) → Legal airs boxes earlier → Permitted airs boxes earlier step
+    → BeginsBy airs s n step earlier tuning → tuning.first ≡ next_in (steps_of_source s earlier)
+begins_next laws airs boxes s n (steps.Tuned sink which) earlier tuning legal permits begins =
+    ap (λ (t : Tuning). t.first) (sym begins.0) ∙ ap (λ t. next_in (steps_of_source t earlier)) begins.1
+begins_next laws airs boxes s n (steps.Announce sink) earlier tuning legal permits begins =
+    ap (λ (t : Tuning). t.first) (sym begins.tuning_is ∙ (as_by_hand laws airs boxes n sink earlier begins.put.joining legal permits begins.put.brings).0)
+    ∙ ap (λ t. next_in (steps_of_source t earlier)) begins.chosen_is
+begins_next laws airs boxes s n _ earlier tuning legal permits begins = absurd begins
 
 still_to : (airs : Airs) (boxes s : ℕ) (step : Step) (earlier : List Step) (tuning : Tuning) → Legal airs boxes (step ∷ earlier) → OnSource (steps_of_source s earlier) tuning
     → OnSource (steps_of_source s (step ∷ earlier)) tuning
@@ -134,9 +277,9 @@ still_to airs boxes s step earlier tuning legal on =
     }
 
 -- a sink on a group is on that of its source, which was started
-pub on_source : (airs : Airs) (boxes s n : ℕ) (made : List Step) (tuning : Tuning) → Legal airs boxes made → IsOn airs s n made tuning → OnSource (steps_of_source s made) tuning
-on_source airs boxes s n [] tuning legal is = absurd (none-some tuning is.place_is)
-on_source airs boxes s n (step ∷ earlier) tuning legal is = still_to airs boxes s step earlier tuning legal (elim (on_before airs s n step earlier tuning is) [
-  | inl before ↦ on_source airs boxes s n earlier tuning legal.0 before
-  | inr put ↦ put_to airs boxes s n step earlier tuning (permitted airs boxes earlier step legal.1) put
+pub on_source : Announcing → (airs : Airs) (boxes s n : ℕ) (made : List Step) (tuning : Tuning) → Legal airs boxes made → IsOn airs s n made tuning → OnSource (steps_of_source s made) tuning
+on_source laws airs boxes s n [] tuning legal is = absurd (none-some tuning is.place_is)
+on_source laws airs boxes s n (step ∷ earlier) tuning legal is = still_to airs boxes s step earlier tuning legal (elim (on_before airs s n step earlier tuning is) [
+  | inl before ↦ on_source laws airs boxes s n earlier tuning legal.0 before
+  | inr begins ↦ begins_to laws airs boxes s n step earlier tuning legal.0 (permitted airs boxes earlier step legal.1) begins
 ])

@@ -1,90 +1,27 @@
 -- One stay after the other: what holds of the events and the entries of the earlier stays of a sink with a source, and goes on
 -- over one stay, holds of all of them.
 use Rattle.std.proofs.Common.{ℕ, ◌≡◌, ◌⊎◌, ◌≤◌, ◌==◌, cond, Bool, true, false, List, [], ◌∷◌, ◌++◌, Option, None, Some, refl, sym, ◌∙◌, ap, subst, arith, inl, inr, append_assoc}
-use Rattle.std.proofs.lemmas.Bool.{cases_Bool, eqb-true, false≢true}
+use Rattle.std.proofs.lemmas.Bool.{eqb-true, false≢true}
 use Rattle.std.proofs.lemmas.List.{append-nil}
 use Rattle.std.proofs.lemmas.Option.{none-some}
 use Rattle.unit_outlets.specs.Handed.{Handed}
-use Rattle.group_sink.specs.Calls.{Tuning, Call, tune, hear, place}
-use Rattle.group_sink.specs.Handing.{of_stream}
+use Rattle.group_sink.specs.Calls.{Tuning, Call, tune, place}
+use Rattle.group_sink.specs.Handing.{handed_by as ticked_by, of_stream}
 use Rattle.scenario_text.specs.declared.step.Step.{Step}
 use Rattle.scenario_text.specs.declared.step.Step.TheVariants as steps
 use Rattle.scenario_history.specs.Steps.{chosen_of, chosen_steps, steps_of_source}
-use Rattle.scenario_history.specs.Source.{Airs, event_back, open_event, pdu_in}
-use Rattle.scenario_history.specs.Sinks.{heard_on_air, is_of, reaches, sink_calls, source_after, source_of, spots_of, ticked_if, tuning_of, with_sink_call}
+use Rattle.scenario_history.specs.Source.{Airs, open_event}
+use Rattle.scenario_history.specs.Sinks.{is_of, sink_calls, source_of}
 use Rattle.scenario_history.specs.Boxes.{SinkUnit, handed_by}
-use Rattle.scenario_laws.specs.Laws.{Closed, closed_by, closed_if, closed_since, handed_since, is_made, is_tuned, of_sink, shown_since}
+use Rattle.scenario_laws.specs.Laws.{Closed, closed_by, closed_if, closed_in, closed_since, given_since_made, handed_since, is_given, is_made, is_tuned, of_sink, shown_since}
+use Rattle.scenario_laws.proofs.Announced.{Announcing}
 use Rattle.scenario_laws.proofs.Legals.{Legal}
-use Rattle.scenario_laws.proofs.Wholes.{next_in, next_rises}
-use Rattle.scenario_laws.proofs.Stays.{IsOn, air_place, same_place, tick_if_place}
+use Rattle.scenario_laws.proofs.Wholes.{next_in}
+use Rattle.scenario_laws.proofs.Stays.{IsOn, on_since_made}
 use Rattle.scenario_laws.proofs.Closings.{shown_by, shown_if, step_shown}
-use Rattle.scenario_laws.proofs.Closes.{mine_in}
+use Rattle.scenario_laws.proofs.Closes.{mine_in, stay_if}
 use Rattle.scenario_laws.proofs.Shown.{shown_on}
 use Rattle.scenario_laws.proofs.Ticks.{is_its}
-
--- ---- a sink that is of a source is on a group
-
-abbrev IsPlaced : Option ℕ → List Call → Type 0
-IsPlaced source calls = (source ≡ None) ⊎ ((tuning : Tuning) × (place calls ≡ Some tuning))
-
-gone_placed : (gone : Bool) (source : Option ℕ) (calls : List Call) → IsPlaced source calls → IsPlaced (cond gone None source) (cond gone [] calls)
-gone_placed true source calls before = inl refl
-gone_placed false source calls before = before
-
-put_placed : (put : Bool) (chosen : ℕ) (on : Tuning) (source : Option ℕ) (calls : List Call) → IsPlaced source calls → IsPlaced (cond put (Some chosen) source) (cond put (tune on ∷ calls) calls)
-put_placed true chosen on source calls before = inr (on, refl)
-put_placed false chosen on source calls before = before
-
-same_placed : (source : Option ℕ) (more calls : List Call) → place more ≡ place calls → IsPlaced source calls → IsPlaced source more
-same_placed source more calls same before = elim before [ inl none ↦ inl none | inr some ↦ inr (some.0, same ∙ some.1) ]
-
--- a step that puts the sink nowhere leaves it where it is
-place_stays : (airs : Airs) (n : ℕ) (step : Step) (earlier : List Step) (calls : List Call) → is_made n step ≡ false → is_tuned n step ≡ false
-    → (place (with_sink_call airs n step earlier calls) ≡ place calls) ⊎ (source_after n step earlier (source_of n earlier) ≡ None)
-place_stays airs n (steps.Sink sink streams slots mtu) earlier calls made tuned = inl (ap (λ b. place (cond b [] calls)) made)
-place_stays airs n (steps.Tuned sink which) earlier calls made tuned = inl (ap (λ b. place (cond b (tune (tuning_of (chosen_steps earlier) which) ∷ calls) calls)) tuned)
-place_stays airs n (steps.Drop sink) earlier calls made tuned = elim (cases_Bool (sink == n)) [
-  | inl gone ↦ inr (ap (λ b. cond b None (source_of n earlier)) gone)
-  | inr here ↦ inl (ap (λ b. place (cond b [] calls)) here)
-]
-place_stays airs n (steps.Hear sink back bis subevent) earlier calls made tuned =
-    inl (same_place (reaches sink n earlier)
-    (hear (event_back (chosen_steps earlier) back) bis subevent (pdu_in airs (chosen_steps earlier) (event_back (chosen_steps earlier) back) bis subevent) ∷ calls) calls refl)
-place_stays airs n (steps.Air sink lose) earlier calls made tuned =
-    inl (same_place (reaches sink n earlier) (heard_on_air airs (chosen_steps earlier) lose (spots_of (chosen_steps earlier)) calls) calls
-    (air_place airs (chosen_steps earlier) lose (spots_of (chosen_steps earlier)) calls))
-place_stays airs n (steps.Inject sink back bis subevent octets) earlier calls made tuned =
-    inl (same_place (reaches sink n earlier) (hear (event_back (chosen_steps earlier) back) bis subevent octets ∷ calls) calls refl)
-place_stays airs n steps.Event earlier calls made tuned = inl (tick_if_place (is_of (chosen_of earlier) (source_of n earlier)) (open_event (chosen_steps earlier)) calls)
-place_stays airs n steps.Stop earlier calls made tuned = inl (tick_if_place (is_of (chosen_of earlier) (source_of n earlier)) (open_event (chosen_steps earlier)) calls)
-place_stays airs n (steps.Terminate reason) earlier calls made tuned = inl (tick_if_place (is_of (chosen_of earlier) (source_of n earlier)) (open_event (chosen_steps earlier)) calls)
-place_stays airs n steps.End earlier calls made tuned =
-    inl (tick_if_place (is_of 1 (source_of n earlier)) (open_event (steps_of_source 1 earlier)) (ticked_if (is_of 0 (source_of n earlier)) (open_event (steps_of_source 0 earlier)) calls)
-    ∙ tick_if_place (is_of 0 (source_of n earlier)) (open_event (steps_of_source 0 earlier)) calls)
-place_stays airs n _ earlier calls made tuned = inl refl
-
-moved_placed : (airs : Airs) (n : ℕ) (step : Step) (earlier : List Step) → is_made n step ≡ false → is_tuned n step ≡ false → source_after n step earlier (source_of n earlier) ≡ source_of n earlier
-    → IsPlaced (source_of n earlier) (sink_calls airs n earlier) → IsPlaced (source_of n (step ∷ earlier)) (sink_calls airs n (step ∷ earlier))
-moved_placed airs n step earlier made tuned same before = elim (place_stays airs n step earlier (sink_calls airs n earlier) made tuned) [
-  | inl stays ↦ subst (λ source. IsPlaced source (sink_calls airs n (step ∷ earlier))) (sym same)
-      (same_placed (source_of n earlier) (sink_calls airs n (step ∷ earlier)) (sink_calls airs n earlier) stays before)
-  | inr none ↦ inl none
-]
-
-placed : (airs : Airs) (n : ℕ) (made : List Step) → IsPlaced (source_of n made) (sink_calls airs n made)
-placed airs n [] = inl refl
-placed airs n (steps.Sink sink streams slots mtu ∷ earlier) = gone_placed (sink == n) (source_of n earlier) (sink_calls airs n earlier) (placed airs n earlier)
-placed airs n (steps.Drop sink ∷ earlier) = gone_placed (sink == n) (source_of n earlier) (sink_calls airs n earlier) (placed airs n earlier)
-placed airs n (steps.Tuned sink which ∷ earlier) =
-    put_placed (sink == n) (chosen_of earlier) (tuning_of (chosen_steps earlier) which) (source_of n earlier) (sink_calls airs n earlier) (placed airs n earlier)
-placed airs n (steps.Hear sink back bis subevent ∷ earlier) = moved_placed airs n (steps.Hear sink back bis subevent) earlier refl refl refl (placed airs n earlier)
-placed airs n (steps.Air sink lose ∷ earlier) = moved_placed airs n (steps.Air sink lose) earlier refl refl refl (placed airs n earlier)
-placed airs n (steps.Inject sink back bis subevent octets ∷ earlier) = moved_placed airs n (steps.Inject sink back bis subevent octets) earlier refl refl refl (placed airs n earlier)
-placed airs n (steps.Event ∷ earlier) = moved_placed airs n steps.Event earlier refl refl refl (placed airs n earlier)
-placed airs n (steps.Stop ∷ earlier) = moved_placed airs n steps.Stop earlier refl refl refl (placed airs n earlier)
-placed airs n (steps.Terminate reason ∷ earlier) = moved_placed airs n (steps.Terminate reason) earlier refl refl refl (placed airs n earlier)
-placed airs n (steps.End ∷ earlier) = moved_placed airs n steps.End earlier refl refl refl (placed airs n earlier)
-placed airs n (_ ∷ earlier) = placed airs n earlier
 
 -- ---- the stay that goes on, and what came before it
 
@@ -92,102 +29,136 @@ abbrev pub shown : ℕ → ℕ → ℕ → List SinkUnit → List Handed
 shown s n bis units = of_stream bis (of_sink s n units)
 
 -- the events that the sink closed since the last step that begins
-abbrev pub closed_from : (Step → Bool) → Airs → ℕ → ℕ → List Step → List Closed
+abbrev pub closed_from : (List Step → Step → Bool) → Airs → ℕ → ℕ → List Step → List Closed
 closed_from begins airs s n [] = []
-closed_from begins airs s n (step ∷ earlier) = cond (begins step) [] (closed_from begins airs s n earlier ++ closed_by airs s n earlier step)
+closed_from begins airs s n (step ∷ earlier) = cond (begins earlier step) [] (closed_from begins airs s n earlier ++ closed_by airs s n earlier step)
 
 pub all_closed : (airs : Airs) (s n : ℕ) (made : List Step) → closed_from (is_made n) airs s n made ≡ closed_since airs s n made
 all_closed airs s n [] = refl
-all_closed airs s n (step ∷ earlier) = ap (λ closed. cond (is_made n step) [] (closed ++ closed_by airs s n earlier step)) (all_closed airs s n earlier)
+all_closed airs s n (step ∷ earlier) = ap (λ closed. cond (is_made n earlier step) [] (closed ++ closed_by airs s n earlier step)) (all_closed airs s n earlier)
+
+-- the group of the source that the sink is on
+abbrev pub here_at : Airs → ℕ → ℕ → List Step → Option Tuning
+here_at airs s n made = stay_if (mine_in s n made) (sink_calls airs n made)
+
+stay_is : (mine : Bool) (calls : List Call) (tuning : Tuning) → stay_if mine calls ≡ Some tuning → (mine ≡ true) × (place calls ≡ Some tuning)
+stay_is true calls tuning is = (refl, is)
+stay_is false calls tuning is = absurd (none-some tuning is)
+
+pub no_stay : (mine : Bool) (calls : List Call) → place calls ≡ None → stay_if mine calls ≡ None
+no_stay true calls nowhere = nowhere
+no_stay false calls nowhere = refl
 
 -- the first event of the stay, or the next event of the source
-abbrev first_of : Option Tuning → ℕ → ℕ
+abbrev pub first_of : Option Tuning → ℕ → ℕ
 first_of None next = next
 first_of (Some tuning) next = tuning.first
 
--- all events and entries are those of the stay, where the sink is of the source, behind past ones of which the claim holds up
--- to the first event of the stay
-record InTurn (Q : ℕ → List Closed → List Handed → Type 0) (s n bis : ℕ) (mine : Bool) (p : Option Tuning) (next : ℕ) (closed now : List Closed) (units units_now : List SinkUnit) : Type 0 where
+-- what is of the stay, where there is one
+abbrev pub in_stay : {A : Type 0} → Option Tuning → List A → List A
+in_stay None xs = []
+in_stay (Some tuning) xs = xs
+
+in_stay_none : {A : Type 0} (here : Option Tuning) → (let none : List A = [] in in_stay here none ≡ none)
+in_stay_none None = refl
+in_stay_none (Some tuning) = refl
+
+-- all events and entries are those of the stay behind past ones, of which the claim holds up to the first event of the stay
+pub record InTurn (Q : ℕ → List Closed → List Handed → Type 0) (s n bis : ℕ) (here : Option Tuning) (next : ℕ) (closed now : List Closed) (units units_now : List SinkUnit) : Type 0 where
   pub past : List Closed
   pub entries : List Handed
-  pub claim : Q (first_of (cond mine p None) next) past entries
-  pub closed_is : closed ≡ past ++ cond mine now []
-  pub shown_is : shown s n bis units ≡ entries ++ cond mine (shown s n bis units_now) []
+  pub claim : Q (first_of here next) past entries
+  pub closed_is : closed ≡ past ++ in_stay here now
+  pub shown_is : shown s n bis units ≡ entries ++ in_stay here (shown s n bis units_now)
 
 -- a claim up to an event holds up to a later one
 abbrev pub Rises : (ℕ → List Closed → List Handed → Type 0) → Type 0
 Rises Q = (e : ℕ) → (later : ℕ) → (closed : List Closed) → (entries : List Handed) → e ≤ later → Q e closed entries → Q later closed entries
 
-first_rises : (Q : ℕ → List Closed → List Handed → Type 0) → Rises Q → (p : Option Tuning) (next later : ℕ) (closed : List Closed) (entries : List Handed) → next ≤ later
-    → Q (first_of p next) closed entries → Q (first_of p later) closed entries
+first_rises : (Q : ℕ → List Closed → List Handed → Type 0) → Rises Q → (here : Option Tuning) (next later : ℕ) (closed : List Closed) (entries : List Handed) → next ≤ later
+    → Q (first_of here next) closed entries → Q (first_of here later) closed entries
 first_rises Q rises None next later closed entries more claim = rises next later closed entries more claim
 first_rises Q rises (Some tuning) next later closed entries more claim = claim
 
-more_list : {A : Type 0} (all past now more : List A) (mine : Bool) → all ≡ past ++ cond mine now [] → (mine ≡ false → more ≡ []) → all ++ more ≡ past ++ cond mine (now ++ more) []
-more_list all past now more true is none = ap (λ xs. xs ++ more) is ∙ append_assoc past now more
-more_list all past now more false is none = ap (λ xs. all ++ xs) (none refl) ∙ append-nil all ∙ is
+more_list : {A : Type 0} (all past now more : List A) (here : Option Tuning) → all ≡ past ++ in_stay here now → (here ≡ None → more ≡ []) → all ++ more ≡ past ++ in_stay here (now ++ more)
+more_list all past now more (Some tuning) is none = ap (λ xs. xs ++ more) is ∙ append_assoc past now more
+more_list all past now more None is none = ap (λ xs. all ++ xs) (none refl) ∙ append-nil all ∙ is
 
 goes_on : (Q : ℕ → List Closed → List Handed → Type 0) → Rises Q
-    → (s n bis : ℕ) (mine : Bool) (p : Option Tuning) (next later : ℕ) (closed now more : List Closed) (units units_now others : List SinkUnit)
-    → next ≤ later → (mine ≡ false → more ≡ []) → (mine ≡ false → shown s n bis others ≡ []) → InTurn Q s n bis mine p next closed now units units_now
-    → InTurn Q s n bis mine p later (closed ++ more) (now ++ more) (units ++ others) (units_now ++ others)
-goes_on Q rises s n bis mine p next later closed now more units units_now others on no_more no_others before = record {
+    → (s n bis : ℕ) (here : Option Tuning) (next later : ℕ) (closed now more : List Closed) (units units_now others : List SinkUnit)
+    → next ≤ later → (here ≡ None → more ≡ []) → (here ≡ None → shown s n bis others ≡ []) → InTurn Q s n bis here next closed now units units_now
+    → InTurn Q s n bis here later (closed ++ more) (now ++ more) (units ++ others) (units_now ++ others)
+goes_on Q rises s n bis here next later closed now more units units_now others on no_more no_others before = record {
   past = before.past;
   entries = before.entries;
-  claim = first_rises Q rises (cond mine p None) next later before.past before.entries on before.claim;
-  closed_is = more_list closed before.past now more mine before.closed_is no_more;
+  claim = first_rises Q rises here next later before.past before.entries on before.claim;
+  closed_is = more_list closed before.past now more here before.closed_is no_more;
   shown_is = shown_on s n bis units others
-      ∙ more_list (shown s n bis units) before.entries (shown s n bis units_now) (shown s n bis others) mine before.shown_is no_others
-      ∙ ap (λ us. before.entries ++ cond mine us []) (sym (shown_on s n bis units_now others));
+      ∙ more_list (shown s n bis units) before.entries (shown s n bis units_now) (shown s n bis others) here before.shown_is no_others
+      ∙ ap (λ us. before.entries ++ in_stay here us) (sym (shown_on s n bis units_now others));
 }
 
--- all that is known is past
-begins_anew : (Q : ℕ → List Closed → List Handed → Type 0) → (s n bis : ℕ) (mine : Bool) (p : Option Tuning) (next : ℕ) (closed now : List Closed) (units units_now : List SinkUnit)
-    → Q (first_of (cond mine p None) next) closed (shown s n bis units) → cond mine now [] ≡ [] → cond mine (shown s n bis units_now) [] ≡ []
-    → InTurn Q s n bis mine p next closed now units units_now
-begins_anew Q s n bis mine p next closed now units units_now claim no_closed no_shown = record {
-  past = closed;
-  entries = shown s n bis units;
-  claim = claim;
-  closed_is = sym (ap (λ xs. closed ++ xs) no_closed ∙ append-nil closed);
-  shown_is = sym (ap (λ xs. shown s n bis units ++ xs) no_shown ∙ append-nil (shown s n bis units));
-}
+-- the same, where the step begins nothing
+same_turn : (Q : ℕ → List Closed → List Handed → Type 0) (s n bis : ℕ) (here here' : Option Tuning) (made begins : Bool) (next : ℕ) (closed now : List Closed) (units units_now : List SinkUnit)
+    → here' ≡ here → made ≡ false → begins ≡ false → InTurn Q s n bis here next closed now units units_now
+    → InTurn Q s n bis here' next (cond made [] closed) (cond begins [] now) (cond made [] units) (cond begins [] units_now)
+same_turn Q s n bis here here' true begins next closed now units units_now same made_not begins_not all = absurd (false≢true (sym made_not))
+same_turn Q s n bis here here' false true next closed now units units_now same made_not begins_not all = absurd (false≢true (sym begins_not))
+same_turn Q s n bis here here' false false next closed now units units_now same made_not begins_not all =
+    subst (λ h. InTurn Q s n bis h next closed now units units_now) (sym same) all
 
--- ---- a source that the sink isn't of
+-- ---- a source on whose group the sink isn't
 
 cond_none : {A : Type 0} (b : Bool) → (let none : List A = [] in cond b none none ≡ none)
 cond_none true = refl
 cond_none false = refl
 
-none_closed : (airs : Airs) (s n : ℕ) (step : Step) (earlier : List Step) → mine_in s n earlier ≡ false → closed_by airs s n earlier step ≡ []
-none_closed airs s n steps.Event earlier other =
-    ap (λ b. cond (chosen_of earlier == s) (closed_if b (sink_calls airs n earlier) (open_event (steps_of_source s earlier))) []) other ∙ cond_none (chosen_of earlier == s)
-none_closed airs s n steps.Stop earlier other =
-    ap (λ b. cond (chosen_of earlier == s) (closed_if b (sink_calls airs n earlier) (open_event (steps_of_source s earlier))) []) other ∙ cond_none (chosen_of earlier == s)
-none_closed airs s n (steps.Terminate reason) earlier other =
-    ap (λ b. cond (chosen_of earlier == s) (closed_if b (sink_calls airs n earlier) (open_event (steps_of_source s earlier))) []) other ∙ cond_none (chosen_of earlier == s)
-none_closed airs s n steps.End earlier other = ap (λ b. closed_if b (sink_calls airs n earlier) (open_event (steps_of_source s earlier))) other
-none_closed airs s n _ earlier other = refl
+closed_none : (mine : Bool) (calls : List Call) (last_open : Option ℕ) → stay_if mine calls ≡ None → closed_if mine calls last_open ≡ []
+closed_none true calls None nowhere = refl
+closed_none true calls (Some event) nowhere = ap (λ p. closed_in p calls event) nowhere
+closed_none false calls last_open nowhere = refl
 
-none_by : (airs : Airs) (s n : ℕ) (step : Step) (earlier : List Step) → mine_in s n earlier ≡ false → shown_by airs s n earlier step ≡ []
-none_by airs s n steps.Event earlier other =
-    ap (λ b. cond (chosen_of earlier == s) (shown_if b (sink_calls airs n earlier) (open_event (steps_of_source s earlier))) []) other ∙ cond_none (chosen_of earlier == s)
-none_by airs s n steps.Stop earlier other =
-    ap (λ b. cond (chosen_of earlier == s) (shown_if b (sink_calls airs n earlier) (open_event (steps_of_source s earlier))) []) other ∙ cond_none (chosen_of earlier == s)
-none_by airs s n (steps.Terminate reason) earlier other =
-    ap (λ b. cond (chosen_of earlier == s) (shown_if b (sink_calls airs n earlier) (open_event (steps_of_source s earlier))) []) other ∙ cond_none (chosen_of earlier == s)
-none_by airs s n steps.End earlier other = ap (λ b. shown_if b (sink_calls airs n earlier) (open_event (steps_of_source s earlier))) other
-none_by airs s n _ earlier other = refl
+shown_none : (mine : Bool) (calls : List Call) (last_open : Option ℕ) → stay_if mine calls ≡ None → shown_if mine calls last_open ≡ []
+shown_none true calls None nowhere = refl
+shown_none true calls (Some event) nowhere = ap (λ p. ticked_by event calls p) nowhere
+shown_none false calls last_open nowhere = refl
 
-none_shown : (airs : Airs) (boxes s n bis : ℕ) (step : Step) (earlier : List Step) → Legal airs boxes earlier → s ≤ 1 → n ≤ 7 → mine_in s n earlier ≡ false
+none_closed : (airs : Airs) (s n : ℕ) (step : Step) (earlier : List Step) → here_at airs s n earlier ≡ None → closed_by airs s n earlier step ≡ []
+none_closed airs s n steps.Event earlier nowhere =
+    ap (λ closed. cond (chosen_of earlier == s) closed []) (closed_none (mine_in s n earlier) (sink_calls airs n earlier) (open_event (steps_of_source s earlier)) nowhere)
+    ∙ cond_none (chosen_of earlier == s)
+none_closed airs s n steps.Stop earlier nowhere =
+    ap (λ closed. cond (chosen_of earlier == s) closed []) (closed_none (mine_in s n earlier) (sink_calls airs n earlier) (open_event (steps_of_source s earlier)) nowhere)
+    ∙ cond_none (chosen_of earlier == s)
+none_closed airs s n (steps.Terminate reason) earlier nowhere =
+    ap (λ closed. cond (chosen_of earlier == s) closed []) (closed_none (mine_in s n earlier) (sink_calls airs n earlier) (open_event (steps_of_source s earlier)) nowhere)
+    ∙ cond_none (chosen_of earlier == s)
+none_closed airs s n steps.End earlier nowhere = closed_none (mine_in s n earlier) (sink_calls airs n earlier) (open_event (steps_of_source s earlier)) nowhere
+none_closed airs s n _ earlier nowhere = refl
+
+none_by : (airs : Airs) (s n : ℕ) (step : Step) (earlier : List Step) → here_at airs s n earlier ≡ None → shown_by airs s n earlier step ≡ []
+none_by airs s n steps.Event earlier nowhere =
+    ap (λ units. cond (chosen_of earlier == s) units []) (shown_none (mine_in s n earlier) (sink_calls airs n earlier) (open_event (steps_of_source s earlier)) nowhere)
+    ∙ cond_none (chosen_of earlier == s)
+none_by airs s n steps.Stop earlier nowhere =
+    ap (λ units. cond (chosen_of earlier == s) units []) (shown_none (mine_in s n earlier) (sink_calls airs n earlier) (open_event (steps_of_source s earlier)) nowhere)
+    ∙ cond_none (chosen_of earlier == s)
+none_by airs s n (steps.Terminate reason) earlier nowhere =
+    ap (λ units. cond (chosen_of earlier == s) units []) (shown_none (mine_in s n earlier) (sink_calls airs n earlier) (open_event (steps_of_source s earlier)) nowhere)
+    ∙ cond_none (chosen_of earlier == s)
+none_by airs s n steps.End earlier nowhere = shown_none (mine_in s n earlier) (sink_calls airs n earlier) (open_event (steps_of_source s earlier)) nowhere
+none_by airs s n _ earlier nowhere = refl
+
+none_shown : (airs : Airs) (boxes s n bis : ℕ) (step : Step) (earlier : List Step) → Legal airs boxes earlier → s ≤ 1 → n ≤ 7 → here_at airs s n earlier ≡ None
     → shown s n bis (handed_by airs earlier step) ≡ []
-none_shown airs boxes s n bis step earlier legal least within other = ap (of_stream bis) (step_shown airs boxes s n step earlier legal least within ∙ none_by airs s n step earlier other)
+none_shown airs boxes s n bis step earlier legal least within nowhere =
+    ap (of_stream bis) (step_shown airs boxes s n step earlier legal least within ∙ none_by airs s n step earlier nowhere)
 
--- ---- step by step
+-- ---- what holds of all stays
 
-abbrev InTurnAt : (ℕ → List Closed → List Handed → Type 0) → Airs → ℕ → ℕ → ℕ → List Step → Type 0
+abbrev pub InTurnAt : (ℕ → List Closed → List Handed → Type 0) → Airs → ℕ → ℕ → ℕ → List Step → Type 0
 InTurnAt Q airs s n bis made =
-    InTurn Q s n bis (mine_in s n made) (place (sink_calls airs n made)) (next_in (steps_of_source s made)) (closed_from (is_made n) airs s n made) (closed_from (is_tuned n) airs s n made)
+    InTurn Q s n bis (here_at airs s n made) (next_in (steps_of_source s made)) (closed_from (is_made n) airs s n made) (closed_from (is_tuned n) airs s n made)
     (handed_since (is_made n) airs made) (handed_since (is_tuned n) airs made)
 
 -- the claim goes on over a stay up to the source's next event
@@ -196,180 +167,132 @@ OverStay Q Fine airs s n bis = (made : List Step) → Fine made → (tuning : Tu
     → Q (next_in (steps_of_source s made)) (past ++ closed_from (is_tuned n) airs s n made) (entries ++ shown_since (is_tuned n) airs s n bis made)
 
 pub record Turns (Q : ℕ → List Closed → List Handed → Type 0) (Fine : List Step → Type 0) (airs : Airs) (boxes s n bis : ℕ) : Type 0 where
+  pub laws : Announcing
   pub none : (e : ℕ) → Q e [] []
   pub rises : Rises Q
   pub over : OverStay Q Fine airs s n bis
   pub legal : (made : List Step) → Fine made → Legal airs boxes made
-  pub before : (step : Step) → (earlier : List Step) → is_made n step ≡ false → Fine (step ∷ earlier) → Fine earlier
+  pub ungiven : (made : List Step) → Fine made → given_since_made n made ≡ false
+  pub before : (step : Step) → (earlier : List Step) → is_made n earlier step ≡ false → Fine (step ∷ earlier) → Fine earlier
   pub source_within : s ≤ 1
   pub sink_within : n ≤ 7
 
-at_end : (Q : ℕ → List Closed → List Handed → Type 0) (Fine : List Step → Type 0) (airs : Airs) (boxes s n bis : ℕ) → Turns Q Fine airs boxes s n bis → (made : List Step) → Fine made
-    → (mine : Bool) → mine_in s n made ≡ mine → (p : Option Tuning) → place (sink_calls airs n made) ≡ p
-    → InTurn Q s n bis mine p (next_in (steps_of_source s made)) (closed_from (is_made n) airs s n made) (closed_from (is_tuned n) airs s n made) (handed_since (is_made n) airs made)
+pub at_end : (Q : ℕ → List Closed → List Handed → Type 0) (Fine : List Step → Type 0) (airs : Airs) (boxes s n bis : ℕ) → Turns Q Fine airs boxes s n bis → (made : List Step) → Fine made
+    → (here : Option Tuning) → here_at airs s n made ≡ here
+    → InTurn Q s n bis here (next_in (steps_of_source s made)) (closed_from (is_made n) airs s n made) (closed_from (is_tuned n) airs s n made) (handed_since (is_made n) airs made)
     (handed_since (is_tuned n) airs made)
     → Q (next_in (steps_of_source s made)) (closed_from (is_made n) airs s n made) (shown s n bis (handed_since (is_made n) airs made))
-at_end Q Fine airs boxes s n bis turns made fine false mine p there all =
+at_end Q Fine airs boxes s n bis turns made fine None there all =
     subst (λ closed. Q (next_in (steps_of_source s made)) closed (shown s n bis (handed_since (is_made n) airs made))) (sym (all.closed_is ∙ append-nil all.past))
     (subst (λ entries. Q (next_in (steps_of_source s made)) all.past entries) (sym (all.shown_is ∙ append-nil all.entries)) all.claim)
-at_end Q Fine airs boxes s n bis turns made fine true mine None there all = elim (placed airs n made) [
-  | inl none ↦ absurd (none-some s (sym none ∙ is_its s (source_of n made) mine))
-  | inr some ↦ absurd (none-some some.0 (sym there ∙ some.1))
-]
-at_end Q Fine airs boxes s n bis turns made fine true mine (Some tuning) there all =
+at_end Q Fine airs boxes s n bis turns made fine (Some tuning) there all =
+    let on = stay_is (mine_in s n made) (sink_calls airs n made) tuning there in
     subst (λ closed. Q (next_in (steps_of_source s made)) closed (shown s n bis (handed_since (is_made n) airs made))) (sym all.closed_is)
     (subst (λ entries. Q (next_in (steps_of_source s made)) (all.past ++ closed_from (is_tuned n) airs s n made) entries) (sym all.shown_is)
-    (turns.over made fine tuning (record { place_is = there; source_is = is_its s (source_of n made) mine }) all.past all.entries all.claim))
+    (turns.over made fine tuning (on_since_made airs s n made tuning on.1 (is_its s (source_of n made) on.0) (turns.ungiven made fine)) all.past all.entries all.claim))
 
--- the sink is made: it closed nothing and handed up nothing
-anew : (Q : ℕ → List Closed → List Handed → Type 0) → ((e : ℕ) → Q e [] []) → (s n bis : ℕ) (p : Option Tuning) (next : ℕ) (now : List Closed) (units_now : List SinkUnit)
-    → InTurn Q s n bis false p next [] now [] units_now
-anew Q none s n bis p next now units_now = record { past = []; entries = []; claim = none next; closed_is = refl; shown_is = refl }
-
-other_place : (Q : ℕ → List Closed → List Handed → Type 0) (s n bis : ℕ) (mine : Bool) (p p' : Option Tuning) (next : ℕ) (closed now : List Closed) (units units_now : List SinkUnit)
-    → (mine ≡ true → p' ≡ p) → InTurn Q s n bis mine p next closed now units units_now → InTurn Q s n bis mine p' next closed now units units_now
-other_place Q s n bis true p p' next closed now units units_now same all = subst (λ q. InTurn Q s n bis true q next closed now units units_now) (sym (same refl)) all
-other_place Q s n bis false p p' next closed now units units_now same all =
-    record { past = all.past; entries = all.entries; claim = all.claim; closed_is = all.closed_is; shown_is = all.shown_is }
-
-record Before (Q : ℕ → List Closed → List Handed → Type 0) (Fine : List Step → Type 0) (airs : Airs) (boxes s n bis : ℕ) (step : Step) (earlier : List Step) : Type 0 where
+-- what is known before a step
+pub record Before (Q : ℕ → List Closed → List Handed → Type 0) (Fine : List Step → Type 0) (airs : Airs) (boxes s n bis : ℕ) (step : Step) (earlier : List Step) : Type 0 where
+  pub turns : Turns Q Fine airs boxes s n bis
   pub fine : Fine earlier
+  pub legal_is : Legal airs boxes (step ∷ earlier)
+  pub still : is_made n earlier step ≡ false
+  pub ungiven : is_given n step ≡ false
   pub all : InTurnAt Q airs s n bis earlier
   pub more : next_in (steps_of_source s earlier) ≤ next_in (steps_of_source s (step ∷ earlier))
 
--- a step that puts the sink nowhere and leaves it
-kept : (Q : ℕ → List Closed → List Handed → Type 0) (Fine : List Step → Type 0) (airs : Airs) (boxes s n bis : ℕ) → Turns Q Fine airs boxes s n bis → (step : Step) (earlier : List Step)
-    → Before Q Fine airs boxes s n bis step earlier
-    → InTurn Q s n bis (mine_in s n earlier) (place (sink_calls airs n earlier)) (next_in (steps_of_source s (step ∷ earlier)))
+-- ---- a step by which the stay goes on, or the sink stays where it isn't on the source's group
+
+on_turn : (Q : ℕ → List Closed → List Handed → Type 0) (Fine : List Step → Type 0) (airs : Airs) (boxes s n bis : ℕ) (step : Step) (earlier : List Step)
+    → Before Q Fine airs boxes s n bis step earlier → is_tuned n earlier step ≡ false → here_at airs s n (step ∷ earlier) ≡ here_at airs s n earlier → InTurnAt Q airs s n bis (step ∷ earlier)
+on_turn Q Fine airs boxes s n bis step earlier before begins_not same =
+    same_turn Q s n bis (here_at airs s n earlier) (here_at airs s n (step ∷ earlier)) (is_made n earlier step) (is_tuned n earlier step) (next_in (steps_of_source s (step ∷ earlier)))
     (closed_from (is_made n) airs s n earlier ++ closed_by airs s n earlier step) (closed_from (is_tuned n) airs s n earlier ++ closed_by airs s n earlier step)
-    (handed_since (is_made n) airs earlier ++ handed_by airs earlier step) (handed_since (is_tuned n) airs earlier ++ handed_by airs earlier step)
-kept Q Fine airs boxes s n bis turns step earlier before =
-    goes_on Q turns.rises s n bis (mine_in s n earlier) (place (sink_calls airs n earlier)) (next_in (steps_of_source s earlier)) (next_in (steps_of_source s (step ∷ earlier)))
+    (handed_since (is_made n) airs earlier ++ handed_by airs earlier step) (handed_since (is_tuned n) airs earlier ++ handed_by airs earlier step) same before.still begins_not
+    (goes_on Q before.turns.rises s n bis (here_at airs s n earlier) (next_in (steps_of_source s earlier)) (next_in (steps_of_source s (step ∷ earlier)))
     (closed_from (is_made n) airs s n earlier) (closed_from (is_tuned n) airs s n earlier) (closed_by airs s n earlier step) (handed_since (is_made n) airs earlier)
     (handed_since (is_tuned n) airs earlier) (handed_by airs earlier step) before.more (none_closed airs s n step earlier)
-    (none_shown airs boxes s n bis step earlier (turns.legal earlier before.fine) turns.source_within turns.sink_within) before.all
+    (none_shown airs boxes s n bis step earlier before.legal_is.0 before.turns.source_within before.turns.sink_within) before.all)
 
--- the same where the step's source and beginnings are those before it
-kept_there : (Q : ℕ → List Closed → List Handed → Type 0) (Fine : List Step → Type 0) (airs : Airs) (boxes s n bis : ℕ) → Turns Q Fine airs boxes s n bis → (step : Step) (earlier : List Step)
-    → Before Q Fine airs boxes s n bis step earlier → is_made n step ≡ false → is_tuned n step ≡ false → source_after n step earlier (source_of n earlier) ≡ source_of n earlier
-    → InTurn Q s n bis (mine_in s n earlier) (place (sink_calls airs n (step ∷ earlier))) (next_in (steps_of_source s (step ∷ earlier)))
-    (closed_from (is_made n) airs s n earlier ++ closed_by airs s n earlier step) (closed_from (is_tuned n) airs s n earlier ++ closed_by airs s n earlier step)
-    (handed_since (is_made n) airs earlier ++ handed_by airs earlier step) (handed_since (is_tuned n) airs earlier ++ handed_by airs earlier step)
-kept_there Q Fine airs boxes s n bis turns step earlier before made tuned same =
-    other_place Q s n bis (mine_in s n earlier) (place (sink_calls airs n earlier)) (place (sink_calls airs n (step ∷ earlier))) (next_in (steps_of_source s (step ∷ earlier)))
-    (closed_from (is_made n) airs s n earlier ++ closed_by airs s n earlier step) (closed_from (is_tuned n) airs s n earlier ++ closed_by airs s n earlier step)
-    (handed_since (is_made n) airs earlier ++ handed_by airs earlier step) (handed_since (is_tuned n) airs earlier ++ handed_by airs earlier step)
-    (λ mine. elim (place_stays airs n step earlier (sink_calls airs n earlier) made tuned) [
-      | inl stays ↦ stays
-      | inr none ↦ absurd (none-some s (sym none ∙ same ∙ is_its s (source_of n earlier) mine))
-    ])
-    (kept Q Fine airs boxes s n bis turns step earlier before)
+-- the place and the source are the same
+pub still_turn : (Q : ℕ → List Closed → List Handed → Type 0) (Fine : List Step → Type 0) (airs : Airs) (boxes s n bis : ℕ) (step : Step) (earlier : List Step)
+    → Before Q Fine airs boxes s n bis step earlier → is_tuned n earlier step ≡ false → source_of n (step ∷ earlier) ≡ source_of n earlier
+    → place (sink_calls airs n (step ∷ earlier)) ≡ place (sink_calls airs n earlier) → InTurnAt Q airs s n bis (step ∷ earlier)
+still_turn Q Fine airs boxes s n bis step earlier before begins_not source_same same =
+    on_turn Q Fine airs boxes s n bis step earlier before begins_not
+    (ap (λ source. stay_if (is_of s source) (sink_calls airs n (step ∷ earlier))) source_same ∙ ap (λ p. cond (mine_in s n earlier) p None) same)
 
--- all entries so far, where a stay may end
-all_past : (Q : ℕ → List Closed → List Handed → Type 0) (Fine : List Step → Type 0) (airs : Airs) (boxes s n bis : ℕ) → Turns Q Fine airs boxes s n bis → (earlier : List Step) → Fine earlier
-    → InTurnAt Q airs s n bis earlier → (later : ℕ) → next_in (steps_of_source s earlier) ≤ later
-    → Q later (closed_from (is_made n) airs s n earlier ++ []) (shown s n bis (handed_since (is_made n) airs earlier ++ []))
-all_past Q Fine airs boxes s n bis turns earlier fine all later more =
-    subst (λ closed. Q later closed (shown s n bis (handed_since (is_made n) airs earlier ++ []))) (sym (append-nil (closed_from (is_made n) airs s n earlier)))
-    (subst (λ units. Q later (closed_from (is_made n) airs s n earlier) (shown s n bis units)) (sym (append-nil (handed_since (is_made n) airs earlier)))
-    (turns.rises (next_in (steps_of_source s earlier)) later (closed_from (is_made n) airs s n earlier) (shown s n bis (handed_since (is_made n) airs earlier)) more
-    (at_end Q Fine airs boxes s n bis turns earlier fine (mine_in s n earlier) refl (place (sink_calls airs n earlier)) refl all)))
+-- ---- a step by which a stay is over, or another begins: all that came is past
 
-made_turn : (Q : ℕ → List Closed → List Handed → Type 0) → ((e : ℕ) → Q e [] [])
-    → (s n bis : ℕ) (again : Bool) (source : Option ℕ) (calls : List Call) (next : ℕ) (closed now : List Closed) (units units_now : List SinkUnit)
-    → InTurn Q s n bis (is_of s source) (place calls) next closed now units units_now
-    → InTurn Q s n bis (is_of s (cond again None source)) (place (cond again [] calls)) next (cond again [] closed) now (cond again [] units) units_now
-made_turn Q none s n bis true source calls next closed now units units_now all = anew Q none s n bis None next now units_now
-made_turn Q none s n bis false source calls next closed now units units_now all = all
+past_list : {A : Type 0} (made : Bool) (xs more : List A) → made ≡ false → more ≡ [] → cond made [] (xs ++ more) ≡ xs
+past_list true xs more made_not none = absurd (false≢true (sym made_not))
+past_list false xs more made_not none = ap (λ ys. xs ++ ys) none ∙ append-nil xs
 
-drop_turn : (Q : ℕ → List Closed → List Handed → Type 0) → (s n bis : ℕ) (gone : Bool) (source : Option ℕ) (calls : List Call) (next : ℕ) (closed now : List Closed) (units units_now : List SinkUnit)
-    → Q next closed (shown s n bis units) → InTurn Q s n bis (is_of s source) (place calls) next closed now units units_now
-    → InTurn Q s n bis (is_of s (cond gone None source)) (place (cond gone [] calls)) next closed now units units_now
-drop_turn Q s n bis true source calls next closed now units units_now past all = begins_anew Q s n bis false None next closed now units units_now past refl refl
-drop_turn Q s n bis false source calls next closed now units units_now past all = all
+-- the stay has nothing yet
+abbrev IsFresh : Option Tuning → Bool → Type 0
+IsFresh here begins = (here ≡ None) ⊎ (begins ≡ true)
 
-put_claim : (Q : ℕ → List Closed → List Handed → Type 0) (mine : Bool) (on : Tuning) (next : ℕ) (closed : List Closed) (entries : List Handed) → ((later : ℕ) → (mine ≡ true
-    → later ≡ on.first) → (mine ≡ false → later ≡ next) → Q later closed entries)
-    → Q (first_of (cond mine (Some on) None) next) closed entries
-put_claim Q true on next closed entries past = past on.first (λ is. refl) (λ is. absurd (false≢true (sym is)))
-put_claim Q false on next closed entries past = past next (λ is. absurd (false≢true is)) (λ is. refl)
-
-put_turn : (Q : ℕ → List Closed → List Handed → Type 0) → (s n bis : ℕ) (put : Bool) (chosen : ℕ) (on : Tuning) (source : Option ℕ) (calls : List Call) (next : ℕ)
-    (closed now : List Closed) (units units_now : List SinkUnit)
-    → ((later : ℕ) → ((chosen == s) ≡ true → later ≡ on.first) → ((chosen == s) ≡ false → later ≡ next) → Q later closed (shown s n bis units))
-    → InTurn Q s n bis (is_of s source) (place calls) next closed now units units_now
-    → InTurn Q s n bis (is_of s (cond put (Some chosen) source)) (place (cond put (tune on ∷ calls) calls)) next closed (cond put [] now) units (cond put [] units_now)
-put_turn Q s n bis true chosen on source calls next closed now units units_now past all =
-    begins_anew Q s n bis (chosen == s) (Some on) next closed [] units [] (put_claim Q (chosen == s) on next closed (shown s n bis units) past) (cond_none (chosen == s)) (cond_none (chosen == s))
-put_turn Q s n bis false chosen on source calls next closed now units units_now past all = all
-
-put_later : (Q : ℕ → List Closed → List Handed → Type 0) (Fine : List Step → Type 0) (airs : Airs) (boxes s n bis : ℕ) → Turns Q Fine airs boxes s n bis → (step : Step) (earlier : List Step)
-    → Before Q Fine airs boxes s n bis step earlier → (which : ℕ) (later : ℕ)
-    → ((chosen_of earlier == s) ≡ true → later ≡ (tuning_of (chosen_steps earlier) which).first) → ((chosen_of earlier == s) ≡ false → later ≡ next_in (steps_of_source s (step ∷ earlier)))
-    → Q later (closed_from (is_made n) airs s n earlier ++ []) (shown s n bis (handed_since (is_made n) airs earlier ++ []))
-put_later Q Fine airs boxes s n bis turns step earlier before which later same other =
-    all_past Q Fine airs boxes s n bis turns earlier before.fine before.all later (elim (cases_Bool (chosen_of earlier == s)) [
-      | inl mine ↦
-          let at : (tuning_of (chosen_steps earlier) which).first ≡ next_in (steps_of_source s earlier) = ap (λ t. next_in (steps_of_source t earlier)) (eqb-true (chosen_of earlier) s mine) in
-          omega (arith, same mine, at)
-      | inr apart ↦ omega (arith, other apart, before.more)
-    ])
-
-turn_after : (Q : ℕ → List Closed → List Handed → Type 0) (Fine : List Step → Type 0) (airs : Airs) (boxes s n bis : ℕ) → Turns Q Fine airs boxes s n bis → (step : Step) (earlier : List Step)
-    → Before Q Fine airs boxes s n bis step earlier → InTurnAt Q airs s n bis (step ∷ earlier)
-turn_after Q Fine airs boxes s n bis turns (steps.Sink sink streams slots mtu) earlier before =
-    made_turn Q turns.none s n bis (sink == n) (source_of n earlier) (sink_calls airs n earlier) (next_in (steps_of_source s (steps.Sink sink streams slots mtu ∷ earlier))) _ _ _ _
-    (kept Q Fine airs boxes s n bis turns (steps.Sink sink streams slots mtu) earlier before)
-turn_after Q Fine airs boxes s n bis turns (steps.Drop sink) earlier before =
-    drop_turn Q s n bis (sink == n) (source_of n earlier) (sink_calls airs n earlier) (next_in (steps_of_source s (steps.Drop sink ∷ earlier))) _ _ _ _
-    (all_past Q Fine airs boxes s n bis turns earlier before.fine before.all (next_in (steps_of_source s (steps.Drop sink ∷ earlier))) before.more)
-    (kept Q Fine airs boxes s n bis turns (steps.Drop sink) earlier before)
-turn_after Q Fine airs boxes s n bis turns (steps.Tuned sink which) earlier before =
-    put_turn Q s n bis (sink == n) (chosen_of earlier) (tuning_of (chosen_steps earlier) which) (source_of n earlier) (sink_calls airs n earlier)
-    (next_in (steps_of_source s (steps.Tuned sink which ∷ earlier))) _ _ _ _
-    (put_later Q Fine airs boxes s n bis turns (steps.Tuned sink which) earlier before which)
-    (kept Q Fine airs boxes s n bis turns (steps.Tuned sink which) earlier before)
-turn_after Q Fine airs boxes s n bis turns (steps.Hear sink back bis' subevent) earlier before =
-    kept_there Q Fine airs boxes s n bis turns (steps.Hear sink back bis' subevent) earlier before refl refl refl
-turn_after Q Fine airs boxes s n bis turns (steps.Air sink lose) earlier before = kept_there Q Fine airs boxes s n bis turns (steps.Air sink lose) earlier before refl refl refl
-turn_after Q Fine airs boxes s n bis turns (steps.Inject sink back bis' subevent octets) earlier before =
-    kept_there Q Fine airs boxes s n bis turns (steps.Inject sink back bis' subevent octets) earlier before refl refl refl
-turn_after Q Fine airs boxes s n bis turns steps.Event earlier before = kept_there Q Fine airs boxes s n bis turns steps.Event earlier before refl refl refl
-turn_after Q Fine airs boxes s n bis turns steps.Stop earlier before = kept_there Q Fine airs boxes s n bis turns steps.Stop earlier before refl refl refl
-turn_after Q Fine airs boxes s n bis turns (steps.Terminate reason) earlier before = kept_there Q Fine airs boxes s n bis turns (steps.Terminate reason) earlier before refl refl refl
-turn_after Q Fine airs boxes s n bis turns steps.End earlier before = kept_there Q Fine airs boxes s n bis turns steps.End earlier before refl refl refl
-turn_after Q Fine airs boxes s n bis turns step earlier before = kept Q Fine airs boxes s n bis turns step earlier before
-
-made_again : (Q : ℕ → List Closed → List Handed → Type 0) → ((e : ℕ) → Q e [] []) → (s n bis : ℕ) (again : Bool) → again ≡ true
-    → (source : Option ℕ) (calls : List Call) (next : ℕ) (closed now : List Closed) (units units_now : List SinkUnit)
-    → InTurn Q s n bis (is_of s (cond again None source)) (place (cond again [] calls)) next (cond again [] closed) now (cond again [] units) units_now
-made_again Q none s n bis true is source calls next closed now units units_now = anew Q none s n bis None next now units_now
-made_again Q none s n bis false is source calls next closed now units units_now = absurd (false≢true is)
-
-made_none : (Q : ℕ → List Closed → List Handed → Type 0) (Fine : List Step → Type 0) (airs : Airs) (boxes s n bis : ℕ) → Turns Q Fine airs boxes s n bis → (step : Step) (earlier : List Step)
-    → is_made n step ≡ true → InTurnAt Q airs s n bis (step ∷ earlier)
-made_none Q Fine airs boxes s n bis turns (steps.Sink sink streams slots mtu) earlier made =
-    made_again Q turns.none s n bis (sink == n) made (source_of n earlier) (sink_calls airs n earlier) (next_in (steps_of_source s (steps.Sink sink streams slots mtu ∷ earlier)))
-    (closed_from (is_made n) airs s n earlier ++ []) (closed_from (is_tuned n) airs s n earlier ++ []) (handed_since (is_made n) airs earlier ++ []) (handed_since (is_tuned n) airs earlier ++ [])
-made_none Q Fine airs boxes s n bis turns _ earlier made = absurd (false≢true made)
-
-turn : (Q : ℕ → List Closed → List Handed → Type 0) (Fine : List Step → Type 0) (airs : Airs) (boxes s n bis : ℕ) → Turns Q Fine airs boxes s n bis → (made : List Step) → Fine made
-    → InTurnAt Q airs s n bis made
-turn Q Fine airs boxes s n bis turns [] fine = anew Q turns.none s n bis None (next_in []) [] []
-turn Q Fine airs boxes s n bis turns (step ∷ earlier) fine = elim (cases_Bool (is_made n step)) [
-  | inl made ↦ made_none Q Fine airs boxes s n bis turns step earlier made
-  | inr still ↦
-      let before : Fine earlier = turns.before step earlier still fine in
-      turn_after Q Fine airs boxes s n bis turns step earlier (record {
-        fine = before;
-        all = turn Q Fine airs boxes s n bis turns earlier before;
-        more = next_rises airs boxes s earlier step (turns.legal (step ∷ earlier) fine);
-      })
+fresh_closed : (here : Option Tuning) (begins : Bool) (closed : List Closed) → IsFresh here begins → in_stay here (cond begins [] closed) ≡ []
+fresh_closed here begins closed fresh = elim fresh [
+  | inl nowhere ↦ ap (λ h. in_stay h (cond begins [] closed)) nowhere
+  | inr anew ↦ ap (λ b. in_stay here (cond b [] closed)) anew ∙ in_stay_none here
 ]
 
--- the claim holds of all events and entries
-pub over_stays : (Q : ℕ → List Closed → List Handed → Type 0) (Fine : List Step → Type 0) (airs : Airs) (boxes s n bis : ℕ) → Turns Q Fine airs boxes s n bis → (made : List Step) → Fine made
-    → Q (next_in (steps_of_source s made)) (closed_since airs s n made) (shown_since (is_made n) airs s n bis made)
-over_stays Q Fine airs boxes s n bis turns made fine =
-    subst (λ closed. Q (next_in (steps_of_source s made)) closed (shown_since (is_made n) airs s n bis made)) (all_closed airs s n made)
-    (at_end Q Fine airs boxes s n bis turns made fine (mine_in s n made) refl (place (sink_calls airs n made)) refl (turn Q Fine airs boxes s n bis turns made fine))
+fresh_shown : (s n bis : ℕ) (here : Option Tuning) (begins : Bool) (units : List SinkUnit) → IsFresh here begins → in_stay here (shown s n bis (cond begins [] units)) ≡ []
+fresh_shown s n bis here begins units fresh = elim fresh [
+  | inl nowhere ↦ ap (λ h. in_stay h (shown s n bis (cond begins [] units))) nowhere
+  | inr anew ↦ ap (λ b. in_stay here (shown s n bis (cond b [] units))) anew ∙ in_stay_none here
+]
+
+anew_turn : (Q : ℕ → List Closed → List Handed → Type 0) (Fine : List Step → Type 0) (airs : Airs) (boxes s n bis : ℕ) (step : Step) (earlier : List Step)
+    → Before Q Fine airs boxes s n bis step earlier → closed_by airs s n earlier step ≡ [] → handed_by airs earlier step ≡ []
+    → next_in (steps_of_source s earlier) ≤ first_of (here_at airs s n (step ∷ earlier)) (next_in (steps_of_source s (step ∷ earlier)))
+    → IsFresh (here_at airs s n (step ∷ earlier)) (is_tuned n earlier step) → InTurnAt Q airs s n bis (step ∷ earlier)
+anew_turn Q Fine airs boxes s n bis step earlier before no_closed no_shown least fresh =
+    let later : ℕ = first_of (here_at airs s n (step ∷ earlier)) (next_in (steps_of_source s (step ∷ earlier))) in
+    let known : Q later (closed_from (is_made n) airs s n earlier) (shown s n bis (handed_since (is_made n) airs earlier)) =
+    before.turns.rises (next_in (steps_of_source s earlier)) later (closed_from (is_made n) airs s n earlier) (shown s n bis (handed_since (is_made n) airs earlier)) least
+    (at_end Q Fine airs boxes s n bis before.turns earlier before.fine (here_at airs s n earlier) refl before.all) in
+    let past : List Closed = closed_from (is_made n) airs s n (step ∷ earlier) in
+    let entries : List Handed = shown s n bis (handed_since (is_made n) airs (step ∷ earlier)) in
+    record {
+      past = past;
+      entries = entries;
+      claim = subst (λ closed. Q later closed entries) (sym (past_list (is_made n earlier step) (closed_from (is_made n) airs s n earlier) (closed_by airs s n earlier step) before.still no_closed))
+          (subst (λ units. Q later (closed_from (is_made n) airs s n earlier) (shown s n bis units))
+          (sym (past_list (is_made n earlier step) (handed_since (is_made n) airs earlier) (handed_by airs earlier step) before.still no_shown)) known);
+      closed_is = sym (ap (λ xs. past ++ xs)
+          (fresh_closed (here_at airs s n (step ∷ earlier)) (is_tuned n earlier step) (closed_from (is_tuned n) airs s n earlier ++ closed_by airs s n earlier step) fresh)
+          ∙ append-nil past);
+      shown_is = sym (ap (λ xs. entries ++ xs)
+          (fresh_shown s n bis (here_at airs s n (step ∷ earlier)) (is_tuned n earlier step) (handed_since (is_tuned n) airs earlier ++ handed_by airs earlier step) fresh)
+          ∙ append-nil entries);
+    }
+
+-- the sink is on no group then
+pub off_turn : (Q : ℕ → List Closed → List Handed → Type 0) (Fine : List Step → Type 0) (airs : Airs) (boxes s n bis : ℕ) (step : Step) (earlier : List Step)
+    → Before Q Fine airs boxes s n bis step earlier → closed_by airs s n earlier step ≡ [] → handed_by airs earlier step ≡ []
+    → place (sink_calls airs n (step ∷ earlier)) ≡ None → InTurnAt Q airs s n bis (step ∷ earlier)
+off_turn Q Fine airs boxes s n bis step earlier before no_closed no_shown nowhere =
+    let none : here_at airs s n (step ∷ earlier) ≡ None = no_stay (mine_in s n (step ∷ earlier)) (sink_calls airs n (step ∷ earlier)) nowhere in
+    anew_turn Q Fine airs boxes s n bis step earlier before no_closed no_shown
+    (subst (λ here. next_in (steps_of_source s earlier) ≤ first_of here (next_in (steps_of_source s (step ∷ earlier)))) (sym none) before.more) (inl none)
+
+-- it is put on this group of the chosen source, from the source's next event on
+put_least : (chosen s : ℕ) (on : Tuning) (rest : List Call) (next next' : ℕ) → next ≤ next' → ((chosen == s) ≡ true → on.first ≡ next) → (mine : Bool) → (chosen == s) ≡ mine
+    → next ≤ first_of (stay_if mine (tune on ∷ rest)) next'
+put_least chosen s on rest next next' more first true is = omega (arith, first is)
+put_least chosen s on rest next next' more first false is = more
+
+pub put_turn : (Q : ℕ → List Closed → List Handed → Type 0) (Fine : List Step → Type 0) (airs : Airs) (boxes s n bis : ℕ) (step : Step) (earlier : List Step) (on : Tuning)
+    → Before Q Fine airs boxes s n bis step earlier → closed_by airs s n earlier step ≡ [] → handed_by airs earlier step ≡ [] → is_tuned n earlier step ≡ true
+    → sink_calls airs n (step ∷ earlier) ≡ tune on ∷ sink_calls airs n earlier → source_of n (step ∷ earlier) ≡ Some (chosen_of earlier) → on.first ≡ next_in (chosen_steps earlier)
+    → InTurnAt Q airs s n bis (step ∷ earlier)
+put_turn Q Fine airs boxes s n bis step earlier on before no_closed no_shown begins calls_is source_is first_is =
+    let here : here_at airs s n (step ∷ earlier) ≡ stay_if (chosen_of earlier == s) (tune on ∷ sink_calls airs n earlier) =
+    ap (λ source. stay_if (is_of s source) (sink_calls airs n (step ∷ earlier))) source_is ∙ ap (stay_if (chosen_of earlier == s)) calls_is in
+    anew_turn Q Fine airs boxes s n bis step earlier before no_closed no_shown
+    (subst (λ h. next_in (steps_of_source s earlier) ≤ first_of h (next_in (steps_of_source s (step ∷ earlier)))) (sym here)
+    (put_least (chosen_of earlier) s on (sink_calls airs n earlier) (next_in (steps_of_source s earlier)) (next_in (steps_of_source s (step ∷ earlier))) before.more
+    (λ mine. first_is ∙ ap (λ t. next_in (steps_of_source t earlier)) (eqb-true (chosen_of earlier) s mine)) (chosen_of earlier == s) refl))
+    (inr begins)

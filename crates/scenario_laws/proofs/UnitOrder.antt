@@ -26,20 +26,21 @@ use Rattle.scenario_history.specs.Source.{Airs, is_started, setup_of, source_cal
 use Rattle.scenario_history.specs.Airs.{MeetAirs}
 use Rattle.scenario_history.specs.Sinks.{sink_calls}
 use Rattle.scenario_laws.specs.SourceUnits.{InUnitOrder, IsOfUnit, anchor_in, by_payload, time_in, whole_stay}
-use Rattle.scenario_laws.specs.Laws.{Closed, calls_on, injected_since, is_injected, is_made, is_tuned, shown_since}
+use Rattle.scenario_laws.specs.Laws.{Closed, calls_on, given_since_made, injected_since, is_given, is_injected, is_made, is_tuned, shown_since}
 use Rattle.scenario_laws.proofs.Below.{Below}
 use Rattle.scenario_laws.proofs.Legals.{Legal}
 use Rattle.scenario_laws.proofs.Sources.{Lawful, lawful, true_not_false}
 use Rattle.scenario_laws.proofs.Wholes.{Within, goes, next_in, within_before, within_itself}
-use Rattle.scenario_laws.proofs.Stays.{OnSource, TunedTo, on_source}
+use Rattle.scenario_laws.proofs.Stays.{OnSource, TunedTo, on_source, rest_not}
 use Rattle.scenario_laws.proofs.Closes.{climbs}
 use Rattle.scenario_laws.proofs.UnitsLaw.{since}
-use Rattle.scenario_laws.proofs.InOrder.{clean_before, clean_stay}
+use Rattle.scenario_laws.proofs.InOrder.{clean_stay}
 use Rattle.scenario_laws.proofs.FramedCalls.{laid_by}
 use Rattle.scenario_laws.proofs.FramedSends.{FramedWhole, laid_end, sent_in_order}
 use Rattle.scenario_laws.proofs.FramedStays.{heard_least, mul_least, next_of_whole, opened_least, opened_within, stay_decided, stay_on_whole, taken_within, whole_units}
 use Rattle.scenario_laws.proofs.Entries.{Gives, IsEntry, IsNumbered, Numbered, Ordered, are_numbered, has_entry, le_total, ordered_later, ordered_none, ordered_on}
-use Rattle.scenario_laws.proofs.StaysInTurn.{OverStay, Turns, over_stays}
+use Rattle.scenario_laws.proofs.StaysInTurn.{OverStay, Turns}
+use Rattle.scenario_laws.proofs.Turning.{over_stays}
 
 -- ---- units by payload numbers
 
@@ -169,6 +170,7 @@ stay_gives setup whole tuning bis calls some on opens n unit sent long =
 record Fine (airs : Airs) (boxes s n : ℕ) (setup : Setup) (whole : List SourceCall) (all_started : Type 0) (made : List Step) : Type 0 where
   pub legal_is : Legal airs boxes made
   pub within : Within setup whole (steps_of_source s made)
+  pub ungiven : given_since_made n made ≡ false
   pub clean : injected_since (is_made n) n made ≡ false
   pub started : is_started (steps_of_source s made) ≡ true → all_started
 
@@ -181,10 +183,10 @@ over : Below → (airs : Airs) → MeetAirs airs → (boxes s n bis : ℕ) (setu
     → OverStay (Claim setup whole bis ns units) (Fine airs boxes s n setup whole all_started) airs s n bis
 over below airs meets boxes s n bis setup whole all_started ns units source_within sink_within least greatest is_framed numbered facts made fine tuning is past entries claim =
     let own : List Step = steps_of_source s made in
-    let on : OnSource own tuning = on_source airs boxes s n made tuning fine.legal_is is in
-    let to : TunedTo setup tuning = stay_on_whole airs boxes s n setup whole made tuning fine.legal_is fine.within is in
+    let on : OnSource own tuning = on_source below.announcing airs boxes s n made tuning fine.legal_is is in
+    let to : TunedTo setup tuning = stay_on_whole below.announcing airs boxes s n setup whole made tuning fine.legal_is fine.within is in
     let bn_is : tuning.info.bn ≡ setup.info.bn = ap (λ (i : BigInfo). i.bn) to.info in
-    let clean : injected_since (is_tuned n) n made ≡ false = clean_stay airs s n made tuning is fine.clean in
+    let clean : injected_since (is_tuned n) n made ≡ false = clean_stay airs s n made tuning is fine.ungiven fine.clean in
     let opens : opened (stay_on tuning bis) (calls_on airs made n tuning bis) ≤ next_in own = opened_within below airs boxes s n bis made tuning fine.legal_is source_within is in
     let shown : shown_since (is_tuned n) airs s n bis made ≡ of_stream bis (ticked_since (sink_calls airs n made)) =
     ap (of_stream bis) (since airs boxes s n made tuning fine.legal_is source_within sink_within is) in
@@ -227,30 +229,33 @@ record Known (airs : Airs) (setup : Setup) (whole : List SourceCall) (bis : ℕ)
   pub facts : all_started → bis ≤ setup.info.num_bis → FramedWhole airs setup whole bis units
 
 in_order : Below → (airs : Airs) → MeetAirs airs → (boxes s n bis : ℕ) (made : List Step) → Legal airs boxes made → (setup_of (steps_of_source s made)).info.framing ≡ 1 → s ≤ 1 → n ≤ 7 → 1 ≤ bis
-    → bis ≤ 31 → injected_since (is_made n) n made ≡ false → (all_started : Type 0) → (is_started (steps_of_source s made) ≡ true → all_started)
+    → bis ≤ 31 → given_since_made n made ≡ false → injected_since (is_made n) n made ≡ false → (all_started : Type 0) → (is_started (steps_of_source s made) ≡ true → all_started)
     → Known airs (setup_of (steps_of_source s made)) (source_calls (steps_of_source s made)) bis all_started
     → InUnitOrder (setup_of (steps_of_source s made)) (source_calls (steps_of_source s made)) bis (shown_since (is_made n) airs s n bis made)
-in_order below airs meets boxes s n bis made legal is_framed source_within sink_within least greatest clean all_started started known =
+in_order below airs meets boxes s n bis made legal is_framed source_within sink_within least greatest ungiven clean all_started started known =
     let own : List Step = steps_of_source s made in
     let setup : Setup = setup_of own in
     let whole : List SourceCall = source_calls own in
     let E : ℕ → Handed → Type 0 = IsOfUnit setup whole bis in
     let turns : Turns (Claim setup whole bis known.ns known.units) (Fine airs boxes s n setup whole all_started) airs boxes s n bis = record {
+      laws = below.announcing;
       none = λ e. ordered_none (IsSent setup whole bis) E (e * setup.info.bn) known.ns known.units known.numbered;
       rises = λ e later closed entries more claim. ordered_later E (e * setup.info.bn) (later * setup.info.bn) known.ns known.units entries (mul-le-mul more (omega arith)) claim;
       over = over below airs meets boxes s n bis setup whole all_started known.ns known.units source_within sink_within least greatest is_framed known.numbered known.facts;
       legal = λ part fine. fine.legal_is;
+      ungiven = λ part fine. fine.ungiven;
       before = λ step earlier still fine. record {
         legal_is = fine.legal_is.0;
         within = within_before airs boxes s setup whole earlier step fine.legal_is fine.within;
-        clean = clean_before (is_made n step) (is_injected n step) (injected_since (is_made n) n earlier) fine.clean still;
+        ungiven = rest_not (is_made n earlier step) (is_given n step) (given_since_made n earlier) fine.ungiven still;
+        clean = rest_not (is_made n earlier step) (is_injected n step) (injected_since (is_made n) n earlier) fine.clean still;
         started = λ started_then. fine.started (goes airs boxes s earlier step fine.legal_is started_then).started;
       };
       source_within = source_within;
       sink_within = sink_within;
     } in
     let all = over_stays (Claim setup whole bis known.ns known.units) (Fine airs boxes s n setup whole all_started) airs boxes s n bis turns made
-    (record { legal_is = legal; within = within_itself own; clean = clean; started = started }) in
+    (record { legal_is = legal; within = within_itself own; ungiven = ungiven; clean = clean; started = started }) in
     record { numbers = all.all.numbers; rising = climbs 0 all.all.numbers all.all.high all.all.climb; each = all.all.each }
 
 known_units : Below → (airs : Airs) → MeetAirs airs → (own : List Step) (bis : ℕ) → Lawful airs own → is_started own ≡ true → (setup_of own).info.framing ≡ 1 → 1 ≤ bis
@@ -271,13 +276,13 @@ known_units below airs meets own bis legal started is_framed least = elim (le_to
 ]
 
 pub entries_in_order : Below → (airs : Airs) → MeetAirs airs → (boxes s n bis : ℕ) (made : List Step) → Legal airs boxes made → (setup_of (steps_of_source s made)).info.framing ≡ 1 → s ≤ 1 → n ≤ 7
-    → 1 ≤ bis → bis ≤ 31 → injected_since (is_made n) n made ≡ false
+    → 1 ≤ bis → bis ≤ 31 → given_since_made n made ≡ false → injected_since (is_made n) n made ≡ false
     → InUnitOrder (setup_of (steps_of_source s made)) (source_calls (steps_of_source s made)) bis (shown_since (is_made n) airs s n bis made)
-entries_in_order below airs meets boxes s n bis made legal is_framed source_within sink_within least greatest clean = elim (cases_Bool (is_started (steps_of_source s made))) [
+entries_in_order below airs meets boxes s n bis made legal is_framed source_within sink_within least greatest ungiven clean = elim (cases_Bool (is_started (steps_of_source s made))) [
   | inl started ↦
-      in_order below airs meets boxes s n bis made legal is_framed source_within sink_within least greatest clean (Unit {0}) (λ is. tt)
+      in_order below airs meets boxes s n bis made legal is_framed source_within sink_within least greatest ungiven clean (Unit {0}) (λ is. tt)
       (known_units below airs meets (steps_of_source s made) bis (lawful airs boxes s made legal) started is_framed least)
   | inr idle ↦
-      in_order below airs meets boxes s n bis made legal is_framed source_within sink_within least greatest clean ⊥ (λ is. true_not_false (is_started (steps_of_source s made)) is idle)
+      in_order below airs meets boxes s n bis made legal is_framed source_within sink_within least greatest ungiven clean ⊥ (λ is. true_not_false (is_started (steps_of_source s made)) is idle)
       (record { ns = []; units = []; numbered = tt; facts = λ never below_num. absurd never })
 ]

@@ -31,12 +31,13 @@ use Rattle.scenario_history.specs.Sinks.{heard_on_air, is_lost, is_of, reaches, 
 use Rattle.scenario_history.specs.Boxes.{SinkUnit, handed_by}
 use Rattle.scenario_history.specs.Refusals.{give_refusal}
 use Rattle.scenario_history.specs.Lines.{steps_of}
-use Rattle.scenario_laws.specs.Laws.{UnitsLaw, calls_on, handed_since, injected_since, is_tuned, of_sink}
+use Rattle.scenario_laws.specs.Laws.{UnitsLaw, any_since, calls_on, handed_since, injected_since, is_given, is_tuned, of_sink}
 use Rattle.scenario_laws.proofs.Below.{Below}
 use Rattle.scenario_laws.proofs.Legals.{Legal, legal, maps_none}
 use Rattle.scenario_laws.proofs.Sources.{Allowed, Lawful, Settled, bounds_in, lawful, no_group_yet, settled}
 use Rattle.scenario_laws.proofs.Wholes.{within_itself}
-use Rattle.scenario_laws.proofs.Stays.{IsOn, IsThere, OnSource, PutBy, on_before, on_source}
+use Rattle.scenario_laws.proofs.Moves.{StaysBy, announced, given_stays, plain_stays}
+use Rattle.scenario_laws.proofs.Stays.{BeginsBy, IsOn, IsThere, OnSource, last_not, none_given, on_before, on_source, rest_not}
 use Rattle.scenario_laws.proofs.Hears.{all_own}
 use Rattle.scenario_laws.proofs.Plains.{sends_own}
 use Rattle.scenario_laws.proofs.FromSources.{from_source}
@@ -127,13 +128,13 @@ stay_struck below airs meets boxes s n bis made tuning legal is least plain_sour
     let own : List Step = steps_of_source s made in
     let own_legal : Lawful airs own = lawful airs boxes s made legal in
     let settles : Settled own = settled airs own own_legal in
-    let on : OnSource own tuning = on_source airs boxes s n made tuning legal is in
+    let on : OnSource own tuning = on_source below.announcing airs boxes s n made tuning legal is in
     let bounds : Bounds tuning.info = subst Bounds (sym on.tuned.info) (bounds_in own settles on.started) in
     let plain : tuning.info.framing ≡ 0 = ap (λ (i : BigInfo). i.framing) on.tuned.info ∙ plain_source in
     below.struck (stay_on tuning bis) (slots_of (setup_of own) (source_calls own) bis) (calls_on airs made n tuning bis) bounds plain
     (λ event slot unit has. subst (λ (i : BigInfo). length unit ≤ i.max_sdu) (sym on.tuned.info) (slot_short airs bis own own_legal event slot unit has))
     (from_source (stay_on tuning bis) (slots_of (setup_of own) (source_calls own) bis) (calls_on airs made n tuning bis)
-    (all_own airs (setup_of own) (source_calls own) (air_at (stay_on tuning bis) (slots_of (setup_of own) (source_calls own) bis)) tuning boxes s n bis made
+    (all_own below.announcing airs (setup_of own) (source_calls own) (air_at (stay_on tuning bis) (slots_of (setup_of own) (source_calls own) bis)) tuning boxes s n bis made
     (λ part its_legal started within. sends_own below airs meets (setup_of own) (source_calls own) tuning bis part its_legal started within on.tuned.info plain_source)
     legal (within_itself own) least is clean))
 
@@ -179,16 +180,16 @@ gone_since true calls tuning is = absurd (none-some tuning is)
 gone_since false calls tuning is = sym (append-nil (ticked_since calls))
 
 put_since : (s n : ℕ) (put : Bool) (on tuning : Tuning) (chosen : ℕ) (calls : List Call) (source : Option ℕ) (units : List SinkUnit)
-    → IsThere s tuning (cond put (tune on ∷ calls) calls) (cond put (Some chosen) source) → (IsThere s tuning calls source → of_sink s n units ≡ ticked_since calls)
+    → IsThere s tuning (cond put (tune on ∷ calls) calls) (cond put (Some chosen) source) → (IsThere s tuning calls source → put ≡ false → of_sink s n units ≡ ticked_since calls)
     → of_sink s n (cond put [] (units ++ [])) ≡ ticked_since (cond put (tune on ∷ calls) calls)
 put_since s n true on tuning chosen calls source units is before = refl
-put_since s n false on tuning chosen calls source units is before = ap (of_sink s n) (append-nil units) ∙ before is
+put_since s n false on tuning chosen calls source units is before = ap (of_sink s n) (append-nil units) ∙ before is refl
 
 abbrev Since : Airs → ℕ → ℕ → List Step → Type 0
 Since airs s n made = of_sink s n (handed_since (is_tuned n) airs made) ≡ ticked_since (sink_calls airs n made)
 
 -- a step that puts the sink nowhere
-still_since : (airs : Airs) (boxes s n : ℕ) (step : Step) (earlier : List Step) (tuning : Tuning) → Legal airs boxes earlier → s ≤ 1 → n ≤ 7 → (PutBy s n step earlier tuning → ⊥)
+still_since : (airs : Airs) (boxes s n : ℕ) (step : Step) (earlier : List Step) (tuning : Tuning) → Legal airs boxes earlier → s ≤ 1 → n ≤ 7 → (BeginsBy airs s n step earlier tuning → ⊥)
     → IsOn airs s n (step ∷ earlier) tuning → (IsOn airs s n earlier tuning → Since airs s n earlier)
     → (source_of n earlier ≡ Some s → ticked_since (sink_calls airs n (step ∷ earlier)) ≡ ticked_since (sink_calls airs n earlier) ++ shown_by airs s n earlier step)
     → of_sink s n (handed_since (is_tuned n) airs earlier ++ handed_by airs earlier step) ≡ ticked_since (sink_calls airs n (step ∷ earlier))
@@ -198,14 +199,37 @@ still_since airs boxes s n step earlier tuning legal least within never is since
       ∙ ap (λ us. us ++ of_sink s n (handed_by airs earlier step)) (since before)
       ∙ ap (λ us. ticked_since (sink_calls airs n earlier) ++ us) (step_shown airs boxes s n step earlier legal least within)
       ∙ sym (grow before.source_is)
-  | inr put ↦ absurd (never put)
+  | inr begins ↦ absurd (never begins)
 ]
+
+-- a step by which the receivers stay
+stays_since : (airs : Airs) (boxes s n : ℕ) (step : Step) (earlier : List Step) (tuning : Tuning) → StaysBy airs n step earlier → handed_by airs earlier step ≡ []
+    → IsOn airs s n (step ∷ earlier) tuning → (IsOn airs s n earlier tuning → Since airs s n earlier) → Since airs s n (step ∷ earlier)
+stays_since airs boxes s n step earlier tuning stays none is since =
+    let same : sink_calls airs n (step ∷ earlier) ≡ sink_calls airs n earlier = elim stays.left [
+      | inl same ↦ same
+      | inr gone ↦ absurd (none-some tuning (sym (ap place gone) ∙ is.place_is))
+    ] in
+    let before : IsOn airs s n earlier tuning = record {
+      place_is = ap place (sym same) ∙ is.place_is;
+      source_is = sym stays.same ∙ is.source_is;
+      ungiven = rest_not (is_tuned n earlier step) (is_given n step) (any_since (is_tuned n) (is_given n) earlier) is.ungiven stays.begins_not;
+    } in
+    ap (λ b. of_sink s n (cond b [] (handed_since (is_tuned n) airs earlier ++ handed_by airs earlier step))) stays.begins_not
+    ∙ ap (λ us. of_sink s n (handed_since (is_tuned n) airs earlier ++ us)) none
+    ∙ ap (of_sink s n) (append-nil (handed_since (is_tuned n) airs earlier))
+    ∙ since before ∙ ap ticked_since (sym same)
 
 since_after : (airs : Airs) (boxes s n : ℕ) (step : Step) (earlier : List Step) (tuning : Tuning) → Legal airs boxes earlier → s ≤ 1 → n ≤ 7 → IsOn airs s n (step ∷ earlier) tuning
     → (IsOn airs s n earlier tuning → Since airs s n earlier) → Since airs s n (step ∷ earlier)
 since_after airs boxes s n (steps.Tuned sink which) earlier tuning legal least within is since =
     put_since s n (sink == n) (tuning_of (chosen_steps earlier) which) tuning (chosen_of earlier) (sink_calls airs n earlier) (source_of n earlier)
-    (handed_since (is_tuned n) airs earlier) is since
+    (handed_since (is_tuned n) airs earlier) (record { place_is = is.place_is; source_is = is.source_is })
+    (λ there put_not. since (record {
+      place_is = there.place_is;
+      source_is = there.source_is;
+      ungiven = rest_not (sink == n) false (any_since (is_tuned n) (is_given n) earlier) is.ungiven put_not;
+    }))
 since_after airs boxes s n (steps.Sink sink streams slots mtu) earlier tuning legal least within is since =
     still_since airs boxes s n (steps.Sink sink streams slots mtu) earlier tuning legal least within (λ put. put) is since
     (λ its. gone_since (sink == n) (sink_calls airs n earlier) tuning is.place_is)
@@ -233,8 +257,21 @@ since_after airs boxes s n steps.End earlier tuning legal least within is since 
     ∙ tick_since (open_event (steps_of_source s earlier)) (sink_calls airs n earlier)
     ∙ ap (λ us. ticked_since (sink_calls airs n earlier) ++ us)
     (sym (own_if s (source_of n earlier) (handed_open (sink_calls airs n earlier) (open_event (steps_of_source s earlier))) its)))
+since_after airs boxes s n (steps.Announce sink) earlier tuning legal least within is since = elim (announced airs n sink earlier) [
+  | inl stays ↦ stays_since airs boxes s n (steps.Announce sink) earlier tuning stays refl is since
+  | inr goes ↦ elim goes [
+    | inl follows ↦ absurd (none-some tuning (sym (ap place follows.same ∙ follows.nowhere) ∙ is.place_is))
+    | inr put ↦
+        ap (λ b. of_sink s n (cond b [] (handed_since (is_tuned n) airs earlier ++ []))) put.begins_is
+        ∙ sym (ap ticked_since put.calls_is)
+  ]
+]
+since_after airs boxes s n (steps.Train sink time ext adv acad) earlier tuning legal least within is since =
+    stays_since airs boxes s n (steps.Train sink time ext adv acad) earlier tuning
+    (given_stays airs n sink time ext adv acad earlier
+    (last_not (is_tuned n earlier (steps.Train sink time ext adv acad)) (sink == n) (any_since (is_tuned n) (is_given n) earlier) is.ungiven)) refl is since
 since_after airs boxes s n step earlier tuning legal least within is since =
-    still_since airs boxes s n step earlier tuning legal least within (λ put. put) is since (λ its. sym (append-nil (ticked_since (sink_calls airs n earlier))))
+    stays_since airs boxes s n step earlier tuning (plain_stays airs n step earlier refl refl refl refl) refl is since
 
 pub since : (airs : Airs) (boxes s n : ℕ) (made : List Step) (tuning : Tuning) → Legal airs boxes made → s ≤ 1 → n ≤ 7 → IsOn airs s n made tuning → Since airs s n made
 since airs boxes s n [] tuning legal least within is = refl
@@ -247,18 +284,22 @@ pub record Numbers (s n : ℕ) : Type 0 where
   pub source_within : s ≤ 1
   pub sink_within : n ≤ 7
 
-put_numbers : (airs : Airs) (boxes s n : ℕ) (step : Step) (earlier : List Step) (tuning : Tuning) → Legal airs boxes earlier → IsInRange step → PutBy s n step earlier tuning → Numbers s n
-put_numbers airs boxes s n (steps.Tuned sink which) earlier tuning legal ranged put = record {
-  source_within = subst (λ t. t ≤ 1) put.1 (chosen_within airs boxes earlier legal);
-  sink_within = subst (λ m. m ≤ 7) (eqb-true sink n put.2) ranged;
+begins_numbers : (airs : Airs) (boxes s n : ℕ) (step : Step) (earlier : List Step) (tuning : Tuning) → Legal airs boxes earlier → IsInRange step → BeginsBy airs s n step earlier tuning → Numbers s n
+begins_numbers airs boxes s n (steps.Tuned sink which) earlier tuning legal ranged begins = record {
+  source_within = subst (λ t. t ≤ 1) begins.1 (chosen_within airs boxes earlier legal);
+  sink_within = subst (λ m. m ≤ 7) (eqb-true sink n begins.2) ranged;
 }
-put_numbers airs boxes s n _ earlier tuning legal ranged put = absurd put
+begins_numbers airs boxes s n (steps.Announce sink) earlier tuning legal ranged begins = record {
+  source_within = subst (λ t. t ≤ 1) begins.chosen_is (chosen_within airs boxes earlier legal);
+  sink_within = subst (λ m. m ≤ 7) (eqb-true sink n begins.put.brings.0) ranged;
+}
+begins_numbers airs boxes s n _ earlier tuning legal ranged begins = absurd begins
 
 pub numbers : (airs : Airs) (boxes s n : ℕ) (made : List Step) (tuning : Tuning) → Legal airs boxes made → IsOn airs s n made tuning → Numbers s n
 numbers airs boxes s n [] tuning legal is = absurd (none-some tuning is.place_is)
 numbers airs boxes s n (step ∷ earlier) tuning legal is = elim (on_before airs s n step earlier tuning is) [
   | inl before ↦ numbers airs boxes s n earlier tuning legal.0 before
-  | inr put ↦ put_numbers airs boxes s n step earlier tuning legal.0 legal.2 put
+  | inr begins ↦ begins_numbers airs boxes s n step earlier tuning legal.0 legal.2 begins
 ]
 
 -- ---- the law
@@ -266,11 +307,11 @@ numbers airs boxes s n (step ∷ earlier) tuning legal is = elim (on_before airs
 pub units_law_holds : Below → (starts : List Account) → UnitsLaw starts
 units_law_holds below starts airs meets lines accepted s n bis tuning there of_source taken clean =
     let lawful_steps : Legal airs (length starts) (steps_of lines) = legal below.in_range airs starts lines accepted in
-    let is : IsOn airs s n (steps_of lines) tuning = record { place_is = there; source_is = of_source } in
+    let is : IsOn airs s n (steps_of lines) tuning = record { place_is = there; source_is = of_source; ungiven = none_given (is_tuned n) n (steps_of lines) clean } in
     let are : Numbers s n = numbers airs (length starts) s n (steps_of lines) tuning lawful_steps is in
     let ticks : of_stream bis (of_sink s n (handed_since (is_tuned n) airs (steps_of lines))) ≡ of_stream bis (ticked_since (sink_calls airs n (steps_of lines))) =
     ap (of_stream bis) (since airs (length starts) s n (steps_of lines) tuning lawful_steps are.source_within are.sink_within is) in
-    let on : OnSource (steps_of_source s (steps_of lines)) tuning = on_source airs (length starts) s n (steps_of lines) tuning lawful_steps is in
+    let on : OnSource (steps_of_source s (steps_of lines)) tuning = on_source below.announcing airs (length starts) s n (steps_of lines) tuning lawful_steps is in
     let tuned_framing : tuning.info.framing ≡ (setup_of (steps_of_source s (steps_of lines))).info.framing = ap (λ (i : BigInfo). i.framing) on.tuned.info in
     record {
       unframed = λ plain.

@@ -1,5 +1,5 @@
 -- What the assistants of a sink know of it, by the lines of a scenario (Broadcast Audio Scan Service 1.0, section 3.2).
-use Rattle.std.specs.Prelude.{ℕ, ◌≡◌, ◌≢◌, ◌<◌, ◌∷◌, false, List, Some}
+use Rattle.std.specs.Prelude.{ℕ, ◌≡◌, ◌≢◌, ◌<◌, false, List, Some}
 use Rattle.bcast_io.specs.TextLines.{TextLine}
 use Rattle.link_histories.specs.Calls.{Call}
 use Rattle.link_histories.specs.Drains.{IsAnew, IsApart, LeavesLink, NoneTells, told_and_read}

@@ -10,6 +10,8 @@ ghost use Rattle.scenario_history.specs.Lines.{handed_on, rules_of};
 ghost use Rattle.scenario_history.specs.Transcript.{end_after, out_of, transcript_end, transcript_of, units_of};
 ghost use Rattle.scenario_laws.specs.Laws.{OrderLaw, UnitsLaw};
 
+use announced_groups::{a_sink_is_put_where_its_source_is, a_source_has_one_train};
+use announcement_train::an_announcement_is_read;
 use group_sink::{each_stream_hands_its_units, one_event_is_open};
 use isoal_framed::{a_framed_air_sends_units, framed_units_are_struck};
 use isoal_unframed::units_are_struck;
@@ -47,10 +49,10 @@ pub fn one_transcript()
     one_air();
 }
 
-/// The units law of a stay (Core 5.2, volume 6 part G, sections 2.1 and 2.2): where no PDU was injected into a sink since it
-/// was put on its group, what it handed up since on a stream that it takes is struck. Unframed: one entry for each slot of
-/// each event closed in the stay, in order: the source's unit of the slot, valid, where the slot has one and all numbers that
-/// carry it are heard, else lost. Framed: one entry for each unit of the source whose start is heard, in order: valid where it
+/// The units law of a stay (Core 5.2, volume 6 part G, sections 2.1 and 2.2): where a sink was put on its group by hand or by
+/// what a source announced, and since then no PDU was injected into it and no train was given to it by its octets, what it
+/// handed up since on a stream that it takes is struck. Unframed: one entry for each slot of each event closed in the stay, in
+/// order: the source's unit of the slot, valid, where the slot has one and all numbers that carry it are heard, else lost. Framed: one entry for each unit of the source whose start is heard, in order: valid where it
 /// is wholly laid and all numbers that carry it were heard before their events closed, lost where the first that wasn't is
 /// closed. It holds after each step, so at the end of each stay too.
 pub fn units_law()
@@ -65,10 +67,13 @@ pub fn units_law()
     a_framed_air_sends_units();
     one_event_is_open();
     each_stream_hands_its_units();
+    a_source_has_one_train();
+    an_announcement_is_read();
+    a_sink_is_put_where_its_source_is();
 }
 
-/// The order of units over all stays of a sink with one and the same source since it was made (Core 5.2, volume 6 part G,
-/// sections 2.1, 2.2 and 3.2): the events that it closed rise, so none is closed twice; what it handed up on an unframed
+/// The order of units over all stays of a sink with one and the same source since it was made, where no train was given to it by
+/// its octets (Core 5.2, volume 6 part G, sections 2.1, 2.2 and 3.2): the events that it closed rise, so none is closed twice; what it handed up on an unframed
 /// stream is one entry for each slot of each of these events that it took the stream in, in order, at the slot's time by the
 /// source's anchors. Where no PDU was injected into it, its valid units of an unframed stream are, in order, units that the
 /// source accepted on the stream, each at most once; and its entries of a framed stream are, in order, of such units, each at
@@ -85,4 +90,7 @@ pub fn order_law()
     a_framed_air_sends_units();
     one_event_is_open();
     each_stream_hands_its_units();
+    a_source_has_one_train();
+    an_announcement_is_read();
+    a_sink_is_put_where_its_source_is();
 }

@@ -8,8 +8,7 @@ use Rattle.delegator_states.specs.States.{put_on}
 use Rattle.delegator_states.specs.Trains.{Joining, Train}
 use Rattle.group_sink.specs.Calls.{Call, tune, hear}
 use Rattle.link_histories.specs.Calls as links
-use Rattle.link_histories.specs.Calls.{stepped}
-use Rattle.linked_sink.specs.Taken.{born}
+use Rattle.link_histories.specs.Calls.{stepped, born}
 use Rattle.scenario_history.specs.Sinks.{is_of, ticked_if}
 use Rattle.scenario_text.specs.declared.step.Step.{Step}
 use Rattle.sink_histories.specs.Lives.{Made, Source, lived_by}

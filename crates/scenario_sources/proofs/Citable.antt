@@ -4,6 +4,7 @@ use Rattle.source_machine.specs.Calls.{Call}
 use Rattle.source_machine.specs.declared.setup.Identity.{Identity}
 use Rattle.multi_source.specs.State.Broadcasts.{Broadcasting, StandsFor}
 use Rattle.scenario_text.specs.declared.step.Step.{Step}
+use Rattle.scenario_text.specs.declared.step.Step.TheVariants as steps
 use Rattle.scenario_text.specs.declared.step.Step.TheVariants.{Scenario, Sink, Tuned, Hear, Air, Inject, Sniff, Drop, End}
 use Rattle.scenario_history.specs.Steps.{chosen_given, is_of_source, is_unbegun, is_unbegun_at, stage_of, steps_of_source, unbegun}
 use Rattle.base_grammar.specs.Layout.{endpoint}
@@ -11,6 +12,8 @@ use Rattle.scenario_bases.specs.Lines.{subgroups_in}
 use Rattle.scenario_history.specs.Bases.{base_lines, base_of}
 use Rattle.scenario_history.specs.Source.{cipher_of, group_of, ident_of, no_identity, phase_of, setup_of, source_calls}
 use Rattle.std.proofs.lemmas.Bool.{false≢true}
+use Rattle.std.proofs.lemmas.Option.{none-some}
+use Rattle.sink_histories.specs.Lives.{named_by}
 use Rattle.scenario_history.proofs.Citable.{stage_same}
 use Rattle.scenario_sources.specs.declared.phase.Phase.{Phase}
 use Rattle.scenario_sources.specs.declared.phase.Phase.TheVariants as phases
@@ -109,8 +112,25 @@ sink_says sink streams slots mtu = record {
   calls = λ own. refl;
 }
 
-pub drop_says : (sink : ℕ) → SaysNothing (Drop sink)
-drop_says sink = record {
+-- a line that names a sink which lives says nothing of a source
+pub named_says : (n : ℕ) (made : Step) → named_by made ≡ Some n → SaysNothing made
+named_says n (steps.Scenario version) e = absurd (none-some n e)
+named_says n (steps.Group framing origin delay iso sdu max_sdu max_pdu num_bis bn nse irc pto sub spacing phy) e = absurd (none-some n e)
+named_says n (steps.Ident address_type address sid broadcast_id) e = absurd (none-some n e)
+named_says n (steps.Subgroup codec config) e = absurd (none-some n e)
+named_says n (steps.Meta metadata) e = absurd (none-some n e)
+named_says n (steps.Bis bis config) e = absurd (none-some n e)
+named_says n (steps.Cipher giv gskd) e = absurd (none-some n e)
+named_says n (steps.Start first) e = absurd (none-some n e)
+named_says n (steps.Sink sink streams slots mtu) e = absurd (none-some n e)
+named_says n (steps.Unit bis time octets) e = absurd (none-some n e)
+named_says n steps.Event e = absurd (none-some n e)
+named_says n (steps.Sniff back bis subevent) e = absurd (none-some n e)
+named_says n (steps.Source source) e = absurd (none-some n e)
+named_says n steps.Stop e = absurd (none-some n e)
+named_says n (steps.Terminate reason) e = absurd (none-some n e)
+named_says n steps.End e = absurd (none-some n e)
+named_says n _ e = record {
   chosen = refl;
   phase = λ own. refl;
   group = λ own. refl;
@@ -121,58 +141,21 @@ drop_says sink = record {
   under_way = λ own going. going;
   calls = λ own. refl;
 }
+
+pub drop_says : (sink : ℕ) → SaysNothing (Drop sink)
+drop_says sink = named_says sink (Drop sink) refl
 
 pub tuned_says : (sink which : ℕ) → SaysNothing (Tuned sink which)
-tuned_says sink which = record {
-  chosen = refl;
-  phase = λ own. refl;
-  group = λ own. refl;
-  ident = λ own. refl;
-  cipher = λ own. refl;
-  lines = λ own. refl;
-  setup = λ own going. refl;
-  under_way = λ own going. going;
-  calls = λ own. refl;
-}
+tuned_says sink which = named_says sink (Tuned sink which) refl
 
 pub hear_says : (sink back bis subevent : ℕ) → SaysNothing (Hear sink back bis subevent)
-hear_says sink back bis subevent = record {
-  chosen = refl;
-  phase = λ own. refl;
-  group = λ own. refl;
-  ident = λ own. refl;
-  cipher = λ own. refl;
-  lines = λ own. refl;
-  setup = λ own going. refl;
-  under_way = λ own going. going;
-  calls = λ own. refl;
-}
+hear_says sink back bis subevent = named_says sink (Hear sink back bis subevent) refl
 
 pub air_says : (sink lose : ℕ) → SaysNothing (Air sink lose)
-air_says sink lose = record {
-  chosen = refl;
-  phase = λ own. refl;
-  group = λ own. refl;
-  ident = λ own. refl;
-  cipher = λ own. refl;
-  lines = λ own. refl;
-  setup = λ own going. refl;
-  under_way = λ own going. going;
-  calls = λ own. refl;
-}
+air_says sink lose = named_says sink (Air sink lose) refl
 
 pub inject_says : (sink back bis subevent : ℕ) (octets : List ℕ) → SaysNothing (Inject sink back bis subevent octets)
-inject_says sink back bis subevent octets = record {
-  chosen = refl;
-  phase = λ own. refl;
-  group = λ own. refl;
-  ident = λ own. refl;
-  cipher = λ own. refl;
-  lines = λ own. refl;
-  setup = λ own going. refl;
-  under_way = λ own going. going;
-  calls = λ own. refl;
-}
+inject_says sink back bis subevent octets = named_says sink (Inject sink back bis subevent octets) refl
 
 pub sniff_says : (back bis subevent : ℕ) → SaysNothing (Sniff back bis subevent)
 sniff_says back bis subevent = record {

@@ -1,5 +1,5 @@
 -- The start of a source: why it is refused, and what it begins with.
-use Rattle.std.proofs.Common.{ℕ, ◌≡◌, ◌≤◌, ◌||◌, nat_lt, not, Bool, true, false, cond, List, [], ◌∷◌, length, Option, None, Some, Result, Ok, Err, refl, sym, ap, subst, is_some, unwrap_or, ◌∙◌}
+use Rattle.std.proofs.Common.{ℕ, ◌≡◌, ◌≤◌, ◌||◌, nat_lt, not, Bool, true, false, cond, List, [], ◌∷◌, length, Option, None, Some, Err, refl, sym, ap, subst, is_some, unwrap_or, ◌∙◌}
 use Rattle.std.specs.Option.{option_or}
 use Rattle.std.proofs.lemmas.Bool.{false≢true}
 use Rattle.std.proofs.lemmas.Option.{none-some}

@@ -4,14 +4,12 @@ use Rattle.announced_groups.specs.Octets.{train_of}
 use Rattle.announcement_train.specs.declared.train.Train.{Train}
 use Rattle.base_grammar.specs.Layout.{Endpoint}
 use Rattle.big_info.specs.declared.info.BigInfo.{BigInfo}
-use Rattle.big_info.specs.declared.info.Cipher.{Cipher}
 use Rattle.big_info.specs.Time.{iso_us_of}
 use Rattle.sync_reference.specs.Reference.{anchor_of}
 use Rattle.source_machine.specs.Calls.{Setup, next_anchor_of, next_of}
 use Rattle.source_machine.specs.Ciphers.{with_cipher}
 use Rattle.source_machine.specs.Faults.{announce_fault}
-use Rattle.source_machine.specs.State.Sources.{Source, anchor_in, group_in}
-use Rattle.source_machine.specs.declared.fault.AnnounceFault.{AnnounceFault}
+use Rattle.source_machine.specs.State.Sources.{anchor_in, group_in}
 use Rattle.source_machine.specs.declared.fault.AnnounceFault.TheVariants.{CounterEnds as NumbersEnd}
 use Rattle.source_machine.specs.declared.setup.Identity.{Identity}
 use Rattle.multi_source.specs.State.Broadcasts.{Broadcasting}
@@ -20,7 +18,6 @@ use Rattle.transcript_text.specs.declared.stop.Stop.TheVariants.{Refused}
 use Rattle.scenario_text.specs.declared.step.Step.{Step}
 use Rattle.scenario_history.specs.Refusals.{train_ends}
 use Rattle.scenario_history.specs.Source.{checked_info, phase_of, sending, setup_of, source_calls}
-use Rattle.scenario_history.specs.Worlds.{announced_of}
 use Rattle.scenario_sources.specs.Answers.{AnnouncesAs}
 use Rattle.scenario_sources.specs.State.Phases.{StartedIs}
 
@@ -48,7 +45,7 @@ announces own started train is none same = (
   rw is.0 refl,
   ap (λ s. announce_fault s (source_calls own)) (sym is.1.setup) ∙ none,
   same
-  ∙ same_train _ _ _ _ _ _ _ _ _ _ (ap (λ (i : Identity). i.broadcast_id) is.1.identity) is.1.base (group_is own started is.1) (next_is own started is.1) (anchor_is own started is.1),
+      ∙ same_train _ _ _ _ _ _ _ _ _ _ (ap (λ (i : Identity). i.broadcast_id) is.1.identity) is.1.base (group_is own started is.1) (next_is own started is.1) (anchor_is own started is.1),
 )
 
 pub announces_no_more : (own : List Step) (started : Broadcasting) → (phase_of own ≡ sending) × StartedIs own started

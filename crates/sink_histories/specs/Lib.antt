@@ -1,4 +1,3 @@
-pub mod Groups
 pub mod Lives
 pub mod Moves
 pub mod Output

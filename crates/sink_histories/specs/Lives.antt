@@ -11,9 +11,8 @@ use Rattle.delegator_states.specs.LastGiven.{last_given}
 use Rattle.delegator_states.specs.States.{record_added, locations_set, contexts_set, put_on, train_heard, train_lost, control_heard}
 use Rattle.delegator_states.specs.Trains.{Joining, Setup, Train}
 use Rattle.link_histories.specs.Calls as links
-use Rattle.link_histories.specs.Calls.{Call, stepped}
+use Rattle.link_histories.specs.Calls.{Call, stepped, born}
 use Rattle.link_histories.specs.Drains.{drained}
-use Rattle.linked_sink.specs.Taken.{born}
 use Rattle.scenario_text.specs.declared.step.Step.{Step}
 use Rattle.scenario_text.specs.declared.step.Step.TheVariants as steps
 

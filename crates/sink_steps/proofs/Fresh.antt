@@ -1,9 +1,10 @@
 -- A new living sink.
 use Rattle.std.proofs.Common.{◌≡◌, [], Option, Some, None, refl}
+use Rattle.link_histories.specs.Calls.{born}
 use Rattle.delegator_machine.specs.Groups.{group_calls}
 use Rattle.delegator_states.specs.States.{answered}
 use Rattle.linked_sink.specs.State.Stands.{LinkedStands}
-use Rattle.linked_sink.specs.Taken.{born, delegator_calls}
+use Rattle.linked_sink.specs.Taken.{delegator_calls}
 use Rattle.sink_histories.specs.Lives.{Made}
 use Rattle.sink_steps.specs.declared.sink.LivingSink.{LivingSink}
 use Rattle.sink_steps.specs.State.Living.{Lives, without_air}

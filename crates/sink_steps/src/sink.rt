@@ -8,8 +8,7 @@ ghost use Rattle.unit_outlets.specs.Handed.{Caused};
 ghost use Rattle.multi_assist.specs.Mtus.{IsMtu};
 ghost use Rattle.delegator_states.specs.States.{put_on};
 ghost use Rattle.delegator_states.specs.Trains.{Joining};
-ghost use Rattle.link_histories.specs.Calls.{Call, stepped};
-ghost use Rattle.linked_sink.specs.Taken.{born};
+ghost use Rattle.link_histories.specs.Calls.{Call, stepped, born};
 
 use bcast_base::{Bis, BisSet, Memory};
 use big_info::Group;

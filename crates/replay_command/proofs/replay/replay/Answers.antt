@@ -29,6 +29,8 @@ returns-in-Ok-Replay-clause-promised g c =
       meet = c.some_airs_meet.ensures;
       units = c.units_law.ensures boxes;
       order = c.order_law.ensures boxes;
+      agreement = c.agreement_law.ensures;
+      links = c.links_law.ensures;
     }))
 
 pub returns-in-Err-clause-promised : goal.returns-in-Err-clause-promised
@@ -50,6 +52,8 @@ returns-in-Err-clause-promised g c =
       meet = c.some_airs_meet.ensures;
       units = c.units_law.ensures boxes;
       order = c.order_law.ensures boxes;
+      agreement = c.agreement_law.ensures;
+      links = c.links_law.ensures;
     })
 
 pub returns-in-Ok-Migrate-clause-promised : goal.returns-in-Ok-Migrate-clause-promised

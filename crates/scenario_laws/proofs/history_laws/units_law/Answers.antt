@@ -16,5 +16,10 @@ returns c = λ starts.
       hands = c.each_stream_hands_its_units.ensures.unframed;
       framed_hands = c.each_stream_hands_its_units.ensures.framed;
       others = c.each_stream_hands_its_units.ensures.others;
+      announcing = record {
+        is_train = c.a_source_has_one_train.ensures.is;
+        is_read = c.an_announcement_is_read.ensures;
+        is_put = c.a_sink_is_put_where_its_source_is.ensures;
+      };
     } in
     units_law_holds below starts

@@ -10,9 +10,11 @@ returns-then-not-is_sending c starts version steps stands e =
     (announce_early (length starts) version c.args.sink steps e (sym (c.is_sending.ensures steps stands.sources) ∙ c.if-not-is_sending.true), refl)
 
 pub returns-then-not-lives : goal.returns-then-not-lives
-returns-then-not-lives c starts version steps stands e =
-    (announce_nowhere (length starts) version c.args.sink steps e (sym (c.is_sending.ensures steps stands.sources) ∙ c.if-not-is_sending.false)
-      (sym (c.lives.ensures (past_of steps) stands.sinks) ∙ c.if-not-lives.true), refl)
+returns-then-not-lives c starts version steps stands e = (
+  announce_nowhere (length starts) version c.args.sink steps e (sym (c.is_sending.ensures steps stands.sources) ∙ c.if-not-is_sending.false)
+      (sym (c.lives.ensures (past_of steps) stands.sinks) ∙ c.if-not-lives.true),
+  refl,
+)
 
 pub returns-in-Err : goal.returns-in-Err
 returns-in-Err c starts version steps stands e =

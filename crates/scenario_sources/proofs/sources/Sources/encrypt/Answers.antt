@@ -1,4 +1,4 @@
-use Rattle.std.proofs.Common.{refl, sym, ◌∙◌, arith}
+use Rattle.std.proofs.Common.{refl, sym, ◌∙◌}
 use Rattle.scenario_text.specs.declared.step.Step.TheVariants.{Cipher}
 use Rattle.scenario_history.specs.Steps.{chosen_steps}
 use Rattle.scenario_sources.proofs.Lifting.{answers, chosen_read}

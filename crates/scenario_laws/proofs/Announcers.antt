@@ -1,0 +1,274 @@
+-- A source that sends can announce its next event: what its lines say fits the octets of a train (Basic Audio Profile 1.0,
+-- section 3.7.2; Core 5.2, volume 6 part B, section 4.4.6.11).
+use Rattle.std.proofs.Common.{ℕ, ◌≡◌, ◌<◌, ◌≤◌, ◌*◌, ◌^◌, ◌||◌, not, cond, leb, ltb, is_some, Bool, true, false, List, [], ◌∷◌, ◌++◌, length, Option, None, Some, Ok, refl, sym, subst, arith}
+use Rattle.std.specs.Prelude.{unwrap_or}
+use Rattle.std.proofs.lemmas.Bool.{false≢true, leb-false, or_parts}
+use Rattle.std.proofs.lemmas.Option.{none-some}
+use Rattle.big_info.specs.declared.info.BigInfo.{BigInfo}
+use Rattle.big_info.specs.declared.info.Cipher.{Cipher}
+use Rattle.big_info.specs.Layout.{CipherIs}
+use Rattle.big_info.specs.Rows.{first_fault}
+use Rattle.big_info.specs.Widths.{FitsWidths}
+use Rattle.ltv_codec.proofs.Citable.{are_read}
+use Rattle.base_grammar.specs.declared.subgroup.Subgroup.{Subgroup}
+use Rattle.base_grammar.specs.declared.subgroup.BaseEntry.{BaseEntry}
+use Rattle.base_grammar.specs.Draft.{IsDraft, Refuses, entry_fault, last_of, metadata_fault, opened}
+use Rattle.base_grammar.specs.declared.fault.DraftFault.TheVariants as faults
+use Rattle.base_grammar.specs.Layout.{endpoint, indices, stands_in}
+use Rattle.base_grammar.proofs.Drafts.{with_entry_keeps, with_metadata_keeps, with_subgroup_keeps}
+use Rattle.announced_groups.specs.Announced.{numbers_alone}
+use Rattle.announced_groups.specs.Octets.{MayAnnounce, cipher_octets}
+use Rattle.scenario_bases.proofs.Citable.{adds_to_last, describes_last}
+use Rattle.source_machine.specs.declared.fault.AnnounceFault.{AnnounceFault}
+use Rattle.source_machine.specs.Calls.{next_anchor_of, next_of}
+use Rattle.source_machine.specs.Ciphers.{with_cipher}
+use Rattle.source_machine.specs.Faults.{announce_fault}
+use Rattle.scenario_text.specs.declared.step.Step.{Step}
+use Rattle.scenario_text.specs.declared.step.Step.TheVariants as steps
+use Rattle.scenario_text.specs.Ranges.{IsInRange}
+use Rattle.transcript_text.specs.declared.refusal.Refusal.TheVariants.{BaseTooLong, NoSuchBis}
+use Rattle.scenario_history.specs.Bases.{base_lines, base_of, has_bis, has_subgroup, is_base_too_long, is_last_bare, subgroups_of}
+use Rattle.scenario_history.specs.Refusals.{group_refusal, horizon_in, refuse_if, train_ends}
+use Rattle.scenario_history.specs.Source.{Airs, Phase, absent, checked_info, cipher_of, described, group_of, identity_of, is_absent_at, is_described_at, is_sending, is_sending_at, is_started}
+use Rattle.scenario_history.specs.Source.{GroupLine, no_group, phase_of, sending, setup_of, source_calls, stopped}
+use Rattle.scenario_laws.proofs.Bases.{is_base}
+use Rattle.scenario_laws.proofs.Legals.{fails_not, neither}
+use Rattle.scenario_laws.proofs.Sources.{Allowed, Lawful, Settled, bounds_in, not_yet, sends, settled, true_not_false}
+
+-- ---- what the lines of a source say
+
+abbrev group_line : List Step → GroupLine
+group_line own = unwrap_or (group_of own) no_group
+
+pub record Tellable (own : List Step) : Type 0 where
+  pub three : length (identity_of own).broadcast_id ≡ 3
+  pub cipher : CipherIs (cipher_of own) (cipher_octets (cipher_of own))
+  pub delay : (group_line own).delay < 2 ^ 24
+  pub late : is_absent_at (phase_of own) ≡ false → 3000 ≤ (group_line own).origin
+  pub bare : numbers_alone (group_line own).info ≡ (group_line own).info
+  pub draft : (delay : ℕ) → delay < 2 ^ 24 → IsDraft (endpoint delay (subgroups_of own))
+  pub full : is_started own ≡ true → is_last_bare own ≡ false
+  pub short : is_started own ≡ true → is_base_too_long own ≡ false
+
+there_then : (p : Phase) → not (is_described_at p) ≡ false → is_absent_at p ≡ false
+there_then absent is = absurd (false≢true (sym is))
+there_then described is = refl
+there_then sending is = refl
+there_then stopped is = refl
+
+sends_then : (p : Phase) → not (is_sending_at p) ≡ false → is_absent_at p ≡ false
+sends_then absent is = absurd (false≢true (sym is))
+sends_then described is = absurd (false≢true (sym is))
+sends_then sending is = refl
+sends_then stopped is = absurd (false≢true (sym is))
+
+-- ---- a line of its BASE
+
+full_then : (last : Bool) → last ≡ false → Refuses (cond last (Some faults.NoBis) None) (Ok tt)
+full_then last is = subst (λ b. Refuses (cond b (Some faults.NoBis) None) (Ok tt)) (sym is) tt
+
+opens_next : (own : List Step) (codec config : List ℕ) → Tellable own → IsInRange (steps.Subgroup codec config) → is_last_bare own ≡ false
+    → (delay : ℕ) → delay < 2 ^ 24 → IsDraft (endpoint delay (subgroups_of (steps.Subgroup codec config ∷ own)))
+opens_next own codec config before ranged full delay width =
+    with_subgroup_keeps delay codec config (subgroups_of own) (subgroups_of own ++ opened codec config ∷ []) (Ok tt) (before.draft delay width) ranged.0
+    (λ reads. are_read config ranged.4 ranged.2) refl tt (full_then (is_last_bare own) full)
+
+some_there : (subgroups : List Subgroup) → not (is_some (last_of subgroups)) ≡ false → Refuses (metadata_fault subgroups) (Ok tt)
+some_there [] is = absurd (false≢true (sym is))
+some_there (subgroup ∷ others) is = tt
+
+describes_next : (own : List Step) (metadata : List ℕ) → Tellable own → IsInRange (steps.Meta metadata) → not (has_subgroup own) ≡ false
+    → (delay : ℕ) → delay < 2 ^ 24 → IsDraft (endpoint delay (subgroups_of (steps.Meta metadata ∷ own)))
+describes_next own metadata before ranged some delay width =
+    with_metadata_keeps delay metadata (subgroups_of own) (subgroups_of (steps.Meta metadata ∷ own)) (Ok tt) (before.draft delay width) (are_read metadata ranged.2 ranged.1)
+    (describes_last metadata (base_lines own)) tt (some_there (subgroups_of own) some)
+
+new_there : (subgroups : List Subgroup) (bis : ℕ) → not (is_some (last_of subgroups)) ≡ false → stands_in (indices subgroups) bis ≡ false → Refuses (entry_fault subgroups bis) (Ok tt)
+new_there [] bis is none = absurd (false≢true (sym is))
+new_there (subgroup ∷ others) bis is none = subst (λ b. Refuses (cond b (Some faults.IndexTwice) None) (Ok tt)) (sym none) tt
+
+adds_next : (own : List Step) (bis : ℕ) (config : List ℕ) → Tellable own → IsInRange (steps.Bis bis config) → not (has_subgroup own) ≡ false → has_bis own bis ≡ false
+    → (delay : ℕ) → delay < 2 ^ 24 → IsDraft (endpoint delay (subgroups_of (steps.Bis bis config ∷ own)))
+adds_next own bis config before ranged some none delay width =
+    let e : BaseEntry = record { bis = bis; config = config } in
+    with_entry_keeps delay (record { bis = bis; config = config }) (subgroups_of own) (subgroups_of (steps.Bis bis config ∷ own)) (Ok tt) (before.draft delay width)
+    (λ last is reads. are_read config ranged.2 ranged.1) (ranged.3, ranged.4)
+    (adds_to_last (record { bis = bis; config = config }) (base_lines own)) tt (new_there (subgroups_of own) bis some none)
+
+-- ---- each line
+
+tellable_after : (airs : Airs) (own : List Step) (step : Step) → Tellable own → Allowed airs own step → Tellable (step ∷ own)
+tellable_after airs own (steps.Group framing origin delay iso sdu max_sdu max_pdu num_bis bn nse irc pto sub spacing phy) before allows = record {
+  three = before.three;
+  cipher = before.cipher;
+  delay = allows.ranged.delay_is;
+  late = λ there. allows.ranged.origin_least;
+  bare = refl;
+  draft = before.draft;
+  full = λ started. absurd (false≢true started);
+  short = λ started. absurd (false≢true started);
+}
+tellable_after airs own (steps.Ident address_type address sid broadcast_id) before allows = record {
+  three = allows.ranged.3;
+  cipher = before.cipher;
+  delay = before.delay;
+  late = before.late;
+  bare = before.bare;
+  draft = before.draft;
+  full = before.full;
+  short = before.short;
+}
+tellable_after airs own (steps.Subgroup codec config) before allows =
+    let parts = or_parts (not (is_described_at (phase_of own))) (is_last_bare own) allows.in_phase in
+    record {
+      three = before.three;
+      cipher = before.cipher;
+      delay = before.delay;
+      late = before.late;
+      bare = before.bare;
+      draft = opens_next own codec config before allows.ranged parts.1;
+      full = λ started. absurd (true_not_false (is_started own) started (not_yet own (is_last_bare own) allows.in_phase));
+      short = λ started. absurd (true_not_false (is_started own) started (not_yet own (is_last_bare own) allows.in_phase));
+    }
+tellable_after airs own (steps.Meta metadata) before allows =
+    let parts = or_parts (not (is_described_at (phase_of own))) (not (has_subgroup own)) allows.in_phase in
+    record {
+      three = before.three;
+      cipher = before.cipher;
+      delay = before.delay;
+      late = before.late;
+      bare = before.bare;
+      draft = describes_next own metadata before allows.ranged parts.1;
+      full = λ started. absurd (true_not_false (is_started own) started (not_yet own (not (has_subgroup own)) allows.in_phase));
+      short = λ started. absurd (true_not_false (is_started own) started (not_yet own (not (has_subgroup own)) allows.in_phase));
+    }
+tellable_after airs own (steps.Bis bis config) before allows =
+    let parts = or_parts (not (is_described_at (phase_of own))) (not (has_subgroup own)) allows.in_phase in
+    let new = or_parts (ltb (group_line own).info.num_bis bis) (has_bis own bis) (fails_not (ltb (group_line own).info.num_bis bis || has_bis own bis) NoSuchBis allows.by_source) in
+    record {
+      three = before.three;
+      cipher = before.cipher;
+      delay = before.delay;
+      late = before.late;
+      bare = before.bare;
+      draft = adds_next own bis config before allows.ranged parts.1 new.1;
+      full = λ started. absurd (true_not_false (is_started own) started (not_yet own (not (has_subgroup own)) allows.in_phase));
+      short = λ started. absurd (true_not_false (is_started own) started (not_yet own (not (has_subgroup own)) allows.in_phase));
+    }
+tellable_after airs own (steps.Cipher giv gskd) before allows = record {
+  three = before.three;
+  cipher = (allows.ranged.0, allows.ranged.1, refl);
+  delay = before.delay;
+  late = before.late;
+  bare = before.bare;
+  draft = before.draft;
+  full = before.full;
+  short = before.short;
+}
+tellable_after airs own (steps.Start first) before allows =
+    let parts = or_parts (not (is_described_at (phase_of own))) (is_last_bare own) allows.in_phase in
+    record {
+      three = before.three;
+      cipher = before.cipher;
+      delay = before.delay;
+      late = λ there. before.late (there_then (phase_of own) parts.0);
+      bare = before.bare;
+      draft = before.draft;
+      full = λ started. parts.1;
+      short = λ started. fails_not (is_base_too_long own) BaseTooLong
+          (neither (group_refusal (first_fault (horizon_in allows.version) (checked_info own))) (refuse_if (is_base_too_long own) BaseTooLong) allows.by_source).1;
+    }
+tellable_after airs own steps.Stop before allows = record {
+  three = before.three;
+  cipher = before.cipher;
+  delay = before.delay;
+  late = λ there. before.late (sends_then (phase_of own) allows.in_phase);
+  bare = before.bare;
+  draft = before.draft;
+  full = λ started. before.full (sends own allows.in_phase);
+  short = λ started. before.short (sends own allows.in_phase);
+}
+tellable_after airs own (steps.Terminate reason) before allows = record {
+  three = before.three;
+  cipher = before.cipher;
+  delay = before.delay;
+  late = λ there. before.late (sends_then (phase_of own) allows.in_phase);
+  bare = before.bare;
+  draft = before.draft;
+  full = λ started. before.full (sends own allows.in_phase);
+  short = λ started. before.short (sends own allows.in_phase);
+}
+tellable_after airs own _ before allows = record {
+  three = before.three;
+  cipher = before.cipher;
+  delay = before.delay;
+  late = before.late;
+  bare = before.bare;
+  draft = before.draft;
+  full = before.full;
+  short = before.short;
+}
+
+pub tellable : (airs : Airs) (own : List Step) → Lawful airs own → Tellable own
+tellable airs [] lawful = record {
+  three = refl;
+  cipher = refl;
+  delay = omega arith;
+  late = λ there. absurd (false≢true (sym there));
+  bare = refl;
+  draft = λ delay width. record { delay = width; streams = tt; fits = tt; once = tt };
+  full = λ started. absurd (false≢true started);
+  short = λ started. absurd (false≢true started);
+}
+tellable airs (step ∷ own) lawful = tellable_after airs own step (tellable airs own lawful.0) lawful.1
+
+-- ---- what it announces
+
+widths_with : (info : BigInfo) (cipher : Option Cipher) → FitsWidths info → FitsWidths (with_cipher info cipher)
+widths_with info cipher widths = record {
+  big_offset = widths.big_offset;
+  big_offset_units = widths.big_offset_units;
+  iso_interval = widths.iso_interval;
+  num_bis = widths.num_bis;
+  nse = widths.nse;
+  bn = widths.bn;
+  sub_interval = widths.sub_interval;
+  pto = widths.pto;
+  bis_spacing = widths.bis_spacing;
+  irc = widths.irc;
+  max_pdu = widths.max_pdu;
+  seed_access_address = widths.seed_access_address;
+  sdu_interval = widths.sdu_interval;
+  max_sdu = widths.max_sdu;
+  base_crc_init = widths.base_crc_init;
+  chm = widths.chm;
+  phy = widths.phy;
+  bis_payload_count = widths.bis_payload_count;
+  framing = widths.framing;
+}
+
+no_train_end : (fault : Option AnnounceFault) → train_ends fault ≡ None → fault ≡ None
+no_train_end None none = refl
+no_train_end (Some fault) none = absurd (none-some _ (sym none))
+
+counts : (b : Bool) (fault : AnnounceFault) → cond b (Some fault) None ≡ None → b ≡ false
+counts true fault none = absurd (none-some fault (sym none))
+counts false fault none = refl
+
+pub may_announce : (airs : Airs) (own : List Step) → Lawful airs own → not (is_sending own) ≡ false → train_ends (announce_fault (setup_of own) (source_calls own)) ≡ None
+    → MayAnnounce (identity_of own).broadcast_id (base_of own) (checked_info own) (next_of (setup_of own) (source_calls own)) (next_anchor_of (setup_of own) (source_calls own))
+may_announce airs own lawful is_its none =
+    let is : Settled own = settled airs own lawful in
+    let tells : Tellable own = tellable airs own lawful in
+    let started : is_started own ≡ true = sends own is_its in
+    let origin : 3000 ≤ (group_line own).origin = tells.late (sends_then (phase_of own) is_its) in
+    record {
+      three = tells.three;
+      base_is = is_base (group_line own) (subgroups_of own) tells.delay (bounds_in own is started).num_bis (omega (arith, is.widths.num_bis))
+          (tells.draft (group_line own).delay tells.delay) (tells.full started) (tells.short started);
+      widths = widths_with (group_line own).info (cipher_of own) is.widths;
+      cipher = tells.cipher;
+      count = leb-false (2 ^ 39) (next_of (setup_of own) (source_calls own) * (setup_of own).info.bn)
+          (counts (leb (2 ^ 39) (next_of (setup_of own) (source_calls own) * (setup_of own).info.bn)) _ (no_train_end (announce_fault (setup_of own) (source_calls own)) none));
+      late = omega (arith, origin);
+    }

@@ -1,0 +1,78 @@
+-- The BASE of a source that was started can be announced: each field of it meets its row (Basic Audio Profile 1.0, section
+-- 3.7.2.2).
+use Rattle.std.proofs.Common.{ℕ, zero, suc, ◌≡◌, ◌<◌, ◌≤◌, ◌+◌, ◌^◌, ◌||◌, cond, eqb, ltb, Bool, false, List, [], ◌∷◌, ◌++◌, length, map, Some, None, refl, sym, ◌∙◌, ap, subst, arith}
+use Rattle.std.specs.List.{AllByRecursion, range_with_len}
+use Rattle.std.proofs.lemmas.Bool.{ltb-false, ne_eqb}
+use Rattle.std.proofs.lemmas.List.{append-nil}
+use Rattle.std.proofs.lemmas.List.Folds.{list_any-append}
+use Rattle.std.proofs.lemmas.List.FromFn.{length-map-range_with_len}
+use Rattle.ltv_codec.specs.Layout.{AreLtvs}
+use Rattle.base_grammar.specs.Draft.{IsDraft, is_empty_last, last_of, size_fault}
+use Rattle.base_grammar.specs.declared.fault.DraftFault.TheVariants as faults
+use Rattle.base_grammar.specs.declared.subgroup.Subgroup.{Subgroup}
+use Rattle.base_grammar.specs.Layout.{AreNew, EntryFits, IsBase, SubgroupFits, bis_of, endpoint, is_lc3, lc3, spelling, stands_in}
+use Rattle.base_grammar.proofs.Drafts.{draft_done, finish_is}
+use Rattle.scenario_bases.specs.Plain.{plain_base_of, plain_entries, plain_entry, plain_subgroup}
+use Rattle.scenario_bases.proofs.Citable.{plain_is_small}
+use Rattle.scenario_history.specs.Source.{GroupLine}
+use Rattle.scenario_history.specs.Bases.{base_from}
+
+-- ---- the BASE of which no line says one
+
+no_ltvs : AreLtvs []
+no_ltvs = record { ltvs = []; list = record { fit = tt; spelled = refl } }
+
+entries_fit : (is_list : Bool) (start n : ℕ) → 1 ≤ start → start + n ≤ 32 → AllByRecursion (EntryFits is_list) (map plain_entry (range_with_len start n))
+entries_fit is_list start zero least greatest = tt
+entries_fit is_list start (suc n) least greatest = (
+  record { least = least; greatest = omega (arith, greatest); config = λ reads. no_ltvs },
+  entries_fit is_list (start + 1) n (omega arith) (omega (arith, greatest)),
+)
+
+stands_not : (before : List ℕ) (bis other : ℕ) → stands_in before other ≡ false → suc bis ≤ other → stands_in (before ++ bis ∷ []) other ≡ false
+stands_not before bis other none below =
+    list_any-append (λ b. eqb b other) before (bis ∷ [])
+    ∙ ap (λ b. b || (eqb bis other || false)) none
+    ∙ ap (λ b. b || false) (ne_eqb bis other (λ same. omega (arith, same, below)))
+
+all_new : (before : List ℕ) (start n : ℕ) → ((other : ℕ) → start ≤ other → stands_in before other ≡ false)
+    → AreNew before (map bis_of (map plain_entry (range_with_len start n)))
+all_new before start zero none = tt
+all_new before start (suc n) none = (
+  none start (omega arith),
+  all_new (before ++ start ∷ []) (start + 1) n (λ other least. stands_not before start other (none other (omega (arith, least))) (omega (arith, least))),
+)
+
+plain_fits : (n : ℕ) → n ≤ 31 → SubgroupFits (plain_subgroup n)
+plain_fits n most = record {
+  codec = refl;
+  config = λ reads. no_ltvs;
+  metadata = no_ltvs;
+  entries = entries_fit (is_lc3 lc3) 1 n (omega arith) (omega (arith, most));
+}
+
+plain_is_base : (delay n : ℕ) → delay < 2 ^ 24 → 1 ≤ n → n ≤ 31 → IsBase (plain_base_of delay n)
+plain_is_base delay n width least most = record {
+  delay = width;
+  some = omega arith;
+  streams = (omega (arith, least, length-map-range_with_len plain_entry 1 n), tt);
+  fits = (plain_fits n most, tt);
+  once = subst (AreNew []) (sym (append-nil (map bis_of (plain_entries n)))) (all_new [] 1 n (λ other greater. refl));
+  small = ltb-false 252 (length (spelling (plain_base_of delay n))) (plain_is_small delay n most);
+}
+
+-- ---- the BASE of lines
+
+finishes : (last : Bool) (octets : ℕ) → last ≡ false → ltb 252 octets ≡ false → size_fault (cond last (Some faults.NoBis) None) octets ≡ None
+finishes last octets some short =
+    ap (λ b. size_fault (cond b (Some faults.NoBis) None) octets) some
+    ∙ ap (λ b. cond b (Some faults.TooLong) None) short
+
+pub is_base : (group : GroupLine) (subgroups : List Subgroup) → group.delay < 2 ^ 24 → 1 ≤ group.info.num_bis → group.info.num_bis ≤ 31
+    → IsDraft (endpoint group.delay subgroups) → is_empty_last (last_of subgroups) ≡ false → ltb 252 (length (spelling (base_from group subgroups))) ≡ false
+    → IsBase (base_from group subgroups)
+is_base group [] width least most draft some short = plain_is_base group.delay group.info.num_bis width least most
+is_base group (subgroup ∷ others) width least most draft some short =
+    draft_done (endpoint group.delay (subgroup ∷ others)) draft
+    (sym (finish_is (endpoint group.delay (subgroup ∷ others)))
+    ∙ finishes (is_empty_last (last_of (subgroup ∷ others))) (length (spelling (endpoint group.delay (subgroup ∷ others)))) some short)

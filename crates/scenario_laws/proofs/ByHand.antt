@@ -1,0 +1,50 @@
+-- A stay that an announced train begins is the one that `tuned` would begin with the same streams, which are the group's.
+use Rattle.std.proofs.Common.{ℕ, ◌≡◌, ◌<◌, ◌≤◌, ◌-◌, ◌/◌, ◌%◌, ◌^◌, ◌==◌, cond, ltb, Bool, true, false, List, [], ◌∷◌, refl, sym, ◌∙◌, ap, subst, arith, inl, inr}
+use Rattle.std.specs.List.{filter, list_any, range_with_len}
+use Rattle.std.proofs.Math.Nat.{div-eq_of_lt, pow-le-pow_right}
+use Rattle.std.proofs.lemmas.Bool.{cases_Bool, eqb-true, false≢true, ltb-true}
+use Rattle.delegator_machine.specs.Groups.{tuning_of as group_of}
+use Rattle.delegator_states.specs.Trains.{Joining}
+use Rattle.group_sink.specs.Streams.{is_in}
+use Rattle.scenario_text.specs.declared.step.Step.{Step}
+use Rattle.scenario_text.specs.declared.step.Step.TheVariants as steps
+use Rattle.scenario_history.specs.Refusals.{has_beyond}
+use Rattle.scenario_history.specs.Source.{Airs, setup_of}
+use Rattle.scenario_history.specs.Sinks.{tuning_of}
+use Rattle.scenario_history.specs.Steps.{chosen_steps}
+use Rattle.scenario_laws.proofs.Announced.{Announcing, announced_tuning, announced_within}
+use Rattle.scenario_laws.proofs.Legals.{Legal, Permitted}
+use Rattle.scenario_laws.proofs.Moves.{Brings}
+
+-- ---- the streams are those of the group
+
+kept : (test : ℕ → Bool) (x : ℕ) (xs : List ℕ) (of_set : Bool) → (of_set ≡ true → test x ≡ false) → list_any test xs ≡ false → list_any test (cond of_set (x ∷ xs) xs) ≡ false
+kept test x xs true none rest = rw (none refl) rest
+kept test x xs false none rest = rest
+
+none_of : (test in_set : ℕ → Bool) (xs : List ℕ) → ((x : ℕ) → in_set x ≡ true → test x ≡ false) → list_any test (filter in_set xs) ≡ false
+none_of test in_set [] none = refl
+none_of test in_set (x ∷ xs) none = kept test x (filter in_set xs) (in_set x) (none x) (none_of test in_set xs none)
+
+above_out : (num_bis which bis : ℕ) → which < 2 ^ num_bis → num_bis < bis → is_in which bis ≡ true → ⊥
+above_out num_bis which bis small above taken =
+    let power : 2 ^ num_bis ≤ 2 ^ (bis - 1) = pow-le-pow_right (omega arith) (omega (arith, above)) in
+    let none : which / 2 ^ (bis - 1) ≡ 0 = div-eq_of_lt (omega (arith, small, power)) in
+    false≢true (sym (ap (λ q. q % 2 == 1) none) ∙ taken)
+
+none_beyond : (num_bis which : ℕ) → which < 2 ^ num_bis → has_beyond num_bis which ≡ false
+unfolding has_beyond
+none_beyond num_bis which small =
+    none_of (λ bis. ltb num_bis bis) (is_in which) (range_with_len 1 31)
+    (λ bis taken. elim (cases_Bool (ltb num_bis bis)) [ inl above ↦ absurd (above_out num_bis which bis small (ltb-true num_bis bis above) taken) | inr within ↦ within ])
+
+-- ---- as by hand
+
+pub as_by_hand : Announcing → (airs : Airs) (boxes n sink : ℕ) (earlier : List Step) (joining : Joining) → Legal airs boxes earlier
+    → Permitted airs boxes earlier (steps.Announce sink) → Brings n sink earlier joining
+    → (group_of joining ≡ tuning_of (chosen_steps earlier) joining.which) × (has_beyond (setup_of (chosen_steps earlier)).info.num_bis joining.which ≡ false)
+as_by_hand laws airs boxes n sink earlier joining legal permits brings =
+    let permits_it : Permitted airs boxes earlier (steps.Announce n) = subst (λ m. Permitted airs boxes earlier (steps.Announce m)) (eqb-true sink n brings.0) permits in (
+      announced_tuning laws airs boxes n earlier brings.1.made joining legal permits_it brings.1.is,
+      none_beyond (setup_of (chosen_steps earlier)).info.num_bis joining.which (announced_within laws airs boxes n earlier brings.1.made joining legal permits_it brings.1.is),
+    )

@@ -1,0 +1,141 @@
+-- The life of a sink of any lines: what its links write is octets, and it has at most eight slots.
+use Rattle.std.proofs.Common.{ℕ, zero, suc, ◌≡◌, ◌<◌, ◌≤◌, ◌==◌, cond, Bool, true, false, List, [], ◌∷◌, ◌++◌, Option, None, Some, refl, sym, ◌∙◌, ap, subst, arith}
+use Rattle.std.specs.Prelude.{unwrap_or}
+use Rattle.std.specs.List.{AllByRecursion}
+use Rattle.std.proofs.lemmas.List.{append-nil}
+use Rattle.std.proofs.lemmas.Option.{none-some}
+use Rattle.octet_fields.specs.Spelling.{IsOctets}
+use Rattle.bcast_io.specs.TextLines.{TextLine}
+use Rattle.bass_operations.specs.Layout.{spelling}
+use Rattle.bass_operations.specs.declared.operation.Operation.TheVariants as operations
+use Rattle.link_histories.specs.Calls.{Call, read, served, told, born}
+use Rattle.link_histories.specs.Drains.{repeated, served_out, told_out}
+use Rattle.link_histories.specs.Octets.{AreOctets, IsAsked}
+use Rattle.scenario_text.specs.declared.step.Step.{Step}
+use Rattle.scenario_text.specs.declared.step.Step.TheVariants as steps
+use Rattle.scenario_text.specs.Ranges.{IsInRange}
+use Rattle.sink_histories.specs.Lives.{Made, Source, World, horizon_of, life_of, lived, lived_at, lived_by, made_by, made_of, named_by, with_drain}
+use Rattle.scenario_history.specs.Lines.{Said, a_step, nothing, unsaid, said_after, steps_of, with_said}
+use Rattle.scenario_history.specs.Steps.{version_of}
+use Rattle.scenario_laws.proofs.Legals.{InRange, LinesInRange, in_range}
+
+-- ---- steps of lines
+
+abbrev pub Ranged : List Step → Type 0
+Ranged steps = AllByRecursion IsInRange steps
+
+ranged_said : (earlier : List Step) (said : Said) → Ranged earlier → InRange said → Ranged (with_said said earlier)
+ranged_said earlier (a_step step) before ranged = (ranged, before)
+ranged_said earlier nothing before ranged = before
+ranged_said earlier (unsaid reason) before ranged = before
+
+pub ranged_lines : LinesInRange → (lines : List TextLine) → Ranged (steps_of lines)
+ranged_lines ranged [] = tt
+ranged_lines ranged (line ∷ earlier) =
+    ranged_said (steps_of earlier) (said_after earlier line) (ranged_lines ranged earlier) (in_range ranged (version_of (steps_of earlier)) line)
+
+-- ---- its slots
+
+few_if : (is_its : Bool) (here there made : Option Made) → ((sink : Made) → here ≡ Some sink → sink.setup.slots < 256)
+    → ((sink : Made) → there ≡ Some sink → sink.setup.slots < 256) → made ≡ cond is_its here there
+    → (sink : Made) → made ≡ Some sink → sink.setup.slots < 256
+few_if true here there made first second is sink its = first sink (sym is ∙ its)
+few_if false here there made first second is sink its = second sink (sym is ∙ its)
+
+few_made : (n sink streams slots : ℕ) (mtu : Option ℕ) (earlier : List Step) → slots ≤ 8 → (made : Made)
+    → Some (record { setup = record { streams = streams; slots = slots; horizon = horizon_of earlier }; mtu = mtu }) ≡ Some made → made.setup.slots < 256
+few_made n sink streams slots mtu earlier few made is =
+    let same : slots ≡ made.setup.slots = ap (λ found. (unwrap_or found made).setup.slots) is in
+    omega (arith, same, few)
+
+few_by : (n : ℕ) (step : Step) (earlier : List Step) (before : Option Made) → IsInRange step → ((made : Made) → before ≡ Some made → made.setup.slots < 256)
+    → (made : Made) → made_by n step earlier before ≡ Some made → made.setup.slots < 256
+few_by n (steps.Sink sink streams slots mtu) earlier before ranged few =
+    few_if (sink == n) (Some (record { setup = record { streams = streams; slots = slots; horizon = horizon_of earlier }; mtu = mtu })) before
+    (made_by n (steps.Sink sink streams slots mtu) earlier before) (few_made n sink streams slots mtu earlier ranged.4) few refl
+few_by n (steps.Drop sink) earlier before ranged few =
+    few_if (sink == n) None before (made_by n (steps.Drop sink) earlier before) (λ made is. absurd (none-some made is)) few refl
+few_by n _ earlier before ranged few = few
+
+pub few_slots : (n : ℕ) (steps : List Step) → Ranged steps → (made : Made) → made_of n steps ≡ Some made → made.setup.slots < 256
+few_slots n [] ranged = λ made is. absurd (none-some made is)
+few_slots n (step ∷ earlier) ranged = few_by n step earlier (made_of n earlier) ranged.0 (few_slots n earlier ranged.1)
+
+-- ---- what is written
+
+octets_if : (is_its : Bool) (here there : List Call) → AreOctets here → AreOctets there → AreOctets (cond is_its here there)
+octets_if true here there first second = first
+octets_if false here there first second = second
+
+octets_born : (mtu : Option ℕ) → AreOctets (born mtu)
+octets_born None = tt
+octets_born (Some mtu) = (tt, tt)
+
+repeats : (count : ℕ) (call : Call) (calls : List Call) → IsAsked call → AreOctets calls → AreOctets (repeated count call calls)
+repeats zero call calls is before = before
+repeats (suc count) call calls is before = (is, repeats count call calls is before)
+
+octets_drained : (made : Option Made) (link : ℕ) (calls : List Call) → AreOctets calls → AreOctets (with_drain made link calls)
+octets_drained None link calls before = before
+octets_drained (Some made) link calls before =
+    let after_serves = repeats _ (served link) calls tt before in
+    let after_tells = repeats _ (told link) (served_out link calls) tt after_serves in
+    repeats _ (read link) (told_out made.setup made.mtu link (served_out link calls)) tt after_tells
+
+first_octet : (first : ℕ) (rest : List ℕ) → first < 256 → IsOctets rest → IsOctets (first ∷ rest)
+first_octet first rest small octets zero = small
+first_octet first rest small octets (suc i) = octets i
+
+no_octets : IsOctets []
+no_octets i = omega arith
+
+remove_octets : (source_id : ℕ) → source_id < 256 → IsOctets (spelling (operations.Remove source_id))
+remove_octets source_id small = first_octet 5 (source_id ∷ []) (omega arith) (first_octet source_id [] small no_octets)
+
+code_octets : (source_id : ℕ) (code : List ℕ) → source_id < 256 → IsOctets code → IsOctets (spelling (operations.Code source_id code))
+code_octets source_id code small octets =
+    first_octet 4 (source_id ∷ (code ++ [])) (omega arith) (first_octet source_id (code ++ []) small (subst IsOctets (sym (append-nil code)) octets))
+
+octets_by : (source : Source) (step : Step) (made : Option Made) (calls : List Call) → IsInRange step → AreOctets calls → AreOctets (lived_by source step made calls)
+octets_by source (steps.Drop sink) made calls ranged before = tt
+octets_by source (steps.Pac sink codec caps metadata) made calls ranged before = (tt, before)
+octets_by source (steps.Locate sink bits) made calls ranged before = (tt, before)
+octets_by source (steps.Context sink sink_bits source_bits) made calls ranged before = (tt, before)
+octets_by source (steps.Tuned sink which) made calls ranged before = (tt, before)
+octets_by source (steps.Announce sink) made calls ranged before = (tt, before)
+octets_by source (steps.Train sink time ext adv acad) made calls ranged before = (tt, before)
+octets_by source (steps.Lose sink) made calls ranged before = (tt, before)
+octets_by source (steps.Control sink octets) made calls ranged before = (tt, before)
+octets_by source (steps.Write sink octets) made calls ranged before = (ranged.2, before)
+octets_by source (steps.Add sink op) made calls ranged before = (ranged.2, before)
+octets_by source (steps.Modify sink op) made calls ranged before = (ranged.2, before)
+octets_by source (steps.Remove sink source_id) made calls ranged before = (remove_octets source_id ranged.1, before)
+octets_by source (steps.Code sink source_id code) made calls ranged before = (code_octets source_id code ranged.2 ranged.3, before)
+octets_by source (steps.Serve sink) made calls ranged before = (tt, before)
+octets_by source (steps.Tell sink) made calls ranged before = (tt, before)
+octets_by source (steps.Read sink) made calls ranged before = (tt, before)
+octets_by source (steps.Drain sink) made calls ranged before = octets_drained made 0 calls before
+octets_by source (steps.Forge sink slot octets) made calls ranged before = (tt, before)
+octets_by source (steps.Assist sink link) made calls ranged before = (tt, before)
+octets_by source (steps.Apart sink link) made calls ranged before = (tt, before)
+octets_by source (steps.AWrite sink link octets) made calls ranged before = (ranged.3, before)
+octets_by source (steps.AServe sink link) made calls ranged before = (tt, before)
+octets_by source (steps.ATell sink link) made calls ranged before = (tt, before)
+octets_by source (steps.ARead sink link) made calls ranged before = (tt, before)
+octets_by source (steps.ADrain sink link) made calls ranged before = octets_drained made link calls before
+octets_by source _ made calls ranged before = before
+
+octets_at : (world : World) (n : ℕ) (named : Option ℕ) (step : Step) (earlier : List Step) (made : Option Made) (calls : List Call) → IsInRange step → AreOctets calls
+    → AreOctets (lived_at world n named step earlier made calls)
+octets_at world n None step earlier made calls ranged before = before
+octets_at world n (Some sink) step earlier made calls ranged before =
+    octets_if (sink == n) (lived_by (world.source earlier) step made calls) calls (octets_by (world.source earlier) step made calls ranged before) before
+
+octets_lived : (world : World) (n : ℕ) (step : Step) (earlier : List Step) (made : Option Made) (calls : List Call) → IsInRange step → AreOctets calls
+    → AreOctets (lived world n step earlier made calls)
+octets_lived world n (steps.Sink sink streams slots mtu) earlier made calls ranged before = octets_if (sink == n) (born mtu) calls (octets_born mtu) before
+octets_lived world n step earlier made calls ranged before = octets_at world n (named_by step) step earlier made calls ranged before
+
+pub life_octets : (world : World) (n : ℕ) (steps : List Step) → Ranged steps → AreOctets (life_of world n steps)
+life_octets world n [] ranged = tt
+life_octets world n (step ∷ earlier) ranged = octets_lived world n step earlier (made_of n earlier) (life_of world n earlier) ranged.0 (life_octets world n earlier ranged.1)

@@ -1,0 +1,56 @@
+-- No notice is forged over a link other than 0, and every sink of any lines agrees with its assistants.
+use Rattle.std.proofs.Common.{ℕ, ◌≡◌, ◌≢◌, ◌<◌, ◌==◌, cond, Bool, true, false, List, [], ◌∷◌, Option, None, Some, refl, ◌∙◌, ap}
+use Rattle.std.specs.Prelude.{unwrap_or}
+use Rattle.std.specs.Option.{option_or}
+use Rattle.std.proofs.lemmas.Bool.{ne_eqb}
+use Rattle.bcast_io.specs.TextLines.{TextLine}
+use Rattle.delegator_states.specs.LastGiven.{last_given}
+use Rattle.delegator_states.specs.Trains.{Setup}
+use Rattle.link_histories.specs.Calls as links
+use Rattle.link_histories.specs.Calls.{Call}
+use Rattle.link_histories.specs.Drains.{NoneTells, told_and_read}
+use Rattle.link_histories.specs.Links.{forging_by, is_forged, read_waits, state, view}
+use Rattle.link_histories.specs.Octets.{AreOctets}
+use Rattle.sink_histories.specs.Lives.{Made, made_of}
+use Rattle.scenario_history.specs.Lines.{steps_of}
+use Rattle.scenario_history.specs.Worlds.{life, the_world}
+use Rattle.scenario_laws.specs.Links.{AgreementLaw, Agrees}
+use Rattle.scenario_laws.proofs.Legals.{LinesInRange}
+use Rattle.scenario_laws.proofs.LifeOctets.{few_slots, life_octets, ranged_lines}
+
+-- what holds of each link
+pub record OfLinks : Type 0 where
+  pub agrees : (setup : Setup) (mtu : Option ℕ) (link slot : ℕ) (calls : List Call) → setup.slots < 256 → slot < setup.slots → AreOctets calls
+      → is_forged link calls ≡ false → NoneTells setup mtu link slot calls → read_waits setup mtu link slot calls ≡ false
+      → view setup mtu link slot calls ≡ state setup slot calls
+  pub drained : (setup : Setup) (mtu : Option ℕ) (link slot : ℕ) (calls : List Call) → setup.slots < 256 → slot < setup.slots → AreOctets calls
+      → is_forged link calls ≡ false → view setup mtu link slot (told_and_read setup mtu link calls) ≡ state setup slot calls
+
+pub links_agree : LinesInRange → OfLinks → AgreementLaw
+links_agree in_range laws lines n link slot made is below plain =
+    let ranged = ranged_lines in_range lines in
+    let few = few_slots n (steps_of lines) ranged made is in
+    let octets : AreOctets (life n (steps_of lines)) = life_octets the_world n (steps_of lines) ranged in
+    record {
+      at_rest = laws.agrees made.setup made.mtu link slot (life n (steps_of lines)) few below octets plain;
+      drained = laws.drained made.setup made.mtu link slot (life n (steps_of lines)) few below octets plain;
+    }
+
+-- ---- links other than 0
+
+not_by : (is_there : Bool) (given : Option Bool) → unwrap_or given false ≡ false → unwrap_or (option_or (cond is_there (Some false) None) given) false ≡ false
+not_by true given before = refl
+not_by false given before = before
+
+not_forged : (link : ℕ) (calls : List Call) → link ≢ 0 → is_forged link calls ≡ false
+not_forged link [] other = refl
+not_forged link (links.joined at ∷ earlier) other = not_by (at == link) (last_given (forging_by link) earlier) (not_forged link earlier other)
+not_forged link (links.forged slot octets ∷ earlier) other =
+    ap (λ b. unwrap_or (option_or (cond b (Some true) None) (last_given (forging_by link) earlier)) false) (ne_eqb link 0 other)
+    ∙ not_forged link earlier other
+not_forged link (call ∷ earlier) other = not_forged link earlier other
+
+pub apart_agree : LinesInRange → OfLinks → (lines : List TextLine) (n link slot : ℕ) (made : Made) → made_of n (steps_of lines) ≡ Some made → slot < made.setup.slots
+    → link ≢ 0 → Agrees made link slot (life n (steps_of lines))
+apart_agree in_range laws lines n link slot made is below other =
+    links_agree in_range laws lines n link slot made is below (not_forged link (life n (steps_of lines)) other)

@@ -1,0 +1,195 @@
+-- What a line makes of a sink that it names by its control or by its links: its receivers stay or leave, or a train puts them on
+-- a group; and a sink that follows a train on no group may be of another source then.
+use Rattle.std.proofs.Common.{ℕ, ◌≡◌, ◌⊎◌, ◌==◌, ◌&&◌, not, cond, Bool, true, false, List, ◌∷◌, Option, None, Some, is_some, refl, sym, ◌∙◌, ap, subst, inl, inr}
+use Rattle.delegator_machine.specs.Groups.{joining_brought, tuning_of, with_leave, with_step}
+use Rattle.delegator_states.specs.declared.train_heard.TrainHeard.{TrainHeard}
+use Rattle.delegator_states.specs.Sights.{Place, Sight, idle, is_on_group, is_slot, on_group, on_train}
+use Rattle.delegator_states.specs.Trains.{Brought, Joining, Setup, Train, brought_by, by_broadcast_id, by_slot, heard, ignored, is_elsewhere, taken}
+use Rattle.group_sink.specs.Calls.{Call, leave, place, tune}
+use Rattle.link_histories.specs.Calls as links
+use Rattle.scan_delegator.specs.Groups.{has_group}
+use Rattle.scenario_text.specs.declared.step.Step.{Step}
+use Rattle.scenario_text.specs.declared.step.Step.TheVariants as steps
+use Rattle.sink_histories.specs.Lives.{Made, Source, made_of, named_by, own_train}
+use Rattle.sink_histories.specs.Moves.{brings_by, follows, joining_of, received_by, source_by, train_by}
+use Rattle.sink_histories.specs.Output.{sight_in}
+use Rattle.scenario_history.specs.Source.{Airs}
+use Rattle.scenario_history.specs.Sinks.{moved, sink_calls, source_after, source_of, with_sink_call}
+use Rattle.scenario_history.specs.Steps.{chosen_of}
+use Rattle.scenario_history.specs.Worlds.{life, source_at}
+use Rattle.scenario_laws.specs.Laws.{is_tuned}
+use Rattle.scenario_laws.proofs.Nowhere.{Nowhere, nowhere}
+
+-- ---- what becomes of the receivers
+
+-- they take nothing, or leave their group
+abbrev pub Left : List Call → List Call → Type 0
+Left later calls = (later ≡ calls) ⊎ (later ≡ leave ∷ calls)
+
+-- no stay begins
+pub record Stays (begins : Bool) (calls later : List Call) (source source' : Option ℕ) : Type 0 where
+  pub left : Left later calls
+  pub same : source' ≡ source
+  pub begins_not : begins ≡ false
+
+-- the sink follows a train of this source, on no group
+pub record Follows (chosen : ℕ) (begins : Bool) (calls later : List Call) (source' : Option ℕ) : Type 0 where
+  pub same : later ≡ calls
+  pub nowhere : place calls ≡ None
+  pub source_is : source' ≡ Some chosen
+  pub begins_not : begins ≡ false
+
+-- a train of this source puts it on a group
+pub record Put (Brings : Joining → Type 0) (chosen : ℕ) (begins : Bool) (calls later : List Call) (source' : Option ℕ) : Type 0 where
+  pub joining : Joining
+  pub brings : Brings joining
+  pub calls_is : later ≡ tune (tuning_of joining) ∷ calls
+  pub source_is : source' ≡ Some chosen
+  pub begins_is : begins ≡ true
+
+abbrev pub Went : (Joining → Type 0) → ℕ → Bool → (calls later : List Call) → (source source' : Option ℕ) → Type 0
+Went Brings chosen begins calls later source source' =
+    Stays begins calls later source source' ⊎ (Follows chosen begins calls later source' ⊎ Put Brings chosen begins calls later source')
+
+-- by the step after these
+abbrev pub StaysBy : Airs → ℕ → Step → List Step → Type 0
+StaysBy airs n step earlier =
+    Stays (is_tuned n earlier step) (sink_calls airs n earlier) (sink_calls airs n (step ∷ earlier)) (source_of n earlier) (source_of n (step ∷ earlier))
+
+-- ---- a line that hands the sink no train
+
+left_or_not : (was is : Bool) (calls : List Call) → Left (with_leave was is calls) calls
+left_or_not true true calls = inl refl
+left_or_not true false calls = inr refl
+left_or_not false is calls = inl refl
+
+received_left : (source : Source) (step : Step) (made : Option Made) (here there : List links.Call) (calls : List Call) → train_by source step ≡ None
+    → Left (received_by source step made here there calls) calls
+received_left source step None here there calls none = inl refl
+received_left source step (Some made) here there calls none =
+    subst (λ train. Left (with_step (joining_of made (sight_in made here) train) (sight_in made here) (sight_in made there) calls) calls) (sym none)
+    (left_or_not (has_group (sight_in made here).place) (has_group (sight_in made there).place) calls)
+
+left_if : (hit : Bool) (more calls : List Call) → Left more calls → Left (cond hit more calls) calls
+left_if true more calls left = left
+left_if false more calls left = inl refl
+
+moved_left : (n : ℕ) (named : Option ℕ) (step : Step) (earlier : List Step) (calls : List Call) → train_by (source_at earlier) step ≡ None → Left (moved n named step earlier calls) calls
+moved_left n None step earlier calls none = inl refl
+moved_left n (Some sink) step earlier calls none =
+    left_if (sink == n) (received_by (source_at earlier) step (made_of n earlier) (life n earlier) (life n (step ∷ earlier)) calls) calls
+    (received_left (source_at earlier) step (made_of n earlier) (life n earlier) (life n (step ∷ earlier)) calls none)
+
+pub plain_stays : (airs : Airs) (n : ℕ) (step : Step) (earlier : List Step) → train_by (source_at earlier) step ≡ None
+    → moved n (named_by step) step earlier (sink_calls airs n earlier) ≡ with_sink_call airs n step earlier (sink_calls airs n earlier)
+    → source_after n step earlier (source_of n earlier) ≡ source_of n earlier → is_tuned n earlier step ≡ false → StaysBy airs n step earlier
+plain_stays airs n step earlier none is same begins_not = record {
+  left = subst (λ later. Left later (sink_calls airs n earlier)) is (moved_left n (named_by step) step earlier (sink_calls airs n earlier) none);
+  same = same;
+  begins_not = begins_not;
+}
+
+same_if : (hit : Bool) (calls : List Call) → cond hit calls calls ≡ calls
+same_if true calls = refl
+same_if false calls = refl
+
+-- of a sink that doesn't live
+pub unmoved : (n : ℕ) (named : Option ℕ) (step : Step) (earlier : List Step) (calls : List Call) → made_of n earlier ≡ None → moved n named step earlier calls ≡ calls
+unmoved n None step earlier calls none = refl
+unmoved n (Some sink) step earlier calls none =
+    ap (λ made. cond (sink == n) (received_by (source_at earlier) step made (life n earlier) (life n (step ∷ earlier)) calls) calls) none ∙ same_if (sink == n) calls
+
+-- a train that is given to another sink
+pub given_stays : (airs : Airs) (n sink time : ℕ) (ext adv acad : List ℕ) (earlier : List Step) → (sink == n) ≡ false → StaysBy airs n (steps.Train sink time ext adv acad) earlier
+given_stays airs n sink time ext adv acad earlier other = record {
+  left = inl (ap (λ b. cond b (received_by (source_at earlier) (steps.Train sink time ext adv acad) (made_of n earlier) (life n earlier) (life n (steps.Train sink time ext adv acad ∷ earlier))
+      (sink_calls airs n earlier)) (sink_calls airs n earlier)) other);
+  same = ap (λ b. cond b (source_by (source_at earlier) (steps.Train sink time ext adv acad) (made_of n earlier) (life n earlier) (source_of n earlier)) (source_of n earlier)) other;
+  begins_not = ap (λ b. b && brings_by (source_at earlier) (steps.Train sink time ext adv acad) (made_of n earlier) (life n earlier)) other;
+}
+
+-- ---- a train that is announced
+
+-- a train is heard that isn't taken only where the sink is on no group
+heard_slot : (other : Bool) (first second : TrainHeard) (rest : Brought) (slot : ℕ) (answer : TrainHeard) (encrypted : Option Bool)
+    → cond (not other) (ignored first) (cond other (ignored second) rest) ≡ heard slot answer encrypted → ⊥
+heard_slot true first second rest slot answer encrypted is = absurd cc
+heard_slot false first second rest slot answer encrypted is = absurd cc
+
+heard_place : (at : Place) (slot : ℕ) (first second : TrainHeard) (rest : Brought) (other : ℕ) (answer : TrainHeard) (encrypted : Option Bool)
+    → cond (is_elsewhere at slot) (ignored first) (cond (is_on_group at slot) (ignored second) rest) ≡ heard other answer encrypted → has_group at ≡ false
+heard_place idle slot first second rest other answer encrypted is = refl
+heard_place (on_train at) slot first second rest other answer encrypted is = refl
+heard_place (on_group at) slot first second rest other answer encrypted is = absurd (heard_slot (is_slot at slot) first second rest other answer encrypted is)
+
+heard_at : (setup : Setup) (sight : Sight) (train : Train) (slot : Option ℕ) (other : ℕ) (answer : TrainHeard) (encrypted : Option Bool)
+    → by_slot setup sight train slot ≡ heard other answer encrypted → has_group sight.place ≡ false
+heard_at setup sight train None other answer encrypted is = absurd cc
+heard_at setup sight train (Some slot) other answer encrypted is = heard_place sight.place slot _ _ _ other answer encrypted is
+
+heard_by : (setup : Setup) (sight : Sight) (train : Train) (id : Option (List ℕ)) (other : ℕ) (answer : TrainHeard) (encrypted : Option Bool)
+    → by_broadcast_id setup sight train id ≡ heard other answer encrypted → has_group sight.place ≡ false
+heard_by setup sight train None other answer encrypted is = absurd cc
+heard_by setup sight train (Some id) other answer encrypted is = heard_at setup sight train _ other answer encrypted is
+
+-- what the source of a line announces puts a sink, of this life, on this group
+pub record BroughtTo (source : Source) (lives : List links.Call) (joining : Joining) : Type 0 where
+  pub made : Made
+  pub is : joining_of made (sight_in made lives) (Some (own_train source)) ≡ Some joining
+
+by_train : (source : Source) (lives : List links.Call) (made : Made) (later : Sight) (calls : List Call) (its_source : Option ℕ)
+    → (has_group (sight_in made lives).place ≡ false → place calls ≡ None) → (brought : Brought) → brought_by made.setup (sight_in made lives) (own_train source) ≡ brought
+    → Went (BroughtTo source lives) source.number (is_some (joining_brought brought)) calls (with_step (joining_brought brought) (sight_in made lives) later calls)
+    its_source (cond (follows brought) (Some source.number) its_source)
+by_train source lives made later calls its_source nowhere (ignored answer) is =
+    inl (record { left = left_or_not (has_group (sight_in made lives).place) (has_group later.place) calls; same = refl; begins_not = refl })
+by_train source lives made later calls its_source nowhere (heard slot answer encrypted) is =
+    let off : has_group (sight_in made lives).place ≡ false = heard_by made.setup (sight_in made lives) (own_train source) _ slot answer encrypted is in
+    inr (inl (record {
+      same = ap (λ was. with_leave was (has_group later.place) calls) off;
+      nowhere = nowhere off;
+      source_is = refl;
+      begins_not = refl;
+    }))
+by_train source lives made later calls its_source nowhere (taken slot bits encrypted joining) is =
+    inr (inr (record { joining = joining; brings = record { made = made; is = ap joining_brought is }; calls_is = refl; source_is = refl; begins_is = refl }))
+
+by_made : (source : Source) (n : ℕ) (here there : List links.Call) (made : Option Made) (calls : List Call) (its_source : Option ℕ) → Nowhere made here calls
+    → Went (BroughtTo source here) source.number (brings_by source (steps.Announce n) made here) calls (received_by source (steps.Announce n) made here there calls)
+    its_source (source_by source (steps.Announce n) made here its_source)
+by_made source n here there None calls its_source nowhere = inl (record { left = inl refl; same = refl; begins_not = refl })
+by_made source n here there (Some made) calls its_source nowhere =
+    by_train source here made (sight_in made there) calls its_source (nowhere made refl) (brought_by made.setup (sight_in made here) (own_train source)) refl
+
+went_if : (Brings : Joining → Type 0) (chosen : ℕ) (hit begins : Bool) (calls more : List Call) (source new : Option ℕ) → Went Brings chosen begins calls more source new
+    → Went (λ joining. (hit ≡ true) × Brings joining) chosen (hit && begins) calls (cond hit more calls) source (cond hit new source)
+went_if Brings chosen true begins calls more source new went = elim went [
+  | inl stays ↦ inl stays
+  | inr goes ↦ elim goes [
+    | inl follows ↦ inr (inl follows)
+    | inr put ↦ inr (inr (record { joining = put.joining; brings = (refl, put.brings); calls_is = put.calls_is; source_is = put.source_is; begins_is = put.begins_is }))
+  ]
+]
+went_if Brings chosen false begins calls more source new went = inl (record { left = inl refl; same = refl; begins_not = refl })
+
+-- `announce` names the sink of this number, and puts it on this group
+abbrev pub Brings : ℕ → ℕ → List Step → Joining → Type 0
+Brings n sink earlier joining = ((sink == n) ≡ true) × BroughtTo (source_at earlier) (life n earlier) joining
+
+abbrev pub PutBy : Airs → ℕ → ℕ → List Step → Type 0
+PutBy airs n sink earlier =
+    Put (Brings n sink earlier) (chosen_of earlier) (is_tuned n earlier (steps.Announce sink)) (sink_calls airs n earlier) (sink_calls airs n (steps.Announce sink ∷ earlier))
+    (source_of n (steps.Announce sink ∷ earlier))
+
+abbrev pub FollowsBy : Airs → ℕ → ℕ → List Step → Type 0
+FollowsBy airs n sink earlier =
+    Follows (chosen_of earlier) (is_tuned n earlier (steps.Announce sink)) (sink_calls airs n earlier) (sink_calls airs n (steps.Announce sink ∷ earlier))
+    (source_of n (steps.Announce sink ∷ earlier))
+
+pub announced : (airs : Airs) (n sink : ℕ) (earlier : List Step) → StaysBy airs n (steps.Announce sink) earlier ⊎ (FollowsBy airs n sink earlier ⊎ PutBy airs n sink earlier)
+announced airs n sink earlier =
+    went_if (BroughtTo (source_at earlier) (life n earlier)) (chosen_of earlier) (sink == n) (brings_by (source_at earlier) (steps.Announce sink) (made_of n earlier) (life n earlier))
+    (sink_calls airs n earlier)
+    (received_by (source_at earlier) (steps.Announce sink) (made_of n earlier) (life n earlier) (life n (steps.Announce sink ∷ earlier)) (sink_calls airs n earlier))
+    (source_of n earlier) (source_by (source_at earlier) (steps.Announce sink) (made_of n earlier) (life n earlier) (source_of n earlier))
+    (by_made (source_at earlier) sink (life n earlier) (life n (steps.Announce sink ∷ earlier)) (made_of n earlier) (sink_calls airs n earlier) (source_of n earlier) (nowhere airs n earlier))

@@ -1,0 +1,32 @@
+-- The group that the receivers of a sink are on, before a line of the air and after it: the same.
+use Rattle.std.proofs.Common.{ℕ, zero, suc, ◌≡◌, cond, Bool, true, false, List, Option, None, Some, refl, ◌∙◌}
+use Rattle.group_sink.specs.Calls.{Call, hear, place}
+use Rattle.scenario_text.specs.declared.step.Step.{Step}
+use Rattle.scenario_history.specs.Source.{Airs, event_back, setup_of}
+use Rattle.scenario_history.specs.Sinks.{heard_on_air, is_lost, spot_at, ticked, ticked_if, unless_lost}
+
+pub same_place : (mine : Bool) (more calls : List Call) → place more ≡ place calls → place (cond mine more calls) ≡ place calls
+same_place true more calls is = is
+same_place false more calls is = refl
+
+lost_place : (gone : Bool) (event bis subevent : ℕ) (octets : List ℕ) (calls : List Call) → place (unless_lost gone (hear event bis subevent octets) calls) ≡ place calls
+lost_place true event bis subevent octets calls = refl
+lost_place false event bis subevent octets calls = refl
+
+pub air_place : (airs : Airs) (own : List Step) (lose count : ℕ) (calls : List Call) → place (heard_on_air airs own lose count calls) ≡ place calls
+air_place airs own lose zero calls = refl
+air_place airs own lose (suc i) calls =
+    lost_place (is_lost (setup_of own).info (event_back own 0) lose (spot_at (setup_of own).info i)) _ _ _ _ (heard_on_air airs own lose i calls)
+    ∙ air_place airs own lose i calls
+
+tick_place : (last_open : Option ℕ) (calls : List Call) → place (ticked last_open calls) ≡ place calls
+tick_place None calls = refl
+tick_place (Some event) calls = refl
+
+pub tick_if_place : (mine : Bool) (last_open : Option ℕ) (calls : List Call) → place (ticked_if mine last_open calls) ≡ place calls
+tick_if_place true last_open calls = tick_place last_open calls
+tick_if_place false last_open calls = refl
+
+-- at `end`
+pub end_place : (second first : Bool) (second_open first_open : Option ℕ) (calls : List Call) → place (ticked_if second second_open (ticked_if first first_open calls)) ≡ place calls
+end_place second first second_open first_open calls = tick_if_place second second_open (ticked_if first first_open calls) ∙ tick_if_place first first_open calls
