@@ -106,9 +106,9 @@ ticked_by s n earlier calls = ticked_if (is_of s (source_of n earlier)) (open_ev
 
 -- a line of its control or of its links may put the sink that it names on a group, or take it off one
 abbrev pub moved : ℕ → Option ℕ → Step → List Step → List Call → List Call
-moved n None step earlier calls = calls
-moved n (Some sink) step earlier calls =
-    if sink == n then received_by (source_at earlier) step (made_of n earlier) (life n earlier) (life n (step ∷ earlier)) calls else calls
+moved n None line earlier calls = calls
+moved n (Some sink) line earlier calls =
+    if sink == n then received_by (source_at earlier) line (made_of n earlier) (life n earlier) (life n (line ∷ earlier)) calls else calls
 
 -- what a step after these adds to the calls of the receivers of a sink; `end` closes the event of source 0 first
 abbrev pub with_sink_call : Airs → ℕ → Step → List Step → List Call → List Call
@@ -129,7 +129,7 @@ with_sink_call airs n Event earlier calls = ticked_by (chosen_of earlier) n earl
 with_sink_call airs n Stop earlier calls = ticked_by (chosen_of earlier) n earlier calls
 with_sink_call airs n (Terminate reason) earlier calls = ticked_by (chosen_of earlier) n earlier calls
 with_sink_call airs n End earlier calls = ticked_by 1 n earlier (ticked_by 0 n earlier calls)
-with_sink_call airs n step earlier calls = moved n (named_by step) step earlier calls
+with_sink_call airs n line earlier calls = moved n (named_by line) line earlier calls
 
 -- the calls of the receivers of the sink of this number since it was made
 abbrev pub sink_calls : Airs → ℕ → List Step → List Call

@@ -149,12 +149,12 @@ named_by _ = None
 -- ---- its life, but for what it hears on the air and for the events that it closes
 
 abbrev pub lived_at : World → ℕ → Option ℕ → Step → List Step → Option Made → List Call → List Call
-lived_at world n None step earlier made calls = calls
-lived_at world n (Some sink) step earlier made calls = if sink == n then lived_by (world.source earlier) step made calls else calls
+lived_at world n None line earlier made calls = calls
+lived_at world n (Some sink) line earlier made calls = if sink == n then lived_by (world.source earlier) line made calls else calls
 
 abbrev pub lived : World → ℕ → Step → List Step → Option Made → List Call → List Call
 lived world n (steps.Sink sink streams slots mtu) earlier made calls = if sink == n then born mtu else calls
-lived world n step earlier made calls = lived_at world n (named_by step) step earlier made calls
+lived world n line earlier made calls = lived_at world n (named_by line) line earlier made calls
 
 -- the calls of the sink of this number since it was made
 abbrev pub life_of : World → ℕ → List Step → List Call

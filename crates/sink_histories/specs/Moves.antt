@@ -25,14 +25,14 @@ joining_of made sight (Some train) = joining_brought (brought_by made.setup sigh
 
 -- the calls of the receivers after a line, before which the sink had this life and behind which it has that one
 abbrev pub received_by : Source → Step → Option Made → (before after : List Call) → List sinks.Call → List sinks.Call
-received_by source step None before after calls = calls
-received_by source step (Some made) before after calls =
-    with_step (joining_of made (sight_in made before) (train_by source step)) (sight_in made before) (sight_in made after) calls
+received_by source line None before after calls = calls
+received_by source line (Some made) before after calls =
+    with_step (joining_of made (sight_in made before) (train_by source line)) (sight_in made before) (sight_in made after) calls
 
 -- the line puts the sink on a group
 abbrev pub brings_by : Source → Step → Option Made → List Call → Bool
-brings_by source step None before = false
-brings_by source step (Some made) before = is_some (joining_of made (sight_in made before) (train_by source step))
+brings_by source line None before = false
+brings_by source line (Some made) before = is_some (joining_of made (sight_in made before) (train_by source line))
 
 -- ---- the source that it is of then
 

@@ -132,12 +132,12 @@ printed_of source _ made calls = []
 
 -- the same of a sink that lives or not
 abbrev pub printed_where : Source → Step → Option Made → List Call → Lines
-printed_where source step None calls = []
-printed_where source step (Some made) calls = printed_of source step made calls
+printed_where source line None calls = []
+printed_where source line (Some made) calls = printed_of source line made calls
 
 abbrev pub printed_at : World → List Step → Step → Option ℕ → Lines
-printed_at world earlier step None = []
-printed_at world earlier step (Some n) = printed_where (world.source earlier) step (made_of n earlier) (life_of world n earlier)
+printed_at world earlier line None = []
+printed_at world earlier line (Some n) = printed_where (world.source earlier) line (made_of n earlier) (life_of world n earlier)
 
 -- what a step after these prints of the sink that it names
 abbrev pub printed : World → List Step → Step → Lines

@@ -70,12 +70,12 @@ refused_by step made calls =
     (option_or (link_twice calls step) (option_or (nothing_waits made calls step) (no_record_room made calls step)))
 
 abbrev pub refused_where : Step → Option Made → List Call → Option Refusal
-refused_where step None calls = Some NoSuchSink
-refused_where step (Some made) calls = refused_by step made calls
+refused_where line None calls = Some NoSuchSink
+refused_where line (Some made) calls = refused_by line made calls
 
 abbrev pub refused_at : World → List Step → Step → Option ℕ → Option Refusal
-refused_at world earlier step None = None
-refused_at world earlier step (Some n) = refused_where step (made_of n earlier) (life_of world n earlier)
+refused_at world earlier line None = None
+refused_at world earlier line (Some n) = refused_where line (made_of n earlier) (life_of world n earlier)
 
 -- why a step after these is refused
 abbrev pub refusal_of : World → List Step → Step → Option Refusal
