@@ -65,42 +65,73 @@ pub fn run<S: ByteSource, K: ByteSink>(
     Ok(run_with(alloc, &Words::new(alloc), source, sink, &mut outlets))
 }
 
-/// Runs each of these rows with a source of so many octets a call.
-fn run_rows(rt: &(impl Abort + AllocGlobal), rows: &[Row], piece: usize) -> Result<(), Fail>
+/// Runs a row with a source of so many octets a call.
+fn run_row(rt: &(impl Abort + AllocGlobal), row: Row, piece: usize) -> Result<(), Fail>
     requires { 1 ≤ piece }
 {
-    for row in rows {
-        let mut source = text_source(rt.alloc(), row.text, piece)?;
-        let mut sink = FaithfulSink::new(rt.alloc());
-        let mut outlets = tallies(rt.alloc(), row.boxes)?;
-        let words = Words::new(rt.alloc());
-        let status = run_with(rt.alloc(), &words, &mut source, &mut sink, &mut outlets);
-        let name = row.name;
-        assert_eq!(rt; sink.taken(), row.transcript.as_bytes(), "{name}");
-        assert_eq!(rt; status.exit_code(), row.exit_code, "{name}");
+    let Row {
+        name,
+        boxes,
+        text,
+        transcript,
+        exit_code,
+    } = row;
+    let mut source = text_source(rt.alloc(), text, piece)?;
+    let mut sink = FaithfulSink::new(rt.alloc());
+    let mut outlets = tallies(rt.alloc(), boxes)?;
+    let words = Words::new(rt.alloc());
+    let status = run_with(rt.alloc(), &words, &mut source, &mut sink, &mut outlets);
+    assert_eq!(rt; sink.taken(), transcript.as_bytes(), "{name}");
+    assert_eq!(rt; status.exit_code(), exit_code, "{name}");
+    Ok(())
+}
+
+/// Runs each row of sources and streams with a source of so many octets a call.
+fn run_rows(rt: &(impl Abort + AllocGlobal), piece: usize) -> Result<(), Fail>
+    requires { 1 ≤ piece }
+{
+    for row in ROWS {
+        run_row(rt, row, piece)?;
     }
     Ok(())
 }
 
-/// Runs each row with a source of so many octets a call.
-fn run_all(rt: &(impl Abort + AllocGlobal), piece: usize) -> Result<(), Fail>
+/// Runs each row of sinks and their assistants so.
+fn run_sink_rows(rt: &(impl Abort + AllocGlobal), piece: usize) -> Result<(), Fail>
     requires { 1 ≤ piece }
 {
-    run_rows(rt, &ROWS, piece)?;
-    run_rows(rt, &SINK_ROWS, piece)
+    for row in SINK_ROWS {
+        run_row(rt, row, piece)?;
+    }
+    Ok(())
 }
 
 #[test]
 fn each_row_writes_its_transcript(rt: HostRuntime) -> Result<(), Fail> {
-    run_all(&rt, 4_096)
+    run_rows(&rt, 4_096)
 }
 
 #[test]
 fn each_row_reads_the_same_an_octet_a_call(rt: HostRuntime) -> Result<(), Fail> {
-    run_all(&rt, 1)
+    run_rows(&rt, 1)
 }
 
 #[test]
 fn each_row_reads_the_same_seven_octets_a_call(rt: HostRuntime) -> Result<(), Fail> {
-    run_all(&rt, 7)
+    run_rows(&rt, 7)
+}
+
+#[test]
+fn each_row_of_sinks_writes_its_transcript(rt: HostRuntime) -> Result<(), Fail> {
+    run_sink_rows(&rt, 4_096)
+}
+
+#[test]
+fn each_row_of_sinks_reads_the_same_an_octet_a_call(rt: HostRuntime) -> Result<(), Fail> {
+    run_sink_rows(&rt, 1)
+}
+
+#[test]
+fn each_row_of_sinks_reads_the_same_seven_octets_a_call(rt: HostRuntime) -> Result<(), Fail> {
+    run_sink_rows(&rt, 7)
 }
