@@ -1,7 +1,7 @@
 -- What is read as an AD list is one, and what is one is read so.
-use Rattle.std.proofs.Common.{◌≡◌, ℕ, ◌≤◌, List, [], ◌∷◌, ◌++◌, length, take, Result, Ok, Err, refl, sym, ap, ◌∙◌, arith}
-use Rattle.std.specs.Result.{result_err, result_unwrap_or}
-use Rattle.std.proofs.lemmas.List.{take_at, append-nil, length-append}
+use Rattle.std.proofs.Common.{◌≡◌, ℕ, List, [], ◌∷◌, ◌++◌, length, take, Result, Ok, Err, refl, sym, ap, ◌∙◌}
+use Rattle.std.specs.Result.{result_unwrap_or}
+use Rattle.std.proofs.lemmas.List.{take_at, append-nil}
 use Rattle.octet_fields.specs.Spelling.{IsOctets}
 use Rattle.ltv_codec.specs.declared.fault.LtvBad.{LtvBad}
 use Rattle.ltv_codec.specs.declared.fault.LtvBad.TheVariants.{ZeroLength, Short}
@@ -41,9 +41,6 @@ pub listed_at : (place : ℕ) (octets : List ℕ) → IsBad (ZeroLength place) o
 listed_at place octets (ltvs, front, rest, l, there, stands, parts) =
     let front_is : take place octets ≡ front = ap (take place) parts ∙ take_at front rest place there in
     record { ltvs = ltvs; left = rest; list = rw front_is l; ends = stands_end rest stands; parts = rw front_is parts }
-
-pub listed_within : (place : ℕ) (octets : List ℕ) → IsBad (ZeroLength place) octets → place ≤ length octets
-listed_within place octets (ltvs, front, rest, l, there, stands, parts) = omega (arith, ap length parts, length-append front rest)
 
 pub listed_read : (place : ℕ) (octets : List ℕ) → IsBad (ZeroLength place) octets → AreLtvs (take place octets)
 listed_read place octets h =
@@ -95,12 +92,6 @@ ads_by ads octets front (count ∷ ignored) l ends parts = ads_read_at ads octet
 
 pub ads_read_so : (ads : List Ltv) (octets : List ℕ) → IsAdList ads octets → ads_of octets ≡ Ok ads
 ads_read_so ads octets l = ads_by ads octets l.listed l.left l.list l.ends l.parts
-
--- octets that are read as a list are the one that is read
-pub ads_are : (octets : List ℕ) (ads : List Ltv) → IsOctets octets → ads_of octets ≡ Ok ads → IsAdList (ads_in octets) octets
-ads_are octets ads fits e =
-    let same : ads_in octets ≡ ads = ap (λ (r : Result (List Ltv) ℕ). result_unwrap_or r []) e in
-    rw same (read_ads ads octets fits e)
 
 -- octets whose first bad length octet is 0 are a list
 pub ends_early : (place : ℕ) (octets : List ℕ) → IsBad (ZeroLength place) octets → IsAdList (ads_in octets) octets

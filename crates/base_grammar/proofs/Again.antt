@@ -13,7 +13,8 @@ use Rattle.base_grammar.specs.declared.fault.BaseFault.TheVariants.{TooLong}
 use Rattle.base_grammar.specs.declared.subgroup.BaseEntry.{BaseEntry}
 use Rattle.base_grammar.specs.declared.subgroup.Subgroup.{Subgroup}
 use Rattle.base_grammar.specs.Layout.{Endpoint, is_lc3, entry, subgroup, spelling, bis_of, indices, stands_in, AreNew, IsConfig, EntryFits, SubgroupFits, HasEntry, IsBase, BaseIs}
-use Rattle.base_grammar.specs.Reading.{run_at, index_at, entry_at, entries_at, streams_at, subgroup_at, subgroups_at, count_at, fields_of, base_of, Answers}
+use Rattle.base_grammar.specs.Reading.{run_at, index_at, entry_at, entries_at, streams_at, subgroup_at, subgroups_at, count_at, fields_of, base_of, told}
+use Rattle.octet_fields.specs.Tries.{Answers}
 use Rattle.base_grammar.proofs.Steps.{none_run, none_index, none_streams, none_subgroups}
 use Rattle.base_grammar.proofs.Taken.{fields_take}
 
@@ -126,6 +127,6 @@ base_takes octets v fits e =
       spelled = t.spelled;
     }
 
-pub found_base : (octets : List ℕ) (result : Result Endpoint BaseFault) → IsOctets octets → Answers result (base_of octets) → IfOk result (λ base. BaseIs base octets)
+pub found_base : (octets : List ℕ) (result : Result Endpoint BaseFault) → IsOctets octets → Answers told result (base_of octets) → IfOk result (λ base. BaseIs base octets)
 found_base octets (Ok v) fits given = base_takes octets v fits given
 found_base octets (Err fault) fits given = tt

@@ -1,12 +1,10 @@
 -- Looking through a BASE with a set of the indices that were met finds what reading finds.
-use Rattle.std.proofs.Common.{◌≡◌, ◌≢◌, ◌==◌, ℕ, suc, ◌+◌, ◌-◌, ◌/◌, ◌%◌, ◌^◌, ◌<◌, ◌≤◌, ◌↔◌, ◌⊎◌, ◌||◌, Bool, true, false, cond, ltb, eqb, List, [], ◌∷◌, ◌++◌, length, map}
+use Rattle.std.proofs.Common.{◌≡◌, ◌≢◌, ◌==◌, ℕ, ◌+◌, ◌<◌, ◌≤◌, ◌↔◌, ◌||◌, Bool, true, false, eqb, List, [], ◌∷◌, ◌++◌, length, map}
 use Rattle.std.proofs.Common.{Option, Some, None, Result, Ok, Err, refl, sym, ap, subst, ◌∙◌, append_assoc, arith, inl, inr}
-use Rattle.std.specs.Prelude.{IsTrue, IsOk}
-use Rattle.std.specs.List.{list_any}
+use Rattle.std.specs.Prelude.{IsTrue}
 use Rattle.std.specs.Result.{result_err}
-use Rattle.std.proofs.lemmas.Bool.{cases_lt, lt-ltb, le-ltb, eqb-true, eqb-false, eq-eqb, false_from_ne_true}
-use Rattle.std.proofs.Math.Nat.{zero-div}
-use Rattle.std.proofs.lemmas.List.{append-nil, map_push}
+use Rattle.std.proofs.lemmas.Bool.{cases_lt, lt-ltb, le-ltb, eqb-true, eqb-false, false_from_ne_true}
+use Rattle.std.proofs.lemmas.List.{map_push}
 use Rattle.std.proofs.lemmas.List.Folds.{list_any-append}
 use Rattle.bcast_base.specs.Bis.{Has}
 use Rattle.octet_fields.specs.Reading.{octet_in, octets_in, place_in}
@@ -17,21 +15,13 @@ use Rattle.base_grammar.specs.declared.subgroup.Subgroup.{Subgroup}
 use Rattle.base_grammar.specs.Checking.{Seen, Passed, Passes, same_bis, entry_bis, entries_bis, subgroup_bis}
 use Rattle.base_grammar.specs.Layout.{Endpoint, is_lc3, bis_of, indices, stands_in}
 use Rattle.base_grammar.specs.Rows.{index_fault}
-use Rattle.base_grammar.specs.Reading.{field_at, unless, run_at, index_at, entry_at, entries_at, streams_at, subgroup_at, subgroups_at, rest_of, base_of, Refuses}
+use Rattle.octet_fields.specs.Tries.{Finds}
+use Rattle.base_grammar.specs.Reading.{field_at, unless, run_at, index_at, entry_at, entries_at, streams_at, subgroup_at, subgroups_at, rest_of, base_of, told}
 use Rattle.base_grammar.proofs.Firsts.{read_bad}
-use Rattle.base_grammar.proofs.Loops.{Entering, entering_first, entering_next, entering_err, entering_done, Grouping, grouping_first, grouping_next, grouping_err, grouping_done, indices-push}
+use Rattle.base_grammar.proofs.Loops.{Entering, entering_next, entering_err, entering_done, Grouping, grouping_next, grouping_err, grouping_done, indices-push}
 use Rattle.base_grammar.proofs.Steps.{none_index}
 
 -- ---- the set
-
-none_has : (b : ℕ) → Has 0 b → ⊥
-none_has b h =
-    let nothing : 0 / 2 ^ (b - 1) ≡ 0 = zero-div (2 ^ (b - 1)) in
-    let even : 0 / 2 ^ (b - 1) % 2 ≡ 0 = ap (λ (n : ℕ). n % 2) nothing in
-    omega (arith, even, h)
-
-pub none_seen : (set : ℕ) → set ≡ 0 → Seen set []
-none_seen set e = λ b least greatest. (λ h. absurd (none_has b (subst (λ (n : ℕ). Has n b) e h)), λ h. absurd cc)
 
 stands : (set : ℕ) (before : List ℕ) (bis : ℕ) (has : Bool) → Seen set before → 1 ≤ bis → bis ≤ 31 → (IsTrue has ↔ Has set bis) → has ≡ true → stands_in before bis ≡ true
 stands set before bis has s least greatest h e = (s bis least greatest).0 (h.0 e)
@@ -137,13 +127,6 @@ pub record EntriesSoFar (whole : List ℕ) (l : Bool) (count : ℕ) (from : List
   pub shorter : length rest ≤ length from
   pub passed : (before : List ℕ) → Seen first before → EntriesPassed whole l before count from i rest set
 
-pub entries_first : (whole : List ℕ) (l : Bool) (count : ℕ) (from : List ℕ) (first : ℕ) → EntriesSoFar whole l count from first 0 from first
-entries_first whole l count from first =
-    record {
-      shorter = omega arith;
-      passed = λ before s. record { entries = []; so_far = entering_first whole l before count from; seen = subst (Seen first) (sym (append-nil before)) s };
-    }
-
 pub entries_next : (whole : List ℕ) (l : Bool) (count : ℕ) (from : List ℕ) (first i : ℕ) (rest : List ℕ) (set : ℕ) (more : ℕ) (after : List ℕ) → i < count → length after ≤ length rest
     → ((before : List ℕ) → Seen set before → Passed entry_bis before more after (entry_at whole l before rest))
     → EntriesSoFar whole l count from first i rest set → EntriesSoFar whole l count from first (i + 1) after more
@@ -230,9 +213,6 @@ pub record SubgroupsPassed (whole : List ℕ) (count : ℕ) (from : List ℕ) (i
   pub so_far : Grouping whole count from subgroups i rest
   pub seen : Seen set (indices subgroups)
 
-pub subgroups_first : (whole : List ℕ) (count : ℕ) (from : List ℕ) (set : ℕ) → Seen set [] → SubgroupsPassed whole count from 0 from set
-subgroups_first whole count from set s = record { subgroups = []; so_far = grouping_first whole count from; seen = s }
-
 pub subgroups_next : (whole : List ℕ) (count : ℕ) (from : List ℕ) (i : ℕ) (rest : List ℕ) (set more : ℕ) (after : List ℕ) → i < count → length after ≤ length rest
     → ((before : List ℕ) → Seen set before → Passed subgroup_bis before more after (subgroup_at whole before rest))
     → SubgroupsPassed whole count from i rest set → SubgroupsPassed whole count from (i + 1) after more
@@ -262,14 +242,7 @@ err_by (Err other) f e = ap (λ (x : BaseFault). Err x) (some_same other f (sym 
     some_same : (a b : BaseFault) → (let r : BaseFault → Option BaseFault = λ z. Some z in r a ≡ r b) → a ≡ b
     some_same a b h = cc
 
-ok_by : (read : Result Endpoint BaseFault) → None ≡ result_err read → IsOk read
-ok_by (Ok v) e = refl
-ok_by (Err f) e = absurd cc
-
-pub memory_refused : (octets : List ℕ) → None ≡ result_err (base_of octets) → Refuses faults.Memory (base_of octets)
-memory_refused octets e = ok_by (base_of octets) e
-
-refused : (octets : List ℕ) (f : BaseFault) → base_of octets ≡ Err f → Refuses f (base_of octets)
+refused : (octets : List ℕ) (f : BaseFault) → base_of octets ≡ Err f → Finds (told f) (base_of octets)
 refused octets (faults.Short place) e = e
 refused octets faults.NoSubgroup e = e
 refused octets (faults.NoBis place) e = e
@@ -280,5 +253,5 @@ refused octets (faults.Trailing place) e = e
 refused octets faults.TooLong e = e
 refused octets faults.Memory e = absurd (read_bad faults.Memory octets e)
 
-pub fault_refused : (octets : List ℕ) (f : BaseFault) → Some f ≡ result_err (base_of octets) → Refuses f (base_of octets)
+pub fault_refused : (octets : List ℕ) (f : BaseFault) → Some f ≡ result_err (base_of octets) → Finds (told f) (base_of octets)
 fault_refused octets f e = refused octets f (err_by (base_of octets) f e)

@@ -14,7 +14,8 @@ use Rattle.base_grammar.specs.declared.fault.BaseFault.TheVariants as faults
 use Rattle.octet_fields.specs.Spelling.{IsOctets}
 use Rattle.base_grammar.specs.Layout.{Endpoint, stands_in, BaseIs}
 use Rattle.base_grammar.specs.Rows.{run_fault}
-use Rattle.base_grammar.specs.Reading.{Answers, fields_of, base_of}
+use Rattle.octet_fields.specs.Tries.{Answers}
+use Rattle.base_grammar.specs.Reading.{told, fields_of, base_of}
 use Rattle.base_grammar.specs.Faults.{Row, presentation_delay, num_subgroups, num_bis, codec_id, config_length, config, metadata_length, metadata, bis_index, bis_config_length}
 use Rattle.base_grammar.specs.Faults.{bis_config, nothing, Due, first_due, width, number_of, row_fault, next_due, IsDue, due_behind, Meets, AllMeet, field_fault, ending_fault}
 use Rattle.base_grammar.specs.Faults.{cut_fault, AtCut, IsBad, IsFault}
@@ -207,7 +208,7 @@ a_base : (octets : List ℕ) (read : Result Endpoint BaseFault) → IsOctets oct
 a_base octets (Ok v) fits e ok = (v, base_takes octets v fits e)
 a_base octets (Err fault) fits e ok = absurd cc
 
-pub found_fault : (octets : List ℕ) (result : Result Endpoint BaseFault) → IsOctets octets → Answers result (base_of octets) → IfErr result (λ fault. IsFault fault octets)
+pub found_fault : (octets : List ℕ) (result : Result Endpoint BaseFault) → IsOctets octets → Answers told result (base_of octets) → IfErr result (λ fault. IsFault fault octets)
 found_fault octets (Ok v) fits h = tt
 found_fault octets (Err faults.Memory) fits h = a_base octets (base_of octets) fits refl h
 found_fault octets (Err faults.TooLong) fits h = read_bad faults.TooLong octets h

@@ -1,30 +1,23 @@
 -- Reading entries and subgroups one after the other, as a loop does.
-use Rattle.std.proofs.Common.{◌≡◌, ℕ, suc, ◌-◌, ◌+◌, ◌≤◌, ◌<◌, Bool, List, [], ◌∷◌, ◌++◌, length, map, Result, Ok, Err, refl, sym, ap, ◌∙◌, append_assoc, arith}
+use Rattle.std.proofs.Common.{◌≡◌, ℕ, suc, ◌-◌, ◌+◌, ◌≤◌, ◌<◌, Bool, List, [], ◌∷◌, ◌++◌, length, map, Option, Some, None, Result, Ok, Err, refl, sym, ap, ◌∙◌, append_assoc, arith}
 use Rattle.std.proofs.lemmas.List.{append-nil, map_push}
 use Rattle.std.proofs.lemmas.Grind.{flat_map-append}
 use Rattle.std.proofs.lemmas.List.Concat.{flat_map-cons}
 use Rattle.base_grammar.specs.declared.fault.BaseFault.{BaseFault}
-use Rattle.base_grammar.specs.declared.fault.BaseFault.TheVariants as faults
 use Rattle.base_grammar.specs.declared.subgroup.BaseEntry.{BaseEntry}
 use Rattle.base_grammar.specs.declared.subgroup.Subgroup.{Subgroup}
 use Rattle.base_grammar.specs.Layout.{bis_of, indices}
-use Rattle.octet_fields.specs.Tries.{◌>>=◌}
-use Rattle.base_grammar.specs.Reading.{Fails, entry_at, entries_at, subgroup_at, subgroups_at}
+use Rattle.octet_fields.specs.Tries.{◌>>=◌, FindsOrWants}
+use Rattle.base_grammar.specs.Reading.{told, entry_at, entries_at, subgroup_at, subgroups_at}
 
 -- what was read before, and what is still read
 abbrev pub with_front : {A : Type 0} → List A → Result (List A × List ℕ) BaseFault → Result (List A × List ℕ) BaseFault
 with_front front read = read >>= λ x. Ok (front ++ x.0, x.1)
 
-pub failed : {A B : Type 0} (fault : BaseFault) (one : Result A BaseFault) (total : Result B BaseFault) → ((f : BaseFault) → one ≡ Err f → total ≡ Err f) → Fails fault one → Fails fault total
-failed (faults.Short place) one total h e = h (faults.Short place) e
-failed faults.NoSubgroup one total h e = h faults.NoSubgroup e
-failed (faults.NoBis place) one total h e = h (faults.NoBis place) e
-failed (faults.BadIndex place) one total h e = h (faults.BadIndex place) e
-failed (faults.IndexTwice place) one total h e = h (faults.IndexTwice place) e
-failed (faults.Ltv place bad) one total h e = h (faults.Ltv place bad) e
-failed (faults.Trailing place) one total h e = h (faults.Trailing place) e
-failed faults.TooLong one total h e = h faults.TooLong e
-failed faults.Memory one total h e = tt
+pub failed : {A B : Type 0} (found : Option BaseFault) (one : Result A BaseFault) (total : Result B BaseFault) → ((f : BaseFault) → one ≡ Err f → total ≡ Err f)
+    → FindsOrWants found one → FindsOrWants found total
+failed None one total h e = tt
+failed (Some f) one total h e = h f e
 
 regroup : {A : Type 0} (front : List A) (x : A) (read : Result (List A × List ℕ) BaseFault) → with_front front (read >>= λ y. Ok (x ∷ y.0, y.1)) ≡ with_front (front ++ x ∷ []) read
 regroup front x (Ok y) = ap (λ (xs : List _). Ok (xs, y.1)) (sym (append_assoc front (x ∷ []) y.0))
@@ -33,26 +26,12 @@ regroup front x (Err f) = refl
 done : {A : Type 0} (front : List A) (rest : List ℕ) (read : Result (List A × List ℕ) BaseFault) → read ≡ Ok ([], rest) → with_front front read ≡ Ok (front, rest)
 done front rest read e = ap (with_front front) e ∙ ap (λ (xs : List _). Ok (xs, rest)) (append-nil front)
 
-nothing_before : {A : Type 0} (read : Result (List A × List ℕ) BaseFault) → with_front [] read ≡ read
-nothing_before (Ok x) = refl
-nothing_before (Err f) = refl
-
 -- ---- entries
 
 -- the entries so far, and what is read of the others
 pub record Entering (whole : List ℕ) (is_list : Bool) (before : List ℕ) (count : ℕ) (from : List ℕ) (entries : List BaseEntry) (i : ℕ) (rest : List ℕ) : Type 0 where
   pub shorter : length rest ≤ length from
   pub same : with_front entries (entries_at whole is_list (before ++ map bis_of entries) (count - i) rest) ≡ entries_at whole is_list before count from
-
-pub entering_first : (whole : List ℕ) (is_list : Bool) (before : List ℕ) (count : ℕ) (from : List ℕ) → Entering whole is_list before count from [] 0 from
-entering_first whole is_list before count from =
-    let here : before ++ map bis_of [] ≡ before = append-nil before in
-    let all : count - 0 ≡ count = omega arith in
-    record {
-      shorter = omega arith;
-      same = ap (λ (bs : List ℕ). with_front [] (entries_at whole is_list bs (count - 0) from)) here
-          ∙ ap (λ (n : ℕ). with_front [] (entries_at whole is_list before n from)) all ∙ nothing_before (entries_at whole is_list before count from);
-    }
 
 pub entering_next : (whole : List ℕ) (is_list : Bool) (before : List ℕ) (count : ℕ) (from : List ℕ) (entries : List BaseEntry) (i : ℕ) (rest : List ℕ) (e : BaseEntry) (after : List ℕ)
     → i < count → entry_at whole is_list (before ++ map bis_of entries) rest ≡ Ok (e, after) → length after ≤ length rest → Entering whole is_list before count from entries i rest
@@ -80,10 +59,10 @@ entering_err f whole is_list before count from entries i rest lt e s =
     sym s.same ∙ one
 
 pub entering_failed : (fault : BaseFault) (whole : List ℕ) (is_list : Bool) (before : List ℕ) (count : ℕ) (from : List ℕ) (entries : List BaseEntry) (i : ℕ) (rest : List ℕ)
-    → i < count → Fails fault (entry_at whole is_list (before ++ map bis_of entries) rest) → Entering whole is_list before count from entries i rest
-    → Fails fault (entries_at whole is_list before count from)
+    → i < count → FindsOrWants (told fault) (entry_at whole is_list (before ++ map bis_of entries) rest) → Entering whole is_list before count from entries i rest
+    → FindsOrWants (told fault) (entries_at whole is_list before count from)
 entering_failed fault whole is_list before count from entries i rest lt read s =
-    failed fault (entry_at whole is_list (before ++ map bis_of entries) rest) (entries_at whole is_list before count from)
+    failed (told fault) (entry_at whole is_list (before ++ map bis_of entries) rest) (entries_at whole is_list before count from)
     (λ f e. entering_err f whole is_list before count from entries i rest lt e s) read
 
 pub entering_done : (whole : List ℕ) (is_list : Bool) (before : List ℕ) (count : ℕ) (from : List ℕ) (entries : List BaseEntry) (i : ℕ) (rest : List ℕ)
@@ -99,14 +78,6 @@ entering_done whole is_list before count from entries i rest le s =
 pub record Grouping (whole : List ℕ) (count : ℕ) (from : List ℕ) (subgroups : List Subgroup) (i : ℕ) (rest : List ℕ) : Type 0 where
   pub shorter : length rest ≤ length from
   pub same : with_front subgroups (subgroups_at whole (indices subgroups) (count - i) rest) ≡ subgroups_at whole [] count from
-
-pub grouping_first : (whole : List ℕ) (count : ℕ) (from : List ℕ) → Grouping whole count from [] 0 from
-grouping_first whole count from =
-    let all : count - 0 ≡ count = omega arith in
-    record {
-      shorter = omega arith;
-      same = ap (λ (n : ℕ). with_front [] (subgroups_at whole [] n from)) all ∙ nothing_before (subgroups_at whole [] count from);
-    }
 
 pub indices-push : (subgroups : List Subgroup) (s : Subgroup) → indices (subgroups ++ s ∷ []) ≡ indices subgroups ++ map bis_of s.entries
 indices-push subgroups s =
@@ -136,9 +107,9 @@ grouping_err f whole count from subgroups i rest lt e g =
     sym g.same ∙ one
 
 pub grouping_failed : (fault : BaseFault) (whole : List ℕ) (count : ℕ) (from : List ℕ) (subgroups : List Subgroup) (i : ℕ) (rest : List ℕ)
-    → i < count → Fails fault (subgroup_at whole (indices subgroups) rest) → Grouping whole count from subgroups i rest → Fails fault (subgroups_at whole [] count from)
+    → i < count → FindsOrWants (told fault) (subgroup_at whole (indices subgroups) rest) → Grouping whole count from subgroups i rest → FindsOrWants (told fault) (subgroups_at whole [] count from)
 grouping_failed fault whole count from subgroups i rest lt read g =
-    failed fault (subgroup_at whole (indices subgroups) rest) (subgroups_at whole [] count from)
+    failed (told fault) (subgroup_at whole (indices subgroups) rest) (subgroups_at whole [] count from)
     (λ f e. grouping_err f whole count from subgroups i rest lt e g) read
 
 pub grouping_done : (whole : List ℕ) (count : ℕ) (from : List ℕ) (subgroups : List Subgroup) (i : ℕ) (rest : List ℕ)

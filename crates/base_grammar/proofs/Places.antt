@@ -1,5 +1,5 @@
 -- What holds for an index, as a loop over the subgroups finds it.
-use Rattle.std.proofs.Common.{◌≡◌, ℕ, zero, suc, ◌+◌, ◌<◌, ◌==◌, ◌⊎◌, inl, inr, Bool, true, false, cond, eqb, List, [], ◌∷◌, ◌++◌, length, get_or, drop, drop-cons, add-one}
+use Rattle.std.proofs.Common.{◌≡◌, ℕ, zero, suc, ◌+◌, ◌<◌, ◌==◌, ◌⊎◌, inl, inr, Bool, true, false, cond, eqb, List, [], ◌∷◌, ◌++◌, length, get_or}
 use Rattle.std.proofs.Common.{add-zero, ◌||◌, map, Option, Some, None, refl, sym, ap, subst, ◌∙◌, arith}
 use Rattle.std.specs.Prelude.{slice_get, is_some, IfSome}
 use Rattle.std.specs.List.{find, AllByRecursion}
@@ -31,12 +31,6 @@ found_fits P test (first ∷ xs) x h e =
       | inl (_, same) ↦ subst P same h.0
       | inr behind ↦ found_fits P test xs x h.1 behind
     ]
-
-pub opened_at : (bis : ℕ) (ss : List Subgroup) (i : ℕ) (s : Subgroup) → i < length ss → s ≡ get_or ss i s
-    → effective_from i bis (drop i ss) ≡ or_behind i s (entry_of bis s.entries) (effective_from (i + 1) bis (drop (i + 1) ss))
-opened_at bis ss i s lt e =
-    let front : drop i ss ≡ s ∷ drop (i + 1) ss = drop-cons ss i s lt ∙ ap (λ (x : Subgroup). x ∷ drop (suc i) ss) (sym e) ∙ ap (λ (n : ℕ). s ∷ drop n ss) (sym (add-one i)) in
-    ap (effective_from i bis) front
 
 -- ---- what is found holds
 

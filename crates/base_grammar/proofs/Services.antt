@@ -1,8 +1,7 @@
 -- Looking for Service Data, structure by structure.
-use Rattle.std.proofs.Common.{◌≡◌, ℕ, ◌+◌, ◌<◌, List, [], ◌∷◌, ◌++◌, length, Option, Some, None, refl, sym, ap, ◌∙◌, arith}
+use Rattle.std.proofs.Common.{◌≡◌, ℕ, ◌+◌, List, [], ◌∷◌, ◌++◌, length, Option, Some, None, refl, sym, ap, ◌∙◌, arith}
 use Rattle.std.specs.Option.{option_or}
 use Rattle.std.proofs.lemmas.Option.{same_Some}
-use Rattle.std.proofs.lemmas.List.{length-append}
 use Rattle.std.proofs.lemmas.List.Concat.{flat_map-cons}
 use Rattle.octet_fields.specs.Spelling.{IsOctets}
 use Rattle.octet_fields.specs.Reading.{counted_in}
@@ -80,15 +79,3 @@ unfound_none uuid list rest e u = sym u.same ∙ ended u.ads u.is
     ended (ad ∷ others) l =
         let read : counted_in rest ≡ Some (ad.kind ∷ ad.value, spelling others) = ap counted_in (spelled ad others rest l) ∙ counted_again (ad.kind ∷ ad.value) (spelling others) in
         absurd cc
-
-pub shorter : (rest body after : List ℕ) (ads : List Ltv) → IsLtvList ads rest → counted_in rest ≡ Some (body, after) → length after < length rest
-shorter rest body after [] l e =
-    let none : counted_in rest ≡ None = ap counted_in l.spelled in
-    absurd cc
-shorter rest body after (ad ∷ others) l e =
-    let f = front_of (ad ∷ others) rest body after l e in
-    let read : counted_in rest ≡ Some (ad.kind ∷ ad.value, spelling others) = ap counted_in (spelled ad others rest l) ∙ counted_again (ad.kind ∷ ad.value) (spelling others) in
-    let same = same_pair (ad.kind ∷ ad.value) (spelling others) body after (sym read ∙ e) in
-    let long : length rest ≡ length (length (ad.kind ∷ ad.value) ∷ ((ad.kind ∷ ad.value) ++ spelling others)) = ap length (spelled ad others rest l) in
-    let after_long : length (spelling others) ≡ length after = ap length same.1 in
-    omega (arith, long, after_long, length-append ad.value (spelling others))

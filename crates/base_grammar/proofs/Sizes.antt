@@ -1,9 +1,8 @@
 -- Spellings of the items of a list, one after the other, as a loop goes over them.
-use Rattle.std.proofs.Common.{◌≡◌, ℕ, ◌+◌, ◌-◌, ◌<◌, ◌≤◌, List, [], ◌∷◌, ◌++◌, length, get_or, take, Option, Some, None, sym, ap, subst, ◌∙◌, append_assoc, arith}
+use Rattle.std.proofs.Common.{◌≡◌, ℕ, ◌+◌, ◌<◌, ◌≤◌, List, [], ◌∷◌, ◌++◌, length, get_or, take, Option, Some, None, sym, ap, subst, arith}
 use Rattle.std.specs.List.{flat_map}
 use Rattle.std.specs.Option.{SomeIff}
-use Rattle.std.proofs.lemmas.Grind.{flat_map-append}
-use Rattle.std.proofs.lemmas.List.{append-nil, length-append, take_more, take_all}
+use Rattle.std.proofs.lemmas.List.{length-append}
 use Rattle.std.proofs.lemmas.List.Concat.{flat_map-cons}
 use Rattle.std.proofs.lemmas.List.Folds.{length-flat_map-take}
 use Rattle.octet_fields.specs.Spelling.{number}
@@ -11,20 +10,6 @@ use Rattle.octet_fields.proofs.Citable.{number-length}
 use Rattle.base_grammar.specs.declared.subgroup.BaseEntry.{BaseEntry}
 use Rattle.base_grammar.specs.declared.subgroup.Subgroup.{Subgroup}
 use Rattle.base_grammar.specs.Layout.{Endpoint, entry, subgroup, spelling}
-
--- one item more
-pub one_more : {X : Type 0} (f : X → List ℕ) (xs : List X) (i : ℕ) (x : X) → i < length xs → x ≡ get_or xs i x → flat_map f (take (i + 1) xs) ≡ flat_map f (take i xs) ++ f x
-one_more f xs i x lt is =
-    ap (flat_map f) (take_more xs i x lt ∙ ap (λ y. take i xs ++ y ∷ []) (sym is)) ∙ flat_map-append f (take i xs) (x ∷ [])
-    ∙ ap (λ (os : List ℕ). flat_map f (take i xs) ++ os) (flat_map-cons f x [] ∙ append-nil (f x))
-
-pub put_more : {X : Type 0} (f : X → List ℕ) (xs : List X) (i : ℕ) (x : X) (before out new : List ℕ) → i < length xs → x ≡ get_or xs i x → out ≡ before ++ flat_map f (take i xs) → new ≡ out ++ f x
-    → new ≡ before ++ flat_map f (take (i + 1) xs)
-put_more f xs i x before out new lt is e put =
-    put ∙ ap (λ (os : List ℕ). os ++ f x) e ∙ append_assoc before (flat_map f (take i xs)) (f x) ∙ ap (λ (os : List ℕ). before ++ os) (sym (one_more f xs i x lt is))
-
-pub put_all : {X : Type 0} (f : X → List ℕ) (xs : List X) (i : ℕ) (before out : List ℕ) → length xs ≤ i → out ≡ before ++ flat_map f (take i xs) → out ≡ before ++ flat_map f xs
-put_all f xs i before out le e = e ∙ ap (λ ys. before ++ flat_map f ys) (take_all i xs le)
 
 -- an item is no longer than all of them
 pub item_small : {X : Type 0} (f : X → List ℕ) (xs : List X) (i n : ℕ) (x : X) → i < length xs → x ≡ get_or xs i x → length (flat_map f xs) ≤ n → length (f x) ≤ n
@@ -34,22 +19,11 @@ item_small f xs i n x lt is h =
 
 -- ---- the room that is left
 
-pub room_more : {X : Type 0} (f : X → List ℕ) (xs : List X) (i room left behind : ℕ) (x : X) → i < length xs → x ≡ get_or xs i x → left + length (flat_map f (take i xs)) ≡ room
-    → length (f x) ≤ left → left - length (f x) ≡ behind → behind + length (flat_map f (take (i + 1) xs)) ≡ room
-room_more f xs i room left behind x lt is e fits is_left =
-    omega (arith, ap length (one_more f xs i x lt is), length-append (flat_map f (take i xs)) (f x), e, fits, is_left)
-
 pub no_room : {X : Type 0} (f : X → List ℕ) (xs : List X) (i room left : ℕ) (x : X) → i < length xs → x ≡ get_or xs i x → left + length (flat_map f (take i xs)) ≡ room
     → (length (f x) ≤ left → ⊥) → length (flat_map f xs) ≤ room → ⊥
 no_room f xs i room left x lt is e none h =
     let same : length (f (get_or xs i x)) ≡ length (f x) = ap (λ y. length (f y)) (sym is) in
     none (omega (arith, length-flat_map-take f xs i x lt, same, e, h))
-
-pub all_room : {X : Type 0} (f : X → List ℕ) (xs : List X) (i room left : ℕ) → length xs ≤ i → left + length (flat_map f (take i xs)) ≡ room
-    → (length (flat_map f xs) ≤ room) × (left ≡ room - length (flat_map f xs))
-all_room f xs i room left le e =
-    let same : length (flat_map f (take i xs)) ≡ length (flat_map f xs) = ap (λ ys. length (flat_map f ys)) (take_all i xs le) in
-    (omega (arith, same, e), omega (arith, same, e))
 
 -- ---- counts
 

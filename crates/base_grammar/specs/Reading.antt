@@ -1,24 +1,14 @@
 -- Reading a BASE (Basic Audio Profile 1.0, section 3.7.2.2) from left to right, field by field, with the first fault that
 -- is met. `whole` is all that is read, and `rest` its last octets, which are still to be read.
-use Rattle.std.specs.Prelude.{◌≡◌, ℕ, zero, suc, Bool, true, false, List, [], ◌∷◌, ◌++◌, length, map, Option, Some, None, Result, Ok, Err, nat_lt, if◌then◌else◌}
+use Rattle.std.specs.Prelude.{ℕ, zero, suc, Bool, true, List, [], ◌∷◌, ◌++◌, length, map, Option, Some, None, is_none, Result, Ok, Err, nat_lt, if◌then◌else◌}
 use Rattle.octet_fields.specs.Reading.{octet_in, octets_in, number_in, place_in}
 use Rattle.octet_fields.specs.Tries.{◌>>=◌, needed}
-use Rattle.octet_fields.specs.Tries as tries
 use Rattle.base_grammar.specs.declared.fault.BaseFault.{BaseFault}
 use Rattle.base_grammar.specs.declared.fault.BaseFault.TheVariants.{Short, Trailing, TooLong, Memory}
 use Rattle.base_grammar.specs.declared.subgroup.BaseEntry.{BaseEntry}
 use Rattle.base_grammar.specs.declared.subgroup.Subgroup.{Subgroup}
 use Rattle.base_grammar.specs.Layout.{Endpoint, endpoint, is_lc3, bis_of}
 use Rattle.base_grammar.specs.Rows.{subgroups_fault, streams_fault, index_fault, run_fault}
-
--- what a function returned, seen by view, is what reading gives, unless memory ran out
-abbrev pub Fails : {Y : Type 0} → BaseFault → Result Y BaseFault → Type 0
-Fails Memory read = Unit {0}
-Fails fault read = read ≡ Err fault
-
-abbrev pub Gives : {X Y : Type 0} → (X → Y) → Result X BaseFault → Result Y BaseFault → Type 0
-Gives view (Ok x) read = read ≡ Ok (view x)
-Gives view (Err fault) read = Fails fault read
 
 -- ---- a field
 
@@ -104,17 +94,14 @@ fields_of whole = do
   subgroups ← subgroups_at whole [] count.0 count.1
   ended whole subgroups.1 (endpoint delay.0 subgroups.0)
 
--- a BASE, or what is wrong with the octets, or memory ran out for a BASE
+-- what a fault says of the octets: nothing, where memory ran out
+abbrev pub told : BaseFault → Option BaseFault
+told Memory = None
+told fault = Some fault
+
+-- it says nothing of them
 abbrev pub wants : BaseFault → Bool
-wants Memory = true
-wants fault = false
-
-abbrev pub Refuses : BaseFault → Result Endpoint BaseFault → Type 0
-Refuses fault read = tries.Fails (wants fault) fault read
-
-abbrev pub Answers : Result Endpoint BaseFault → Result Endpoint BaseFault → Type 0
-Answers (Ok base) read = read ≡ Ok base
-Answers (Err fault) read = Refuses fault read
+wants fault = is_none (told fault)
 
 -- what octets are read as
 unfoldable pub base_of : List ℕ → Result Endpoint BaseFault

@@ -1,7 +1,8 @@
 ghost use Rattle.std.specs.Prelude.{◌≡◌, ◌≤◌, [], ◌++◌, length, map, IfOk, IfErr, Ok};
 ghost use Rattle.base_grammar.specs.Faults.{IsFault};
 ghost use Rattle.base_grammar.specs.Layout.{Endpoint, endpoint, indices, bis_of, BaseIs};
-ghost use Rattle.base_grammar.specs.Reading.{Answers, Refuses, Gives, entry_at, entries_at, subgroup_at, subgroups_at, fields_of, base_of};
+ghost use Rattle.octet_fields.specs.Tries.{Answers, Finds, GivesOrWants};
+ghost use Rattle.base_grammar.specs.Reading.{told, entry_at, entries_at, subgroup_at, subgroups_at, fields_of, base_of};
 
 use crate::base::Base;
 use crate::checking::check_base;
@@ -26,7 +27,7 @@ fn entry_of<'a>(
     is_lc3: bool,
 ) -> Result<(BaseEntry, &'a [u8]), BaseFault>
     requires { length rest.now ≤ length whole.now }
-    ensures gives { Gives (λ x. (x.0, x.1.now)) result (entry_at whole.now is_lc3 (indices subgroups.now ++ map bis_of entries.now) rest.now) }
+    ensures gives { GivesOrWants told (λ x. (x.0, x.1.now)) result (entry_at whole.now is_lc3 (indices subgroups.now ++ map bis_of entries.now) rest.now) }
     ensures shorter { IfOk result (λ x. length x.1.now ≤ length rest.now) }
 {
     let (bis, rest) = match index_field(whole, rest, subgroups, entries.as_slice()) {
@@ -48,7 +49,7 @@ fn entries_of<'a>(
     is_lc3: bool,
 ) -> Result<(Entries, &'a [u8]), BaseFault>
     requires { length from.now ≤ length whole.now }
-    ensures gives { Gives (λ x. (x.0, x.1.now)) result (entries_at whole.now is_lc3 (indices subgroups.now) count from.now) }
+    ensures gives { GivesOrWants told (λ x. (x.0, x.1.now)) result (entries_at whole.now is_lc3 (indices subgroups.now) count from.now) }
     ensures shorter { IfOk result (λ x. length x.1.now ≤ length from.now) }
 {
     let mut entries = Entries::new(alloc);
@@ -73,7 +74,7 @@ fn subgroup_of<'a>(
     subgroups: &[Subgroup],
 ) -> Result<(Subgroup, &'a [u8]), BaseFault>
     requires { length rest.now ≤ length whole.now }
-    ensures gives { Gives (λ x. (x.0, x.1.now)) result (subgroup_at whole.now (indices subgroups.now) rest.now) }
+    ensures gives { GivesOrWants told (λ x. (x.0, x.1.now)) result (subgroup_at whole.now (indices subgroups.now) rest.now) }
     ensures shorter { IfOk result (λ x. length x.1.now ≤ length rest.now) }
 {
     let (count, rest) = streams_field(whole, rest)?;
@@ -104,7 +105,7 @@ fn subgroups_of<'a>(
     count: u8,
 ) -> Result<(Vec<Subgroup>, &'a [u8]), BaseFault>
     requires { length from.now ≤ length whole.now }
-    ensures gives { Gives (λ x. (x.0.items, x.1.now)) result (subgroups_at whole.now [] count from.now) }
+    ensures gives { GivesOrWants told (λ x. (x.0.items, x.1.now)) result (subgroups_at whole.now [] count from.now) }
     ensures shorter { IfOk result (λ x. length x.1.now ≤ length from.now) }
 {
     let mut subgroups = Vec::new(alloc);
@@ -123,7 +124,7 @@ fn subgroups_of<'a>(
 // All fields, from the delay on.
 #[tactic(auto, unfolding(crate::specs::Reading::fields_of))]
 fn read_fields(alloc: Global, whole: &[u8]) -> Result<(u32, Vec<Subgroup>), BaseFault>
-    ensures { Gives (λ x. endpoint x.0 x.1.items) result (fields_of whole.now) }
+    ensures { GivesOrWants told (λ x. endpoint x.0 x.1.items) result (fields_of whole.now) }
 {
     let (delay, rest) = delay_field(whole)?;
     let (count, rest) = count_field(whole, rest)?;
@@ -141,7 +142,7 @@ fn read_fields(alloc: Global, whole: &[u8]) -> Result<(u32, Vec<Subgroup>), Base
 // The fields of octets that are not too many.
 #[tactic(auto, unfolding(crate::specs::Reading::base_of))]
 fn read_base(alloc: Global, whole: &[u8]) -> Result<(u32, Vec<Subgroup>), BaseFault>
-    ensures { Gives (λ x. endpoint x.0 x.1.items) result (base_of whole.now) }
+    ensures { GivesOrWants told (λ x. endpoint x.0 x.1.items) result (base_of whole.now) }
 {
     if whole.len() > MAX_OCTETS {
         return Err(BaseFault::TooLong);
@@ -151,7 +152,7 @@ fn read_base(alloc: Global, whole: &[u8]) -> Result<(u32, Vec<Subgroup>), BaseFa
 
 // The BASE of the fields.
 fn read_whole(alloc: Global, from: &[u8]) -> Result<Base, BaseFault>
-    ensures { Gives (λ base. base) result (base_of from.now) }
+    ensures { GivesOrWants told (λ base. base) result (base_of from.now) }
 {
     let (delay, subgroups) = read_base(alloc, from)?;
     Ok(Base::new(delay, subgroups))
@@ -159,7 +160,7 @@ fn read_whole(alloc: Global, from: &[u8]) -> Result<Base, BaseFault>
 
 // Where memory ran out, a fault of the octets comes before it.
 fn read_or_check(alloc: Global, from: &[u8]) -> Result<Base, BaseFault>
-    ensures { Answers result (base_of from.now) }
+    ensures { Answers told result (base_of from.now) }
 {
     match read_whole(alloc, from) {
         Ok(base) => Ok(base),
@@ -170,7 +171,7 @@ fn read_or_check(alloc: Global, from: &[u8]) -> Result<Base, BaseFault>
 
 // Why octets are refused for which there is no memory: what is wrong with them, if they are no BASE.
 fn wanting(from: &[u8]) -> BaseFault
-    ensures { Refuses result (base_of from.now) }
+    ensures { Finds (told result) (base_of from.now) }
 {
     match check_base(from) {
         Ok(()) => BaseFault::Memory,
@@ -182,9 +183,9 @@ fn wanting(from: &[u8]) -> BaseFault
 /// from the left counts: a field that is not whole, or one that breaks its row. Want of memory comes only for octets that
 /// are a BASE.
 pub fn decode_base(alloc: Global, from: &[u8]) -> Result<Base, BaseFault>
-    ensures exact { Answers result (base_of from.now) }
+    ensures exact { Answers told result (base_of from.now) }
     ensures base { IfOk result (λ base. BaseIs base from.now) }
-    ensures only { (v : Endpoint) → BaseIs v from.now → Answers result (Ok v) }
+    ensures only { (v : Endpoint) → BaseIs v from.now → Answers told result (Ok v) }
     ensures fault { IfErr result (λ fault. IsFault fault from.now) }
 {
     read_or_check(alloc, from)

@@ -13,7 +13,8 @@ use Rattle.bass_operations.specs.declared.wishes.Wish.{Wish}
 use Rattle.std.specs.List.{AllByRecursion}
 use Rattle.bass_operations.specs.Faults.{IsFault}
 use Rattle.bass_operations.specs.Layout.{fields, wishes_of, IsLaid, OpIs, FitsWidths, MetadataFits, WishFits}
-use Rattle.bass_operations.specs.Reading.{op_in, op_of, judged, fault_of, first_fault, Fails, Gives}
+use Rattle.bass_operations.specs.Reading.{op_in, op_of, judged, fault_of, first_fault, told}
+use Rattle.octet_fields.specs.Tries.{Answers, Finds}
 use Rattle.bass_operations.specs.Twice.{twice_of}
 use Rattle.bass_operations.proofs.Judged.{op_laid, laid_read, answered_err, laid_is_judged, read_is}
 use Rattle.bass_operations.proofs.Twice.{lowest_found, lowest_told}
@@ -84,7 +85,7 @@ fault_told Memory octets some h f = absurd (some refl)
 
 -- ---- of what a function gave
 
-pub gave_operation : (result : Result Operation OpFault) (octets : List ℕ) → IsOctets octets → Gives result (op_of octets) → IfOk result (λ op. OpIs op octets)
+pub gave_operation : (result : Result Operation OpFault) (octets : List ℕ) → IsOctets octets → Answers told result (op_of octets) → IfOk result (λ op. OpIs op octets)
 gave_operation (Ok op) octets h g = read_is op octets h g
 gave_operation (Err fault) octets h g = tt
 
@@ -100,7 +101,7 @@ widths_metadata (Modify modify) h = metadata_of modify.wishes h.wishes.1
 widths_metadata (Code source_id code) h = tt
 widths_metadata (Remove source_id) h = tt
 
-pub gave_metadata : (result : Result Operation OpFault) (octets : List ℕ) → IsOctets octets → Gives result (op_of octets) → IfOk result (λ op. MetadataFits (wishes_of op))
+pub gave_metadata : (result : Result Operation OpFault) (octets : List ℕ) → IsOctets octets → Answers told result (op_of octets) → IfOk result (λ op. MetadataFits (wishes_of op))
 gave_metadata (Ok op) octets h g = widths_metadata op (read_is op octets h g).layout.widths
 gave_metadata (Err fault) octets h g = tt
 
@@ -108,7 +109,7 @@ an_operation : (octets : List ℕ) (read : Result Operation OpFault) → IsOctet
 an_operation octets (Ok op) h e some = (op, read_is op octets h e)
 an_operation octets (Err fault) h e some = absurd cc
 
-failed : (fault : OpFault) (octets : List ℕ) → IsOctets octets → Fails fault (op_of octets) → IsFault fault octets
+failed : (fault : OpFault) (octets : List ℕ) → IsOctets octets → Finds (told fault) (op_of octets) → IsFault fault octets
 failed Empty octets h g = fault_found Empty octets h g
 failed Opcode octets h g = fault_found Opcode octets h g
 failed Length octets h g = fault_found Length octets h g
@@ -116,6 +117,6 @@ failed (Rfu place) octets h g = fault_found (Rfu place) octets h g
 failed (BisTwice bis) octets h g = fault_found (BisTwice bis) octets h g
 failed Memory octets h g = an_operation octets (op_of octets) h refl g
 
-pub gave_fault : (result : Result Operation OpFault) (octets : List ℕ) → IsOctets octets → Gives result (op_of octets) → IfErr result (λ fault. IsFault fault octets)
+pub gave_fault : (result : Result Operation OpFault) (octets : List ℕ) → IsOctets octets → Answers told result (op_of octets) → IfErr result (λ fault. IsFault fault octets)
 gave_fault (Ok op) octets h g = tt
 gave_fault (Err fault) octets h g = failed fault octets h g

@@ -9,10 +9,8 @@ use Rattle.octet_fields.specs.Steps.{◌>>=◌, whole}
 use Rattle.octet_fields.proofs.Citable.{IsOctets-rest, octet_takes, octets_take, bind_some, some_is, reserved_none, none_reserved}
 use Rattle.bass_operations.specs.declared.fault.OpFault.{OpFault}
 use Rattle.bass_operations.specs.declared.fault.OpFault.TheVariants.{Opcode}
-use Rattle.bass_operations.specs.declared.operation.AddSource.{AddSource}
 use Rattle.bass_operations.specs.declared.operation.Operation.{Operation}
 use Rattle.bass_operations.specs.declared.operation.Operation.TheVariants.{ScanStopped, ScanStarted, Add, Modify, Code, Remove}
-use Rattle.bass_operations.specs.declared.wishes.Wish.{Wish}
 use Rattle.bass_operations.specs.Layout.{fields, spelling, wishes_of, IsLaid, OpIs, FitsWidths}
 use Rattle.bass_operations.specs.Reading.{wishes_in, add_head_in, modify_head_in, add_in, modify_in, code_in, remove_in, alone, op_in, op_of, judged, answered, fault_of, first_fault}
 use Rattle.bass_operations.specs.Twice.{twice_of}
@@ -24,9 +22,6 @@ few : (n : ℕ) → n < 256 → n ≤ 255
 few n h = omega arith
 
 -- ---- what is read is laid so
-
-with_wishes : AddSource → List Wish → AddSource
-with_wishes add wishes = record add { wishes = wishes }
 
 pub add_laid : (rest : List ℕ) (op : Operation) → IsOctets rest → add_in rest ≡ Some op → IsLaid op (2 ∷ rest)
 unfolding add_in

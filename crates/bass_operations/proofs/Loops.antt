@@ -79,10 +79,6 @@ regroup : (front : List Wish) (wish : Wish) (read : Option (List Wish)) → with
 regroup front wish None = refl
 regroup front wish (Some wishes) = ap (λ (ws : List Wish). Some ws) (sym (append_assoc front (wish ∷ []) wishes))
 
-pub with_nothing : (read : Option (List Wish)) → with_front [] read ≡ read
-with_nothing None = refl
-with_nothing (Some wishes) = refl
-
 pub read_next : (front : List Wish) (count i : ℕ) (from : List ℕ) (group : Subgroup) (after : List ℕ) (total : Option (List Wish)) → i < count → subgroup_in from ≡ Some (group, after)
     → with_front front (wishes_in (count - i) from) ≡ total → with_front (front ++ wish_of group ∷ []) (wishes_in (count - (i + 1)) after) ≡ total
 read_next front count i from group after total lt e so_far =

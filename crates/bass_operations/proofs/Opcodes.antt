@@ -10,7 +10,8 @@ use Rattle.bass_operations.specs.declared.fault.OpFault.{OpFault}
 use Rattle.bass_operations.specs.declared.fault.OpFault.TheVariants.{Length}
 use Rattle.bass_operations.specs.declared.operation.Operation.{Operation}
 use Rattle.bass_operations.specs.declared.operation.Operation.TheVariants.{ScanStopped, ScanStarted, Code, Remove}
-use Rattle.bass_operations.specs.Reading.{op_in, op_of, judged, answered, fault_of, code_in, remove_in, Gives}
+use Rattle.bass_operations.specs.Reading.{op_in, op_of, judged, answered, fault_of, code_in, remove_in, told}
+use Rattle.octet_fields.specs.Tries.{Answers}
 use Rattle.bass_operations.specs.Twice.{twice_from}
 
 abbrev pub behind : List ℕ → List ℕ
@@ -50,24 +51,24 @@ remove_faultless rest op e =
     let read : Operation = Remove a.0 in
     subst (λ (o : Operation). fault_of o ≡ None) (some_is read op a.2) refl
 
-faultless : (read : Option Operation) (given : Result Operation OpFault) → ((op : Operation) → read ≡ Some op → fault_of op ≡ None) → given ≡ ok_or read Length → Gives given (judged read)
-faultless None given none e = subst (λ (g : Result Operation OpFault). Gives g (judged None)) (sym e) refl
-faultless (Some op) given none e = subst (λ (g : Result Operation OpFault). Gives g (judged (Some op))) (sym e) (ap (answered op) (none op refl))
+faultless : (read : Option Operation) (given : Result Operation OpFault) → ((op : Operation) → read ≡ Some op → fault_of op ≡ None) → given ≡ ok_or read Length → Answers told given (judged read)
+faultless None given none e = subst (λ (g : Result Operation OpFault). Answers told g (judged None)) (sym e) refl
+faultless (Some op) given none e = subst (λ (g : Result Operation OpFault). Answers told g (judged (Some op))) (sym e) (ap (answered op) (none op refl))
 
 pub code_given : (from : List ℕ) (read : Option Operation) (given : Result Operation OpFault) → 1 ≤ length from → get_or from 0 0 ≡ 4 → read ≡ code_in (behind from)
-    → given ≡ ok_or read Length → Gives given (op_of from)
+    → given ≡ ok_or read Length → Answers told given (op_of from)
 unfolding op_in
 code_given [] read given h a e g = absurd (omega (arith, h))
 code_given (code ∷ rest) read given h a e g =
     let same : code_in rest ≡ read = ap code_in (sym (behind_is code rest)) ∙ sym e in
     let judged_so : op_of (code ∷ rest) ≡ judged read = ap (λ (n : ℕ). op_of (n ∷ rest)) a ∙ ap judged same in
-    subst (Gives given) (sym judged_so) (faultless read given (λ op some. code_faultless rest op (same ∙ some)) g)
+    subst (Answers told given) (sym judged_so) (faultless read given (λ op some. code_faultless rest op (same ∙ some)) g)
 
 pub remove_given : (from : List ℕ) (read : Option Operation) (given : Result Operation OpFault) → 1 ≤ length from → get_or from 0 0 ≡ 5 → read ≡ remove_in (behind from)
-    → given ≡ ok_or read Length → Gives given (op_of from)
+    → given ≡ ok_or read Length → Answers told given (op_of from)
 unfolding op_in
 remove_given [] read given h a e g = absurd (omega (arith, h))
 remove_given (code ∷ rest) read given h a e g =
     let same : remove_in rest ≡ read = ap remove_in (sym (behind_is code rest)) ∙ sym e in
     let judged_so : op_of (code ∷ rest) ≡ judged read = ap (λ (n : ℕ). op_of (n ∷ rest)) a ∙ ap judged same in
-    subst (Gives given) (sym judged_so) (faultless read given (λ op some. remove_faultless rest op (same ∙ some)) g)
+    subst (Answers told given) (sym judged_so) (faultless read given (λ op some. remove_faultless rest op (same ∙ some)) g)

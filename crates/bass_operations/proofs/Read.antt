@@ -16,7 +16,8 @@ use Rattle.bass_operations.specs.declared.operation.Operation.{Operation}
 use Rattle.bass_operations.specs.declared.operation.Operation.TheVariants.{Add, Modify}
 use Rattle.bass_operations.specs.declared.wishes.Wish.{Wish}
 use Rattle.bass_operations.specs.Layout.{fields}
-use Rattle.bass_operations.specs.Reading.{wishes_in, add_head_in, modify_head_in, add_in, modify_in, judged, answered, first_fault, add_reserved, Fails}
+use Rattle.bass_operations.specs.Reading.{wishes_in, add_head_in, modify_head_in, add_in, modify_in, judged, answered, first_fault, add_reserved, told}
+use Rattle.octet_fields.specs.Tries.{Finds}
 use Rattle.bass_operations.specs.Scanning.{twice_in}
 use Rattle.bass_operations.specs.Twice.{twice_of, twice_from}
 use Rattle.bass_operations.proofs.Heads.{add_head_takes, add_before-length, modify_head_takes, modify_before-length}
@@ -44,13 +45,13 @@ pub head_fault : (read : Result Operation OpFault) (op : Operation) (head others
 head_fault read op head others twice place e h = e ∙ ap (λ (p : Option ℕ). answered op (first_fault (or_place p others) twice)) h
 
 fails : (read : Result Operation OpFault) (op : Operation) (others twice : Option ℕ) (fault : OpFault) → read ≡ answered op (first_fault others twice) → Some fault ≡ first_fault others twice
-    → Fails fault read
+    → Finds (told fault) read
 fails read op (Some place) twice fault e f =
     let same : Rfu place ≡ fault = cc in
-    subst (λ (x : OpFault). Fails x read) same e
+    subst (λ (x : OpFault). Finds (told x) read) same e
 fails read op None (Some bis) fault e f =
     let same : BisTwice bis ≡ fault = cc in
-    subst (λ (x : OpFault). Fails x read) same e
+    subst (λ (x : OpFault). Finds (told x) read) same e
 fails read op None None fault e f = absurd cc
 
 behind_head : (read : Result Operation OpFault) (op : Operation) (head others twice : Option ℕ) → read ≡ answered op (first_fault (or_place head others) twice) → head ≡ None
@@ -58,7 +59,7 @@ behind_head : (read : Result Operation OpFault) (op : Operation) (head others tw
 behind_head read op head others twice e h = e ∙ ap (λ (p : Option ℕ). answered op (first_fault (or_place p others) twice)) h
 
 wishes_fault : (read : Result Operation OpFault) (op : Operation) (head others twice : Option ℕ) (fault : OpFault) → read ≡ answered op (first_fault (or_place head others) twice) → head ≡ None
-    → Some fault ≡ first_fault others twice → Fails fault read
+    → Some fault ≡ first_fault others twice → Finds (told fault) read
 wishes_fault read op head others twice fault e h f = fails read op others twice fault (behind_head read op head others twice e h) f
 
 no_fault_left : (read : Result Operation OpFault) (op : Operation) (head others twice : Option ℕ) → read ≡ answered op (first_fault (or_place head others) twice) → head ≡ None
@@ -144,7 +145,7 @@ add_head_fault from rest add count tail place h parts e some r =
     head_fault (judged (add_in rest)) (added add j.0) (add_reserved add) (reserved_in from count tail) (twice_in 31 1 count tail) place j.1 (sym r)
 
 pub add_wishes_fault : (from rest : List ℕ) (add : AddSource) (count : ℕ) (tail : List ℕ) (fault : OpFault) → IsOctets from → from ≡ 2 ∷ rest → add_head_in rest ≡ Some (add, count, tail)
-    → is_some (wishes_in count tail) ≡ true → None ≡ add_reserved add → Some fault ≡ first_fault (reserved_in from count tail) (twice_in 31 1 count tail) → Fails fault (judged (add_in rest))
+    → is_some (wishes_in count tail) ≡ true → None ≡ add_reserved add → Some fault ≡ first_fault (reserved_in from count tail) (twice_in 31 1 count tail) → Finds (told fault) (judged (add_in rest))
 add_wishes_fault from rest add count tail fault h parts e some r f =
     let j = add_judged_some from rest add count tail h parts e some in
     wishes_fault (judged (add_in rest)) (added add j.0) (add_reserved add) (reserved_in from count tail) (twice_in 31 1 count tail) fault j.1 (sym r) f
@@ -222,7 +223,7 @@ modify_head_fault from rest modify count tail place h parts e some r =
 
 pub modify_wishes_fault : (from rest : List ℕ) (modify : ModifySource) (count : ℕ) (tail : List ℕ) (fault : OpFault) → IsOctets from → from ≡ 3 ∷ rest
     → modify_head_in rest ≡ Some (modify, count, tail) → is_some (wishes_in count tail) ≡ true → None ≡ modify_reserved modify
-    → Some fault ≡ first_fault (reserved_in from count tail) (twice_in 31 1 count tail) → Fails fault (judged (modify_in rest))
+    → Some fault ≡ first_fault (reserved_in from count tail) (twice_in 31 1 count tail) → Finds (told fault) (judged (modify_in rest))
 modify_wishes_fault from rest modify count tail fault h parts e some r f =
     let j = modify_judged_some from rest modify count tail h parts e some in
     wishes_fault (judged (modify_in rest)) (modified modify j.0) (modify_reserved modify) (reserved_in from count tail) (twice_in 31 1 count tail) fault j.1 (sym r) f

@@ -1,9 +1,8 @@
 -- Reading an operation (Broadcast Audio Scan Service 1.0, section 3.1.1) field by field.
-use Rattle.std.specs.Prelude.{ℕ, zero, suc, ◌≡◌, List, [], ◌∷◌, map, Option, Some, None, Result, Ok, Err, Bool, true, false, nat_lt, if◌then◌else◌}
+use Rattle.std.specs.Prelude.{ℕ, zero, suc, List, [], ◌∷◌, map, Option, Some, None, Result, Ok, Err, nat_lt, if◌then◌else◌}
 use Rattle.octet_fields.specs.Layout.{reserved_from}
 use Rattle.octet_fields.specs.Reading.{octet_in, octets_in, number_in}
 use Rattle.octet_fields.specs.Steps.{◌>>=◌, whole}
-use Rattle.octet_fields.specs.Tries as tries
 use Rattle.octet_fields.specs.Subgroups.{Subgroup, subgroups_in}
 use Rattle.bass_operations.specs.declared.fault.OpFault.{OpFault}
 use Rattle.bass_operations.specs.declared.fault.OpFault.TheVariants.{Empty, Opcode, Length, Rfu, BisTwice}
@@ -112,14 +111,7 @@ abbrev pub op_of : List ℕ → Result Operation OpFault
 op_of [] = Err Empty
 op_of (opcode ∷ octets) = if nat_lt 5 opcode then Err Opcode else judged (op_in opcode octets)
 
--- a function gave what reading gives, unless memory ran out for an operation
-abbrev pub wants : OpFault → Bool
-wants faults.Memory = true
-wants fault = false
-
-abbrev pub Fails : OpFault → Result Operation OpFault → Type 0
-Fails fault read = tries.Fails (wants fault) fault read
-
-abbrev pub Gives : Result Operation OpFault → Result Operation OpFault → Type 0
-Gives (Ok op) read = read ≡ Ok op
-Gives (Err fault) read = Fails fault read
+-- what a fault says of the octets: nothing, where memory ran out for an operation
+abbrev pub told : OpFault → Option OpFault
+told faults.Memory = None
+told fault = Some fault

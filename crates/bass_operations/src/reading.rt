@@ -1,8 +1,9 @@
 ghost use Rattle.std.specs.Prelude.{◌≡◌, ◌∷◌, IfOk, IfErr, Ok};
-ghost use Rattle.octet_fields.specs.Reading as fields;
+ghost use Rattle.octet_fields.specs.Reading.{Gives};
+ghost use Rattle.octet_fields.specs.Tries.{Answers};
 ghost use Rattle.bass_operations.specs.Faults.{IsFault};
 ghost use Rattle.bass_operations.specs.Layout.{MetadataFits, OpIs, wishes_of};
-ghost use Rattle.bass_operations.specs.Reading.{Gives, op_of, judged, add_in, add_head_in, add_reserved, modify_in, modify_head_in, code_in, remove_in};
+ghost use Rattle.bass_operations.specs.Reading.{told, op_of, judged, add_in, add_head_in, add_reserved, modify_in, modify_head_in, code_in, remove_in};
 ghost use Rattle.bass_operations.specs.declared.operation.Operation.{Operation};
 
 use crate::fault::OpFault;
@@ -28,10 +29,10 @@ const MODIFY_PA_SYNC_PLACE: usize = 2;
 /// the octets are fewer or more than the fields, Rfu with the place of the first field that has a reserved value, BisTwice
 /// with the lowest stream index that stands in two subgroups, where 0xFFFFFFFF doesn't count, and Memory.
 pub fn decode_operation(alloc: Global, from: &[u8]) -> Result<Operation, OpFault>
-    ensures exact { Gives result (op_of from.now) }
+    ensures exact { Answers told result (op_of from.now) }
     ensures layout { IfOk result (λ op. OpIs op from.now) }
     ensures metadata { IfOk result (λ op. MetadataFits (wishes_of op)) }
-    ensures only { (op : Operation) → OpIs op from.now → Gives result (Ok op) }
+    ensures only { (op : Operation) → OpIs op from.now → Answers told result (Ok op) }
     ensures fault { IfErr result (λ fault. IsFault fault from.now) }
 {
     read_operation(alloc, from)
@@ -40,7 +41,7 @@ pub fn decode_operation(alloc: Global, from: &[u8]) -> Result<Operation, OpFault
 // By the opcode.
 #[tactic(auto, unfolding(crate::specs::Reading::op_in))]
 fn read_operation(alloc: Global, from: &[u8]) -> Result<Operation, OpFault>
-    ensures { Gives result (op_of from.now) }
+    ensures { Answers told result (op_of from.now) }
 {
     let [opcode, rest @ ..] = from else {
         return Err(OpFault::Empty);
@@ -60,7 +61,7 @@ fn read_operation(alloc: Global, from: &[u8]) -> Result<Operation, OpFault>
 // Add Source, the octets behind the opcode.
 fn read_add(alloc: Global, from: &[u8], rest: &[u8]) -> Result<Operation, OpFault>
     requires { from.now ≡ 2 ∷ rest.now }
-    ensures { Gives result (judged (add_in rest.now)) }
+    ensures { Answers told result (judged (add_in rest.now)) }
 {
     let Some((mut add, count, subgroups)) = add_head(alloc, rest) else {
         return Err(OpFault::Length);
@@ -79,7 +80,7 @@ fn read_add(alloc: Global, from: &[u8], rest: &[u8]) -> Result<Operation, OpFaul
 // Modify Source, the octets behind the opcode.
 fn read_modify(alloc: Global, from: &[u8], rest: &[u8]) -> Result<Operation, OpFault>
     requires { from.now ≡ 3 ∷ rest.now }
-    ensures { Gives result (judged (modify_in rest.now)) }
+    ensures { Answers told result (judged (modify_in rest.now)) }
 {
     let Some((mut modify, count, subgroups)) = modify_head(alloc, rest) else {
         return Err(OpFault::Length);
@@ -126,7 +127,7 @@ fn remove_at(from: &[u8]) -> Option<Operation>
 // An Add Source with no wish yet, the number of its subgroups, and their octets.
 #[tactic(auto, unfolding(crate::specs::Reading::add_head_in))]
 fn add_head(alloc: Global, from: &[u8]) -> Option<(AddSource, u8, &[u8])>
-    ensures { fields.Gives (λ x. (x.0, x.1, x.2.now)) result (add_head_in from.now) }
+    ensures { Gives (λ x. (x.0, x.1, x.2.now)) result (add_head_in from.now) }
 {
     let (address_type, rest) = octet_at(from)?;
     let (address, rest) = array_at::<6>(rest)?;
@@ -150,7 +151,7 @@ fn add_head(alloc: Global, from: &[u8]) -> Option<(AddSource, u8, &[u8])>
 // The same of a Modify Source.
 #[tactic(auto, unfolding(crate::specs::Reading::modify_head_in))]
 fn modify_head(alloc: Global, from: &[u8]) -> Option<(ModifySource, u8, &[u8])>
-    ensures { fields.Gives (λ x. (x.0, x.1, x.2.now)) result (modify_head_in from.now) }
+    ensures { Gives (λ x. (x.0, x.1, x.2.now)) result (modify_head_in from.now) }
 {
     let (source_id, rest) = octet_at(from)?;
     let (pa_sync, rest) = octet_at(rest)?;

@@ -14,9 +14,10 @@ use Rattle.ltv_codec.specs.Faults.{IsBad, IsFault}
 use Rattle.ltv_codec.specs.Layout.{Fits, spelling, IsLtvList, AreLtvs}
 use Rattle.std.specs.List.{AllByRecursion}
 use Rattle.octet_fields.specs.Reading.{place_in, counted_in}
+use Rattle.octet_fields.specs.Tries.{Answers}
 use Rattle.ltv_codec.specs.declared.fault.LtvBad.{LtvBad}
 use Rattle.ltv_codec.specs.declared.ltvs.Ltv.{Ltv}
-use Rattle.ltv_codec.specs.Reading.{before, ltvs_from, ltvs_of, ltvs_in, bad_of, IsStructure, IsBadAt, Gives}
+use Rattle.ltv_codec.specs.Reading.{before, ltvs_from, ltvs_of, ltvs_in, bad_of, told, IsStructure, IsBadAt}
 use Rattle.ltv_codec.specs.Values.{first_of, first_in}
 use Rattle.ltv_codec.proofs.Lists.{made, behind, behind-more, structure_read, is_zero, is_structure, list_read, read_list, read_bad}
 
@@ -51,20 +52,12 @@ pub record Unread (from rest : List ℕ) : Type 0 where
   pub within : length rest ≤ length from
   pub same : result_err (ltvs_from (place_in from rest) 0 rest) ≡ bad_of from
 
-pub unread_first : (from : List ℕ) → Unread from from
-unread_first from =
-    let there : place_in from from ≡ 0 = omega arith in
-    record { within = omega arith; same = ap (λ (p : ℕ). result_err (ltvs_from p 0 from)) there }
-
 pub unread_next : (from rest : List ℕ) (kind : ℕ) (value others : List ℕ) → IsStructure rest kind value others → Unread from rest → Unread from others
 unread_next from rest kind value others s u =
     record {
       within = omega (arith, u.within, shorter rest kind value others s);
       same = sym (before-bad (made kind value) (ltvs_from (place_in from others) 0 others)) ∙ ap result_err (sym (one_read from rest kind value others u.within s)) ∙ u.same;
     }
-
-pub unread_bad : (from rest : List ℕ) (bad : LtvBad) → Unread from rest → ltvs_from (place_in from rest) 0 rest ≡ Err bad → bad_of from ≡ Some bad
-unread_bad from rest bad u e = sym u.same ∙ ap result_err e
 
 nothing_is_read : (place : ℕ) (rest : List ℕ) → length rest ≡ 0 → ltvs_from place 0 rest ≡ Ok []
 unfolding ltvs_from
@@ -81,15 +74,6 @@ pub record Undecoded (from : List ℕ) (list : List Ltv) (rest : List ℕ) : Typ
   pub within : length rest ≤ length from
   pub same : behind list (ltvs_from (place_in from rest) 0 rest) ≡ ltvs_of from
 
-behind-none : (read : Result (List Ltv) LtvBad) → behind [] read ≡ read
-behind-none (Ok ltvs) = refl
-behind-none (Err bad) = refl
-
-pub undecoded_first : (from : List ℕ) → Undecoded from [] from
-undecoded_first from =
-    let there : place_in from from ≡ 0 = omega arith in
-    record { within = omega arith; same = behind-none (ltvs_from (place_in from from) 0 from) ∙ ap (λ (p : ℕ). ltvs_from p 0 from) there }
-
 pub undecoded_next : (from : List ℕ) (list : List Ltv) (rest : List ℕ) (kind : ℕ) (value others : List ℕ) → IsStructure rest kind value others → Undecoded from list rest
     → Undecoded from (list ++ made kind value ∷ []) others
 undecoded_next from list rest kind value others s u =
@@ -97,16 +81,6 @@ undecoded_next from list rest kind value others s u =
       within = omega (arith, u.within, shorter rest kind value others s);
       same = sym (behind-more list (made kind value) (ltvs_from (place_in from others) 0 others)) ∙ ap (behind list) (sym (one_read from rest kind value others u.within s)) ∙ u.same;
     }
-
-pub undecoded_bad : (from : List ℕ) (list : List Ltv) (rest : List ℕ) (bad : LtvBad) → Undecoded from list rest → ltvs_from (place_in from rest) 0 rest ≡ Err bad → ltvs_of from ≡ Err bad
-undecoded_bad from list rest bad u e = sym u.same ∙ ap (behind list) e
-
--- a list has no such rest
-pub undecoded_good : (from : List ℕ) (list : List Ltv) (rest : List ℕ) (bad : LtvBad) → bad_of from ≡ None → Undecoded from list rest
-    → ltvs_from (place_in from rest) 0 rest ≡ Err bad → ⊥
-undecoded_good from list rest bad good u e =
-    let found : Some bad ≡ None = sym (ap result_err (undecoded_bad from list rest bad u e)) ∙ good in
-    cc
 
 pub undecoded_none : (from : List ℕ) (list : List Ltv) (rest : List ℕ) → Undecoded from list rest → length rest ≡ 0 → ltvs_of from ≡ Ok list
 undecoded_none from list rest u h = sym u.same ∙ ap (behind list) (nothing_is_read (place_in from rest) rest h) ∙ ap (λ (ls : List Ltv). Ok ls) (append-nil list)
@@ -117,11 +91,6 @@ undecoded_none from list rest u h = sym u.same ∙ ap (behind list) (nothing_is_
 pub record Unfound (from : List ℕ) (kind : ℕ) (rest : List ℕ) : Type 0 where
   pub unread : Unread from rest
   pub same : first_of kind (result_unwrap_or (ltvs_from (place_in from rest) 0 rest) []) ≡ first_in kind from
-
-pub unfound_first : (from : List ℕ) (kind : ℕ) → Unfound from kind from
-unfound_first from kind =
-    let there : place_in from from ≡ 0 = omega arith in
-    record { unread = unread_first from; same = ap (λ (p : ℕ). first_of kind (result_unwrap_or (ltvs_from p 0 from) [])) there }
 
 -- the rest is a structure and a list
 opened : (from : List ℕ) (kind : ℕ) (rest : List ℕ) (found : ℕ) (value others : List ℕ) → bad_of from ≡ None → IsStructure rest found value others → Unfound from kind rest
@@ -150,11 +119,6 @@ unfound_found from kind rest found value others good e s u =
 
 pub unfound_none : (from : List ℕ) (kind : ℕ) (rest : List ℕ) → Unfound from kind rest → length rest ≡ 0 → first_in kind from ≡ None
 unfound_none from kind rest u h = sym u.same ∙ ap (λ (r : Result (List Ltv) LtvBad). first_of kind (result_unwrap_or r [])) (nothing_is_read (place_in from rest) rest h)
-
-pub unfound_bad : (from : List ℕ) (kind : ℕ) (rest : List ℕ) (bad : LtvBad) → bad_of from ≡ None → Unfound from kind rest → ltvs_from (place_in from rest) 0 rest ≡ Err bad → ⊥
-unfound_bad from kind rest bad good u e =
-    let found : Some bad ≡ None = sym (unread_bad from rest bad u.unread e) ∙ good in
-    cc
 
 -- ---- the front of octets that are read
 
@@ -202,17 +166,7 @@ pub checked_cut : (octets : List ℕ) (result : Result (Unit {0}) LtvBad) → Is
 checked_cut octets (Ok _) fits e = tt
 checked_cut octets (Err bad) fits e = read_bad bad octets fits (err_in (ltvs_of octets) bad (sym e))
 
-pub refused_given : (octets : List ℕ) (bad : LtvBad) → Some bad ≡ bad_of octets → ltvs_of octets ≡ Err bad
-refused_given octets bad e = err_in (ltvs_of octets) bad (sym e)
-
-is_ok : (read : Result (List Ltv) LtvBad) → result_err read ≡ None → IsOk read
-is_ok (Ok ltvs) e = refl
-is_ok (Err bad) e = absurd cc
-
-pub memory_given : (octets : List ℕ) → bad_of octets ≡ None → IsOk (ltvs_of octets)
-memory_given octets e = is_ok (ltvs_of octets) e
-
-pub decoded_list : (octets : List ℕ) (result : Result (List Ltv) LtvFault) → IsOctets octets → Gives result (ltvs_of octets) → IfOk result (λ ltvs. IsLtvList ltvs octets)
+pub decoded_list : (octets : List ℕ) (result : Result (List Ltv) LtvFault) → IsOctets octets → Answers told result (ltvs_of octets) → IfOk result (λ ltvs. IsLtvList ltvs octets)
 decoded_list octets (Ok ltvs) fits given = read_list ltvs octets fits given
 decoded_list octets (Err fault) fits given = tt
 
@@ -220,7 +174,7 @@ are_given : (octets : List ℕ) (read : Result (List Ltv) LtvBad) → IsOctets o
 are_given octets (Ok ltvs) fits e given = record { ltvs = ltvs; list = read_list ltvs octets fits e }
 are_given octets (Err bad) fits e given = absurd cc
 
-pub decoded_cut : (octets : List ℕ) (result : Result (List Ltv) LtvFault) → IsOctets octets → Gives result (ltvs_of octets) → IfErr result (λ fault. IsFault fault octets)
+pub decoded_cut : (octets : List ℕ) (result : Result (List Ltv) LtvFault) → IsOctets octets → Answers told result (ltvs_of octets) → IfErr result (λ fault. IsFault fault octets)
 decoded_cut octets (Ok ltvs) fits given = tt
 decoded_cut octets (Err faults.Memory) fits given = are_given octets (ltvs_of octets) fits refl given
 decoded_cut octets (Err (faults.Bad bad)) fits given = read_bad bad octets fits given

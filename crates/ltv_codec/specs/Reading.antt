@@ -1,5 +1,5 @@
 -- Reading an LTV list (Basic Audio Profile 1.0, section 4.3) from left to right, with the first fault that is met.
-use Rattle.std.specs.Prelude.{ℕ, zero, suc, ◌≡◌, ◌+◌, ◌≤◌, List, [], ◌∷◌, ◌++◌, length, get_or, take, drop, Option, Result, Ok, Err, IsOk, nat_lt, if◌then◌else◌}
+use Rattle.std.specs.Prelude.{ℕ, zero, suc, ◌≡◌, ◌+◌, ◌≤◌, List, [], ◌∷◌, ◌++◌, length, get_or, take, drop, Option, Some, None, Result, Ok, Err, nat_lt, if◌then◌else◌}
 use Rattle.std.specs.Result.{result_unwrap_or, result_err}
 use Rattle.ltv_codec.specs.declared.fault.LtvBad.{LtvBad}
 use Rattle.ltv_codec.specs.declared.fault.LtvBad.TheVariants.{ZeroLength, Short}
@@ -38,14 +38,10 @@ ltvs_in octets = result_unwrap_or (ltvs_of octets) []
 abbrev pub bad_of : List ℕ → Option LtvBad
 bad_of octets = result_err (ltvs_of octets)
 
--- a function gave what reading gives, unless memory ran out for a list
-abbrev pub Fails : LtvFault → Result (List Ltv) LtvBad → Type 0
-Fails faults.Memory read = IsOk read
-Fails (faults.Bad bad) read = read ≡ Err bad
-
-abbrev pub Gives : Result (List Ltv) LtvFault → Result (List Ltv) LtvBad → Type 0
-Gives (Ok ltvs) read = read ≡ Ok ltvs
-Gives (Err fault) read = Fails fault read
+-- what a fault says of the octets: nothing, where memory ran out for a list
+abbrev pub told : LtvFault → Option LtvBad
+told (faults.Bad bad) = Some bad
+told faults.Memory = None
 
 -- a whole structure of this type and value stands in front of the others
 pub record IsStructure (octets : List ℕ) (kind : ℕ) (value others : List ℕ) : Type 0 where

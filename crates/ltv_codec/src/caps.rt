@@ -1,7 +1,8 @@
 ghost use Rattle.std.specs.Prelude.{◌≡◌};
 ghost use Rattle.std.specs.Option.{option_map};
 ghost use Rattle.ltv_codec.specs.Layout.{AreLtvs};
-ghost use Rattle.ltv_codec.specs.Values.{number_in, value_in, least_of, greatest_of, supported_sampling_frequencies, supported_frame_durations, supported_audio_channel_counts, supported_octets_per_codec_frame, supported_max_codec_frames_per_sdu};
+ghost use Rattle.ltv_codec.specs.Values.{number_in, value_in, least_of, greatest_of, supported_sampling_frequencies, supported_frame_durations};
+ghost use Rattle.ltv_codec.specs.Values.{supported_audio_channel_counts, supported_octets_per_codec_frame, supported_max_codec_frames_per_sdu};
 
 use crate::reading::first_value;
 use crate::values::{octet_of, short_of};

@@ -2,11 +2,11 @@ ghost use Rattle.std.specs.Prelude.{◌≡◌, ◌<◌, ◌≤◌, List, length,
 ghost use Rattle.std.specs.Result.{result_err};
 ghost use Rattle.ltv_codec.specs.Faults.{IsBad, IsFault};
 ghost use Rattle.ltv_codec.specs.Layout.{IsLtvList, AreLtvs};
-ghost use Rattle.ltv_codec.specs.Reading.{ltvs_of, ltvs_in, bad_of, Gives, IsStructure, IsBadAt};
+ghost use Rattle.ltv_codec.specs.Reading.{ltvs_of, ltvs_in, bad_of, told, IsStructure, IsBadAt};
 ghost use Rattle.ltv_codec.specs.Values.{first_in};
 ghost use Rattle.ltv_codec.specs.declared.ltvs.Ltv.{Ltv};
-ghost use Rattle.octet_fields.specs.Reading.{place_in};
-ghost use Rattle.octet_fields.specs.Reading as fields;
+ghost use Rattle.octet_fields.specs.Reading.{Gives, place_in};
+ghost use Rattle.octet_fields.specs.Tries.{Answers};
 
 use crate::fault::{LtvBad, LtvFault};
 use crate::ltvs::Ltvs;
@@ -27,9 +27,9 @@ pub fn check_ltvs(from: &[u8]) -> Result<(), LtvBad>
 /// The LTV list that the octets are. Else it is the first bad length octet. Want of memory comes only for octets that are
 /// a list.
 pub fn decode_ltvs(alloc: Global, from: &[u8]) -> Result<Ltvs, LtvFault>
-    ensures exact { Gives result (ltvs_of from.now) }
+    ensures exact { Answers told result (ltvs_of from.now) }
     ensures list { IfOk result (λ ltvs. IsLtvList ltvs from.now) }
-    ensures only { (ltvs : List Ltv) → IsLtvList ltvs from.now → Gives result (Ok ltvs) }
+    ensures only { (ltvs : List Ltv) → IsLtvList ltvs from.now → Answers told result (Ok ltvs) }
     ensures cut { IfErr result (λ fault. IsFault fault from.now) }
 {
     decode_structures(alloc, from)
@@ -38,7 +38,7 @@ pub fn decode_ltvs(alloc: Global, from: &[u8]) -> Result<Ltvs, LtvFault>
 /// The first value of this type in octets that are an LTV list, lent from them.
 pub fn first_value(from: &[u8], kind: u8) -> Option<&[u8]>
     requires { AreLtvs from.now }
-    ensures { fields.Gives (λ value. value.now) result (first_in kind from.now) }
+    ensures { Gives (λ value. value.now) result (first_in kind from.now) }
 {
     let mut rest = from;
     'structures: while !rest.is_empty() {
@@ -67,7 +67,7 @@ fn check_structures(from: &[u8]) -> Result<(), LtvBad>
 
 // The structures, looked through where they lie before any memory is taken.
 fn decode_structures(alloc: Global, from: &[u8]) -> Result<Ltvs, LtvFault>
-    ensures { Gives result (ltvs_of from.now) }
+    ensures { Answers told result (ltvs_of from.now) }
 {
     check_structures(from)?;
     let list = own_structures(alloc, from)?;

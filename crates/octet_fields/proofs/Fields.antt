@@ -44,9 +44,6 @@ octet_takes (first ∷ others) value rest e =
     let same = some_pair_parts first value others rest e in
     rw (← same.0, ← same.1) (record { parts = refl; fits = IsOctets-rest first others })
 
-pub octet_again : (value : ℕ) (rest : List ℕ) → octet_in (octet value ++ rest) ≡ Some (value, rest)
-octet_again value rest = refl
-
 -- ---- octets as they are
 
 pub octets_take : (k : ℕ) (from value rest : List ℕ) → octets_in k from ≡ Some (value, rest) → Takes from value rest × (length value ≡ k)

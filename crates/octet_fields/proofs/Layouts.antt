@@ -59,8 +59,3 @@ reserved_none fields e = none_from 0 fields e
 
 pub none_reserved : (start : ℕ) (fields : List Field) → NoneReserved fields → reserved_from start fields ≡ None
 none_reserved start fields h = none_only start fields h
-
--- behind fields with no reserved value
-pub reserved_behind : (start : ℕ) (field : Field) (fields : List Field) (k : ℕ) → field.reserved ≡ false → length field.octets ≡ k
-    → reserved_from start (field ∷ fields) ≡ reserved_from (start + k) fields
-reserved_behind start field fields k h len = rw (h, len) refl

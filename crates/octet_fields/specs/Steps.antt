@@ -1,4 +1,4 @@
--- Reading one field behind the other: nothing is read where one of them is not whole.
+-- Reading one field behind the other, which is this project's own: nothing is read where one of them is not whole.
 use Rattle.std.specs.Prelude.{List, [], ◌∷◌, Option, Some, None}
 
 infixl 10 ◌>>=◌

@@ -11,7 +11,10 @@ ghost use Rattle.octet_fields.specs.Subgroups.{Subgroup, Fits, subgroup, subgrou
 pub fn read_is_spelled()
     ensures octet { (from : List ℕ) (value : ℕ) (rest : List ℕ) → octet_in from ≡ Some (value, rest) → Takes from (octet value) rest }
     ensures octets { (k : ℕ) (from value rest : List ℕ) → octets_in k from ≡ Some (value, rest) → Takes from value rest × (length value ≡ k) }
-    ensures number { (k : ℕ) (from : List ℕ) (value : ℕ) (rest : List ℕ) → IsOctets from → number_in k from ≡ Some (value, rest) → Takes from (number k value) rest × (value < 2 ^ (8 * k)) }
+    ensures number { (k : ℕ) (from : List ℕ) (value : ℕ) (rest : List ℕ)
+        → IsOctets from
+        → number_in k from ≡ Some (value, rest)
+        → Takes from (number k value) rest × (value < 2 ^ (8 * k)) }
     ensures counted { (from value rest : List ℕ) → counted_in from ≡ Some (value, rest) → Takes from (counted value) rest }
 {}
 
@@ -37,6 +40,9 @@ pub fn reserved_is_first()
 
 /// Subgroups that are read are spelled so, and those that are spelled so are read, whatever follows.
 pub fn subgroups_are_spelled()
-    ensures taken { (count : ℕ) (from : List ℕ) (x : List Subgroup × List ℕ) → IsOctets from → subgroups_in count from ≡ Some x → Takes from (flat_map subgroup x.0) x.1 × AllByRecursion Fits x.0 × (length x.0 ≡ count) }
+    ensures taken { (count : ℕ) (from : List ℕ) (x : List Subgroup × List ℕ)
+        → IsOctets from
+        → subgroups_in count from ≡ Some x
+        → Takes from (flat_map subgroup x.0) x.1 × AllByRecursion Fits x.0 × (length x.0 ≡ count) }
     ensures again { (groups : List Subgroup) (rest : List ℕ) → AllByRecursion Fits groups → subgroups_in (length groups) (flat_map subgroup groups ++ rest) ≡ Some (groups, rest) }
 {}

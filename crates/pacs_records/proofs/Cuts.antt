@@ -1,16 +1,15 @@
 -- What stands at the cut is the fault that is met.
-use Rattle.std.proofs.Common.{◌≡◌, ℕ, zero, suc, ◌+◌, ◌-◌, ◌<◌, ◌≤◌, ◌⊎◌, Bool, true, false, cond, eqb, ltb, List, [], ◌∷◌, ◌++◌, length, take, drop, Option, Some, None, Result}
+use Rattle.std.proofs.Common.{◌≡◌, ℕ, zero, suc, ◌<◌, ◌≤◌, ◌⊎◌, Bool, true, false, eqb, List, [], ◌∷◌, ◌++◌, length, Some, None, Result}
 use Rattle.std.proofs.Common.{Ok, Err, refl, sym, ap, subst, ◌∙◌, append_assoc, arith, inl, inr}
 use Rattle.std.specs.List.{flat_map, AllByRecursion}
 use Rattle.std.specs.Result.{result_err}
 use Rattle.std.proofs.lemmas.Bool.{lt-ltb, le-ltb, ne_eqb}
-use Rattle.std.proofs.lemmas.List.{append-nil, length-append, nil_from_length}
+use Rattle.std.proofs.lemmas.List.{length-append}
 use Rattle.std.proofs.lemmas.List.Concat.{flat_map-cons}
-use Rattle.octet_fields.specs.Spelling.{IsOctets, counted}
+use Rattle.octet_fields.specs.Spelling.{counted}
 use Rattle.octet_fields.specs.Reading.{octet_in, octets_in, place_in}
 use Rattle.octet_fields.proofs.Citable.{octets_again}
 use Rattle.ltv_codec.specs.declared.fault.LtvBad.{LtvBad}
-use Rattle.ltv_codec.specs.Faults.{IsBad}
 use Rattle.ltv_codec.specs.Layout.{AreLtvs}
 use Rattle.ltv_codec.specs.Reading.{bad_of}
 use Rattle.ltv_codec.proofs.Citable.{bad_read}
@@ -21,8 +20,7 @@ use Rattle.pacs_records.specs.Faults.{Fields, to_codec, to_caps_length, to_caps,
 use Rattle.pacs_records.specs.Faults.{IsNoList, IsTrailing, IsFault}
 use Rattle.base_grammar.specs.Layout.{lc3, is_lc3}
 use Rattle.pacs_records.specs.Layout.{greatest_value, spelled, value, Fits}
-use Rattle.octet_fields.specs.Tries.{◌>>=◌}
-use Rattle.pacs_records.specs.Reading.{field_at, codec_in, checked, run_in, record_in, records_in, value_in}
+use Rattle.pacs_records.specs.Reading.{run_in, record_in, records_in, value_in}
 use Rattle.pacs_records.proofs.Fields.{is_lc3-true, lc3-is, run_again, record_again, records_again}
 use Rattle.pacs_records.proofs.Stops.{NoList, Stop}
 

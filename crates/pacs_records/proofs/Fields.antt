@@ -3,7 +3,6 @@ use Rattle.std.proofs.Common.{◌≡◌, ℕ, zero, suc, ◌+◌, ◌*◌, ◌<�
 use Rattle.std.proofs.Common.{sym, ap, subst, ◌∙◌, append_assoc, arith}
 use Rattle.std.specs.List.{flat_map, AllByRecursion}
 use Rattle.std.specs.Prelude.{IfOk}
-use Rattle.std.specs.Str.{bytes_eq}
 use Rattle.std.proofs.lemmas.Slice.Eq.{bytes_eq-Decides}
 use Rattle.std.proofs.lemmas.Bool.{eqb-true, ltb-false, le-ltb}
 use Rattle.std.proofs.lemmas.List.{append-nil, nil_from_length, length-append}
@@ -16,12 +15,12 @@ use Rattle.ltv_codec.specs.Layout.{AreLtvs}
 use Rattle.ltv_codec.specs.Reading.{bad_of}
 use Rattle.ltv_codec.proofs.Citable.{reads, are_read}
 use Rattle.pacs_records.specs.declared.fault.PacFault.{PacFault}
-use Rattle.pacs_records.specs.declared.fault.PacFault.TheVariants.{TooLong, Short, Ltv, Trailing, Memory}
+use Rattle.pacs_records.specs.declared.fault.PacFault.TheVariants.{TooLong, Short, Trailing}
 use Rattle.pacs_records.specs.declared.record.PacRecord.{PacRecord}
 use Rattle.base_grammar.specs.Layout.{lc3, is_lc3}
 use Rattle.pacs_records.specs.Layout.{greatest_value, spelled, value, Fits, AreRecords, PacIs}
-use Rattle.octet_fields.specs.Tries.{◌>>=◌}
-use Rattle.pacs_records.specs.Reading.{field_at, codec_in, Gives, checked, run_in, record_in, records_in, value_in}
+use Rattle.octet_fields.specs.Tries.{◌>>=◌, Answers}
+use Rattle.pacs_records.specs.Reading.{field_at, codec_in, told, checked, run_in, record_in, records_in, value_in}
 
 -- ---- steps of reading
 
@@ -177,9 +176,9 @@ few records are = omega (arith, longer records are.fit, are.size)
 
 -- ---- what the calls promise
 
-pub is_value : (octets : List ℕ) (result : Result (List PacRecord) PacFault) → IsOctets octets → Gives result (value_in octets) → IfOk result (λ records. PacIs records octets)
+pub is_value : (octets : List ℕ) (result : Result (List PacRecord) PacFault) → IsOctets octets → Answers told result (value_in octets) → IfOk result (λ records. PacIs records octets)
 is_value octets (Ok records) fits given = value_takes octets records fits given
 is_value octets (Err fault) fits given = tt
 
-pub only_value : (octets : List ℕ) (result : Result (List PacRecord) PacFault) (records : List PacRecord) → Gives result (value_in octets) → PacIs records octets → Gives result (Ok records)
-only_value octets result records given p = subst (Gives result) (value_again octets records p) given
+pub only_value : (octets : List ℕ) (result : Result (List PacRecord) PacFault) (records : List PacRecord) → Answers told result (value_in octets) → PacIs records octets → Answers told result (Ok records)
+only_value octets result records given p = subst (Answers told result) (value_again octets records p) given

@@ -1,5 +1,5 @@
 -- The first requirement that is not met, found in the order of the list.
-use Rattle.std.proofs.Common.{◌≡◌, ◌↔◌, ℕ, zero, suc, ◌+◌, ◌<◌, ◌≤◌, ◌⊎◌, Bool, true, false, cond, List, [], ◌∷◌, Option, Some, None, refl, sym, ap, subst, ◌∙◌, arith, inl, inr}
+use Rattle.std.proofs.Common.{◌≡◌, ℕ, zero, suc, ◌<◌, ◌⊎◌, Bool, true, false, cond, List, [], ◌∷◌, Option, Some, None, refl, sym, ap, subst, ◌∙◌, arith, inl, inr}
 use Rattle.std.specs.Prelude.{not, ◌||◌}
 use Rattle.std.specs.List.{find}
 use Rattle.std.specs.Str.{bytes_eq}
@@ -11,8 +11,8 @@ use Rattle.pacs_records.specs.declared.not_taken.NotTaken.{NotTaken}
 use Rattle.pacs_records.specs.declared.not_taken.NotTaken.TheVariants.{Codec, Frequency, Duration, FrameOctets, Channels, FramesPerSdu, Location, Context}
 use Rattle.pacs_records.specs.declared.record.PacRecord.{PacRecord}
 use Rattle.base_grammar.specs.Layout.{is_lc3}
-use Rattle.pacs_records.specs.Match.{number, Meets, FitsStream, IsReason, caps_in}
-use Rattle.pacs_records.specs.Reasons.{lc3_met, lc3_reasons, lc3_reason, reason_of}
+use Rattle.pacs_records.specs.Match.{number, FitsStream, IsReason, caps_in}
+use Rattle.pacs_records.specs.Reasons.{lc3_met, lc3_reasons, reason_of}
 use Rattle.pacs_records.proofs.Meanings.{met, met_means}
 
 -- ---- lists of reasons
@@ -117,10 +117,6 @@ reason_is entry capability effective = by_tests (bytes_eq entry.codec effective.
 
 true_or_false : (b : Bool) → b ≡ true → b ≡ false → ⊥
 true_or_false b t f = cc
-
-not_true : (b : Bool) → (b ≡ true → ⊥) → b ≡ false
-not_true true other = absurd (other refl)
-not_true false other = refl
 
 pub none_is_fit : (entry : PacRecord) (capability : Capability) (effective : Effective) → reason_of entry capability effective ≡ None → FitsStream entry capability effective
 none_is_fit entry capability effective e reason =

@@ -1,9 +1,9 @@
 -- The records one after the other, up to the first that fits.
-use Rattle.std.proofs.Common.{◌≡◌, ◌↔◌, ℕ, zero, suc, ◌+◌, ◌<◌, ◌≤◌, ◌⊎◌, Bool, true, false, List, [], ◌∷◌, ◌++◌, length, get_or, drop, drop-cons, add-one, Option, Some, None}
-use Rattle.std.proofs.Common.{Result, Ok, Err, refl, sym, ap, subst, ◌∙◌, arith, inl, inr}
+use Rattle.std.proofs.Common.{◌≡◌, ◌↔◌, ◌⊎◌, Bool, true, List, [], ◌∷◌, ◌++◌, Option, Some, None}
+use Rattle.std.proofs.Common.{Result, Ok, Err, refl, sym, ap, subst, ◌∙◌, inl, inr}
 use Rattle.std.specs.Prelude.{option_and_then, Any, OnOk, IfErr, is_none}
 use Rattle.std.specs.Result.{result_err}
-use Rattle.std.specs.List.{list_any, AllByRecursion}
+use Rattle.std.specs.List.{list_any}
 use Rattle.std.proofs.lemmas.Option.{same_Some}
 use Rattle.std.proofs.lemmas.List.Folds.{Any-from_list_any, list_any-from_Any}
 use Rattle.base_grammar.specs.declared.effective.Effective.{Effective}
@@ -11,47 +11,11 @@ use Rattle.pacs_records.specs.declared.capability.Capability.{Capability}
 use Rattle.pacs_records.specs.declared.not_taken.NotTaken.{NotTaken}
 use Rattle.pacs_records.specs.declared.not_taken.NotTaken.TheVariants.{Codec}
 use Rattle.pacs_records.specs.declared.record.PacRecord.{PacRecord}
-use Rattle.pacs_records.specs.Layout.{Fits, AreRecords}
 use Rattle.pacs_records.specs.Match.{FitsStream, Takes, IsReason, IsToldReason}
 use Rattle.pacs_records.specs.Reasons.{reason_of, last_reason, not_taken}
 use Rattle.pacs_records.proofs.FirstReasons.{none_is_fit, fit_is_none, some_is_reason, reason_is_some}
 
 -- ---- the loop
-
-opened : (told : NotTaken) (entries : List PacRecord) (i : ℕ) (entry : PacRecord) (capability : Capability) (effective : Effective) → i < length entries → entry ≡ get_or entries i entry
-    → last_reason told (drop i entries) capability effective ≡ option_and_then (λ reason. last_reason reason (drop (i + 1) entries) capability effective) (reason_of entry capability effective)
-opened told entries i entry capability effective lt is =
-    let front : drop i entries ≡ entry ∷ drop (i + 1) entries =
-    drop-cons entries i entry lt ∙ ap (λ (e : PacRecord). e ∷ drop (suc i) entries) (sym is) ∙ ap (λ (n : ℕ). entry ∷ drop n entries) (sym (add-one i)) in
-    ap (λ (es : List PacRecord). last_reason told es capability effective) front
-
-pub goes_on : (told : NotTaken) (entries : List PacRecord) (i : ℕ) (entry : PacRecord) (reason : NotTaken) (capability : Capability) (effective : Effective) (total : Option NotTaken)
-    → i < length entries → entry ≡ get_or entries i entry
-    → Some reason ≡ reason_of entry capability effective → last_reason told (drop i entries) capability effective ≡ total → last_reason reason (drop (i + 1) entries) capability effective ≡ total
-goes_on told entries i entry reason capability effective total lt is e so_far =
-    ap (option_and_then (λ r. last_reason r (drop (i + 1) entries) capability effective)) e ∙ sym (opened told entries i entry capability effective lt is) ∙ so_far
-
-pub fits_here : (told : NotTaken) (entries : List PacRecord) (i : ℕ) (entry : PacRecord) (capability : Capability) (effective : Effective) (total : Option NotTaken) → i < length entries
-    → entry ≡ get_or entries i entry
-    → None ≡ reason_of entry capability effective → last_reason told (drop i entries) capability effective ≡ total → None ≡ total
-fits_here told entries i entry capability effective total lt is e so_far =
-    ap (option_and_then (λ r. last_reason r (drop (i + 1) entries) capability effective)) e ∙ sym (opened told entries i entry capability effective lt is) ∙ so_far
-
-drop_all : (i : ℕ) (entries : List PacRecord) → length entries ≤ i → drop i entries ≡ []
-drop_all zero [] le = refl
-drop_all (suc i) [] le = refl
-drop_all zero (entry ∷ entries) le = absurd (omega arith)
-drop_all (suc i) (entry ∷ entries) le = drop_all i entries (omega arith)
-
-pub is_done : (told : NotTaken) (entries : List PacRecord) (i : ℕ) (capability : Capability) (effective : Effective) (total : Option NotTaken) → length entries ≤ i
-    → last_reason told (drop i entries) capability effective ≡ total → Some told ≡ total
-is_done told entries i capability effective total le so_far =
-    sym (ap (λ (es : List PacRecord). last_reason told es capability effective) (drop_all i entries le)) ∙ so_far
-
-pub fits_at : (entries : List PacRecord) (i : ℕ) (entry : PacRecord) → AllByRecursion Fits entries → i < length entries → entry ≡ get_or entries i entry → Fits entry
-fits_at [] i entry h lt e = absurd (omega arith)
-fits_at (first ∷ entries) zero entry h lt e = rw e (h.0)
-fits_at (first ∷ entries) (suc i) entry h lt e = fits_at entries i entry h.1 (omega arith) e
 
 -- ---- what it means
 

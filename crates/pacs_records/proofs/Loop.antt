@@ -21,15 +21,6 @@ regroup : (front : List PacRecord) (entry : PacRecord) (read : Result (List PacR
 regroup front entry (Ok x) = ap (λ (records : List PacRecord). Ok (records, x.1)) (simp append_assoc)
 regroup front entry (Err fault) = refl
 
-pub begins : (whole : List ℕ) (count : ℕ) (from : List ℕ) → length from ≤ length whole → SoFar whole [] (count - 0) from (records_in whole count from)
-begins whole count from h =
-    let k : count - 0 ≡ count = omega arith in
-    record { same = ap (λ (n : ℕ). with_front [] (records_in whole n from)) k ∙ one (records_in whole count from); within = h }
-  where
-    one : (read : Result (List PacRecord × List ℕ) PacFault) → with_front [] read ≡ read
-    one (Ok x) = refl
-    one (Err fault) = refl
-
 pub goes_on : (whole : List ℕ) (front : List PacRecord) (count i : ℕ) (rest : List ℕ) (entry : PacRecord) (after : List ℕ) (total : Result (List PacRecord × List ℕ) PacFault) → i < count
     → record_in whole rest ≡ Ok (entry, after) → length after ≤ length whole
     → SoFar whole front (count - i) rest total → SoFar whole (front ++ entry ∷ []) (count - (i + 1)) after total
@@ -74,11 +65,6 @@ list_done whole front count i rest total le so_far = ap list_of (is_done whole f
 pub record Left (whole : List ℕ) (left : ℕ) (rest : List ℕ) (total : Result (List ℕ) PacFault) : Type 0 where
   pub same : rest_of (records_in whole left rest) ≡ total
   pub within : length rest ≤ length whole
-
-pub left_first : (whole : List ℕ) (count : ℕ) (from : List ℕ) → length from ≤ length whole → Left whole (count - 0) from (rest_of (records_in whole count from))
-left_first whole count from h =
-    let k : count - 0 ≡ count = omega arith in
-    record { same = ap (λ (n : ℕ). rest_of (records_in whole n from)) k; within = h }
 
 one_of : (entry : PacRecord) (read : Result (List PacRecord × List ℕ) PacFault) → rest_of (read >>= λ x. Ok (entry ∷ x.0, x.1)) ≡ rest_of read
 one_of entry (Ok x) = refl

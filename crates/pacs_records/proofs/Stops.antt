@@ -1,12 +1,12 @@
 -- A fault is the one at the cut.
-use Rattle.std.proofs.Common.{◌≡◌, ℕ, zero, suc, ◌+◌, ◌-◌, ◌<◌, ◌≤◌, ◌⊎◌, Bool, true, false, cond, eqb, ltb, List, [], ◌∷◌, ◌++◌, length, take, drop, Option, Some, None, Result}
+use Rattle.std.proofs.Common.{◌≡◌, ℕ, zero, suc, ◌+◌, ◌<◌, ◌≤◌, ◌⊎◌, Bool, true, false, cond, eqb, ltb, List, [], ◌∷◌, ◌++◌, length, take, drop, Option, Some, None, Result}
 use Rattle.std.proofs.Common.{Ok, Err, refl, sym, ap, subst, ◌∙◌, append_assoc, arith, inl, inr}
 use Rattle.std.specs.Prelude.{IfErr, IsOk}
 use Rattle.std.specs.List.{flat_map, AllByRecursion}
 use Rattle.std.specs.Result.{result_err}
-use Rattle.std.proofs.lemmas.Bool.{eqb-true, ltb-true, ltb-false, ne_eqb}
+use Rattle.std.proofs.lemmas.Bool.{ltb-true, ltb-false}
 use Rattle.std.proofs.lemmas.Option.{same_Some}
-use Rattle.std.proofs.lemmas.List.{append-nil, length-append}
+use Rattle.std.proofs.lemmas.List.{length-append}
 use Rattle.std.proofs.lemmas.List.Concat.{flat_map-cons}
 use Rattle.octet_fields.specs.Spelling.{IsOctets, octet, counted}
 use Rattle.octet_fields.specs.Reading.{octet_in, octets_in, place_in, Takes}
@@ -20,12 +20,12 @@ use Rattle.ltv_codec.proofs.Citable.{read_bad}
 use Rattle.pacs_records.specs.declared.fault.PacFault.{PacFault}
 use Rattle.pacs_records.specs.declared.fault.PacFault.TheVariants.{TooLong, Short, Ltv, Trailing, Memory}
 use Rattle.pacs_records.specs.declared.record.PacRecord.{PacRecord}
-use Rattle.pacs_records.specs.Faults.{Fields, to_codec, to_caps_length, to_caps, to_metadata_length, to_metadata, octets_of, next_length, MeetRows, IsNextList, Cut, IsShort}
-use Rattle.pacs_records.specs.Faults.{IsNoList, IsTrailing, IsFault}
+use Rattle.pacs_records.specs.Faults.{Fields, to_codec, to_caps_length, to_caps, to_metadata_length, to_metadata, octets_of, next_length, MeetRows, IsNextList, Cut}
+use Rattle.pacs_records.specs.Faults.{IsFault}
 use Rattle.base_grammar.specs.Layout.{lc3, is_lc3}
 use Rattle.pacs_records.specs.Layout.{greatest_value, spelled, value, Fits, PacIs}
-use Rattle.octet_fields.specs.Tries.{◌>>=◌}
-use Rattle.pacs_records.specs.Reading.{Gives, field_at, codec_in, checked, run_in, record_in, records_in, value_in}
+use Rattle.octet_fields.specs.Tries.{◌>>=◌, Answers}
+use Rattle.pacs_records.specs.Reading.{told, field_at, codec_in, checked, run_in, record_in, records_in, value_in}
 use Rattle.pacs_records.proofs.Fields.{field_ok, is_lc3-true, lc3-is, run_takes, record_takes, records_take, value_takes}
 
 -- ---- steps that fail
@@ -292,7 +292,7 @@ a_value : (octets : List ℕ) (read : Result (List PacRecord) PacFault) → IsOc
 a_value octets (Ok records) fits e ok = (records, value_takes octets records fits e)
 a_value octets (Err fault) fits e ok = absurd cc
 
-pub is_fault : (octets : List ℕ) (result : Result (List PacRecord) PacFault) → IsOctets octets → Gives result (value_in octets) → IfErr result (λ fault. IsFault fault octets)
+pub is_fault : (octets : List ℕ) (result : Result (List PacRecord) PacFault) → IsOctets octets → Answers told result (value_in octets) → IfErr result (λ fault. IsFault fault octets)
 is_fault octets (Ok records) fits given = tt
 is_fault octets (Err Memory) fits given = a_value octets (value_in octets) fits refl given
 is_fault octets (Err TooLong) fits given = value_stops TooLong octets fits given

@@ -1,5 +1,5 @@
 -- The whole value: what is left behind the records, and the records in memory of their own.
-use Rattle.std.proofs.Common.{◌≡◌, ℕ, ◌≤◌, Bool, true, false, cond, eqb, ltb, List, [], ◌∷◌, length, Option, Some, None, Result, Ok, Err, refl, sym, ap, subst, ◌∙◌}
+use Rattle.std.proofs.Common.{◌≡◌, ℕ, Bool, true, false, cond, eqb, ltb, List, [], ◌∷◌, length, Option, Some, None, Result, Ok, Err, refl, sym, ap, subst, ◌∙◌}
 use Rattle.std.specs.Prelude.{IsOk, IfOk}
 use Rattle.std.specs.Result.{result_err}
 use Rattle.octet_fields.specs.Reading.{octet_in, place_in}
@@ -8,8 +8,8 @@ use Rattle.pacs_records.specs.declared.fault.PacFault.{PacFault}
 use Rattle.pacs_records.specs.declared.fault.PacFault.TheVariants.{TooLong, Short, Ltv, Trailing, Memory}
 use Rattle.pacs_records.specs.declared.record.PacRecord.{PacRecord}
 use Rattle.pacs_records.specs.Layout.{greatest_value}
-use Rattle.octet_fields.specs.Tries.{◌>>=◌}
-use Rattle.pacs_records.specs.Reading.{Fails, field_at, records_in, list_of, rest_of, value_in}
+use Rattle.octet_fields.specs.Tries.{◌>>=◌, Finds}
+use Rattle.pacs_records.specs.Reading.{told, field_at, records_in, list_of, rest_of, value_in}
 use Rattle.pacs_records.proofs.Fields.{value_again}
 use Rattle.pacs_records.proofs.Stops.{value_stops}
 
@@ -23,10 +23,6 @@ pub behind_count : (octets : List ℕ) (count : ℕ) (from : List ℕ) → ltb g
 unfolding value_in
 behind_count octets count from small first = rw (small, first) refl
 
-failed_by : (octets : List ℕ) (read : Result (List PacRecord × List ℕ) PacFault) (fault : PacFault) → rest_of read ≡ Err fault → result_err (read >>= ending octets) ≡ Some fault
-failed_by octets (Ok x) fault e = absurd cc
-failed_by octets (Err other) fault e = ap result_err e
-
 ended_by : (octets : List ℕ) (read : Result (List PacRecord × List ℕ) PacFault) (rest : List ℕ) → rest_of read ≡ Ok rest
     → result_err (read >>= ending octets) ≡ cond (eqb (length rest) 0) None (Some (Trailing (place_in octets rest)))
 ended_by octets (Ok x) rest e = test_of (eqb (length x.1) 0) x.0 (Trailing (place_in octets x.1))
@@ -39,16 +35,6 @@ ended_by octets (Ok x) rest e = test_of (eqb (length x.1) 0) x.0 (Trailing (plac
     test_of true records fault = refl
     test_of false records fault = refl
 ended_by octets (Err fault) rest e = absurd cc
-
-pub records_failed : (octets : List ℕ) (count : ℕ) (from : List ℕ) (fault : PacFault) → ltb greatest_value (length octets) ≡ false → octet_in octets ≡ Some (count, from)
-    → rest_of (records_in octets count from) ≡ Err fault → Some fault ≡ result_err (value_in octets)
-records_failed octets count from fault small first e =
-    sym (ap result_err (behind_count octets count from small first) ∙ failed_by octets (records_in octets count from) fault e)
-
-pub records_ended : (octets : List ℕ) (count : ℕ) (from rest : List ℕ) → ltb greatest_value (length octets) ≡ false → octet_in octets ≡ Some (count, from)
-    → rest_of (records_in octets count from) ≡ Ok rest → result_err (value_in octets) ≡ cond (eqb (length rest) 0) None (Some (Trailing (place_in octets rest)))
-records_ended octets count from rest small first e =
-    ap result_err (behind_count octets count from small first) ∙ ended_by octets (records_in octets count from) rest e
 
 -- ---- octets that are a value
 
@@ -90,13 +76,6 @@ value_is octets count from records first ok e =
 
 -- ---- what the call promises
 
-ok_by : (read : Result (List PacRecord) PacFault) → result_err read ≡ None → IsOk read
-ok_by (Ok records) e = refl
-ok_by (Err fault) e = absurd cc
-
-pub checked_ok : (octets : List ℕ) → None ≡ result_err (value_in octets) → IsOk (value_in octets)
-checked_ok octets e = ok_by (value_in octets) (sym e)
-
 err_by : (read : Result (List PacRecord) PacFault) (fault : PacFault) → Some fault ≡ result_err read → read ≡ Err fault
 err_by (Ok records) fault e = absurd cc
 err_by (Err other) fault e = ap (λ (f : PacFault). Err f) (some_same other fault (sym e))
@@ -113,14 +92,14 @@ no_wants octets fits e =
     ok_no : (records : List PacRecord) → (let r : Result (List PacRecord) PacFault = Ok records in r ≡ Err Memory) → ⊥
     ok_no records h = cc
 
-refuses : (octets : List ℕ) (fault : PacFault) → IsOctets octets → value_in octets ≡ Err fault → Fails fault (value_in octets)
+refuses : (octets : List ℕ) (fault : PacFault) → IsOctets octets → value_in octets ≡ Err fault → Finds (told fault) (value_in octets)
 refuses octets TooLong fits e = e
 refuses octets (Short place) fits e = e
 refuses octets (Ltv place bad) fits e = e
 refuses octets (Trailing place) fits e = e
 refuses octets Memory fits e = absurd (no_wants octets fits e)
 
-pub refused : (octets : List ℕ) (fault : PacFault) → IsOctets octets → Some fault ≡ result_err (value_in octets) → Fails fault (value_in octets)
+pub refused : (octets : List ℕ) (fault : PacFault) → IsOctets octets → Some fault ≡ result_err (value_in octets) → Finds (told fault) (value_in octets)
 refused octets fault fits e = refuses octets fault fits (err_by (value_in octets) fault e)
 
 pub owned : {M : Type 0} (octets : List ℕ) (count : ℕ) (from : List ℕ) (result : Result (List PacRecord) M) → octet_in octets ≡ Some (count, from) → IsOk (value_in octets)

@@ -1,7 +1,7 @@
 -- The Sink PAC value (Published Audio Capabilities Service 1.0, section 3.1): Number_of_PAC_records, and for each record
 -- Codec_ID of 5 octets, Codec_Specific_Capabilities behind their length, and Metadata behind its length. The metadata is
 -- an LTV list, and so are the capabilities of LC3. A value has at most 512 octets, as each attribute has.
-use Rattle.std.specs.Prelude.{ℕ, ◌<◌, ◌≤◌, ◌≡◌, List, [], ◌∷◌, ◌++◌, length}
+use Rattle.std.specs.Prelude.{ℕ, ◌<◌, ◌≤◌, ◌≡◌, List, ◌∷◌, ◌++◌, length}
 use Rattle.std.specs.List.{flat_map, AllByRecursion}
 use Rattle.base_grammar.specs.Layout.{lc3}
 use Rattle.octet_fields.specs.Spelling.{counted}

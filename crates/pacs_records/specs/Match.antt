@@ -1,7 +1,7 @@
 -- Which stream a sink takes, by its capabilities (Published Audio Capabilities Service 1.0, sections 3.1, 3.2 and 3.5)
 -- and by what the BASE says of the stream (Basic Audio Profile 1.0, sections 3.7.2.2 and 4.3). The rule, and the order of
 -- its requirements, is this project's own: some record meets all of them.
-use Rattle.std.specs.Prelude.{ℕ, ◌+◌, ◌-◌, ◌*◌, ◌<◌, ◌≤◌, ◌≡◌, ◌⊎◌, ◌==◌, List, [], ◌∷◌, ◌++◌, Option, IsSomeAnd, unwrap_or, Any, if◌then◌else◌}
+use Rattle.std.specs.Prelude.{ℕ, ◌-◌, ◌*◌, ◌<◌, ◌≤◌, ◌≡◌, ◌⊎◌, ◌==◌, List, [], ◌∷◌, ◌++◌, Option, IsSomeAnd, unwrap_or, Any, if◌then◌else◌}
 use Rattle.std.specs.Option.{option_map}
 use Rattle.std.specs.Int.{bit_at}
 use Rattle.std.specs.Int.RustNames.{count_ones}

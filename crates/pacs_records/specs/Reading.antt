@@ -1,9 +1,8 @@
 -- Reading a Sink PAC value (Published Audio Capabilities Service 1.0, section 3.1) field by field, with the first fault
 -- that is met.
-use Rattle.std.specs.Prelude.{ℕ, zero, suc, ◌≡◌, Bool, true, false, List, [], ◌∷◌, length, Option, Some, None, Result, Ok, Err, nat_lt, ◌==◌, if◌then◌else◌}
+use Rattle.std.specs.Prelude.{ℕ, zero, suc, Bool, true, false, List, [], ◌∷◌, length, Option, Some, None, Result, Ok, Err, nat_lt, ◌==◌, if◌then◌else◌}
 use Rattle.octet_fields.specs.Reading.{octet_in, octets_in, place_in}
 use Rattle.octet_fields.specs.Tries.{◌>>=◌, needed}
-use Rattle.octet_fields.specs.Tries as tries
 use Rattle.ltv_codec.specs.declared.fault.LtvBad.{LtvBad}
 use Rattle.ltv_codec.specs.Reading.{bad_of}
 use Rattle.pacs_records.specs.declared.fault.PacFault.{PacFault}
@@ -12,17 +11,10 @@ use Rattle.pacs_records.specs.declared.record.PacRecord.{PacRecord}
 use Rattle.base_grammar.specs.Layout.{is_lc3}
 use Rattle.pacs_records.specs.Layout.{greatest_value}
 
--- a function gave the records that reading gives, unless memory ran out for them
-abbrev pub wants : PacFault → Bool
-wants Memory = true
-wants fault = false
-
-abbrev pub Fails : PacFault → Result (List PacRecord) PacFault → Type 0
-Fails fault read = tries.Fails (wants fault) fault read
-
-abbrev pub Gives : Result (List PacRecord) PacFault → Result (List PacRecord) PacFault → Type 0
-Gives (Ok records) read = read ≡ Ok records
-Gives (Err fault) read = Fails fault read
+-- what a fault says of the octets: nothing, where memory ran out for the records
+abbrev pub told : PacFault → Option PacFault
+told Memory = None
+told fault = Some fault
 
 -- a whole field, or the place at which it begins
 abbrev pub field_at : {A : Type 0} → ℕ → Option A → Result A PacFault

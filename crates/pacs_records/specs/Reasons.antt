@@ -1,4 +1,5 @@
--- The match as tests that compute: the first requirement that is not met, in the order of the list.
+-- The match as tests that compute, which is this project's own as the rule of the match is: the first requirement that is not
+-- met, in the order of the list.
 use Rattle.std.specs.Prelude.{ℕ, ◌-◌, ◌*◌, ◌==◌, ◌&&◌, ◌||◌, not, Bool, true, false, List, [], ◌∷◌, Option, Some, None, nat_le, bit_and, unwrap_or, option_and_then, if◌then◌else◌}
 use Rattle.std.specs.List.{find}
 use Rattle.std.specs.Int.{bit_at}

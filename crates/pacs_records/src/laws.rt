@@ -27,5 +27,6 @@ pub fn fault_is_at_cut()
 /// last record doesn't meet, or Codec where there is no record.
 pub fn match_is_some_record()
     ensures taken { (capability : Capability) (effective : Effective) → (not_taken capability effective ≡ None) ↔ Takes capability effective }
-    ensures refused { (reason : NotTaken) (capability : Capability) (effective : Effective) → (not_taken capability effective ≡ Some reason) ↔ ((¬ Takes capability effective) × IsToldReason reason capability effective) }
+    ensures refused { (reason : NotTaken) (capability : Capability) (effective : Effective)
+        → (not_taken capability effective ≡ Some reason) ↔ ((¬ Takes capability effective) × IsToldReason reason capability effective) }
 {}

@@ -2,8 +2,8 @@ ghost use Rattle.std.specs.Prelude.{◌≡◌, ◌≤◌, List, length, IfOk, If
 ghost use Rattle.std.specs.Result.{result_err};
 ghost use Rattle.pacs_records.specs.Layout.{PacIs};
 ghost use Rattle.pacs_records.specs.Faults.{IsFault};
-ghost use Rattle.octet_fields.specs.Tries.{Reads};
-ghost use Rattle.pacs_records.specs.Reading.{Gives, codec_in, run_in, record_in, records_in, list_of, rest_of, value_in};
+ghost use Rattle.octet_fields.specs.Tries.{Answers, Reads};
+ghost use Rattle.pacs_records.specs.Reading.{told, codec_in, run_in, record_in, records_in, list_of, rest_of, value_in};
 ghost use Rattle.pacs_records.specs.declared.record.PacRecord.{PacRecord};
 
 use crate::fault::PacFault;
@@ -32,9 +32,9 @@ struct LentRecord<'a> {
 /// field is not whole, Ltv where the capabilities of LC3 or the metadata are no LTV list, Trailing where octets follow
 /// the last record. Want of memory comes only for octets that are a value.
 pub fn decode_pacs(alloc: Global, from: &[u8]) -> Result<Records, PacFault>
-    ensures exact { Gives result (value_in from.now) }
+    ensures exact { Answers told result (value_in from.now) }
     ensures value { IfOk result (λ records. PacIs records from.now) }
-    ensures only { (records : List PacRecord) → PacIs records from.now → Gives result (Ok records) }
+    ensures only { (records : List PacRecord) → PacIs records from.now → Answers told result (Ok records) }
     ensures cut { IfErr result (λ fault. IsFault fault from.now) }
 {
     decode_records(alloc, from)
@@ -42,7 +42,7 @@ pub fn decode_pacs(alloc: Global, from: &[u8]) -> Result<Records, PacFault>
 
 // The list of the records.
 fn decode_records(alloc: Global, from: &[u8]) -> Result<Records, PacFault>
-    ensures { Gives result (value_in from.now) }
+    ensures { Answers told result (value_in from.now) }
 {
     check_value(from)?;
     let list = own_value(alloc, from)?;

@@ -11,7 +11,8 @@ use Rattle.receive_state.specs.declared.fault.StateFault.TheVariants.{Short, Rfu
 use Rattle.receive_state.specs.declared.state.ReceiveState.{ReceiveState}
 use Rattle.receive_state.specs.Faults.{EndsIn, IsShort, IsFault}
 use Rattle.receive_state.specs.Layout.{StateFields, fields, StateIs}
-use Rattle.receive_state.specs.Reading.{head_in, end_in, subgroups_of, state_from, first_fault, answered, behind, judged, judged_of, lifted, state_of, Fails, Answers}
+use Rattle.receive_state.specs.Reading.{head_in, end_in, subgroups_of, state_from, first_fault, answered, behind, judged, judged_of, lifted, state_of, told}
+use Rattle.octet_fields.specs.Tries.{Answers, Finds}
 use Rattle.receive_state.proofs.Causes.{lifted_err, reserved_found, reserved_told, trailing_found, trailing_told}
 use Rattle.receive_state.proofs.CutGroups.{found_groups, told_groups}
 use Rattle.receive_state.proofs.HeadsFound.{found_head}
@@ -108,9 +109,6 @@ in_groups whole s count tail p h some e r =
       ),
     )
 
-short_same : (p place : ℕ) → Short p ≡ Short place → p ≡ place
-short_same p place e = cc
-
 abbrev refused : StateFault → Result ReceiveState StateFault
 refused fault = Err fault
 
@@ -173,12 +171,12 @@ a_value : (octets : List ℕ) (read : Result (Option ReceiveState) StateFault) �
 a_value octets (Ok value) h e some = (value, read_is value octets h e)
 a_value octets (Err fault) h e some = absurd cc
 
-failed : (fault : StateFault) (octets : List ℕ) → IsOctets octets → Fails fault (state_of octets) → IsFault fault octets
+failed : (fault : StateFault) (octets : List ℕ) → IsOctets octets → Finds (told fault) (state_of octets) → IsFault fault octets
 failed (Short place) octets h f = short_found place octets h f
 failed (Rfu place) octets h f = reserved_found place octets h f
 failed (Trailing place) octets h f = trailing_found place octets h f
 failed Memory octets h f = a_value octets (state_of octets) h refl f
 
-pub gave_fault : (result : Result (Option ReceiveState) StateFault) (octets : List ℕ) → IsOctets octets → Answers result (state_of octets) → IfErr result (λ fault. IsFault fault octets)
+pub gave_fault : (result : Result (Option ReceiveState) StateFault) (octets : List ℕ) → IsOctets octets → Answers told result (state_of octets) → IfErr result (λ fault. IsFault fault octets)
 gave_fault (Ok value) octets h g = tt
 gave_fault (Err fault) octets h g = failed fault octets h g

@@ -7,7 +7,6 @@ use Rattle.octet_fields.specs.Reading.{octet_in, octets_in, place_in}
 use Rattle.octet_fields.specs.Spelling.{octet}
 use Rattle.octet_fields.proofs.Citable.{octet_takes, octets_take}
 use Rattle.receive_state.specs.Faults.{EndsIn}
-use Rattle.receive_state.specs.Layout.{fields}
 use Rattle.octet_fields.specs.Tries.{◌>>=◌, needed}
 use Rattle.receive_state.specs.Steps.{field_in}
 use Rattle.receive_state.proofs.Cuts.{ends_split, no_octet, no_octets, octet_short, octets_short}

@@ -17,7 +17,8 @@ use Rattle.receive_state.specs.declared.state.GroupState.{GroupState}
 use Rattle.receive_state.specs.declared.state.ReceiveState.{ReceiveState}
 use Rattle.receive_state.specs.Faults.{IsFollowed}
 use Rattle.receive_state.specs.Layout.{StateFields, fields, FieldsFit, code_width, number_of, code_of, group_of, fields_of, spelling, IsSpelled, StateIs}
-use Rattle.receive_state.specs.Reading.{head_in, end_in, subgroups_of, state_of_group, encryption_of, state_from, first_fault, answered, behind, judged, judged_of, lifted, state_of, Answers}
+use Rattle.receive_state.specs.Reading.{head_in, end_in, subgroups_of, state_of_group, encryption_of, state_from, first_fault, answered, behind, judged, judged_of, lifted, state_of, told}
+use Rattle.octet_fields.specs.Tries.{Answers}
 use Rattle.receive_state.proofs.Heads.{before, head_takes, head_again}
 use Rattle.receive_state.proofs.Loops.{groups_read, groups_told}
 
@@ -182,6 +183,6 @@ is_read None octets e = ap state_of e
 is_read (Some state) [] s = absurd (let e = s.spelled in cc)
 is_read (Some state) (octet ∷ rest) s = ap lifted (is_judged state (octet ∷ rest) s)
 
-pub gave_state : (result : Result (Option ReceiveState) StateFault) (octets : List ℕ) → IsOctets octets → Answers result (state_of octets) → IfOk result (λ value. StateIs value octets)
+pub gave_state : (result : Result (Option ReceiveState) StateFault) (octets : List ℕ) → IsOctets octets → Answers told result (state_of octets) → IfOk result (λ value. StateIs value octets)
 gave_state (Ok value) octets h g = read_is value octets h g
 gave_state (Err fault) octets h g = tt

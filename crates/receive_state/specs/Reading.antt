@@ -1,5 +1,5 @@
 -- Reading a receive state (Broadcast Audio Scan Service 1.0, section 3.2) field by field.
-use Rattle.std.specs.Prelude.{ℕ, zero, suc, ◌≡◌, List, [], ◌∷◌, map, Option, Some, None, Result, Ok, Err, Bool, true, false, nat_lt, if◌then◌else◌}
+use Rattle.std.specs.Prelude.{ℕ, zero, suc, List, [], ◌∷◌, map, Option, Some, None, Result, Ok, Err, nat_lt, if◌then◌else◌}
 use Rattle.octet_fields.specs.Layout.{reserved_from}
 use Rattle.octet_fields.specs.Reading.{octet_in, octets_in, place_in}
 use Rattle.octet_fields.specs.Subgroups.{Subgroup, subgroups_in}
@@ -11,7 +11,6 @@ use Rattle.receive_state.specs.declared.state.GroupState.{GroupState}
 use Rattle.receive_state.specs.declared.state.ReceiveState.{ReceiveState}
 use Rattle.receive_state.specs.Layout.{StateFields, fields, code_width}
 use Rattle.octet_fields.specs.Tries.{◌>>=◌}
-use Rattle.octet_fields.specs.Tries as tries
 use Rattle.receive_state.specs.Steps.{field_in}
 
 -- Source_ID, and what tells the source, and the octets behind it
@@ -120,14 +119,7 @@ abbrev pub state_of : List ℕ → Result (Option ReceiveState) StateFault
 state_of [] = Ok None
 state_of (octet ∷ rest) = lifted (judged_of (octet ∷ rest))
 
--- a function gave what reading gives, unless memory ran out for a value
-abbrev pub wants : StateFault → Bool
-wants faults.Memory = true
-wants fault = false
-
-abbrev pub Fails : {A : Type 0} → StateFault → Result A StateFault → Type 0
-Fails fault read = tries.Fails (wants fault) fault read
-
-abbrev pub Answers : {A : Type 0} → Result A StateFault → Result A StateFault → Type 0
-Answers (Ok state) read = read ≡ Ok state
-Answers (Err fault) read = Fails fault read
+-- what a fault says of the octets: nothing, where memory ran out for a value
+abbrev pub told : StateFault → Option StateFault
+told faults.Memory = None
+told fault = Some fault

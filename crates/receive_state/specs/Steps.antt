@@ -1,4 +1,4 @@
--- Reading one field behind the other, up to the place of the first one that passes the end.
+-- Reading one field behind the other, which is this project's own: up to the place of the first one that passes the end.
 use Rattle.std.specs.Prelude.{ℕ, List, Option, Result}
 use Rattle.octet_fields.specs.Reading.{place_in}
 use Rattle.octet_fields.specs.Tries.{needed}

@@ -1,9 +1,9 @@
 ghost use Rattle.std.specs.Prelude.{◌≡◌, ◌≤◌, [], length, is_some, true, Option, Some, IfOk, IfErr, Ok};
 ghost use Rattle.receive_state.specs.Faults.{IsFault};
 ghost use Rattle.receive_state.specs.Layout.{StateIs, code_width};
-ghost use Rattle.receive_state.specs.Reading.{Answers, state_of, judged_of, head_in, reserved_head, encryption_of, groups_of};
+ghost use Rattle.receive_state.specs.Reading.{told, state_of, judged_of, head_in, reserved_head, encryption_of, groups_of};
 ghost use Rattle.octet_fields.specs.Subgroups.{subgroups_in};
-ghost use Rattle.octet_fields.specs.Tries.{ReadsAs};
+ghost use Rattle.octet_fields.specs.Tries.{Answers, ReadsAs};
 ghost use Rattle.receive_state.specs.declared.state.ReceiveState.{ReceiveState};
 
 use crate::fault::StateFault;
@@ -44,9 +44,9 @@ struct LentState<'a> {
 /// Else it is the first fault in this order: Short with the place of the field that passes the end, Rfu with the place of
 /// the first field that has a reserved value, Trailing with the place of the first octet behind all fields, and Memory.
 pub fn decode_state(alloc: Global, from: &[u8]) -> Result<Option<ReceiveState>, StateFault>
-    ensures exact { Answers result (state_of from.now) }
+    ensures exact { Answers told result (state_of from.now) }
     ensures layout { IfOk result (λ state. StateIs state from.now) }
-    ensures only { (state : Option ReceiveState) → StateIs state from.now → Answers result (Ok state) }
+    ensures only { (state : Option ReceiveState) → StateIs state from.now → Answers told result (Ok state) }
     ensures fault { IfErr result (λ fault. IsFault fault from.now) }
 {
     read_value(alloc, from)
@@ -54,7 +54,7 @@ pub fn decode_state(alloc: Global, from: &[u8]) -> Result<Option<ReceiveState>, 
 
 // The empty value, or a state.
 fn read_value(alloc: Global, from: &[u8]) -> Result<Option<ReceiveState>, StateFault>
-    ensures { Answers result (state_of from.now) }
+    ensures { Answers told result (state_of from.now) }
 {
     if from.is_empty() {
         return Ok(None);
@@ -65,7 +65,7 @@ fn read_value(alloc: Global, from: &[u8]) -> Result<Option<ReceiveState>, StateF
 
 // A state.
 fn read_state(alloc: Global, from: &[u8]) -> Result<ReceiveState, StateFault>
-    ensures { Answers result (judged_of from.now) }
+    ensures { Answers told result (judged_of from.now) }
 {
     let lent = head_at(from)?;
     let rest = groups_end(from, lent.count, lent.groups)?;
@@ -87,7 +87,21 @@ fn read_state(alloc: Global, from: &[u8]) -> Result<ReceiveState, StateFault>
 // The fields before the subgroups, or the place of the one that passes the end.
 #[tactic(auto, unfolding(crate::specs::Reading::source_in, crate::specs::Reading::head_in))]
 fn head_at(from: &[u8]) -> Result<LentState<'_>, ShortAt>
-    ensures head { ReadsAs (λ l. (record { source_id = l.source_id; address_type = l.address_type; address = l.address.now; sid = l.sid; broadcast_id = l.broadcast_id.now; pa_sync_state = l.pa_sync_state; encryption = l.encryption; bad_code = l.bad_code.now; groups = [] }, l.count, l.groups.now)) (λ e. e.place) result (head_in from.now) }
+    ensures head { ReadsAs (λ l. (
+      record {
+        source_id = l.source_id;
+        address_type = l.address_type;
+        address = l.address.now;
+        sid = l.sid;
+        broadcast_id = l.broadcast_id.now;
+        pa_sync_state = l.pa_sync_state;
+        encryption = l.encryption;
+        bad_code = l.bad_code.now;
+        groups = [];
+      },
+      l.count,
+      l.groups.now,
+    )) (λ e. e.place) result (head_in from.now) }
     ensures address { IfOk result (λ l. length l.address.now ≡ 6) }
     ensures broadcast_id { IfOk result (λ l. length l.broadcast_id.now ≡ 3) }
     ensures bad_code { IfOk result (λ l. length l.bad_code.now ≡ code_width l.encryption) }
@@ -148,7 +162,16 @@ fn own_state(alloc: Global, lent: &LentState<'_>) -> Result<ReceiveState, Memory
     requires encryption { lent.now.encryption ≤ 3 }
     requires groups { is_some (subgroups_in lent.now.count lent.now.groups.now) ≡ true }
     ensures groups { IfOk result (λ state. groups_of lent.now.count lent.now.groups.now ≡ Some state.groups) }
-    ensures head { IfOk result (λ state. state ≡ record { source_id = lent.now.source_id; address_type = lent.now.address_type; address = lent.now.address.now; sid = lent.now.sid; broadcast_id = lent.now.broadcast_id.now; pa_sync_state = lent.now.pa_sync_state; encryption = encryption_of lent.now.encryption lent.now.bad_code.now; groups = state.groups }) }
+    ensures head { IfOk result (λ state. state ≡ record {
+      source_id = lent.now.source_id;
+      address_type = lent.now.address_type;
+      address = lent.now.address.now;
+      sid = lent.now.sid;
+      broadcast_id = lent.now.broadcast_id.now;
+      pa_sync_state = lent.now.pa_sync_state;
+      encryption = encryption_of lent.now.encryption lent.now.bad_code.now;
+      groups = state.groups;
+    }) }
 {
     let mut address = [0; 6];
     address.copy_from_slice(lent.address);

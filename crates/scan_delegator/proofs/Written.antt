@@ -9,7 +9,8 @@ use Rattle.bass_operations.specs.declared.operation.Operation.{Operation}
 use Rattle.bass_operations.specs.declared.operation.Operation.TheVariants.{ScanStopped, ScanStarted, Add, Modify, Code, Remove}
 use Rattle.bass_operations.specs.declared.wishes.Wish.{Wish}
 use Rattle.bass_operations.specs.Layout.{OpIs, WishFits, fields}
-use Rattle.bass_operations.specs.Reading.{Fails, op_of}
+use Rattle.octet_fields.specs.Tries.{Finds}
+use Rattle.bass_operations.specs.Reading.{told, op_of}
 use Rattle.bcast_base.specs.declared.memory.Memory.{Memory}
 use Rattle.octet_fields.specs.Layout.{Field, NoneReserved}
 use Rattle.delegator_states.specs.declared.replies.Cause.{Cause}
@@ -38,7 +39,7 @@ served_err m now octets op (Err memory) serves = serves
 
 -- ---- no operation
 
-no_op : (fault : OpFault) (cause : Cause) (octets : List ℕ) → Fails fault (op_of octets) → cause_of_fault fault ≡ Some cause → op_of octets ≡ Err fault
+no_op : (fault : OpFault) (cause : Cause) (octets : List ℕ) → Finds (told fault) (op_of octets) → cause_of_fault fault ≡ Some cause → op_of octets ≡ Err fault
 no_op faults.Empty cause octets fails is = fails
 no_op faults.Opcode cause octets fails is = fails
 no_op faults.Length cause octets fails is = fails
@@ -46,12 +47,12 @@ no_op (faults.Rfu place) cause octets fails is = fails
 no_op (faults.BisTwice bis) cause octets fails is = fails
 no_op faults.Memory cause octets fails is = absurd cc
 
-pub fault_answer : (m : Machine) (octets : List ℕ) (fault : OpFault) (cause : Cause) (reply : Reply) → Fails fault (op_of octets) → cause_of_fault fault ≡ Some cause → reply ≡ reply_by (Some cause)
+pub fault_answer : (m : Machine) (octets : List ℕ) (fault : OpFault) (cause : Cause) (reply : Reply) → Finds (told fault) (op_of octets) → cause_of_fault fault ≡ Some cause → reply ≡ reply_by (Some cause)
     → reply ≡ reply_of m.sight octets
 fault_answer m octets fault cause reply fails is told =
     told ∙ ap reply_by (sym is) ∙ ap (λ read. reply_by (cause_read m.sight read)) (sym (no_op fault cause octets fails is))
 
-pub fault_step : (m : Machine) (octets : List ℕ) (fault : OpFault) (cause : Cause) → Fails fault (op_of octets) → cause_of_fault fault ≡ Some cause
+pub fault_step : (m : Machine) (octets : List ℕ) (fault : OpFault) (cause : Cause) → Finds (told fault) (op_of octets) → cause_of_fault fault ≡ Some cause
     → m ≡ moved (done_by_write m.sight octets) m
 fault_step m octets fault cause fails is =
     sym (moved_nothing m) ∙ ap (λ read. moved (done_read m.sight read (cause_read m.sight read)) m) (sym (no_op fault cause octets fails is))

@@ -7,10 +7,12 @@ use Rattle.scenario_words.specs.declared.fault.LineFault.{LineFault}
 use Rattle.scenario_words.specs.declared.fault.LineFault.TheVariants.{BadLine}
 use Rattle.scenario_words.specs.Words.{words_of}
 use Rattle.scenario_words.specs.Places.{WordPlace, between, Place, one, perhaps, rising, wishes, WordValue}
-use Rattle.scenario_words.specs.Reading.{Left, Gives, ◌>>=◌, any_word, next_of, taken, word_in, decimal_in, with_stream, streams_of, rising_of, perhaps_of}
+use Rattle.octet_fields.specs.Tries.{◌>>=◌}
+use Rattle.octet_fields.proofs.Citable.{bind_ok}
+use Rattle.scenario_words.specs.Reading.{Left, Gives, any_word, next_of, taken, word_in, decimal_in, with_stream, streams_of, rising_of, perhaps_of}
 use Rattle.scenario_words.specs.Reading.{wishes_of, bounded, all_wishes_of, ended}
 use Rattle.scenario_words.specs.Fitting.{FitsIndices, FitsPairs, FitsFront}
-use Rattle.scenario_words.proofs.Citable.{word_spelled, bind_ok, is_small, bounded_is, Stops, misfit, bad_is, indices_first, indices_stop, indices_all, pairs_stop, pairs_end}
+use Rattle.scenario_words.proofs.Citable.{word_spelled, is_small, bounded_is, Stops, misfit, bad_is, indices_first, indices_stop, indices_all, pairs_stop, pairs_end}
 use Rattle.scenario_text.specs.declared.step.Step.{Step}
 use Rattle.scenario_text.specs.Table.{Build, Row, row_of}
 use Rattle.scenario_text.specs.Steps.{built_at, at_known, whole, line_after, step_of, read_of}

@@ -4,8 +4,10 @@ use Rattle.std.specs.Prelude.{IfOk, IfSome, IfNone}
 use Rattle.scenario_words.specs.declared.fault.LineFault.{LineFault}
 use Rattle.scenario_words.specs.Words.{words_of, onto_first}
 use Rattle.scenario_words.specs.Places.{Place, one, perhaps, rising, wishes}
-use Rattle.scenario_words.specs.Reading.{Left, Gives, ◌>>=◌, any_word, next_of, at_place, ended}
-use Rattle.scenario_words.proofs.Citable.{place_again, place_spelled, bind_ok, IsLast}
+use Rattle.octet_fields.specs.Tries.{◌>>=◌}
+use Rattle.octet_fields.proofs.Citable.{bind_ok}
+use Rattle.scenario_words.specs.Reading.{Left, Gives, any_word, next_of, at_place, ended}
+use Rattle.scenario_words.proofs.Citable.{place_again, place_spelled, IsLast}
 use Rattle.scenario_text.specs.declared.step.Step.{Step}
 use Rattle.scenario_text.specs.Ranges.{IsInRange}
 use Rattle.scenario_text.specs.Table.{Build, Row, row_of}

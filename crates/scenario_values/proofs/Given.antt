@@ -1,13 +1,12 @@
 -- Values that are tested one after the other.
-use Rattle.std.proofs.Common.{◌≡◌, ◌<◌, ◌≤◌, ◌+◌, ℕ, zero, suc, List, [], ◌∷◌, length, drop, get_or, Some, refl, ap, arith, ◌↔◌, add-one}
+use Rattle.std.proofs.Common.{◌≡◌, ◌+◌, ℕ, zero, suc, List, [], ◌∷◌, drop, Some, ap, ◌↔◌, add-one}
 use Rattle.std.specs.Prelude.{slice_get}
 use Rattle.std.specs.List.{AllByRecursion}
-use Rattle.std.proofs.Math.Seq.{drop-cons}
 use Rattle.bass_operations.specs.declared.wishes.Wish.{Wish}
 use Rattle.bass_operations.specs.Layout.{MetadataFits}
 use Rattle.scenario_values.specs.Fitting.{HasWishWords}
 use Rattle.scenario_values.specs.declared.value.Value.{Value}
-use Rattle.scenario_values.specs.Given.{ValueHasWords, AllGivenHaveWords}
+use Rattle.scenario_values.specs.Given.{AllGivenHaveWords}
 
 pub metadata_fits : (all : List Wish) → AllByRecursion HasWishWords all → MetadataFits all
 metadata_fits [] h = tt
@@ -27,32 +26,5 @@ wish_passed all i wish at fits from =
     let next = wishes_next all i wish at in
     rw add-one (λ others. from.0 (rw next (fits, others)), λ whole. (rw next at from.1 whole).1)
 
-pub wish_failed : (all : List Wish) (i : ℕ) (wish : Wish) → slice_get all i ≡ Some wish → (HasWishWords wish → ⊥) → WishesFrom all i → AllByRecursion HasWishWords all → ⊥
-wish_failed all i wish at fails from whole =
-    let next = wishes_next all i wish at in
-    fails (rw next at from.1 whole).0
-
-drop_past : {A : Type 0} (xs : List A) (i : ℕ) → length xs ≤ i → drop i xs ≡ []
-drop_past [] zero h = refl
-drop_past [] (suc i) h = refl
-drop_past (x ∷ xs) zero h = absurd (omega arith)
-drop_past (x ∷ xs) (suc i) h = drop_past xs i (omega arith)
-
-pub wishes_passed : (all : List Wish) (i : ℕ) → length all ≤ i → WishesFrom all i → AllByRecursion HasWishWords all
-wishes_passed all i past from = from.0 (rw (drop_past all i past) tt)
-
 abbrev pub GivenFrom : List Value → ℕ → Type 0
 GivenFrom all i = AllGivenHaveWords (drop i all) ↔ AllGivenHaveWords all
-
-pub value_passed : (all : List Value) (i : ℕ) (none : Value) → i < length all → ValueHasWords (get_or all i none) → GivenFrom all i → GivenFrom all (i + 1)
-value_passed all i none inside fits from =
-    let next = drop-cons all i none inside in
-    rw add-one (λ others. from.0 (rw next (fits, others)), λ whole. (rw next at from.1 whole).1)
-
-pub value_failed : (all : List Value) (i : ℕ) (none : Value) → i < length all → (ValueHasWords (get_or all i none) → ⊥) → GivenFrom all i → AllGivenHaveWords all → ⊥
-value_failed all i none inside fails from whole =
-    let next = drop-cons all i none inside in
-    fails (rw next at from.1 whole).0
-
-pub values_passed : (all : List Value) (i : ℕ) → length all ≤ i → GivenFrom all i → AllGivenHaveWords all
-values_passed all i past from = from.0 (rw (drop_past all i past) tt)

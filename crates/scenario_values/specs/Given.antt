@@ -1,4 +1,4 @@
--- Values as they are given, each with what its place asks of it.
+-- Values as they are given, each with what its place in a line of a scenario asks of it: this project's own.
 use Rattle.std.specs.Prelude.{List, [], ◌∷◌, ⊤}
 use Rattle.scenario_words.specs.Places.{one, perhaps, rising, wishes, between, framing_word, time_up_to, octets_up_to, octets_exactly, number_in_octets, list_up_to}
 use Rattle.scenario_values.specs.Fitting.{HasWords}

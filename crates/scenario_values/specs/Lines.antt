@@ -1,4 +1,5 @@
--- The values at the places of a line, in order: whether all have words, and the words that are written for them.
+-- The values at the places of a line of a scenario, this project's own, in order: whether all have words, and the words that
+-- are written for them.
 use Rattle.std.specs.Prelude.{ℕ, List, [], ◌∷◌, ◌++◌, ⊤}
 use Rattle.scenario_words.specs.Places.{Place, PlaceValue}
 use Rattle.scenario_values.specs.Fitting.{HasWords}

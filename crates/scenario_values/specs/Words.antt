@@ -1,4 +1,5 @@
--- The words that are written for a value at a place of a line: decimals, and octets as lower-case digits or `-` for none.
+-- The words that are written for a value at a place of a line of a scenario, this project's own: decimals, and octets as
+-- lower-case digits or `-` for none.
 use Rattle.std.specs.Prelude.{ℕ, zero, suc, ◌+◌, ◌-◌, ◌==◌, if◌then◌else◌, List, [], ◌∷◌, map, Option, None, Some, codes, decimal}
 use Rattle.std.specs.Int.{bit_at}
 use Rattle.hex.specs.Hex.{encode_lower}

@@ -5,10 +5,12 @@ use Rattle.bass_operations.specs.declared.wishes.Wish.{Wish}
 use Rattle.scenario_words.specs.declared.fault.LineFault.{LineFault}
 use Rattle.scenario_words.specs.declared.fault.LineFault.TheVariants.{BadLine}
 use Rattle.scenario_words.specs.Places.{WordPlace, between, octets_up_to, number_in_octets, one}
-use Rattle.scenario_words.specs.Reading.{Left, ◌>>=◌, next_of, taken, decimal_in, octets_in, number_in, word_in, with_stream, streams_of, wish_of, wishes_of}
+use Rattle.octet_fields.specs.Tries.{◌>>=◌}
+use Rattle.octet_fields.proofs.Citable.{bind_ok, ok_is}
+use Rattle.scenario_words.specs.Reading.{Left, next_of, taken, decimal_in, octets_in, number_in, word_in, with_stream, streams_of, wish_of, wishes_of}
 use Rattle.scenario_words.specs.Spelling.{SpellsWord}
 use Rattle.scenario_words.specs.Fitting.{FitsWord, FitsIndices, FitsPairs}
-use Rattle.scenario_words.proofs.Spelling.{is_small, word_again, word_spelled, bind_ok}
+use Rattle.scenario_words.proofs.Spelling.{is_small, word_again, word_spelled}
 
 abbrev left_of : List (List ℕ) → ℕ → Left
 left_of words read = record { words = words; read = read }
@@ -24,9 +26,6 @@ some_is x y e = cc
 
 abbrev done : {A : Type 0} → A → Result A LineFault
 done x = Ok x
-
-ok_is : {A : Type 0} (x y : A) → done x ≡ done y → x ≡ y
-ok_is x y e = cc
 
 abbrev bad : (A : Type 0) → ℕ → Result A LineFault
 bad A k = Err (BadLine k)

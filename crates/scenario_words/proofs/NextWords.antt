@@ -1,14 +1,10 @@
 -- One word of a line: it fits its place, or it doesn't, or none is left.
-use Rattle.std.proofs.Common.{◌∙◌, ◌≡◌, ℕ, ◌+◌, ◌-◌, List, [], ◌∷◌, Option, None, Some, Result, Ok, Err, refl, ap, arith}
+use Rattle.std.proofs.Common.{◌∙◌, ◌≡◌, ℕ, ◌+◌, ◌-◌, List, [], ◌∷◌, Option, None, Some, Ok, Err, refl, ap, arith}
 use Rattle.scenario_words.specs.declared.fault.LineFault.{LineFault}
-use Rattle.scenario_words.specs.declared.fault.LineFault.TheVariants.{BadLine, Memory}
-use Rattle.scenario_words.specs.Reading.{Left, Fails, any_word, next_of, next}
-
-abbrev done : {A : Type 0} → A → Result A LineFault
-done x = Ok x
-
-pub ok_is : {A : Type 0} (x y : A) → done x ≡ done y → x ≡ y
-ok_is x y e = cc
+use Rattle.scenario_words.specs.declared.fault.LineFault.TheVariants.{BadLine}
+use Rattle.octet_fields.specs.Tries.{FindsOrWants}
+use Rattle.octet_fields.proofs.Citable.{ok_is}
+use Rattle.scenario_words.specs.Reading.{Left, told, any_word, next_of, next}
 
 abbrev after : List (List ℕ) → ℕ → Left
 after words read = record { words = words; read = read + 1 }
@@ -41,15 +37,5 @@ misfits_of f read (word ∷ words) w new e h =
     rw (this, h, ← number) refl
 
 pub misfits : {X : Type 0} (f : List ℕ → Option X) (old new : Left) (w : List ℕ) (fault : LineFault) → next any_word old ≡ Ok (w, new)
-    → f w ≡ None → fault ≡ BadLine (new.read - 1) → Fails fault (next f old)
+    → f w ≡ None → fault ≡ BadLine (new.read - 1) → FindsOrWants (told fault) (next f old)
 misfits f old new w fault e h is = rw is (misfits_of f old.read old.words w new e h)
-
--- and where none is left, each place has that fault
-none_left_of : {X : Type 0} (f : List ℕ → Option X) (read : ℕ) (words : List (List ℕ)) (fault : LineFault) → Fails fault (next_of any_word read words) → Fails fault (next_of f read words)
-none_left_of f read [] Memory h = tt
-none_left_of f read [] (BadLine word) h = cc
-none_left_of f read (w ∷ words) Memory h = tt
-none_left_of f read (w ∷ words) (BadLine word) h = absurd cc
-
-pub none_left : {X : Type 0} (f : List ℕ → Option X) (old : Left) (fault : LineFault) → Fails fault (next any_word old) → Fails fault (next f old)
-none_left f old fault h = none_left_of f old.read old.words fault h

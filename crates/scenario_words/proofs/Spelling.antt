@@ -16,7 +16,9 @@ use Rattle.scenario_words.specs.declared.fault.LineFault.{LineFault}
 use Rattle.scenario_words.specs.declared.fault.LineFault.TheVariants.{BadLine}
 use Rattle.scenario_words.specs.Places.{WordPlace, between, framing_word, time_up_to, octets_up_to, octets_exactly, number_in_octets, list_up_to, Place, one}
 use Rattle.scenario_words.specs.Places.{perhaps, rising, wishes, WordValue, PlaceValue, wishes_octets}
-use Rattle.scenario_words.specs.Reading.{Left, ◌>>=◌, next_of, taken, decimal_in, framing_in, time_in, timed, octets_in, within, exact_in, number_in, numbered}
+use Rattle.octet_fields.specs.Tries.{◌>>=◌}
+use Rattle.octet_fields.proofs.Citable.{bind_ok, ok_is}
+use Rattle.scenario_words.specs.Reading.{Left, next_of, taken, decimal_in, framing_in, time_in, timed, octets_in, within, exact_in, number_in, numbered}
 use Rattle.scenario_words.specs.Reading.{list_in, word_in, perhaps_of, with_stream, streams_of, rising_of, wish_of, wishes_of, bounded, all_wishes_of, at_place}
 use Rattle.scenario_words.specs.Spelling.{SpellsOctets, SpellsWord, Rising, with_streams, SpellsWishes, Spells}
 use Rattle.scenario_words.proofs.Decimals.{own}
@@ -141,13 +143,6 @@ place_again (wishes most) value words rest read small h =
 
 abbrev done : {A : Type 0} → A → Result A LineFault
 done x = Ok x
-
-ok_is : {A : Type 0} (x y : A) → done x ≡ done y → x ≡ y
-ok_is x y e = cc
-
-pub bind_ok : {A B : Type 0} (r : Result A LineFault) (f : A → Result B LineFault) (y : B) → (r >>= f) ≡ Ok y → (x : A) × (r ≡ Ok x) × (f x ≡ Ok y)
-bind_ok (Ok x) f y e = (x, refl, e)
-bind_ok (Err d) f y e = absurd cc
 
 -- one word was read
 record OneRead {X : Type 0} (f : List ℕ → Option X) (words : List (List ℕ)) (read : ℕ) (value : X) (left : Left) : Type 0 where

@@ -5,8 +5,8 @@ use Rattle.std.proofs.lemmas.Bool.{cases_eq}
 use Rattle.std.proofs.lemmas.Nat.Bits.{bit_at_or, bit_at-pow_same, bit_at-pow_other, bit_at-lt, same_from_bits}
 use Rattle.bcast_base.specs.Bis.{Has}
 use Rattle.scenario_words.specs.declared.fault.LineFault.{LineFault}
-use Rattle.scenario_words.specs.declared.fault.LineFault.TheVariants.{BadLine, Memory}
-use Rattle.scenario_words.specs.Reading.{Left, Fails, ◌>>=◌, next_of, next, taken, decimal_in, with_stream, streams_of}
+use Rattle.octet_fields.specs.Tries.{◌>>=◌, FindsOrWants}
+use Rattle.scenario_words.specs.Reading.{Left, told, next_of, next, taken, decimal_in, with_stream, streams_of}
 
 or_zero : (a : ℕ) → max a 0 ≡ a
 or_zero a = omega arith
@@ -57,13 +57,14 @@ index_read set least bis old new whole some e so_far =
     sym here ∙ so_far
 
 -- or it doesn't
-pub fails_so : {A B : Type 0} (fault : LineFault) (read : Result A LineFault) (whole : Result B LineFault) (f : A → Result B LineFault) → Fails fault read → (read >>= f) ≡ whole → Fails fault whole
-fails_so Memory read whole f h e = tt
-fails_so (BadLine word) read whole f h e = sym e ∙ ap (λ r. r >>= f) h
+pub fails_so : {A B : Type 0} (found : Option LineFault) (read : Result A LineFault) (whole : Result B LineFault) (f : A → Result B LineFault) → FindsOrWants found read → (read >>= f) ≡ whole
+    → FindsOrWants found whole
+fails_so None read whole f h e = tt
+fails_so (Some fault) read whole f h e = sym e ∙ ap (λ r. r >>= f) h
 
-pub index_fails : (set least : ℕ) (old : Left) (fault : LineFault) (whole : Result (ℕ × Left) LineFault) → old.words ≢ [] → Fails fault (next (decimal_in least 31) old)
-    → streams_of set least old.read old.words ≡ whole → Fails fault whole
-index_fails set least old fault whole some h so_far = fails_so fault (next (decimal_in least 31) old) whole (go_on set) h (sym (streams_next set least old.read old.words some) ∙ so_far)
+pub index_fails : (set least : ℕ) (old : Left) (fault : LineFault) (whole : Result (ℕ × Left) LineFault) → old.words ≢ [] → FindsOrWants (told fault) (next (decimal_in least 31) old)
+    → streams_of set least old.read old.words ≡ whole → FindsOrWants (told fault) whole
+index_fails set least old fault whole some h so_far = fails_so (told fault) (next (decimal_in least 31) old) whole (go_on set) h (sym (streams_next set least old.read old.words some) ∙ so_far)
 
 -- no index is left
 all_read_of : (set least read : ℕ) (words : List (List ℕ)) → words ≡ [] → streams_of set least read words ≡ Ok (set, record { words = words; read = read })

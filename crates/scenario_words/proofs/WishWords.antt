@@ -1,13 +1,13 @@
 -- The pairs of words that are left of a line.
-use Rattle.std.proofs.Common.{◌≡◌, ◌≢◌, ◌≤◌, ◌<◌, ℕ, zero, suc, ◌+◌, ◌-◌, List, [], ◌∷◌, ◌++◌, length, take, slice_get, Some, Result, Ok, Err, refl, sym, ◌∙◌, ap, arith}
+use Rattle.std.proofs.Common.{◌≡◌, ◌≢◌, ◌≤◌, ◌<◌, ℕ, zero, suc, ◌+◌, ◌-◌, List, [], ◌∷◌, ◌++◌, length, take, slice_get, Some, Result, Ok, refl, sym, ◌∙◌, ap, arith}
 use Rattle.std.proofs.lemmas.List.{length-append}
 use Rattle.bass_operations.specs.declared.wishes.Wish.{Wish}
 use Rattle.scenario_words.specs.declared.fault.LineFault.{LineFault}
-use Rattle.std.proofs.lemmas.Bool.{le-leb, lt-leb}
+use Rattle.std.proofs.lemmas.Bool.{le-leb}
 use Rattle.bass_operations.specs.Layout.{MetadataFits}
-use Rattle.scenario_words.specs.declared.fault.LineFault.TheVariants.{BadLine}
 use Rattle.scenario_words.specs.Places.{wishes_octets}
-use Rattle.scenario_words.specs.Reading.{Left, Fails, ◌>>=◌, wish_of, wishes_of, bounded, all_wishes_of}
+use Rattle.octet_fields.specs.Tries.{◌>>=◌, FindsOrWants}
+use Rattle.scenario_words.specs.Reading.{Left, told, wish_of, wishes_of, bounded, all_wishes_of}
 use Rattle.scenario_words.proofs.Streams.{fails_so}
 
 abbrev go_on : List Wish → ℕ → Wish × Left → Result (List Wish × Left) LineFault
@@ -37,10 +37,10 @@ wish_read before wish old new whole few some e so_far =
 
 -- or it doesn't
 pub wish_fails : (before : List Wish) (old : Left) (fault : LineFault) (whole : Result (List Wish × Left) LineFault) → length before < 31 → old.words ≢ []
-    → Fails fault (wish_of old) → wishes_of before (31 - length before) old.read old.words ≡ whole → Fails fault whole
+    → FindsOrWants (told fault) (wish_of old) → wishes_of before (31 - length before) old.read old.words ≡ whole → FindsOrWants (told fault) whole
 wish_fails before old fault whole few some h so_far =
     let wish : Wish = record { bis_sync = 0; metadata = [] } in
-    fails_so fault (wish_of old) whole (go_on before (31 - length (before ++ wish ∷ []))) h (at_one before wish old whole few some so_far)
+    fails_so (told fault) (wish_of old) whole (go_on before (31 - length (before ++ wish ∷ []))) h (at_one before wish old whole few some so_far)
 
 -- no word is left, or all pairs are read
 none_of : (before : List Wish) (more read : ℕ) (words : List (List ℕ)) → words ≡ [] → wishes_of before more read words ≡ Ok (before, record { words = words; read = read })
@@ -85,15 +85,5 @@ one_short (first ∷ wishes) (suc i) wish fits e = one_short wishes i wish fits.
 bounded_fits : (most : ℕ) (wishes : List Wish) (new : Left) → wishes_octets wishes ≤ most → bounded most (wishes, new) ≡ Ok (wishes, new)
 bounded_fits most wishes new few = rw (le-leb (wishes_octets wishes) most few) refl
 
-bounded_fails : (most : ℕ) (wishes : List Wish) (new : Left) → most < wishes_octets wishes → bounded most (wishes, new) ≡ Err (BadLine new.read)
-bounded_fails most wishes new many = rw (lt-leb (wishes_octets wishes) most many) refl
-
 pub wishes_fit : (most : ℕ) (wishes : List Wish) (old new : Left) → wishes_of [] 31 old.read old.words ≡ Ok (wishes, new) → wishes_octets wishes ≤ most → all_wishes_of most old ≡ Ok (wishes, new)
 wishes_fit most wishes old new e few = rw e (bounded_fits most wishes new few)
-
-pub wishes_pass : (most : ℕ) (wishes : List Wish) (old new : Left) → wishes_of [] 31 old.read old.words ≡ Ok (wishes, new)
-    → most < wishes_octets wishes → all_wishes_of most old ≡ Err (BadLine new.read)
-wishes_pass most wishes old new e many = rw e (bounded_fails most wishes new many)
-
-pub wishes_fail : (most : ℕ) (old : Left) (fault : LineFault) → Fails fault (wishes_of [] 31 old.read old.words) → Fails fault (all_wishes_of most old)
-wishes_fail most old fault h = fails_so fault (wishes_of [] 31 old.read old.words) (all_wishes_of most old) (bounded most) h refl

@@ -1,4 +1,5 @@
--- Words that fit the first of the places of a line, one after the other, whether or not the line goes on.
+-- Words that fit the first of the places of a line of a scenario, which is this project's own language: one after the other,
+-- whether or not the line goes on.
 use Rattle.std.specs.Prelude.{ℕ, zero, suc, ◌+◌, List, [], ◌∷◌, ⊤}
 use Rattle.scenario_words.specs.Places.{WordPlace, between, octets_up_to, number_in_octets, Place, one, perhaps, rising, wishes, WordValue, most_wishes}
 use Rattle.scenario_words.specs.Spelling.{SpellsWord}

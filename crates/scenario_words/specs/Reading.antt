@@ -1,4 +1,5 @@
--- What the words of a line read as: they are tried from left to right, and a fault has the number of words that fit.
+-- What the words of a line of a scenario read as, in this project's own language: they are tried from left to right, and a
+-- fault has the number of words that fit.
 use Rattle.std.specs.Prelude.{◌≡◌, ℕ, zero, suc, ◌+◌, ◌-◌, ◌^◌, ◌==◌, ◌&&◌, nat_le, if◌then◌else◌, List, [], ◌∷◌, ◌++◌, length, Option, None, Some, is_none, Result, Ok, Err, codes, bytes_eq, decimal}
 use Rattle.std.specs.Str.Parse.{digits_value}
 use Rattle.std.specs.Int.RustNames.{bit_or}
@@ -7,6 +8,7 @@ use Rattle.hex.specs.declared.error.FromHexError.{FromHexError}
 use Rattle.bcast_base.specs.Numbers.{sum_from}
 use Rattle.bass_operations.specs.declared.wishes.Wish.{Wish}
 use Rattle.ltv_codec.specs.Reading.{bad_of}
+use Rattle.octet_fields.specs.Tries.{◌>>=◌, FindsOrWants, GivesOrWants}
 use Rattle.scenario_words.specs.declared.fault.LineFault.{LineFault}
 use Rattle.scenario_words.specs.declared.fault.LineFault.TheVariants.{BadLine, Memory}
 use Rattle.scenario_words.specs.Places.{WordPlace, between, framing_word, time_up_to, octets_up_to, octets_exactly, number_in_octets, list_up_to, Place, one}
@@ -17,24 +19,19 @@ pub record Left : Type 0 where
   pub words : List (List ℕ)
   pub read : ℕ
 
-infixl 10 ◌>>=◌
-abbrev pub ◌>>=◌ : {A B : Type 0} → Result A LineFault → (A → Result B LineFault) → Result B LineFault
-(Ok x) >>= f = f x
-(Err e) >>= f = Err e
+-- what a fault says of the line: nothing, where memory ran out
+abbrev pub told : LineFault → Option LineFault
+told (BadLine word) = Some (BadLine word)
+told Memory = None
 
--- What a function returned is what reading gives, unless memory ran out.
-abbrev pub Fails : {Y : Type 0} → LineFault → Result Y LineFault → Type 0
-Fails Memory read = Unit {0}
-Fails (BadLine word) read = read ≡ Err (BadLine word)
-
+-- what a function returned is what reading gives, unless memory ran out
 abbrev pub Gives : {X Y : Type 0} → (X → Y) → Result X LineFault → Result Y LineFault → Type 0
-Gives view (Ok x) read = read ≡ Ok (view x)
-Gives view (Err e) read = Fails e read
+Gives view result read = GivesOrWants told view result read
 
 -- what a reader returned, and the words that it left
 abbrev pub GivesNext : {X Y : Type 0} → (X → Y) → Result X LineFault → Left → Result (Y × Left) LineFault → Type 0
 GivesNext view (Ok x) left read = read ≡ Ok (view x, left)
-GivesNext view (Err e) left read = Fails e read
+GivesNext view (Err fault) left read = FindsOrWants (told fault) read
 
 -- ---- one word
 

@@ -1,4 +1,4 @@
--- What is left of a line behind a word: nothing, or the octets after the space.
+-- What is left of a line of a scenario, this project's own, behind a word: nothing, or the octets after the space.
 use Rattle.std.specs.Prelude.{ℕ, ◌+◌, List, [], length, Option, None, Some}
 use Rattle.std.specs.Borrow.{Bor}
 use Rattle.scenario_words.specs.Words.{words_of}

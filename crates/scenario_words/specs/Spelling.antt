@@ -1,4 +1,5 @@
--- Which words spell which value at a place: the grammar of the words as a relation, beside which stands their reading.
+-- Which words spell which value at a place: the grammar of the words of a scenario, which is this project's own language, as a
+-- relation, beside which stands their reading.
 use Rattle.std.specs.Prelude.{◌≡◌, ◌≢◌, ◌≤◌, ◌⊎◌, ℕ, ◌+◌, List, [], ◌∷◌, length, map, ⊤, None, Some, Ok, codes, decimal}
 use Rattle.hex.specs.Hex.{decode_of}
 use Rattle.bcast_base.specs.Numbers.{Le}

@@ -1,4 +1,5 @@
--- The words of a line: what stands between single spaces. Between two spaces side by side stands an empty word.
+-- The words of a line of a scenario, this project's own: what stands between single spaces. Between two spaces side by side
+-- stands an empty word.
 use Rattle.std.specs.Prelude.{ℕ, List, [], ◌∷◌, ◌==◌, if◌then◌else◌}
 
 -- the octet of a space

@@ -1,5 +1,5 @@
 ghost use Rattle.std.specs.Prelude.{◌≡◌, ◌≤◌, ◌^◌, ◌<◌, ◌+◌, ◌-◌, ◌*◌, ◌∷◌, ℕ, List, [], Some, None, length, IfOk, IfSome, IsTrue, ◌≢◌, ◌↔◌};
-ghost use Rattle.scenario_words.specs.Reading.{GivesNext, Fails, Left, next, any_word, decimal_in, framing_in, time_in, octets_in, exact_in, number_in};
+ghost use Rattle.scenario_words.specs.Reading.{GivesNext, Left, next, any_word, decimal_in, framing_in, time_in, octets_in, exact_in, number_in};
 ghost use Rattle.scenario_words.specs.Reading.{list_in, wish_of, wishes_of, all_wishes_of, perhaps_of, rising_of, with_stream as stream_in, ended};
 ghost use Rattle.bass_operations.specs.Layout.{MetadataFits};
 ghost use Rattle.ltv_codec.specs.Reading.{bad_of};

@@ -1,5 +1,6 @@
 use Rattle.std.proofs.Common.{arith, subst}
-use Rattle.bass_operations.specs.Reading.{Gives}
+use Rattle.octet_fields.specs.Tries.{Answers}
+use Rattle.bass_operations.specs.Reading.{told}
 use Rattle.bass_operations.proofs.Causes.{gave_operation, gave_metadata, gave_fault}
 use Rattle.bass_operations.proofs.Judged.{is_read}
 use Rattle.bass_operations.proofs.reading.decode_operation.Goals as goal
@@ -8,7 +9,7 @@ pub returns-clause-layout : goal.returns-clause-layout
 returns-clause-layout c = gave_operation c.read_operation.result c.args.from.now (λ i. omega (arith, c.type_inv.from i)) c.read_operation.ensures
 
 pub returns-clause-only : goal.returns-clause-only
-returns-clause-only c op o = subst (Gives c.read_operation.result) (is_read op c.args.from.now o) c.read_operation.ensures
+returns-clause-only c op o = subst (Answers told c.read_operation.result) (is_read op c.args.from.now o) c.read_operation.ensures
 
 pub returns-clause-fault : goal.returns-clause-fault
 returns-clause-fault c = gave_fault c.read_operation.result c.args.from.now (λ i. omega (arith, c.type_inv.from i)) c.read_operation.ensures

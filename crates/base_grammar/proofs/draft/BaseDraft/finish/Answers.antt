@@ -1,4 +1,4 @@
-use Rattle.std.proofs.Common.{subst, sym, ◌∙◌, ◌≡◌, None, Some, refl}
+use Rattle.std.proofs.Common.{subst, sym, ◌∙◌, ◌≡◌, None, refl}
 use Rattle.base_grammar.specs.Draft.{finish_fault}
 use Rattle.base_grammar.specs.Layout.{Endpoint, endpoint}
 use Rattle.base_grammar.proofs.Drafts.{draft_done, finish_is}
