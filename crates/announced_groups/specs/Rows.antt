@@ -1,4 +1,4 @@
--- A train worked by hand.
+-- A train (Basic Audio Profile 1.0, section 3.7.2; Core 5.2, volume 6 part B, section 4.4.6.11), worked by hand.
 use Rattle.std.specs.Prelude.{ℕ, ◌≡◌, List, [], ◌∷◌, None}
 use Rattle.base_grammar.specs.Layout.{Endpoint}
 use Rattle.big_info.specs.declared.info.BigInfo.{BigInfo}

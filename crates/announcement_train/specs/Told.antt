@@ -1,4 +1,5 @@
--- What a receiver is told that reads a train: its first Service Data of each announcement, and its BIGInfo.
+-- What a receiver is told that reads a train: its first Service Data of each announcement (Basic Audio Profile 1.0, section
+-- 3.7.2), and its BIGInfo (Core 5.2, volume 6 part B, section 4.4.6.11).
 use Rattle.std.specs.Prelude.{ℕ, ◌+◌, ◌/◌, ◌≡◌, List, [], ◌∷◌, Some, Ok}
 use Rattle.ltv_codec.specs.declared.ltvs.Ltv.{Ltv}
 use Rattle.ltv_codec.specs.Values.{first_of}

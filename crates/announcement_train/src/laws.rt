@@ -10,5 +10,6 @@ ghost use Rattle.announcement_train.specs.declared.train.Train.{Train};
 /// BIGInfo with the numbers and the cipher of its group. The payload count is that of the event, and the time of the train
 /// and the BIG_Offset are the anchor of the event: a receiver that follows the octets is put where the source is.
 pub fn an_announcement_is_read()
-    ensures { (train : Train) (broadcast_id : List ℕ) (base : Endpoint) (info : BigInfo) (event anchor : ℕ) → 1 ≤ info.bn → IsTrain broadcast_id base info event anchor train → Tells train broadcast_id base info event anchor }
+    ensures { (train : Train) (broadcast_id : List ℕ) (base : Endpoint) (info : BigInfo) (event anchor : ℕ) → 1 ≤ info.bn
+        → IsTrain broadcast_id base info event anchor train → Tells train broadcast_id base info event anchor }
 {}

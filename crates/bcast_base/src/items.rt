@@ -68,18 +68,3 @@ pub type EventPdus = Items<Octets>;
 
 /// Times in µs.
 pub type Times = Items<u64>;
-
-#[cfg(test)]
-mod tests {
-    use super::*;
-    use std::test::Fail;
-
-    #[test]
-    fn a_list_lends_what_was_pushed(rt: HostRuntime) -> Result<(), Fail> {
-        let mut calls = Calls::new(rt.alloc());
-        calls.push(7)?;
-        calls.push(9)?;
-        assert_eq!(rt; calls.as_slice(), [7, 9].as_slice());
-        Ok(())
-    }
-}

@@ -27,17 +27,3 @@ pub fn write_le(value: u64, into: &mut [u8])
         rest >>= 8;
     }
 }
-
-#[cfg(test)]
-mod tests {
-    use super::*;
-
-    // The Broadcast_ID of the Add Source row: octets 56 34 12 are 0x123456.
-    #[test]
-    fn the_least_octet_comes_first(rt: HostRuntime) {
-        assert_eq!(rt; read_le(&[0x56, 0x34, 0x12]), 0x12_3456);
-        let mut octets = [0u8; 3];
-        write_le(0x12_3456, &mut octets);
-        assert_eq!(rt; octets, [0x56, 0x34, 0x12]);
-    }
-}

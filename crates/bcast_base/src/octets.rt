@@ -90,21 +90,3 @@ impl Octets {
         self.octets.truncate(n);
     }
 }
-
-#[cfg(test)]
-mod tests {
-    use super::*;
-    use std::test::Fail;
-
-    #[test]
-    fn each_call_that_takes_memory_succeeds_once(rt: HostRuntime) -> Result<(), Fail> {
-        let mut octets = Octets::copy(rt.alloc(), &[1, 2])?;
-        octets.push(3)?;
-        octets.append(&[4, 5])?;
-        let mut again = octets.copy_again()?;
-        assert_eq!(rt; again.as_slice(), [1, 2, 3, 4, 5].as_slice());
-        again.truncate(2);
-        assert_eq!(rt; again.as_slice(), [1, 2].as_slice());
-        Ok(())
-    }
-}

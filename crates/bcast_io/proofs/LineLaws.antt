@@ -43,9 +43,6 @@ module _ (e : Bool) where
 pub line_of-long : (p : List ℕ) → line_limit < length p → line_of p ≡ too_long
 line_of-long p h = ap (λ b. cond b (plain p) too_long) (lt-leb (length p) line_limit h)
 
-pub line_of-short : (p : List ℕ) → length p ≤ line_limit → line_of p ≡ plain p
-line_of-short p h = ap (λ b. cond b (plain p) too_long) (le-leb (length p) line_limit h)
-
 last_line-long : (e : Bool) (p q : List ℕ) → line_limit < length p → line_limit < length q → last_line e p ≡ last_line e q
 last_line-long false p q h k = refl
 last_line-long true [] q h k = absurd (omega arith)

@@ -20,13 +20,6 @@ Consumes-then (Some x) None c xs ys p q = absurd p
 Consumes-then (Some x) (Some y) None xs ys p q = absurd q
 Consumes-then (Some x) (Some y) (Some z) xs ys p q = p ∙ ap (λ l. xs ++ l) q ∙ sym (append_assoc xs ys z)
 
--- a refused read after others
-pub Consumes-kept : (a b c : Option (List ℕ)) (xs : List ℕ) → Consumes a b xs → Keeps b c → Consumes a c xs
-Consumes-kept None b c xs p q = tt
-Consumes-kept (Some x) None c xs p q = absurd p
-Consumes-kept (Some x) (Some y) None xs p q = absurd q
-Consumes-kept (Some x) (Some y) (Some z) xs p q = p ∙ ap (λ l. xs ++ l) (sym q)
-
 -- one write after another
 pub Appends-then : (a b c : Option (List ℕ)) (xs ys : List ℕ) → Appends a b xs → Appends b c ys → Appends a c (xs ++ ys)
 Appends-then None b c xs ys p q = tt
@@ -40,10 +33,6 @@ Appends-kept None b c xs p q = tt
 Appends-kept (Some x) None c xs p q = absurd p
 Appends-kept (Some x) (Some y) None xs p q = absurd q
 Appends-kept (Some x) (Some y) (Some z) xs p q = q ∙ p
-
--- what was written whole was a front of what was to be written
-pub AppendsFront-of_all : (a b : Option (List ℕ)) (xs : List ℕ) → Appends a b xs → AppendsFront a b xs
-AppendsFront-of_all a b xs p = record { front = xs; rest = []; whole = sym (append-nil xs); appended = p }
 
 -- nothing is a front of anything
 pub AppendsFront-nothing : (a b : Option (List ℕ)) (xs : List ℕ) → Keeps a b → AppendsFront a b xs

@@ -1,4 +1,4 @@
--- What a sink's refusal says of its count of faults.
+-- What a sink's refusal says of its count of faults. Sinks and their counts are this project's own.
 use Rattle.std.specs.Prelude.{ℕ, ◌≡◌}
 use Rattle.bcast_base.specs.Counts.{Rose}
 use Rattle.bcast_io.specs.declared.sink.SinkFault.{SinkFault}

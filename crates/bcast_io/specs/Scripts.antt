@@ -1,4 +1,5 @@
--- Calls of which those with listed numbers fail, counted from 1.
+-- Calls of which those with listed numbers fail, counted from 1. Sources and sinks that fail on purpose are this project's
+-- own.
 use Rattle.std.specs.Prelude.{ℕ, ◌+◌, ◌^◌, ◌<◌, List, Contains}
 use Rattle.bcast_base.specs.Counts.{counted}
 

@@ -1,4 +1,4 @@
--- What a caller sees of the sources and sinks over memory, and of the adapters over std.
+-- What a caller sees of the sources and sinks over memory, and of the adapters over std. They are this project's own.
 use Rattle.std.specs.Prelude.{ℕ, List}
 use Rattle.bcast_io.specs.Scripts.{Script}
 

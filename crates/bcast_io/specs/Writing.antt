@@ -1,4 +1,4 @@
--- A write that was cut short.
+-- A write that was cut short. Sinks are this project's own.
 use Rattle.std.specs.Prelude.{ℕ, ◌≡◌, ◌<◌, List, ◌++◌, length, Option}
 use Rattle.std.specs.Io.KnownBytes.{Appends}
 

@@ -1,4 +1,5 @@
--- What the numbers of a group keep to where no fault of specs/Rows holds: for each fault its opposite.
+-- What the numbers of a group keep to where no fault of specs/Rows holds (after Core 5.2, volume 6 part B, section 4.4.6,
+-- and part G, section 2): for each fault its opposite.
 use Rattle.std.specs.Prelude.{◌+◌, ◌*◌, ◌<◌, ◌≤◌, ◌≡◌, IsNone}
 use Rattle.big_info.specs.declared.info.BigInfo.{BigInfo}
 use Rattle.big_info.specs.Schedule.{group_count, horizon_of, per_event_of, per_unit_of}

@@ -1,4 +1,5 @@
--- The faults of a group in the order of test, numbered from 1.
+-- The faults of a group (after Core 5.2, volume 6 part B, section 4.4.6, and part G, section 2) in the order of test,
+-- numbered from 1. Their order and numbers are this project's own.
 use Rattle.std.specs.Prelude.{ℕ, List, [], ◌∷◌}
 use Rattle.big_info.specs.declared.fault.GroupFault.{GroupFault}
 use Rattle.big_info.specs.declared.fault.GroupFault.TheVariants.{RangeIso, RangeSdu, RangePdu, Bn, NseNotMultiple, Irc, PhyNotSupported, FramedPduSmall, UnframedMultiple}

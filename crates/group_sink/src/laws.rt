@@ -25,7 +25,9 @@ pub fn one_event_is_open()
 /// hand, in order: of an unframed stream the units of its closed events, of a framed one those that its closed events
 /// decide. Of any other stream they handed nothing.
 pub fn each_stream_hands_its_units()
-    ensures unframed { (tuning : Tuning) (calls : List Call) (bis : ℕ) → tuning.info.framing ≡ 0 → place calls ≡ Some tuning → Contains (streams_of tuning.which) bis → of_stream bis (handed_since calls) ≡ handed (stay_on tuning bis) (stream_calls (stay_on tuning bis) calls) }
-    ensures framed { (tuning : Tuning) (calls : List Call) (bis : ℕ) → tuning.info.framing ≡ 1 → place calls ≡ Some tuning → Contains (streams_of tuning.which) bis → of_stream bis (handed_since calls) ≡ decided (stay_on tuning bis) (stream_calls (stay_on tuning bis) calls) }
+    ensures unframed { (tuning : Tuning) (calls : List Call) (bis : ℕ) → tuning.info.framing ≡ 0 → place calls ≡ Some tuning → Contains (streams_of tuning.which) bis
+        → of_stream bis (handed_since calls) ≡ handed (stay_on tuning bis) (stream_calls (stay_on tuning bis) calls) }
+    ensures framed { (tuning : Tuning) (calls : List Call) (bis : ℕ) → tuning.info.framing ≡ 1 → place calls ≡ Some tuning → Contains (streams_of tuning.which) bis
+        → of_stream bis (handed_since calls) ≡ decided (stay_on tuning bis) (stream_calls (stay_on tuning bis) calls) }
     ensures others { (tuning : Tuning) (calls : List Call) (bis : ℕ) → place calls ≡ Some tuning → ¬ Contains (streams_of tuning.which) bis → of_stream bis (handed_since calls) ≡ [] }
 {}

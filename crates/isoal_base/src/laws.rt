@@ -14,6 +14,10 @@ pub fn heard_is_first<A>()
 /// each close stands for its calls.
 pub fn receiver_stands<A>()
     ensures new { (read : List ℕ → Option A) (stay : Stay) → StandsFor read stay [] stay.first (replicate (window_of stay.info) None) }
-    ensures hear { (takes : Content → Option A) (stay : Stay) (calls : List Call) (event : ℕ) (kept : List (Option A)) (number : ℕ) (octets : List ℕ) → 1 ≤ stay.info.bn → StandsFor (read_as takes stay.info.max_pdu) stay calls event kept → StandsFor (read_as takes stay.info.max_pdu) stay (hear number octets ∷ calls) event (kept_after takes stay.info event kept number octets) }
-    ensures close { (read : List ℕ → Option A) (stay : Stay) (calls : List Call) (event : ℕ) (kept : List (Option A)) → 1 ≤ stay.info.bn → StandsFor read stay calls event kept → StandsFor read stay (close ∷ calls) (event + 1) (drop stay.info.bn kept ++ replicate stay.info.bn None) }
+    ensures hear { (takes : Content → Option A) (stay : Stay) (calls : List Call) (event : ℕ) (kept : List (Option A)) (number : ℕ) (octets : List ℕ)
+        → 1 ≤ stay.info.bn → StandsFor (read_as takes stay.info.max_pdu) stay calls event kept
+        → StandsFor (read_as takes stay.info.max_pdu) stay (hear number octets ∷ calls) event (kept_after takes stay.info event kept number octets) }
+    ensures close { (read : List ℕ → Option A) (stay : Stay) (calls : List Call) (event : ℕ) (kept : List (Option A))
+        → 1 ≤ stay.info.bn → StandsFor read stay calls event kept
+        → StandsFor read stay (close ∷ calls) (event + 1) (drop stay.info.bn kept ++ replicate stay.info.bn None) }
 {}

@@ -1,19 +1,10 @@
 -- Units that are handed one by one, up to the taker's first fault.
-use Rattle.std.proofs.Common.{◌+◌, ◌<◌, ◌≤◌, List, [], ◌++◌, length, take, Result, Ok, Err, refl, sym, ap, ◌∙◌, subst, arith, append_assoc, length-append}
-use Rattle.std.proofs.lemmas.List.{append-nil, take-append-le}
+use Rattle.std.proofs.Common.{◌+◌, ◌<◌, ◌≤◌, List, ◌++◌, length, take, Result, Ok, Err, sym, ap, ◌∙◌, subst, arith, append_assoc, length-append}
+use Rattle.std.proofs.lemmas.List.{take-append-le}
 use Rattle.std.proofs.Math.Seq.{take-append-add}
 use Rattle.unit_outlets.specs.Handed.{Handed, Counts, Caused}
 use Rattle.unit_outlets.specs.declared.fault.TakerFault.{TakerFault}
 use Rattle.isoal_framed.specs.State.Windows.{HandsOver, HandsOn, CausedOn}
-
--- nothing more
-pub hands_nothing : (so_far : Result (Unit {0}) TakerFault) (old : List Handed) → HandsOn [] so_far old old so_far
-hands_nothing (Ok x) old = sym (append-nil old)
-hands_nothing (Err fault) old = (refl, refl)
-
-pub caused_nothing : (so_far : Result (Unit {0}) TakerFault) (old : Counts) → CausedOn so_far old old so_far
-caused_nothing (Ok x) old = refl
-caused_nothing (Err fault) old = (refl, refl)
 
 -- units, and then more
 over_then : (first second : List Handed) (old now new : List Handed) (middle result : Result (Unit {0}) TakerFault)

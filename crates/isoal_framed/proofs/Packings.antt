@@ -177,11 +177,6 @@ ended_is max_pdu units queue anchor earlier acts pdus octets old new queue_is pa
 abbrev pub EndsWhole : List Act → Type 0
 EndsWhole own = (own ≡ []) ⊎ ((rest : List Act) × (own ≡ ends ∷ rest))
 
-pub whole_event : (own : List Act) (n : ℕ) → EndsWhole own → pdus_ended own ≡ n → 1 ≤ n → (rest : List Act) × (own ≡ ends ∷ rest)
-whole_event own n (inl none) count some =
-    let nothing : 0 ≡ n = ap pdus_ended (sym none) ∙ count in absurd (omega arith)
-whole_event own n (inr whole) count some = whole
-
 -- what comes, by the unit that is due
 pub placed_by : (anchor : ℕ) (queue : List Timed) (old new : Packing) (goes_on : Bool) (unit : Timed) (act : Act)
     → slice_get queue old.past ≡ Some unit → act ≡ act_for anchor (room_in old.pdu) old.sent unit
@@ -230,19 +225,6 @@ part_left anchor room sent_now unit count complete partly is whole =
     subst (Comes (record { anchor = anchor; room = room; due = Some unit; sent = sent_now })) (sym is)
     (comes_for (record { anchor = anchor; room = room; due = Some unit; sent = sent_now }) unit refl partly) in
     part_of_it anchor room sent_now unit count complete whole comes
-
--- a PDU that begins in an event
-pub begins : (max_pdu : ℕ) (units : List Timed) (anchor : ℕ) (earlier : List Act) → room max_pdu earlier ≡ max_pdu
-    → Going max_pdu units anchor earlier [] 0 (sent earlier) max_pdu [] [] []
-begins max_pdu units anchor earlier room_is = record {
-  come = tt;
-  past_is = omega arith;
-  sent_is = refl;
-  room_is = sym room_is;
-  parts_are = refl;
-  pdus_are = refl;
-  stale_are = refl;
-}
 
 within_of_it : (anchor room sent_now : ℕ) (unit : Timed) (count : ℕ) (complete : Bool)
     → Comes (record { anchor = anchor; room = room; due = Some unit; sent = sent_now }) (carries count complete) → sent_now + count ≤ length unit.octets

@@ -1,5 +1,5 @@
 -- A sender that stands for its calls stands for them and one more.
-use Rattle.std.proofs.Common.{ℕ, ◌≡◌, ◌<◌, ◌≤◌, true, false, List, [], ◌∷◌, ◌++◌, length, drop, None, refl, sym, ap, ◌∙◌, subst, arith, length-append}
+use Rattle.std.proofs.Common.{ℕ, ◌≡◌, ◌<◌, ◌≤◌, true, false, List, [], ◌∷◌, ◌++◌, length, drop, refl, sym, ap, ◌∙◌, subst, arith, length-append}
 use Rattle.std.proofs.lemmas.List.{drop-append-le}
 use Rattle.std.proofs.lemmas.Option.{slice_get_within}
 use Rattle.big_info.specs.declared.info.BigInfo.{BigInfo}
@@ -39,16 +39,6 @@ done_within info (lay anchor ∷ calls) acts air (earlier, before, own, is_befor
     let within : done ((ends ∷ own) ++ earlier) ≤ length (accepted calls) =
     done_come info.max_pdu (accepted calls) anchor earlier (ends ∷ own) event.come (done_within info calls earlier before is_before) in
     subst (λ xs. done xs ≤ length (accepted calls)) (sym acts_is) within
-
-pub new_stands : (info : BigInfo) → StandsFor info [] [] (record { info = info; last = None; units = []; sent = 0 })
-new_stands info = record {
-  acts = [];
-  group = refl;
-  air_is = (refl, refl);
-  last = refl;
-  units = refl;
-  sent = refl;
-}
 
 pub accept_stands : (info : BigInfo) (calls : List Call) (air : Air) (sender : Sender) (time : ℕ) (octets : List ℕ)
     → StandsFor info calls air sender → StandsFor info (accept time octets ∷ calls) air (with_unit sender time octets)

@@ -7,7 +7,7 @@ use Rattle.isoal_framed.specs.Tokens.{Token}
 use Rattle.isoal_framed.specs.Units.{Run}
 use Rattle.isoal_framed.specs.State.Joining.{hands, hands_at, run_at, run_after}
 use Rattle.isoal_framed.specs.State.Windows.{HandsOn, CausedOn}
-use Rattle.isoal_framed.proofs.Handing.{hands_nothing, caused_nothing, hands_then, caused_then}
+use Rattle.isoal_framed.proofs.Handing.{hands_then, caused_then}
 use Rattle.isoal_framed.proofs.Joins.{hands_append, run_append}
 
 pub record Walked (max_sdu bis : ℕ) (first now : Option Run) (all rest : List Token)
@@ -17,16 +17,6 @@ pub record Walked (max_sdu bis : ℕ) (first now : Option Run) (all rest : List 
   pub units : taken ++ hands max_sdu bis now rest ≡ hands max_sdu bis first all
   pub hands_on : HandsOn taken so_far old new handed
   pub cause : CausedOn so_far before after handed
-
-pub walked_none : (max_sdu bis : ℕ) (run : Option Run) (all rest : List Token) (so_far : Result (Unit {0}) TakerFault) (old : List Handed) (before : Counts)
-    → rest ≡ all → Walked max_sdu bis run run all rest so_far so_far old old before before
-walked_none max_sdu bis run all rest so_far old before is = record {
-  runs = ap (run_after max_sdu run) is;
-  taken = [];
-  units = ap (hands max_sdu bis run) is;
-  hands_on = hands_nothing so_far old;
-  cause = caused_nothing so_far before;
-}
 
 pub walked_more : (max_sdu bis : ℕ) (first now next : Option Run) (all rest tokens others : List Token)
     (so_far handed result : Result (Unit {0}) TakerFault) (old now_calls new : List Handed) (before middle after : Counts)
@@ -55,16 +45,3 @@ pub walked_token : (max_sdu bis : ℕ) (first now next : Option Run) (all rest o
 walked_token max_sdu bis first now next all rest others token so_far handed result old now_calls new before middle after walked is run_is step cause =
     walked_more max_sdu bis first now next all rest (token ∷ []) others so_far handed result old now_calls new before middle after walked is run_is
     (subst (λ units. HandsOn units handed now_calls new result) (sym (append-nil (hands_at max_sdu bis now token))) step) cause
-
-pub walked_hands : (max_sdu bis : ℕ) (first now : Option Run) (all rest : List Token) (so_far handed : Result (Unit {0}) TakerFault)
-    (old new : List Handed) (before after : Counts) → Walked max_sdu bis first now all rest so_far handed old new before after
-    → rest ≡ [] → HandsOn (hands max_sdu bis first all) so_far old new handed
-walked_hands max_sdu bis first now all rest so_far handed old new before after walked none =
-    subst (λ units. HandsOn units so_far old new handed)
-    (sym (append-nil walked.taken) ∙ ap (λ xs. walked.taken ++ hands max_sdu bis now xs) (sym none) ∙ walked.units) walked.hands_on
-
-pub walked_run : (max_sdu bis : ℕ) (first now : Option Run) (all rest : List Token) (so_far handed : Result (Unit {0}) TakerFault)
-    (old new : List Handed) (before after : Counts) → Walked max_sdu bis first now all rest so_far handed old new before after
-    → rest ≡ [] → now ≡ run_after max_sdu first all
-walked_run max_sdu bis first now all rest so_far handed old new before after walked none =
-    ap (run_after max_sdu now) (sym none) ∙ walked.runs

@@ -1,4 +1,5 @@
--- An air that is laid act by act, with PDUs filled greedily: the one that the conditions of FramedAir are met by.
+-- An air that is laid act by act (Core 5.2, volume 6 part G, section 2.2), with PDUs filled greedily, which is this
+-- project's own: the one that the conditions of FramedAir are met by.
 use Rattle.std.specs.Prelude.{ℕ, zero, suc, ◌+◌, ◌*◌, ◌==◌, List, [], ◌∷◌, ◌++◌, length, if◌then◌else◌}
 use Rattle.std.specs.List.{slice_get}
 use Rattle.big_info.specs.declared.info.BigInfo.{BigInfo}

@@ -1,4 +1,4 @@
--- What comes next where PDUs are filled greedily.
+-- What comes next where PDUs (Core 5.2, volume 6 part G, section 2.2) are filled greedily, which is this project's own.
 use Rattle.std.specs.Prelude.{ℕ, ◌-◌, ◌==◌, nat_lt, nat_le, ◌&&◌, true, false, length, Option, Some, None, if◌then◌else◌}
 use Rattle.isoal_framed.specs.Calls.{Timed}
 use Rattle.isoal_framed.specs.Places.{Act, carries, leaves_out, ends, overhead, least_room}

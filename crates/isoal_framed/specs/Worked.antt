@@ -1,5 +1,5 @@
--- Events of a framed stream, worked by hand: their acts, the newest first, and what they spell, with PDUs of at most 10
--- octets.
+-- Events of a framed stream (Core 5.2, volume 6 part G, section 2.2), worked by hand: their acts, the newest first, and
+-- what they spell, with PDUs of at most 10 octets.
 use Rattle.std.specs.Prelude.{ℕ, ◌≡◌, true, false, List, [], ◌∷◌}
 use Rattle.isoal_base.specs.Air.{Laid}
 use Rattle.isoal_framed.specs.Air.{AllCome, event_of}

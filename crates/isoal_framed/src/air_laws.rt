@@ -31,7 +31,9 @@ pub fn a_sender_lays_a_framed_air()
 /// alone may be partly laid: its PDUs are those of these units. A unit's TimeOffset is from its time to the anchor of the
 /// event of its first number.
 pub fn a_framed_air_sends_units()
-    ensures { (group : Group) (calls : List Call) (air : Air) → group.info.framing ≡ 1 → ((i : ℕ) (unit : Timed) → slice_get (accepted calls) i ≡ Some unit → length unit.octets ≤ group.info.max_sdu) → IsFramedAir group.info calls air → (units : List Sent) × Sends group.info calls air units }
+    ensures { (group : Group) (calls : List Call) (air : Air) → group.info.framing ≡ 1
+        → ((i : ℕ) (unit : Timed) → slice_get (accepted calls) i ≡ Some unit → length unit.octets ≤ group.info.max_sdu)
+        → IsFramedAir group.info calls air → (units : List Sent) × Sends group.info calls air units }
 {}
 
 /// Three events worked by hand.

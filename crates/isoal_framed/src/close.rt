@@ -32,8 +32,10 @@ pub(crate) fn take_places<T: UnitTaker>(
     ensures max_pdu { store.new.places.max_pdu ≡ store.old.places.max_pdu }
     ensures room { vec_len store.new.joining.octets ≡ vec_len store.old.joining.octets }
     ensures kept { kept_of store.new.places ≡ drop count (kept_of store.old.places) ++ replicate count None }
-    ensures run { run_in store.new.joining ≡ run_after (vec_len store.old.joining.octets) (run_in store.old.joining) (flat_map (tokens_of (stay_of stream.now) event) (take count (kept_of store.old.places))) }
-    ensures hands { HandsOn (hands (vec_len store.old.joining.octets) stream.now.bis (run_in store.old.joining) (flat_map (tokens_of (stay_of stream.now) event) (take count (kept_of store.old.places)))) (Ok tt) (T.calls taker.old) (T.calls taker.new) result }
+    ensures run { run_in store.new.joining
+        ≡ run_after (vec_len store.old.joining.octets) (run_in store.old.joining) (flat_map (tokens_of (stay_of stream.now) event) (take count (kept_of store.old.places))) }
+    ensures hands { HandsOn (hands (vec_len store.old.joining.octets) stream.now.bis (run_in store.old.joining) (flat_map (tokens_of (stay_of stream.now) event) (take count (kept_of store.old.places))))
+        (Ok tt) (T.calls taker.old) (T.calls taker.new) result }
     ensures cause { CausedOn (Ok tt) (T.counts taker.old) (T.counts taker.new) result }
 {
     let mut handed = Ok(());
@@ -66,7 +68,8 @@ fn take_pdu<T: UnitTaker>(
     requires event { event < 2 ^ 39 }
     ensures room { vec_len joining.new.octets ≡ vec_len joining.old.octets }
     ensures run { run_in joining.new ≡ run_after (vec_len joining.old.octets) (run_in joining.old) (tokens_of (stay_of stream.now) event (read_as segmented max_pdu pdu.now)) }
-    ensures hands { HandsOn (hands (vec_len joining.old.octets) stream.now.bis (run_in joining.old) (tokens_of (stay_of stream.now) event (read_as segmented max_pdu pdu.now))) so_far (T.calls taker.old) (T.calls taker.new) result }
+    ensures hands { HandsOn (hands (vec_len joining.old.octets) stream.now.bis (run_in joining.old) (tokens_of (stay_of stream.now) event (read_as segmented max_pdu pdu.now)))
+        so_far (T.calls taker.old) (T.calls taker.new) result }
     ensures cause { CausedOn so_far (T.counts taker.old) (T.counts taker.new) result }
 {
     match read_pdu(pdu, max_pdu) {
@@ -88,7 +91,8 @@ fn take_segments<T: UnitTaker>(
     requires event { event < 2 ^ 39 }
     ensures room { vec_len joining.new.octets ≡ vec_len joining.old.octets }
     ensures run { run_in joining.new ≡ run_after (vec_len joining.old.octets) (run_in joining.old) (map (token_of (stay_of stream.now) event) segments.entry) }
-    ensures hands { HandsOn (hands (vec_len joining.old.octets) stream.now.bis (run_in joining.old) (map (token_of (stay_of stream.now) event) segments.entry)) so_far (T.calls taker.old) (T.calls taker.new) result }
+    ensures hands { HandsOn (hands (vec_len joining.old.octets) stream.now.bis (run_in joining.old) (map (token_of (stay_of stream.now) event) segments.entry))
+        so_far (T.calls taker.old) (T.calls taker.new) result }
     ensures cause { CausedOn so_far (T.counts taker.old) (T.counts taker.new) result }
 {
     let mut handed = so_far;

@@ -167,7 +167,8 @@ impl Joining {
         requires event { event < 2 ^ 39 }
         ensures room { vec_len self.new.octets ≡ vec_len self.old.octets }
         ensures run { run_in self.new ≡ run_at (vec_len self.old.octets) (run_in self.old) (token_of (stay_of stream.now) event (part_of segment.entry)) }
-        ensures hands { HandsOn (hands_at (vec_len self.old.octets) stream.now.bis (run_in self.old) (token_of (stay_of stream.now) event (part_of segment.entry))) so_far (T.calls taker.old) (T.calls taker.new) result }
+        ensures hands { HandsOn (hands_at (vec_len self.old.octets) stream.now.bis (run_in self.old) (token_of (stay_of stream.now) event (part_of segment.entry)))
+            so_far (T.calls taker.old) (T.calls taker.new) result }
         ensures cause { CausedOn so_far (T.counts taker.old) (T.counts taker.new) result }
     {
         match segment {

@@ -18,8 +18,12 @@ pub fn run_calls<T: UnitTaker>(
 ) -> Result<(), TakerFault>
     requires { receiver.old.event + length calls.now ≤ 2 ^ 39 }
     ensures stands { (past : List Call) → Stands past receiver.old → OnOk result (Stands (after_all calls.now past) receiver.new) }
-    ensures handed { (past : List Call) → (before : List Handed) → Stands past receiver.old → T.calls taker.old ≡ before ++ decided receiver.old.stay past → OnOk result (T.calls taker.new ≡ before ++ decided receiver.old.stay (after_all calls.now past)) }
-    ensures stopped { (past : List Call) → (before : List Handed) → Stands past receiver.old → T.calls taker.old ≡ before ++ decided receiver.old.stay past → OnErr result (Stopped calls.now past before receiver.new (T.calls taker.new)) }
+    ensures handed { (past : List Call) → (before : List Handed) → Stands past receiver.old
+        → T.calls taker.old ≡ before ++ decided receiver.old.stay past
+        → OnOk result (T.calls taker.new ≡ before ++ decided receiver.old.stay (after_all calls.now past)) }
+    ensures stopped { (past : List Call) → (before : List Handed) → Stands past receiver.old
+        → T.calls taker.old ≡ before ++ decided receiver.old.stay past
+        → OnErr result (Stopped calls.now past before receiver.new (T.calls taker.new)) }
     ensures cause { Caused (T.counts taker.old) (T.counts taker.new) result }
 {
     'calls: for call in calls {
@@ -38,8 +42,12 @@ fn step<T: UnitTaker>(
     ensures stay { receiver.new.stay ≡ receiver.old.stay }
     ensures event { receiver.new.event ≤ receiver.old.event + 1 }
     ensures stands { (past : List Call) → Stands past receiver.old → Stands (call_of call.entry ∷ past) receiver.new }
-    ensures handed { (past : List Call) → (before : List Handed) → Stands past receiver.old → T.calls taker.old ≡ before ++ decided receiver.old.stay past → OnOk result (T.calls taker.new ≡ before ++ decided receiver.old.stay (call_of call.entry ∷ past)) }
-    ensures front { (past : List Call) → (before : List Handed) → Stands past receiver.old → T.calls taker.old ≡ before ++ decided receiver.old.stay past → OnErr result ((n : ℕ) × (T.calls taker.new ≡ before ++ take n (decided receiver.old.stay (call_of call.entry ∷ past)))) }
+    ensures handed { (past : List Call) → (before : List Handed) → Stands past receiver.old
+        → T.calls taker.old ≡ before ++ decided receiver.old.stay past
+        → OnOk result (T.calls taker.new ≡ before ++ decided receiver.old.stay (call_of call.entry ∷ past)) }
+    ensures front { (past : List Call) → (before : List Handed) → Stands past receiver.old
+        → T.calls taker.old ≡ before ++ decided receiver.old.stay past
+        → OnErr result ((n : ℕ) × (T.calls taker.new ≡ before ++ take n (decided receiver.old.stay (call_of call.entry ∷ past)))) }
     ensures cause { Caused (T.counts taker.old) (T.counts taker.new) result }
 {
     match call {

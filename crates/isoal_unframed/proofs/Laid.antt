@@ -13,10 +13,6 @@ use Rattle.iso_pdu.specs.Layout.{Content, fragment, end}
 use Rattle.isoal_unframed.specs.Slot.{fragments_of, laid_unit, laid}
 use Rattle.isoal_unframed.specs.Units.{unit_after}
 
--- what is left of a unit behind its first fragment
-abbrev pub rest_of : ℕ → List ℕ → Option (List ℕ)
-rest_of m unit = cond (leb (length unit) m) None (Some (drop m unit))
-
 ceil_small : (x m : ℕ) → 0 < x → x ≤ m → div_ceil x m ≡ 1
 ceil_small x m some fits = elim (cases_lt x m) [
   | inl below ↦
@@ -91,11 +87,6 @@ laid_next m unit r positive past =
         | inr over ↦ laid_padding m unit (r + 1) (omega arith) ∙ sym (laid_padding m (drop m unit) r over)
       ]
     ]
-
-pub laid_behind : (m : ℕ) (unit : List ℕ) (r : ℕ) → 0 < m → length unit ≤ m → laid_unit m unit (r + 1) ≡ fragment []
-laid_behind m unit r positive fits =
-    let one : fragments_of m unit ≡ 1 = one_fragment m unit positive fits in
-    laid_padding m unit (r + 1) (omega arith)
 
 -- the slot keeps no PDU but the laid ones
 abbrev pub Agrees : ℕ → Option (List ℕ) → List (Option Content) → Type 0

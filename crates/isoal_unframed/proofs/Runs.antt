@@ -6,7 +6,7 @@ use Rattle.unit_outlets.specs.Handed.{Handed}
 use Rattle.unit_outlets.specs.declared.fault.TakerFault.{TakerFault}
 use Rattle.isoal_base.specs.Stays.{Call}
 use Rattle.isoal_unframed.specs.declared.in_call.InCall.{InCall}
-use Rattle.isoal_unframed.specs.Runs.{call_of, after_all, Stopped}
+use Rattle.isoal_unframed.specs.State.Runs.{call_of, after_all, Stopped}
 use Rattle.isoal_unframed.specs.State.Windows.{Window, HandsOver}
 
 after_one : (calls : List InCall) (call : InCall) (past : List Call) → after_all (calls ++ call ∷ []) past ≡ call_of call ∷ after_all calls past

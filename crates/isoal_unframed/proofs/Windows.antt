@@ -48,23 +48,7 @@ held-turned stay place kept all within =
 pub sum_more : (f : ℕ → ℕ) (n : ℕ) → sum (map f (range_with_len 0 (n + 1))) ≡ sum (map f (range_with_len 0 n)) + f n
 sum_more f n = sum_by-map-range_with_len_more (λ x. x) f 0 n n (omega arith)
 
--- the tests of `keep`
-pub is_late : (info : BigInfo) (event number : ℕ) (kept : List (Option Content)) → number < event * info.bn
-    → placing info event kept number ≡ Late
-is_late info event number kept low =
-    cond-true (ltb number (event * info.bn)) Late
-    (cond (ltb number (event * info.bn + window_of info)) (cond (is_some (get_or kept (number - event * info.bn) None)) Repeat Kept) Beyond)
-    (lt-ltb number (event * info.bn) low)
-
-pub is_beyond : (info : BigInfo) (event number : ℕ) (kept : List (Option Content)) → event * info.bn ≤ number
-    → event * info.bn + window_of info ≤ number → placing info event kept number ≡ Beyond
-is_beyond info event number kept least past =
-    cond-false (ltb number (event * info.bn)) Late
-    (cond (ltb number (event * info.bn + window_of info)) (cond (is_some (get_or kept (number - event * info.bn) None)) Repeat Kept) Beyond)
-    (le-ltb number (event * info.bn) least)
-    ∙ cond-false (ltb number (event * info.bn + window_of info)) (cond (is_some (get_or kept (number - event * info.bn) None)) Repeat Kept) Beyond
-    (le-ltb number (event * info.bn + window_of info) past)
-
+-- a test of `keep`: a number inside the window
 pub is_inside : (info : BigInfo) (event number : ℕ) (kept : List (Option Content)) → event * info.bn ≤ number
     → number < event * info.bn + window_of info
     → placing info event kept number ≡ cond (is_some (get_or kept (number - event * info.bn) None)) Repeat Kept

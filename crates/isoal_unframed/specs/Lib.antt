@@ -1,7 +1,6 @@
 pub mod Air
 pub mod Calls
 pub mod Histories
-pub mod Runs
 pub mod Slot
 pub mod Struck
 pub mod Units

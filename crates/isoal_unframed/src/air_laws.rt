@@ -13,7 +13,8 @@ ghost use Rattle.isoal_unframed.specs.State.Sender.{Sender, StandsFor};
 
 /// The PDU of each payload number of an event that was laid is the one that division gives; it stays whatever follows.
 pub fn each_number_is_laid()
-    ensures laid { (group : Group) (calls : List Call) (number : ℕ) → number / group.info.bn < events calls → pdu_at group.info.bn (unframed_air group.info calls) number ≡ Some (laid_u group.info calls number) }
+    ensures laid { (group : Group) (calls : List Call) (number : ℕ) → number / group.info.bn < events calls
+        → pdu_at group.info.bn (unframed_air group.info calls) number ≡ Some (laid_u group.info calls number) }
     ensures places { (group : Group) (calls : List Call) (event slot r : ℕ) → group.info.framing ≡ 0 → slot < per_event_of group.info → r < per_unit_of group.info
         → laid_u group.info calls (event * group.info.bn + (slot * per_unit_of group.info + r)) ≡ pdu (laid group.info.max_pdu (unit_at group.info calls event slot) r) }
     ensures others { (info : BigInfo) (calls : List Call) (number : ℕ) → events calls ≤ number / info.bn → pdu_at info.bn (unframed_air info calls) number ≡ None }
@@ -35,5 +36,6 @@ pub fn slots_add_up()
 /// The slot of a unit of at most Max_SDU octets has a place for each of its fragments, and its PDUs carry the whole unit.
 pub fn a_slot_carries_its_unit()
     ensures places { (group : Group) (unit : List ℕ) → length unit ≤ group.info.max_sdu → fragments_of group.info.max_pdu unit ≤ per_unit_of group.info }
-    ensures octets { (max_pdu : ℕ) (count : ℕ) (unit : List ℕ) → 1 ≤ max_pdu → fragments_of max_pdu unit ≤ count → flat_map (λ r. payload_of (laid_unit max_pdu unit r)) (range_with_len 0 count) ≡ unit }
+    ensures octets { (max_pdu : ℕ) (count : ℕ) (unit : List ℕ) → 1 ≤ max_pdu → fragments_of max_pdu unit ≤ count
+        → flat_map (λ r. payload_of (laid_unit max_pdu unit r)) (range_with_len 0 count) ≡ unit }
 {}

@@ -24,5 +24,7 @@ pub fn longest_front_is_held()
 /// one entry for each slot of each closed event, in order: the slot's unit, valid, where the slot has one and all numbers
 /// that carry it are heard, else lost.
 pub fn units_are_struck()
-    ensures { (stay : Stay) (slots : Slots) (calls : List Call) → Bounds stay.info → stay.info.framing ≡ 0 → ((event slot : ℕ) (unit : List ℕ) → slots event slot ≡ Some unit → length unit ≤ stay.info.max_sdu) → FromSource stay slots calls → Struck stay slots calls (handed stay calls) }
+    ensures { (stay : Stay) (slots : Slots) (calls : List Call) → Bounds stay.info → stay.info.framing ≡ 0
+        → ((event slot : ℕ) (unit : List ℕ) → slots event slot ≡ Some unit → length unit ≤ stay.info.max_sdu)
+        → FromSource stay slots calls → Struck stay slots calls (handed stay calls) }
 {}

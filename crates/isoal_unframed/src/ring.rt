@@ -78,7 +78,8 @@ impl Ring {
         ensures max_pdu { self.new.max_pdu ≡ self.old.max_pdu }
         ensures front { take first (kept_of self.new) ≡ take first (kept_of self.old) }
         ensures behind { drop (first + per_unit_of stream.now.group.info) (kept_of self.new) ≡ drop (first + per_unit_of stream.now.group.info) (kept_of self.old) }
-        ensures hands { HandsOver (handed_of stream.now.bis time (unit_of stream.now.group.info.max_sdu (take (per_unit_of stream.now.group.info) (drop first (kept_of self.old)))) ∷ []) (T.calls taker.old) (T.calls taker.new) result }
+        ensures hands { HandsOver (handed_of stream.now.bis time (unit_of stream.now.group.info.max_sdu (take (per_unit_of stream.now.group.info) (drop first (kept_of self.old)))) ∷ [])
+            (T.calls taker.old) (T.calls taker.new) result }
         ensures cause { Caused (T.counts taker.old) (T.counts taker.new) result }
     {
         let max_sdu = usize::from(stream.group.info.max_sdu);

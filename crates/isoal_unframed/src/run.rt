@@ -2,7 +2,7 @@ ghost use Rattle.std.specs.Prelude.{◌≡◌, ◌≤◌, ◌<◌, ◌+◌, ◌^
 ghost use Rattle.unit_outlets.specs.Handed.{Handed, Caused};
 ghost use Rattle.isoal_base.specs.Stays.{Call, opened};
 ghost use Rattle.isoal_unframed.specs.Histories.{handed, units_of};
-ghost use Rattle.isoal_unframed.specs.Runs.{call_of, after_all, Stopped};
+ghost use Rattle.isoal_unframed.specs.State.Runs.{call_of, after_all, Stopped};
 ghost use Rattle.isoal_unframed.specs.State.Windows.{Stands};
 ghost use Rattle.isoal_unframed.specs.declared.in_call.InCall.TheVariants.{Close};
 
@@ -20,8 +20,12 @@ pub fn run_calls<T: UnitTaker>(
 ) -> Result<(), TakerFault>
     requires { receiver.old.event + length calls.now ≤ 2 ^ 39 }
     ensures stands { (past : List Call) → Stands past receiver.old → OnOk result (Stands (after_all calls.now past) receiver.new) }
-    ensures handed { (past : List Call) → (before : List Handed) → Stands past receiver.old → T.calls taker.old ≡ before ++ handed receiver.old.stay past → OnOk result (T.calls taker.new ≡ before ++ handed receiver.old.stay (after_all calls.now past)) }
-    ensures stopped { (past : List Call) → (before : List Handed) → Stands past receiver.old → T.calls taker.old ≡ before ++ handed receiver.old.stay past → OnErr result (Stopped calls.now past before receiver.new (T.calls taker.new)) }
+    ensures handed { (past : List Call) → (before : List Handed) → Stands past receiver.old
+        → T.calls taker.old ≡ before ++ handed receiver.old.stay past
+        → OnOk result (T.calls taker.new ≡ before ++ handed receiver.old.stay (after_all calls.now past)) }
+    ensures stopped { (past : List Call) → (before : List Handed) → Stands past receiver.old
+        → T.calls taker.old ≡ before ++ handed receiver.old.stay past
+        → OnErr result (Stopped calls.now past before receiver.new (T.calls taker.new)) }
     ensures cause { Caused (T.counts taker.old) (T.counts taker.new) result }
 {
     'calls: for call in calls {
@@ -40,7 +44,9 @@ fn step<T: UnitTaker>(
     ensures stay { receiver.new.stay ≡ receiver.old.stay }
     ensures event { receiver.new.event ≤ receiver.old.event + 1 }
     ensures stands { (past : List Call) → Stands past receiver.old → Stands (call_of call.entry ∷ past) receiver.new }
-    ensures handed { (past : List Call) → (before : List Handed) → Stands past receiver.old → T.calls taker.old ≡ before ++ handed receiver.old.stay past → OnOk result (T.calls taker.new ≡ before ++ handed receiver.old.stay (call_of call.entry ∷ past)) }
+    ensures handed { (past : List Call) → (before : List Handed) → Stands past receiver.old
+        → T.calls taker.old ≡ before ++ handed receiver.old.stay past
+        → OnOk result (T.calls taker.new ≡ before ++ handed receiver.old.stay (call_of call.entry ∷ past)) }
     ensures front { (past : List Call) → (before : List Handed) → Stands past receiver.old → T.calls taker.old ≡ before ++ handed receiver.old.stay past
         → OnErr result ((n : ℕ) × (T.calls taker.new ≡ before ++ (handed receiver.old.stay past ++ take n (units_of receiver.old.stay past (opened receiver.old.stay past))))) }
     ensures closes { OnErr result (call.entry ≡ Close) }

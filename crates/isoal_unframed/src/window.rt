@@ -29,7 +29,8 @@ pub(crate) fn keep(
     ensures places { vec_len ring.new.cells ≡ vec_len ring.old.cells }
     ensures max_pdu { ring.new.max_pdu ≡ ring.old.max_pdu }
     ensures answer { result ≡ placing stream.now.group.info event (turned (place_of stream.now.group.info event) (kept_of ring.old)) number }
-    ensures step { turned (place_of stream.now.group.info event) (kept_of ring.new) ≡ kept_by result (turned (place_of stream.now.group.info event) (kept_of ring.old)) (number - event * stream.now.group.info.bn) (Some (part_of is_end part.now)) }
+    ensures step { turned (place_of stream.now.group.info event) (kept_of ring.new)
+        ≡ kept_by result (turned (place_of stream.now.group.info event) (kept_of ring.old)) (number - event * stream.now.group.info.bn) (Some (part_of is_end part.now)) }
 {
     let first = event * u64::from(stream.group.info.bn);
     if number < first {
@@ -59,7 +60,8 @@ pub(crate) fn hand_event<T: UnitTaker>(
     ensures places { vec_len ring.new.cells ≡ vec_len ring.old.cells }
     ensures max_pdu { ring.new.max_pdu ≡ ring.old.max_pdu }
     ensures front { take (place_of stream.now.group.info event) (kept_of ring.new) ≡ take (place_of stream.now.group.info event) (kept_of ring.old) }
-    ensures behind { drop (place_of stream.now.group.info event + stream.now.group.info.bn) (kept_of ring.new) ≡ drop (place_of stream.now.group.info event + stream.now.group.info.bn) (kept_of ring.old) }
+    ensures behind { drop (place_of stream.now.group.info event + stream.now.group.info.bn) (kept_of ring.new)
+        ≡ drop (place_of stream.now.group.info event + stream.now.group.info.bn) (kept_of ring.old) }
     ensures hands { HandsOver (owed_of (stay_of stream.now) event (drop (place_of stream.now.group.info event) (kept_of ring.old))) (T.calls taker.old) (T.calls taker.new) result }
     ensures cause { Caused (T.counts taker.old) (T.counts taker.new) result }
 {

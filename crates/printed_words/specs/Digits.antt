@@ -1,4 +1,4 @@
--- Octets as a word: pairs of lower-case hexadecimal digits, or `-` for none.
+-- Octets as a word: pairs of lower-case hexadecimal digits, or `-` for none. The words of lines are this project's own.
 use Rattle.std.specs.Prelude.{ℕ, List, [], ◌∷◌, codes}
 use Rattle.hex.specs.Hex.{encode_lower}
 

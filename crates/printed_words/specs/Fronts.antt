@@ -1,4 +1,4 @@
--- A text that was put in part, as where memory runs out before its end.
+-- A text that was put in part, as where memory runs out before its end. The texts are this project's own.
 use Rattle.std.specs.Prelude.{ℕ, ◌≡◌, List, ◌++◌}
 
 -- a front of the text stands at the end of what was there

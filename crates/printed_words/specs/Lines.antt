@@ -1,4 +1,4 @@
--- A line is words with one space between each two.
+-- A line is words with one space between each two. Lines are this project's own.
 use Rattle.std.specs.Prelude.{ℕ, List, [], ◌∷◌, ◌++◌}
 
 -- the octet between two words

@@ -1,4 +1,4 @@
--- The octets of a word of a line.
+-- The octets of a word of a line. Lines are this project's own.
 use Rattle.std.specs.Prelude.{ℕ, List, ◌++◌, decimal, codes}
 use Rattle.hex.specs.Hex.{encode_lower}
 use Rattle.printed_words.specs.Digits.{digits}

@@ -1,5 +1,5 @@
-//! Tests of the public calls of the crates of bytes, schedules and lines, for what no clause says: each call that takes memory
-//! succeeds once where there is enough, and faults of the outside come as they were made.
+//! Tests of the public calls of the crates of bytes, schedules, lines and migration, for what no clause says: each call that
+//! takes memory succeeds once where there is enough, and faults of the outside come as they were made.
 #![tactic(auto)]
 
 #[cfg(test)]
@@ -13,7 +13,11 @@ mod groups;
 #[cfg(test)]
 mod lines;
 #[cfg(test)]
+mod migrations;
+#[cfg(test)]
 mod numbers;
+#[cfg(test)]
+mod octets;
 #[cfg(test)]
 mod octets_in_and_out;
 #[cfg(test)]

@@ -1,4 +1,5 @@
--- The PDUs of the last events of a group, each event's by stream and then by subevent.
+-- The PDUs of the last events of a group, each event's by stream and then by subevent (Core 5.2, volume 6 part B, section
+-- 4.4.6).
 use Rattle.std.specs.Prelude.{ℕ, ◌+◌, ◌-◌, ◌*◌, List, [], length, slice_get, Option, Some, None, nat_lt, nat_le, if◌then◌else◌, option_and_then}
 use Rattle.big_info.specs.declared.info.BigInfo.{BigInfo}
 use Rattle.radio_schedule.specs.declared.air.AirFault.{AirFault}

@@ -3,8 +3,6 @@
 
 mod migration;
 mod piece;
-#[cfg(test)]
-mod tests;
 mod text;
 
 pub use migration::{Migration, run_migration};

@@ -1,4 +1,4 @@
--- The lines of a scenario as its steps. Lists of lines and of steps have the newest first.
+-- The lines of a scenario, which is this project's own, as its steps. Lists of lines and of steps have the newest first.
 use Rattle.std.specs.Prelude.{ℕ, List, [], ◌∷◌, length, Option, None, Some, Result, Ok, Err}
 use Rattle.bcast_io.specs.TextLines.{TextLine, plain, too_long, past}
 use Rattle.unit_outlets.specs.Account.{Account}

@@ -1,5 +1,5 @@
--- The transcript of a text: what its lines bring, up to the first refusal, and the line of NoEnd where they have neither a
--- refusal nor `end`. It is the scenario language's own.
+-- The transcript of a text, which is this project's own: what its lines bring, up to the first refusal, and the line of
+-- NoEnd where they have neither a refusal nor `end`.
 use Rattle.std.specs.Prelude.{ℕ, ◌+◌, Bool, List, [], ◌++◌, length, reverse, if◌then◌else◌}
 use Rattle.bcast_io.specs.TextLines.{TextLine}
 use Rattle.unit_outlets.specs.Account.{Account}

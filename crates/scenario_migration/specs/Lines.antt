@@ -1,4 +1,5 @@
--- The lines of a text: what stands between the octets that end a line. What stands behind the last of these is a line too.
+-- The lines of a text of the scenario language, which is this project's own: what stands between the octets that end a
+-- line. What stands behind the last of these is a line too.
 use Rattle.std.specs.Prelude.{ℕ, List, [], ◌∷◌, ◌++◌, ◌+◌, ◌==◌, if◌then◌else◌, length, Option, None, Some}
 use Rattle.std.specs.Borrow.{Bor}
 use Rattle.scenario_words.specs.Words.{onto_first}

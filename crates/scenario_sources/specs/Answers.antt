@@ -1,4 +1,4 @@
--- What became of the sources of a scenario at a step, and what they answer.
+-- What became of the sources of a scenario, which is this project's own, at a step, and what they answer.
 use Rattle.std.specs.Prelude.{ℕ, ◌≡◌, ◌<◌, ◌∷◌, not, true, false, List, Option, None, Some, Result, Ok, Err}
 use Rattle.std.specs.Option.{option_or}
 use Rattle.announcement_train.specs.declared.train.Train.{Train}

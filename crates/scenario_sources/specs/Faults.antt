@@ -1,4 +1,5 @@
--- Why a step is refused by the source that it means. The refusals are the scenario language's own.
+-- Why a step is refused by the source that it means. The refusals are those of the scenario language, which is this
+-- project's own.
 use Rattle.std.specs.Prelude.{ℕ, List, Option}
 use Rattle.std.specs.Option.{option_or}
 use Rattle.source_machine.specs.Airs.{airs_of}

@@ -1,4 +1,5 @@
--- Which line says which step: the table of the lines as a relation, beside which stands the reading of a line.
+-- Which line of the scenario language, which is this project's own, says which step: the table of the lines as a relation,
+-- beside which stands the reading of a line.
 use Rattle.std.specs.Prelude.{◌≡◌, ℕ, List, [], ◌∷◌, ⊤, Some}
 use Rattle.scenario_words.specs.Words.{words_of}
 use Rattle.scenario_words.specs.Places.{Place, PlaceValue}

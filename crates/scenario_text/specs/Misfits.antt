@@ -1,5 +1,5 @@
--- The number of a line that is no line of the language (BadLine), by the words that fit: the first so many words fit the places
--- of some line, and no more do.
+-- The number of a line that is no line of the scenario language, which is this project's own (BadLine), by the words that
+-- fit: the first so many words fit the places of some line, and no more do.
 use Rattle.std.specs.Prelude.{◌≡◌, ◌≤◌, ◌<◌, ℕ, suc, List, [], ◌∷◌, length, take, ⊤, Some}
 use Rattle.scenario_words.specs.Words.{words_of}
 use Rattle.scenario_words.specs.Fitting.{FitsFront}

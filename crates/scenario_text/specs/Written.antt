@@ -1,5 +1,6 @@
--- The line that is written for a step, by the table of the lines of version 2, in which each step of either version has its
--- row: the first word of the row, and the words of the values of the step at the places of the row.
+-- The line that is written for a step, by the table of the lines of version 2 of the scenario language, which is this
+-- project's own. In it each step of either version has its row: the first word of the row, and the words of the values of
+-- the step at the places of the row.
 use Rattle.std.specs.Prelude.{ℕ, List}
 use Rattle.printed_words.specs.Lines.{joined}
 use Rattle.scenario_values.specs.Lines.{Values, ◌▸◌, AllHaveWords, all_words}

@@ -1,4 +1,5 @@
--- Scenarios with trains, worked by hand: their steps, the newest first, and what they print of their sink.
+-- Scenarios with trains, worked by hand: their steps, the newest first, and what they print of their sink. The lines are
+-- this project's own.
 use Rattle.std.specs.Prelude.{ℕ, ◌≡◌, List, [], ◌∷◌, ◌++◌, drop, reverse, replicate, Some, None, codes, decimal}
 use Rattle.announcement_train.specs.declared.train.Train.{Train as Announced}
 use Rattle.announced_groups.specs.Octets.{train_of}

@@ -1,5 +1,5 @@
 -- Scenarios with writes, reads and forged notices, worked by hand: their steps, the newest first, and what they print of
--- their sink.
+-- their sink. The lines are this project's own.
 use Rattle.std.specs.Prelude.{ℕ, ◌≡◌, List, [], ◌∷◌, ◌++◌, reverse, take, Some, None, codes, decimal}
 use Rattle.printed_words.specs.Digits.{digits}
 use Rattle.scenario_text.specs.declared.step.Step.{Step}

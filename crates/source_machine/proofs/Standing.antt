@@ -1,7 +1,7 @@
 -- A source that stands for its calls.
-use Rattle.std.proofs.Common.{ℕ, ◌≡◌, ◌<◌, ◌≤◌, ◌+◌, ◌-◌, ◌*◌, ◌^◌, Option, Some, None, List, [], ◌∷◌, ◌++◌}
+use Rattle.std.proofs.Common.{ℕ, ◌≡◌, ◌<◌, ◌≤◌, ◌+◌, ◌-◌, ◌*◌, Option, Some, List, [], ◌∷◌, ◌++◌}
 use Rattle.std.proofs.Common.{false, length, map, get_or, set, get_or-set_other, get_or-set_same, length-set, arith, ◌∙◌, ap, sym, refl, subst, inl, inr}
-use Rattle.std.proofs.lemmas.Bool.{cases_eq, cases_lt, le-ltb}
+use Rattle.std.proofs.lemmas.Bool.{cases_eq, cases_lt}
 use Rattle.std.proofs.lemmas.List.{get_or-append_right, get_or_append_left, length-append}
 use Rattle.base_grammar.specs.Layout.{Endpoint}
 use Rattle.big_info.specs.declared.info.BigInfo.{BigInfo}
@@ -9,12 +9,10 @@ use Rattle.big_info.specs.declared.info.Cipher.{Cipher}
 use Rattle.std.proofs.lemmas.List.Elements.{length_all_zip}
 use Rattle.std.specs.Prelude.{unwrap_or}
 use Rattle.std.specs.List.{AllZip, flat_map, range_with_len, slice_get}
-use Rattle.big_info.specs.Schedule.{horizon_of}
 use Rattle.isoal_unframed.specs.Calls.{accept}
 use Rattle.isoal_framed.specs.Calls.{accept as accept_timed}
 use Rattle.source_machine.specs.Airs.{Sends, airs_of, stale_in, stale_of, stale_on}
-use Rattle.source_machine.specs.Calls.{Setup, Call, give, event, framed_calls, laid_before, laid_with, lay_anchor, next_of, stream_calls}
-use Rattle.source_machine.specs.Faults.{event_fault}
+use Rattle.source_machine.specs.Calls.{Setup, Call, give, event, framed_calls, laid_before, laid_with, lay_anchor, stream_calls}
 use Rattle.source_machine.specs.Setups.{IsChecked}
 use Rattle.source_machine.specs.State.Sources.{Source, StandsFor, Stream, StreamIs, StreamStands, StreamsAre}
 use Rattle.source_machine.specs.State.Streams.{Accepts, AllTell, IsSource, Lays, LaysNext, Performs, sent_at, told_by}
@@ -59,12 +57,6 @@ stands_event source calls laying new checked stands next laid = record {
   streams = streams_next source.setup calls laying source.streams new checked (is_next source calls laying stands.next next) laid stands.streams;
   works = stands.works;
 }
-
-pub has_numbers_left : (source : Source) (calls : List Call) → StandsFor calls source
-    → (source.next + horizon_of source.setup.info + 1) * source.setup.info.bn ≤ 2 ^ 39 → event_fault source.setup calls ≡ None
-has_numbers_left source calls stands room =
-    let next : next_of source.setup calls ≡ source.next = sym stands.next in
-    rw (next, le-ltb (2 ^ 39) ((source.next + horizon_of source.setup.info + 1) * source.setup.info.bn) room) refl
 
 -- a stream of the source
 pub stream_is : (source : Source) (calls : List Call) (bis : ℕ) (stream : Stream) → StandsFor calls source

@@ -1,4 +1,5 @@
--- What a source is configured with, and what fixes it once it was started.
+-- What a source is configured with, and what fixes it once it was started: its identity (Basic Audio Profile 1.0, section
+-- 3.7.2), and its group (Core 5.2, volume 6 part B, section 4.4.6).
 use Rattle.std.specs.Prelude.{ℕ, ◌≤◌, ◌==◌, ◌&&◌, Bool, bytes_eq, Option}
 use Rattle.base_grammar.specs.Layout.{Endpoint}
 use Rattle.big_info.specs.Bounds.{Bounds}

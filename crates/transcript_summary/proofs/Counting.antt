@@ -1,11 +1,10 @@
 -- What lines say, one after the other.
-use Rattle.std.proofs.Common.{◌≡◌, ℕ, ◌+◌, Bool, true, false, cond, List, [], ◌∷◌, ◌++◌, length, ap, sym, ◌∙◌, append_assoc, arith, length-append}
-use Rattle.std.proofs.lemmas.List.{append-nil}
+use Rattle.std.proofs.Common.{◌≡◌, ℕ, ◌+◌, Bool, List, ◌++◌, length, ap, sym, ◌∙◌, arith, length-append}
 use Rattle.std.proofs.lemmas.List.Elements.{filter-append}
 use Rattle.std.proofs.lemmas.List.Folds.{concat-append}
 use Rattle.std.specs.List.{filter, concat}
 use Rattle.transcript_summary.specs.Lines.{lines_of, IsWhole}
-use Rattle.transcript_summary.specs.Summary.{is_valid_line, is_lost_line, is_sum_line, none_counted, with_line, with_lines, counts_of}
+use Rattle.transcript_summary.specs.Summary.{is_valid_line, is_lost_line, is_sum_line, none_counted, with_lines, counts_of}
 use Rattle.transcript_summary.specs.declared.counts.Counts.{Counts}
 
 abbrev counts_with : ℕ → ℕ → List ℕ → Counts
@@ -13,25 +12,6 @@ counts_with v l s = record { valid = v; lost = l; sums = s }
 
 same_counts : (v v' l l' : ℕ) (s s' : List ℕ) → v ≡ v' → l ≡ l' → s ≡ s' → counts_with v l s ≡ counts_with v' l' s'
 same_counts v v' l l' s s' ev el es = ap (λ n. counts_with n l s) ev ∙ ap (λ n. counts_with v' n s) el ∙ ap (counts_with v' l') es
-
-one_more : (b : Bool) (n : ℕ) (line : List ℕ) (rest : List (List ℕ)) → (n + cond b 1 0) + length rest ≡ n + length (cond b (line ∷ rest) rest)
-one_more true n line rest = omega arith
-one_more false n line rest = omega arith
-
-one_kept : (b : Bool) (sums line : List ℕ) (rest : List (List ℕ)) → (sums ++ cond b line []) ++ concat rest ≡ sums ++ concat (cond b (line ∷ rest) rest)
-one_kept true sums line rest = append_assoc sums line (concat rest)
-one_kept false sums line rest = ap (λ front. front ++ concat rest) (append-nil sums)
-
--- the first line, and then the others
-pub line_first : (counts : Counts) (line : List ℕ) (lines : List (List ℕ)) → with_lines (with_line counts line) lines ≡ with_lines counts (line ∷ lines)
-line_first counts line lines =
-    same_counts _ _ _ _ _ _
-    (one_more (is_valid_line line) counts.valid line (filter is_valid_line lines))
-    (one_more (is_lost_line line) counts.lost line (filter is_lost_line lines))
-    (one_kept (is_sum_line line) counts.sums line (filter is_sum_line lines))
-
-pub no_lines : (counts : Counts) → with_lines counts [] ≡ counts
-no_lines counts = same_counts _ _ _ _ _ _ (omega arith) (omega arith) (append-nil counts.sums)
 
 counted_append : (p : List ℕ → Bool) (xs ys : List (List ℕ)) → (0 + length (filter p xs)) + length (filter p ys) ≡ 0 + length (filter p (xs ++ ys))
 counted_append p xs ys = omega (arith, ap length (filter-append p xs ys), length-append (filter p xs) (filter p ys))

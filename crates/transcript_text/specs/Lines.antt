@@ -10,8 +10,9 @@ use Rattle.printed_words.specs.Digits.{digits}
 use Rattle.printed_words.specs.Lines.{joined}
 use Rattle.unit_outlets.specs.Handed.{Handed, valid, lost}
 use Rattle.transcript_text.specs.declared.refusal.Refusal.{Refusal}
-use Rattle.transcript_text.specs.declared.refusal.Refusal.TheVariants.{TextTooLong, LineTooLong, BadLine, NotBuilt, AfterEnd, Order, BadGroup, BaseTooLong, IdentTwice, NoSuchSink, NoSuchLink, LinkTwice}
-use Rattle.transcript_text.specs.declared.refusal.Refusal.TheVariants.{SinkTwice, NoOutlet, NoSuchBis, UnitTooLong, TimeOrder, Backlog, NoSuchSubevent, NotOnAir, CounterEnds, NothingWaiting, RecordsTooLong, NoEnd}
+use Rattle.transcript_text.specs.declared.refusal.Refusal.TheVariants.{TextTooLong, LineTooLong, BadLine, NotBuilt, AfterEnd, Order, BadGroup, BaseTooLong}
+use Rattle.transcript_text.specs.declared.refusal.Refusal.TheVariants.{IdentTwice, NoSuchSink, NoSuchLink, LinkTwice, SinkTwice, NoOutlet, NoSuchBis, UnitTooLong}
+use Rattle.transcript_text.specs.declared.refusal.Refusal.TheVariants.{TimeOrder, Backlog, NoSuchSubevent, NotOnAir, CounterEnds, NothingWaiting, RecordsTooLong, NoEnd}
 
 -- the octet that ends a line
 abbrev pub newline : ℕ

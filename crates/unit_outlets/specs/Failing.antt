@@ -1,4 +1,4 @@
--- A tally that fails on purpose, at calls that are listed by their numbers.
+-- A tally that fails on purpose, at calls that are listed by their numbers. Tallies are this project's own.
 use Rattle.std.specs.Prelude.{ℕ, ◌+◌, ◌⊎◌, List, Contains, Result, Ok, Err}
 use Rattle.unit_outlets.specs.Account.{Account, Fits}
 use Rattle.unit_outlets.specs.declared.fault.OutletFault.{OutletFault}

@@ -1,4 +1,5 @@
--- What a box does with a unit.
+-- What a box does with a unit (the units are the SDUs of Core 5.2, volume 6 part G, section 1). Boxes are this project's
+-- own.
 use Rattle.std.specs.Prelude.{ℕ, ◌≡◌, IsTrue, List, Some, slice_get, slice_set, Result, Ok, Err}
 use Rattle.unit_outlets.specs.Account.{Account, Fits, with_unit}
 use Rattle.bcast_base.specs.Counts.{Rose}
