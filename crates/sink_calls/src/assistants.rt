@@ -59,6 +59,14 @@ fn reads_what_was_cut(assistant: &mut AssistJoined) -> bool {
             == Err(NoticeFault::BadNotice(StateFault::Short { place: 2 }))
 }
 
+/// Whether an assistant that leaves joins anew with no view.
+fn joins_anew(assistant: AssistJoined) -> bool {
+    match assistant.leave().join(2) {
+        Ok(again) => again.view(1).is_none(),
+        Err(_) => false,
+    }
+}
+
 #[test]
 fn an_assistant_writes_and_keeps_views_where_there_is_memory(rt: HostRuntime) {
     let Ok(mut assistant) = AssistApart::new(rt.alloc()).join(2) else {
@@ -67,4 +75,5 @@ fn an_assistant_writes_and_keeps_views_where_there_is_memory(rt: HostRuntime) {
     assert!(rt; writes(&mut assistant, rt.alloc()));
     assert!(rt; keeps_its_view(&mut assistant));
     assert!(rt; reads_what_was_cut(&mut assistant));
+    assert!(rt; joins_anew(assistant));
 }
