@@ -1,5 +1,5 @@
 use assistant_machine::{AssistApart, AssistJoined, NoticeFault, NoticeTaken};
-use bass_operations::{AddSource, Wishes};
+use bass_operations::{AddSource, ModifySource, Wishes};
 use receive_state::StateFault;
 use std::alloc::Global;
 
@@ -12,7 +12,7 @@ const ADD: [u8; 16] = [
     2, 0, 1, 2, 3, 4, 5, 6, 3, 0x0a, 0x0b, 0x0c, 2, 0xff, 0xff, 0,
 ];
 
-/// Whether an Add Source waits before other writes.
+/// Whether an Add Source waits before writes of the other kinds.
 fn writes(assistant: &mut AssistJoined, alloc: Global) -> bool {
     let add = AddSource {
         address_type: 0,
@@ -23,7 +23,19 @@ fn writes(assistant: &mut AssistJoined, alloc: Global) -> bool {
         pa_interval: 0xffff,
         wishes: Wishes::new(alloc),
     };
-    if assistant.add(add).is_err() || assistant.remove(7).is_err() || assistant.raw(&[9]).is_err() {
+    let modify = ModifySource {
+        source_id: 7,
+        pa_sync: 0,
+        pa_interval: 0xffff,
+        wishes: Wishes::new(alloc),
+    };
+    if assistant.add(add).is_err() || assistant.modify(modify).is_err() {
+        return false;
+    }
+    if assistant.code(7, [0; 16]).is_err() || assistant.remove(7).is_err() {
+        return false;
+    }
+    if assistant.raw(&[9]).is_err() {
         return false;
     }
     match assistant.next_write() {
@@ -47,6 +59,14 @@ fn reads_what_was_cut(assistant: &mut AssistJoined) -> bool {
             == Err(NoticeFault::BadNotice(StateFault::Short { place: 2 }))
 }
 
+/// Whether an assistant that leaves joins anew with no view.
+fn joins_anew(assistant: AssistJoined) -> bool {
+    match assistant.leave().join(2) {
+        Ok(again) => again.view(1).is_none(),
+        Err(_) => false,
+    }
+}
+
 #[test]
 fn an_assistant_writes_and_keeps_views_where_there_is_memory(rt: HostRuntime) {
     let Ok(mut assistant) = AssistApart::new(rt.alloc()).join(2) else {
@@ -55,4 +75,5 @@ fn an_assistant_writes_and_keeps_views_where_there_is_memory(rt: HostRuntime) {
     assert!(rt; writes(&mut assistant, rt.alloc()));
     assert!(rt; keeps_its_view(&mut assistant));
     assert!(rt; reads_what_was_cut(&mut assistant));
+    assert!(rt; joins_anew(assistant));
 }

@@ -1,46 +1,25 @@
 //! A Scan Delegator with the receivers of the group that it is on.
 ghost use Rattle.std.specs.Prelude.{◌<◌};
 
+use crate::links::tells;
 use crate::numbers::SINGLE;
-use crate::scan_delegators::{ADD, ADDED, BASE, BIG_INFO, EXT, ON_GROUP, ON_TRAIN};
+use crate::source_octets::{ADD, ADDED, BASE, BIG_INFO, EXT, ON_GROUP, ON_TRAIN};
 use crate::taken::Taken;
-use bcast_base::{Bis, BisSet, Octets};
+use crate::trains::{VENDOR, adds_record, answers, reads};
+use bcast_base::{Bis, BisSet};
 use big_info::{Group, Limits, check_group};
 use delegator_machine::Delegator;
 use delegator_states::{ControlHeard, Reply, TrainHeard};
 use isoal_base::{Heard, Hearing};
-use ltv_codec::check_ltvs;
-use pacs_records::PacRecord;
 use std::alloc::Global;
 
 /// A PDU that ends a unit of one octet.
 const UNIT: [u8; 3] = [0x00, 0x01, 0xaa];
 
-/// Adds a record of the codec of the BASE.
-fn adds_record(delegator: &mut Delegator, alloc: Global) -> bool {
-    let Ok(()) = check_ltvs(&[]) else {
-        return false;
-    };
-    let record = PacRecord {
-        codec: [0xff, 0x01, 0x00, 0x02, 0x00],
-        caps: Octets::new(alloc),
-        metadata: Octets::new(alloc),
-    };
-    delegator.add_pac(record).is_ok()
-}
-
-/// Whether the next notice is one of slot 0 with this value.
-fn tells(delegator: &mut Delegator, value: &[u8]) -> bool {
-    match delegator.next_notice() {
-        Some(notice) => notice.slot == 0 && notice.value.as_slice() == value,
-        None => false,
-    }
-}
-
 /// Whether the sink goes on the group by a train, and hears a PDU from then on.
 fn goes_on_group(delegator: &mut Delegator, alloc: Global, first: Bis) -> bool {
     let joined = TrainHeard::OnGroup(BisSet::new().with(first));
-    adds_record(delegator, alloc)
+    adds_record(delegator, alloc, VENDOR, &[])
         && delegator.serve(&ADD) == Ok(Reply::Accepted)
         && delegator.hear(0, first, 0, &UNIT) == Hearing::NotOnGroup
         && delegator.train(0, 3, &EXT, &BASE, &BIG_INFO, 17000) == Ok(joined)
@@ -62,10 +41,10 @@ fn leaves(delegator: &mut Delegator, first: Bis) -> bool {
 
 /// Whether these notices wait, and no more.
 fn tells_where_it_was(delegator: &mut Delegator) -> bool {
-    tells(delegator, &ADDED)
-        && tells(delegator, &ON_GROUP)
-        && tells(delegator, &ON_TRAIN)
-        && tells(delegator, &ADDED)
+    tells(delegator.next_notice(), &ADDED)
+        && tells(delegator.next_notice(), &ON_GROUP)
+        && tells(delegator.next_notice(), &ON_TRAIN)
+        && tells(delegator.next_notice(), &ADDED)
         && delegator.next_notice().is_none()
 }
 
@@ -83,23 +62,16 @@ fn the_receivers_come_and_go_with_the_group_of_a_train(rt: HostRuntime) {
     assert!(rt; tells_where_it_was(&mut delegator));
 }
 
-/// Whether a slot, which exists, has no octets.
-fn is_empty(delegator: &Delegator, slot: u8) -> bool
-    requires { slot < delegator.now.scan.setup.slots }
-{
-    match delegator.read_state(slot) {
-        Ok(state) => state.as_slice().is_empty(),
-        Err(_) => false,
-    }
-}
-
 /// Whether a sink that was put on this group follows no train, and hears a PDU.
-fn stays_on_group(delegator: &mut Delegator, group: &Group, first: Bis) -> bool {
+fn stays_on_group(delegator: &mut Delegator, group: &Group, first: Bis) -> bool
+    requires { 0 < delegator.old.scan.setup.slots }
+{
+    let other = TrainHeard::OtherTrain;
     delegator.serve(&ADD) == Ok(Reply::Accepted)
         && delegator
             .tune(group, BisSet::new().with(first), 0, 20000, 40000)
             .is_ok()
-        && delegator.train(0, 3, &EXT, &BASE, &BIG_INFO, 17000) == Ok(TrainHeard::OtherTrain)
+        && answers(delegator, &EXT, &BASE, &BIG_INFO, other, &ADDED)
         && delegator.hear(0, first, 0, &UNIT) == Hearing::Heard(Heard::Kept)
 }
 
@@ -112,6 +84,6 @@ fn a_sink_that_was_put_on_a_group_follows_no_train(rt: HostRuntime) {
     let Ok(mut delegator) = Delegator::new(rt.alloc(), 1, 1) else {
         return assert!(rt; false);
     };
-    assert!(rt; is_empty(&delegator, 0));
+    assert!(rt; reads(&delegator, &[]));
     assert!(rt; stays_on_group(&mut delegator, &group, first));
 }

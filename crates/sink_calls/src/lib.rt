@@ -17,4 +17,8 @@ mod receivers;
 #[cfg(test)]
 mod scan_delegators;
 #[cfg(test)]
+mod source_octets;
+#[cfg(test)]
 mod taken;
+#[cfg(test)]
+mod trains;

@@ -12,7 +12,7 @@ const ADD: [u8; 16] = [
 const STATE: [u8; 15] = [0, 0, 1, 2, 3, 4, 5, 6, 3, 0x0a, 0x0b, 0x0c, 0, 0, 0];
 
 /// Whether the notice is that of slot 0 with this value.
-fn tells(notice: Option<Notice>, value: &[u8]) -> bool {
+pub(crate) fn tells(notice: Option<Notice>, value: &[u8]) -> bool {
     match notice {
         Some(notice) => notice.slot == 0 && notice.value.as_slice() == value,
         None => false,
