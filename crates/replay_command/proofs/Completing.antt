@@ -85,12 +85,12 @@ failed_in text starts ends left' kept kept' o =
     let more = units_line starts o.earlier o.line at.0 o.accepted.0 o.accepted.1 in
     failure starts ends o.accounts us (handed_on airs_of o.earlier o.line) (f.rest ++ more.0) (units_of airs_of starts (lines_of true text))
     (out_of airs_of starts (reverse o.earlier)) o.told o.before f (
-      ap (λ t. units_of airs_of starts (lines_of true t)) r.1
-      ∙ ap (units_of airs_of starts) at.1
-      ∙ more.1
-      ∙ ap (λ front. front ++ (handed_on airs_of o.earlier o.line ++ more.0)) (sym (units_all starts o.earlier o.accepted.0))
-      ∙ ap (λ units. us ++ (units ++ more.0)) f.split
-      ∙ ap (λ units. us ++ units) (append_assoc f.done (f.unit ∷ f.rest) more.0)
+    ap (λ t. units_of airs_of starts (lines_of true t)) r.1
+    ∙ ap (units_of airs_of starts) at.1
+    ∙ more.1
+    ∙ ap (λ front. front ++ (handed_on airs_of o.earlier o.line ++ more.0)) (sym (units_all starts o.earlier o.accepted.0))
+    ∙ ap (λ units. us ++ (units ++ more.0)) f.split
+    ∙ ap (λ units. us ++ units) (append_assoc f.done (f.unit ∷ f.rest) more.0)
     )
 
 no_failure : (starts ends : List Account) (units : List SinkUnit) → Failure starts ends units → NoneFailed starts ends → ⊥

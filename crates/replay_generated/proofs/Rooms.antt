@@ -102,11 +102,11 @@ failed_in starts ends lines o =
     let us : List SinkUnit = units_of airs_of starts (reverse o.earlier) in
     let more = units_line starts o.earlier o.line lines o.later o.comes o.accepted.0 o.accepted.1 in
     failure starts ends o.accounts us (handed_on airs_of o.earlier o.line) (f.rest ++ more.rest) (units_of airs_of starts lines) [] o.told o.before f (
-      more.split
-      ∙ ap (λ front. (front ++ handed_on airs_of o.earlier o.line) ++ more.rest) (sym (units_all starts o.earlier o.accepted.0))
-      ∙ ap (λ units. (us ++ units) ++ more.rest) f.split
-      ∙ append_assoc us (f.done ++ (f.unit ∷ f.rest)) more.rest
-      ∙ ap (λ units. us ++ units) (append_assoc f.done (f.unit ∷ f.rest) more.rest)
+    more.split
+    ∙ ap (λ front. (front ++ handed_on airs_of o.earlier o.line) ++ more.rest) (sym (units_all starts o.earlier o.accepted.0))
+    ∙ ap (λ units. (us ++ units) ++ more.rest) f.split
+    ∙ append_assoc us (f.done ++ (f.unit ∷ f.rest)) more.rest
+    ∙ ap (λ units. us ++ units) (append_assoc f.done (f.unit ∷ f.rest) more.rest)
     )
 
 pub no_room : (starts ends : List Account) (lines : List TextLine) → BoxFailed airs_of starts ends lines → RoomFor starts (units_of airs_of starts lines) → ⊥
