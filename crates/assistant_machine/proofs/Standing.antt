@@ -28,7 +28,7 @@ get_replicate zero i x h = absurd (omega arith)
 get_replicate (suc n) zero x h = refl
 get_replicate (suc n) (suc i) x h = get_replicate n i x (omega arith)
 
-length_replicate : {A : Type 0} (n : ℕ) (x : A) → length (replicate n x) ≡ n
+pub length_replicate : {A : Type 0} (n : ℕ) (x : A) → length (replicate n x) ≡ n
 length_replicate zero x = refl
 length_replicate (suc n) x = ap suc (length_replicate n x)
 
@@ -110,7 +110,7 @@ asked_stands slots at calls a waits s = record {
       ∙ ap Some (sym (given_now (at == slot) false (waits_of slot calls)));
 }
 
-drop_more : {A : Type 0} (n : ℕ) (xs : List A) (x : A) → n ≤ length xs → drop n (xs ++ x ∷ []) ≡ drop n xs ++ x ∷ []
+pub drop_more : {A : Type 0} (n : ℕ) (xs : List A) (x : A) → n ≤ length xs → drop n (xs ++ x ∷ []) ≡ drop n xs ++ x ∷ []
 drop_more zero xs x h = refl
 drop_more (suc n) [] x h = absurd (omega arith)
 drop_more (suc n) (y ∷ xs) x h = drop_more n xs x (omega arith)

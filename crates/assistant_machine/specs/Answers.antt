@@ -1,5 +1,6 @@
--- How an assistant answers a notice and the value of a read: the first of these that holds. It has no such slot; the value
--- may have been cut, so a read waits; the octets are no value; else they are the view of the slot.
+-- How an assistant answers a notice and the value of a read (Broadcast Audio Scan Service 1.0, section 3.2; Core 5.2, volume 3
+-- part F, section 3.4.7.1): the first of these that holds. It has no such slot; the value may have been cut, so a read waits;
+-- the octets are no value; else they are the view of the slot.
 use Rattle.std.specs.Prelude.{ℕ, nat_le, List, Option, Result, Ok, Err, if◌then◌else◌, ◌≡◌}
 use Rattle.receive_state.specs.Reading.{state_of}
 use Rattle.receive_state.specs.declared.fault.StateFault.{StateFault}

@@ -13,7 +13,7 @@ use Rattle.link_histories.specs.Octets.{AreOctets}
 
 -- ---- lists
 
-drop_nil : {A : Type 0} (n : ℕ) → drop {A = A} n [] ≡ []
+pub drop_nil : {A : Type 0} (n : ℕ) → drop {A = A} n [] ≡ []
 drop_nil zero = refl
 drop_nil (suc n) = refl
 
@@ -43,7 +43,7 @@ drop_all (x ∷ xs) = drop_all xs
 -- ---- what is left by calls of one kind
 
 -- of a list of which each such call takes the first
-taken_one_by_one : {A : Type 0} (call : Call) (waiting : List Call → List A) → ((calls : List Call) → waiting (call ∷ calls) ≡ drop 1 (waiting calls))
+pub taken_one_by_one : {A : Type 0} (call : Call) (waiting : List Call → List A) → ((calls : List Call) → waiting (call ∷ calls) ≡ drop 1 (waiting calls))
     → (n : ℕ) (calls : List Call) → waiting (repeated n call calls) ≡ drop n (waiting calls)
 taken_one_by_one call waiting each zero calls = refl
 taken_one_by_one call waiting each (suc n) calls =
@@ -61,7 +61,7 @@ unchanged call f each (suc n) calls = each (repeated n call calls) ∙ unchanged
 
 -- ---- a write is served
 
-writes_one : (link : ℕ) (calls : List Call) → writes_waiting link (served link ∷ calls) ≡ drop 1 (writes_waiting link calls)
+pub writes_one : (link : ℕ) (calls : List Call) → writes_waiting link (served link ∷ calls) ≡ drop 1 (writes_waiting link calls)
 writes_one link calls =
     let d : ℕ = served_of link calls in
     let all : List (List ℕ) = writes link calls in
@@ -74,7 +74,7 @@ told_waiting : (waiting : List Told) (acts : Acts) → waiting_of acts ≡ waiti
 told_waiting [] acts is = is
 told_waiting (notice ∷ rest) acts is = drop_one (delivered_of acts) (notices_of acts) ∙ ap (drop 1) is
 
-notices_one : (setup : Setup) (mtu : Option ℕ) (link : ℕ) (calls : List Call)
+pub notices_one : (setup : Setup) (mtu : Option ℕ) (link : ℕ) (calls : List Call)
     → notices_waiting setup mtu link (told link ∷ calls) ≡ drop 1 (notices_waiting setup mtu link calls)
 notices_one setup mtu link calls =
     let acts : Acts = acts_of setup mtu link calls in
@@ -118,7 +118,7 @@ read_reads mtu slots (at ∷ rest) acts is =
     (ap (λ (b : Bool). unwrap_or (if_its b (Some false)) (waits_of (language mtu) at acts)) (eq-eqb at at refl))
     (λ slot other. ap (λ (b : Bool). unwrap_or (if_its b (Some false)) (waits_of (language mtu) slot acts)) (ne_eqb at slot (λ e. other (sym e))))
 
-reads_one : (setup : Setup) (mtu : Option ℕ) (link : ℕ) (calls : List Call)
+pub reads_one : (setup : Setup) (mtu : Option ℕ) (link : ℕ) (calls : List Call)
     → reads_waiting setup mtu link (read link ∷ calls) ≡ drop 1 (reads_waiting setup mtu link calls)
 reads_one setup mtu link calls =
     let acts : Acts = acts_of setup mtu link calls in

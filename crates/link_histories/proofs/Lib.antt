@@ -6,3 +6,4 @@ mod Acts
 mod Drains
 mod Agreeing
 mod Telling
+pub mod Citable

@@ -1,5 +1,5 @@
--- A drain of a link: all writes that wait are served, then all notices that wait are delivered in order, then all reads that
--- wait are served.
+-- A drain of a link, which is this project's own: all writes that wait are served, then all notices that wait are delivered in
+-- order, then all reads that wait are served.
 use Rattle.std.specs.Prelude.{ℕ, zero, suc, ◌≡◌, ◌==◌, ◌≢◌, true, false, List, [], ◌∷◌, length, Option, None}
 use Rattle.std.specs.List.{AllByRecursion}
 use Rattle.delegator_states.specs.Trains.{Setup}

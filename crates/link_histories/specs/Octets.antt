@@ -1,4 +1,4 @@
--- What is written to a control point is octets.
+-- What is written to a control point is octets (Broadcast Audio Scan Service 1.0, section 3.1).
 use Rattle.std.specs.Prelude.{List}
 use Rattle.std.specs.List.{AllByRecursion}
 use Rattle.octet_fields.specs.Spelling.{IsOctets}

@@ -1,4 +1,4 @@
--- A step of the delegator, as each link sees it.
+-- A step of the delegator, as each link sees it (Broadcast Audio Scan Service 1.0, section 3.2).
 use Rattle.std.specs.Prelude.{ℕ, ◌≡◌, List, ◌∷◌, ◌++◌, map, Option}
 use Rattle.delegator_states.specs.Notices.{changes, handed_out}
 use Rattle.delegator_states.specs.States.{sight_of}

@@ -8,6 +8,7 @@ use Rattle.std.proofs.lemmas.Bool.{cases_eq, eq-eqb, ne_eqb}
 use Rattle.notice_links.specs.Links as links
 use Rattle.notice_links.specs.Links.{reads_of, waiting_of}
 use Rattle.assistant_machine.specs.State.Assistants.{IsLowest, NoneWaits}
+use Rattle.assistant_machine.proofs.Citable.{drop_more}
 use Rattle.delegator_states.specs.LastGiven.{last_given}
 use Rattle.delegator_states.specs.Trains.{Setup}
 use Rattle.link_histories.specs.Calls.{Call, stepped, joined, parted, asked, served, told, read, is_joined, joining_by, served_of, writes, writes_waiting}
@@ -44,41 +45,6 @@ step_joined link (served at) calls is = refl
 step_joined link _ calls is = absurd is
 
 -- ---- the writes
-
-drop_nil : {A : Type 0} (n : ℕ) → drop {A = A} n [] ≡ []
-drop_nil zero = refl
-drop_nil (suc n) = refl
-
-drop_plus : {A : Type 0} (n : ℕ) (xs : List A) → drop (n + 1) xs ≡ drop 1 (drop n xs)
-drop_plus n xs =
-    let more : n + 1 ≡ suc n = omega arith in
-    ap (λ k. drop k xs) more ∙ by n xs
-  where
-    by : {A : Type 0} (n : ℕ) (xs : List A) → drop (suc n) xs ≡ drop 1 (drop n xs)
-    by zero xs = refl
-    by (suc n) [] = refl
-    by (suc n) (x ∷ xs) = by n xs
-
-drop_within : {A : Type 0} (n : ℕ) (xs : List A) → drop (min n (length xs)) xs ≡ drop n xs
-drop_within n [] = drop_nil (min n 0) ∙ sym (drop_nil n)
-drop_within zero (x ∷ xs) =
-    let least : min 0 (suc (length xs)) ≡ 0 = omega arith in
-    ap (λ n. drop n (x ∷ xs)) least
-drop_within (suc n) (x ∷ xs) =
-    let least : min (suc n) (suc (length xs)) ≡ suc (min n (length xs)) = omega arith in
-    ap (λ n. drop n (x ∷ xs)) least ∙ drop_within n xs
-
-drop_more : {A : Type 0} (n : ℕ) (xs : List A) (x : A) → n ≤ length xs → drop n (xs ++ x ∷ []) ≡ drop n xs ++ x ∷ []
-drop_more zero xs x h = refl
-drop_more (suc n) [] x h = absurd (omega arith)
-drop_more (suc n) (y ∷ xs) x h = drop_more n xs x (omega arith)
-
-pub writes_served : (link : ℕ) (calls : List Call) → writes_waiting link (served link ∷ calls) ≡ drop 1 (writes_waiting link calls)
-writes_served link calls =
-    let d : ℕ = served_of link calls in
-    let all : List (List ℕ) = writes link calls in
-    ap (λ (b : Bool). drop (if b then min (d + 1) (length all) else d) all) (eq-eqb link link refl)
-    ∙ drop_within (d + 1) all ∙ drop_plus d all
 
 pub writes_kept : (link at : ℕ) (calls : List Call) → link ≢ at → writes_waiting link (served at ∷ calls) ≡ writes_waiting link calls
 writes_kept link at calls other =

@@ -35,7 +35,8 @@ use Rattle.linked_sink.specs.State.Stands.{HasStepped, LinkedStands}
 use Rattle.linked_sink.specs.State.Taking.{Takes}
 use Rattle.linked_sink.specs.Taken.{delegator_calls, with_control}
 use Rattle.linked_sink.proofs.Acts.{acts_joined, acts_read, acts_told, acts_unread, acts_untold, apart_joined, joins, none_there, parts, step_joined}
-use Rattle.linked_sink.proofs.Acts.{lowest_read, lowest_within, none_read, writes_asked, writes_joined, writes_kept, writes_served}
+use Rattle.linked_sink.proofs.Acts.{lowest_read, lowest_within, none_read, writes_asked, writes_joined, writes_kept}
+use Rattle.link_histories.proofs.Citable.{writes_one}
 use Rattle.linked_sink.proofs.Assistants.{first_notice, forged_holds, holds_as, put_holds, read_holds, sent_holds, told_holds, waiting_writes}
 use Rattle.linked_sink.proofs.Fresh.{anew_holds}
 use Rattle.linked_sink.proofs.Places.{at_it, at_other, lent, lent_elsewhere, lent_same, lent_terms, one_of_four}
@@ -133,7 +134,7 @@ serves setup mtu link write calls old new its is_on first t stood settings =
           (set_on setup.slots mtu (is_joined link calls) (acts_of setup mtu link calls) (writes_waiting link (served link ∷ calls)) new.links link (record h.on { assistant = t.after })
           (taken_there (assistants.sent ∷ []) link h.on old.links new.links h.there t) is_on
           (holds_as setup.slots mtu (acts_of setup mtu link calls) (acts_of setup mtu link calls) (drop 1 (writes_waiting link calls)) (writes_waiting link (served link ∷ calls))
-          (record h.on { assistant = t.after }) refl (sym (writes_served link calls))
+          (record h.on { assistant = t.after }) refl (sym (writes_one link calls))
           (sent_holds setup.slots mtu (acts_of setup mtu link calls) (writes_waiting link calls) h.on t.after t.stands h.holds)))
       | inr apart ↦ on_as setup.slots mtu (is_joined other calls) (is_joined other calls) (acts_of setup mtu other calls) (acts_of setup mtu other calls)
           (writes_waiting other calls) (writes_waiting other (served link ∷ calls)) (link_at old.links other) (link_at new.links other) refl refl (writes_kept other link calls apart)
@@ -165,7 +166,7 @@ serves_none tells setup mtu link calls sink its none =
         | inl e ↦ subst (λ n. OnLink setup.slots mtu (is_joined n calls) (acts_of setup mtu n calls) (writes_waiting n (served link ∷ calls)) (link_at sink.links n)) (sym e)
             (on_as setup.slots mtu (is_joined link calls) (is_joined link calls) (acts_of setup mtu link calls) (acts_of setup mtu link calls)
             (writes_waiting link calls) (writes_waiting link (served link ∷ calls)) (link_at sink.links link) (link_at sink.links link) refl refl
-            (writes_served link calls ∙ ap (drop 1) none ∙ sym none) refl (its.links link))
+            (writes_one link calls ∙ ap (drop 1) none ∙ sym none) refl (its.links link))
         | inr apart ↦ on_as setup.slots mtu (is_joined other calls) (is_joined other calls) (acts_of setup mtu other calls) (acts_of setup mtu other calls)
             (writes_waiting other calls) (writes_waiting other (served link ∷ calls)) (link_at sink.links other) (link_at sink.links other) refl refl (writes_kept other link calls apart)
             refl (its.links other)

@@ -1,6 +1,6 @@
 -- A fact of a result that follows from another.
 use Rattle.std.proofs.Common.{Result, Ok, Err}
-use Rattle.std.specs.Prelude.{IfErr, IfOk, OnErr, OnOk}
+use Rattle.std.specs.Prelude.{IfOk, OnErr, OnOk}
 
 pub on_ok : {T E P Q : Type 0} (result : Result T E) → (P → Q) → OnOk result P → OnOk result Q
 on_ok (Ok x) f p = f p
@@ -13,7 +13,3 @@ on_err (Err e) f p = f p
 pub if_ok : {T E : Type 0} (result : Result T E) (P Q : T → Type 0) → ((x : T) → P x → Q x) → IfOk result P → IfOk result Q
 if_ok (Ok x) P Q f p = f x p
 if_ok (Err e) P Q f p = p
-
-pub if_err : {T E : Type 0} (result : Result T E) (P Q : E → Type 0) → ((x : E) → P x → Q x) → IfErr result P → IfErr result Q
-if_err (Ok x) P Q f p = p
-if_err (Err e) P Q f p = f e p

@@ -47,9 +47,11 @@ impl LinkedSink {
     ) -> Result<TrainHeard, Memory>
         requires { now ≤ 2 ^ 61 }
         ensures answer { (setup : Setup) (mtu : Option ℕ) (calls : List Call) → LinkedStands setup mtu calls self.old
-            → IfOk result (λ heard. heard ≡ answer_of (brought_by setup (sight_of setup (steps_of calls)) (record { address_type = address_type; sid = sid; ext = ext.now; adv = adv.now; acad = acad.now; now = now }))) }
+            → IfOk result (λ heard. heard ≡ answer_of (brought_by setup (sight_of setup (steps_of calls))
+            (record { address_type = address_type; sid = sid; ext = ext.now; adv = adv.now; acad = acad.now; now = now }))) }
         ensures stands { (setup : Setup) (mtu : Option ℕ) (calls : List Call) (source : ℕ) → LinkedStands setup mtu calls self.old
-            → OnOk result (LinkedStands setup mtu (stepped (train_heard source (record { address_type = address_type; sid = sid; ext = ext.now; adv = adv.now; acad = acad.now; now = now })) ∷ calls) self.new) }
+            → OnOk result (LinkedStands setup mtu (stepped (train_heard source
+            (record { address_type = address_type; sid = sid; ext = ext.now; adv = adv.now; acad = acad.now; now = now })) ∷ calls) self.new) }
         ensures slots { self.new.slots ≡ self.old.slots }
     {
         let heard = self

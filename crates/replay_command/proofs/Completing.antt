@@ -1,25 +1,21 @@
 -- Which statuses come, and what the boxes took of a text that its source tells.
-use Rattle.std.proofs.Common.{◌≡◌, ◌≢◌, ℕ, ◌+◌, ◌^◌, ◌<◌, zero, suc, Bool, true, eq-eqb, List, [], ◌∷◌, ◌++◌, length}
-use Rattle.std.proofs.Common.{reverse, map, refl, sym, ap, subst, ◌∙◌, append_assoc, arith, Option, None, Some, slice_get, slice_set, length-append, IsTrue}
-use Rattle.std.specs.Prelude.{option_map, sum}
-use Rattle.std.proofs.lemmas.List.{append-nil, map-append}
-use Rattle.std.proofs.lemmas.List.Sums.{sum_by-cons, sum_by-append}
+use Rattle.std.proofs.Common.{◌≡◌, ◌≢◌, ℕ, Bool, true, List, ◌∷◌, ◌++◌, reverse, refl, sym, ap, subst, ◌∙◌, append_assoc, Option, None, Some}
+use Rattle.std.proofs.lemmas.List.{append-nil}
 use Rattle.std.specs.Io.KnownBytes.{Consumes, IsAtEnd}
 use Rattle.bcast_io.specs.State.Reading.{MayFollow}
 use Rattle.bcast_io.specs.TextLines.{lines_of}
-use Rattle.unit_outlets.specs.Account.{Account, Fits}
+use Rattle.unit_outlets.specs.Account.{Account}
 use Rattle.bcast_base.specs.Counts.{Rose}
-use Rattle.unit_outlets.specs.Handed.{valid}
 use Rattle.source_machine.specs.Airs.{airs_of}
 use Rattle.line_runs.specs.Runs.{through, refused}
-use Rattle.scenario_history.specs.Boxes.{SinkUnit, accounts_after, onto_valid, valid_for, with_units, Took}
+use Rattle.scenario_history.specs.Boxes.{SinkUnit, Took}
 use Rattle.scenario_history.specs.Lines.{handed_on}
-use Rattle.scenario_history.specs.Transcript.{transcript_end, units_of}
-use Rattle.scenario_history.proofs.Citable.{took_all, valid_append}
+use Rattle.scenario_history.specs.Transcript.{out_of, transcript_end, units_of}
 use Rattle.replay_command.specs.declared.status.Status.{Status}
 use Rattle.replay_command.specs.declared.status.Status.TheVariants as statuses
 use Rattle.replay_command.specs.Replayed.{TextRead, OutletFaulted}
-use Rattle.replay_command.specs.Ended.{Ended, IsDoneOrMemory, IsNoFault, IsWhole, AheadOf, NoneFailed, Holds, RoomFor, RoomForText, Complete}
+use Rattle.replay_command.specs.Ended.{Ended, IsDoneOrMemory, IsNoFault, IsWhole, AheadOf, NoneFailed, RoomForText, Complete}
+use Rattle.replay_generated.proofs.Citable.{Failure, failure, no_room_for}
 use Rattle.replay_command.proofs.Endings.{units_all}
 use Rattle.replay_command.proofs.LineUnits.{units_line}
 
@@ -79,96 +75,26 @@ ended_at status other starts ends left left' kept kept' e is = let P : Status �
 
 -- ---- the box that failed
 
-map_some : {A : Type 0} (f : A → A) (o : Option A) (b : A) → option_map f o ≡ Some b → (a : A) × (o ≡ Some a) × (f a ≡ b)
-map_some f None b e = cc
-map_some f (Some a) b e = (a, refl, cc)
-
-set_here : {A : Type 0} (xs : List A) (i : ℕ) (b x : A) → slice_get xs i ≡ Some b → slice_get (slice_set xs i x) i ≡ Some x
-set_here [] i b x e = cc
-set_here (y ∷ ys) zero b x e = refl
-set_here (y ∷ ys) (suc i) b x e = set_here ys i b x e
-
--- the box that failed: what it was at the start, and what is left of it
-record Failure (starts ends : List Account) (units : List SinkUnit) : Type 0 where
-  place : ℕ
-  first : Account
-  after : Account
-  was : slice_get starts place ≡ Some first
-  is : slice_get ends place ≡ Some after
-  rose : Rose first.faults after.faults
-  octets : List ℕ
-  taken : List (List ℕ)
-  rest : List (List ℕ)
-  split : valid_for place units ≡ taken ++ octets ∷ rest
-  no_room : IsTrue first.is_sound → ¬ ((first.units + length taken + 1 < 2 ^ 64) × (first.octets + sum (map length taken) + length octets < 2 ^ 64))
-
-sum-append : (us vs : List (List ℕ)) → sum (map length (us ++ vs)) ≡ sum (map length us) + sum (map length vs)
-sum-append us vs = ap sum (map-append length us vs) ∙ sum_by-append (λ x. x) (map length us) (map length vs)
-
-valid_here : (unit : SinkUnit) (bis time : ℕ) (octets : List ℕ) (rest : List SinkUnit) → unit.unit ≡ valid bis time octets
-    → valid_for unit.box (unit ∷ rest) ≡ octets ∷ valid_for unit.box rest
-valid_here unit bis time octets rest is =
-    ap (λ b. onto_valid b unit.unit (valid_for unit.box rest)) (eq-eqb unit.box unit.box refl)
-    ∙ ap (λ u. onto_valid true u (valid_for unit.box rest)) is
-
-failure : (text : List ℕ) (starts ends : List Account) (left' kept kept' : Option (List ℕ)) → OutletFaulted airs_of starts ends (Some text) left' kept kept'
+failed_in : (text : List ℕ) (starts ends : List Account) (left' kept kept' : Option (List ℕ)) → OutletFaulted airs_of starts ends (Some text) left' kept kept'
     → Failure starts ends (units_of airs_of starts (lines_of true text))
-failure text starts ends left' kept kept' o =
+failed_in text starts ends left' kept kept' o =
     let f = o.fails in
-    let place : ℕ = f.unit.box in
-    let old : List Account = accounts_after o.accounts f.done in
     let us : List SinkUnit = units_of airs_of starts (reverse o.earlier) in
-    let mid = map_some (λ account. with_units account (valid_for place f.done)) (slice_get o.accounts place) f.box.before (sym (took_all o.accounts f.done place) ∙ f.box.here) in
-    let start = map_some (λ account. with_units account (valid_for place us)) (slice_get starts place) mid.0 (sym (o.before place) ∙ mid.1) in
-    let same : with_units (with_units start.0 (valid_for place us)) (valid_for place f.done) ≡ f.box.before =
-    ap (λ account. with_units account (valid_for place f.done)) start.2 ∙ mid.2 in
     let r = rest_of text left' o.comes.text o.comes.over o.comes.read in
     let at = o.comes.lines true r.0 r.2 in
     let more = units_line starts o.earlier o.line at.0 o.accepted.0 o.accepted.1 in
-    let all : units_of airs_of starts (lines_of true text) ≡ us ++ (f.done ++ (f.unit ∷ (f.rest ++ more.0))) =
+    failure starts ends o.accounts us (handed_on airs_of o.earlier o.line) (f.rest ++ more.0) (units_of airs_of starts (lines_of true text))
+    (out_of airs_of starts (reverse o.earlier)) o.told o.before f (
     ap (λ t. units_of airs_of starts (lines_of true t)) r.1
     ∙ ap (units_of airs_of starts) at.1
     ∙ more.1
     ∙ ap (λ front. front ++ (handed_on airs_of o.earlier o.line ++ more.0)) (sym (units_all starts o.earlier o.accepted.0))
     ∙ ap (λ units. us ++ (units ++ more.0)) f.split
-    ∙ ap (λ units. us ++ units) (append_assoc f.done (f.unit ∷ f.rest) more.0) in
-    let taken : List (List ℕ) = valid_for place us ++ valid_for place f.done in
-    record {
-      place = place;
-      first = start.0;
-      after = f.box.after;
-      was = start.1;
-      is = ap (λ accounts. slice_get accounts place) f.box.others ∙ set_here old place f.box.before f.box.after f.box.here;
-      rose = let P : Account → Type 0 = λ a. Rose a.faults f.box.after.faults in subst P (sym same) f.box.took.0;
-      octets = f.octets;
-      taken = taken;
-      rest = valid_for place (f.rest ++ more.0);
-      split = ap (valid_for place) all
-          ∙ valid_append place us (f.done ++ (f.unit ∷ (f.rest ++ more.0)))
-          ∙ ap (λ units. valid_for place us ++ units) (valid_append place f.done (f.unit ∷ (f.rest ++ more.0)) ∙ ap (λ units. valid_for place f.done ++ units)
-          (valid_here f.unit f.bis f.time f.octets (f.rest ++ more.0) f.is_valid))
-          ∙ sym (append_assoc (valid_for place us) (valid_for place f.done) (f.octets ∷ valid_for place (f.rest ++ more.0)));
-      no_room = λ sound fits.
-          let P : Account → Type 0 = λ a. IsTrue a.is_sound → ¬ Fits f.octets a in
-          let not_fit : P (with_units (with_units start.0 (valid_for place us)) (valid_for place f.done)) = subst P (sym same) f.box.took.2 in
-          not_fit sound (
-            omega (arith, fits.0, length-append (valid_for place us) (valid_for place f.done)),
-            omega (arith, fits.1, sum-append (valid_for place us) (valid_for place f.done)),
-          );
-    }
+    ∙ ap (λ units. us ++ units) (append_assoc f.done (f.unit ∷ f.rest) more.0)
+    )
 
 no_failure : (starts ends : List Account) (units : List SinkUnit) → Failure starts ends units → NoneFailed starts ends → ⊥
 no_failure starts ends units f none = none f.place f.first f.after f.was f.is f.rose
-
-no_room : (starts ends : List Account) (units : List SinkUnit) → Failure starts ends units → RoomFor starts units → ⊥
-no_room starts ends units f room =
-    let here = room f.place f.first f.was in
-    let P : List (List ℕ) → Type 0 = λ us. Holds (with_units f.first us) in
-    let holds : Holds (with_units f.first (f.taken ++ f.octets ∷ f.rest)) = subst P f.split here.1 in
-    f.no_room here.0 (
-      omega (arith, holds.0, length-append f.taken (f.octets ∷ f.rest)),
-      omega (arith, holds.1, sum-append f.taken (f.octets ∷ f.rest), sum_by-cons (λ x. x) (length f.octets) (map length f.rest)),
-    )
 
 -- ---- completeness
 
@@ -186,13 +112,13 @@ module _ (text : List ℕ) (starts ends : List Account) (left' kept kept' : Opti
   through_at statuses.ReadFault e r w t no_read no_write none = absurd (no_read (r refl))
   through_at statuses.WriteFault e r w t no_read no_write none = absurd (no_write (w refl))
   through_at statuses.OutletFault e r w t no_read no_write none =
-      absurd (no_failure starts ends (units_of airs_of starts (lines_of true text)) (failure text starts ends left' kept kept' e) none)
+      absurd (no_failure starts ends (units_of airs_of starts (lines_of true text)) (failed_in text starts ends left' kept kept' e) none)
   through_at statuses.Memory e r w t no_read no_write none = tt
 
   room_at : (status : Status) → Ended airs_of status starts ends (Some text) left' kept kept' → RoomForText airs_of starts text → status ≢ statuses.OutletFault
   room_at status e room is =
-      no_room starts ends (units_of airs_of starts (lines_of true text))
-      (failure text starts ends left' kept kept' (ended_at status statuses.OutletFault starts ends (Some text) left' kept kept' e is)) room
+      no_room_for starts ends (units_of airs_of starts (lines_of true text))
+      (failed_in text starts ends left' kept kept' (ended_at status statuses.OutletFault starts ends (Some text) left' kept kept' e is)) room
 
   no_fault_at : (status : Status) → Ended airs_of status starts ends (Some text) left' kept kept'
       → (status ≡ statuses.ReadFault → Rose read read') → (status ≡ statuses.WriteFault → Rose write write')

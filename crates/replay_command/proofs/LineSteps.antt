@@ -14,6 +14,7 @@ use Rattle.replay_command.specs.declared.status.Status.TheVariants as statuses
 use Rattle.replay_steps.specs.declared.machine.Machine.{Machine}
 use Rattle.transcript_text.specs.declared.stop.Stop.{Stop}
 use Rattle.transcript_text.specs.declared.stop.Stop.TheVariants.{Refused, OutletFault, Memory}
+use Rattle.replay_generated.proofs.Citable.{meets_at}
 use Rattle.replay_steps.specs.LineMeets.{LinesStand, LineMeets}
 use Rattle.replay_command.specs.Replayed.{Comes, ReadsAhead, Broken}
 use Rattle.replay_command.specs.Ended.{Ended}
@@ -30,10 +31,7 @@ module _ (starts : List Account) (history : List TextLine) (line : TextLine) (le
     (run : RunTo starts history kept mid machine before) (cleared : text ≡ [])
     (meets : LinesStand starts history machine before → LineMeets starts history line new text told before after result) where
   met : (r : Result (Unit {0}) Stop) → result ≡ r → LineMeets starts history line new [] told before after r
-  met r is =
-      let P : Result (Unit {0}) Stop → Type 0 = λ x. LineMeets starts history line new text told before after x in
-      let Q : List ℕ → Type 0 = λ t. LineMeets starts history line new t told before after r in
-      subst Q cleared (subst P is (meets run.stands))
+  met r is = meets_at starts history line new text told before after result r cleared is (meets run.stands)
 
   pub run_ok : (u : Unit {0}) (kept' : Option (List ℕ)) (put : Option Status) → result ≡ Ok u → Puts told mid kept' put
       → StepRuns starts (line ∷ history) left left' kept kept' new after put

@@ -13,7 +13,8 @@ use Rattle.scenario_history.specs.Source.{Airs}
 use Rattle.scenario_history.specs.Transcript.{end_after, out_of, transcript_end, transcript_of, units_of}
 use Rattle.replay_command.specs.declared.status.Status.{Status}
 use Rattle.replay_command.specs.declared.status.Status.TheVariants as statuses
-use Rattle.replay_command.specs.Ended.{AheadOf, Complete, Ended, RoomFor, RoomForText}
+use Rattle.replay_command.specs.Ended.{AheadOf, Complete, Ended, RoomForText}
+use Rattle.replay_generated.specs.Generated.{RoomFor}
 use Rattle.replay_command.specs.Replayed.{BoxFailed, BoxesAt, BoxesCut, Broken, CutAt, Done, NoEndCut, OutletFaulted, ReadFaulted, RefusedAt, WriteCut, brought_by}
 
 -- both airs give the same

@@ -1,7 +1,7 @@
 -- The text that a call took from its source, line by line.
 use Rattle.std.proofs.Common.{◌≡◌, ℕ, ◌+◌, ◌≤◌, Bool, true, false, List, [], ◌∷◌, ◌++◌, length, reverse}
 use Rattle.std.proofs.Common.{refl, sym, ap, subst, ◌∙◌, append_assoc, arith, Option, None, Result, Ok, Err, length-append}
-use Rattle.std.specs.Prelude.{IfOk, OnErr, IsSome}
+use Rattle.std.specs.Prelude.{IfOk, OnErr}
 use Rattle.std.proofs.lemmas.List.{append-nil, length-reverse}
 use Rattle.std.proofs.lemmas.Bool.{false≢true}
 use Rattle.std.specs.Io.KnownBytes.{Consumes, IsAtEnd}
@@ -227,10 +227,3 @@ next_within left mid left' lines old new (Err failed) a b sound r = within_took 
 -- nothing was read
 pub none_within : (left : Option (List ℕ)) → ReadsAtMost left left read_limit
 none_within left = record { octets = []; consumed = Consumes-nothing left; within = omega arith }
-
--- the answer Line lends a line
-pub line_lent : (mid left' : Option (List ℕ)) (old new : Reading) (result : Result LineRead Failed) → IfOk result (λ read. Answers read old new mid left') → result ≡ Ok Line → IsSome new.line
-line_lent mid left' old new result a e =
-    let P : Result LineRead Failed → Type 0 = λ r. IfOk r (λ read. Answers read old new mid left') in
-    let answer = subst P e a in
-    subst IsSome (sym answer.1) refl

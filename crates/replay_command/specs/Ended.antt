@@ -1,13 +1,13 @@
 -- What a call of `replay` did, by its status, and which statuses can come. The statuses are this project's own.
-use Rattle.std.specs.Prelude.{ℕ, ◌≡◌, ◌≢◌, ◌<◌, ◌^◌, IsTrue, true, List, slice_get, Option, Some}
+use Rattle.std.specs.Prelude.{ℕ, ◌≡◌, ◌≢◌, true, List, slice_get, Option, Some}
 use Rattle.bcast_io.specs.TextLines.{lines_of}
 use Rattle.unit_outlets.specs.Account.{Account}
 use Rattle.bcast_base.specs.Counts.{Rose}
 use Rattle.transcript_text.specs.declared.refusal.Refusal.TheVariants.{NoEnd}
 use Rattle.scenario_history.specs.Source.{Airs}
-use Rattle.scenario_history.specs.Boxes.{SinkUnit, valid_for, with_units}
 use Rattle.line_runs.specs.Runs.{through}
 use Rattle.scenario_history.specs.Transcript.{transcript_end, units_of}
+use Rattle.replay_generated.specs.Generated.{RoomFor}
 use Rattle.replay_command.specs.declared.status.Status.{Status}
 use Rattle.replay_command.specs.declared.status.Status.TheVariants as statuses
 use Rattle.replay_command.specs.Replayed.{Done, RefusedAt, ReadFaulted, Broken, OutletFaulted, ReadsAhead, WriteCut}
@@ -52,16 +52,6 @@ AheadOf airs _ starts ends left left' kept kept' = Unit {0}
 abbrev pub NoneFailed : List Account → List Account → Type 0
 NoneFailed starts ends =
     (box : ℕ) (before after : Account) → slice_get starts box ≡ Some before → slice_get ends box ≡ Some after → ¬ Rose before.faults after.faults
-
--- the sums of an account hold in 64 bits
-abbrev pub Holds : Account → Type 0
-Holds account = (account.units < 2 ^ 64) × (account.octets < 2 ^ 64)
-
--- each box is sound, and its sums hold what it has at the start and the valid units of its sink among these
-abbrev pub RoomFor : List Account → List SinkUnit → Type 0
-RoomFor starts units =
-    (box : ℕ) (account : Account) → slice_get starts box ≡ Some account
-    → IsTrue account.is_sound × Holds (with_units account (valid_for box units))
 
 -- each box has room for the valid units of a text
 abbrev pub RoomForText : Airs → List Account → List ℕ → Type 0

@@ -10,3 +10,4 @@ mod Saying
 mod Endings
 mod Rooms
 mod Promising
+pub mod Citable

@@ -285,14 +285,20 @@ module _ (starts accounts : List Account) (lines : List TextLine) (left : List (
 
 -- ---- a line
 
+-- what it did from an empty text, by the result that came
+pub meets_at : (starts : List Account) (history : List TextLine) (line : TextLine) (new : Machine) (text told : List ℕ) (before after : List Account)
+    (result r : Result (Unit {0}) Stop) → text ≡ [] → result ≡ r → LineMeets starts history line new text told before after result
+    → LineMeets starts history line new [] told before after r
+meets_at starts history line new text told before after result r cleared is meets =
+    let P : Result (Unit {0}) Stop → Type 0 = λ x. LineMeets starts history line new text told before after x in
+    let Q : List ℕ → Type 0 = λ t. LineMeets starts history line new t told before after r in
+    subst Q cleared (subst P is meets)
+
 module _ (starts : List Account) (history : List TextLine) (line : TextLine) (machine new : Machine) (before after : List Account) (counts : Counts) (text told : List ℕ)
     (result : Result (Unit {0}) Stop) (run : RunTo starts history counts machine before) (cleared : text ≡ [])
     (meets : LinesStand starts history machine before → LineMeets starts history line new text told before after result) where
   met : (r : Result (Unit {0}) Stop) → result ≡ r → LineMeets starts history line new [] told before after r
-  met r is =
-      let P : Result (Unit {0}) Stop → Type 0 = λ x. LineMeets starts history line new text told before after x in
-      let Q : List ℕ → Type 0 = λ t. LineMeets starts history line new t told before after r in
-      subst Q cleared (subst P is (meets run.stands))
+  met r is = meets_at starts history line new text told before after result r cleared is (meets run.stands)
 
   pub line_ran : (u : Unit {0}) (counts' : Counts) (counted : Option Ending) → result ≡ Ok u → Counted told counts counts' counted
       → LineRuns starts history line counts' new before after counted

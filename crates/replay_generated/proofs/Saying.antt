@@ -92,7 +92,10 @@ group_line =
                     (omega arith, omega arith),
                     (
                       (omega arith, omega arith),
-                      ((omega arith, omega arith), ((omega arith, omega arith), ((omega arith, omega arith), ((omega arith, omega arith), ((omega arith, omega arith), ((omega arith, omega arith), tt)))))),
+                      (
+                        (omega arith, omega arith),
+                        ((omega arith, omega arith), ((omega arith, omega arith), ((omega arith, omega arith), ((omega arith, omega arith), ((omega arith, omega arith), tt))))),
+                      ),
                     ),
                   ),
                 ),

@@ -4,8 +4,6 @@
 mod generated;
 mod outcome;
 mod running;
-#[cfg(test)]
-mod tests;
 
 pub use generated::run_generated;
 pub use outcome::Outcome;

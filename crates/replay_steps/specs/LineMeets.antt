@@ -1,4 +1,4 @@
--- What a line of a scenario does, by the definitions of its transcript.
+-- What a line of a scenario does, by the definitions of its transcript. Both are this project's own.
 use Rattle.std.specs.Prelude.{ℕ, List, ◌∷◌, Option, Result}
 use Rattle.bcast_io.specs.TextLines.{TextLine}
 use Rattle.unit_outlets.specs.Account.{Account}

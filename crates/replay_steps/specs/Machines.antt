@@ -1,4 +1,5 @@
--- The state of a scenario as far as it was run, and the steps that it stands for, the newest first.
+-- The state of a scenario, whose language is this project's own, as far as it was run, and the steps that it stands for, the
+-- newest first.
 use Rattle.std.specs.Prelude.{◌≡◌, List}
 use Rattle.source_machine.specs.Airs.{airs_of}
 use Rattle.scenario_text.specs.declared.step.Step.{Step}

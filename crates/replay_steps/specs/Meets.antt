@@ -1,4 +1,4 @@
--- What a step does, by the definitions of a scenario.
+-- What a step does, by the definitions of a scenario, whose language is this project's own.
 use Rattle.std.specs.Prelude.{ℕ, ◌≡◌, ◌≤◌, ◌⊎◌, List, ◌∷◌, ◌++◌, length, Option, None, Some, Result, Ok, Err}
 use Rattle.unit_outlets.specs.Account.{Account}
 use Rattle.source_machine.specs.Airs.{airs_of}

@@ -1,20 +1,13 @@
--- What upper crates may cite: units that go to their boxes after others, sinks of which the same past is told in other words,
--- and the group that a source puts a sink on.
-use Rattle.std.proofs.Common.{◌≡◌, ℕ, List, [], ◌∷◌, ◌++◌, refl, sym, ◌∙◌, ap, subst, append_assoc, slice_get, unwrap_or, Option, Result, Ok, Err}
+-- What upper crates may cite: units that go to their boxes after others, and sinks of which the same past is told in other
+-- words.
+use Rattle.std.proofs.Common.{◌≡◌, ℕ, List, [], ◌∷◌, ◌++◌, refl, sym, ◌∙◌, ap, subst, append_assoc, slice_get, Option, Result, Ok, Err}
 use Rattle.unit_outlets.specs.Account.{Account}
 use Rattle.unit_outlets.specs.Took.{TookAt}
 use Rattle.unit_outlets.specs.declared.fault.OutletFault.TheVariants.{Failed}
-use Rattle.delegator_machine.specs.Groups as groups
-use Rattle.delegator_machine.specs.Groups.{numbers_alone}
 use Rattle.group_sink.specs.Calls.{Call}
 use Rattle.link_histories.specs.Calls as links
 use Rattle.sink_histories.specs.Lives.{Made}
 use Rattle.scenario_history.specs.Boxes.{SinkUnit, accounts_after, with_handed}
-use Rattle.scenario_history.specs.Sinks.{tuning_of}
-use Rattle.scenario_history.specs.Source.{GroupLine, group_of, no_group}
-use Rattle.scenario_history.specs.Worlds.{joining_on}
-use Rattle.scenario_text.specs.declared.step.Step.{Step}
-use Rattle.scenario_text.specs.declared.step.Step.TheVariants as steps
 use Rattle.scenario_history.specs.Output.{unit_line, unit_lines}
 use Rattle.transcript_text.specs.declared.stop.Stop.{Stop}
 use Rattle.transcript_text.specs.declared.stop.Stop.TheVariants.{Refused, OutletFault, Memory}
@@ -104,20 +97,3 @@ stands_same one other sinks same stands = record {
   made = stands.made ∙ same.made;
   empty = stands.empty;
 }
-
--- ---- the group of a source
-
--- a group line brings the numbers of the group alone
-abbrev pub IsAlone : Option GroupLine → Type 0
-IsAlone group = numbers_alone (unwrap_or group no_group).info ≡ (unwrap_or group no_group).info
-
-group_alone : (own : List Step) → IsAlone (group_of own)
-group_alone [] = refl
-group_alone (steps.Group framing origin delay iso sdu max_sdu max_pdu num_bis bn nse irc pto sub spacing phy ∷ earlier) = refl
-group_alone (_ ∷ earlier) = group_alone earlier
-
--- a sink that `tuned` puts on a group goes by the numbers of the group alone
-pub tuned_alone : (own : List Step) (which : ℕ) → groups.tuning_of (joining_on own which) ≡ tuning_of own which
-tuned_alone own which =
-    ap (λ info. record { info = info; which = which; first = (tuning_of own which).first; anchor = (tuning_of own which).anchor; delay = (tuning_of own which).delay })
-    (group_alone own)

@@ -73,15 +73,6 @@ pub lives_in : (box : Option ℕ) (made : Option Made) (own : Option ℕ) (life 
 lives_in None made own life received entry is = let e : entry ≡ None = cc is.0 in ap is_some e
 lives_in (Some box) made own life received entry is = let e : entry ≡ Some is.0 = cc is.1 in ap is_some e
 
-some_none : {A : Type 0} (entry : Option A) (one : A) → Some entry ≡ Some (Some one) → entry ≡ None → ⊥
-some_none entry one e f = cc (e, f)
-
--- no sink lives, and none was made
-pub made_none : (box : Option ℕ) (made : Option Made) (own : Option ℕ) (life : List links.Call) (received : List Call) (entry : Option Sink)
-    → EntryIs box made own life received (Some entry) → entry ≡ None → made ≡ None
-made_none None made own life received entry is none = is.1
-made_none (Some box) made own life received entry is none = absurd (some_none entry is.0 is.1 none)
-
 -- ---- one entry among all
 
 -- the entry at a place that was read

@@ -1,14 +1,13 @@
 -- Units that go to their boxes one after the other.
-use Rattle.std.proofs.Common.{◌≡◌, ℕ, ◌+◌, ◌<◌, ◌≤◌, List, [], ◌∷◌, ◌++◌, length, map, take, drop, refl, sym, ◌∙◌, ap, subst, slice_get, slice_set, get_or, arith, Result, Ok}
+use Rattle.std.proofs.Common.{◌≡◌, ℕ, ◌+◌, ◌<◌, List, [], ◌∷◌, ◌++◌, length, map, take, drop, refl, sym, ◌∙◌, ap, subst, slice_get, slice_set, get_or, Result}
 use Rattle.std.proofs.Common.{Err, Some, zero, suc}
 use Rattle.std.proofs.lemmas.List.{append-nil, map-append, take-append-drop, take_more}
-use Rattle.std.proofs.lemmas.Option.{get_or_from_slice_get}
-use Rattle.unit_outlets.specs.Account.{Account, with_unit}
-use Rattle.unit_outlets.specs.Handed.{valid, lost}
+use Rattle.unit_outlets.specs.Account.{Account}
+use Rattle.unit_outlets.specs.Handed.{valid}
 use Rattle.unit_outlets.specs.Took.{TookAt}
 use Rattle.unit_outlets.specs.declared.fault.OutletFault.{OutletFault as Refusal}
 use Rattle.unit_outlets.specs.declared.fault.OutletFault.TheVariants.{Memory as NoMemory}
-use Rattle.scenario_history.specs.Boxes.{SinkUnit, account_at, accounts_after, no_account}
+use Rattle.scenario_history.specs.Boxes.{SinkUnit, accounts_after}
 use Rattle.scenario_history.specs.Output.{unit_lines}
 use Rattle.transcript_text.specs.declared.stop.Stop.{Stop}
 use Rattle.transcript_text.specs.declared.stop.Stop.TheVariants.{Refused, OutletFault, Memory}
@@ -17,16 +16,6 @@ use Rattle.scenario_sinks.specs.declared.gathered.HandedUnit.{HandedUnit}
 use Rattle.scenario_sinks.specs.declared.sink.Owner.{Owner}
 use Rattle.scenario_sinks.specs.Handing.{BoxTakes, Hands}
 use Rattle.scenario_sinks.proofs.Citable.{hands_stop, hands_then}
-
-pub set_past : {A : Type 0} (xs : List A) (i : ℕ) (x : A) → length xs ≤ i → slice_set xs i x ≡ xs
-set_past [] i x h = refl
-set_past (y ∷ xs) zero x h = absurd (omega arith)
-set_past (y ∷ xs) (suc i) x h = ap (λ rest. y ∷ rest) (set_past xs i x (omega arith))
-
-pub box_took : (place : ℕ) (octets : List ℕ) (old new : List Account) → TookAt place octets old new (Ok tt)
-    → new ≡ slice_set old place (with_unit octets (account_at old place))
-box_took place octets old new t =
-    t.others ∙ ap (slice_set old place) (t.took.1 ∙ ap (with_unit octets) (sym (get_or_from_slice_get old place t.before no_account t.here)))
 
 pub set_same : {A : Type 0} (xs : List A) (i : ℕ) (x : A) → slice_get xs i ≡ Some x → slice_set xs i x ≡ xs
 set_same [] i x h = refl
@@ -39,11 +28,6 @@ box_wanted place octets old new result t e =
     let P : Result (Unit {0}) Refusal → Type 0 = λ r. TookAt place octets old new r in
     let took : TookAt place octets old new (Err NoMemory) = subst P e t in
     took.others ∙ set_same old place took.after (took.here ∙ ap Some (sym took.took.1))
-
--- one unit
-pub hands_lost : (owner : Owner) (bis time : ℕ) (text told : List ℕ) (old : List Account)
-    → told ≡ text ++ unit_lines (units_for owner (lost bis time ∷ [])) → Hands (units_for owner (lost bis time ∷ [])) text told old old (Ok tt)
-hands_lost owner bis time text told old t = (t, refl)
 
 pub hands_front : (units : List SinkUnit) (text told : List ℕ) (old : List Account) → Hands units text told old old (Err Memory)
 hands_front units text told old = record { done = []; rest = units; split = refl; boxes = refl }

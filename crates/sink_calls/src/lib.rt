@@ -9,6 +9,8 @@ mod delegators;
 #[cfg(test)]
 mod framed_receivers;
 #[cfg(test)]
+mod lines;
+#[cfg(test)]
 mod links;
 #[cfg(test)]
 mod numbers;

@@ -7,8 +7,6 @@ mod label;
 mod pieces;
 mod reply;
 mod streams;
-#[cfg(test)]
-mod tests;
 mod train;
 mod value;
 

@@ -1,5 +1,5 @@
 -- Calls of one kind on a link, for as long as something waits for them.
-use Rattle.std.proofs.Common.{ℕ, zero, suc, ◌≡◌, ◌≤◌, true, false, List, [], ◌∷◌, ◌++◌, drop, length, slice_get, Option, Some, None, refl, sym, ap, ◌∙◌, append_assoc, subst, arith}
+use Rattle.std.proofs.Common.{ℕ, zero, suc, ◌≡◌, ◌≤◌, Bool, true, false, List, [], ◌∷◌, ◌++◌, drop, length, slice_get, Option, Some, None, Ok, refl, sym, ap, ◌∙◌, append_assoc, subst, arith}
 use Rattle.std.specs.List.{concat}
 use Rattle.std.specs.Prelude.{is_none}
 use Rattle.group_sink.specs.Calls as sinks
@@ -11,12 +11,14 @@ use Rattle.sink_histories.specs.Lives.{Made}
 use Rattle.sink_histories.specs.Output.{Lines, drain_lines, read_lines, serve_lines, tell_lines}
 use Rattle.sink_lines.specs.Lines.{Label}
 use Rattle.sink_steps.specs.declared.sink.LivingSink.{LivingSink}
-use Rattle.sink_steps.specs.Making.{Goes, Stays, stayed}
+use Rattle.sink_steps.specs.Making.{Goes, Stays, Turns, stayed}
 use Rattle.sink_steps.specs.State.Living.{Lives}
 use Rattle.sink_steps.proofs.Grown.{lives_stayed}
 use Rattle.sink_steps.proofs.Leaving.{StaysOff, goes_on, served_off}
 use Rattle.sink_steps.proofs.Printing.{more_put, nothing_put}
-use Rattle.sink_steps.proofs.Queues.{no_more, notices_one, one_more, reads_one, writes_one}
+use Rattle.link_histories.proofs.Citable.{notices_one, reads_one, writes_one}
+use Rattle.sink_steps.proofs.Queues.{no_more, one_more}
+use Rattle.sink_steps.proofs.Turning.{none_taken, one_taken}
 
 -- ---- a kind of call
 
@@ -82,32 +84,40 @@ none_is : {A : Type 0} (first : Option A) → is_none first ≡ true → first �
 none_is (Some x) is = absurd cc
 none_is None is = refl
 
+-- what one such call makes of a life of the link
+abbrev pub Each : {A : Type 0} → Made → Option ℕ → ℕ → Call → (List Call → List A) → (List Call → Lines) → List ℕ → List ℕ → LivingSink → LivingSink → Bool → Type 0
+Each made its link call waiting line told next old new waited =
+    (life : List Call) (received : List sinks.Call) → Lives made its life received old → is_joined link life ≡ true
+    → Turns (slice_get (waiting life) 0) (Goes made its life (call ∷ life) received (line life) told) (Stays made its life received told) next new (Ok waited)
+
 pub one_again : {A : Type 0} (made : Made) (its : Option ℕ) (link : ℕ) (call : Call) (waiting : List Call → List A) (lines : ℕ → Lines) (line : List Call → Lines)
-    (life : List Call) (received : List sinks.Call) (text told next : List ℕ) (old new : LivingSink) → IsKind made link call waiting
-    → ((n : ℕ) → lines (suc n) ≡ lines n ++ line (repeated n call life)) → (r : Repeats made its call waiting lines life received text told old)
-    → (is_none (slice_get (waiting (repeated r.count call life)) 0) ≡ false)
-    × Goes made its (repeated r.count call life) (call ∷ repeated r.count call life) (stayed made life (repeated r.count call life) received) (line (repeated r.count call life))
-    told next new
-    → Repeats made its call waiting lines life received text next new
-one_again made its link call waiting lines line life received text told next old new kind more r turn =
-    let there = some_is (slice_get (waiting (repeated r.count call life)) 0) turn.0 in
-    let goes : Goes made its life (call ∷ repeated r.count call life) received (lines r.count ++ line (repeated r.count call life)) text next new =
-    goes_then made its life (repeated r.count call life) (call ∷ repeated r.count call life) received (lines r.count) (line (repeated r.count call life)) text told next old new
-    (all_off made link call waiting kind r.count life) (kind.off (repeated r.count call life)) r.goes turn.1 in
+    (life : List Call) (received : List sinks.Call) (text told next : List ℕ) (old new : LivingSink) (waited : Bool) → IsKind made link call waiting
+    → ((n : ℕ) → lines (suc n) ≡ lines n ++ line (repeated n call life)) → is_joined link life ≡ true → Repeats made its call waiting lines life received text told old
+    → waited ≡ true → Each made its link call waiting line told next old new waited → Repeats made its call waiting lines life received text next new
+one_again made its link call waiting lines line life received text told next old new waited kind more on r is each =
+    let past : List Call = repeated r.count call life in
+    let taken : List sinks.Call = stayed made life past received in
+    let turn = one_taken (slice_get (waiting past) 0) (Goes made its past (call ∷ past) taken (line past) told) (Stays made its past taken told) next new waited is
+    (each past taken r.goes.0 (all_joined made link call waiting kind r.count life ∙ on)) in
+    let there = some_is (slice_get (waiting past) 0) turn.0 in
+    let goes : Goes made its life (call ∷ past) received (lines r.count ++ line past) text next new =
+    goes_then made its life past (call ∷ past) received (lines r.count) (line past) text told next old new (all_off made link call waiting kind r.count life) (kind.off past) r.goes turn.1 in
     record {
       count = suc r.count;
       within = one_more call waiting kind.each r.count life there.0 there.1;
       goes = (goes.0, goes.1 ∙ ap (λ (ls : Lines). text ++ concat ls) (sym (more r.count)));
     }
 
-pub all_done : {A : Type 0} (made : Made) (its : Option ℕ) (link : ℕ) (call : Call) (waiting : List Call → List A) (lines : ℕ → Lines) (life : List Call)
-    (received : List sinks.Call) (text told next : List ℕ) (old new : LivingSink) → IsKind made link call waiting → (r : Repeats made its call waiting lines life received text told old)
-    → (is_none (slice_get (waiting (repeated r.count call life)) 0) ≡ true)
-    × Stays made its (repeated r.count call life) (stayed made life (repeated r.count call life) received) told next new
+pub all_done : {A : Type 0} (made : Made) (its : Option ℕ) (link : ℕ) (call : Call) (waiting : List Call → List A) (lines : ℕ → Lines) (line : List Call → Lines)
+    (life : List Call) (received : List sinks.Call) (text told next : List ℕ) (old new : LivingSink) (waited : Bool) → IsKind made link call waiting → is_joined link life ≡ true
+    → Repeats made its call waiting lines life received text told old → waited ≡ false → Each made its link call waiting line told next old new waited
     → Goes made its life (repeated (length (waiting life)) call life) received (lines (length (waiting life))) text next new
-all_done made its link call waiting lines life received text told next old new kind r turn =
-    let all : r.count ≡ length (waiting life) =
-    no_more call waiting kind.each r.count life r.within (none_is (slice_get (waiting (repeated r.count call life)) 0) turn.0) in
+all_done made its link call waiting lines line life received text told next old new waited kind on r is each =
+    let past : List Call = repeated r.count call life in
+    let taken : List sinks.Call = stayed made life past received in
+    let turn = none_taken (slice_get (waiting past) 0) (Goes made its past (call ∷ past) taken (line past) told) (Stays made its past taken told) next new waited is
+    (each past taken r.goes.0 (all_joined made link call waiting kind r.count life ∙ on)) in
+    let all : r.count ≡ length (waiting life) = no_more call waiting kind.each r.count life r.within (none_is (slice_get (waiting past) 0) turn.0) in
     subst (λ n. Goes made its life (repeated n call life) received (lines n) text next new) all (turn.1.0, turn.1.1 ∙ r.goes.1)
 
 -- ---- a drain

@@ -1,5 +1,5 @@
 -- A write that is served puts no sink on a group, so that a row of them takes it off one at most once.
-use Rattle.std.proofs.Common.{ℕ, zero, suc, ◌≡◌, Bool, true, false, List, ◌∷◌, slice_get, Option, Some, None, Result, Ok, Err, unwrap_or, refl, ◌∙◌, ap}
+use Rattle.std.proofs.Common.{ℕ, ◌≡◌, Bool, true, false, List, ◌∷◌, slice_get, Option, Some, None, Result, Ok, Err, unwrap_or, refl, ◌∙◌, ap}
 use Rattle.std.specs.Prelude.{◌==◌, ◌&&◌, not, if◌then◌else◌, option_map}
 use Rattle.bass_operations.specs.declared.fault.OpFault.{OpFault}
 use Rattle.bass_operations.specs.declared.operation.Operation.{Operation}
@@ -16,7 +16,6 @@ use Rattle.delegator_states.specs.Writes.{cause_of, done_read, operated, slot_wi
 use Rattle.group_sink.specs.Calls as sinks
 use Rattle.link_histories.specs.Calls as links
 use Rattle.link_histories.specs.Calls.{Call, served, steps_of, writes_waiting}
-use Rattle.link_histories.specs.Drains.{repeated}
 use Rattle.scan_delegator.specs.Groups.{has_group}
 
 placed_place : (given : Option Place) (encryption : Option Bool) (streams : Option (List ℕ)) (sight : Sight)
@@ -70,10 +69,6 @@ off_by setup link (Some octets) earlier off =
 
 pub served_off : (setup : Setup) (link : ℕ) (calls : List Call) → StaysOff setup calls (served link ∷ calls)
 served_off setup link calls = off_by setup link (slice_get (writes_waiting link calls) 0) (steps_of calls)
-
-pub repeated_off : (setup : Setup) (link count : ℕ) (calls : List Call) → StaysOff setup calls (repeated count (served link) calls)
-repeated_off setup link zero calls off = off
-repeated_off setup link (suc count) calls off = served_off setup link (repeated count (served link) calls) (repeated_off setup link count calls off)
 
 -- ---- what the receivers take
 

@@ -1,5 +1,5 @@
 -- What waits first on a link: it is taken, or none waits.
-use Rattle.std.proofs.Common.{ℕ, ◌≡◌, Bool, true, false, List, ◌++◌, slice_get, Option, Some, None, Ok, refl, ap, ◌∙◌}
+use Rattle.std.proofs.Common.{ℕ, ◌≡◌, Bool, true, false, List, ◌++◌, slice_get, Option, Some, None, Result, Ok, refl, sym, ap, ◌∙◌, subst}
 use Rattle.std.specs.Prelude.{is_none, not, option_map}
 use Rattle.std.specs.List.{concat}
 use Rattle.std.specs.Option.{option_or}
@@ -7,18 +7,21 @@ use Rattle.delegator_states.specs.declared.notice.Notice.{Notice}
 use Rattle.delegator_states.specs.States.{Step, sight_of}
 use Rattle.delegator_states.specs.Values.{state_at, value}
 use Rattle.delegator_states.specs.Writes.{reply_of}
-use Rattle.link_histories.specs.Calls.{Call, steps_of, writes_waiting}
+use Rattle.group_sink.specs.Calls as sinks
+use Rattle.link_histories.specs.Calls.{Call, is_joined, steps_of, writes_waiting}
 use Rattle.link_histories.specs.Links.{delivered, language, notices_waiting, reads_waiting}
 use Rattle.notice_links.specs.Links.{reads_of, waiting_of}
 use Rattle.sink_histories.specs.Lives.{Made}
-use Rattle.sink_histories.specs.Output.{if_there, notified, replied, stated, was_read}
+use Rattle.sink_histories.specs.Output.{Lines, if_there, notified, replied, stated, was_read}
 use Rattle.sink_histories.specs.Refusals.{refuse_if}
 use Rattle.sink_steps.specs.declared.sink.LivingSink.{LivingSink}
-use Rattle.sink_steps.specs.Making.{Turns}
+use Rattle.sink_steps.specs.Making.{Goes, Makes, Stays, Turns, answer_if, stayed}
+use Rattle.sink_steps.specs.State.Living.{Lives}
 use Rattle.sink_steps.proofs.Air.{Same, waiting_same}
 use Rattle.sink_steps.proofs.Printing.{one_put}
 use Rattle.transcript_text.specs.declared.refusal.Refusal.{Refusal}
 use Rattle.transcript_text.specs.declared.refusal.Refusal.TheVariants.{NoSuchLink, NothingWaiting}
+use Rattle.transcript_text.specs.declared.stop.Stop.{Stop}
 
 -- ---- a call that answers what there was
 
@@ -71,3 +74,27 @@ link_refusal joined others = option_or (refuse_if (not joined) NoSuchLink) other
 
 pub no_link : (joined : Bool) (others : Option Refusal) → joined ≡ false → link_refusal joined others ≡ Some NoSuchLink
 no_link joined others is = ap (λ b. link_refusal b others) is
+
+-- ---- a line that takes the first that waits
+
+-- it prints what that gives, or it is refused since none waits
+pub turned : {A : Type 0} (made : Made) (its : Option ℕ) (before after : List Call) (received : List sinks.Call) (first : Option A) (lines : Lines) (text told : List ℕ) (new : LivingSink)
+    (waited : Bool) (result : Result (Unit {0}) Stop) → result ≡ answer_if waited
+    → Turns first (Goes made its before after received lines text) (Stays made its before received text) told new (Ok waited)
+    → Makes (idle_refusal (is_none first)) lines (λ living. Lives made its after (stayed made before after received) living) text told new result
+turned made its before after received first lines text told new true result is turn =
+    let next : LivingSink → Type 0 = λ living. Lives made its after (stayed made before after received) living in
+    subst (λ (r : Result (Unit {0}) Stop). Makes (idle_refusal (is_none first)) lines next text told new r) (sym is) (ap idle_refusal turn.0, turn.1.0, turn.1.1)
+turned made its before after received first lines text told new false result is turn =
+    let next : LivingSink → Type 0 = λ living. Lives made its after (stayed made before after received) living in
+    subst (λ (r : Result (Unit {0}) Stop). Makes (idle_refusal (is_none first)) lines next text told new r) (sym is) (ap idle_refusal turn.0, turn.1.1)
+
+-- the same on a link that is joined
+pub turned_on : {A : Type 0} (link : ℕ) (made : Made) (its : Option ℕ) (before after : List Call) (received : List sinks.Call) (first : Option A) (lines : Lines) (text told : List ℕ)
+    (new : LivingSink) (waited : Bool) (result : Result (Unit {0}) Stop) → is_joined link before ≡ true → result ≡ answer_if waited
+    → Turns first (Goes made its before after received lines text) (Stays made its before received text) told new (Ok waited)
+    → Makes (link_refusal (is_joined link before) (idle_refusal (is_none first))) lines (λ living. Lives made its after (stayed made before after received) living) text told new result
+turned_on link made its before after received first lines text told new waited result joined is turn =
+    let next : LivingSink → Type 0 = λ living. Lives made its after (stayed made before after received) living in
+    subst (λ (b : Bool). Makes (link_refusal b (idle_refusal (is_none first))) lines next text told new result) (sym joined)
+    (turned made its before after received first lines text told new waited result is turn)

@@ -14,6 +14,7 @@ use Rattle.sink_lines.specs.Lines.{value_line}
 use Rattle.sink_steps.specs.declared.sink.LivingSink.{LivingSink}
 use Rattle.sink_steps.specs.State.Living.{Lives}
 use Rattle.transcript_text.specs.declared.refusal.Refusal.{Refusal}
+use Rattle.transcript_text.specs.declared.refusal.Refusal.TheVariants.{NothingWaiting}
 use Rattle.transcript_text.specs.declared.stop.Stop.{Stop}
 use Rattle.transcript_text.specs.declared.stop.Stop.TheVariants.{Refused, OutletFault, Memory}
 
@@ -61,6 +62,11 @@ abbrev pub Turns : {A : Type 0} → Option A → (List ℕ → LivingSink → Ty
 Turns first next same told new (Ok true) = (is_none first ≡ false) × next told new
 Turns first next same told new (Ok false) = (is_none first ≡ true) × same told new
 Turns first next same told new (Err memory) = Unit {0}
+
+-- what a line answers that takes the first that waits: it is refused where none does
+abbrev pub answer_if : Bool → Result (Unit {0}) Stop
+answer_if true = Ok tt
+answer_if false = Err (Refused NothingWaiting)
 
 -- the sink and the text are as before
 abbrev pub Stays : Made → Option ℕ → List Call → List sinks.Call → List ℕ → List ℕ → LivingSink → Type 0

@@ -1,4 +1,5 @@
--- The lines of a sink's control and of its links, but for `announce`, which brings what its source announces.
+-- The lines of a sink's control and of its links, but for `announce`, which brings what its source announces. They are the
+-- scenario language's own.
 use Rattle.scenario_text.specs.declared.step.Step.{Step}
 use Rattle.scenario_text.specs.declared.step.Step.TheVariants.{Pac, Locate, Context, Train, Write, Add, Modify, Remove, Code, Serve, Tell, Read, Drain, Show, Lose, Control, Forge}
 use Rattle.scenario_text.specs.declared.step.Step.TheVariants.{Assist, Apart, AWrite, AServe, ATell, ARead, ADrain, AShow}

@@ -1,7 +1,7 @@
 //! Who is on the links of a sink.
-ghost use Rattle.std.specs.Prelude.{ℕ, ◌≤◌, List, Option};
+ghost use Rattle.std.specs.Prelude.{ℕ, ◌≡◌, ◌≤◌, List, Option};
 ghost use Rattle.group_sink.specs.Calls as sinks;
-ghost use Rattle.link_histories.specs.Calls.{Call};
+ghost use Rattle.link_histories.specs.Calls.{Call, is_joined};
 ghost use Rattle.scenario_text.specs.declared.step.Step.TheVariants.{Apart, Assist};
 ghost use Rattle.sink_histories.specs.Lives.{Made, Source};
 ghost use Rattle.sink_steps.specs.Making.{Does};
@@ -12,6 +12,14 @@ use multi_assist::LinkFault;
 use transcript_text::{Refusal, Stop};
 
 impl LivingSink {
+    /// Whether an assistant is on a link. It changes nothing.
+    pub(crate) fn is_joined(&mut self, link: u8) -> bool
+        ensures { (made : Made) (its : Option ℕ) (life : List Call) (received : List sinks.Call) → Lives made its life received self.old
+            → (result ≡ is_joined link life) × Lives made its life received self.new }
+    {
+        self.sink.is_joined(link)
+    }
+
     /// `assist`: an assistant joins a link.
     pub(crate) fn assist(&mut self, link: u8) -> Result<(), Stop>
         requires { link ≤ 3 }
@@ -32,7 +40,7 @@ impl LivingSink {
         ensures { (source : Source) (sink : ℕ) (made : Made) (its : Option ℕ) (life : List Call) (received : List sinks.Call) → Lives made its life received self.old
             → Does source (Apart sink link) made its life received self.new result }
     {
-        if !self.sink.is_joined(link) {
+        if !self.is_joined(link) {
             return Err(Stop::Refused(Refusal::NoSuchLink));
         }
         self.sink.part(link);

@@ -8,7 +8,7 @@ ghost use Rattle.scenario_text.specs.declared.step.Step.TheVariants.{AServe, ATe
 ghost use Rattle.sink_histories.specs.Lives.{Made, Source};
 ghost use Rattle.sink_histories.specs.Output.{read_line, serve_line, tell_line};
 ghost use Rattle.sink_lines.specs.Labels.{label_of};
-ghost use Rattle.sink_steps.specs.Making.{Goes, Prints, Stays, Turns};
+ghost use Rattle.sink_steps.specs.Making.{Goes, Prints, Stays, Turns, answer_if};
 ghost use Rattle.sink_steps.specs.State.Living.{Lives};
 
 use crate::sink::LivingSink;
@@ -80,10 +80,7 @@ impl LivingSink {
             → Prints source (Serve sink) made its life received text.old text.new self.new result }
     {
         let waited = self.serve_next(0, Label::Plain { sink }, text)?;
-        if !waited {
-            return Err(Stop::Refused(Refusal::NothingWaiting));
-        }
-        Ok(())
+        refuse_unless(waited)
     }
 
     /// `tell`: delivers the first notice that waits on link 0.
@@ -92,10 +89,7 @@ impl LivingSink {
             → Prints source (Tell sink) made its life received text.old text.new self.new result }
     {
         let waited = self.tell_next(0, Label::Plain { sink }, text)?;
-        if !waited {
-            return Err(Stop::Refused(Refusal::NothingWaiting));
-        }
-        Ok(())
+        refuse_unless(waited)
     }
 
     /// `read`: serves the read that waits on link 0 of the lowest slot.
@@ -104,10 +98,7 @@ impl LivingSink {
             → Prints source (Read sink) made its life received text.old text.new self.new result }
     {
         let waited = self.read_next(0, Label::Plain { sink }, text)?;
-        if !waited {
-            return Err(Stop::Refused(Refusal::NothingWaiting));
-        }
-        Ok(())
+        refuse_unless(waited)
     }
 
     /// `aserve`: as `serve`, on a link.
@@ -115,14 +106,11 @@ impl LivingSink {
         ensures { (source : Source) (made : Made) (its : Option ℕ) (life : List Call) (received : List sinks.Call) → Lives made its life received self.old
             → Prints source (AServe sink link) made its life received text.old text.new self.new result }
     {
-        if !self.sink.is_joined(link) {
+        if !self.is_joined(link) {
             return Err(Stop::Refused(Refusal::NoSuchLink));
         }
         let waited = self.serve_next(link, Label::OnLink { sink, link }, text)?;
-        if !waited {
-            return Err(Stop::Refused(Refusal::NothingWaiting));
-        }
-        Ok(())
+        refuse_unless(waited)
     }
 
     /// `atell`: as `tell`, on a link.
@@ -130,14 +118,11 @@ impl LivingSink {
         ensures { (source : Source) (made : Made) (its : Option ℕ) (life : List Call) (received : List sinks.Call) → Lives made its life received self.old
             → Prints source (ATell sink link) made its life received text.old text.new self.new result }
     {
-        if !self.sink.is_joined(link) {
+        if !self.is_joined(link) {
             return Err(Stop::Refused(Refusal::NoSuchLink));
         }
         let waited = self.tell_next(link, Label::OnLink { sink, link }, text)?;
-        if !waited {
-            return Err(Stop::Refused(Refusal::NothingWaiting));
-        }
-        Ok(())
+        refuse_unless(waited)
     }
 
     /// `aread`: as `read`, on a link.
@@ -145,13 +130,20 @@ impl LivingSink {
         ensures { (source : Source) (made : Made) (its : Option ℕ) (life : List Call) (received : List sinks.Call) → Lives made its life received self.old
             → Prints source (ARead sink link) made its life received text.old text.new self.new result }
     {
-        if !self.sink.is_joined(link) {
+        if !self.is_joined(link) {
             return Err(Stop::Refused(Refusal::NoSuchLink));
         }
         let waited = self.read_next(link, Label::OnLink { sink, link }, text)?;
-        if !waited {
-            return Err(Stop::Refused(Refusal::NothingWaiting));
-        }
-        Ok(())
+        refuse_unless(waited)
     }
+}
+
+/// What a line answers that takes the first that waits.
+fn refuse_unless(waited: bool) -> Result<(), Stop>
+    ensures { result ≡ answer_if waited }
+{
+    if !waited {
+        return Err(Stop::Refused(Refusal::NothingWaiting));
+    }
+    Ok(())
 }

@@ -80,7 +80,7 @@ impl LivingSink {
         ensures { (source : Source) (made : Made) (its : Option ℕ) (life : List Call) (received : List sinks.Call) → Lives made its life received self.old
             → Prints source (AShow sink link) made its life received text.old text.new self.new result }
     {
-        if !self.sink.is_joined(link) {
+        if !self.is_joined(link) {
             return Err(Stop::Refused(Refusal::NoSuchLink));
         }
         self.show_views(sink, link, text)?;

@@ -84,7 +84,7 @@ impl LivingSink {
         ensures { (source : Source) (sink : ℕ) (made : Made) (its : Option ℕ) (life : List Call) (received : List sinks.Call) → Lives made its life received self.old
             → Does source (steps.AWrite sink link octets.now) made its life received self.new result }
     {
-        if !self.sink.is_joined(link) {
+        if !self.is_joined(link) {
             return Err(Stop::Refused(Refusal::NoSuchLink));
         }
         self.put_write(link, octets)?;

@@ -11,7 +11,7 @@ pub const WHOLE_LIFE: Row = Row {
     exit_code: 0,
 };
 
-pub const SINK_ROWS: [Row; 30] = [
+pub const SINK_ROWS: [Row; 31] = [
     Row {
         name: "add-source",
         boxes: 2,
@@ -214,6 +214,13 @@ pub const SINK_ROWS: [Row; 30] = [
         boxes: 2,
         text: "scenario 2\nsink 0 1 1\nassist 0 1\nwrite 0 02006655443322110356341202ffff01ffffffff00\nserve 0\napart 0 1\nassist 0 1\nashow 0 1\nadrain 0 1\nashow 0 1\naserve 0 1\n",
         transcript: "reply 0 ok\naview 0 1 0 -\naread 0 1 0 0000665544332211035634120000010000000000\naview 0 1 0 0000665544332211035634120000010000000000\nline 11: NothingWaiting\n",
+        exit_code: 1,
+    },
+    Row {
+        name: "each-line-of-a-link",
+        boxes: 2,
+        text: "scenario 2\nsink 0 1 1 23\ncontext 0 0400 0400\nassist 0 1\nwrite 0 02006655443322110356341202ffff01ffffffff00\nserve 0\ntell 0\nread 0\natell 0 1\naread 0 1\nshow 0\nashow 0 1\nassist 0 1\n",
+        transcript: "reply 0 ok\nnotice 0 0 0000665544332211035634120000010000000000\nread 0 0 0000665544332211035634120000010000000000\nanotice 0 1 0 0000665544332211035634120000010000000000\naread 0 1 0 0000665544332211035634120000010000000000\nstate 0 0 0000665544332211035634120000010000000000\nview 0 0 0000665544332211035634120000010000000000\naview 0 1 0 0000665544332211035634120000010000000000\nline 13: LinkTwice\n",
         exit_code: 1,
     },
 ];

@@ -6,13 +6,14 @@ use Rattle.sink_steps.proofs.sink.LivingSink.apart.Goals as goal
 
 pub returns-then-not-is_joined : goal.returns-then-not-is_joined
 returns-then-not-is_joined c source sink made its life received lives =
-    ap (λ b. link_refusal b None)
-    (sym (its_joined c.args.link made its life received c.args.self.now lives) ∙ sym (c.is_joined.ensures.answer made.setup made.mtu lives.all lives.stands) ∙ c.if-not-is_joined.true)
+    ap (λ b. link_refusal b None) (sym (c.is_joined.ensures made its life received lives).0 ∙ c.if-not-is_joined.true)
 
 pub returns : goal.returns
 returns c source sink made its life received lives =
-    let there = sym (c.is_joined.ensures.answer made.setup made.mtu lives.all lives.stands) ∙ c.if-not-is_joined.false in
-    let stands = c.is_joined.ensures.stands made.setup made.mtu lives.all lives.stands in (
-      ap (λ b. link_refusal b None) (sym (its_joined c.args.link made its life received c.args.self.now lives) ∙ there),
-      lives_more made its its (parted c.args.link) life received c.args.self.now _ tt lives (c.part.ensures.stands made.setup made.mtu lives.all stands there) lives.source_is,
+    let there = c.is_joined.ensures made its life received lives in
+    let joined = sym there.0 ∙ c.if-not-is_joined.false in
+    let here = there.1 in (
+      ap (λ b. link_refusal b None) joined,
+      lives_more made its its (parted c.args.link) life received c.is_joined.new.self _ tt here
+          (c.part.ensures.stands made.setup made.mtu here.all here.stands (its_joined c.args.link made its life received c.is_joined.new.self here ∙ joined)) here.source_is,
     )

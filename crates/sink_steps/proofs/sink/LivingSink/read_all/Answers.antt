@@ -1,12 +1,9 @@
-use Rattle.std.proofs.Common.{◌∷◌, slice_get, refl, ◌∙◌}
+use Rattle.std.proofs.Common.{refl}
 use Rattle.link_histories.specs.Calls as calls
-use Rattle.link_histories.specs.Drains.{repeated}
 use Rattle.link_histories.specs.Links.{reads_waiting}
 use Rattle.sink_histories.specs.Output.{read_line, read_lines}
 use Rattle.sink_lines.specs.Labels.{label_of}
-use Rattle.sink_steps.specs.Making.{Goes, Stays, stayed}
-use Rattle.sink_steps.proofs.Draining.{all_done, all_joined, none_yet, one_again, reading}
-use Rattle.sink_steps.proofs.Turning.{none_taken, one_taken}
+use Rattle.sink_steps.proofs.Draining.{all_done, none_yet, one_again, reading}
 use Rattle.sink_steps.proofs.sink.LivingSink.read_all.Goals as goal
 
 pub reads-init : goal.reads-init
@@ -16,29 +13,12 @@ reads-init c made its life received lives on =
 
 pub reads-preserved : goal.reads-preserved
 reads-preserved c made its life received lives on =
-    let r = c.reads.invariant made its life received lives on in
     one_again made its c.args.link (calls.read c.args.link) (reads_waiting made.setup made.mtu c.args.link) (λ n. read_lines (label_of c.args.label) made c.args.link n life)
-    (read_line (label_of c.args.label) made c.args.link) life received
-    c.args.text.now c.reads.text c.read_next.new.text c.reads.self c.read_next.new.self (reading made c.args.link) (λ n. refl) r
-    (one_taken (slice_get (reads_waiting made.setup made.mtu c.args.link (repeated r.count (calls.read c.args.link) life)) 0)
-    (Goes made its (repeated r.count (calls.read c.args.link) life) (calls.read c.args.link ∷ repeated r.count (calls.read c.args.link) life)
-    (stayed made life (repeated r.count (calls.read c.args.link) life) received)
-    (read_line (label_of c.args.label) made c.args.link (repeated r.count (calls.read c.args.link) life)) c.reads.text)
-    (Stays made its (repeated r.count (calls.read c.args.link) life) (stayed made life (repeated r.count (calls.read c.args.link) life) received) c.reads.text)
-    c.read_next.new.text c.read_next.new.self c.in_ok-waited.waited c.if-not-waited.false
-    (c.in_ok-waited.ensures made its (repeated r.count (calls.read c.args.link) life) (stayed made life (repeated r.count (calls.read c.args.link) life) received) r.goes.0
-    (all_joined made c.args.link (calls.read c.args.link) (reads_waiting made.setup made.mtu c.args.link) (reading made c.args.link) r.count life ∙ on)))
+    (read_line (label_of c.args.label) made c.args.link) life received c.args.text.now c.reads.text c.read_next.new.text c.reads.self c.read_next.new.self
+    c.in_ok-waited.waited (reading made c.args.link) (λ n. refl) on (c.reads.invariant made its life received lives on) c.if-not-waited.false (c.in_ok-waited.ensures made its)
 
 pub returns-then-not-waited : goal.returns-then-not-waited
 returns-then-not-waited c made its life received lives on =
-    let r = c.reads.invariant made its life received lives on in
-    all_done made its c.args.link (calls.read c.args.link) (reads_waiting made.setup made.mtu c.args.link) (λ n. read_lines (label_of c.args.label) made c.args.link n life) life received
-    c.args.text.now c.reads.text c.read_next.new.text c.reads.self c.read_next.new.self (reading made c.args.link) r
-    (none_taken (slice_get (reads_waiting made.setup made.mtu c.args.link (repeated r.count (calls.read c.args.link) life)) 0)
-    (Goes made its (repeated r.count (calls.read c.args.link) life) (calls.read c.args.link ∷ repeated r.count (calls.read c.args.link) life)
-    (stayed made life (repeated r.count (calls.read c.args.link) life) received)
-    (read_line (label_of c.args.label) made c.args.link (repeated r.count (calls.read c.args.link) life)) c.reads.text)
-    (Stays made its (repeated r.count (calls.read c.args.link) life) (stayed made life (repeated r.count (calls.read c.args.link) life) received) c.reads.text)
-    c.read_next.new.text c.read_next.new.self c.in_ok-waited.waited c.if-not-waited.true
-    (c.in_ok-waited.ensures made its (repeated r.count (calls.read c.args.link) life) (stayed made life (repeated r.count (calls.read c.args.link) life) received) r.goes.0
-    (all_joined made c.args.link (calls.read c.args.link) (reads_waiting made.setup made.mtu c.args.link) (reading made c.args.link) r.count life ∙ on)))
+    all_done made its c.args.link (calls.read c.args.link) (reads_waiting made.setup made.mtu c.args.link) (λ n. read_lines (label_of c.args.label) made c.args.link n life)
+    (read_line (label_of c.args.label) made c.args.link) life received c.args.text.now c.reads.text c.read_next.new.text c.reads.self c.read_next.new.self
+    c.in_ok-waited.waited (reading made c.args.link) on (c.reads.invariant made its life received lives on) c.if-not-waited.true (c.in_ok-waited.ensures made its)

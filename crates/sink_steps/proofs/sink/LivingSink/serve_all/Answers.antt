@@ -1,12 +1,9 @@
-use Rattle.std.proofs.Common.{◌∷◌, slice_get, refl, ◌∙◌}
+use Rattle.std.proofs.Common.{refl}
 use Rattle.link_histories.specs.Calls as calls
 use Rattle.link_histories.specs.Calls.{writes_waiting}
-use Rattle.link_histories.specs.Drains.{repeated}
 use Rattle.sink_histories.specs.Output.{serve_line, serve_lines}
 use Rattle.sink_lines.specs.Labels.{label_of}
-use Rattle.sink_steps.specs.Making.{Goes, Stays, stayed}
-use Rattle.sink_steps.proofs.Draining.{all_done, all_joined, none_yet, one_again, serving}
-use Rattle.sink_steps.proofs.Turning.{none_taken, one_taken}
+use Rattle.sink_steps.proofs.Draining.{all_done, none_yet, one_again, serving}
 use Rattle.sink_steps.proofs.sink.LivingSink.serve_all.Goals as goal
 
 pub writes-init : goal.writes-init
@@ -16,29 +13,12 @@ writes-init c made its life received lives on =
 
 pub writes-preserved : goal.writes-preserved
 writes-preserved c made its life received lives on =
-    let r = c.writes.invariant made its life received lives on in
     one_again made its c.args.link (calls.served c.args.link) (writes_waiting c.args.link) (λ n. serve_lines (label_of c.args.label) made c.args.link n life)
-    (serve_line (label_of c.args.label) made c.args.link) life received
-    c.args.text.now c.writes.text c.serve_next.new.text c.writes.self c.serve_next.new.self (serving made c.args.link) (λ n. refl) r
-    (one_taken (slice_get (writes_waiting c.args.link (repeated r.count (calls.served c.args.link) life)) 0)
-    (Goes made its (repeated r.count (calls.served c.args.link) life) (calls.served c.args.link ∷ repeated r.count (calls.served c.args.link) life)
-    (stayed made life (repeated r.count (calls.served c.args.link) life) received)
-    (serve_line (label_of c.args.label) made c.args.link (repeated r.count (calls.served c.args.link) life)) c.writes.text)
-    (Stays made its (repeated r.count (calls.served c.args.link) life) (stayed made life (repeated r.count (calls.served c.args.link) life) received) c.writes.text)
-    c.serve_next.new.text c.serve_next.new.self c.in_ok-waited.waited c.if-not-waited.false
-    (c.in_ok-waited.ensures made its (repeated r.count (calls.served c.args.link) life) (stayed made life (repeated r.count (calls.served c.args.link) life) received) r.goes.0
-    (all_joined made c.args.link (calls.served c.args.link) (writes_waiting c.args.link) (serving made c.args.link) r.count life ∙ on)))
+    (serve_line (label_of c.args.label) made c.args.link) life received c.args.text.now c.writes.text c.serve_next.new.text c.writes.self c.serve_next.new.self
+    c.in_ok-waited.waited (serving made c.args.link) (λ n. refl) on (c.writes.invariant made its life received lives on) c.if-not-waited.false (c.in_ok-waited.ensures made its)
 
 pub returns-then-not-waited : goal.returns-then-not-waited
 returns-then-not-waited c made its life received lives on =
-    let r = c.writes.invariant made its life received lives on in
-    all_done made its c.args.link (calls.served c.args.link) (writes_waiting c.args.link) (λ n. serve_lines (label_of c.args.label) made c.args.link n life) life received
-    c.args.text.now c.writes.text c.serve_next.new.text c.writes.self c.serve_next.new.self (serving made c.args.link) r
-    (none_taken (slice_get (writes_waiting c.args.link (repeated r.count (calls.served c.args.link) life)) 0)
-    (Goes made its (repeated r.count (calls.served c.args.link) life) (calls.served c.args.link ∷ repeated r.count (calls.served c.args.link) life)
-    (stayed made life (repeated r.count (calls.served c.args.link) life) received)
-    (serve_line (label_of c.args.label) made c.args.link (repeated r.count (calls.served c.args.link) life)) c.writes.text)
-    (Stays made its (repeated r.count (calls.served c.args.link) life) (stayed made life (repeated r.count (calls.served c.args.link) life) received) c.writes.text)
-    c.serve_next.new.text c.serve_next.new.self c.in_ok-waited.waited c.if-not-waited.true
-    (c.in_ok-waited.ensures made its (repeated r.count (calls.served c.args.link) life) (stayed made life (repeated r.count (calls.served c.args.link) life) received) r.goes.0
-    (all_joined made c.args.link (calls.served c.args.link) (writes_waiting c.args.link) (serving made c.args.link) r.count life ∙ on)))
+    all_done made its c.args.link (calls.served c.args.link) (writes_waiting c.args.link) (λ n. serve_lines (label_of c.args.label) made c.args.link n life)
+    (serve_line (label_of c.args.label) made c.args.link) life received c.args.text.now c.writes.text c.serve_next.new.text c.writes.self c.serve_next.new.self
+    c.in_ok-waited.waited (serving made c.args.link) on (c.writes.invariant made its life received lives on) c.if-not-waited.true (c.in_ok-waited.ensures made its)

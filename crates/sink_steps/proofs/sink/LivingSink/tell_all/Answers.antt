@@ -1,12 +1,9 @@
-use Rattle.std.proofs.Common.{◌∷◌, slice_get, refl, ◌∙◌}
+use Rattle.std.proofs.Common.{refl}
 use Rattle.link_histories.specs.Calls as calls
-use Rattle.link_histories.specs.Drains.{repeated}
 use Rattle.link_histories.specs.Links.{notices_waiting}
 use Rattle.sink_histories.specs.Output.{tell_line, tell_lines}
 use Rattle.sink_lines.specs.Labels.{label_of}
-use Rattle.sink_steps.specs.Making.{Goes, Stays, stayed}
-use Rattle.sink_steps.proofs.Draining.{all_done, all_joined, none_yet, one_again, telling}
-use Rattle.sink_steps.proofs.Turning.{none_taken, one_taken}
+use Rattle.sink_steps.proofs.Draining.{all_done, none_yet, one_again, telling}
 use Rattle.sink_steps.proofs.sink.LivingSink.tell_all.Goals as goal
 
 pub notices-init : goal.notices-init
@@ -16,29 +13,12 @@ notices-init c made its life received lives on =
 
 pub notices-preserved : goal.notices-preserved
 notices-preserved c made its life received lives on =
-    let r = c.notices.invariant made its life received lives on in
     one_again made its c.args.link (calls.told c.args.link) (notices_waiting made.setup made.mtu c.args.link) (λ n. tell_lines (label_of c.args.label) made c.args.link n life)
-    (tell_line (label_of c.args.label) made c.args.link) life received
-    c.args.text.now c.notices.text c.tell_next.new.text c.notices.self c.tell_next.new.self (telling made c.args.link) (λ n. refl) r
-    (one_taken (slice_get (notices_waiting made.setup made.mtu c.args.link (repeated r.count (calls.told c.args.link) life)) 0)
-    (Goes made its (repeated r.count (calls.told c.args.link) life) (calls.told c.args.link ∷ repeated r.count (calls.told c.args.link) life)
-    (stayed made life (repeated r.count (calls.told c.args.link) life) received)
-    (tell_line (label_of c.args.label) made c.args.link (repeated r.count (calls.told c.args.link) life)) c.notices.text)
-    (Stays made its (repeated r.count (calls.told c.args.link) life) (stayed made life (repeated r.count (calls.told c.args.link) life) received) c.notices.text)
-    c.tell_next.new.text c.tell_next.new.self c.in_ok-waited.waited c.if-not-waited.false
-    (c.in_ok-waited.ensures made its (repeated r.count (calls.told c.args.link) life) (stayed made life (repeated r.count (calls.told c.args.link) life) received) r.goes.0
-    (all_joined made c.args.link (calls.told c.args.link) (notices_waiting made.setup made.mtu c.args.link) (telling made c.args.link) r.count life ∙ on)))
+    (tell_line (label_of c.args.label) made c.args.link) life received c.args.text.now c.notices.text c.tell_next.new.text c.notices.self c.tell_next.new.self
+    c.in_ok-waited.waited (telling made c.args.link) (λ n. refl) on (c.notices.invariant made its life received lives on) c.if-not-waited.false (c.in_ok-waited.ensures made its)
 
 pub returns-then-not-waited : goal.returns-then-not-waited
 returns-then-not-waited c made its life received lives on =
-    let r = c.notices.invariant made its life received lives on in
-    all_done made its c.args.link (calls.told c.args.link) (notices_waiting made.setup made.mtu c.args.link) (λ n. tell_lines (label_of c.args.label) made c.args.link n life) life received
-    c.args.text.now c.notices.text c.tell_next.new.text c.notices.self c.tell_next.new.self (telling made c.args.link) r
-    (none_taken (slice_get (notices_waiting made.setup made.mtu c.args.link (repeated r.count (calls.told c.args.link) life)) 0)
-    (Goes made its (repeated r.count (calls.told c.args.link) life) (calls.told c.args.link ∷ repeated r.count (calls.told c.args.link) life)
-    (stayed made life (repeated r.count (calls.told c.args.link) life) received)
-    (tell_line (label_of c.args.label) made c.args.link (repeated r.count (calls.told c.args.link) life)) c.notices.text)
-    (Stays made its (repeated r.count (calls.told c.args.link) life) (stayed made life (repeated r.count (calls.told c.args.link) life) received) c.notices.text)
-    c.tell_next.new.text c.tell_next.new.self c.in_ok-waited.waited c.if-not-waited.true
-    (c.in_ok-waited.ensures made its (repeated r.count (calls.told c.args.link) life) (stayed made life (repeated r.count (calls.told c.args.link) life) received) r.goes.0
-    (all_joined made c.args.link (calls.told c.args.link) (notices_waiting made.setup made.mtu c.args.link) (telling made c.args.link) r.count life ∙ on)))
+    all_done made its c.args.link (calls.told c.args.link) (notices_waiting made.setup made.mtu c.args.link) (λ n. tell_lines (label_of c.args.label) made c.args.link n life)
+    (tell_line (label_of c.args.label) made c.args.link) life received c.args.text.now c.notices.text c.tell_next.new.text c.notices.self c.tell_next.new.self
+    c.in_ok-waited.waited (telling made c.args.link) on (c.notices.invariant made its life received lives on) c.if-not-waited.true (c.in_ok-waited.ensures made its)

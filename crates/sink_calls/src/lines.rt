@@ -1,15 +1,15 @@
-//! What no clause says of the lines: how they look, by worked rows.
+//! How the lines of sinks and of their links look, by worked rows.
 
-use crate::{
-    Label, put_control_heard, put_forged, put_idle, put_link_view, put_notice, put_read, put_reply,
-    put_state, put_train, put_train_heard, put_view,
-};
 use announcement_train::Train;
 use assistant_machine::{NoticeFault, NoticeTaken};
 use bcast_base::{Bis, BisSet, Octets};
 use big_info::GroupFault;
 use delegator_states::{Cause, ControlHeard, Notice, Reply, TrainHeard};
 use receive_state::StateFault;
+use sink_lines::{
+    Label, put_control_heard, put_forged, put_idle, put_link_view, put_notice, put_read, put_reply,
+    put_state, put_train, put_train_heard, put_view,
+};
 use std::test::Fail;
 
 #[test]
