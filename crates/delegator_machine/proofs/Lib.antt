@@ -1,4 +1,5 @@
 mod Alone
+mod Bits
 mod Places
 mod Standing
 mod Trains

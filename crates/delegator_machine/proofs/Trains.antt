@@ -14,9 +14,9 @@ use Rattle.group_sink.specs.Calls as sinks
 use Rattle.group_sink.specs.Calls.{Tuning}
 use Rattle.group_sink.specs.State.Sinks.{OnGroup, StandsFor as SinkStands}
 use Rattle.group_sink.specs.State.Steps.{fresh_on}
-use Rattle.scan_delegator.specs.declared.brought.Joining.{Joining}
+use Rattle.delegator_choices.specs.declared.brought.Joining.{Joining}
+use Rattle.delegator_choices.specs.State.Brings.{joining_by, joining_in}
 use Rattle.scan_delegator.specs.Groups.{has_group}
-use Rattle.scan_delegator.specs.State.Brings.{joining_by, joining_in}
 use Rattle.scan_delegator.specs.State.Machines.{Machine, moved, StandsFor as ScanStands}
 use Rattle.delegator_machine.specs.Calls.{Call, control, steps_of}
 use Rattle.delegator_machine.specs.Groups.{group_calls, joining_brought, tuning_of}

@@ -38,11 +38,14 @@ pub struct Delegator {
 
 impl Model for Delegator {
     ghost use Rattle.scan_delegator.specs.State.Machines.{machine};
+    ghost use Rattle.delegator_machine.specs.Bits.{BitsStand};
     ghost use Rattle.delegator_machine.specs.State.Halves.{Halves};
 
     ghost Value = { Halves };
 
     ghost view = { λ a. record { scan = machine a.scan; sink = a.sink } };
+
+    ghost invariant = { λ a. BitsStand (machine a.scan).sight };
 }
 
 impl Delegator {

@@ -1,5 +1,5 @@
 //! A Scan Delegator: its control half, which says what it is on, and the receivers of the group that it is on.
-#![tactic(auto)]
+#![tactic(auto, using(crate::proofs::Bits::bits_stand))]
 
 mod delegator;
 mod laws;

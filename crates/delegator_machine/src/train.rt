@@ -13,9 +13,9 @@ ghost use Rattle.delegator_machine.specs.State.Joined.{made_for};
 use crate::delegator::Delegator;
 use crate::numbers::by_numbers;
 use bcast_base::Memory;
+use delegator_choices::Joining;
 use delegator_states::TrainHeard;
 use group_sink::{GroupReceivers, GroupSink};
-use scan_delegator::Joining;
 
 impl Delegator {
     /// Hears a train, at this time in µs: the data of its extended advertising, of its periodic advertising, and its additional

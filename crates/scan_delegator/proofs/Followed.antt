@@ -22,9 +22,9 @@ use Rattle.delegator_states.specs.Trains.{are_none, by_base, by_big_info, by_bro
 use Rattle.delegator_states.specs.Values.{Status, received, status_of, value, value_at}
 use Rattle.delegator_states.specs.Writes.{slot_where}
 use Rattle.delegator_states.proofs.Citable.{one_changes}
+use Rattle.delegator_choices.proofs.Citable.{found}
 use Rattle.scan_delegator.specs.State.Machines.{Machine, moved}
 use Rattle.scan_delegator.proofs.Changes.{elsewhere}
-use Rattle.scan_delegator.proofs.Slots.{found}
 
 -- ---- the slot of what a train brings
 

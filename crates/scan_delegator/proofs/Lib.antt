@@ -1,10 +1,7 @@
-pub mod Candidates
 pub mod Changes
 pub mod Followed
 pub mod Serving
-pub mod Slots
 pub mod Spelled
 pub mod Standing
 pub mod Streams
-pub mod Taken
 pub mod Written

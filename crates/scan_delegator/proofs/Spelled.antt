@@ -10,7 +10,7 @@ use Rattle.receive_state.specs.Layout.{HasSpelling, group_of, number_of}
 use Rattle.delegator_states.specs.Sights.{Entry, Place, idle, on_train, on_group, is_on, is_on_group}
 use Rattle.delegator_states.specs.Values.{Status, encryption_of, groups_from, received, status_of}
 use Rattle.delegator_states.specs.Writes.{is_synced}
-use Rattle.scan_delegator.specs.State.Slots.{AreSets, EntryFits}
+use Rattle.delegator_choices.specs.State.Slots.{AreSets, EntryFits}
 
 length-groups : (place : ℕ) (bits : List ℕ) (wishes : List Wish) → length (groups_from place bits wishes) ≡ length wishes
 length-groups place bits [] = refl

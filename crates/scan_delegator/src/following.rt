@@ -5,16 +5,16 @@ ghost use Rattle.delegator_states.specs.Sights.{entry_at};
 ghost use Rattle.delegator_states.specs.Steps.{encrypted_on, followed, joined};
 ghost use Rattle.delegator_states.specs.Trains.{is_elsewhere};
 ghost use Rattle.delegator_states.specs.Values.{received, value, value_at};
+ghost use Rattle.delegator_choices.specs.State.Slots.{AreSets};
 ghost use Rattle.scan_delegator.specs.State.Machines.{machine, moved};
 ghost use Rattle.scan_delegator.specs.State.Places.{encrypted_of, place_of};
-ghost use Rattle.scan_delegator.specs.State.Slots.{AreSets};
 ghost use Rattle.scan_delegator.specs.State.Statuses.{status_seen};
 
 use crate::place::{Place, join_group, join_train};
 use crate::scan_delegator::ScanDelegator;
-use crate::taken_bits::TakenBits;
 use crate::values::{Status, note, value_as};
 use bcast_base::Memory;
+use delegator_choices::TakenBits;
 
 impl ScanDelegator {
     /// Puts the sink on the train of the slot, which it may be on already. Whether a Broadcast_Code is required stays where

@@ -2,24 +2,15 @@
 //! that wait.
 #![tactic(auto)]
 
-mod brought;
-mod choosing;
 mod control;
 mod following;
-mod joining;
 mod operations;
 mod place;
-mod refusals;
 mod scan_delegator;
-mod search;
 mod settings;
-mod slot;
-mod taken_bits;
 mod train;
 mod trains;
 mod values;
 mod whereabouts;
 
-pub use brought::{Brought, Joining};
 pub use scan_delegator::ScanDelegator;
-pub use taken_bits::TakenBits;

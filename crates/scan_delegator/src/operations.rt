@@ -5,21 +5,19 @@ ghost use Rattle.delegator_states.specs.Sights.{Sight, entry_at};
 ghost use Rattle.delegator_states.specs.Steps.{modified, place_given, same_streams};
 ghost use Rattle.delegator_states.specs.Values.{value_at};
 ghost use Rattle.delegator_states.specs.Writes.{cause_read, entry_of, reply_by, slot_with};
+ghost use Rattle.delegator_choices.specs.State.Slots.{EntryFits};
 ghost use Rattle.scan_delegator.specs.Serving.{Serves};
 ghost use Rattle.scan_delegator.specs.State.Machines.{machine};
 ghost use Rattle.scan_delegator.specs.State.Places.{place_by, place_of, standing};
 ghost use Rattle.scan_delegator.specs.State.Puts.{OpFits, Puts};
-ghost use Rattle.scan_delegator.specs.State.Slots.{EntryFits};
 ghost use Rattle.scan_delegator.specs.State.Written.{written_value};
 
 use crate::place::{Move, Place, make_move};
-use crate::refusals::refused;
 use crate::scan_delegator::ScanDelegator;
-use crate::search::{Sought, find_slot, unused_id};
-use crate::slot::Slot;
 use crate::values::{note, status_after, value_filled};
 use bass_operations::{AddSource, ModifySource, Operation, Wishes};
 use bcast_base::{Memory, Octets};
+use delegator_choices::{Slot, Sought, find_slot, refused, unused_id};
 use delegator_states::{Cause, Reply, Source};
 
 /// The most octets of a value: those of an attribute.

@@ -3,11 +3,11 @@ ghost use Rattle.std.specs.Prelude.{◌≡◌, [], None, Some, false, if◌then�
 ghost use Rattle.delegator_states.specs.Sights.{Sight, on_group, on_train, is_on, is_on_group, slot_of};
 ghost use Rattle.delegator_states.specs.Steps.{place_left, placed};
 ghost use Rattle.delegator_states.specs.Trains.{is_elsewhere};
+ghost use Rattle.delegator_choices.specs.State.Slots.{AreSets};
 ghost use Rattle.scan_delegator.specs.declared.place.Place.TheVariants as places;
 ghost use Rattle.scan_delegator.specs.State.Places.{place_by, place_of, encrypted_of, taken_of, standing};
-ghost use Rattle.scan_delegator.specs.State.Slots.{AreSets};
 
-use crate::taken_bits::TakenBits;
+use delegator_choices::TakenBits;
 use std::alloc::Global;
 use std::mem::replace;
 

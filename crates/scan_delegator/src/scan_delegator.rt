@@ -4,12 +4,11 @@ ghost use Rattle.scan_delegator.specs.State.Places.{IsWithin};
 
 use crate::control::{heard_control, leaves};
 use crate::place::{Move, Place, SinkIdle, join, make_move};
-use crate::refusals::{cause_of, refused};
-use crate::slot::Slot;
 use crate::values::{note, status_after, value_as};
 use bass_operations::decode_operation;
 use bcast_base::{Memory, Octets};
 use big_info::Limits;
+use delegator_choices::{Slot, cause_of, refused};
 use delegator_states::{ControlHeard, Notice, Reply};
 use pacs_records::{Capability, Records};
 use std::alloc::Global;

@@ -9,19 +9,17 @@ ghost use Rattle.delegator_states.specs.Steps.{wishes_at};
 ghost use Rattle.delegator_states.specs.Trains as trains;
 ghost use Rattle.delegator_states.specs.Trains.{answer_of, base_in, big_info_in, brought_by, by_base, by_big_info, by_endpoint, by_group, by_slot, by_streams, done_brought, first_candidates, heard};
 ghost use Rattle.delegator_states.specs.declared.train_heard.TrainHeard.TheVariants as answers;
-ghost use Rattle.scan_delegator.specs.State.Brings.{brought_of, train_of, IsBrought};
+ghost use Rattle.delegator_choices.specs.State.Brings.{brought_of};
+ghost use Rattle.scan_delegator.specs.State.Brings.{train_of, IsBrought};
 ghost use Rattle.scan_delegator.specs.State.Machines.{machine, moved, StandsFor};
 
-use crate::brought::Brought;
-use crate::choosing::{Chosen, choose};
-use crate::joining::joining_at;
 use crate::scan_delegator::ScanDelegator;
-use crate::search::{Sought, find_slot};
 use crate::train::{Train, base_octets, big_info_octets};
 use base_grammar::{Base, BaseFault, broadcast_id, decode_base};
 use bass_operations::Wishes;
 use bcast_base::{BisSet, Memory};
 use big_info::{BigInfo, Group, check_group_within, decode_big_info};
+use delegator_choices::{Brought, Chosen, Sought, choose, find_slot, joining_at};
 use delegator_states::TrainHeard;
 
 /// The octets of the BIGInfo of an encrypted group.

@@ -5,14 +5,14 @@ ghost use Rattle.delegator_states.specs.Notices.{change};
 ghost use Rattle.delegator_states.specs.Sights.{Sight};
 ghost use Rattle.delegator_states.specs.Steps.{placed};
 ghost use Rattle.delegator_states.specs.Values.{encryption_of, groups_from, received, value};
+ghost use Rattle.delegator_choices.specs.State.Slots.{AreSets, EntryFits};
 ghost use Rattle.scan_delegator.specs.State.Places.{place_by, place_of, standing};
-ghost use Rattle.scan_delegator.specs.State.Slots.{AreSets, EntryFits};
 ghost use Rattle.scan_delegator.specs.State.Statuses.{status_at, status_seen};
 
 use crate::place::{Move, Place};
-use crate::slot::Slot;
 use bass_operations::Wishes;
 use bcast_base::{Memory, Octets};
+use delegator_choices::Slot;
 use delegator_states::Notice;
 use receive_state::{Encryption, GroupState, GroupStates, ReceiveState, encode_state};
 use std::alloc::Global;

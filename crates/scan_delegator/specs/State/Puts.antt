@@ -8,7 +8,7 @@ use Rattle.delegator_states.specs.declared.notice.Notice.{Notice}
 use Rattle.delegator_states.specs.Notices.{change}
 use Rattle.delegator_states.specs.Sights.{Entry}
 use Rattle.delegator_states.specs.Writes.{entry_of}
-use Rattle.scan_delegator.specs.State.Slots.{EntryFits}
+use Rattle.delegator_choices.specs.State.Slots.{EntryFits}
 
 -- what it wants has a state with octets
 abbrev pub OpFits : Operation → Type 0

@@ -1,6 +1,6 @@
 use Rattle.std.proofs.Common.{◌+◌, ◌∷◌, ◌∙◌, ap, sym, drop}
 use Rattle.delegator_states.specs.Values.{groups_from}
-use Rattle.scan_delegator.proofs.Streams.{drop_get}
+use Rattle.delegator_choices.proofs.Citable.{drop_get}
 use Rattle.scan_delegator.proofs.values.group_at.Goals as goal
 
 pub returns : goal.returns

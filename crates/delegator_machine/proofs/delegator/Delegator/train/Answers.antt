@@ -1,6 +1,6 @@
 use Rattle.std.proofs.Common.{◌≡◌, ◌∙◌, option_map, sym, ap, subst}
 use Rattle.delegator_states.specs.Trains.{Train, brought_by, done_brought}
-use Rattle.scan_delegator.specs.State.Brings.{brought_of, joining_by}
+use Rattle.delegator_choices.specs.State.Brings.{brought_of, joining_by}
 use Rattle.scan_delegator.specs.State.Machines.{machine, moved}
 use Rattle.delegator_machine.specs.Calls.{steps_of}
 use Rattle.delegator_machine.specs.Groups.{joining_brought}

@@ -1,10 +1,9 @@
-use Rattle.std.proofs.Common.{◌+◌, ◌<◌, ◌/◌, ◌^◌, ◌∙◌, List, ℕ, ap, sym, subst}
+use Rattle.std.proofs.Common.{◌+◌, ◌/◌, ◌∙◌, List, ℕ, ap, sym}
 use Rattle.std.specs.Prelude.{◌==◌}
 use Rattle.big_info.specs.declared.info.BigInfo.{BigInfo}
 use Rattle.delegator_states.specs.Trains.{first_candidates, offset_of, taken}
 use Rattle.delegator_states.proofs.Citable.{none_set}
 use Rattle.scan_delegator.specs.State.Brings.{train_of}
-use Rattle.scan_delegator.proofs.Candidates.{set_within}
 use Rattle.scan_delegator.proofs.Followed.{by_none, by_some}
 use Rattle.scan_delegator.proofs.scan_delegator.ScanDelegator.bring_group.Goals as goal
 
@@ -14,12 +13,6 @@ returns-then-eq c =
     c.heard_so.ensures
     ∙ sym (by_none c.args.slot (train_of c.args.train.now) c.args.base.now c.args.group.now.info c.args.encrypted streams
     (none_set streams ∙ (λ i. sym c.in_ok-bits.ensures.which i == sym c.new.ensures i) ∙ sym c.if-eq.ensures))
-
-pub joining_at-requires-clause-within : goal.joining_at-requires-clause-within
-joining_at-requires-clause-within c =
-    let num_bis : ℕ = c.args.group.now.info.num_bis in
-    subst (λ which. which < 2 ^ num_bis) (sym c.in_ok-bits.ensures.which)
-    (set_within c.args.self.now.capability c.args.base.now num_bis c.args.self.now.streams c.args.wishes.now c.args.base.now.subgroups)
 
 pub returns : goal.returns
 returns c =

@@ -1,6 +1,6 @@
 use Rattle.std.proofs.Common.{◌<◌, ◌∙◌, ap, sym, subst}
 use Rattle.delegator_states.specs.Trains.{done_brought}
-use Rattle.scan_delegator.specs.State.Brings.{brought_of}
+use Rattle.delegator_choices.specs.State.Brings.{brought_of}
 use Rattle.scan_delegator.specs.State.Machines.{Machine, machine, moved}
 use Rattle.scan_delegator.proofs.Followed.{IsNear, is_near, slot_of_brought}
 use Rattle.scan_delegator.proofs.Standing.{moved_nothing}

@@ -3,13 +3,13 @@ use Rattle.std.proofs.lemmas.List.{get_or_read_under}
 use Rattle.delegator_states.specs.Sights.{Sight, entry_at, slot_of}
 use Rattle.delegator_states.specs.Steps.{modified, place_given, placed}
 use Rattle.delegator_states.specs.Values.{value_at}
+use Rattle.delegator_choices.specs.State.Slots.{entry}
+use Rattle.delegator_choices.proofs.Citable.{held_slot}
 use Rattle.scan_delegator.specs.State.Machines.{Machine, machine}
 use Rattle.scan_delegator.specs.State.Places.{place_by}
-use Rattle.scan_delegator.specs.State.Slots.{entry}
 use Rattle.scan_delegator.specs.State.Written.{written_value}
 use Rattle.scan_delegator.proofs.Changes.{moves_below, none_some}
 use Rattle.scan_delegator.proofs.Serving.{wanted_by, modify_refused, modify_accepted, puts_no, puts_yes, same_rest}
-use Rattle.scan_delegator.proofs.Slots.{held_slot}
 use Rattle.scan_delegator.proofs.scan_delegator.ScanDelegator.modify_held.Goals as goal
 
 pub unreachable-requires : goal.unreachable-requires

@@ -4,9 +4,9 @@ use Rattle.bass_operations.specs.declared.operation.Operation.TheVariants.{Remov
 use Rattle.delegator_states.specs.declared.replies.Cause.TheVariants as causes
 use Rattle.delegator_states.specs.Notices.{change}
 use Rattle.delegator_states.specs.Writes.{slot_with}
+use Rattle.delegator_choices.proofs.Citable.{held_slot}
 use Rattle.scan_delegator.specs.State.Machines.{Machine, machine}
 use Rattle.scan_delegator.proofs.Serving.{refused, remove_unknown, remove_synced, remove_accepted}
-use Rattle.scan_delegator.proofs.Slots.{held_slot}
 use Rattle.scan_delegator.proofs.scan_delegator.ScanDelegator.remove.Goals as goal
 
 pub returns-in_default : goal.returns-in_default

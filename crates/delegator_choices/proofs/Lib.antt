@@ -1,0 +1,5 @@
+mod Candidates
+mod Slots
+mod Streams
+mod Taken
+pub mod Citable

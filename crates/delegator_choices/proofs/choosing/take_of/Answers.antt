@@ -1,0 +1,16 @@
+use Rattle.std.proofs.Common.{◌≡◌, List, ℕ, subst, ap, arith}
+use Rattle.delegator_choices.specs.State.Choices.{Leads, chosen_of, left_of}
+use Rattle.delegator_choices.proofs.Taken.{leads_end}
+use Rattle.delegator_choices.proofs.choosing.take_of.Goals as goal
+
+pub indices-preserved : goal.indices-preserved
+indices-preserved c = record {
+  least = omega arith;
+  leads = c.take_index-taking.ensures (chosen_of c.args.choice.now) c.args.first c.indices.invariant.leads;
+}
+
+pub returns : goal.returns
+returns c =
+    let last : c.indices.index ≡ 32 = omega (arith, c.indices-test.false) in
+    leads_end (chosen_of c.args.choice.now) c.args.first c.indices.taking
+    (subst (λ (rest : List ℕ). Leads (chosen_of c.args.choice.now) c.args.first rest c.indices.taking) (ap (left_of c.args.choice.now) last) c.indices.invariant.leads)

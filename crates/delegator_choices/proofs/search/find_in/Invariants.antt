@@ -1,0 +1,7 @@
+use Rattle.std.proofs.Common.{◌≡◌, drop}
+use Rattle.delegator_states.specs.Writes.{slot_where}
+use Rattle.delegator_choices.specs.State.Slots.{meets}
+use Rattle.delegator_choices.proofs.search.find_in.Given as goal
+
+abbrev pub invariant-slots : goal.invariant-slots
+invariant-slots l = slot_where (meets l.sought) l.place (drop l.place l.slots) ≡ slot_where (meets l.sought) 0 l.slots

@@ -1,0 +1,6 @@
+use Rattle.std.proofs.Common.{◌≡◌, ◌-◌}
+use Rattle.delegator_states.specs.Writes.{least_unused, unused_from}
+use Rattle.delegator_choices.proofs.search.unused_id.Given as goal
+
+abbrev pub invariant-ids : goal.invariant-ids
+invariant-ids l = unused_from (l.count - l.source_id) l.source_id l.slots.items ≡ least_unused l.slots.items

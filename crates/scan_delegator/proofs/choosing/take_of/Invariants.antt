@@ -1,9 +1,0 @@
-use Rattle.std.proofs.Common.{◌≤◌}
-use Rattle.scan_delegator.specs.State.Choices.{Leads, chosen_of, left_of}
-use Rattle.scan_delegator.proofs.choosing.take_of.Given as goal
-
-abbrev pub invariant-indices : goal.invariant-indices
-invariant-indices l = record {
-  least : 1 ≤ l.index;
-  leads : Leads (chosen_of l.choice) l.fn.first (left_of l.choice l.index) l.taking;
-}

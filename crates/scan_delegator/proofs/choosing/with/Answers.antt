@@ -1,5 +1,0 @@
-use Rattle.scan_delegator.proofs.Taken.{with_is}
-use Rattle.scan_delegator.proofs.choosing.with.Goals as goal
-
-pub returns : goal.returns
-returns c = with_is c.args.set c.args.bis c.with.result c.with.ensures.has c.with.ensures.others

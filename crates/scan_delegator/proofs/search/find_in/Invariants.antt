@@ -1,7 +1,0 @@
-use Rattle.std.proofs.Common.{◌≡◌, drop}
-use Rattle.delegator_states.specs.Writes.{slot_where}
-use Rattle.scan_delegator.specs.State.Slots.{meets}
-use Rattle.scan_delegator.proofs.search.find_in.Given as goal
-
-abbrev pub invariant-slots : goal.invariant-slots
-invariant-slots l = slot_where (meets l.sought) l.place (drop l.place l.slots) ≡ slot_where (meets l.sought) 0 l.slots
