@@ -81,8 +81,8 @@ fn run_row(rt: &(impl Abort + AllocGlobal), row: Row, piece: usize) -> Result<()
     let mut outlets = tallies(rt.alloc(), boxes)?;
     let words = Words::new(rt.alloc());
     let status = run_with(rt.alloc(), &words, &mut source, &mut sink, &mut outlets);
-    assert_eq!(rt; sink.taken(), transcript.as_bytes(), "{name}");
-    assert_eq!(rt; status.exit_code(), exit_code, "{name}");
+    assert!(rt; sink.taken() == transcript.as_bytes(), "{name}");
+    assert!(rt; status.exit_code() == exit_code, "{name}");
     Ok(())
 }
 

@@ -80,6 +80,17 @@ module _ (airs : Airs) (same : Same airs) (starts ends : List Account) (events :
 -- ---- what was written
 
 module _ (starts ends : List Account) (events : ℕ) (lines : List TextLine) (kept kept' : Option (List ℕ)) (faults faults' : ℕ) where
+  -- a front of the summary was written, and the boxes took all units
+  cut_short : (counts : Counts) (end : End Refusal) → Told starts ends lines counts end → AppendsFront kept kept' (summary_of events counts)
+      → CutShort airs_of starts ends events lines kept kept'
+  cut_short counts end told front = record {
+    written = subst (λ (c : Counts). AppendsFront kept kept' (summary_of events c)) told.counted front;
+    done = units_of airs_of starts lines;
+    rest = [];
+    split = sym (append-nil (units_of airs_of starts lines));
+    boxes = told.boxes;
+  }
+
   -- the summary was put to the sink
   pub put_ends : (counts : Counts) (end : End Refusal) (ended result : Outcome) → Told starts ends lines counts end
       → (Summed airs_of starts ends events lines kept kept' end → EndedOver airs_of events lines ended starts ends kept kept') → ended ≢ outcomes.WriteFault
@@ -98,26 +109,14 @@ module _ (starts ends : List Account) (events : ℕ) (lines : List TextLine) (ke
   put_ends counts end ended result told as_ended other (inr (inl put)) =
       let P : Outcome → Type 0 = λ o. EndedOver airs_of events lines o starts ends kept kept' in
       record {
-        did = subst P (sym put.0) (record {
-          written = subst (λ (c : Counts). AppendsFront kept kept' (summary_of events c)) told.counted put.1;
-          done = units_of airs_of starts lines;
-          rest = [];
-          split = sym (append-nil (units_of airs_of starts lines));
-          boxes = told.boxes;
-        });
+        did = subst P (sym put.0) (cut_short counts end told put.1);
         rose = λ is. put.2;
         stays = λ is. absurd (is put.0);
       }
   put_ends counts end ended result told as_ended other (inr (inr put)) =
       let P : Outcome → Type 0 = λ o. EndedOver airs_of events lines o starts ends kept kept' in
       record {
-        did = subst P (sym put.0) (record {
-          written = subst (λ (c : Counts). AppendsFront kept kept' (summary_of events c)) told.counted put.1;
-          done = units_of airs_of starts lines;
-          rest = [];
-          split = sym (append-nil (units_of airs_of starts lines));
-          boxes = told.boxes;
-        });
+        did = subst P (sym put.0) (cut_short counts end told put.1);
         rose = λ is. let no : outcomes.Memory ≡ outcomes.WriteFault = sym put.0 ∙ is in cc;
         stays = λ is. put.2;
       }

@@ -47,8 +47,9 @@ fn read_endless(rt: &(impl Abort + AllocGlobal), piece: usize) -> Result<(), Fai
         line: 8_193,
         reason: Refusal::TextTooLong,
     };
-    assert_eq!(rt; run(rt.alloc(), &mut source, &mut sink)?, refused);
-    assert_eq!(rt; sink.taken(), b"line 8193: TextTooLong\n".as_slice());
+    let status = run(rt.alloc(), &mut source, &mut sink)?;
+    assert!(rt; status == refused);
+    assert!(rt; sink.taken() == b"line 8193: TextTooLong\n".as_slice());
     assert!(rt; source.reads <= MOST_READS);
     Ok(())
 }
@@ -72,7 +73,8 @@ fn a_line_of_9001_octets_is_too_long(rt: HostRuntime) -> Result<(), Fail> {
         line: 1,
         reason: Refusal::LineTooLong,
     };
-    assert_eq!(rt; run(rt.alloc(), &mut source, &mut sink)?, refused);
-    assert_eq!(rt; sink.taken(), b"line 1: LineTooLong\n".as_slice());
+    let status = run(rt.alloc(), &mut source, &mut sink)?;
+    assert!(rt; status == refused);
+    assert!(rt; sink.taken() == b"line 1: LineTooLong\n".as_slice());
     Ok(())
 }
