@@ -1,4 +1,5 @@
--- Looking back: what the last step that gives something gives. Steps are listed with the newest first.
+-- Looking back: what the last step that gives something gives. Steps are listed with the newest first. It is
+-- this project's own.
 use Rattle.std.specs.Prelude.{◌≡◌, List, [], ◌∷◌, ◌++◌, Option, Some, None}
 use Rattle.std.specs.Option.{option_or}
 use Rattle.std.specs.List.{AllByRecursion}

@@ -1,4 +1,4 @@
--- Whether a sink is on a group: of a slot's source, or of no slot.
+-- Whether a sink is on a group: of a slot's source, or of no slot. The places are this project's own.
 use Rattle.std.specs.Prelude.{Bool, true, false}
 use Rattle.delegator_states.specs.Sights.{Place, idle, on_train, on_group}
 

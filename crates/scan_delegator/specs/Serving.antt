@@ -1,4 +1,4 @@
--- What an operation is answered, and what it makes of a Scan Delegator.
+-- What an operation is answered, and what it makes of a Scan Delegator (Broadcast Audio Scan Service 1.0, section 3.1.1).
 use Rattle.std.specs.Prelude.{◌≡◌, Result, Ok, Err}
 use Rattle.bass_operations.specs.declared.operation.Operation.{Operation}
 use Rattle.bcast_base.specs.declared.memory.Memory.{Memory}
