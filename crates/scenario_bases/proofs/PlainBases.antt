@@ -6,16 +6,12 @@ use Rattle.std.proofs.lemmas.Bool.{cond-false, le-ltb, ne_eqb}
 use Rattle.std.proofs.lemmas.List.{append-nil}
 use Rattle.octet_fields.specs.Spelling.{number}
 use Rattle.octet_fields.proofs.Citable.{number-length}
-use Rattle.ltv_codec.specs.Layout.{AreLtvs}
 use Rattle.base_grammar.specs.Layout.{Endpoint, endpoint, lc3, bis_of, entry, indices, spelling, stands_in, subgroup}
 use Rattle.base_grammar.specs.Draft.{Refuses, entry_fault, finish_fault, size_fault, with_entry}
 use Rattle.base_grammar.specs.declared.fault.DraftFault.{DraftFault}
 use Rattle.base_grammar.specs.declared.fault.DraftFault.TheVariants.{IndexTwice, Memory, NoBis, TooLong}
 use Rattle.base_grammar.specs.declared.subgroup.BaseEntry.{BaseEntry}
 use Rattle.scenario_bases.specs.Plain.{plain_entry, plain_entries, plain_subgroup, plain_base_of}
-
-pub no_ltvs : AreLtvs []
-no_ltvs = record { ltvs = []; list = record { fit = tt; spelled = refl } }
 
 -- one more entry
 last_of_range : (start n : ℕ) → map plain_entry (range_with_len start (n + 1)) ≡ map plain_entry (range_with_len start n) ++ plain_entry (start + n) ∷ []

@@ -1,4 +1,4 @@
-use Rattle.scenario_bases.proofs.PlainBases.{no_ltvs, put_is, wants_memory}
+use Rattle.scenario_bases.proofs.PlainBases.{put_is, wants_memory}
 use Rattle.scenario_bases.proofs.plain.put_next.Goals as goal
 
 pub wanting-requires : goal.wanting-requires
