@@ -1,13 +1,11 @@
 -- One source after a step that means it.
-use Rattle.std.proofs.Common.{◌≡◌, ◌-◌, ◌%◌, ◌^◌, ℕ, ◌==◌, true, false, List, [], ◌∷◌, refl, sym}
+use Rattle.std.proofs.Common.{◌≡◌, ◌-◌, ℕ, ◌==◌, true, false, List, [], ◌∷◌, refl, sym}
 use Rattle.std.proofs.Common.{◌∙◌, ap, subst, is_some, unwrap_or, option_map, if◌then◌else◌, arith, Option, None, Some, Result, Ok, Err}
 use Rattle.base_grammar.specs.Layout.{endpoint}
 use Rattle.big_info.specs.declared.info.BigInfo.{BigInfo}
 use Rattle.big_info.specs.declared.info.Cipher.{Cipher}
 use Rattle.scenario_bases.specs.Lines.{subgroups_in}
 use Rattle.source_machine.specs.Ciphers.{with_cipher, without_cipher}
-use Rattle.iso_pdu.specs.Control.{terminate}
-use Rattle.iso_pdu.specs.Layout.{control}
 use Rattle.iso_pdu.specs.Spelling.{pdu}
 use Rattle.source_machine.specs.Airs.{airs_of, pdu_of, stale_of}
 use Rattle.source_machine.specs.Calls.{Call, Setup, event as perform, last_of, next_of}
@@ -21,16 +19,15 @@ use Rattle.transcript_text.specs.declared.stop.Stop.TheVariants.{Refused, Outlet
 use Rattle.scenario_text.specs.declared.step.Step.{Step}
 use Rattle.scenario_text.specs.declared.step.Step.TheVariants.{Cipher as CipherLine, Ident, Unit as UnitStep}
 use Rattle.scenario_history.specs.Bases.{subgroups_of}
-use Rattle.scenario_history.specs.Source.{GroupLine, cipher_of, end_pdu, event_back, pdu_in, absent, described, sending}
+use Rattle.scenario_history.specs.Source.{GroupLine, cipher_of, event_back, pdu_in, absent, described, sending}
 use Rattle.scenario_history.specs.Source.{phase_of, ident_of, is_ciphered, open_event, performed, setup_of, source_calls, stale_in, takes_units}
 use Rattle.scenario_history.specs.Steps.{is_over}
 use Rattle.scenario_history.specs.Refusals.{air_refusal, give_refusal, no_place}
 use Rattle.source_machine.specs.declared.setup.Identity.{Identity}
 use Rattle.scenario_sources.specs.declared.phase.Described.{Described}
 use Rattle.scenario_sources.specs.declared.phase.Phase.TheVariants as phases
-use Rattle.scenario_sources.specs.declared.terminated.Terminated.{Terminated}
 use Rattle.scenario_sources.specs.Described.{IsPlain, group_step}
-use Rattle.scenario_sources.specs.State.Phases.{AbsentIs, Becomes, DescribedIs, StartedIs, Terminates}
+use Rattle.scenario_sources.specs.State.Phases.{AbsentIs, Becomes, DescribedIs, StartedIs}
 use Rattle.scenario_sources.specs.State.Stops.{GivesTo, GiveStops}
 
 same_line : (i j : BigInfo) (o p d e : ℕ) → i ≡ j → o ≡ p → d ≡ e
@@ -182,23 +179,3 @@ closed_is own setup closed same sends runs is =
     let at : next_of (setup_of own) (source_calls own) - 1 ≡ event_back own 0 = omega arith in
     is ∙ ap (λ s. last_of s (source_calls own)) same
     ∙ rw (sends, runs) (ap (λ n. if performed own == 0 then None else Some n) at)
-
--- ---- terminate
-
-ended : (own : List Step) (reason : ℕ) (source : Broadcasting) (octets : List ℕ) → octets ≡ pdu (control (terminate reason (source.source.next % 2 ^ 16)))
-    → source.source.setup ≡ setup_of own → StandsFor (source_calls own) source → octets ≡ end_pdu own reason
-ended own reason source octets is setup stands =
-    is ∙ ap (λ n. pdu (control (terminate reason (n % 2 ^ 16)))) (stands.source.next ∙ ap (λ s. next_of s (source_calls own)) setup)
-
-pub ends : (version reason : ℕ) (own : List Step) (old : Broadcasting) (closed : Option ℕ) (octets : List ℕ) → (phase_of own ≡ sending) × StartedIs own old
-    → (is_over own ≡ false → closed ≡ open_event own) → octets ≡ pdu (control (terminate reason (old.source.next % 2 ^ 16)))
-    → (let answer : Terminated = record { closed = closed; pdu = octets } in Terminates version own reason (phases.Stopped old) (Ok answer))
-ends version reason own old closed octets is last is_pdu = (
-  rw is.0 refl,
-  (
-    refl,
-    record { identity = is.1.identity; setup = is.1.setup; under_way = is.1.under_way; base = is.1.base; cipher = is.1.cipher; calls = is.1.calls },
-  ),
-  last,
-  ended own reason old octets is_pdu is.1.setup is.1.calls,
-)
