@@ -1,6 +1,6 @@
 -- The steps of one source of a scenario of which no line was refused: its group stands before its start, it takes calls only
 -- behind it, and what fixes it stays.
-use Rattle.std.proofs.Common.{ℕ, zero, suc, ◌≡◌, ◌⊎◌, ◌<◌, ◌≤◌, ◌||◌, ◌&&◌, ◌==◌, not, cond, Bool, true, false, List, [], ◌∷◌, Option, None, Some, refl, sym, ◌∙◌, ap, subst, arith, inl, inr}
+use Rattle.std.proofs.Common.{ℕ, ◌≡◌, ◌⊎◌, ◌≤◌, ◌||◌, ◌&&◌, ◌==◌, not, cond, Bool, true, false, List, [], ◌∷◌, Option, None, Some, refl, sym, ◌∙◌, ap, subst, arith, inl, inr}
 use Rattle.std.specs.Prelude.{unwrap_or}
 use Rattle.std.proofs.lemmas.Bool.{cases_Bool, eqb-true, false≢true, or_parts}
 use Rattle.std.proofs.lemmas.Option.{none-some}
@@ -298,11 +298,6 @@ setup_stays airs own (steps.Start first) is allows started = absurd (true_not_fa
 setup_stays airs own (steps.Scenario version) is allows started = absurd (true_not_false (is_started own) started (begins own is.under_way allows.in_place))
 setup_stays airs own _ is allows started = refl
 
-one_or_none : (n : ℕ) → n < 2 → (n ≡ 0) ⊎ (n ≡ 1)
-one_or_none zero below = inl refl
-one_or_none (suc zero) below = inr refl
-one_or_none (suc (suc n)) below = absurd (omega (arith, below))
-
 -- the group of a source that was started
 abbrev pub group_in : (own : List Step) → Settled own → is_started own ≡ true → Group
 group_in own is started = record {
@@ -311,10 +306,6 @@ group_in own is started = record {
   no_fault = is.no_fault started;
   bounds = bounds_of (setup_of own).info (is.no_fault started);
 }
-
--- a group is unframed or framed
-pub framings : (own : List Step) → Settled own → ((setup_of own).info.framing ≡ 0) ⊎ ((setup_of own).info.framing ≡ 1)
-framings own is = one_or_none (setup_of own).info.framing is.widths.framing
 
 pub checked : (group : Group) → IsChecked group.info
 checked group = record { bounds = group.bounds; framing = omega (arith, group.widths.framing) }

@@ -71,9 +71,6 @@ pub record IsOn (airs : Airs) (s n : ℕ) (made : List Step) (tuning : Tuning) :
   pub source_is : source_of n made ≡ Some s
   pub ungiven : any_since (is_tuned n) (is_given n) made ≡ false
 
-there_still : (s : ℕ) (tuning : Tuning) (more calls : List Call) (source : Option ℕ) → place more ≡ place calls → IsThere s tuning more source → IsThere s tuning calls source
-there_still s tuning more calls source same is = record { place_is = sym same ∙ is.place_is; source_is = is.source_is }
-
 gone_there : (s : ℕ) (tuning : Tuning) (gone : Bool) (calls : List Call) (source : Option ℕ) → IsThere s tuning (cond gone [] calls) (cond gone None source)
     → IsThere s tuning calls source × (gone ≡ false)
 gone_there s tuning true calls source is = absurd (none-some tuning is.place_is)

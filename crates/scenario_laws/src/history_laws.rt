@@ -52,9 +52,10 @@ pub fn one_transcript()
 /// The units law of a stay (Core 5.2, volume 6 part G, sections 2.1 and 2.2): where a sink was put on its group by hand or by
 /// what a source announced, and since then no PDU was injected into it and no train was given to it by its octets, what it
 /// handed up since on a stream that it takes is struck. Unframed: one entry for each slot of each event closed in the stay, in
-/// order: the source's unit of the slot, valid, where the slot has one and all numbers that carry it are heard, else lost. Framed: one entry for each unit of the source whose start is heard, in order: valid where it
-/// is wholly laid and all numbers that carry it were heard before their events closed, lost where the first that wasn't is
-/// closed. It holds after each step, so at the end of each stay too.
+/// order: the source's unit of the slot, valid, where the slot has one and all numbers that carry it are heard, else lost.
+/// Framed: one entry for each unit of the source whose start is heard, in order: valid where it is wholly laid and all numbers
+/// that carry it were heard before their events closed, lost where the first that wasn't is closed. It holds after each step,
+/// so at the end of each stay too.
 pub fn units_law()
     ensures { (starts : List Account) → UnitsLaw starts }
 {
