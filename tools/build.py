@@ -1,0 +1,301 @@
+#!/usr/bin/env python3
+"""Proves and builds the program `replay`.
+
+build.py           proves each crate that the program stands on and isn't proved yet, as many side by side as there are
+                   processors and memory, and builds the program; standard error tells how far that is
+build.py sum       prints the sum of all that the program is made from
+build.py record S  takes the program that `rt ci` has just built for built, where that sum is still S
+
+It runs the prover by the Rattle kit's own `rt`, as `rt ci` does: each crate from nothing, over the statements of the crates
+below it. It differs from `rt lib` in two things. A crate that was proved is known by its own files and by what the prover reads
+of the crates below, their libraries as they were built: so a change that changes no library, as one of a comment, proves
+one crate again and not all above it. And each sum is taken once; `rt lib` takes a crate's sum anew for each way in which
+another crate reaches it, which are 65,000 from the top. It was made for the kit whose logic is dac8208d650f15bf; where the
+kit's `rt` lacks what it calls, it says so and calls plain `rt`, crate by crate.
+"""
+import hashlib
+import importlib.machinery
+import importlib.util
+import os
+import shutil
+import subprocess
+import sys
+import tempfile
+import time
+from concurrent.futures import FIRST_COMPLETED, ThreadPoolExecutor, wait
+
+sys.dont_write_bytecode = True
+TOP = os.path.dirname(os.path.dirname(os.path.realpath(__file__)))
+PROGRAM = 'replay_command'
+PARTS = ('src', 'specs', 'proofs')
+
+
+def say(text):
+    print(f'replay: {text}', file=sys.stderr, flush=True)
+
+
+def program_file():
+    return f'{TOP}/crates/{PROGRAM}/out/{PROGRAM}'
+
+
+def built_file():
+    """Has the sum of what the program was built of."""
+    return f'{TOP}/crates/{PROGRAM}/out/built'
+
+
+def text_of(path):
+    try:
+        with open(path, encoding='utf-8') as file:
+            return file.read()
+    except OSError:
+        return None
+
+
+def write(path, text):
+    with open(path, 'w', encoding='utf-8') as file:
+        file.write(text)
+
+
+def listed():
+    """The crates of this repository below each crate, by crates.txt, and the words of its line."""
+    lines = {}
+    with open(f'{TOP}/crates.txt', encoding='utf-8') as file:
+        for line in file:
+            name, colon, below = line.partition('#')[0].partition(':')
+            if colon:
+                lines[name.split()[0]] = line.partition('#')[0].split()
+    return {name: [it for it in words if it in lines] for name, words in lines.items()}, lines
+
+
+def in_order(below, name, found=None):
+    """The crates that one stands on, lowest first, and the crate itself."""
+    found = {} if found is None else found
+    if name not in found:
+        for it in below[name]:
+            if it != name:
+                in_order(below, it, found)
+        found[name] = None
+    return list(found)
+
+
+def add_files(total, folder, inside):
+    """Adds the files of these folders in a folder to a sum, in their order, each with its place."""
+    for part in inside:
+        for at, folders, names in os.walk(f'{folder}/{part}'):
+            folders.sort()
+            for name in sorted(names):
+                total.update(f'{os.path.relpath(f"{at}/{name}", folder)}\0'.encode())
+                with open(f'{at}/{name}', 'rb') as file:
+                    total.update(hashlib.sha256(file.read()).digest())
+
+
+def kit():
+    """The first `rt` on the path, and the logic of its kit as it names it."""
+    found = shutil.which('rt')
+    if not found:
+        say('the Rattle kit is not here (no rt)')
+        sys.exit(70)
+    return os.path.realpath(found), subprocess.run([found, 'version'], stdout=subprocess.PIPE, text=True, check=True).stdout
+
+
+class Kept:
+    """What was proved of a crate is known by a sum of the kit, the crate's line and files, and the libraries below it."""
+
+    def __init__(self, lines, below, version):
+        self.lines, self.below, self.version, self.libraries, self.sums = lines, below, version, {}, {}
+
+    def of_files(self, name):
+        total = hashlib.sha256(repr((self.version, self.lines[name])).encode())
+        add_files(total, f'{TOP}/crates/{name}', PARTS)
+        return total
+
+    def of_library(self, name):
+        if name not in self.libraries:
+            total = hashlib.sha256()
+            add_files(total, f'{TOP}/crates/{name}/out/rlib', [f'{name}.rlib'])
+            self.libraries[name] = total.digest()
+        return self.libraries[name]
+
+    def of_crate(self, name):
+        total = self.of_files(name)
+        for it in in_order(self.below, name)[:-1]:
+            total.update(it.encode() + self.of_library(it))
+        return total.hexdigest()
+
+    def of_program(self):
+        """The sum of all that the program is made from, without what was made on the way."""
+        total = hashlib.sha256()
+        for it in in_order(self.below, PROGRAM):
+            total.update(self.of_files(it).digest())
+        return total.hexdigest()
+
+    def has(self, crate):
+        """Whether the crate was proved as it is, over the libraries that are there."""
+        self.sums[crate] = self.of_crate(crate.name)
+        return not crate.is_program and text_of(f'{crate.folder}/out/rlib/proved') == self.sums[crate]
+
+    def keep(self, crate):
+        if not crate.is_program:
+            write(f'{crate.folder}/out/rlib/proved', self.sums[crate])
+
+
+def load(path):
+    """The kit's own `rt` as a module, as `rt ci` sets it up, or None where it lacks what is called here."""
+    loader = importlib.machinery.SourceFileLoader('rt', path)
+    rt = importlib.util.module_from_spec(importlib.util.spec_from_loader('rt', loader))
+    sys.modules['rt'] = rt
+    loader.exec_module(rt)
+    try:
+        crate, lib = rt.Crate, rt.rtlib
+        crate.allowed = rt.handles_of(TOP)
+        # libraries hold their statements, and what is proved is held to HANDLES
+        crate.cuts_libraries, lib.Crate = True, crate
+        # the kit's own sums are not asked for: `Sums` stands for them
+        crate.stamp = lambda it: ''
+        for needed in (crate.build_rlib, crate.words, crate.prove, crate.link, lib.crates_below, lib.lock, rt.need, rt.free, rt.processors):
+            if not callable(needed):
+                return None
+    except (AttributeError, SystemExit):
+        return None
+    lib.guarded()
+    return rt
+
+
+def prove(rt, crate, jobs):
+    """Proves a crate from nothing, and builds its library or the program: whether it did, and what the prover said."""
+    with tempfile.TemporaryFile('a+', errors='replace') as crate.out:
+        os.makedirs(f'{crate.folder}/out', exist_ok=True)
+        flags = ['--jobs', str(jobs)]
+        if crate.is_program:
+            made = f'out/{crate.name}'
+            words = ['build', *crate.words(flags, keeps=False), '--toolchain', f'{rt.KIT}/toolchain', '--backend', 'llvm', '-o', f'{made}.o']
+            status = crate.prove(words) or crate.link(f'{made}.o', made)
+        else:
+            status = crate.build_rlib(flags, anew=True)
+        crate.out.seek(0)
+        return not status, crate.out.read()
+
+
+class Lanes:
+    """Proves crates side by side, each once those below it are proved: as many as there are processors and as memory holds, and
+    of those that could begin first the one with the longest chain of others above it. That one begins at once and gets all
+    processors, since the others wait for it in the end; another gets those that are idle."""
+
+    def __init__(self, rt, crates, kept):
+        self.rt, self.kept = rt, kept
+        self.memory, self.lanes = 0.85 * rt.free(), rt.processors()
+        self.left, self.proved, self.running = list(crates), set(), {}
+        self.behind = {it: 0 for it in crates}
+        for it in reversed(crates):
+            self.behind[it] += self.seconds(it)
+            for below in it.below():
+                self.behind[below] = max(self.behind[below], self.behind[it])
+        self.left.sort(key=lambda it: -self.behind[it])
+
+    @staticmethod
+    def seconds(crate):
+        """About what a crate takes to prove. The libraries below it are read first, most of a small crate's time."""
+        return 20 + crate.count(rb'\n') / 12
+
+    def jobs_of(self, crate, ready):
+        """How many processors the crate gets if it begins now, or none if it has to wait."""
+        needs = self.rt.need(crate) + sum(self.rt.need(it) for it, _ in self.running.values())
+        if self.running and needs > self.memory:
+            return 0
+        idle = self.lanes - len(self.running)
+        if all(self.behind[crate] >= self.behind[it] for it in [*self.left, *[it for it, _ in self.running.values()]]):
+            return min(4, self.lanes)
+        return min(4, max(1, idle // len(ready))) if idle > 0 else 0
+
+    def begin(self, pool):
+        """Begins what can begin now, and passes over what was proved before."""
+        ready = [it for it in self.left if all(below in self.proved for below in it.below())]
+        for crate in list(ready):
+            if self.kept.has(crate):
+                self.left.remove(crate)
+                self.proved.add(crate)
+                return self.begin(pool)
+            jobs = self.jobs_of(crate, ready)
+            if jobs:
+                ready.remove(crate)
+                self.left.remove(crate)
+                self.running[pool.submit(prove, self.rt, crate, jobs)] = crate, time.monotonic()
+        return None
+
+    def run(self):
+        """Whether all are proved; it stops at the first that isn't."""
+        with ThreadPoolExecutor(self.lanes + 1) as pool:
+            self.begin(pool)
+            while self.running:
+                for it in wait(self.running, return_when=FIRST_COMPLETED).done:
+                    crate, since = self.running.pop(it)
+                    is_well, said = it.result()
+                    if not is_well:
+                        say(f'{crate.name} is not proved, so the program was not built')
+                        print('\n'.join(said.splitlines()[-20:]), file=sys.stderr)
+                        return False
+                    self.proved.add(crate)
+                    self.kept.keep(crate)
+                    say(f'{len(self.proved)} of {len(self.behind)} proved: {crate.name}, in {time.monotonic() - since:.0f} s')
+                self.begin(pool)
+        return True
+
+
+def build_plainly(order):
+    """Proves one crate after the other by the kit's public commands alone."""
+    say("this kit's rt is not the one that tools/build.py was made for: plain rt proves crate by crate, the last of them for long")
+    for name in order:
+        say(f'proving {name}')
+        words = ['rt', 'run' if name == PROGRAM else 'lib', '--jobs', str(os.cpu_count())]
+        ran = subprocess.run(words, cwd=f'{TOP}/crates/{name}', stdin=subprocess.DEVNULL, stdout=subprocess.PIPE,
+                             stderr=subprocess.STDOUT, errors='replace', check=False)
+        if ran.returncode and name != PROGRAM:
+            print('\n'.join(ran.stdout.splitlines()[-20:]), file=sys.stderr)
+            return False
+    return os.path.isfile(program_file())
+
+
+def build_by_lanes(rt, order, kept):
+    crates = [it for it in rt.rtlib.crates_below(TOP) if it.name in order]
+    held = rt.rtlib.lock(crates)
+    try:
+        return Lanes(rt, sorted(crates, key=lambda it: len(it.below())), kept).run()
+    finally:
+        for it in held:
+            os.close(it)
+
+
+def build():
+    path, version = kit()
+    below, lines = listed()
+    kept, order, begun = Kept(lines, below, version), in_order(below, PROGRAM), time.monotonic()
+    whole = kept.of_program()
+    if os.path.isfile(program_file()) and text_of(built_file()) == whole:
+        os.utime(built_file())
+        return True
+    rt = load(path)
+    if not (build_by_lanes(rt, order, kept) if rt else build_plainly(order)):
+        return False
+    if whole == kept.of_program():
+        write(built_file(), whole)
+    say(f'proved and built in {time.monotonic() - begun:.0f} s')
+    return True
+
+
+def main(words):
+    if not words:
+        return 0 if build() else 70
+    path, version = kit()
+    below, lines = listed()
+    whole = Kept(lines, below, version).of_program()
+    if words == ['sum']:
+        print(whole)
+        return 0
+    if words == ['record', whole] and os.path.isfile(program_file()):
+        write(built_file(), whole)
+        return 0
+    return 2
+
+
+if __name__ == '__main__':
+    sys.exit(main(sys.argv[1:]))
