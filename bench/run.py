@@ -1,12 +1,15 @@
 #!/usr/bin/env python3
 """run.py [--framed] [MEGABYTES [PROGRAM]]: makes a long scenario, runs the built program on it, and prints the time of
-the processor, the octets of scenario text a second, and the peak memory.
+the processor, the octets of scenario text a second, and the peak memory of the program. That is asked of the system while the
+program waits for the last line, in a run of its own: what a parent tells of a child that has ended counts the parent's own.
 
 The scenario has one source with one stream, one sink that takes it, and then a unit, an event and its PDUs by turns.
 Every third event loses a PDU. With --framed the units have times and cross two PDUs of their event."""
 import os
+import subprocess
 import sys
 import tempfile
+import time
 
 HERE = os.path.dirname(os.path.abspath(__file__))
 PROGRAM = os.path.join(HERE, '..', 'crates', 'replay_command', 'out', 'replay_command')
@@ -31,15 +34,37 @@ def scenario(octets, is_framed):
     yield b'end\n'
 
 
-def run(program, path):
-    """Runs the program on the file: its status, the time of the processor in seconds, the peak memory in octets."""
+def seconds_of(program, path):
+    """Runs the program on the file: its status, and the time of the processor in seconds."""
     child = os.fork()
     if child == 0:
         os.dup2(os.open(path, os.O_RDONLY), 0)
         os.dup2(os.open(os.devnull, os.O_WRONLY), 1)
         os.execv(program, [program])
     _, status, usage = os.wait4(child, 0)
-    return os.waitstatus_to_exitcode(status), usage.ru_utime + usage.ru_stime, usage.ru_maxrss * 1024
+    return os.waitstatus_to_exitcode(status), usage.ru_utime + usage.ru_stime
+
+
+def waits(pid):
+    with open(f'/proc/{pid}/stat', encoding='ascii') as file:
+        return file.read().rpartition(')')[2].split()[0] == 'S'
+
+
+def peak_of(program, path):
+    """Runs the program on the file through a pipe, and asks before its last line how many octets it had at most."""
+    with open(path, 'rb') as file:
+        text = file.read()
+    last = text.rindex(b'\n', 0, -1) + 1
+    with subprocess.Popen([program], stdin=subprocess.PIPE, stdout=subprocess.DEVNULL) as child:
+        child.stdin.write(text[:last])
+        child.stdin.flush()
+        while not waits(child.pid):
+            time.sleep(0.01)
+        with open(f'/proc/{child.pid}/status', encoding='ascii') as file:
+            peak = next(int(line.split()[1]) for line in file if line.startswith('VmHWM:'))
+        child.stdin.write(text[last:])
+        child.stdin.close()
+    return peak * 1024
 
 
 def main():
@@ -53,7 +78,8 @@ def main():
                 file.write(piece)
             file.flush()
             size = os.path.getsize(file.name)
-            status, seconds, peak = run(program, file.name)
+            status, seconds = seconds_of(program, file.name)
+            peak = peak_of(program, file.name)
         print(f'{size} octets: status {status}, {seconds:.2f} s, {size / seconds / 1e6:.1f} MB/s, peak {peak / 1e6:.1f} MB')
     return 0
 

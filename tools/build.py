@@ -13,11 +13,13 @@ one crate again and not all above it. And each sum is taken once; `rt lib` takes
 another crate reaches it, which are 65,000 from the top. It was made for the kit whose logic is dac8208d650f15bf; where the
 kit's `rt` lacks what it calls, it says so and calls plain `rt`, crate by crate.
 """
+import contextlib
 import hashlib
 import importlib.machinery
 import importlib.util
 import os
 import shutil
+import signal
 import subprocess
 import sys
 import tempfile
@@ -105,7 +107,7 @@ class Kept:
         self.lines, self.below, self.version, self.libraries, self.sums = lines, below, version, {}, {}
 
     def of_files(self, name):
-        total = hashlib.sha256(repr((self.version, self.lines[name])).encode())
+        total = hashlib.sha256(repr((self.version, text_of(f'{TOP}/HANDLES'), self.lines[name])).encode())
         add_files(total, f'{TOP}/crates/{name}', PARTS)
         return total
 
@@ -129,14 +131,18 @@ class Kept:
             total.update(self.of_files(it).digest())
         return total.hexdigest()
 
+    @staticmethod
+    def place(crate):
+        return f'{crate.folder}/out/proved' if crate.is_program else f'{crate.folder}/out/rlib/proved'
+
     def has(self, crate):
         """Whether the crate was proved as it is, over the libraries that are there."""
         self.sums[crate] = self.of_crate(crate.name)
-        return not crate.is_program and text_of(f'{crate.folder}/out/rlib/proved') == self.sums[crate]
+        is_made = os.path.exists(program_file() if crate.is_program else crate.rlib)
+        return is_made and text_of(self.place(crate)) == self.sums[crate]
 
     def keep(self, crate):
-        if not crate.is_program:
-            write(f'{crate.folder}/out/rlib/proved', self.sums[crate])
+        write(self.place(crate), self.sums[crate])
 
 
 def load(path):
@@ -150,30 +156,41 @@ def load(path):
         crate.allowed = rt.handles_of(TOP)
         # libraries hold their statements, and what is proved is held to HANDLES
         crate.cuts_libraries, lib.Crate = True, crate
-        # the kit's own sums are not asked for: `Sums` stands for them
+        # the kit's own sums are not asked for: `Kept` stands for them
         crate.stamp = lambda it: ''
-        for needed in (crate.build_rlib, crate.words, crate.prove, crate.link, lib.crates_below, lib.lock, rt.need, rt.free, rt.processors):
-            if not callable(needed):
-                return None
+        calls = crate.build_rlib, crate.words, crate.prove, crate.link, lib.crates_below, lib.lock, rt.need, rt.free, rt.processors
+        lib.guarded()
     except (AttributeError, SystemExit):
         return None
-    lib.guarded()
-    return rt
+    return rt if all(map(callable, calls)) else None
 
 
 def prove(rt, crate, jobs):
     """Proves a crate from nothing, and builds its library or the program: whether it did, and what the prover said."""
     with tempfile.TemporaryFile('a+', errors='replace') as crate.out:
         os.makedirs(f'{crate.folder}/out', exist_ok=True)
-        flags = ['--jobs', str(jobs)]
-        if crate.is_program:
-            made = f'out/{crate.name}'
-            words = ['build', *crate.words(flags, keeps=False), '--toolchain', f'{rt.KIT}/toolchain', '--backend', 'llvm', '-o', f'{made}.o']
-            status = crate.prove(words) or crate.link(f'{made}.o', made)
-        else:
-            status = crate.build_rlib(flags, anew=True)
+        call = prove_program if crate.is_program else prove_library
+        status = call(rt, crate, jobs)
+        if status == -signal.SIGKILL:
+            status = call(rt, crate, 1)
         crate.out.seek(0)
         return not status, crate.out.read()
+
+
+def prove_library(_, crate, jobs):
+    return crate.build_rlib(['--jobs', str(jobs)], anew=True)
+
+
+def prove_program(rt, crate, jobs):
+    for it in (built_file(), Kept.place(crate)):
+        with contextlib.suppress(FileNotFoundError):
+            os.remove(it)
+    made = f'out/{crate.name}'
+    words = ['build', *crate.words(['--jobs', str(jobs)], keeps=False), '--toolchain', f'{rt.KIT}/toolchain', '--backend', 'llvm']
+    status = crate.prove([*words, '-o', f'{made}.o']) or crate.link(f'{made}.o', made)
+    with contextlib.suppress(FileNotFoundError):
+        os.remove(f'{crate.folder}/{made}.o')
+    return status
 
 
 class Lanes:
@@ -274,7 +291,11 @@ def build():
         os.utime(built_file())
         return True
     rt = load(path)
-    if not (build_by_lanes(rt, order, kept) if rt else build_plainly(order)):
+    try:
+        is_well = build_by_lanes(rt, order, kept) if rt else build_plainly(order)
+    except (AttributeError, TypeError):
+        is_well = build_plainly(order)
+    if not is_well:
         return False
     if whole == kept.of_program():
         write(built_file(), whole)
