@@ -4,7 +4,7 @@ use Rattle.std.specs.Prelude.{ℕ, ◌+◌, ◌-◌, ◌==◌, ◌&&◌, ◌||�
 use Rattle.std.specs.Option.{option_or}
 use Rattle.scenario_text.specs.declared.step.Step.{Step}
 use Rattle.scenario_text.specs.declared.step.Step.TheVariants.{Scenario, Group, Ident, Subgroup, Meta, Bis, Cipher, Start, Sink, Tuned, Unit, Event, Hear, Air}
-use Rattle.scenario_text.specs.declared.step.Step.TheVariants.{Inject, Sniff, Announce, Source, Stop, Terminate, End}
+use Rattle.scenario_text.specs.declared.step.Step.TheVariants.{Inject, Sniff, Announce, Train, Source, Stop, Terminate, End}
 
 -- what the last step that gives something gives
 abbrev pub last_given : {A : Type 0} → (Step → Option A) → List Step → Option A
@@ -92,6 +92,7 @@ is_source_line (Air sink lose) = true
 is_source_line (Inject sink back bis subevent octets) = true
 is_source_line (Sniff back bis subevent) = true
 is_source_line (Announce sink) = true
+is_source_line (Train sink time ext adv acad) = true
 is_source_line Stop = true
 is_source_line (Terminate reason) = true
 is_source_line _ = false
