@@ -1,0 +1,6 @@
+mod Groups
+mod Trains
+mod Lives
+mod Printed
+mod Seconds
+mod Sources
