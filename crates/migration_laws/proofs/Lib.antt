@@ -4,3 +4,11 @@ mod Lives
 mod Printed
 mod Seconds
 mod Sources
+mod Lived
+mod Received
+mod Refused
+mod Outputs
+mod Reach
+mod Reading
+mod Runs
+mod Texts

@@ -40,7 +40,7 @@ pub record IsQuietLife (far : ℕ) (made : Made) (calls : List Call) : Type 0 wh
   pub within : made.setup.horizon ≤ far
   pub quiet : AreQuietCalls made.setup calls
 
-its_sight : (far : ℕ) (made : Made) (calls : List Call) → IsQuietLife far made calls → sight_in (reaching_made far made) calls ≡ sight_in made calls
+pub its_sight : (far : ℕ) (made : Made) (calls : List Call) → IsQuietLife far made calls → sight_in (reaching_made far made) calls ≡ sight_in made calls
 its_sight far made calls is = sight_same far made.setup (steps_of calls) is.within is.quiet
 
 -- ---- one line

@@ -44,7 +44,7 @@ of_calls f stays own =
 
 -- ---- its airs
 
-framed_same : (ahead : Bool) (setup : Setup) (bis : ℕ) (calls : List Call) → framed_calls (with_ahead ahead setup) bis calls ≡ framed_calls setup bis calls
+pub framed_same : (ahead : Bool) (setup : Setup) (bis : ℕ) (calls : List Call) → framed_calls (with_ahead ahead setup) bis calls ≡ framed_calls setup bis calls
 framed_same ahead setup bis [] = refl
 framed_same ahead setup bis (give stream time octets ∷ earlier) =
     ap (λ calls. cond (stream == bis) (accept (unwrap_or time 0) octets ∷ calls) calls) (framed_same ahead setup bis earlier)

@@ -1,6 +1,6 @@
 -- What a train brings to a sink whose groups may reach more events ahead: what it brought, where it wasn't answered
 -- `BadGroup 11` (Basic Audio Profile 1.0, section 6.5.4).
-use Rattle.std.proofs.Common.{ℕ, ◌≡◌, ◌≤◌, cond, Bool, true, false, List, Option, None, Some, Result, Ok, Err, refl, ◌∙◌, ap}
+use Rattle.std.proofs.Common.{ℕ, ◌≡◌, ◌⊎◌, ◌≤◌, cond, Bool, true, false, List, Option, None, Some, Result, Ok, Err, refl, ◌∙◌, ap, inl, inr}
 use Rattle.std.specs.Prelude.{◌==◌, length}
 use Rattle.base_grammar.specs.AdReading.{broadcast_id_of}
 use Rattle.base_grammar.specs.Layout.{Endpoint}
@@ -9,6 +9,7 @@ use Rattle.base_grammar.specs.declared.fault.BaseFault.{BaseFault}
 use Rattle.bass_operations.specs.declared.wishes.Wish.{Wish}
 use Rattle.big_info.specs.declared.big_fault.BigFault.{BigFault}
 use Rattle.big_info.specs.declared.fault.GroupFault.{GroupFault}
+use Rattle.big_info.specs.declared.fault.GroupFault.TheVariants.{Horizon}
 use Rattle.big_info.specs.declared.info.BigInfo.{BigInfo}
 use Rattle.big_info.specs.Reading.{info_of}
 use Rattle.big_info.specs.Rows.{first_fault}
@@ -154,3 +155,10 @@ near_id setup sight train (Some id) near = near_slot setup sight train (slot_whe
 
 pub brought_near : (setup : Setup) (sight : Sight) (train : Train) → ReadsNear setup train → BringsNear (brought_by setup sight train)
 brought_near setup sight train near = near_id setup sight train (broadcast_id_of train.ext) near
+
+-- ---- either way
+
+pub near_or_far : (answer : TrainHeard) → AnswersNear answer ⊎ (answer ≡ answers.BadGroup Horizon)
+near_or_far (answers.BadGroup Horizon) = inr refl
+near_or_far (answers.BadGroup fault) = inl tt
+near_or_far _ = inl tt
