@@ -12,3 +12,5 @@ mod Reach
 mod Reading
 mod Runs
 mod Texts
+mod Migrating
+mod Overs

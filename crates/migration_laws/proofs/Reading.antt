@@ -151,7 +151,7 @@ said_misfit : (read : Result (Option Step) LineFault) → IsMisfit read → IsUn
 said_misfit (Err (Misfit word)) is = tt
 said_misfit (Err NoMemory) is = absurd is
 said_misfit (Ok None) is = absurd is
-said_misfit (Ok (Some step)) is = absurd is
+said_misfit (Ok (Some this)) is = absurd is
 
 said_on : (version : ℕ) (line : TextLine) → (said_in 2 line ≡ said_in version line) ⊎ IsUnsaid (said_in version line)
 said_on version (plain octets) = elim (reads_on version octets) [

@@ -237,12 +237,12 @@ alike_if starts history later (Some reason) reason' octets octets' end end' all 
 abbrev pub Begins : List TextLine → List TextLine → List TextLine → Type 0
 Begins lines history rest = lines ≡ reverse history ++ rest
 
-run_next : {starts : List Account} {history later rest : List TextLine} {line : TextLine} → (Its starts).output later line ≡ (Its starts).output history line
+run_next : (starts : List Account) (history later rest : List TextLine) (line : TextLine) → (Its starts).output later line ≡ (Its starts).output history line
     → RunAlike starts (line ∷ history) (line ∷ later) rest rest
     → RunsAlike ((Its starts).output history line ++ out (Its starts) (line ∷ history) rest) ((Its starts).output later line ++ out (Its starts) (line ∷ later) rest)
     (end_of (Its starts) (line ∷ history) rest) (end_of (Its starts) (line ∷ later) rest)
     (accepted_of (Its starts) (line ∷ history) rest) (accepted_of (Its starts) (line ∷ later) rest)
-run_next same more = record {
+run_next starts history later rest line same more = record {
   octets_same = ap₂ (λ (one two : List ℕ). one ++ two) same more.octets_same;
   end_same = more.end_same;
   units_same = more.units_same;
@@ -259,7 +259,7 @@ run_alike laws starts lines history later (line ∷ rest) never begins stands la
     (accepted_of (Its starts) (line ∷ history) rest) (accepted_of (Its starts) (line ∷ later) rest) stands (line_lasts starts history later line stands) lasting
     (λ none on.
     let prints_not : PrintsTooFar airs_of starts history line → ⊥ = never history line rest begins (stands.accepted, none) in
-    run_next {starts = starts} {history = history} {later = later} {rest = rest} {line = line}
+    run_next starts history later rest line
     (line_same laws starts history later line stands none prints_not)
     (run_alike laws starts lines (line ∷ history) (line ∷ later) rest never (begins ∙ sym (reverse_onto line history rest))
     (stands_next laws starts history later line stands none prints_not) on))

@@ -2,7 +2,7 @@
 -- it. Version 2 bounds less: how many events ahead a group may reach (Core 5.2, volume 6 part B, section 4.4.6), how far ahead
 -- of its event the time of a framed unit may be (part G, section 2), and what a line may be. Histories have the newest line
 -- first.
-use Rattle.std.specs.Prelude.{ℕ, ◌≡◌, true, List, [], ◌∷◌, ◌++◌, reverse, codes}
+use Rattle.std.specs.Prelude.{ℕ, ◌≡◌, true, List, [], ◌∷◌, ◌++◌, reverse, codes, decimal}
 use Rattle.bcast_io.specs.TextLines.{TextLine, lines_of}
 use Rattle.unit_outlets.specs.Account.{Account}
 use Rattle.big_info.specs.declared.fault.GroupFault.TheVariants.{Horizon}
@@ -21,7 +21,7 @@ use Rattle.scenario_history.specs.Transcript.{transcript_end, transcript_of, uni
 
 -- the line `sink N BadGroup 11`: the group of a train that was heard reaches too many events ahead
 abbrev pub too_far_line : ℕ → List ℕ
-too_far_line sink = sink_line sink (codes "BadGroup" ∷ codes "11" ∷ [])
+too_far_line sink = sink_line sink (codes "BadGroup" ∷ decimal 11 ∷ [])
 
 -- the line after these says a `train` step, and prints that line
 pub record PrintsTooFar (airs : Airs) (starts : List Account) (earlier : List TextLine) (line : TextLine) : Type 0 where
