@@ -86,8 +86,8 @@ in_time_stays ahead setup calls bis false (Some time) stays is =
 
 fault_lasts : (beyond long timed later waits : Bool) → (timed ≡ true → later ≡ true)
     → Lasts
-      (option_map give_refusal (cond beyond (Some give_faults.NoSuchBis) (cond long (Some give_faults.UnitTooLong) (cond (not timed) (Some give_faults.TimeOrder) (cond waits (Some give_faults.Backlog) None)))))
-      (option_map give_refusal (cond beyond (Some give_faults.NoSuchBis) (cond long (Some give_faults.UnitTooLong) (cond (not later) (Some give_faults.TimeOrder) (cond waits (Some give_faults.Backlog) None)))))
+    (option_map give_refusal (cond beyond (Some give_faults.NoSuchBis) (cond long (Some give_faults.UnitTooLong) (cond (not timed) (Some give_faults.TimeOrder) (cond waits (Some give_faults.Backlog) None)))))
+    (option_map give_refusal (cond beyond (Some give_faults.NoSuchBis) (cond long (Some give_faults.UnitTooLong) (cond (not later) (Some give_faults.TimeOrder) (cond waits (Some give_faults.Backlog) None)))))
 fault_lasts true long timed later waits stays = inl refl
 fault_lasts false true timed later waits stays = inl refl
 fault_lasts false false false later waits stays = inr (λ lasting. lasting)
