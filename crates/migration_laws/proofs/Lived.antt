@@ -1,6 +1,6 @@
 -- The sinks of a scenario in version 2: their life is the same, where no train was answered `BadGroup 11` (Basic Audio Profile
 -- 1.0, section 6.5). Lists of steps and of calls have the newest first.
-use Rattle.std.proofs.Common.{ℕ, ◌≡◌, ◌≤◌, ◌==◌, cond, Bool, true, false, List, [], ◌∷◌, Option, None, Some, refl, sym, ◌∙◌, ap, ap₂}
+use Rattle.std.proofs.Common.{ℕ, ◌≡◌, ◌≤◌, ◌==◌, cond, Bool, true, false, List, [], ◌∷◌, Option, None, Some, refl, ◌∙◌, ap, ap₂}
 use Rattle.std.proofs.lemmas.Bool.{eqb-true}
 use Rattle.announced_groups.specs.Octets.{train_of}
 use Rattle.announcement_train.specs.declared.train.Train.{Train as Announced}
@@ -15,7 +15,7 @@ use Rattle.sink_histories.specs.Moves.{train_by}
 use Rattle.scenario_history.specs.Bases.{base_of}
 use Rattle.scenario_history.specs.Source.{checked_info, identity_of, setup_of, source_calls}
 use Rattle.scenario_history.specs.Steps.{chosen_of, chosen_steps}
-use Rattle.scenario_history.specs.Worlds.{announced_of, joining_on, life, source_at, the_world}
+use Rattle.scenario_history.specs.Worlds.{announced_of, life, source_at, the_world}
 use Rattle.migration_laws.proofs.Lives.{AreQuietCalls, drained_same, quiet_drained, quiet_served}
 use Rattle.migration_laws.proofs.Printed.{HearsNear, IsQuietLife, reaching_made}
 use Rattle.migration_laws.proofs.Seconds.{at_second, chosen_own, chosen_same, second, seconds, sink_grows}
@@ -29,8 +29,10 @@ announced_same own =
     ap (λ (identity : Identity). train_of identity.broadcast_id (base_of theirs) (checked_info theirs)
     (next_of (setup_of theirs) (source_calls theirs)) (next_anchor_of (setup_of theirs) (source_calls theirs))) (identity_same own)
     ∙ ap₂ (λ base info. train_of (identity_of own).broadcast_id base info
-    (next_of (setup_of theirs) (source_calls theirs)) (next_anchor_of (setup_of theirs) (source_calls theirs))) (base_is_same own) (info_same own)
-    ∙ of_calls (λ setup calls. train_of (identity_of own).broadcast_id (base_of own) (checked_info own) (next_of setup calls) (next_anchor_of setup calls))
+    (next_of (setup_of theirs) (source_calls theirs)) (next_anchor_of (setup_of theirs) (source_calls theirs))) (base_is_same own)
+    (info_same own)
+    ∙ of_calls (λ setup calls. train_of (identity_of own).broadcast_id (base_of own) (checked_info own) (next_of setup calls)
+    (next_anchor_of setup calls))
     (λ ahead setup calls. refl) own
 
 abbrev source_with : ℕ → Identity → Announced → Setup → List SourceCall → Source
@@ -53,7 +55,8 @@ source_from number own = source_with number (identity_of own) (announced_of own)
 
 from_same : (number : ℕ) (own : List Step) → source_from number (seconds own) ≡ source_from number own
 from_same number own =
-    ap₂ (λ identity announced. source_with number identity announced (setup_of (seconds own)) (source_calls (seconds own))) (identity_same own) (announced_same own)
+    ap₂ (λ identity announced. source_with number identity announced (setup_of (seconds own)) (source_calls (seconds own)))
+    (identity_same own) (announced_same own)
     ∙ of_calls (source_with number (identity_of own) (announced_of own)) (λ ahead setup calls. refl) own
 
 pub source_same : (made : List Step) → source_at (seconds made) ≡ source_at made
@@ -94,7 +97,8 @@ made_far n (step ∷ earlier) = far_after n step earlier (made_of n earlier) (ma
 
 -- a train that the step hands a sink isn't answered `BadGroup 11`
 abbrev pub IsCalm : List Step → Step → Type 0
-IsCalm earlier step = (n : ℕ) → (made : Made) → named_by step ≡ Some n → made_of n earlier ≡ Some made → HearsNear made (life n earlier) (train_by (source_at earlier) step)
+IsCalm earlier step = (n : ℕ) → (made : Made) → named_by step ≡ Some n → made_of n earlier ≡ Some made
+    → HearsNear made (life n earlier) (train_by (source_at earlier) step)
 
 abbrev pub AreCalm : List Step → Type 0
 AreCalm [] = Unit {0}
@@ -105,7 +109,8 @@ abbrev pub QuietLife : Option Made → List Call → Type 0
 QuietLife None calls = Unit {0}
 QuietLife (Some made) calls = AreQuietCalls made.setup calls
 
-quiet_lived : (source : Source) (step : Step) (made : Made) (calls : List Call) → AreQuietCalls made.setup calls → HearsNear made calls (train_by source step)
+quiet_lived : (source : Source) (step : Step) (made : Made) (calls : List Call) → AreQuietCalls made.setup calls
+    → HearsNear made calls (train_by source step)
     → AreQuietCalls made.setup (lived_by source step (Some made) calls)
 quiet_lived source (steps.Drop sink) made calls quiet near = tt
 quiet_lived source (steps.Pac sink codec caps metadata) made calls quiet near = (quiet, tt)
@@ -122,7 +127,8 @@ quiet_lived source (steps.Drain sink) made calls quiet near = quiet_drained made
 quiet_lived source (steps.ADrain sink link) made calls quiet near = quiet_drained made.setup made.mtu link calls quiet
 quiet_lived source _ made calls quiet near = quiet
 
-quiet_if : (b : Bool) (one made : Option Made) (first calls : List Call) → QuietLife one first → QuietLife made calls → QuietLife (cond b one made) (cond b first calls)
+quiet_if : (b : Bool) (one made : Option Made) (first calls : List Call) → QuietLife one first → QuietLife made calls
+    → QuietLife (cond b one made) (cond b first calls)
 quiet_if true one made first calls is quiet = is
 quiet_if false one made first calls is quiet = quiet
 
@@ -130,7 +136,8 @@ quiet_born : (made : Made) (mtu : Option ℕ) → AreQuietCalls made.setup (born
 quiet_born made None = tt
 quiet_born made (Some mtu) = (tt, tt)
 
-quiet_chosen : (is_its : Bool) (made : Option Made) (first calls : List Call) → (is_its ≡ true → QuietLife made first) → QuietLife made calls → QuietLife made (cond is_its first calls)
+quiet_chosen : (is_its : Bool) (made : Option Made) (first calls : List Call) → (is_its ≡ true → QuietLife made first)
+    → QuietLife made calls → QuietLife made (cond is_its first calls)
 quiet_chosen true made first calls is quiet = is refl
 quiet_chosen false made first calls is quiet = quiet
 
@@ -162,15 +169,18 @@ quiet_life n (step ∷ earlier) calm =
     quiet_after n step earlier (made_of n earlier) (life n earlier) (quiet_life n earlier calm.0) (λ it named is. calm.1 n it named is)
 
 -- the sink's life in both versions
-pub is_quiet : (made other : Made) (calls : List Call) → (far : IsFar made other) → AreQuietCalls made.setup calls → IsQuietLife far.horizon made calls
+pub is_quiet : (made other : Made) (calls : List Call) → (far : IsFar made other) → AreQuietCalls made.setup calls
+    → IsQuietLife far.horizon made calls
 is_quiet made other calls far quiet = record { within = far.within; quiet = quiet }
 
 -- ---- its life
 
-drain_same : (link : ℕ) (made other : Option Made) (calls : List Call) → AreFar made other → QuietLife made calls → with_drain other link calls ≡ with_drain made link calls
+drain_same : (link : ℕ) (made other : Option Made) (calls : List Call) → AreFar made other → QuietLife made calls
+    → with_drain other link calls ≡ with_drain made link calls
 drain_same link None None calls far quiet = refl
 drain_same link (Some made) (Some other) calls far quiet =
-    ap (λ (sink : Made). drained sink.setup sink.mtu link calls) far.is ∙ drained_same far.horizon made.setup made.mtu link calls far.within quiet
+    ap (λ (sink : Made). drained sink.setup sink.mtu link calls) far.is
+    ∙ drained_same far.horizon made.setup made.mtu link calls far.within quiet
 drain_same link None (Some other) calls far quiet = absurd far
 drain_same link (Some made) None calls far quiet = absurd far
 
@@ -180,23 +190,29 @@ lived_same source (steps.Drain sink) made other calls far quiet = drain_same 0 m
 lived_same source (steps.ADrain sink link) made other calls far quiet = drain_same link made other calls far quiet
 lived_same source _ made other calls far quiet = refl
 
-at_same : (n : ℕ) (named : Option ℕ) (step : Step) (earlier : List Step) (made other : Option Made) (calls others : List Call) → AreFar made other → QuietLife made calls
+at_same : (n : ℕ) (named : Option ℕ) (step : Step) (earlier : List Step) (made other : Option Made) (calls others : List Call)
+    → AreFar made other → QuietLife made calls
     → others ≡ calls → lived_at the_world n named step (seconds earlier) other others ≡ lived_at the_world n named step earlier made calls
 at_same n None this earlier made other calls others far quiet same = same
 at_same n (Some sink) this earlier made other calls others far quiet same =
     ap₂ (λ source all. cond (sink == n) (lived_by source this other all) all) (source_same earlier) same
     ∙ ap (λ all. cond (sink == n) all calls) (lived_same (source_at earlier) this made other calls far quiet)
 
-pub after_same : (n : ℕ) (step : Step) (earlier : List Step) (made other : Option Made) (calls others : List Call) → AreFar made other → QuietLife made calls → others ≡ calls
+pub after_same : (n : ℕ) (step : Step) (earlier : List Step) (made other : Option Made) (calls others : List Call) → AreFar made other
+    → QuietLife made calls → others ≡ calls
     → lived the_world n step (seconds earlier) other others ≡ lived the_world n step earlier made calls
-after_same n (steps.Sink sink streams slots mtu) earlier made other calls others far quiet same = ap (λ all. cond (sink == n) (born mtu) all) same
-after_same n this earlier made other calls others far quiet same = at_same n (named_by this) this earlier made other calls others far quiet same
+after_same n (steps.Sink sink streams slots mtu) earlier made other calls others far quiet same =
+    ap (λ all. cond (sink == n) (born mtu) all) same
+after_same n this earlier made other calls others far quiet same =
+    at_same n (named_by this) this earlier made other calls others far quiet same
 
 pub life_same : (n : ℕ) (made : List Step) → AreCalm made → life n (seconds made) ≡ life n made
 life_same n [] calm = refl
 life_same n (step ∷ earlier) calm =
     let other = made_of n (seconds earlier) in
-    at_second (λ one two. lived the_world n two (seconds earlier) other (life n (seconds earlier)) ≡ lived the_world n one (seconds earlier) other (life n (seconds earlier)))
+    at_second (λ one two. lived the_world n two (seconds earlier) other (life n (seconds earlier))
+    ≡ lived the_world n one (seconds earlier) other (life n (seconds earlier)))
     (λ version. refl) (λ same. refl) step
-    ∙ after_same n step earlier (made_of n earlier) other (life n earlier) (life n (seconds earlier)) (made_far n earlier) (quiet_life n earlier calm.0)
+    ∙ after_same n step earlier (made_of n earlier) other (life n earlier) (life n (seconds earlier)) (made_far n earlier)
+    (quiet_life n earlier calm.0)
     (life_same n earlier calm.0)

@@ -1,15 +1,15 @@
 -- The migration law over any airs that meet the relation of their framing, one for the text and one for the text in version 2.
-use Rattle.std.proofs.Common.{ℕ, ◌≡◌, true, List, ◌∷◌, refl, sym, ◌∙◌, ap, subst}
+use Rattle.std.proofs.Common.{ℕ, ◌≡◌, true, List, ◌∷◌, sym, ◌∙◌, ap, subst}
 use Rattle.bcast_io.specs.TextLines.{TextLine, lines_of}
 use Rattle.unit_outlets.specs.Account.{Account}
 use Rattle.line_runs.specs.Runs.{Accepted}
 use Rattle.scenario_migration.specs.Migrated.{migrated}
 use Rattle.source_machine.specs.Airs.{airs_of}
 use Rattle.scenario_history.specs.Airs.{MeetAirs}
-use Rattle.scenario_history.specs.Lines.{output_said, rules_of, said_after, steps_of}
+use Rattle.scenario_history.specs.Lines.{output_said, rules_of, steps_of}
 use Rattle.scenario_history.specs.Source.{Airs}
 use Rattle.scenario_history.specs.Transcript.{transcript_end, transcript_of, units_of}
-use Rattle.migration_laws.specs.Laws.{BringsTheSame, EndsLasting, IsLastingText, MigrationLaw, NonePrintsTooFar, PrintsTooFar}
+use Rattle.migration_laws.specs.Laws.{EndsLasting, IsLastingText, MigrationLaw, PrintsTooFar}
 use Rattle.migration_laws.proofs.Migrating.{LinesAlike, text_alike}
 use Rattle.migration_laws.proofs.Runs.{Laws}
 
@@ -25,7 +25,8 @@ pub record OneTranscript : Type 0 where
       → Accepted (rules_of airs starts) lines → Accepted (rules_of others starts) lines
 
 -- a `train` step prints the same over all airs
-prints_over : (airs others : Airs) (starts : List Account) (earlier : List TextLine) (line : TextLine) → PrintsTooFar airs starts earlier line
+prints_over : (airs others : Airs) (starts : List Account) (earlier : List TextLine) (line : TextLine)
+    → PrintsTooFar airs starts earlier line
     → PrintsTooFar others starts earlier line
 prints_over airs others starts earlier line prints = record {
   sink = prints.sink;
@@ -38,7 +39,8 @@ prints_over airs others starts earlier line prints = record {
       ∙ sym (ap (output_said airs starts (steps_of earlier)) prints.says) ∙ prints.prints;
 }
 
-lasting_over : OneTranscript → MeetAirs airs_of → (airs : Airs) (starts : List Account) (text : List ℕ) → MeetAirs airs → IsLastingText airs starts text
+lasting_over : OneTranscript → MeetAirs airs_of → (airs : Airs) (starts : List Account) (text : List ℕ) → MeetAirs airs
+    → IsLastingText airs starts text
     → IsLastingText airs_of starts text
 lasting_over one meet airs starts text meets lasting = record {
   trains = λ earlier line later is accepted prints. lasting.trains earlier line later is
@@ -48,13 +50,15 @@ lasting_over one meet airs starts text meets lasting = record {
 
 pub migration_law_holds : Laws → OneTranscript → MeetAirs airs_of → (starts : List Account) → MigrationLaw starts
 migration_law_holds laws one meet starts airs others meets meet_too text lasting =
-    let alike : LinesAlike starts (lines_of true text) (lines_of true (migrated text)) = text_alike laws starts text (lasting_over one meet airs starts text meets lasting) in
+    let alike : LinesAlike starts (lines_of true text) (lines_of true (migrated text)) =
+    text_alike laws starts text (lasting_over one meet airs starts text meets lasting) in
     record {
       octets =
           one.octets others airs_of starts (lines_of true (migrated text)) meet_too meet ∙ alike.octets
           ∙ one.octets airs_of airs starts (lines_of true text) meet meets;
       end =
-          one.end others airs_of starts (lines_of true (migrated text)) meet_too meet ∙ alike.end ∙ one.end airs_of airs starts (lines_of true text) meet meets;
+          one.end others airs_of starts (lines_of true (migrated text)) meet_too meet ∙ alike.end
+          ∙ one.end airs_of airs starts (lines_of true text) meet meets;
       units =
           one.units others airs_of starts (lines_of true (migrated text)) meet_too meet ∙ alike.units
           ∙ one.units airs_of airs starts (lines_of true text) meet meets;

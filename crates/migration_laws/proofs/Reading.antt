@@ -1,23 +1,26 @@
 -- A line that version 1 of the scenario language reads, version 2 reads as the same step: each row of version 1 stands in
 -- version 2, where a sink has up to eight slots.
-use Rattle.std.proofs.Common.{ℕ, ◌≡◌, ◌⊎◌, ◌≤◌, ◌==◌, ◌&&◌, cond, leb, Bool, true, false, List, [], ◌∷◌, Option, None, Some, Result, Ok, Err, refl, sym, ◌∙◌, ap, subst, inl, inr, arith}
-use Rattle.std.specs.Prelude.{bytes_eq, codes, decimal, nat_eq, nat_le}
+use Rattle.std.proofs.Common.{ℕ, ◌≡◌, ◌⊎◌, ◌≤◌, ◌==◌, ◌&&◌, cond, leb, Bool, true, false, List, [], ◌∷◌, Option, None, Some, Result, Ok}
+use Rattle.std.proofs.Common.{Err, refl, sym, ap, subst, inl, inr, arith}
+use Rattle.std.specs.Prelude.{bytes_eq, decimal, nat_eq}
 use Rattle.std.specs.Str.Parse.{digits_value}
-use Rattle.std.proofs.lemmas.Bool.{and_parts, le-leb, leb-true}
+use Rattle.std.proofs.lemmas.Bool.{le-leb, leb-true}
 use Rattle.bcast_io.specs.TextLines.{TextLine, plain, too_long, past}
 use Rattle.octet_fields.specs.Tries.{◌>>=◌}
 use Rattle.scenario_words.specs.declared.fault.LineFault.{LineFault}
 use Rattle.scenario_words.specs.declared.fault.LineFault.TheVariants.{BadLine as Misfit, Memory as NoMemory}
-use Rattle.scenario_words.specs.Places.{Place, one, between}
-use Rattle.scenario_words.specs.Reading.{Left, any_word, at_place, decimal_in, ended, next, next_of, perhaps_of, taken, word_in}
+use Rattle.scenario_words.specs.Places.{one, between}
+use Rattle.scenario_words.specs.Reading.{Left, any_word, at_place, decimal_in, next, next_of, taken}
 use Rattle.scenario_words.specs.Words.{words_of}
 use Rattle.scenario_text.specs.Lines.{comment}
-use Rattle.scenario_text.specs.Steps.{at_known, at_row, built_at, line_after, read_of, step_of, whole}
-use Rattle.scenario_text.specs.Table.{Row, event_rows, first_row_of, first_rows, link_row_of, link_row_of_2, link_rows, most_slots, row_in, row_of, row_of_2, rows_of_2}
-use Rattle.scenario_text.specs.Table.{scenario_row, sink, sink_row, sink_row_of, sink_rows, source_row_of, source_rows, group_row, start_row, tuned_row, drop_row, stop_row, end_row}
+use Rattle.scenario_text.specs.Steps.{at_known, at_row, line_after, read_of, step_of, whole}
+use Rattle.scenario_text.specs.Table.{Row, event_rows, first_row_of, first_rows, link_row_of, link_row_of_2, link_rows, most_slots, row_in}
+use Rattle.scenario_text.specs.Table.{row_of, row_of_2, rows_of_2}
+use Rattle.scenario_text.specs.Table.{sink, sink_row, sink_row_of, sink_rows, source_row_of, source_rows}
+use Rattle.scenario_text.specs.Table.{tuned_row, drop_row, stop_row, end_row}
 use Rattle.scenario_text.specs.declared.step.Step.{Step}
 use Rattle.transcript_text.specs.declared.refusal.Refusal.TheVariants.{BadLine}
-use Rattle.scenario_history.specs.Lines.{Said, a_step, nothing, unsaid, said_by, said_in}
+use Rattle.scenario_history.specs.Lines.{Said, unsaid, said_by, said_in}
 use Rattle.migration_laws.proofs.Seconds.{IsLater}
 
 -- ---- what is read twice
@@ -36,26 +39,31 @@ misfit_then (Err (Misfit word)) f is = tt
 misfit_then (Err NoMemory) f is = absurd is
 misfit_then (Ok a) f is = absurd is
 
-first_on : {A B : Type 0} (here there : Result A LineFault) (f : A → Result B LineFault) → ReadsOn here there → ReadsOn (here >>= f) (there >>= f)
+first_on : {A B : Type 0} (here there : Result A LineFault) (f : A → Result B LineFault) → ReadsOn here there
+    → ReadsOn (here >>= f) (there >>= f)
 first_on here there f (inl same) = inl (ap (λ read. read >>= f) same)
 first_on here there f (inr is) = inr (misfit_then here f is)
 
-then_on : {A B : Type 0} (read : Result A LineFault) (f g : A → Result B LineFault) → ((a : A) → ReadsOn (f a) (g a)) → ReadsOn (read >>= f) (read >>= g)
+then_on : {A B : Type 0} (read : Result A LineFault) (f g : A → Result B LineFault) → ((a : A) → ReadsOn (f a) (g a))
+    → ReadsOn (read >>= f) (read >>= g)
 then_on (Ok a) f g on = on a
 then_on (Err fault) f g on = inl refl
 
 -- ---- a number
 
-fits_more : (is_decimal least : Bool) (n near far : ℕ) → near ≤ far → (is_decimal && (least && leb n near)) ≡ true → (is_decimal && (least && leb n far)) ≡ true
+fits_more : (is_decimal least : Bool) (n near far : ℕ) → near ≤ far → (is_decimal && (least && leb n near)) ≡ true
+    → (is_decimal && (least && leb n far)) ≡ true
 fits_more false least n near far within is = is
 fits_more true false n near far within is = is
 fits_more true true n near far within is = let below = leb-true n near is in le-leb n far (omega (arith, below, within))
 
-taken_on : (b c : Bool) (n read : ℕ) (words : List (List ℕ)) → (b ≡ true → c ≡ true) → ReadsOn (taken read words (cond b (Some n) None)) (taken read words (cond c (Some n) None))
+taken_on : (b c : Bool) (n read : ℕ) (words : List (List ℕ)) → (b ≡ true → c ≡ true)
+    → ReadsOn (taken read words (cond b (Some n) None)) (taken read words (cond c (Some n) None))
 taken_on true c n read words more = inl (ap (λ it. taken read words (cond it (Some n) None)) (more refl))
 taken_on false c n read words more = inr tt
 
-number_on : (near far : ℕ) (read : ℕ) (words : List (List ℕ)) → near ≤ far → ReadsOn (next_of (decimal_in 1 near) read words) (next_of (decimal_in 1 far) read words)
+number_on : (near far : ℕ) (read : ℕ) (words : List (List ℕ)) → near ≤ far
+    → ReadsOn (next_of (decimal_in 1 near) read words) (next_of (decimal_in 1 far) read words)
 unfolding decimal_in
 number_on near far read [] within = inr tt
 number_on near far read (word ∷ words) within =
@@ -78,7 +86,8 @@ slots_on version left =
 -- rows by their first words, where what each reads is read on
 abbrev RowsOn : List Row → List Row → Type 0
 RowsOn [] [] = Unit {0}
-RowsOn (row ∷ rows) (other ∷ others) = (other.first ≡ row.first) × ((left : Left) → ReadsOn (at_row row left) (at_row other left)) × RowsOn rows others
+RowsOn (row ∷ rows) (other ∷ others) = (other.first ≡ row.first) × ((left : Left)
+    → ReadsOn (at_row row left) (at_row other left)) × RowsOn rows others
 RowsOn _ _ = ⊥
 
 same_rows : (rows : List Row) → RowsOn rows rows
@@ -89,16 +98,20 @@ same_rows (row ∷ rows) = (refl, λ left. inl refl, same_rows rows)
 abbrev KnownOn : Option Row → Option Row → Type 0
 KnownOn here there = (left : Left) → ReadsOn (at_known here left) (at_known there left)
 
-known_if : (b : Bool) (row other : Row) (here there : Option Row) → ((left : Left) → ReadsOn (at_row row left) (at_row other left)) → KnownOn here there
+known_if : (b : Bool) (row other : Row) (here there : Option Row) → ((left : Left) → ReadsOn (at_row row left) (at_row other left))
+    → KnownOn here there
     → KnownOn (cond b (Some row) here) (cond b (Some other) there)
 known_if true row other here there on rest = on
 known_if false row other here there on rest = rest
 
-in_rows_on : (first : List ℕ) (rows others : List Row) (here there : Option Row) → RowsOn rows others → KnownOn here there → KnownOn (row_in first rows here) (row_in first others there)
+in_rows_on : (first : List ℕ) (rows others : List Row) (here there : Option Row) → RowsOn rows others → KnownOn here there
+    → KnownOn (row_in first rows here) (row_in first others there)
 in_rows_on first [] [] here there on rest = rest
 in_rows_on first (row ∷ rows) (other ∷ others) here there on rest =
-    subst (λ word. KnownOn (cond (bytes_eq first row.first) (Some row) (row_in first rows here)) (cond (bytes_eq first word) (Some other) (row_in first others there))) (sym on.0)
-    (known_if (bytes_eq first row.first) row other (row_in first rows here) (row_in first others there) on.1 (in_rows_on first rows others here there on.2 rest))
+    subst (λ word. KnownOn (cond (bytes_eq first row.first) (Some row) (row_in first rows here))
+    (cond (bytes_eq first word) (Some other) (row_in first others there))) (sym on.0)
+    (known_if (bytes_eq first row.first) row other (row_in first rows here) (row_in first others there) on.1
+    (in_rows_on first rows others here there on.2 rest))
 in_rows_on first [] (other ∷ others) here there on rest = absurd on
 in_rows_on first (row ∷ rows) [] here there on rest = absurd on
 
@@ -110,7 +123,8 @@ first_rows_on version = (
 )
 
 -- version 1 knows none of the rows of version 2 alone
-later_on : (second : Bool) (first : List ℕ) → KnownOn (cond second (row_in first rows_of_2 (link_row_of_2 first)) None) (row_in first rows_of_2 (link_row_of_2 first))
+later_on : (second : Bool) (first : List ℕ)
+    → KnownOn (cond second (row_in first rows_of_2 (link_row_of_2 first)) None) (row_in first rows_of_2 (link_row_of_2 first))
 later_on true first = λ left. inl refl
 later_on false first = λ left. inr tt
 
@@ -121,7 +135,8 @@ rows_on version first =
     (in_rows_on first (first_rows version) (first_rows 2) (source_row_of version first) (source_row_of 2 first) (first_rows_on version)
     (in_rows_on first source_rows source_rows (sink_row_of version first) (sink_row_of 2 first) (same_rows source_rows)
     (in_rows_on first sink_rows sink_rows (link_row_of version first) (link_row_of 2 first) (same_rows sink_rows)
-    (in_rows_on first link_rows link_rows (row_of_2 version first) (row_of_2 2 first) (same_rows link_rows) (later_on (nat_eq version 2) first)))))
+    (in_rows_on first link_rows link_rows (row_of_2 version first) (row_of_2 2 first) (same_rows link_rows)
+    (later_on (nat_eq version 2) first)))))
 
 -- ---- a line
 
@@ -129,7 +144,8 @@ step_on : (version : ℕ) (line : List ℕ) → ReadsOn (step_of version line) (
 unfolding step_of
 step_on version line =
     then_on (next any_word (record { words = words_of line; read = 0 })) (line_after version) (line_after 2)
-    (λ first. first_on (at_known (row_of version first.0) first.1) (at_known (row_of 2 first.0) first.1) whole (rows_on version first.0 first.1))
+    (λ first. first_on (at_known (row_of version first.0) first.1) (at_known (row_of 2 first.0) first.1) whole
+    (rows_on version first.0 first.1))
 
 if_on : {A : Type 0} (b : Bool) (none here there : Result A LineFault) → ReadsOn here there → ReadsOn (cond b none here) (cond b none there)
 if_on true none here there on = inl refl
@@ -139,7 +155,8 @@ reads_on : (version : ℕ) (line : List ℕ) → ReadsOn (read_of version line) 
 unfolding read_of
 reads_on version [] = inl refl
 reads_on version (octet ∷ line) =
-    if_on (octet == comment) (Ok None) (step_of version (octet ∷ line) >>= λ step. Ok (Some step)) (step_of 2 (octet ∷ line) >>= λ step. Ok (Some step))
+    if_on (octet == comment) (Ok None) (step_of version (octet ∷ line) >>= λ step. Ok (Some step))
+    (step_of 2 (octet ∷ line) >>= λ step. Ok (Some step))
     (first_on (step_of version (octet ∷ line)) (step_of 2 (octet ∷ line)) (λ step. Ok (Some step)) (step_on version (octet ∷ line)))
 
 -- the line isn't of the grammar
@@ -162,6 +179,8 @@ said_on version too_long = inl refl
 said_on version past = inl refl
 
 -- a line that is of the grammar of a version says the same in a later one
-pub said_later : (version later : ℕ) (line : TextLine) → IsLater version later → (said_in later line ≡ said_in version line) ⊎ IsUnsaid (said_in version line)
+pub said_later : (version later : ℕ) (line : TextLine) → IsLater version later
+    → (said_in later line ≡ said_in version line) ⊎ IsUnsaid (said_in version line)
 said_later version later line (inl same) = inl (ap (λ v. said_in v line) same)
-said_later version later line (inr two) = subst (λ v. (said_in v line ≡ said_in version line) ⊎ IsUnsaid (said_in version line)) (sym two) (said_on version line)
+said_later version later line (inr two) = subst (λ v. (said_in v line ≡ said_in version line) ⊎ IsUnsaid (said_in version line)) (sym two)
+    (said_on version line)

@@ -1,6 +1,7 @@
 -- The steps of a scenario in version 2: `scenario 2` stands for `scenario`. What the steps say that isn't said of the version
 -- stays. Lists of steps have the newest first.
-use Rattle.std.proofs.Common.{ℕ, ◌≡◌, ◌⊎◌, ◌≤◌, ◌==◌, ◌||◌, ◌&&◌, cond, Bool, true, false, List, [], ◌∷◌, Option, None, Some, refl, sym, ◌∙◌, ap, subst, inl, inr, arith}
+use Rattle.std.proofs.Common.{ℕ, ◌≡◌, ◌⊎◌, ◌≤◌, ◌==◌, ◌||◌, ◌&&◌, cond, Bool, true, false, List, [], ◌∷◌, Option, refl, sym}
+use Rattle.std.proofs.Common.{◌∙◌, ap, subst, inl, inr, arith}
 use Rattle.std.specs.Prelude.{unwrap_or}
 use Rattle.std.specs.Option.{option_or}
 use Rattle.delegator_states.specs.LastGiven.{last_given as last_of}
@@ -8,10 +9,13 @@ use Rattle.scenario_text.specs.declared.step.Step.{Step}
 use Rattle.scenario_text.specs.declared.step.Step.TheVariants as steps
 use Rattle.sink_histories.specs.Lives.{horizon_in, horizon_of, version_given}
 use Rattle.scenario_history.specs.Bases.{base_lines, with_base_line}
-use Rattle.scenario_history.specs.Source.{absent, cipher_given, cipher_of, group_given, group_of, ident_of, identity_given, is_ahead_in, phase_given, phase_of, source_calls}
+use Rattle.scenario_history.specs.Source.{absent, cipher_given, cipher_of, group_given, group_of, ident_of, identity_given, is_ahead_in}
+use Rattle.scenario_history.specs.Source.{phase_given, phase_of, source_calls}
 use Rattle.scenario_history.specs.Source.{start_given, start_of, with_source_call}
-use Rattle.scenario_history.specs.Steps.{Stage, unbegun, running, over, chosen_given, chosen_of, chosen_steps, is_common, is_of_source, is_over, is_source_line}
-use Rattle.scenario_history.specs.Steps.{is_over_at, is_unbegun_at, last_given, sinks_made, sinks_made_by, stage_after, stage_of, steps_of_source, version_at, version_of}
+use Rattle.scenario_history.specs.Steps.{Stage, unbegun, running, over, chosen_given, chosen_of, chosen_steps, is_common, is_of_source}
+use Rattle.scenario_history.specs.Steps.{is_over, is_source_line}
+use Rattle.scenario_history.specs.Steps.{is_over_at, is_unbegun_at, last_given, sinks_made, sinks_made_by, stage_after, stage_of}
+use Rattle.scenario_history.specs.Steps.{steps_of_source, version_at, version_of}
 
 abbrev pub second : Step → Step
 second (steps.Scenario version) = steps.Scenario 2
@@ -22,13 +26,15 @@ seconds [] = []
 seconds (step ∷ earlier) = second step ∷ seconds earlier
 
 -- what holds of `scenario` and `scenario 2`, and of each other step and itself, holds of each step and the one that stands for it
-pub at_second : (P : Step → Step → Type 0) → ((version : ℕ) → P (steps.Scenario version) (steps.Scenario 2)) → ((step : Step) → P step step) → (step : Step) → P step (second step)
+pub at_second : (P : Step → Step → Type 0) → ((version : ℕ) → P (steps.Scenario version) (steps.Scenario 2)) → ((step : Step) → P step step)
+    → (step : Step) → P step (second step)
 at_second P first others (steps.Scenario version) = first version
 at_second P first others step = others step
 
 -- ---- what is gathered step by step
 
-pub gathered : {A : Type 0} (f : List Step → A) (with : Step → A → A) → ((step : Step) (earlier : List Step) → f (step ∷ earlier) ≡ with step (f earlier))
+gathered : {A : Type 0} (f : List Step → A) (with : Step → A → A)
+    → ((step : Step) (earlier : List Step) → f (step ∷ earlier) ≡ with step (f earlier))
     → ((version : ℕ) (a : A) → with (steps.Scenario 2) a ≡ with (steps.Scenario version) a) → (made : List Step) → f (seconds made) ≡ f made
 gathered f with next first [] = refl
 gathered f with next first (step ∷ earlier) =
@@ -36,10 +42,12 @@ gathered f with next first (step ∷ earlier) =
     ∙ at_second (λ one other. with other (f earlier) ≡ with one (f earlier)) (λ version. first version (f earlier)) (λ same. refl) step
     ∙ sym (next step earlier)
 
-given_same : {A : Type 0} (gives : Step → Option A) → ((version : ℕ) → gives (steps.Scenario 2) ≡ gives (steps.Scenario version)) → (made : List Step)
+given_same : {A : Type 0} (gives : Step → Option A) → ((version : ℕ) → gives (steps.Scenario 2) ≡ gives (steps.Scenario version))
+    → (made : List Step)
     → last_given gives (seconds made) ≡ last_given gives made
 given_same gives first made =
-    gathered (last_given gives) (λ step given. option_or (gives step) given) (λ step earlier. refl) (λ version given. ap (λ one. option_or one given) (first version)) made
+    gathered (last_given gives) (λ step given. option_or (gives step) given) (λ step earlier. refl)
+    (λ version given. ap (λ one. option_or one given) (first version)) made
 
 -- ---- a source
 
@@ -74,10 +82,12 @@ chosen_same made = ap (λ given. unwrap_or given 0) (given_same chosen_given (λ
 
 its_same : (s : ℕ) (earlier : List Step) (step : Step) → is_of_source s (seconds earlier) (second step) ≡ is_of_source s earlier step
 its_same s earlier step =
-    at_second (λ one other. is_of_source s (seconds earlier) other ≡ is_of_source s (seconds earlier) one) (λ version. refl) (λ same. refl) step
+    at_second (λ one other. is_of_source s (seconds earlier) other ≡ is_of_source s (seconds earlier) one) (λ version. refl) (λ same. refl)
+    step
     ∙ ap (λ chosen. is_common step || (is_source_line step && (chosen == s))) (chosen_same earlier)
 
-seconds_if : (is_its : Bool) (step : Step) (own : List Step) → cond is_its (second step ∷ seconds own) (seconds own) ≡ seconds (cond is_its (step ∷ own) own)
+seconds_if : (is_its : Bool) (step : Step) (own : List Step)
+    → cond is_its (second step ∷ seconds own) (seconds own) ≡ seconds (cond is_its (step ∷ own) own)
 seconds_if true this own = refl
 seconds_if false this own = refl
 
@@ -85,7 +95,8 @@ pub own_same : (s : ℕ) (made : List Step) → steps_of_source s (seconds made)
 own_same s [] = refl
 own_same s (step ∷ earlier) =
     ap (λ own. cond (is_of_source s (seconds earlier) (second step)) (second step ∷ own) own) (own_same s earlier)
-    ∙ ap (λ is_its. cond is_its (second step ∷ seconds (steps_of_source s earlier)) (seconds (steps_of_source s earlier))) (its_same s earlier step)
+    ∙ ap (λ is_its. cond is_its (second step ∷ seconds (steps_of_source s earlier)) (seconds (steps_of_source s earlier)))
+    (its_same s earlier step)
     ∙ seconds_if (is_of_source s earlier step) step (steps_of_source s earlier)
 
 pub chosen_own : (made : List Step) → chosen_steps (seconds made) ≡ seconds (chosen_steps made)
@@ -104,7 +115,7 @@ StandsLater (running version) (running later) = IsLater version later
 StandsLater (over version) (over later) = IsLater version later
 StandsLater _ _ = ⊥
 
-pub version_later : (stage later : Stage) → StandsLater stage later → IsLater (version_at stage) (version_at later)
+version_later : (stage later : Stage) → StandsLater stage later → IsLater (version_at stage) (version_at later)
 version_later unbegun unbegun is = inl refl
 version_later (running version) (running later) is = is
 version_later (over version) (over later) is = is
@@ -137,12 +148,13 @@ unbegun_later (running version) (over later) is = absurd is
 unbegun_later (over version) unbegun is = absurd is
 unbegun_later (over version) (running later) is = absurd is
 
-stands_after : (stage later : Stage) (step : Step) → StandsLater stage later → StandsLater (stage_after step stage) (stage_after (second step) later)
+stands_after : (stage later : Stage) (step : Step) → StandsLater stage later
+    → StandsLater (stage_after step stage) (stage_after (second step) later)
 stands_after stage later (steps.Scenario version) is = inr refl
 stands_after stage later steps.End is = version_later stage later is
 stands_after stage later this is = is
 
-pub stands_later : (made : List Step) → StandsLater (stage_of made) (stage_of (seconds made))
+stands_later : (made : List Step) → StandsLater (stage_of made) (stage_of (seconds made))
 stands_later [] = tt
 stands_later (step ∷ earlier) = stands_after (stage_of earlier) (stage_of (seconds earlier)) step (stands_later earlier)
 
@@ -170,7 +182,7 @@ ahead_stays version later (inl same) is = ap is_ahead_in same ∙ is
 ahead_stays version later (inr two) is = ap is_ahead_in two
 
 -- a sink's version is that of its scenario
-pub version_same : (made : List Step) → unwrap_or (last_of version_given made) 1 ≡ version_of made
+version_same : (made : List Step) → unwrap_or (last_of version_given made) 1 ≡ version_of made
 version_same [] = refl
 version_same (steps.Scenario version ∷ earlier) = refl
 version_same (steps.End ∷ earlier) = version_same earlier

@@ -1,6 +1,7 @@
 -- A source of a scenario in version 2: what it sends is the same (Core 5.2, volume 6 part B, section 4.4.6, and part G, section
 -- 2). Where a list is called `own` its steps are those of one source, the newest first.
-use Rattle.std.proofs.Common.{ℕ, ◌≡◌, ◌-◌, ◌%◌, ◌^◌, ◌==◌, ◌||◌, ◌&&◌, not, cond, Bool, List, [], ◌∷◌, Option, None, Some, refl, ◌∙◌, ap, ap₂}
+use Rattle.std.proofs.Common.{ℕ, ◌≡◌, ◌-◌, ◌%◌, ◌^◌, ◌==◌, ◌||◌, ◌&&◌, not, cond, Bool, List, [], ◌∷◌, Option, None, Some, refl, ◌∙◌, ap}
+use Rattle.std.proofs.Common.{ap₂}
 use Rattle.std.specs.Prelude.{is_some, length, map, nat_lt, unwrap_or}
 use Rattle.std.specs.List.{range_with_len}
 use Rattle.base_grammar.specs.Draft.{is_empty_last, last_of}
@@ -10,17 +11,21 @@ use Rattle.iso_pdu.specs.Control.{terminate}
 use Rattle.iso_pdu.specs.Layout.{control}
 use Rattle.iso_pdu.specs.Spelling.{pdu}
 use Rattle.isoal_base.specs.Air.{Air}
-use Rattle.isoal_framed.specs.Calls.{Call as FramedCall, accept}
+use Rattle.isoal_framed.specs.Calls.{accept}
 use Rattle.source_machine.specs.Airs.{air_after, air_of, airs_of, pdu_of, stale_of}
-use Rattle.source_machine.specs.Calls.{Setup, Call, give, event as perform, events, framed_calls, framed_lays, laid_before, laid_with, lay_anchor, next_of, stream_calls}
+use Rattle.source_machine.specs.Calls.{Setup, Call, give, event as perform, events, framed_calls, framed_lays, laid_before, laid_with}
+use Rattle.source_machine.specs.Calls.{lay_anchor, next_of, stream_calls}
 use Rattle.source_machine.specs.Ciphers.{with_cipher}
 use Rattle.scenario_bases.specs.Lines.{subgroups_in}
 use Rattle.scenario_text.specs.declared.step.Step.{Step}
-use Rattle.scenario_history.specs.Bases.{base_from, base_lines, base_of, has_bis, has_subgroup, is_base_too_long, is_last_bare}
-use Rattle.scenario_history.specs.Source.{GroupLine, checked_info, end_pdu, event_back, group_of, identity_of, is_ahead_in, is_ciphered, is_heard, is_sending, is_sending_at, is_started}
-use Rattle.scenario_history.specs.Source.{no_group, no_identity, open_event, pdu_in, performed, phase_of, setup_from, setup_of, source_calls, stale_in, start_of, takes_units, was_started_at}
+use Rattle.scenario_history.specs.Bases.{base_from, base_of, has_bis, has_subgroup, is_base_too_long, is_last_bare}
+use Rattle.scenario_history.specs.Source.{GroupLine, checked_info, end_pdu, event_back, group_of, identity_of, is_ahead_in, is_ciphered}
+use Rattle.scenario_history.specs.Source.{is_heard, is_sending, is_sending_at, is_started}
+use Rattle.scenario_history.specs.Source.{no_group, no_identity, open_event, pdu_in, performed, setup_from, setup_of}
+use Rattle.scenario_history.specs.Source.{source_calls, stale_in, takes_units, was_started_at}
 use Rattle.scenario_history.specs.Steps.{is_over, version_of}
-use Rattle.migration_laws.proofs.Seconds.{base_same, calls_same, cipher_same, group_same, ident_same, over_same, phase_same, seconds, start_same}
+use Rattle.migration_laws.proofs.Seconds.{base_same, calls_same, cipher_same, group_same, ident_same, over_same, phase_same, seconds}
+use Rattle.migration_laws.proofs.Seconds.{start_same}
 
 -- ---- what fixes it
 
@@ -34,40 +39,48 @@ is_ahead own = is_ahead_in (version_of own)
 
 pub setup_same : (own : List Step) → setup_of (seconds own) ≡ with_ahead (is_ahead (seconds own)) (setup_of own)
 setup_same own =
-    ap₂ (λ group start. setup_from (unwrap_or group no_group) (unwrap_or start 0) (is_ahead (seconds own))) (group_same own) (start_same own)
+    ap₂ (λ group start. setup_from (unwrap_or group no_group) (unwrap_or start 0) (is_ahead (seconds own))) (group_same own)
+    (start_same own)
 
 -- what is said of what fixes the source and of its calls, whether times may be ahead or not
-pub of_calls : {A : Type 0} (f : Setup → List Call → A) → ((ahead : Bool) (setup : Setup) (calls : List Call) → f (with_ahead ahead setup) calls ≡ f setup calls) → (own : List Step)
+pub of_calls : {A : Type 0} (f : Setup → List Call → A) → ((ahead : Bool) (setup : Setup) (calls : List Call)
+    → f (with_ahead ahead setup) calls ≡ f setup calls) → (own : List Step)
     → f (setup_of (seconds own)) (source_calls (seconds own)) ≡ f (setup_of own) (source_calls own)
 of_calls f stays own =
     ap₂ f (setup_same own) (calls_same own) ∙ stays (is_ahead (seconds own)) (setup_of own) (source_calls own)
 
 -- ---- its airs
 
-pub framed_same : (ahead : Bool) (setup : Setup) (bis : ℕ) (calls : List Call) → framed_calls (with_ahead ahead setup) bis calls ≡ framed_calls setup bis calls
+pub framed_same : (ahead : Bool) (setup : Setup) (bis : ℕ) (calls : List Call)
+    → framed_calls (with_ahead ahead setup) bis calls ≡ framed_calls setup bis calls
 framed_same ahead setup bis [] = refl
 framed_same ahead setup bis (give stream time octets ∷ earlier) =
     ap (λ calls. cond (stream == bis) (accept (unwrap_or time 0) octets ∷ calls) calls) (framed_same ahead setup bis earlier)
 framed_same ahead setup bis (perform ∷ earlier) =
-    ap (framed_lays (lay_anchor setup (laid_before setup.info earlier)) (iso_us_of setup.info) (laid_with setup.info earlier)) (framed_same ahead setup bis earlier)
+    ap (framed_lays (lay_anchor setup (laid_before setup.info earlier)) (iso_us_of setup.info) (laid_with setup.info earlier))
+    (framed_same ahead setup bis earlier)
 
-airs_from : (ahead : Bool) (setup : Setup) (calls : List Call) (streams : List ℕ) → map (air_of (with_ahead ahead setup) calls) streams ≡ map (air_of setup calls) streams
+airs_from : (ahead : Bool) (setup : Setup) (calls : List Call) (streams : List ℕ)
+    → map (air_of (with_ahead ahead setup) calls) streams ≡ map (air_of setup calls) streams
 airs_from ahead setup calls [] = refl
 airs_from ahead setup calls (bis ∷ streams) =
     ap₂ (λ (air : Air) (airs : List Air). air ∷ airs)
-    (ap (air_after setup.info (stream_calls setup.info bis calls)) (framed_same ahead setup bis calls)) (airs_from ahead setup calls streams)
+    (ap (air_after setup.info (stream_calls setup.info bis calls)) (framed_same ahead setup bis calls))
+    (airs_from ahead setup calls streams)
 
 pub airs_same : (ahead : Bool) (setup : Setup) (calls : List Call) → airs_of (with_ahead ahead setup) calls ≡ airs_of setup calls
 airs_same ahead setup calls = airs_from ahead setup calls (range_with_len 1 setup.info.num_bis)
 
-pub pdu_same : (own : List Step) (event bis subevent : ℕ) → pdu_in airs_of (seconds own) event bis subevent ≡ pdu_in airs_of own event bis subevent
+pub pdu_same : (own : List Step) (event bis subevent : ℕ) → pdu_in airs_of (seconds own) event bis subevent
+    ≡ pdu_in airs_of own event bis subevent
 pdu_same own event bis subevent =
     of_calls (λ setup calls. unwrap_or (pdu_of setup (airs_of setup calls) event bis subevent) [])
     (λ ahead setup calls. ap (λ airs. unwrap_or (pdu_of setup airs event bis subevent) []) (airs_same ahead setup calls)) own
 
 pub stale_same : (own : List Step) → stale_in airs_of (seconds own) ≡ stale_in airs_of own
 stale_same own =
-    of_calls (λ setup calls. stale_of setup calls (airs_of setup (perform ∷ calls))) (λ ahead setup calls. ap (stale_of setup calls) (airs_same ahead setup (perform ∷ calls))) own
+    of_calls (λ setup calls. stale_of setup calls (airs_of setup (perform ∷ calls)))
+    (λ ahead setup calls. ap (stale_of setup calls) (airs_same ahead setup (perform ∷ calls))) own
 
 -- ---- its events
 
@@ -78,7 +91,8 @@ pub performed_same : (own : List Step) → performed (seconds own) ≡ performed
 performed_same own = ap events (calls_same own)
 
 pub end_same : (own : List Step) (reason : ℕ) → end_pdu (seconds own) reason ≡ end_pdu own reason
-end_same own reason = of_calls (λ setup calls. pdu (control (terminate reason (next_of setup calls % 2 ^ 16)))) (λ ahead setup calls. refl) own
+end_same own reason = of_calls (λ setup calls. pdu (control (terminate reason (next_of setup calls % 2 ^ 16)))) (λ ahead setup calls. refl)
+    own
 
 pub ciphered_same : (own : List Step) → is_ciphered (seconds own) ≡ is_ciphered own
 ciphered_same own = ap is_some (cipher_same own)

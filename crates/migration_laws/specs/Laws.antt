@@ -35,7 +35,8 @@ pub record PrintsTooFar (airs : Airs) (starts : List Account) (earlier : List Te
 
 -- no `train` step prints it, of those among these lines that are run: neither their line nor one before it is refused
 abbrev pub NonePrintsTooFar : Airs → List Account → List TextLine → Type 0
-NonePrintsTooFar airs starts lines = (earlier : List TextLine) → (line : TextLine) → (later : List TextLine) → lines ≡ reverse earlier ++ line ∷ later
+NonePrintsTooFar airs starts lines = (earlier : List TextLine) → (line : TextLine) → (later : List TextLine)
+    → lines ≡ reverse earlier ++ line ∷ later
     → Accepted (rules_of airs starts) (line ∷ earlier) → PrintsTooFar airs starts earlier line → ⊥
 
 -- ---- refusals that version 2 may not have
