@@ -4,3 +4,4 @@ mod Infos
 mod Joinings
 mod Octets
 mod Streams
+pub mod Citable

@@ -16,6 +16,7 @@ use Rattle.source_machine.specs.Airs.{airs_of}
 use Rattle.scenario_history.specs.Airs.{MeetAirs}
 use Rattle.scenario_laws.specs.Laws.{UnitsLaw, OrderLaw}
 use Rattle.scenario_laws.specs.Links.{AgreementLaw, LinksLaw}
+use Rattle.migration_laws.specs.Laws.{MigrationLaw}
 use Rattle.scenario_history.specs.Source.{Airs}
 use Rattle.scenario_history.specs.Transcript.{transcript_of}
 use Rattle.replay_command.specs.World.{World}
@@ -38,6 +39,7 @@ pub record Laws (boxes : List Account) : Type 0 where
   pub order : OrderLaw boxes
   pub agreement : AgreementLaw
   pub links : LinksLaw
+  pub migration : MigrationLaw boxes
 
 one_of : (boxes : List Account) → Laws boxes → (airs others : Airs) → MeetAirs airs → MeetAirs others → (lines : List TextLine) → transcript_of airs boxes lines ≡ transcript_of others boxes lines
 one_of boxes laws airs others meets meet_too lines = sym ((laws.same airs meets).octets boxes lines) ∙ (laws.same others meet_too).octets boxes lines
@@ -78,6 +80,7 @@ module _ (old new : World) (status : Status) where
     order_law = laws.order;
     agreement_law = laws.agreement;
     links_law = laws.links;
+    migration_law = laws.migration;
   }
 
 -- the call of words that mean replay

@@ -14,6 +14,7 @@ use Rattle.replay_command.specs.Ended.{AheadOf, Complete, Ended, IsWhole}
 use Rattle.replay_command.specs.Replayed.{ReadsAtMost, read_limit}
 use Rattle.scenario_laws.specs.Laws.{UnitsLaw, OrderLaw}
 use Rattle.scenario_laws.specs.Links.{AgreementLaw, LinksLaw}
+use Rattle.migration_laws.specs.Laws.{MigrationLaw}
 use Rattle.replay_command.specs.World.{World}
 
 -- between these worlds a call read, wrote and handed to the boxes what this status says
@@ -69,3 +70,6 @@ pub record Promised (old new : World) (status : Status) : Type 0 where
   -- On each link but 0 the same holds whatever the other links do: they change nothing of it but through the states of the slots,
   -- and a link that is joined begins anew.
   pub links_law : LinksLaw
+  -- A text in which no `train` step prints `BadGroup 11`, and whose transcript has no refusal or a refusal other than BadLine,
+  -- `BadGroup 11` and TimeOrder, has the same transcript in version 2, with the same end, and hands the boxes the same units.
+  pub migration_law : MigrationLaw old.boxes

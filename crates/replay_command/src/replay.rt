@@ -17,6 +17,7 @@ ghost use Rattle.replay_command.specs.State.Between.{ReadTo, TextIs, NextIs, Run
 use crate::status::Status;
 use bcast_base::{Memory, Octets};
 use bcast_io::{ByteSink, ByteSource, Failed, LineRead, LineReader, SinkFault, write_whole};
+use migration_laws::migration_law;
 use replay_generated::run_generated;
 use replay_migration::run_migration;
 use replay_steps::Machine;
@@ -43,6 +44,10 @@ use unit_outlets::Outlet;
 /// read waits has its state as the assistant's view (Broadcast Audio Scan Service 1.0, section 3.2). Once the waiting notices of
 /// the link are delivered and its waiting reads are served, all views are the states. On a link but 0 that holds whatever the
 /// other links do: they change nothing of it but through the states of the slots, and a link that is joined begins anew.
+///
+/// A text in which no `train` step prints `BadGroup 11`, and whose transcript has no refusal or a refusal other than BadLine,
+/// `BadGroup 11` and TimeOrder, brings the same in version 2, as `--migrate` writes it: the same transcript, and the same units to
+/// the boxes.
 pub fn replay<S: ByteSource, K: ByteSink>(
     alloc: Global,
     words: &Words,
@@ -70,6 +75,7 @@ pub fn replay<S: ByteSource, K: ByteSink>(
     order_law();
     agreement_law();
     links_law();
+    migration_law();
     match mode_of(alloc, words) {
         Ok(Mode::Replay) => run(alloc, source, sink, outlets),
         Ok(Mode::Migrate) => Status::from(run_migration(alloc, source, sink)),

@@ -35,3 +35,4 @@ mod OrderLaw
 mod MetAirs
 mod LifeOctets
 mod Linked
+pub mod Citable

@@ -31,6 +31,7 @@ returns-in-Ok-Replay-clause-promised g c =
       order = c.order_law.ensures boxes;
       agreement = c.agreement_law.ensures;
       links = c.links_law.ensures;
+      migration = c.migration_law.ensures boxes;
     }))
 
 pub returns-in-Err-clause-promised : goal.returns-in-Err-clause-promised
@@ -54,6 +55,7 @@ returns-in-Err-clause-promised g c =
       order = c.order_law.ensures boxes;
       agreement = c.agreement_law.ensures;
       links = c.links_law.ensures;
+      migration = c.migration_law.ensures boxes;
     })
 
 pub returns-in-Ok-Migrate-clause-promised : goal.returns-in-Ok-Migrate-clause-promised

@@ -1,0 +1,85 @@
+-- The group check where a group may reach more events ahead: but for the row of the horizon it finds the same.
+use Rattle.std.proofs.Common.{ℕ, ◌≡◌, ◌⊎◌, ◌≤◌, ltb, cond, Bool, true, false, List, [], ◌∷◌, Option, None, Some, refl, sym, inl, inr, arith}
+use Rattle.std.specs.List.{find}
+use Rattle.std.proofs.lemmas.Bool.{false≢true, le-ltb, ltb-true, lt-ltb}
+use Rattle.big_info.specs.declared.fault.GroupFault.{GroupFault}
+use Rattle.big_info.specs.declared.fault.GroupFault.TheVariants as faults_of
+use Rattle.big_info.specs.declared.info.BigInfo.{BigInfo}
+use Rattle.big_info.specs.Faults.{faults}
+use Rattle.big_info.specs.Rows.{first_fault, has_fault}
+use Rattle.big_info.specs.Schedule.{horizon_of}
+
+-- the fault isn't that the group reaches too far
+abbrev pub IsNear : GroupFault → Type 0
+IsNear faults_of.Horizon = ⊥
+IsNear _ = Unit {0}
+
+-- no such fault was found
+abbrev pub FoundNear : Option GroupFault → Type 0
+FoundNear None = Unit {0}
+FoundNear (Some fault) = IsNear fault
+
+-- ---- it finds the same
+
+past : (holds : Bool) (fault : GroupFault) (one other : Option GroupFault) → FoundNear (cond holds (Some fault) one)
+    → (FoundNear one → other ≡ one)
+    → cond holds (Some fault) other ≡ cond holds (Some fault) one
+past true fault one other is same = refl
+past false fault one other is same = same is
+
+past_horizon : (close wide : Bool) (one other : Option GroupFault) → (wide ≡ true → close ≡ true)
+    → FoundNear (cond close (Some faults_of.Horizon) one)
+    → (FoundNear one → other ≡ one) → cond wide (Some faults_of.Horizon) other ≡ cond close (Some faults_of.Horizon) one
+past_horizon true wide one other more is same = absurd is
+past_horizon false true one other more is same = absurd (false≢true (more refl))
+past_horizon false false one other more is same = same is
+
+-- what lies past the greater horizon lies past the smaller one
+past_both : (near far reach : ℕ) → near ≤ far → ltb far reach ≡ true → ltb near reach ≡ true
+past_both near far reach within past_far = let below = ltb-true far reach past_far in lt-ltb near reach (omega (arith, below))
+
+found : (near far : ℕ) (info : BigInfo) (all : List GroupFault) → near ≤ far → FoundNear (find (has_fault near info) all)
+    → find (has_fault far info) all ≡ find (has_fault near info) all
+found near far info [] within is = refl
+found near far info (faults_of.Horizon ∷ all) within is =
+    past_horizon (ltb near (horizon_of info)) (ltb far (horizon_of info)) (find (has_fault near info) all) (find (has_fault far info) all)
+    (past_both near far (horizon_of info) within) is (found near far info all within)
+found near far info (fault ∷ all) within is =
+    past (has_fault near info fault) fault (find (has_fault near info) all) (find (has_fault far info) all) is
+    (found near far info all within)
+
+pub first_same : (near far : ℕ) (info : BigInfo) → near ≤ far → FoundNear (first_fault near info)
+    → first_fault far info ≡ first_fault near info
+unfolding first_fault
+first_same near far info within is = found near far info faults within is
+
+-- ---- where the row of the horizon doesn't hold
+
+not_past : (holds : Bool) (fault : GroupFault) (rest : Option GroupFault) → IsNear fault → FoundNear rest
+    → FoundNear (cond holds (Some fault) rest)
+not_past true fault rest here later = here
+not_past false fault rest here later = later
+
+not_horizon : (holds : Bool) (rest : Option GroupFault) → holds ≡ false → FoundNear rest
+    → FoundNear (cond holds (Some faults_of.Horizon) rest)
+not_horizon true rest none later = absurd (false≢true (sym none))
+not_horizon false rest none later = later
+
+near_in : (near : ℕ) (info : BigInfo) (all : List GroupFault) → horizon_of info ≤ near → FoundNear (find (has_fault near info) all)
+near_in near info [] within = tt
+near_in near info (faults_of.Horizon ∷ all) within =
+    not_horizon (ltb near (horizon_of info)) (find (has_fault near info) all) (le-ltb near (horizon_of info) within)
+    (near_in near info all within)
+near_in near info (fault ∷ all) within = not_past (has_fault near info fault) fault (find (has_fault near info) all) tt
+    (near_in near info all within)
+
+pub within_near : (near : ℕ) (info : BigInfo) → horizon_of info ≤ near → FoundNear (first_fault near info)
+unfolding first_fault
+within_near near info within = near_in near info faults within
+
+-- ---- either way
+
+pub near_or_far : (found : Option GroupFault) → FoundNear found ⊎ (found ≡ Some faults_of.Horizon)
+near_or_far None = inl tt
+near_or_far (Some faults_of.Horizon) = inr refl
+near_or_far (Some fault) = inl tt

@@ -1,0 +1,16 @@
+mod Groups
+mod Trains
+mod Lives
+mod Printed
+mod Seconds
+mod Sources
+mod Lived
+mod Received
+mod Refused
+mod Outputs
+mod Reach
+mod Reading
+mod Runs
+mod Texts
+mod Migrating
+mod Overs
