@@ -4,16 +4,17 @@ use Rattle.std.proofs.Common.{Option, Some, None, refl, sym, ap, ◌∙◌, subs
 use Rattle.std.specs.List.{slice_get}
 use Rattle.std.proofs.lemmas.Bool.{cond-true, cond-false, eq-eqb, ne_eqb, false≢true}
 use Rattle.std.proofs.lemmas.List.{append-nil, length-take, take_all}
+use Rattle.std.proofs.lemmas.Option.{slice_get_within}
 use Rattle.std.proofs.Math.Seq.{take-add}
 use Rattle.iso_pdu.specs.Layout.{Part, start, more}
 use Rattle.isoal_framed.specs.Air.{part_of}
-use Rattle.isoal_framed.specs.Calls.{Timed}
+use Rattle.isoal_framed.specs.Calls.{Laying, Timed}
 use Rattle.isoal_framed.specs.Places.{Act, carries, leaves_out, ends, Comes, IsSegment, place_of, overhead, least_room, done, sent, room}
 use Rattle.isoal_framed.specs.Sends.{IsTimed, AreOf}
 use Rattle.isoal_framed.specs.Struck.{Sent, octets_in, behind, carried, parts_at}
 use Rattle.isoal_framed.proofs.Stays.{carried_past}
 use Rattle.isoal_framed.proofs.Carried.{carried_before, carried_here}
-use Rattle.isoal_framed.proofs.Sendings.{chain_more, Open, are_more, are_snoc, take_next, octets_snoc, get_same, Sending, at_least}
+use Rattle.isoal_framed.proofs.Sendings.{chain_more, Open, are_more, are_snoc, take_next, octets_snoc, get_same, taken_before, Sending, at_least}
 use Rattle.isoal_framed.proofs.Sendings.{Stable, parts_last, fit_more, and_yes, snoc_before, snoc_here, chain_past, Grown}
 
 -- a start
@@ -42,14 +43,14 @@ new_stable number offset octets complete closed q before =
 take_fits : (count most : ℕ) (octets : List ℕ) → count ≤ most → length (take count octets ++ []) ≤ most
 take_fits count most octets within = omega (arith, length-append (take count octets) [], length-take count octets)
 
-start_step : (max_pdu max_sdu bn : ℕ) (anchors : List ℕ) (units : List Timed) (anchor number : ℕ) (acts : List Act) (parts : List Part) (closed : List Sent) (count : ℕ) (complete : Bool)
+start_step : (max_pdu max_sdu bn : ℕ) (laid : List Laying) (units : List Timed) (anchor number : ℕ) (acts : List Act) (parts : List Part) (closed : List Sent) (count : ℕ) (complete : Bool)
     (unit : Timed)
-    → Sending max_pdu max_sdu bn anchors units number acts parts closed None → slice_get units (done acts) ≡ Some unit → length unit.octets ≤ max_sdu
+    → Sending max_pdu max_sdu bn laid units number acts parts closed None → slice_get units (done acts) ≡ Some unit → length unit.octets ≤ max_sdu
     → IsSegment (place_of max_pdu units anchor acts) unit count complete
-    → IsTimed bn anchors unit (record { first = number; offset = anchor - unit.time; segments = take count unit.octets ∷ []; whole = complete })
-    → Grown max_pdu max_sdu bn anchors units number (carries count complete ∷ acts)
+    → IsTimed bn laid (done acts) unit (record { first = number; offset = anchor - unit.time; segments = take count unit.octets ∷ []; whole = complete })
+    → Grown max_pdu max_sdu bn laid units number (carries count complete ∷ acts)
     (parts ++ part_of anchor (sent acts) (slice_get units (done acts)) count complete ∷ []) closed None
-start_step max_pdu max_sdu bn anchors units anchor number acts parts closed count true unit sending due fits segment timed =
+start_step max_pdu max_sdu bn laid units anchor number acts parts closed count true unit sending due fits segment timed =
     let within : sent acts + count ≤ length unit.octets = segment.within in (
       closed ++ record { first = number; offset = anchor - unit.time; segments = take count unit.octets ∷ []; whole = true } ∷ [],
       None,
@@ -65,11 +66,12 @@ start_step max_pdu max_sdu bn anchors units anchor number acts parts closed coun
             (new_part units anchor acts count true unit due sending.open_is);
         fit = fit_more max_sdu closed (record { first = number; offset = anchor - unit.time; segments = take count unit.octets ∷ []; whole = true }) sending.fit
             (take_fits count max_sdu unit.octets (omega arith));
-        closed_of = subst (λ xs. AreOf bn anchors xs
+        closed_of = subst (λ xs. AreOf bn laid 0 xs
             (closed ++ record { first = number; offset = anchor - unit.time; segments = take count unit.octets ∷ []; whole = true } ∷ []))
             (sym (take_next units (done acts) unit due))
-            (are_snoc bn anchors (take (done acts) units) closed unit
+            (are_snoc bn laid 0 (done acts) (take (done acts) units) closed unit
             (record { first = number; offset = anchor - unit.time; segments = take count unit.octets ∷ []; whole = true }) sending.closed_of
+            (taken_before units (done acts) unit due)
             (record {
               octets = λ whole. append-nil (take count unit.octets) ∙ take_all count unit.octets
                   (let end : sent acts + count ≡ length unit.octets = segment.complete_is.0 refl in
@@ -80,7 +82,7 @@ start_step max_pdu max_sdu bn anchors units anchor number acts parts closed coun
       },
       new_stable number (anchor - unit.time) (take count unit.octets) true closed,
     )
-start_step max_pdu max_sdu bn anchors units anchor number acts parts closed count false unit sending due fits segment timed =
+start_step max_pdu max_sdu bn laid units anchor number acts parts closed count false unit sending due fits segment timed =
     let within : sent acts + count ≤ length unit.octets = segment.within in
     let fills : overhead (sent acts) + count ≡ room max_pdu acts = segment.fills refl in
     let some : 1 ≤ count = at_least count (λ none. false≢true (segment.complete_is.1
@@ -176,19 +178,20 @@ longer_is units acts count before unit timed is due octets =
     ∙ ap (λ xs. xs ++ take count (drop (sent acts) unit.octets)) (octets ∙ ap (λ t. take (sent acts) t.octets) (get_same units (done acts) timed unit is due))
     ∙ sym (take-add (sent acts) count unit.octets)
 
-longer_timed : (bn : ℕ) (anchors : List ℕ) (units : List Timed) (acts : List Act) (octets : List ℕ) (complete : Bool) (before : Sent) (unit timed : Timed)
-    → slice_get units (done acts) ≡ Some timed → slice_get units (done acts) ≡ Some unit → IsTimed bn anchors timed before
-    → IsTimed bn anchors unit (longer octets complete before)
-longer_timed bn anchors units acts octets complete before unit timed is due was =
+longer_timed : (bn : ℕ) (laid : List Laying) (units : List Timed) (acts : List Act) (octets : List ℕ) (complete : Bool) (before : Sent) (unit timed : Timed)
+    → slice_get units (done acts) ≡ Some timed → slice_get units (done acts) ≡ Some unit → IsTimed bn laid (done acts) timed before
+    → IsTimed bn laid (done acts) unit (longer octets complete before)
+longer_timed bn laid units acts octets complete before unit timed is due was =
     let same : timed ≡ unit = get_same units (done acts) timed unit is due in
     record {
       event = was.event;
       least = was.least;
       below = was.below;
-      anchor = was.anchor;
-      anchor_is = was.anchor_is;
-      ready = subst (λ t. t.time ≤ was.anchor) same was.ready;
-      offset = subst (λ t. before.offset ≡ was.anchor - t.time) same was.offset;
+      laying = was.laying;
+      laying_is = was.laying_is;
+      before = was.before;
+      ready = subst (λ t. t.time ≤ was.laying.anchor) same was.ready;
+      offset = subst (λ t. before.offset ≡ was.laying.anchor - t.time) same was.offset;
     }
 
 pub in_place : (max_pdu max_sdu low number sent_now room_now : ℕ) (unit : Sent) → Open max_pdu max_sdu low number sent_now room_now unit → 3 ≤ room_now
@@ -198,13 +201,13 @@ in_place max_pdu max_sdu low number sent_now room_now unit open_is roomy = elim 
   | inr full ↦ (let less : room_now < 3 = full.1 in absurd (omega arith))
 ]
 
-goes_on_step : (max_pdu max_sdu bn : ℕ) (anchors : List ℕ) (units : List Timed) (anchor number : ℕ) (acts : List Act) (parts : List Part) (closed : List Sent) (before : Sent)
+goes_on_step : (max_pdu max_sdu bn : ℕ) (laid : List Laying) (units : List Timed) (anchor number : ℕ) (acts : List Act) (parts : List Part) (closed : List Sent) (before : Sent)
     (count : ℕ) (complete : Bool) (unit : Timed)
-    → Sending max_pdu max_sdu bn anchors units number acts parts closed (Some before) → slice_get units (done acts) ≡ Some unit → length unit.octets ≤ max_sdu
+    → Sending max_pdu max_sdu bn laid units number acts parts closed (Some before) → slice_get units (done acts) ≡ Some unit → length unit.octets ≤ max_sdu
     → 3 ≤ room max_pdu acts → IsSegment (place_of max_pdu units anchor acts) unit count complete
-    → Grown max_pdu max_sdu bn anchors units number (carries count complete ∷ acts)
+    → Grown max_pdu max_sdu bn laid units number (carries count complete ∷ acts)
     (parts ++ part_of anchor (sent acts) (slice_get units (done acts)) count complete ∷ []) closed (Some before)
-goes_on_step max_pdu max_sdu bn anchors units anchor number acts parts closed before count true unit sending due fits roomy segment =
+goes_on_step max_pdu max_sdu bn laid units anchor number acts parts closed before count true unit sending due fits roomy segment =
     let within : sent acts + count ≤ length unit.octets = segment.within in
     let at : behind before ≡ number = in_place max_pdu max_sdu sending.low number (sent acts) (room max_pdu acts) before sending.open_is roomy in
     let few : length (octets_in before.segments) ≤ sent acts = sending.open_is.octets in
@@ -226,19 +229,20 @@ goes_on_step max_pdu max_sdu bn anchors units anchor number acts parts closed be
             (further_part units anchor acts count true unit due begun) some at;
         fit = fit_more max_sdu closed (longer (take count (drop (sent acts) unit.octets)) true before) sending.fit
             (further_fits count max_sdu (drop (sent acts) unit.octets) before true (omega arith));
-        closed_of = subst (λ xs. AreOf bn anchors xs (closed ++ longer (take count (drop (sent acts) unit.octets)) true before ∷ []))
+        closed_of = subst (λ xs. AreOf bn laid 0 xs (closed ++ longer (take count (drop (sent acts) unit.octets)) true before ∷ []))
             (sym (take_next units (done acts) unit due))
-            (are_snoc bn anchors (take (done acts) units) closed unit (longer (take count (drop (sent acts) unit.octets)) true before) sending.closed_of
+            (are_snoc bn laid 0 (done acts) (take (done acts) units) closed unit (longer (take count (drop (sent acts) unit.octets)) true before) sending.closed_of
+            (taken_before units (done acts) unit due)
             (record {
               octets = λ whole. longer_is units acts count before unit sending.open_of.0 sending.open_of.1 due sending.open_of.2
                   ∙ take_all (sent acts + count) unit.octets (let end : sent acts + count ≡ length unit.octets = segment.complete_is.0 refl in omega arith);
-              timed = longer_timed bn anchors units acts (take count (drop (sent acts) unit.octets)) true before unit sending.open_of.0 sending.open_of.1 due sending.open_of.3;
+              timed = longer_timed bn laid units acts (take count (drop (sent acts) unit.octets)) true before unit sending.open_of.0 sending.open_of.1 due sending.open_of.3;
             }));
         open_of = tt;
       },
       further_stable number (take count (drop (sent acts) unit.octets)) true closed before sending.open_is.part at,
     )
-goes_on_step max_pdu max_sdu bn anchors units anchor number acts parts closed before count false unit sending due fits roomy segment =
+goes_on_step max_pdu max_sdu bn laid units anchor number acts parts closed before count false unit sending due fits roomy segment =
     let within : sent acts + count ≤ length unit.octets = segment.within in
     let fills : overhead (sent acts) + count ≡ room max_pdu acts = segment.fills refl in
     let at : behind before ≡ number = in_place max_pdu max_sdu sending.low number (sent acts) (room max_pdu acts) before sending.open_is roomy in
@@ -271,7 +275,7 @@ goes_on_step max_pdu max_sdu bn anchors units anchor number acts parts closed be
           unit,
           due,
           longer_is units acts count before unit sending.open_of.0 sending.open_of.1 due sending.open_of.2,
-          longer_timed bn anchors units acts (take count (drop (sent acts) unit.octets)) false before unit sending.open_of.0 sending.open_of.1 due sending.open_of.3,
+          longer_timed bn laid units acts (take count (drop (sent acts) unit.octets)) false before unit sending.open_of.0 sending.open_of.1 due sending.open_of.3,
         );
       },
       further_stable number (take count (drop (sent acts) unit.octets)) false closed before sending.open_is.part at,
@@ -289,10 +293,10 @@ goes_on_here max_pdu units anchor acts begun wide whole (unit, due, within) come
     comes unit (record { due = due; ready = λ fresh. absurd (omega arith); room = roomy })
 
 -- the end of a PDU
-pub ends_step : (max_pdu max_sdu bn : ℕ) (anchors : List ℕ) (units : List Timed) (anchor number : ℕ) (acts : List Act) (parts : List Part) (closed : List Sent) (opened : Option Sent) → 8 ≤ max_pdu
-    → Sending max_pdu max_sdu bn anchors units number acts parts closed opened → Comes (place_of max_pdu units anchor acts) ends
-    → Sending max_pdu max_sdu bn anchors units (number + 1) (ends ∷ acts) [] closed opened
-ends_step max_pdu max_sdu bn anchors units anchor number acts parts closed None wide sending comes =
+pub ends_step : (max_pdu max_sdu bn : ℕ) (laid : List Laying) (units : List Timed) (anchor number : ℕ) (acts : List Act) (parts : List Part) (closed : List Sent) (opened : Option Sent) → 8 ≤ max_pdu
+    → Sending max_pdu max_sdu bn laid units number acts parts closed opened → Comes (place_of max_pdu units anchor acts) ends
+    → Sending max_pdu max_sdu bn laid units (number + 1) (ends ∷ acts) [] closed opened
+ends_step max_pdu max_sdu bn laid units anchor number acts parts closed None wide sending comes =
     let low : sending.low ≤ number = sending.low_is in
     record {
       low = sending.low;
@@ -305,7 +309,7 @@ ends_step max_pdu max_sdu bn anchors units anchor number acts parts closed None 
       closed_of = sending.closed_of;
       open_of = tt;
     }
-ends_step max_pdu max_sdu bn anchors units anchor number acts parts closed (Some unit) wide sending comes =
+ends_step max_pdu max_sdu bn laid units anchor number acts parts closed (Some unit) wide sending comes =
     let low : sending.low ≤ number = sending.low_is in
     let begun : 1 ≤ sent acts = sending.open_is.begun in
     let next : behind unit ≡ number + 1 = elim sending.open_is.place [
@@ -335,10 +339,10 @@ ends_step max_pdu max_sdu bn anchors units anchor number acts parts closed (Some
     }
 
 -- a unit that is left out
-pub leaves_step : (max_pdu max_sdu bn : ℕ) (anchors : List ℕ) (units : List Timed) (number : ℕ) (acts : List Act) (parts : List Part) (closed : List Sent) (opened : Option Sent)
-    → Sending max_pdu max_sdu bn anchors units number acts parts closed opened → sent acts ≡ 0
-    → Sending max_pdu max_sdu bn anchors units number (leaves_out ∷ acts) parts closed opened
-leaves_step max_pdu max_sdu bn anchors units number acts parts closed None sending fresh = record {
+pub leaves_step : (max_pdu max_sdu bn : ℕ) (laid : List Laying) (units : List Timed) (number : ℕ) (acts : List Act) (parts : List Part) (closed : List Sent) (opened : Option Sent)
+    → Sending max_pdu max_sdu bn laid units number acts parts closed opened → sent acts ≡ 0
+    → Sending max_pdu max_sdu bn laid units number (leaves_out ∷ acts) parts closed opened
+leaves_step max_pdu max_sdu bn laid units number acts parts closed None sending fresh = record {
   low = sending.low;
   chain = sending.chain;
   low_is = sending.low_is;
@@ -346,27 +350,36 @@ leaves_step max_pdu max_sdu bn anchors units number acts parts closed None sendi
   due = λ some. absurd (omega arith);
   here = sending.here;
   fit = sending.fit;
-  closed_of = subst (λ xs. AreOf bn anchors xs closed) (sym (take-add (done acts) 1 units))
-      (are_more bn anchors (take (done acts) units) (take 1 (drop (done acts) units)) closed sending.closed_of);
+  closed_of = subst (λ xs. AreOf bn laid 0 xs closed) (sym (take-add (done acts) 1 units))
+      (are_more bn laid 0 (take (done acts) units) (take 1 (drop (done acts) units)) closed sending.closed_of);
   open_of = tt;
 }
-leaves_step max_pdu max_sdu bn anchors units number acts parts closed (Some unit) sending fresh =
+leaves_step max_pdu max_sdu bn laid units number acts parts closed (Some unit) sending fresh =
     let begun : 1 ≤ sent acts = sending.open_is.begun in
     absurd (omega arith)
 
 -- a segment
-pub carries_step : (max_pdu max_sdu bn : ℕ) (anchors : List ℕ) (units : List Timed) (anchor number : ℕ) (acts : List Act) (parts : List Part) (closed : List Sent) (opened : Option Sent)
+pub carries_step : (max_pdu max_sdu bn : ℕ) (laid : List Laying) (units : List Timed) (anchor number : ℕ) (acts : List Act) (parts : List Part) (closed : List Sent) (opened : Option Sent)
     (count : ℕ) (complete : Bool)
     → ((i : ℕ) → (unit : Timed) → slice_get units i ≡ Some unit → length unit.octets ≤ max_sdu)
-    → (event : ℕ) → event * bn ≤ number → number < event * bn + bn → slice_get anchors event ≡ Some anchor
-    → Sending max_pdu max_sdu bn anchors units number acts parts closed opened → Comes (place_of max_pdu units anchor acts) (carries count complete)
-    → Grown max_pdu max_sdu bn anchors units number (carries count complete ∷ acts)
+    → (event : ℕ) → event * bn ≤ number → number < event * bn + bn → slice_get laid event ≡ Some (record { anchor = anchor; units = length units })
+    → Sending max_pdu max_sdu bn laid units number acts parts closed opened → Comes (place_of max_pdu units anchor acts) (carries count complete)
+    → Grown max_pdu max_sdu bn laid units number (carries count complete ∷ acts)
     (parts ++ part_of anchor (sent acts) (slice_get units (done acts)) count complete ∷ []) closed opened
-carries_step max_pdu max_sdu bn anchors units anchor number acts parts closed None count complete fits event least below anchor_is sending (unit, turn, not_stale, segment) =
-    start_step max_pdu max_sdu bn anchors units anchor number acts parts closed count complete unit sending turn.due (fits (done acts) unit turn.due) segment
-    (record { event = event; least = least; below = below; anchor = anchor; anchor_is = anchor_is; ready = turn.ready sending.open_is; offset = refl })
-carries_step max_pdu max_sdu bn anchors units anchor number acts parts closed (Some before) count complete fits event least below anchor_is sending (unit, turn, not_stale, segment) =
+carries_step max_pdu max_sdu bn laid units anchor number acts parts closed None count complete fits event least below laying_is sending (unit, turn, not_stale, segment) =
+    start_step max_pdu max_sdu bn laid units anchor number acts parts closed count complete unit sending turn.due (fits (done acts) unit turn.due) segment
+    (record {
+      event = event;
+      least = least;
+      below = below;
+      laying = record { anchor = anchor; units = length units };
+      laying_is = laying_is;
+      before = slice_get_within units (done acts) unit turn.due;
+      ready = turn.ready sending.open_is;
+      offset = refl;
+    })
+carries_step max_pdu max_sdu bn laid units anchor number acts parts closed (Some before) count complete fits event least below laying_is sending (unit, turn, not_stale, segment) =
     let begun : 1 ≤ sent acts = sending.open_is.begun in
     let within : sent acts + count ≤ length unit.octets = segment.within in
-    goes_on_step max_pdu max_sdu bn anchors units anchor number acts parts closed before count complete unit sending turn.due (fits (done acts) unit turn.due)
+    goes_on_step max_pdu max_sdu bn laid units anchor number acts parts closed before count complete unit sending turn.due (fits (done acts) unit turn.due)
     (three (sent acts) (length unit.octets) (room max_pdu acts) begun (omega arith) turn.room) segment

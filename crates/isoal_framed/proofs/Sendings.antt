@@ -4,10 +4,10 @@ use Rattle.std.proofs.Common.{Option, Some, None, refl, sym, ap, ◌∙◌, subs
 use Rattle.std.specs.List.{slice_get}
 use Rattle.std.proofs.lemmas.Bool.{cond-false, ne_eqb}
 use Rattle.std.proofs.lemmas.Grind.{flat_map-append}
-use Rattle.std.proofs.lemmas.List.{append-nil}
-use Rattle.std.proofs.lemmas.Option.{none-some, slice_get_past}
+use Rattle.std.proofs.lemmas.List.{append-nil, length-take}
+use Rattle.std.proofs.lemmas.Option.{none-some, slice_get_past, slice_get_within}
 use Rattle.iso_pdu.specs.Layout.{Part, more}
-use Rattle.isoal_framed.specs.Calls.{Timed}
+use Rattle.isoal_framed.specs.Calls.{Laying, Timed}
 use Rattle.isoal_framed.specs.Places.{Act, done, sent, room}
 use Rattle.isoal_framed.specs.Sends.{IsTimed, IsOf, AreOf}
 use Rattle.isoal_framed.specs.Struck.{Sent, Fit, octets_in, behind, carried, is_last, part_with, parts_at}
@@ -49,57 +49,59 @@ get_more (x ∷ items) last zero item is = is
 get_more (x ∷ items) last (suc i) item is = get_more items last i item is
 
 -- the unit that is partly sent is the due one
-abbrev pub OpenOf : ℕ → List ℕ → List Timed → List Act → Option Sent → Type 0
-OpenOf bn anchors units acts None = Unit {0}
-OpenOf bn anchors units acts (Some unit) =
-    (timed : Timed) × (slice_get units (done acts) ≡ Some timed) × (octets_in unit.segments ≡ take (sent acts) timed.octets) × IsTimed bn anchors timed unit
+abbrev pub OpenOf : ℕ → List Laying → List Timed → List Act → Option Sent → Type 0
+OpenOf bn laid units acts None = Unit {0}
+OpenOf bn laid units acts (Some unit) =
+    (timed : Timed) × (slice_get units (done acts) ≡ Some timed) × (octets_in unit.segments ≡ take (sent acts) timed.octets) × IsTimed bn laid (done acts) timed unit
 
 -- units of accepted ones, and one more
-pub are_more : (bn : ℕ) (anchors : List ℕ) (xs ys : List Timed) (units : List Sent) → AreOf bn anchors xs units → AreOf bn anchors (xs ++ ys) units
-are_more bn anchors xs ys [] are = tt
-are_more bn anchors [] ys (unit ∷ units) are = absurd are
-are_more bn anchors (x ∷ xs) ys (unit ∷ units) (inl (here, rest)) = inl (here, are_more bn anchors xs ys units rest)
-are_more bn anchors (x ∷ xs) ys (unit ∷ units) (inr rest) = inr (are_more bn anchors xs ys (unit ∷ units) rest)
+pub are_more : (bn : ℕ) (laid : List Laying) (n : ℕ) (xs ys : List Timed) (units : List Sent) → AreOf bn laid n xs units → AreOf bn laid n (xs ++ ys) units
+are_more bn laid n xs ys [] are = tt
+are_more bn laid n [] ys (unit ∷ units) are = absurd are
+are_more bn laid n (x ∷ xs) ys (unit ∷ units) (inl (here, rest)) = inl (here, are_more bn laid (n + 1) xs ys units rest)
+are_more bn laid n (x ∷ xs) ys (unit ∷ units) (inr rest) = inr (are_more bn laid (n + 1) xs ys (unit ∷ units) rest)
 
-are_last : (bn : ℕ) (anchors : List ℕ) (xs : List Timed) (last : Timed) (unit : Sent) → IsOf bn anchors last unit → AreOf bn anchors (xs ++ last ∷ []) (unit ∷ [])
-are_last bn anchors [] last unit is = inl (is, tt)
-are_last bn anchors (x ∷ xs) last unit is = inr (are_last bn anchors xs last unit is)
+are_last : (bn : ℕ) (laid : List Laying) (n at : ℕ) (xs : List Timed) (last : Timed) (unit : Sent) → at ≡ n + length xs → IsOf bn laid at last unit
+    → AreOf bn laid n (xs ++ last ∷ []) (unit ∷ [])
+are_last bn laid n at [] last unit here is = let same : at ≡ n = omega (arith, here) in inl (subst (λ i. IsOf bn laid i last unit) same is, tt)
+are_last bn laid n at (x ∷ xs) last unit here is = inr (are_last bn laid (n + 1) at xs last unit (omega (arith, here)) is)
 
-pub are_snoc : (bn : ℕ) (anchors : List ℕ) (xs : List Timed) (units : List Sent) (last : Timed) (unit : Sent) → AreOf bn anchors xs units → IsOf bn anchors last unit
-    → AreOf bn anchors (xs ++ last ∷ []) (units ++ unit ∷ [])
-are_snoc bn anchors xs [] last unit are is = are_last bn anchors xs last unit is
-are_snoc bn anchors [] (first ∷ units) last unit are is = absurd are
-are_snoc bn anchors (x ∷ xs) (first ∷ units) last unit (inl (here, rest)) is = inl (here, are_snoc bn anchors xs units last unit rest is)
-are_snoc bn anchors (x ∷ xs) (first ∷ units) last unit (inr rest) is = inr (are_snoc bn anchors xs (first ∷ units) last unit rest is)
+pub are_snoc : (bn : ℕ) (laid : List Laying) (n at : ℕ) (xs : List Timed) (units : List Sent) (last : Timed) (unit : Sent) → AreOf bn laid n xs units → at ≡ n + length xs
+    → IsOf bn laid at last unit → AreOf bn laid n (xs ++ last ∷ []) (units ++ unit ∷ [])
+are_snoc bn laid n at xs [] last unit are here is = are_last bn laid n at xs last unit here is
+are_snoc bn laid n at [] (first ∷ units) last unit are here is = absurd are
+are_snoc bn laid n at (x ∷ xs) (first ∷ units) last unit (inl (it, rest)) here is = inl (it, are_snoc bn laid (n + 1) at xs units last unit rest (omega (arith, here)) is)
+are_snoc bn laid n at (x ∷ xs) (first ∷ units) last unit (inr rest) here is = inr (are_snoc bn laid (n + 1) at xs (first ∷ units) last unit rest (omega (arith, here)) is)
 
 -- one more event
-timed_more : (bn : ℕ) (anchors : List ℕ) (anchor : ℕ) (timed : Timed) (unit : Sent) → IsTimed bn anchors timed unit → IsTimed bn (anchors ++ anchor ∷ []) timed unit
-timed_more bn anchors anchor timed unit is = record {
+timed_more : (bn : ℕ) (laid : List Laying) (laying : Laying) (n : ℕ) (timed : Timed) (unit : Sent) → IsTimed bn laid n timed unit → IsTimed bn (laid ++ laying ∷ []) n timed unit
+timed_more bn laid laying n timed unit is = record {
   event = is.event;
   least = is.least;
   below = is.below;
-  anchor = is.anchor;
-  anchor_is = get_more anchors anchor is.event is.anchor is.anchor_is;
+  laying = is.laying;
+  laying_is = get_more laid laying is.event is.laying is.laying_is;
+  before = is.before;
   ready = is.ready;
   offset = is.offset;
 }
 
-are_anchored : (bn : ℕ) (anchors : List ℕ) (anchor : ℕ) (xs : List Timed) (units : List Sent) → AreOf bn anchors xs units → AreOf bn (anchors ++ anchor ∷ []) xs units
-are_anchored bn anchors anchor xs [] are = tt
-are_anchored bn anchors anchor [] (unit ∷ units) are = absurd are
-are_anchored bn anchors anchor (x ∷ xs) (unit ∷ units) (inl (here, rest)) =
-    inl (record { octets = here.octets; timed = timed_more bn anchors anchor x unit here.timed }, are_anchored bn anchors anchor xs units rest)
-are_anchored bn anchors anchor (x ∷ xs) (unit ∷ units) (inr rest) = inr (are_anchored bn anchors anchor xs (unit ∷ units) rest)
+are_anchored : (bn : ℕ) (laid : List Laying) (laying : Laying) (n : ℕ) (xs : List Timed) (units : List Sent) → AreOf bn laid n xs units → AreOf bn (laid ++ laying ∷ []) n xs units
+are_anchored bn laid laying n xs [] are = tt
+are_anchored bn laid laying n [] (unit ∷ units) are = absurd are
+are_anchored bn laid laying n (x ∷ xs) (unit ∷ units) (inl (here, rest)) =
+    inl (record { octets = here.octets; timed = timed_more bn laid laying n x unit here.timed }, are_anchored bn laid laying (n + 1) xs units rest)
+are_anchored bn laid laying n (x ∷ xs) (unit ∷ units) (inr rest) = inr (are_anchored bn laid laying (n + 1) xs (unit ∷ units) rest)
 
-open_anchored : (bn : ℕ) (anchors : List ℕ) (anchor : ℕ) (units : List Timed) (acts : List Act) (opened : Option Sent) → OpenOf bn anchors units acts opened
-    → OpenOf bn (anchors ++ anchor ∷ []) units acts opened
-open_anchored bn anchors anchor units acts None is = tt
-open_anchored bn anchors anchor units acts (Some unit) (timed, due, octets, is) = (timed, due, octets, timed_more bn anchors anchor timed unit is)
+open_anchored : (bn : ℕ) (laid : List Laying) (laying : Laying) (units : List Timed) (acts : List Act) (opened : Option Sent) → OpenOf bn laid units acts opened
+    → OpenOf bn (laid ++ laying ∷ []) units acts opened
+open_anchored bn laid laying units acts None is = tt
+open_anchored bn laid laying units acts (Some unit) (timed, due, octets, is) = (timed, due, octets, timed_more bn laid laying (done acts) timed unit is)
 
-open_more : (bn : ℕ) (anchors : List ℕ) (units : List Timed) (last : Timed) (acts : List Act) (opened : Option Sent) → OpenOf bn anchors units acts opened
-    → OpenOf bn anchors (units ++ last ∷ []) acts opened
-open_more bn anchors units last acts None is = tt
-open_more bn anchors units last acts (Some unit) (timed, due, octets, is) = (timed, get_more units last (done acts) timed due, octets, is)
+open_more : (bn : ℕ) (laid : List Laying) (units : List Timed) (last : Timed) (acts : List Act) (opened : Option Sent) → OpenOf bn laid units acts opened
+    → OpenOf bn laid (units ++ last ∷ []) acts opened
+open_more bn laid units last acts None is = tt
+open_more bn laid units last acts (Some unit) (timed, due, octets, is) = (timed, get_more units last (done acts) timed due, octets, is)
 
 -- lists of accepted units
 pub take_next : {A : Type 0} (items : List A) (n : ℕ) (item : A) → slice_get items n ≡ Some item → take (n + 1) items ≡ take n items ++ item ∷ []
@@ -116,6 +118,9 @@ take_more_of {A = A} (suc n) (x ∷ xs) ys =
     let rest : (zs : List A) × (take n (xs ++ ys) ≡ take n xs ++ zs) = take_more_of n xs ys in
     (rest.0, ap (λ zs. x ∷ zs) rest.1)
 
+pub taken_before : {A : Type 0} (items : List A) (n : ℕ) (item : A) → slice_get items n ≡ Some item → n ≡ 0 + length (take n items)
+taken_before items n item is = omega (arith, length-take n items, slice_get_within items n item is)
+
 pub octets_snoc : (segments : List (List ℕ)) (octets : List ℕ) → octets_in (segments ++ octets ∷ []) ≡ octets_in segments ++ octets
 octets_snoc segments octets =
     flat_map-append (λ xs. xs) segments (octets ∷ []) ∙ ap (λ xs. octets_in segments ++ xs) (append-nil octets)
@@ -123,7 +128,7 @@ octets_snoc segments octets =
 pub get_same : (units : List Timed) (n : ℕ) (one other : Timed) → slice_get units n ≡ Some one → slice_get units n ≡ Some other → one ≡ other
 get_same units n one other is also = let same : Some one ≡ Some other = sym is ∙ also in cc
 
-pub record Sending (max_pdu max_sdu bn : ℕ) (anchors : List ℕ) (units : List Timed) (number : ℕ) (acts : List Act) (parts : List Part) (closed : List Sent) (opened : Option Sent) : Type 0 where
+pub record Sending (max_pdu max_sdu bn : ℕ) (laid : List Laying) (units : List Timed) (number : ℕ) (acts : List Act) (parts : List Part) (closed : List Sent) (opened : Option Sent) : Type 0 where
   pub low : ℕ
   pub chain : Chain 0 low closed
   pub low_is : low ≤ number
@@ -131,8 +136,8 @@ pub record Sending (max_pdu max_sdu bn : ℕ) (anchors : List ℕ) (units : List
   pub due : 1 ≤ sent acts → (unit : Timed) × (slice_get units (done acts) ≡ Some unit) × (sent acts ≤ length unit.octets)
   pub here : parts ≡ parts_at (all closed opened) number
   pub fit : Fit max_sdu closed
-  pub closed_of : AreOf bn anchors (take (done acts) units) closed
-  pub open_of : OpenOf bn anchors units acts opened
+  pub closed_of : AreOf bn laid 0 (take (done acts) units) closed
+  pub open_of : OpenOf bn laid units acts opened
 
 chain_low : (from to : ℕ) (units : List Sent) → Chain from to units → from ≤ to
 chain_low from to [] chain = chain
@@ -204,14 +209,14 @@ chain_past from to number (unit ∷ units) chain past =
     ap (λ parts. parts ++ parts_at units number) (carried_past unit.first number (Some unit.offset) unit.segments unit.whole (omega arith))
     ∙ chain_past (behind unit - 1) to number units chain.3 past
 
-abbrev pub Grown : ℕ → ℕ → ℕ → List ℕ → List Timed → ℕ → List Act → List Part → List Sent → Option Sent → Type 0
-Grown max_pdu max_sdu bn anchors units number acts parts closed opened =
-    (closed' : List Sent) × (opened' : Option Sent) × Sending max_pdu max_sdu bn anchors units number acts parts closed' opened'
+abbrev pub Grown : ℕ → ℕ → ℕ → List Laying → List Timed → ℕ → List Act → List Part → List Sent → Option Sent → Type 0
+Grown max_pdu max_sdu bn laid units number acts parts closed opened =
+    (closed' : List Sent) × (opened' : Option Sent) × Sending max_pdu max_sdu bn laid units number acts parts closed' opened'
     × Stable number (all closed' opened') (all closed opened)
 
-pub accepted_more : (max_pdu max_sdu bn : ℕ) (anchors : List ℕ) (units : List Timed) (last : Timed) (number : ℕ) (acts : List Act) (parts : List Part) (closed : List Sent) (opened : Option Sent)
-    → Sending max_pdu max_sdu bn anchors units number acts parts closed opened → Sending max_pdu max_sdu bn anchors (units ++ last ∷ []) number acts parts closed opened
-accepted_more max_pdu max_sdu bn anchors units last number acts parts closed opened sending = record {
+pub accepted_more : (max_pdu max_sdu bn : ℕ) (laid : List Laying) (units : List Timed) (last : Timed) (number : ℕ) (acts : List Act) (parts : List Part) (closed : List Sent) (opened : Option Sent)
+    → Sending max_pdu max_sdu bn laid units number acts parts closed opened → Sending max_pdu max_sdu bn laid (units ++ last ∷ []) number acts parts closed opened
+accepted_more max_pdu max_sdu bn laid units last number acts parts closed opened sending = record {
   low = sending.low;
   chain = sending.chain;
   low_is = sending.low_is;
@@ -225,13 +230,13 @@ accepted_more max_pdu max_sdu bn anchors units last number acts parts closed ope
   fit = sending.fit;
   closed_of =
       (let taken : (zs : List Timed) × (take (done acts) (units ++ last ∷ []) ≡ take (done acts) units ++ zs) = take_more_of (done acts) units (last ∷ []) in
-      subst (λ xs. AreOf bn anchors xs closed) (sym taken.1) (are_more bn anchors (take (done acts) units) taken.0 closed sending.closed_of));
-  open_of = open_more bn anchors units last acts opened sending.open_of;
+      subst (λ xs. AreOf bn laid 0 xs closed) (sym taken.1) (are_more bn laid 0 (take (done acts) units) taken.0 closed sending.closed_of));
+  open_of = open_more bn laid units last acts opened sending.open_of;
 }
 
-pub anchored_more : (max_pdu max_sdu bn : ℕ) (anchors : List ℕ) (units : List Timed) (anchor : ℕ) (number : ℕ) (acts : List Act) (parts : List Part) (closed : List Sent) (opened : Option Sent)
-    → Sending max_pdu max_sdu bn anchors units number acts parts closed opened → Sending max_pdu max_sdu bn (anchors ++ anchor ∷ []) units number acts parts closed opened
-anchored_more max_pdu max_sdu bn anchors units anchor number acts parts closed opened sending = record {
+pub anchored_more : (max_pdu max_sdu bn : ℕ) (laid : List Laying) (units : List Timed) (laying : Laying) (number : ℕ) (acts : List Act) (parts : List Part) (closed : List Sent) (opened : Option Sent)
+    → Sending max_pdu max_sdu bn laid units number acts parts closed opened → Sending max_pdu max_sdu bn (laid ++ laying ∷ []) units number acts parts closed opened
+anchored_more max_pdu max_sdu bn laid units laying number acts parts closed opened sending = record {
   low = sending.low;
   chain = sending.chain;
   low_is = sending.low_is;
@@ -239,6 +244,6 @@ anchored_more max_pdu max_sdu bn anchors units anchor number acts parts closed o
   due = sending.due;
   here = sending.here;
   fit = sending.fit;
-  closed_of = are_anchored bn anchors anchor (take (done acts) units) closed sending.closed_of;
-  open_of = open_anchored bn anchors anchor units acts opened sending.open_of;
+  closed_of = are_anchored bn laid laying 0 (take (done acts) units) closed sending.closed_of;
+  open_of = open_anchored bn laid laying units acts opened sending.open_of;
 }

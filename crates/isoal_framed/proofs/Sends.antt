@@ -10,22 +10,22 @@ use Rattle.iso_pdu.specs.Spelling.{pdu}
 use Rattle.isoal_base.specs.Air.{Air}
 use Rattle.isoal_base.proofs.Citable.{map_same, map_append}
 use Rattle.isoal_framed.specs.Air.{AllCome, IsAirOf, pdus_ended, part_of, open_parts, pdus_of}
-use Rattle.isoal_framed.specs.Calls.{Call, accept, lay, Timed, accepted, anchors_of}
+use Rattle.isoal_framed.specs.Calls.{Call, accept, lay, Laying, Timed, accepted, layings_of}
 use Rattle.isoal_framed.specs.Places.{Act, carries, leaves_out, ends, Comes, place_of, done, sent, room}
 use Rattle.isoal_framed.specs.Sends.{AreOf, EventsAre, Sends}
 use Rattle.isoal_framed.specs.Struck.{Sent, InOrder, octets_in, behind, parts_at}
 use Rattle.isoal_framed.proofs.Senders.{room_between}
 use Rattle.isoal_framed.proofs.Segments.{in_place, ends_step, leaves_step, carries_step}
-use Rattle.isoal_framed.proofs.Sendings.{all, Chain, get_more, are_more, are_snoc, take_next, Sending, Stable, fit_more, Grown, accepted_more, anchored_more}
+use Rattle.isoal_framed.proofs.Sendings.{all, Chain, get_more, are_more, are_snoc, take_next, taken_before, Sending, Stable, fit_more, Grown, accepted_more, anchored_more}
 
 abbrev pdu_of : List Sent → ℕ → List ℕ
 pdu_of units number = pdu (framed (parts_at units number))
 
 -- an event, from its first act on
-record Folded (max_pdu max_sdu bn : ℕ) (anchors : List ℕ) (units : List Timed) (anchor number : ℕ) (earlier acts : List Act) (closed : List Sent) (opened : Option Sent) : Type 0 where
+record Folded (max_pdu max_sdu bn : ℕ) (laid : List Laying) (units : List Timed) (anchor number : ℕ) (earlier acts : List Act) (closed : List Sent) (opened : Option Sent) : Type 0 where
   closed_now : List Sent
   opened_now : Option Sent
-  sending : Sending max_pdu max_sdu bn anchors units (number + pdus_ended acts) (acts ++ earlier) (open_parts units anchor earlier acts) closed_now opened_now
+  sending : Sending max_pdu max_sdu bn laid units (number + pdus_ended acts) (acts ++ earlier) (open_parts units anchor earlier acts) closed_now opened_now
   pdus : pdus_of units anchor earlier acts ≡ map (pdu_of (all closed_now opened_now)) (range_with_len number (pdus_ended acts))
   stable : Stable number (all closed_now opened_now) (all closed opened)
 
@@ -36,17 +36,17 @@ same_pdus now before number n stable =
     (λ q least below. ap (λ parts. pdu (framed parts)) (sym (stable q below)))
 
 -- the end of its next PDU
-ends_fold : (max_pdu max_sdu bn : ℕ) (anchors : List ℕ) (units : List Timed) (anchor number : ℕ) (earlier acts : List Act) (closed : List Sent) (opened : Option Sent) → 8 ≤ max_pdu
-    → Folded max_pdu max_sdu bn anchors units anchor number earlier acts closed opened → Comes (place_of max_pdu units anchor (acts ++ earlier)) ends
-    → Folded max_pdu max_sdu bn anchors units anchor number earlier (ends ∷ acts) closed opened
-ends_fold max_pdu max_sdu bn anchors units anchor number earlier acts closed opened wide rest comes =
+ends_fold : (max_pdu max_sdu bn : ℕ) (laid : List Laying) (units : List Timed) (anchor number : ℕ) (earlier acts : List Act) (closed : List Sent) (opened : Option Sent) → 8 ≤ max_pdu
+    → Folded max_pdu max_sdu bn laid units anchor number earlier acts closed opened → Comes (place_of max_pdu units anchor (acts ++ earlier)) ends
+    → Folded max_pdu max_sdu bn laid units anchor number earlier (ends ∷ acts) closed opened
+ends_fold max_pdu max_sdu bn laid units anchor number earlier acts closed opened wide rest comes =
     let next : number + pdus_ended acts + 1 ≡ number + suc (pdus_ended acts) = omega arith in
     let more_pdus : pdus_ended acts + 1 ≡ suc (pdus_ended acts) = omega arith in
     record {
       closed_now = rest.closed_now;
       opened_now = rest.opened_now;
-      sending = subst (λ n. Sending max_pdu max_sdu bn anchors units n (ends ∷ (acts ++ earlier)) [] rest.closed_now rest.opened_now) next
-          (ends_step max_pdu max_sdu bn anchors units anchor (number + pdus_ended acts) (acts ++ earlier) (open_parts units anchor earlier acts)
+      sending = subst (λ n. Sending max_pdu max_sdu bn laid units n (ends ∷ (acts ++ earlier)) [] rest.closed_now rest.opened_now) next
+          (ends_step max_pdu max_sdu bn laid units anchor (number + pdus_ended acts) (acts ++ earlier) (open_parts units anchor earlier acts)
           rest.closed_now rest.opened_now wide rest.sending comes);
       pdus = ap (λ xs. xs ++ pdu (framed (open_parts units anchor earlier acts)) ∷ []) rest.pdus
           ∙ ap (λ parts. map (pdu_of (all rest.closed_now rest.opened_now)) (range_with_len number (pdus_ended acts)) ++ pdu (framed parts) ∷ []) rest.sending.here
@@ -55,28 +55,28 @@ ends_fold max_pdu max_sdu bn anchors units anchor number earlier acts closed ope
       stable = rest.stable;
     }
 
-event_sends : (max_pdu max_sdu bn : ℕ) (anchors : List ℕ) (units : List Timed) (anchor number : ℕ) (earlier acts : List Act) (closed : List Sent) (opened : Option Sent) → 8 ≤ max_pdu
+event_sends : (max_pdu max_sdu bn : ℕ) (laid : List Laying) (units : List Timed) (anchor number : ℕ) (earlier acts : List Act) (closed : List Sent) (opened : Option Sent) → 8 ≤ max_pdu
     → ((i : ℕ) → (unit : Timed) → slice_get units i ≡ Some unit → length unit.octets ≤ max_sdu)
-    → (event : ℕ) → number ≡ event * bn → slice_get anchors event ≡ Some anchor → pdus_ended acts < bn
-    → AllCome max_pdu units anchor earlier acts → Sending max_pdu max_sdu bn anchors units number earlier [] closed opened
-    → Folded max_pdu max_sdu bn anchors units anchor number earlier acts closed opened
-event_sends max_pdu max_sdu bn anchors units anchor number earlier [] closed opened wide fits event at anchor_is few come sending =
+    → (event : ℕ) → number ≡ event * bn → slice_get laid event ≡ Some (record { anchor = anchor; units = length units }) → pdus_ended acts < bn
+    → AllCome max_pdu units anchor earlier acts → Sending max_pdu max_sdu bn laid units number earlier [] closed opened
+    → Folded max_pdu max_sdu bn laid units anchor number earlier acts closed opened
+event_sends max_pdu max_sdu bn laid units anchor number earlier [] closed opened wide fits event at laying_is few come sending =
     let none : number ≡ number + 0 = omega arith in
     record {
       closed_now = closed;
       opened_now = opened;
-      sending = subst (λ n. Sending max_pdu max_sdu bn anchors units n earlier [] closed opened) none sending;
+      sending = subst (λ n. Sending max_pdu max_sdu bn laid units n earlier [] closed opened) none sending;
       pdus = refl;
       stable = λ q before. refl;
     }
-event_sends max_pdu max_sdu bn anchors units anchor number earlier (carries count complete ∷ acts) closed opened wide fits event at anchor_is few come sending =
-    let rest : Folded max_pdu max_sdu bn anchors units anchor number earlier acts closed opened =
-    event_sends max_pdu max_sdu bn anchors units anchor number earlier acts closed opened wide fits event at anchor_is few come.0 sending in
-    let step : Grown max_pdu max_sdu bn anchors units (number + pdus_ended acts) (carries count complete ∷ (acts ++ earlier))
+event_sends max_pdu max_sdu bn laid units anchor number earlier (carries count complete ∷ acts) closed opened wide fits event at laying_is few come sending =
+    let rest : Folded max_pdu max_sdu bn laid units anchor number earlier acts closed opened =
+    event_sends max_pdu max_sdu bn laid units anchor number earlier acts closed opened wide fits event at laying_is few come.0 sending in
+    let step : Grown max_pdu max_sdu bn laid units (number + pdus_ended acts) (carries count complete ∷ (acts ++ earlier))
     (open_parts units anchor earlier acts
     ++ part_of anchor (sent (acts ++ earlier)) (slice_get units (done (acts ++ earlier))) count complete ∷ []) rest.closed_now rest.opened_now =
-    carries_step max_pdu max_sdu bn anchors units anchor (number + pdus_ended acts) (acts ++ earlier) (open_parts units anchor earlier acts) rest.closed_now rest.opened_now
-    count complete fits event (omega arith) (omega arith) anchor_is rest.sending come.1 in
+    carries_step max_pdu max_sdu bn laid units anchor (number + pdus_ended acts) (acts ++ earlier) (open_parts units anchor earlier acts) rest.closed_now rest.opened_now
+    count complete fits event (omega arith) (omega arith) laying_is rest.sending come.1 in
     record {
       closed_now = step.0;
       opened_now = step.1;
@@ -84,20 +84,20 @@ event_sends max_pdu max_sdu bn anchors units anchor number earlier (carries coun
       pdus = rest.pdus ∙ same_pdus (all step.0 step.1) (all rest.closed_now rest.opened_now) number (pdus_ended acts) step.3;
       stable = λ q before. step.3 q (omega arith) ∙ rest.stable q before;
     }
-event_sends max_pdu max_sdu bn anchors units anchor number earlier (leaves_out ∷ acts) closed opened wide fits event at anchor_is few come sending =
-    let rest : Folded max_pdu max_sdu bn anchors units anchor number earlier acts closed opened =
-    event_sends max_pdu max_sdu bn anchors units anchor number earlier acts closed opened wide fits event at anchor_is few come.0 sending in
+event_sends max_pdu max_sdu bn laid units anchor number earlier (leaves_out ∷ acts) closed opened wide fits event at laying_is few come sending =
+    let rest : Folded max_pdu max_sdu bn laid units anchor number earlier acts closed opened =
+    event_sends max_pdu max_sdu bn laid units anchor number earlier acts closed opened wide fits event at laying_is few come.0 sending in
     record {
       closed_now = rest.closed_now;
       opened_now = rest.opened_now;
-      sending = leaves_step max_pdu max_sdu bn anchors units (number + pdus_ended acts) (acts ++ earlier) (open_parts units anchor earlier acts)
+      sending = leaves_step max_pdu max_sdu bn laid units (number + pdus_ended acts) (acts ++ earlier) (open_parts units anchor earlier acts)
           rest.closed_now rest.opened_now rest.sending come.1.2.0;
       pdus = rest.pdus;
       stable = rest.stable;
     }
-event_sends max_pdu max_sdu bn anchors units anchor number earlier (ends ∷ acts) closed opened wide fits event at anchor_is few come sending =
-    ends_fold max_pdu max_sdu bn anchors units anchor number earlier acts closed opened wide
-    (event_sends max_pdu max_sdu bn anchors units anchor number earlier acts closed opened wide fits event at anchor_is (omega arith) come.0 sending) come.1
+event_sends max_pdu max_sdu bn laid units anchor number earlier (ends ∷ acts) closed opened wide fits event at laying_is few come sending =
+    ends_fold max_pdu max_sdu bn laid units anchor number earlier acts closed opened wide
+    (event_sends max_pdu max_sdu bn laid units anchor number earlier acts closed opened wide fits event at laying_is (omega arith) come.0 sending) come.1
 
 -- events stay as later units come
 events_stay : (info : BigInfo) (air : Air) (now before : List Sent) → Stable (length air * info.bn) now before → EventsAre info air before → EventsAre info air now
@@ -108,13 +108,13 @@ events_stay info (entry ∷ earlier) now before stable events =
       events.1 ∙ same_pdus now before (length earlier * info.bn) info.bn (λ q below. stable q (omega arith)),
     )
 
--- as many anchors as events
-anchors_count : (info : BigInfo) (calls : List Call) (acts : List Act) (air : Air) → IsAirOf info calls acts air → length (anchors_of calls) ≡ length air
-anchors_count info [] acts air is = ap length (sym is.1)
-anchors_count info (accept time octets ∷ calls) acts air is = anchors_count info calls acts air is
-anchors_count info (lay anchor ∷ calls) acts air (earlier, before, own, is_before, event, acts_is, air_is) =
-    let rest : length (anchors_of calls) ≡ length before = anchors_count info calls earlier before is_before in
-    length-append (anchors_of calls) (anchor ∷ []) ∙ ap (λ n. n + 1) rest ∙ omega arith ∙ ap length (sym air_is)
+-- as many events are laid as the air has
+layings_count : (info : BigInfo) (calls : List Call) (acts : List Act) (air : Air) → IsAirOf info calls acts air → length (layings_of calls) ≡ length air
+layings_count info [] acts air is = ap length (sym is.1)
+layings_count info (accept time octets ∷ calls) acts air is = layings_count info calls acts air is
+layings_count info (lay anchor ∷ calls) acts air (earlier, before, own, is_before, event, acts_is, air_is) =
+    let rest : length (layings_of calls) ≡ length before = layings_count info calls earlier before is_before in
+    length-append (layings_of calls) (record { anchor = anchor; units = length (accepted calls) } ∷ []) ∙ ap (λ n. n + 1) rest ∙ omega arith ∙ ap length (sym air_is)
 
 get_last : {A : Type 0} (items : List A) (last : A) (n : ℕ) → length items ≡ n → slice_get (items ++ last ∷ []) n ≡ Some last
 get_last [] last zero is = refl
@@ -122,15 +122,15 @@ get_last [] last (suc n) is = absurd (omega arith)
 get_last (x ∷ items) last zero is = absurd (omega arith)
 get_last (x ∷ items) last (suc n) is = get_last items last n (omega arith)
 
-record Aired (info : BigInfo) (anchors : List ℕ) (units : List Timed) (acts : List Act) (air : Air) : Type 0 where
+record Aired (info : BigInfo) (laid : List Laying) (units : List Timed) (acts : List Act) (air : Air) : Type 0 where
   closed : List Sent
   opened : Option Sent
-  sending : Sending info.max_pdu info.max_sdu info.bn anchors units (length air * info.bn) acts [] closed opened
+  sending : Sending info.max_pdu info.max_sdu info.bn laid units (length air * info.bn) acts [] closed opened
   events : EventsAre info air (all closed opened)
 
 air_sends : (info : BigInfo) (calls : List Call) (acts : List Act) (air : Air) → 8 ≤ info.max_pdu
     → ((i : ℕ) → (unit : Timed) → slice_get (accepted calls) i ≡ Some unit → length unit.octets ≤ info.max_sdu)
-    → IsAirOf info calls acts air → Aired info (anchors_of calls) (accepted calls) acts air
+    → IsAirOf info calls acts air → Aired info (layings_of calls) (accepted calls) acts air
 air_sends info [] acts air wide fits is =
     let count : length air ≡ 0 = ap length is.1 in
     let start_number : length air * info.bn ≡ 0 = ap (λ n. n * info.bn) count ∙ omega arith in
@@ -151,32 +151,33 @@ air_sends info [] acts air wide fits is =
       events = subst (λ a. EventsAre info a []) (sym is.1) tt;
     }
 air_sends info (accept time octets ∷ calls) acts air wide fits is =
-    let rest : Aired info (anchors_of calls) (accepted calls) acts air =
+    let rest : Aired info (layings_of calls) (accepted calls) acts air =
     air_sends info calls acts air wide (λ i unit there. fits i unit (get_more (accepted calls) (record { time = time; octets = octets }) i unit there)) is in
     record {
       closed = rest.closed;
       opened = rest.opened;
-      sending = accepted_more info.max_pdu info.max_sdu info.bn (anchors_of calls) (accepted calls) (record { time = time; octets = octets }) (length air * info.bn) acts [] rest.closed
+      sending = accepted_more info.max_pdu info.max_sdu info.bn (layings_of calls) (accepted calls) (record { time = time; octets = octets }) (length air * info.bn) acts [] rest.closed
           rest.opened rest.sending;
       events = rest.events;
     }
 air_sends info (lay anchor ∷ calls) acts air wide fits (earlier, before, own, is_before, event, acts_is, air_is) =
-    let rest : Aired info (anchors_of calls) (accepted calls) earlier before = air_sends info calls earlier before wide fits is_before in
-    let first : Sending info.max_pdu info.max_sdu info.bn (anchors_of calls ++ anchor ∷ []) (accepted calls) (length before * info.bn) earlier [] rest.closed rest.opened =
-    anchored_more info.max_pdu info.max_sdu info.bn (anchors_of calls) (accepted calls) anchor (length before * info.bn) earlier [] rest.closed rest.opened rest.sending in
+    let laying : Laying = record { anchor = anchor; units = length (accepted calls) } in
+    let rest : Aired info (layings_of calls) (accepted calls) earlier before = air_sends info calls earlier before wide fits is_before in
+    let first : Sending info.max_pdu info.max_sdu info.bn (layings_of (lay anchor ∷ calls)) (accepted calls) (length before * info.bn) earlier [] rest.closed rest.opened =
+    anchored_more info.max_pdu info.max_sdu info.bn (layings_of calls) (accepted calls) laying (length before * info.bn) earlier [] rest.closed rest.opened rest.sending in
     let few : pdus_ended own < info.bn = (let whole : suc (pdus_ended own) ≡ info.bn = event.all in omega arith) in
-    let laid : Folded info.max_pdu info.max_sdu info.bn (anchors_of calls ++ anchor ∷ []) (accepted calls) anchor (length before * info.bn) earlier (ends ∷ own) rest.closed rest.opened =
-    ends_fold info.max_pdu info.max_sdu info.bn (anchors_of calls ++ anchor ∷ []) (accepted calls) anchor (length before * info.bn) earlier own rest.closed rest.opened wide
-    (event_sends info.max_pdu info.max_sdu info.bn (anchors_of calls ++ anchor ∷ []) (accepted calls) anchor (length before * info.bn) earlier own rest.closed rest.opened wide fits
-    (length before) refl (get_last (anchors_of calls) anchor (length before) (anchors_count info calls earlier before is_before)) few event.come.0 first) event.come.1 in
+    let laid : Folded info.max_pdu info.max_sdu info.bn (layings_of (lay anchor ∷ calls)) (accepted calls) anchor (length before * info.bn) earlier (ends ∷ own) rest.closed rest.opened =
+    ends_fold info.max_pdu info.max_sdu info.bn (layings_of (lay anchor ∷ calls)) (accepted calls) anchor (length before * info.bn) earlier own rest.closed rest.opened wide
+    (event_sends info.max_pdu info.max_sdu info.bn (layings_of (lay anchor ∷ calls)) (accepted calls) anchor (length before * info.bn) earlier own rest.closed rest.opened wide fits
+    (length before) refl (get_last (layings_of calls) laying (length before) (layings_count info calls earlier before is_before)) few event.come.0 first) event.come.1 in
     let count : length air ≡ suc (length before) = ap length air_is in
     let numbers : length before * info.bn + pdus_ended (ends ∷ own) ≡ length air * info.bn =
     ap (λ n. length before * info.bn + n) event.all ∙ omega arith ∙ ap (λ n. n * info.bn) (sym count) in
     record {
       closed = laid.closed_now;
       opened = laid.opened_now;
-      sending = subst (λ n. Sending info.max_pdu info.max_sdu info.bn (anchors_of calls ++ anchor ∷ []) (accepted calls) n acts [] laid.closed_now laid.opened_now) numbers
-          (subst (λ xs. Sending info.max_pdu info.max_sdu info.bn (anchors_of calls ++ anchor ∷ []) (accepted calls) (length before * info.bn + pdus_ended (ends ∷ own)) xs []
+      sending = subst (λ n. Sending info.max_pdu info.max_sdu info.bn (layings_of (lay anchor ∷ calls)) (accepted calls) n acts [] laid.closed_now laid.opened_now) numbers
+          (subst (λ xs. Sending info.max_pdu info.max_sdu info.bn (layings_of (lay anchor ∷ calls)) (accepted calls) (length before * info.bn + pdus_ended (ends ∷ own)) xs []
           laid.closed_now laid.opened_now)
           (sym acts_is) laid.sending);
       events = subst (λ a. EventsAre info a (all laid.closed_now laid.opened_now)) (sym air_is) (
@@ -201,14 +202,14 @@ chain_order_last from to laid (first ∷ units) unit chain least some end =
 sends_all : (info : BigInfo) (calls : List Call) (acts : List Act) (air : Air) (closed : List Sent) (opened : Option Sent) → 8 ≤ info.max_pdu
     → ((i : ℕ) → (unit : Timed) → slice_get (accepted calls) i ≡ Some unit → length unit.octets ≤ info.max_sdu)
     → room info.max_pdu acts ≡ info.max_pdu
-    → Sending info.max_pdu info.max_sdu info.bn (anchors_of calls) (accepted calls) (length air * info.bn) acts [] closed opened
+    → Sending info.max_pdu info.max_sdu info.bn (layings_of calls) (accepted calls) (length air * info.bn) acts [] closed opened
     → EventsAre info air (all closed opened) → Sends info calls air (all closed opened)
 sends_all info calls acts air closed None wide fits whole sending events = record {
   order = chain_order 0 sending.low (length air * info.bn) closed sending.chain;
   pdus = events;
   fit = sending.fit;
-  are = subst (λ xs. AreOf info.bn (anchors_of calls) xs closed) (take-append-drop (done acts) (accepted calls))
-      (are_more info.bn (anchors_of calls) (take (done acts) (accepted calls)) (drop (done acts) (accepted calls)) closed sending.closed_of);
+  are = subst (λ xs. AreOf info.bn (layings_of calls) 0 xs closed) (take-append-drop (done acts) (accepted calls))
+      (are_more info.bn (layings_of calls) 0 (take (done acts) (accepted calls)) (drop (done acts) (accepted calls)) closed sending.closed_of);
 }
 sends_all info calls acts air closed (Some unit) wide fits whole sending events =
     let at : behind unit ≡ length air * info.bn =
@@ -217,23 +218,24 @@ sends_all info calls acts air closed (Some unit) wide fits whole sending events 
     let few : length (octets_in unit.segments) ≤ sent acts = sending.open_is.octets in
     let room_is : length known.0.octets ≤ info.max_sdu = fits (done acts) known.0 known.1 in
     let within : sent acts ≤ length known.0.octets = known.2 in
-    let snoc : AreOf info.bn (anchors_of calls) (take (done acts) (accepted calls) ++ sending.open_of.0 ∷ []) (closed ++ unit ∷ []) =
-    are_snoc info.bn (anchors_of calls) (take (done acts) (accepted calls)) closed sending.open_of.0 unit sending.closed_of
+    let snoc : AreOf info.bn (layings_of calls) 0 (take (done acts) (accepted calls) ++ sending.open_of.0 ∷ []) (closed ++ unit ∷ []) =
+    are_snoc info.bn (layings_of calls) 0 (done acts) (take (done acts) (accepted calls)) closed sending.open_of.0 unit sending.closed_of
+    (taken_before (accepted calls) (done acts) sending.open_of.0 sending.open_of.1)
     (record { octets = λ is. absurd (true≢false (sym is ∙ sending.open_is.part)); timed = sending.open_of.3 }) in
     record {
       order = chain_order_last 0 sending.low (length air * info.bn) closed unit sending.chain sending.open_is.least sending.open_is.some (omega arith);
       pdus = events;
       fit = fit_more info.max_sdu closed unit sending.fit (omega arith);
-      are = subst (λ xs. AreOf info.bn (anchors_of calls) xs (closed ++ unit ∷ [])) (take-append-drop (done acts + 1) (accepted calls))
-          (are_more info.bn (anchors_of calls) (take (done acts + 1) (accepted calls)) (drop (done acts + 1) (accepted calls)) (closed ++ unit ∷ [])
-          (subst (λ xs. AreOf info.bn (anchors_of calls) xs (closed ++ unit ∷ [])) (sym (take_next (accepted calls) (done acts) sending.open_of.0 sending.open_of.1)) snoc));
+      are = subst (λ xs. AreOf info.bn (layings_of calls) 0 xs (closed ++ unit ∷ [])) (take-append-drop (done acts + 1) (accepted calls))
+          (are_more info.bn (layings_of calls) 0 (take (done acts + 1) (accepted calls)) (drop (done acts + 1) (accepted calls)) (closed ++ unit ∷ [])
+          (subst (λ xs. AreOf info.bn (layings_of calls) 0 xs (closed ++ unit ∷ [])) (sym (take_next (accepted calls) (done acts) sending.open_of.0 sending.open_of.1)) snoc));
     }
 
 pub air_is_sent : (info : BigInfo) (calls : List Call) (acts : List Act) (air : Air) → 8 ≤ info.max_pdu
     → ((i : ℕ) → (unit : Timed) → slice_get (accepted calls) i ≡ Some unit → length unit.octets ≤ info.max_sdu)
     → IsAirOf info calls acts air → (units : List Sent) × Sends info calls air units
 air_is_sent info calls acts air wide fits is =
-    let aired : Aired info (anchors_of calls) (accepted calls) acts air = air_sends info calls acts air wide fits is in (
+    let aired : Aired info (layings_of calls) (accepted calls) acts air = air_sends info calls acts air wide fits is in (
       all aired.closed aired.opened,
       sends_all info calls acts air aired.closed aired.opened wide fits (room_between info.max_pdu info calls acts air is) aired.sending aired.events,
     )

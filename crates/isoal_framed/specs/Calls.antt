@@ -1,5 +1,5 @@
 -- The calls that a sender of a framed stream took, the newest first (Core 5.2, volume 6 part G, section 2.2).
-use Rattle.std.specs.Prelude.{ℕ, List, [], ◌∷◌, ◌++◌, Option, Some, None}
+use Rattle.std.specs.Prelude.{ℕ, List, [], ◌∷◌, ◌++◌, length, Option, Some, None}
 use Rattle.bcast_base.specs.declared.unit.Unit.{Unit as AudioUnit}
 
 -- a unit is accepted with its time in µs, or the next event is laid, which has this anchor in µs
@@ -23,8 +23,13 @@ last_time [] = None
 last_time (accept time octets ∷ earlier) = Some time
 last_time (lay anchor ∷ earlier) = last_time earlier
 
--- the anchors of the events laid, in order
-abbrev pub anchors_of : List Call → List ℕ
-anchors_of [] = []
-anchors_of (accept time octets ∷ earlier) = anchors_of earlier
-anchors_of (lay anchor ∷ earlier) = anchors_of earlier ++ anchor ∷ []
+-- an event that was laid: its anchor in µs, and how many units were accepted before
+pub record Laying : Type 0 where
+  pub anchor : ℕ
+  pub units : ℕ
+
+-- the events laid, in order
+abbrev pub layings_of : List Call → List Laying
+layings_of [] = []
+layings_of (accept time octets ∷ earlier) = layings_of earlier
+layings_of (lay anchor ∷ earlier) = layings_of earlier ++ record { anchor = anchor; units = length (accepted earlier) } ∷ []

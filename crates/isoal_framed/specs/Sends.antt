@@ -5,29 +5,32 @@ use Rattle.big_info.specs.declared.info.BigInfo.{BigInfo}
 use Rattle.iso_pdu.specs.Layout.{framed}
 use Rattle.iso_pdu.specs.Spelling.{pdu}
 use Rattle.isoal_base.specs.Air.{Air}
-use Rattle.isoal_framed.specs.Calls.{Call, Timed, accepted, anchors_of}
+use Rattle.isoal_framed.specs.Calls.{Call, Laying, Timed, accepted, layings_of}
 use Rattle.isoal_framed.specs.Struck.{Sent, Fit, InOrder, octets_in, parts_at}
 
--- its TimeOffset is from the time of this accepted unit, which is not past it, to the anchor of the event of its first number
-pub record IsTimed (bn : ℕ) (anchors : List ℕ) (accepted : Timed) (unit : Sent) : Type 0 where
+-- its TimeOffset is from the time of this accepted unit, which is not past it, to the anchor of the event of its first number,
+-- and the unit is of this number among those accepted before that event was laid
+pub record IsTimed (bn : ℕ) (laid : List Laying) (number : ℕ) (accepted : Timed) (unit : Sent) : Type 0 where
   pub event : ℕ
   pub least : event * bn ≤ unit.first
   pub below : unit.first < event * bn + bn
-  pub anchor : ℕ
-  pub anchor_is : slice_get anchors event ≡ Some anchor
-  pub ready : accepted.time ≤ anchor
-  pub offset : unit.offset ≡ anchor - accepted.time
+  pub laying : Laying
+  pub laying_is : slice_get laid event ≡ Some laying
+  pub before : number < laying.units
+  pub ready : accepted.time ≤ laying.anchor
+  pub offset : unit.offset ≡ laying.anchor - accepted.time
 
--- it is this accepted unit
-pub record IsOf (bn : ℕ) (anchors : List ℕ) (accepted : Timed) (unit : Sent) : Type 0 where
+-- it is this accepted unit, which has this number
+pub record IsOf (bn : ℕ) (laid : List Laying) (number : ℕ) (accepted : Timed) (unit : Sent) : Type 0 where
   pub octets : unit.whole ≡ true → octets_in unit.segments ≡ accepted.octets
-  pub timed : IsTimed bn anchors accepted unit
+  pub timed : IsTimed bn laid number accepted unit
 
--- they are some of these accepted units, in order
-abbrev pub AreOf : ℕ → List ℕ → List Timed → List Sent → Type 0
-AreOf bn anchors accepted [] = Unit {0}
-AreOf bn anchors [] (unit ∷ units) = ⊥
-AreOf bn anchors (first ∷ accepted) (unit ∷ units) = (IsOf bn anchors first unit × AreOf bn anchors accepted units) ⊎ AreOf bn anchors accepted (unit ∷ units)
+-- they are some of these accepted units, in order, of which the first has this number
+abbrev pub AreOf : ℕ → List Laying → ℕ → List Timed → List Sent → Type 0
+AreOf bn laid number accepted [] = Unit {0}
+AreOf bn laid number [] (unit ∷ units) = ⊥
+AreOf bn laid number (first ∷ accepted) (unit ∷ units) =
+    (IsOf bn laid number first unit × AreOf bn laid (number + 1) accepted units) ⊎ AreOf bn laid (number + 1) accepted (unit ∷ units)
 
 -- the PDUs of each event are those of these units at its numbers
 abbrev pub EventsAre : BigInfo → Air → List Sent → Type 0
@@ -40,4 +43,4 @@ pub record Sends (info : BigInfo) (calls : List Call) (air : Air) (units : List 
   pub order : InOrder 0 (length air * info.bn) units
   pub pdus : EventsAre info air units
   pub fit : Fit info.max_sdu units
-  pub are : AreOf info.bn (anchors_of calls) (accepted calls) units
+  pub are : AreOf info.bn (layings_of calls) 0 (accepted calls) units

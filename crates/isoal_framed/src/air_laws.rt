@@ -29,7 +29,7 @@ pub fn a_sender_lays_a_framed_air()
 
 /// A framed air sends some of the accepted units, in order, each carried by numbers one behind the other, of which the last
 /// alone may be partly laid: its PDUs are those of these units. A unit's TimeOffset is from its time to the anchor of the
-/// event of its first number.
+/// event of its first number, which was laid after the unit was accepted.
 pub fn a_framed_air_sends_units()
     ensures { (group : Group) (calls : List Call) (air : Air) → group.info.framing ≡ 1
         → ((i : ℕ) (unit : Timed) → slice_get (accepted calls) i ≡ Some unit → length unit.octets ≤ group.info.max_sdu)
