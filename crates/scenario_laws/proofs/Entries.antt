@@ -7,7 +7,7 @@ use Rattle.std.proofs.lemmas.Bool.{and_parts, ltb-true}
 use Rattle.std.proofs.lemmas.Option.{none-some, same_Some}
 use Rattle.unit_outlets.specs.Handed.{Handed, valid, lost}
 use Rattle.isoal_base.specs.Stays.{Stay}
-use Rattle.isoal_framed.specs.Calls.{Timed}
+use Rattle.isoal_framed.specs.Calls.{Laying, Timed}
 use Rattle.isoal_framed.specs.Sends.{AreOf, IsOf}
 use Rattle.isoal_framed.specs.Struck.{InOrder, Sent, behind, entry_by, entry_of, first_missing, octets_in}
 use Rattle.isoal_framed.specs.Tokens.{time_of}
@@ -97,8 +97,8 @@ Numbered R low [] (unit ∷ units) = ⊥
 Numbered R low (n ∷ ns) (unit ∷ units) = (low ≤ n) × R n unit × Numbered R (n + 1) ns units
 
 -- the unit is of the one of this number among those accepted
-abbrev pub IsNumbered : ℕ → List ℕ → List Timed → ℕ → Sent → Type 0
-IsNumbered bn anchors accepted n unit = (one : Timed) × (slice_get accepted n ≡ Some one) × IsOf bn anchors one unit
+abbrev pub IsNumbered : ℕ → List Laying → List Timed → ℕ → Sent → Type 0
+IsNumbered bn laid accepted n unit = (one : Timed) × (slice_get accepted n ≡ Some one) × IsOf bn laid n one unit
 
 numbered_from : (R : ℕ → Sent → Type 0) (low more : ℕ) (ns : List ℕ) (units : List Sent) → low ≤ more → Numbered R more ns units → Numbered R low ns units
 numbered_from R low more [] [] least all = tt
@@ -106,26 +106,26 @@ numbered_from R low more (n ∷ ns) [] least all = absurd all
 numbered_from R low more [] (unit ∷ units) least all = absurd all
 numbered_from R low more (n ∷ ns) (unit ∷ units) least all = (omega (arith, least, all.0), all.1, all.2)
 
-numbering : (bn : ℕ) (anchors : List ℕ) (get : ℕ → Option Timed) (base : ℕ) (accepted : List Timed) (units : List Sent) → ((i : ℕ) → get (base + i) ≡ slice_get accepted i)
-    → AreOf bn anchors accepted units
-    → (ns : List ℕ) × Numbered (λ n unit. (one : Timed) × (get n ≡ Some one) × IsOf bn anchors one unit) base ns units
-numbering bn anchors get base [] [] at are = ([], tt)
-numbering bn anchors get base (one ∷ accepted) [] at are = ([], tt)
-numbering bn anchors get base [] (unit ∷ units) at are = absurd are
-numbering bn anchors get base (one ∷ accepted) (unit ∷ units) at are = elim are [
+numbering : (bn : ℕ) (laid : List Laying) (get : ℕ → Option Timed) (base : ℕ) (accepted : List Timed) (units : List Sent) → ((i : ℕ) → get (base + i) ≡ slice_get accepted i)
+    → AreOf bn laid base accepted units
+    → (ns : List ℕ) × Numbered (λ n unit. (one : Timed) × (get n ≡ Some one) × IsOf bn laid n one unit) base ns units
+numbering bn laid get base [] [] at are = ([], tt)
+numbering bn laid get base (one ∷ accepted) [] at are = ([], tt)
+numbering bn laid get base [] (unit ∷ units) at are = absurd are
+numbering bn laid get base (one ∷ accepted) (unit ∷ units) at are = elim are [
   | inl here ↦
-      let more = numbering bn anchors get (base + 1) accepted units (λ i. ap get (omega arith) ∙ at (suc i)) here.1 in
+      let more = numbering bn laid get (base + 1) accepted units (λ i. ap get (omega arith) ∙ at (suc i)) here.1 in
       (base ∷ more.0, (omega arith, (one, ap get (omega arith) ∙ at 0, here.0), more.1))
   | inr later ↦
-      let more = numbering bn anchors get (base + 1) accepted (unit ∷ units) (λ i. ap get (omega arith) ∙ at (suc i)) later in
+      let more = numbering bn laid get (base + 1) accepted (unit ∷ units) (λ i. ap get (omega arith) ∙ at (suc i)) later in
       (more.0, numbered_from _ base (base + 1) more.0 (unit ∷ units) (omega arith) more.1)
 ]
 
 zero_plus : (i : ℕ) → 0 + i ≡ i
 zero_plus i = omega arith
 
-pub are_numbered : (bn : ℕ) (anchors : List ℕ) (accepted : List Timed) (units : List Sent) → AreOf bn anchors accepted units → (ns : List ℕ) × Numbered (IsNumbered bn anchors accepted) 0 ns units
-are_numbered bn anchors accepted units are = numbering bn anchors (slice_get accepted) 0 accepted units (λ i. ap (slice_get accepted) (zero_plus i)) are
+pub are_numbered : (bn : ℕ) (laid : List Laying) (accepted : List Timed) (units : List Sent) → AreOf bn laid 0 accepted units → (ns : List ℕ) × Numbered (IsNumbered bn laid accepted) 0 ns units
+are_numbered bn laid accepted units are = numbering bn laid (slice_get accepted) 0 accepted units (λ i. ap (slice_get accepted) (zero_plus i)) are
 
 -- ---- one stay after another
 

@@ -12,7 +12,7 @@ use Rattle.big_info.specs.Schedule.{horizon_of}
 use Rattle.big_info.specs.Time.{iso_us_of}
 use Rattle.isoal_base.specs.Air.{Air}
 use Rattle.isoal_framed.specs.Air.{IsAirOf, IsFramedAir}
-use Rattle.isoal_framed.specs.Calls.{Call as FramedCall, Timed, accept, lay, accepted, anchors_of}
+use Rattle.isoal_framed.specs.Calls.{Call as FramedCall, Laying, Timed, accept, lay, accepted, layings_of}
 use Rattle.isoal_framed.specs.Places.{Act}
 use Rattle.source_machine.specs.declared.fault.GiveFault.{GiveFault}
 use Rattle.source_machine.specs.Calls.{Setup, Call, give, event, events, framed_calls, framed_lays, laid_before, laid_with, lay_anchor}
@@ -23,8 +23,8 @@ use Rattle.scenario_history.specs.Airs.{AreAccepted}
 
 -- so many events are laid, and the n-th of them has its anchor
 pub record LaidBy (setup : Setup) (count : ℕ) (calls : List FramedCall) : Type 0 where
-  pub count_is : length (anchors_of calls) ≡ count
-  pub each : (n : ℕ) → (anchor : ℕ) → slice_get (anchors_of calls) n ≡ Some anchor → anchor ≡ lay_anchor setup n
+  pub count_is : length (layings_of calls) ≡ count
+  pub each : (n : ℕ) → (laying : Laying) → slice_get (layings_of calls) n ≡ Some laying → laying.anchor ≡ lay_anchor setup n
 
 get_last : {A : Type 0} (xs : List A) (y : A) (n : ℕ) (x : A) → slice_get (xs ++ y ∷ []) n ≡ Some x → (slice_get xs n ≡ Some x) ⊎ ((n ≡ length xs) × (x ≡ y))
 get_last [] y zero x is = inr (refl, sym (same_Some y x is))
@@ -33,13 +33,15 @@ get_last (z ∷ xs) y zero x is = inl is
 get_last (z ∷ xs) y (suc n) x is = elim (get_last xs y n x is) [ inl before ↦ inl before | inr last ↦ inr (omega (arith, last.0), last.1) ]
 
 lay_one : (setup : Setup) (count : ℕ) (calls : List FramedCall) (anchor : ℕ) → LaidBy setup count calls → anchor ≡ lay_anchor setup count → LaidBy setup (count + 1) (lay anchor ∷ calls)
-lay_one setup count calls anchor by is = record {
-  count_is = length-append (anchors_of calls) (anchor ∷ []) ∙ ap (λ n. n + 1) by.count_is;
-  each = λ n a at. elim (get_last (anchors_of calls) anchor n a at) [
-    | inl before ↦ by.each n a before
-    | inr last ↦ last.1 ∙ is ∙ ap (lay_anchor setup) (sym (last.0 ∙ by.count_is))
-  ];
-}
+lay_one setup count calls anchor by is =
+    let last_one : Laying = record { anchor = anchor; units = length (accepted calls) } in
+    record {
+      count_is = length-append (layings_of calls) (last_one ∷ []) ∙ ap (λ n. n + 1) by.count_is;
+      each = λ n laying at. elim (get_last (layings_of calls) last_one n laying at) [
+        | inl before ↦ by.each n laying before
+        | inr last ↦ ap (λ (l : Laying). l.anchor) last.1 ∙ is ∙ ap (lay_anchor setup) (sym (last.0 ∙ by.count_is))
+      ];
+    }
 
 lay_all : (setup : Setup) (base count : ℕ) (calls : List FramedCall) → LaidBy setup base calls
     → LaidBy setup (base + count) (framed_lays (lay_anchor setup base) (iso_us_of setup.info) count calls)
@@ -62,7 +64,7 @@ none_yet : (count : ℕ) → (count == 0) ≡ true → count ≡ 0
 none_yet count is = eqb-true count 0 is
 
 pub laid_by : (setup : Setup) (bis : ℕ) (calls : List Call) → LaidBy setup (laid_before setup.info calls) (framed_calls setup bis calls)
-laid_by setup bis [] = record { count_is = refl; each = λ n anchor at. absurd (none-some anchor at) }
+laid_by setup bis [] = record { count_is = refl; each = λ n laying at. absurd (none-some laying at) }
 laid_by setup bis (give stream time octets ∷ calls) = elim (cases_eq stream bis) [
   | inl same ↦ rw (eq-eqb stream bis same)
       (record { count_is = (laid_by setup bis calls).count_is; each = (laid_by setup bis calls).each })
@@ -74,12 +76,12 @@ laid_by setup bis (event ∷ calls) =
     (lay_all setup (laid_before setup.info calls) (laid_with setup.info calls) (framed_calls setup bis calls) (laid_by setup bis calls))
 
 -- an air has an entry for each event laid
-air_long : (info : BigInfo) (calls : List FramedCall) (acts : List Act) (air : Air) → IsAirOf info calls acts air → length air ≡ length (anchors_of calls)
+air_long : (info : BigInfo) (calls : List FramedCall) (acts : List Act) (air : Air) → IsAirOf info calls acts air → length air ≡ length (layings_of calls)
 air_long info [] acts air is = ap length is.1
 air_long info (accept time octets ∷ calls) acts air is = air_long info calls acts air is
 air_long info (lay anchor ∷ calls) acts air is =
-    let before : length is.1 ≡ length (anchors_of calls) = air_long info calls is.0 is.1 is.3 in
-    ap length is.6 ∙ omega (arith, before, length-append (anchors_of calls) (anchor ∷ []))
+    let before : length is.1 ≡ length (layings_of calls) = air_long info calls is.0 is.1 is.3 in
+    ap length is.6 ∙ omega (arith, before, length-append (layings_of calls) (record { anchor = anchor; units = length (accepted calls) } ∷ []))
 
 pub events_in : (setup : Setup) (bis : ℕ) (calls : List Call) (air : Air) → IsFramedAir setup.info (framed_calls setup bis calls) air → length air ≡ laid_before setup.info calls
 events_in setup bis calls air is = air_long setup.info (framed_calls setup bis calls) is.0 air is.1 ∙ (laid_by setup bis calls).count_is

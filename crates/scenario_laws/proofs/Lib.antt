@@ -30,6 +30,7 @@ mod Entries
 mod StaysInTurn
 mod Turning
 mod UnitOrder
+mod Starts
 mod StartOrder
 mod OrderLaw
 mod MetAirs

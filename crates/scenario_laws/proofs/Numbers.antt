@@ -185,6 +185,7 @@ batch_one setup whole bis event slot low (valid stream time octets) rest from_fi
       performed = performed_then;
       slot_below = inside;
       number_is = refl;
+      in_slot = here.2;
       accepted = found;
       unit_is = ap (λ b. valid b time octets) here.0 ∙ ap (λ t. valid bis t octets) here.1;
     } in

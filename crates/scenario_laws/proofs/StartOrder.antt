@@ -1,243 +1,229 @@
--- The entries of a framed stream over all stays of a sink with a source, whatever was injected: each is of a start in an event
--- of its stay, and these events never fall.
-use Rattle.std.proofs.Common.{ℕ, zero, suc, ◌≡◌, ◌<◌, ◌≤◌, ◌+◌, ◌-◌, ◌*◌, false, List, [], ◌∷◌, ◌++◌, map, Option, Some, None, refl, sym, ◌∙◌, ap, subst, arith, inl, inr, append_assoc}
-use Rattle.std.specs.List.{AllByRecursion, AllZip, Contains, flat_map, range_with_len}
+-- The entries of a framed stream over all stays of a sink with a source, whatever was injected: each is of a start that was heard
+-- in its stay, in the order of these starts.
+use Rattle.std.proofs.Common.{ℕ, ◌≡◌, ◌<◌, ◌≤◌, ◌+◌, ◌*◌, ◌/◌, ◌||◌, is_some, Bool, true, false, List, [], ◌∷◌, ◌++◌, refl, sym, ◌∙◌, ap, subst, arith, inl, inr, append_assoc}
+use Rattle.std.specs.List.{AllZip, Contains, list_any}
+use Rattle.std.proofs.Math.Nat.{div-mul-le_self, mul-le-mul}
 use Rattle.std.proofs.lemmas.Bool.{cases_Bool}
 use Rattle.std.proofs.lemmas.List.{append-nil}
+use Rattle.std.proofs.lemmas.List.Folds.{list_any-append}
 use Rattle.big_info.specs.declared.info.BigInfo.{BigInfo}
-use Rattle.iso_pdu.specs.Layout.{Part, start, more as further}
 use Rattle.unit_outlets.specs.Handed.{Handed}
 use Rattle.isoal_base.specs.Stays as stays
-use Rattle.isoal_base.specs.Stays.{Stay, opened}
-use Rattle.isoal_framed.specs.Histories.{decided, event_tokens, heard_in}
-use Rattle.isoal_framed.specs.Tokens.{Token, starts, goes_on, missing, time_of, token_of, tokens_of}
-use Rattle.isoal_framed.specs.Units.{Fate, whole, broken, undecided, fate_at, handed_of, units}
+use Rattle.isoal_base.specs.Stays.{opened}
+use Rattle.isoal_framed.specs.Histories.{decided, heard_in}
+use Rattle.isoal_framed.specs.Struck.{closed_end}
+use Rattle.isoal_framed.specs.Tokens.{time_of}
 use Rattle.source_machine.specs.Calls.{Setup, Call as SourceCall, next_of}
 use Rattle.group_sink.specs.Calls.{Tuning}
-use Rattle.group_sink.specs.Handing.{bis_of, handed_since as ticked_since, of_stream}
+use Rattle.group_sink.specs.Handing.{handed_since as ticked_since, of_stream}
 use Rattle.group_sink.specs.Streams.{is_in, stay_on, streams_of}
 use Rattle.group_sink.proofs.Citable.{is_member, member_is}
 use Rattle.scenario_text.specs.declared.step.Step.{Step}
+use Rattle.scenario_text.specs.declared.step.Step.TheVariants as steps
 use Rattle.scenario_history.specs.Steps.{steps_of_source}
 use Rattle.scenario_history.specs.Source.{Airs, setup_of, source_calls}
 use Rattle.scenario_history.specs.Sinks.{sink_calls}
-use Rattle.scenario_laws.specs.SourceUnits.{InStartOrder, IsOfStart, NeverFall, time_in}
-use Rattle.scenario_laws.specs.Laws.{Closed, calls_on, given_since_made, is_given, is_made, is_tuned, shown_since}
+use Rattle.scenario_laws.specs.SourceUnits.{whole_stay}
+use Rattle.scenario_laws.specs.Laws.{Closed, InStartOrder, IsOfStart, IsStartHeard, SegmentPlace, calls_on, given_since_made, is_given, is_made, is_tuned, shown_since}
 use Rattle.scenario_laws.proofs.Below.{Below}
 use Rattle.scenario_laws.proofs.Legals.{Legal}
 use Rattle.scenario_laws.proofs.Sources.{true_not_false}
 use Rattle.scenario_laws.proofs.Wholes.{Within, next_in, within_before, within_itself}
-use Rattle.scenario_laws.proofs.Stays.{OnSource, TunedTo, on_source, rest_not}
+use Rattle.scenario_laws.proofs.Stays.{IsOn, OnSource, TunedTo, on_source, rest_not}
 use Rattle.scenario_laws.proofs.Shown.{zip_on}
+use Rattle.scenario_laws.proofs.Starts.{AtStart, Behind, RiseTo, are_in_order, behind_below, decided_told, rise_more, rise_on}
 use Rattle.scenario_laws.proofs.UnitsLaw.{since}
-use Rattle.scenario_laws.proofs.FramedStays.{next_of_whole, opened_least, opened_within, stay_on_whole}
-use Rattle.scenario_laws.proofs.UnitOrder.{start_time_is}
+use Rattle.scenario_laws.proofs.FramedStays.{heard_least, next_of_whole, opened_least, opened_within, stay_on_whole}
+use Rattle.scenario_laws.proofs.UnitOrder.{event_below, start_time_is}
 use Rattle.scenario_laws.proofs.StaysInTurn.{OverStay, Turns, closed_from}
 use Rattle.scenario_laws.proofs.Turning.{over_stays}
 
--- ---- events that never fall
+-- ---- the steps so far, as a part of all steps
 
--- they are at least `low` and all below `high`
-abbrev RiseTo : ℕ → List ℕ → ℕ → Type 0
-RiseTo low [] high = low ≤ high
-RiseTo low (event ∷ events) high = (low ≤ event) × (event < high) × RiseTo event events high
+-- these steps and others behind them, of which none makes the sink again
+record GoesOn (n : ℕ) (all made : List Step) : Type 0 where
+  pub later : List Step
+  pub split : all ≡ later ++ made
+  pub same_sink : list_any (is_made n made) later ≡ false
 
-rise_from : (low from : ℕ) (events : List ℕ) (high : ℕ) → low ≤ from → RiseTo from events high → RiseTo low events high
-rise_from low from [] high least rise = omega (arith, least, rise)
-rise_from low from (event ∷ events) high least rise = (omega (arith, least, rise.0), rise.1, rise.2)
+-- it doesn't matter what came before
+made_alike : (n : ℕ) (before before' : List Step) (step : Step) → is_made n before step ≡ is_made n before' step
+made_alike n before before' (steps.Sink sink streams slots mtu) = refl
+made_alike n before before' _ = refl
 
-rise_on : (low : ℕ) (xs : List ℕ) (middle : ℕ) (ys : List ℕ) (high : ℕ) → middle ≤ high → RiseTo low xs middle → RiseTo middle ys high → RiseTo low (xs ++ ys) high
-rise_on low [] middle ys high most first rest = rise_from low middle ys high first rest
-rise_on low (x ∷ xs) middle ys high most first rest = (first.0, omega (arith, first.1, most), rise_on x xs middle ys high most first.2 rest)
+any_alike : (n : ℕ) (before before' later : List Step) → list_any (is_made n before) later ≡ list_any (is_made n before') later
+any_alike n before before' [] = refl
+any_alike n before before' (step ∷ later) =
+    ap (λ b. b || list_any (is_made n before) later) (made_alike n before before' step) ∙ ap (λ b. is_made n before' step || b) (any_alike n before before' later)
 
-rise_more : (low : ℕ) (xs : List ℕ) (high more : ℕ) → high ≤ more → RiseTo low xs high → RiseTo low xs more
-rise_more low [] high more most rise = omega (arith, most, rise)
-rise_more low (x ∷ xs) high more most rise = (rise.0, omega (arith, rise.1, most), rise_more x xs high more most rise.2)
+neither : (a b : Bool) → a ≡ false → b ≡ false → (a || (b || false)) ≡ false
+neither true b first second = absurd (true_not_false true refl first)
+neither false true first second = absurd (true_not_false true refl second)
+neither false false first second = refl
 
-never_falls : (low least : ℕ) (xs : List ℕ) (high : ℕ) → least ≤ low → RiseTo low xs high → NeverFall least xs
-never_falls low least [] high below rise = tt
-never_falls low least (x ∷ xs) high below rise = (omega (arith, below, rise.0), never_falls x x xs high (omega arith) rise.2)
-
--- ---- the entries of an event
-
--- the entry is of a start in this event of the stay
-record AtStart (stay : Stay) (event : ℕ) (entry : Handed) : Type 0 where
-  pub stream : bis_of entry ≡ stay.bis
-  pub offset : ℕ
-  pub time_is : time_in entry ≡ time_of stay event offset
-
-abbrev OfEvent : Stay → ℕ → Token → Type 0
-OfEvent stay event (starts time complete octets) = (offset : ℕ) × (time ≡ time_of stay event offset)
-OfEvent stay event (goes_on complete octets) = Unit {0}
-OfEvent stay event missing = Unit {0}
-
-part_of_event : (stay : Stay) (event : ℕ) (parts : List Part) → AllByRecursion (OfEvent stay event) (map (token_of stay event) parts)
-part_of_event stay event [] = tt
-part_of_event stay event (start offset complete octets ∷ parts) = ((offset, refl), part_of_event stay event parts)
-part_of_event stay event (further complete octets ∷ parts) = (tt, part_of_event stay event parts)
-
-number_of_event : (stay : Stay) (event : ℕ) (heard : Option (List Part)) → AllByRecursion (OfEvent stay event) (tokens_of stay event heard)
-number_of_event stay event None = (tt, tt)
-number_of_event stay event (Some parts) = part_of_event stay event parts
-
-all_on : {A : Type 0} (P : A → Type 0) (xs ys : List A) → AllByRecursion P xs → AllByRecursion P ys → AllByRecursion P (xs ++ ys)
-all_on P [] ys first rest = rest
-all_on P (x ∷ xs) ys first rest = (first.0, all_on P xs ys first.1 rest)
-
-tokens_of_event : (stay : Stay) (event : ℕ) (heard : ℕ → Option (List Part)) (numbers : List ℕ) → AllByRecursion (OfEvent stay event) (flat_map (λ number. tokens_of stay event (heard number)) numbers)
-tokens_of_event stay event heard [] = tt
-tokens_of_event stay event heard (number ∷ numbers) =
-    all_on (OfEvent stay event) (tokens_of stay event (heard number)) _ (number_of_event stay event (heard number)) (tokens_of_event stay event heard numbers)
-
-fate_at_start : (stay : Stay) (event time offset : ℕ) (fate : Fate) → time ≡ time_of stay event offset → AllByRecursion (AtStart stay event) (handed_of stay.bis time fate)
-fate_at_start stay event time offset (whole octets) is = (record { stream = refl; offset = offset; time_is = is }, tt)
-fate_at_start stay event time offset broken is = (record { stream = refl; offset = offset; time_is = is }, tt)
-fate_at_start stay event time offset (undecided octets) is = tt
-
--- what the tokens of an event give, in front of others
-event_units : (stay : Stay) (event max_sdu : ℕ) (tokens rest : List Token) → AllByRecursion (OfEvent stay event) tokens
-    → (own : List Handed) × (units max_sdu stay.bis (tokens ++ rest) ≡ own ++ units max_sdu stay.bis rest) × AllByRecursion (AtStart stay event) own
-event_units stay event max_sdu [] rest all = ([], refl, tt)
-event_units stay event max_sdu (starts time complete octets ∷ tokens) rest all =
-    let later = event_units stay event max_sdu tokens rest all.1 in
-    let first : List Handed = handed_of stay.bis time (fate_at max_sdu complete octets (tokens ++ rest)) in (
-      first ++ later.0,
-      ap (λ us. first ++ us) later.1 ∙ sym (append_assoc first later.0 (units max_sdu stay.bis rest)),
-      all_on (AtStart stay event) first later.0 (fate_at_start stay event time all.0.0 (fate_at max_sdu complete octets (tokens ++ rest)) all.0.1) later.2,
-    )
-event_units stay event max_sdu (goes_on complete octets ∷ tokens) rest all = event_units stay event max_sdu tokens rest all.1
-event_units stay event max_sdu (missing ∷ tokens) rest all = event_units stay event max_sdu tokens rest all.1
-
--- entries with their events
-record Told (stay : Stay) (low high : ℕ) (entries : List Handed) : Type 0 where
-  pub events : List ℕ
-  pub rise : RiseTo low events high
-  pub each : AllZip (AtStart stay) events entries
-
-one_event : (stay : Stay) (event high : ℕ) (entries : List Handed) → event < high → AllByRecursion (AtStart stay event) entries → Told stay event high entries
-one_event stay event high [] below all = record { events = []; rise = omega (arith, below); each = tt }
-one_event stay event high (entry ∷ entries) below all =
-    let later = one_event stay event high entries below all.1 in
-    record { events = event ∷ later.events; rise = (omega arith, below, later.rise); each = (all.0, later.each) }
-
-told_on : (stay : Stay) (low middle high : ℕ) (xs ys : List Handed) → middle ≤ high → Told stay low middle xs → Told stay middle high ys → Told stay low high (xs ++ ys)
-told_on stay low middle high xs ys most first rest = record {
-  events = first.events ++ rest.events;
-  rise = rise_on low first.events middle rest.events high most first.rise rest.rise;
-  each = zip_on (AtStart stay) first.events rest.events xs ys first.each rest.each;
+went_on : (n : ℕ) (all : List Step) (step : Step) (earlier : List Step) → is_made n earlier step ≡ false → GoesOn n all (step ∷ earlier) → GoesOn n all earlier
+went_on n all step earlier still goes = record {
+  later = goes.later ++ step ∷ [];
+  split = goes.split ∙ sym (append_assoc goes.later (step ∷ []) earlier);
+  same_sink = list_any-append (is_made n earlier) goes.later (step ∷ [])
+      ∙ neither (list_any (is_made n earlier) goes.later) (is_made n earlier step) (any_alike n earlier (step ∷ earlier) goes.later ∙ goes.same_sink) still;
 }
 
-events_told : (stay : Stay) (calls : List stays.Call) (max_sdu first count : ℕ)
-    → Told stay first (first + count) (units max_sdu stay.bis (flat_map (event_tokens stay calls) (range_with_len first count)))
-events_told stay calls max_sdu first zero = record { events = []; rise = omega arith; each = tt }
-events_told stay calls max_sdu first (suc count) =
-    let own = event_units stay first max_sdu (event_tokens stay calls first) (flat_map (event_tokens stay calls) (range_with_len (first + 1) count))
-    (tokens_of_event stay first (heard_in stay calls) (range_with_len (first * stay.info.bn) stay.info.bn)) in
-    let end : first + 1 + count ≡ first + suc count = omega arith in
-    subst (λ us. Told stay first (first + suc count) us) (sym own.1)
-    (told_on stay first (first + 1) (first + suc count) own.0 _ (omega arith) (one_event stay first (first + 1) own.0 (omega arith) own.2)
-    (subst (λ high. Told stay (first + 1) high (units max_sdu stay.bis (flat_map (event_tokens stay calls) (range_with_len (first + 1) count)))) end
-    (events_told stay calls max_sdu (first + 1) count)))
+-- ---- the starts of one stay, by all steps
 
--- what a stay decides is of starts in its closed events
-decided_told : (stay : Stay) (calls : List stays.Call) → Told stay stay.first (opened stay calls) (decided stay calls)
-decided_told stay calls =
-    let end : stay.first + (opened stay calls - stay.first) ≡ opened stay calls = omega (arith, opened_least stay calls) in
-    subst (λ high. Told stay stay.first high (decided stay calls)) end (events_told stay calls stay.info.max_sdu stay.first (opened stay calls - stay.first))
+abbrev setup_in : List Step → ℕ → Setup
+setup_in all s = setup_of (steps_of_source s all)
+
+abbrev calls_in : List Step → ℕ → List SourceCall
+calls_in all s = source_calls (steps_of_source s all)
+
+-- a stay of the sink on a stream of the source
+record IsStay (airs : Airs) (all : List Step) (s n bis : ℕ) (made : List Step) (tuning : Tuning) : Type 0 where
+  pub goes : GoesOn n all made
+  pub is : IsOn airs s n made tuning
+  pub taken : Contains (streams_of tuning.which) bis
+  pub to : TunedTo (setup_in all s) tuning
+  pub opens : opened (stay_on tuning bis) (calls_on airs made n tuning bis) ≤ next_of (setup_in all s) (calls_in all s)
+
+one_start : (airs : Airs) (all : List Step) (s n bis : ℕ) (made : List Step) (tuning : Tuning) (at : SegmentPlace) (entry : Handed) → IsStay airs all s n bis made tuning
+    → at.number < closed_end (stay_on tuning bis) (calls_on airs made n tuning bis) → AtStart (stay_on tuning bis) (calls_on airs made n tuning bis) at entry
+    → IsOfStart airs all s n bis at entry
+one_start airs all s n bis made tuning at entry stay below starts =
+    let calls : List stays.Call = calls_on airs made n tuning bis in
+    let event : ℕ = at.number / tuning.info.bn in
+    let bn_is : tuning.info.bn ≡ (setup_in all s).info.bn = ap (λ (i : BigInfo). i.bn) stay.to.info in
+    let first_event : tuning.first ≤ event = heard_least (stay_on tuning bis) calls at.number (ap is_some starts.heard) in
+    let performed_then : event < opened (stay_on tuning bis) calls =
+    event_below event at.number (opened (stay_on tuning bis) calls) tuning.info.bn (div-mul-le_self at.number tuning.info.bn) below in
+    record {
+      offset = starts.offset;
+      heard = record {
+        later = stay.goes.later;
+        made = made;
+        steps_are = stay.goes.split;
+        same_sink = stay.goes.same_sink;
+        tuning = tuning;
+        there = stay.is.place_is;
+        its_source = stay.is.source_is;
+        taken = stay.taken;
+        parts = starts.parts;
+        heard = starts.heard;
+        complete = starts.complete;
+        octets = starts.octets;
+        is_start = starts.is_start;
+        closed = below;
+      };
+      event = event;
+      event_is = ap (λ b. at.number / b) bn_is;
+      least = omega (arith, first_event, stay.to.first);
+      performed = omega (arith, performed_then, stay.opens);
+      stream = starts.stream;
+      time_is = starts.time_is ∙ start_time_is (setup_in all s) tuning bis event starts.offset stay.to first_event;
+    }
+
+all_behind : (airs : Airs) (all : List Step) (s n bis : ℕ) (made : List Step) (tuning : Tuning) (at : SegmentPlace) (places : List SegmentPlace) (entries : List Handed)
+    → IsStay airs all s n bis made tuning → Behind at places (closed_end (stay_on tuning bis) (calls_on airs made n tuning bis))
+    → AllZip (AtStart (stay_on tuning bis) (calls_on airs made n tuning bis)) places entries → AllZip (IsOfStart airs all s n bis) places entries
+all_behind airs all s n bis made tuning at [] [] stay behind each = tt
+all_behind airs all s n bis made tuning at [] (entry ∷ entries) stay behind each = absurd each
+all_behind airs all s n bis made tuning at (next ∷ places) [] stay behind each = absurd each
+all_behind airs all s n bis made tuning at (next ∷ places) (entry ∷ entries) stay behind each = (
+  one_start airs all s n bis made tuning next entry stay
+  (behind_below next places (closed_end (stay_on tuning bis) (calls_on airs made n tuning bis)) behind.1) each.0,
+  all_behind airs all s n bis made tuning next places entries stay behind.1 each.1,
+)
+
+all_starts : (airs : Airs) (all : List Step) (s n bis : ℕ) (made : List Step) (tuning : Tuning) (low : ℕ) (places : List SegmentPlace) (entries : List Handed)
+    → IsStay airs all s n bis made tuning → RiseTo low places (closed_end (stay_on tuning bis) (calls_on airs made n tuning bis))
+    → AllZip (AtStart (stay_on tuning bis) (calls_on airs made n tuning bis)) places entries → AllZip (IsOfStart airs all s n bis) places entries
+all_starts airs all s n bis made tuning low [] [] stay rise each = tt
+all_starts airs all s n bis made tuning low [] (entry ∷ entries) stay rise each = absurd each
+all_starts airs all s n bis made tuning low (at ∷ places) [] stay rise each = absurd each
+all_starts airs all s n bis made tuning low (at ∷ places) (entry ∷ entries) stay rise each = (
+  one_start airs all s n bis made tuning at entry stay
+  (behind_below at places (closed_end (stay_on tuning bis) (calls_on airs made n tuning bis)) rise.1) each.0,
+  all_behind airs all s n bis made tuning at places entries stay rise.1 each.1,
+)
 
 -- ---- over all stays
 
-record Fine (airs : Airs) (boxes s n : ℕ) (setup : Setup) (whole_calls : List SourceCall) (made : List Step) : Type 0 where
+record Fine (airs : Airs) (boxes s n : ℕ) (all made : List Step) : Type 0 where
   pub legal_is : Legal airs boxes made
-  pub within : Within setup whole_calls (steps_of_source s made)
+  pub within : Within (setup_in all s) (calls_in all s) (steps_of_source s made)
   pub ungiven : given_since_made n made ≡ false
+  pub goes : GoesOn n all made
 
-record Claim (setup : Setup) (calls : List SourceCall) (bis : ℕ) (e : ℕ) (closed : List Closed) (entries : List Handed) : Type 0 where
-  pub events : List ℕ
-  pub rise : RiseTo setup.first events (setup.first + e)
-  pub each : AllZip (IsOfStart setup calls bis) events entries
+-- entries of starts in PDUs of events below this one
+record Claim (airs : Airs) (all : List Step) (s n bis e : ℕ) (closed : List Closed) (entries : List Handed) : Type 0 where
+  pub places : List SegmentPlace
+  pub rise : RiseTo 0 places (e * (setup_in all s).info.bn)
+  pub each : AllZip (IsOfStart airs all s n bis) places entries
 
-by_source : (setup : Setup) (calls : List SourceCall) (tuning : Tuning) (bis low high : ℕ) (events : List ℕ) (entries : List Handed) → TunedTo setup tuning → tuning.first ≤ low
-    → high ≤ next_of setup calls
-    → RiseTo low events high → AllZip (AtStart (stay_on tuning bis)) events entries → AllZip (IsOfStart setup calls bis) events entries
-by_source setup calls tuning bis low high [] [] on least most rise all = tt
-by_source setup calls tuning bis low high [] (entry ∷ entries) on least most rise all = absurd all
-by_source setup calls tuning bis low high (event ∷ events) [] on least most rise all = absurd all
-by_source setup calls tuning bis low high (event ∷ events) (entry ∷ entries) on least most rise all = (
-  record {
-    least = omega (arith, least, on.first, rise.0);
-    performed = omega (arith, rise.1, most);
-    stream = all.0.stream;
-    offset = all.0.offset;
-    time_is = all.0.time_is ∙ start_time_is setup tuning bis event all.0.offset on (omega (arith, least, rise.0));
-  },
-  by_source setup calls tuning bis event high events entries on (omega (arith, least, rise.0)) most rise.2 all.1,
-)
+claim_more : (airs : Airs) (all : List Step) (s n bis e later : ℕ) (closed more : List Closed) (entries : List Handed) → e ≤ later → Claim airs all s n bis e closed entries
+    → Claim airs all s n bis later more entries
+claim_more airs all s n bis e later closed more entries most claim =
+    let bn : ℕ = (setup_in all s).info.bn in
+    record { places = claim.places; rise = rise_more 0 claim.places (e * bn) (later * bn) (mul-le-mul most (omega arith)) claim.rise; each = claim.each }
 
-claim_more : (setup : Setup) (calls : List SourceCall) (bis e later : ℕ) (closed more : List Closed) (entries : List Handed) → e ≤ later → Claim setup calls bis e closed entries
-    → Claim setup calls bis later more entries
-claim_more setup calls bis e later closed more entries most claim =
-    record { events = claim.events; rise = rise_more setup.first claim.events (setup.first + e) (setup.first + later) (omega (arith, most)) claim.rise; each = claim.each }
-
-over : Below → (airs : Airs) (boxes s n bis : ℕ) (setup : Setup) (calls : List SourceCall) → s ≤ 1 → n ≤ 7 → 1 ≤ bis → bis ≤ 31 → setup.info.framing ≡ 1
-    → OverStay (λ e closed entries. Claim setup calls bis (e - setup.first) closed entries) (Fine airs boxes s n setup calls) airs s n bis
-over below airs boxes s n bis setup calls source_within sink_within least greatest is_framed made fine tuning is past entries claim =
+over : Below → (airs : Airs) (boxes s n bis : ℕ) (all : List Step) → s ≤ 1 → n ≤ 7 → 1 ≤ bis → bis ≤ 31 → (setup_in all s).info.framing ≡ 1
+    → OverStay (Claim airs all s n bis) (Fine airs boxes s n all) airs s n bis
+over below airs boxes s n bis all source_within sink_within least greatest is_framed made fine tuning is past entries claim =
     let own : List Step = steps_of_source s made in
+    let bn : ℕ = (setup_in all s).info.bn in
     let on : OnSource own tuning = on_source below.announcing airs boxes s n made tuning fine.legal_is is in
-    let to : TunedTo setup tuning = stay_on_whole below.announcing airs boxes s n setup calls made tuning fine.legal_is fine.within is in
-    let opens : opened (stay_on tuning bis) (calls_on airs made n tuning bis) ≤ next_in own = opened_within below airs boxes s n bis made tuning fine.legal_is source_within is in
-    let first_opens : tuning.first ≤ opened (stay_on tuning bis) (calls_on airs made n tuning bis) = opened_least (stay_on tuning bis) (calls_on airs made n tuning bis) in
+    let to : TunedTo (setup_in all s) tuning = stay_on_whole below.announcing airs boxes s n (setup_in all s) (calls_in all s) made tuning fine.legal_is fine.within is in
+    let bn_is : tuning.info.bn ≡ bn = ap (λ (i : BigInfo). i.bn) to.info in
+    let calls : List stays.Call = calls_on airs made n tuning bis in
+    let opens : opened (stay_on tuning bis) calls ≤ next_in own = opened_within below airs boxes s n bis made tuning fine.legal_is source_within is in
+    let first_opens : tuning.first ≤ opened (stay_on tuning bis) calls = opened_least (stay_on tuning bis) calls in
     let shown : shown_since (is_tuned n) airs s n bis made ≡ of_stream bis (ticked_since (sink_calls airs n made)) =
     ap (of_stream bis) (since airs boxes s n made tuning fine.legal_is source_within sink_within is) in
-    let most : next_in own ≤ next_of setup calls = next_of_whole setup calls own fine.within on.started in
+    let most : next_in own ≤ next_of (setup_in all s) (calls_in all s) = next_of_whole (setup_in all s) (calls_in all s) own fine.within on.started in
     elim (cases_Bool (is_in tuning.which bis)) [
       | inr free ↦
-          subst (λ us. Claim setup calls bis (next_in own - setup.first) (past ++ closed_from (is_tuned n) airs s n made) us)
+          subst (λ us. Claim airs all s n bis (next_in own) (past ++ closed_from (is_tuned n) airs s n made) us)
           (sym (ap (λ us. entries ++ us) (shown ∙ below.others tuning (sink_calls airs n made) bis is.place_is
           (λ taken. true_not_false (is_in tuning.which bis) (member_is tuning.which bis taken).0 free)) ∙ append-nil entries))
-          (claim_more setup calls bis (tuning.first - setup.first) (next_in own - setup.first) past (past ++ closed_from (is_tuned n) airs s n made) entries (omega (arith, first_opens, opens)) claim)
+          (claim_more airs all s n bis tuning.first (next_in own) past (past ++ closed_from (is_tuned n) airs s n made) entries (omega (arith, first_opens, opens)) claim)
       | inl taken ↦
           let member : Contains (streams_of tuning.which) bis = is_member tuning.which bis least greatest taken in
-          let all : shown_since (is_tuned n) airs s n bis made ≡ decided (stay_on tuning bis) (calls_on airs made n tuning bis) =
+          let decided_is : shown_since (is_tuned n) airs s n bis made ≡ decided (stay_on tuning bis) calls =
           shown ∙ below.framed_hands tuning (sink_calls airs n made) bis (ap (λ (i : BigInfo). i.framing) to.info ∙ is_framed) is.place_is member in
-          let told = decided_told (stay_on tuning bis) (calls_on airs made n tuning bis) in
-          let low : setup.first + (tuning.first - setup.first) ≡ tuning.first = omega (arith, to.first) in
-          let high : next_in own ≡ setup.first + (next_in own - setup.first) = omega (arith, to.first, first_opens, opens) in
-          let rises : RiseTo tuning.first told.events (setup.first + (next_in own - setup.first)) =
-          subst (RiseTo tuning.first told.events) high (rise_more tuning.first told.events (opened (stay_on tuning bis) (calls_on airs made n tuning bis)) (next_in own) opens told.rise) in
-          subst (λ us. Claim setup calls bis (next_in own - setup.first) (past ++ closed_from (is_tuned n) airs s n made) (entries ++ us)) (sym all)
+          let told = decided_told (stay_on tuning bis) calls in
+          let stay : IsStay airs all s n bis made tuning = record { goes = fine.goes; is = is; taken = member; to = to; opens = omega (arith, opens, most) } in
+          let end : opened (stay_on tuning bis) calls * tuning.info.bn ≤ next_in own * bn =
+          subst (λ (b : ℕ). opened (stay_on tuning bis) calls * tuning.info.bn ≤ next_in own * b) bn_is (mul-le-mul opens (omega arith)) in
+          let rises : RiseTo (tuning.first * bn) told.places (next_in own * bn) =
+          subst (λ (b : ℕ). RiseTo (tuning.first * b) told.places (next_in own * bn)) bn_is
+          (rise_more (tuning.first * tuning.info.bn) told.places (closed_end (stay_on tuning bis) calls) (next_in own * bn) end told.rise) in
+          subst (λ us. Claim airs all s n bis (next_in own) (past ++ closed_from (is_tuned n) airs s n made) (entries ++ us)) (sym decided_is)
           (record {
-            events = claim.events ++ told.events;
-            rise = rise_on setup.first claim.events tuning.first told.events (setup.first + (next_in own - setup.first)) (omega (arith, first_opens, opens, high))
-                (subst (RiseTo setup.first claim.events) low claim.rise) rises;
-            each = zip_on (IsOfStart setup calls bis) claim.events told.events entries (decided (stay_on tuning bis) (calls_on airs made n tuning bis)) claim.each
-                (by_source setup calls tuning bis tuning.first (opened (stay_on tuning bis) (calls_on airs made n tuning bis)) told.events (decided (stay_on tuning bis)
-                (calls_on airs made n tuning bis)) to
-                (omega arith) (omega (arith, opens, most)) told.rise told.each);
+            places = claim.places ++ told.places;
+            rise = rise_on 0 claim.places (tuning.first * bn) told.places (next_in own * bn) claim.rise rises;
+            each = zip_on (IsOfStart airs all s n bis) claim.places told.places entries (decided (stay_on tuning bis) calls) claim.each
+                (all_starts airs all s n bis made tuning (tuning.first * tuning.info.bn) told.places (decided (stay_on tuning bis) calls) stay told.rise told.each);
           })
     ]
 
 pub starts_in_order : Below → (airs : Airs) (boxes s n bis : ℕ) (made : List Step) → Legal airs boxes made → (setup_of (steps_of_source s made)).info.framing ≡ 1 → s ≤ 1 → n ≤ 7 → 1 ≤ bis → bis ≤ 31
-    → given_since_made n made ≡ false
-    → InStartOrder (setup_of (steps_of_source s made)) (source_calls (steps_of_source s made)) bis (shown_since (is_made n) airs s n bis made)
+    → given_since_made n made ≡ false → InStartOrder airs made s n bis (shown_since (is_made n) airs s n bis made)
 starts_in_order below airs boxes s n bis made legal is_framed source_within sink_within least greatest ungiven =
-    let own : List Step = steps_of_source s made in
-    let setup : Setup = setup_of own in
-    let turns : Turns (λ e closed entries. Claim setup (source_calls own) bis (e - setup.first) closed entries) (Fine airs boxes s n setup (source_calls own)) airs boxes s n bis = record {
+    let turns : Turns (Claim airs made s n bis) (Fine airs boxes s n made) airs boxes s n bis = record {
       laws = below.announcing;
-      none = λ e. record { events = []; rise = omega arith; each = tt };
-      rises = λ e later closed entries more claim. claim_more setup (source_calls own) bis (e - setup.first) (later - setup.first) closed closed entries (omega (arith, more)) claim;
-      over = over below airs boxes s n bis setup (source_calls own) source_within sink_within least greatest is_framed;
+      none = λ e. record { places = []; rise = omega arith; each = tt };
+      rises = λ e later closed entries more claim. claim_more airs made s n bis e later closed closed entries more claim;
+      over = over below airs boxes s n bis made source_within sink_within least greatest is_framed;
       legal = λ part fine. fine.legal_is;
       ungiven = λ part fine. fine.ungiven;
       before = λ step earlier still fine. record {
         legal_is = fine.legal_is.0;
-        within = within_before airs boxes s setup (source_calls own) earlier step fine.legal_is fine.within;
+        within = within_before airs boxes s (setup_in made s) (calls_in made s) earlier step fine.legal_is fine.within;
         ungiven = rest_not (is_made n earlier step) (is_given n step) (given_since_made n earlier) fine.ungiven still;
+        goes = went_on n made step earlier still fine.goes;
       };
       source_within = source_within;
       sink_within = sink_within;
     } in
-    let all = over_stays (λ e closed entries. Claim setup (source_calls own) bis (e - setup.first) closed entries) (Fine airs boxes s n setup (source_calls own)) airs boxes s n bis turns made
-    (record { legal_is = legal; within = within_itself own; ungiven = ungiven }) in
-    record { events = all.events; order = never_falls setup.first setup.first all.events _ (omega arith) all.rise; each = all.each }
+    let all = over_stays (Claim airs made s n bis) (Fine airs boxes s n made) airs boxes s n bis turns made
+    (record { legal_is = legal; within = within_itself (steps_of_source s made); ungiven = ungiven; goes = record { later = []; split = refl; same_sink = refl } }) in
+    record { places = all.places; order = are_in_order 0 all.places _ all.rise; each = all.each }

@@ -1,5 +1,6 @@
 -- The entries of a framed stream over all stays of a sink with a source: each is of a unit that the source accepted, in order.
 use Rattle.std.proofs.Common.{ℕ, ◌≡◌, ◌⊎◌, ◌<◌, ◌≤◌, ◌+◌, ◌-◌, ◌*◌, ◌/◌, true, false, List, [], ◌∷◌, ◌++◌, map, refl, sym, ◌∙◌, ap, subst, arith, inl, inr}
+use Rattle.std.specs.Prelude.{slice_get}
 use Rattle.std.specs.List.{Contains}
 use Rattle.std.proofs.Math.Nat.{add-mul, mul-le-mul}
 use Rattle.std.proofs.lemmas.Bool.{cases_Bool}
@@ -10,7 +11,7 @@ use Rattle.big_info.specs.Time.{iso_us_of}
 use Rattle.unit_outlets.specs.Handed.{Handed, valid, lost}
 use Rattle.isoal_base.specs.Stays as stays
 use Rattle.isoal_base.specs.Stays.{Stay, opened}
-use Rattle.isoal_framed.specs.Calls.{Timed, accepted, anchors_of}
+use Rattle.isoal_framed.specs.Calls.{Timed, accepted, layings_of}
 use Rattle.isoal_framed.specs.Sends.{IsOf}
 use Rattle.isoal_framed.specs.Struck.{Sent, closed_end, entry_of, is_heard, octets_in, struck}
 use Rattle.isoal_framed.specs.Tokens.{time_of}
@@ -47,10 +48,10 @@ use Rattle.scenario_laws.proofs.Turning.{over_stays}
 -- the unit is of the one of this number among those accepted, of which the air sends one that has this place
 abbrev pub IsSent : Setup → List SourceCall → ℕ → ℕ → Sent → Type 0
 IsSent setup whole bis n unit =
-    (one : Sent) × (unit ≡ by_payload setup one) × IsNumbered setup.info.bn (anchors_of (framed_calls setup bis whole)) (accepted (framed_calls setup bis whole)) n one
+    (one : Sent) × (unit ≡ by_payload setup one) × IsNumbered setup.info.bn (layings_of (framed_calls setup bis whole)) (accepted (framed_calls setup bis whole)) n one
 
 numbered_on : (setup : Setup) (whole : List SourceCall) (bis low : ℕ) (ns : List ℕ) (units : List Sent)
-    → Numbered (IsNumbered setup.info.bn (anchors_of (framed_calls setup bis whole)) (accepted (framed_calls setup bis whole))) low ns units
+    → Numbered (IsNumbered setup.info.bn (layings_of (framed_calls setup bis whole)) (accepted (framed_calls setup bis whole))) low ns units
     → Numbered (IsSent setup whole bis) low ns (map (by_payload setup) units)
 numbered_on setup whole bis low [] [] all = tt
 numbered_on setup whole bis low (n ∷ ns) [] all = absurd all
@@ -78,7 +79,7 @@ event_is first bn event number least below =
     let split : first * bn + number ≡ (first + event) * bn + (number - event * bn) = omega (arith, product, least) in
     ap (λ n. n / bn) split ∙ div-mul-add (first + event) bn (number - event * bn) (omega (arith, least, below))
 
-event_below : (event number opens bn : ℕ) → event * bn ≤ number → number < opens * bn → event < opens
+pub event_below : (event number opens bn : ℕ) → event * bn ≤ number → number < opens * bn → event < opens
 event_below event number opens bn least below = elim (le_total opens event) [
   | inl past ↦
       let times : opens * bn ≤ event * bn = mul-le-mul past (omega arith) in
@@ -109,20 +110,20 @@ entry_octets bis time octets all whole entry of_unit is bis' time' octets' same 
 
 one_entry : (setup : Setup) (whole : List SourceCall) (tuning : Tuning) (bis n : ℕ) (one : Sent) (entry : Handed) (calls : List stays.Call) → 1 ≤ setup.info.bn → TunedTo setup tuning
     → opened (stay_on tuning bis) calls ≤ next_of setup whole
-    → IsNumbered setup.info.bn (anchors_of (framed_calls setup bis whole)) (accepted (framed_calls setup bis whole)) n one
+    → IsNumbered setup.info.bn (layings_of (framed_calls setup bis whole)) (accepted (framed_calls setup bis whole)) n one
     → IsEntry (stay_on tuning bis) (is_heard (stay_on tuning bis) calls) (closed_end (stay_on tuning bis) calls) (by_payload setup one) entry
     → IsOfUnit setup whole bis n entry
 one_entry setup whole tuning bis n one entry calls some on opens numbered is =
     let unit : Timed = numbered.0 in
-    let is_of : IsOf setup.info.bn (anchors_of (framed_calls setup bis whole)) unit one = numbered.2 in
+    let is_of : IsOf setup.info.bn (layings_of (framed_calls setup bis whole)) n unit one = numbered.2 in
     let bn_is : tuning.info.bn ≡ setup.info.bn = ap (λ (i : BigInfo). i.bn) on.info in
     let at : (setup.first * setup.info.bn + one.first) / tuning.info.bn ≡ setup.first + is_of.timed.event =
     ap (λ b. (setup.first * setup.info.bn + one.first) / b) bn_is ∙ event_is setup.first setup.info.bn is_of.timed.event one.first is_of.timed.least is_of.timed.below in
     let event : ℕ = setup.first + is_of.timed.event in
-    let anchor : is_of.timed.anchor ≡ setup.origin + is_of.timed.event * iso_us_of setup.info =
-    (laid_by setup bis whole).each is_of.timed.event is_of.timed.anchor is_of.timed.anchor_is in
+    let anchor : is_of.timed.laying.anchor ≡ setup.origin + is_of.timed.event * iso_us_of setup.info =
+    (laid_by setup bis whole).each is_of.timed.event is_of.timed.laying is_of.timed.laying_is in
     let behind : event - setup.first ≡ is_of.timed.event = omega arith in
-    let anchor_is : is_of.timed.anchor ≡ anchor_in setup event = anchor ∙ ap (λ d. setup.origin + d * iso_us_of setup.info) (sym behind) in
+    let anchor_is : is_of.timed.laying.anchor ≡ anchor_in setup event = anchor ∙ ap (λ d. setup.origin + d * iso_us_of setup.info) (sym behind) in
     let first_event : tuning.first ≤ event = omega (arith, heard_least (stay_on tuning bis) calls (setup.first * setup.info.bn + one.first) is.start_heard, at) in
     let product : event * setup.info.bn ≡ setup.first * setup.info.bn + is_of.timed.event * setup.info.bn = add-mul setup.first is_of.timed.event setup.info.bn in
     let closed : setup.first * setup.info.bn + one.first < opened (stay_on tuning bis) calls * setup.info.bn =
@@ -136,6 +137,9 @@ one_entry setup whole tuning bis n one entry calls some on opens numbered is =
       least = omega arith;
       performed = omega (arith, below, opens);
       accepted = numbered.1;
+      laying = is_of.timed.laying;
+      laid = ap (slice_get (layings_of (framed_calls setup bis whole))) behind ∙ is_of.timed.laying_is;
+      before = is_of.timed.before;
       ready = omega (arith, is_of.timed.ready, anchor_is);
       stream = parts.0;
       time_is = parts.1
@@ -263,7 +267,7 @@ known_units : Below → (airs : Airs) → MeetAirs airs → (own : List Step) (b
 known_units below airs meets own bis legal started is_framed least = elim (le_total bis (setup_of own).info.num_bis) [
   | inl within ↦
       let units = whole_units below airs meets own bis legal started is_framed least within in
-      let numbered = are_numbered (setup_of own).info.bn (anchors_of (framed_calls (setup_of own) bis (source_calls own))) (accepted (framed_calls (setup_of own) bis (source_calls own)))
+      let numbered = are_numbered (setup_of own).info.bn (layings_of (framed_calls (setup_of own) bis (source_calls own))) (accepted (framed_calls (setup_of own) bis (source_calls own)))
       units.1.sent.in_air units.1.sent.sends.are in
       record {
         ns = numbered.0;

@@ -41,7 +41,8 @@ use Rattle.scenario_laws.proofs.Stays.{BeginsBy, IsOn, IsThere, OnSource, last_n
 use Rattle.scenario_laws.proofs.Hears.{all_own}
 use Rattle.scenario_laws.proofs.Plains.{sends_own}
 use Rattle.scenario_laws.proofs.FromSources.{from_source}
-use Rattle.scenario_laws.proofs.FramedStays.{framed_law}
+use Rattle.scenario_laws.proofs.FramedStays.{framed_law, taken_within}
+use Rattle.scenario_laws.proofs.Closes.{stay_within}
 use Rattle.scenario_laws.proofs.Closings.{handed_open, of_sink_on, shown_by, shown_with, step_shown}
 use Rattle.scenario_laws.proofs.Ticks.{chosen_within, end_ticks, event_ticks}
 
@@ -314,6 +315,14 @@ units_law_holds below starts airs meets lines accepted s n bis tuning there of_s
     let on : OnSource (steps_of_source s (steps_of lines)) tuning = on_source below.announcing airs (length starts) s n (steps_of lines) tuning lawful_steps is in
     let tuned_framing : tuning.info.framing ≡ (setup_of (steps_of_source s (steps_of lines))).info.framing = ap (λ (i : BigInfo). i.framing) on.tuned.info in
     record {
+      of_source = record {
+        info = on.tuned.info;
+        delay = on.tuned.delay;
+        streams = λ stream has. taken_within (setup_of (steps_of_source s (steps_of lines))).info.num_bis tuning.which stream on.streams has;
+        least = on.tuned.first;
+        anchor = on.tuned.anchor;
+        open_event = stay_within below.announcing airs (length starts) s n (steps_of lines) tuning lawful_steps are.source_within is;
+      };
       unframed = λ plain.
           subst (λ units. Struck (stay_on tuning bis) (slots_of (setup_of (steps_of_source s (steps_of lines))) (source_calls (steps_of_source s (steps_of lines))) bis)
           (calls_on airs (steps_of lines) n tuning bis) units)

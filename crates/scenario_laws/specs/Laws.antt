@@ -1,22 +1,25 @@
 -- What the laws of the units speak of: the PDUs that were injected, the events of a source that a sink closed, the units
 -- that it handed up, and the units that the source accepted (Core 5.2, volume 6 part G, sections 2.1 and 3.2). Lists of
 -- steps have the newest first; lists of events, of slots and of units have the oldest first.
-use Rattle.std.specs.Prelude.{ℕ, ◌+◌, ◌-◌, ◌≤◌, ◌≡◌, ◌==◌, ◌&&◌, ◌||◌, nat_le, Bool, false, List, [], ◌∷◌, ◌++◌, map, Option, None, Some, slice_get, unwrap_or, if◌then◌else◌}
-use Rattle.std.specs.List.{AllZip, Contains, filter, flat_map, range_with_len}
+use Rattle.std.specs.Prelude.{ℕ, ◌+◌, ◌-◌, ◌/◌, ◌<◌, ◌≤◌, ◌≡◌, ◌⊎◌, ◌==◌, ◌&&◌, ◌||◌, nat_le, Bool, false, List, [], ◌∷◌, ◌++◌, map, Option, None, Some, slice_get, unwrap_or, if◌then◌else◌}
+use Rattle.std.specs.List.{AllZip, Contains, filter, flat_map, list_any, range_with_len}
 use Rattle.std.specs.List.Sorted.{IsStrictlyIncreasing}
 use Rattle.big_info.specs.Schedule.{per_event_of}
 use Rattle.bcast_io.specs.TextLines.{TextLine}
 use Rattle.unit_outlets.specs.Account.{Account}
 use Rattle.unit_outlets.specs.Handed.{Handed}
+use Rattle.iso_pdu.specs.Layout.{Part, start}
 use Rattle.isoal_base.specs.Air.{Air}
 use Rattle.isoal_base.specs.Stays as stays
-use Rattle.isoal_framed.specs.Struck.{Sent, struck}
+use Rattle.isoal_framed.specs.Histories.{heard_in}
+use Rattle.isoal_framed.specs.Struck.{Sent, closed_end, struck}
+use Rattle.isoal_framed.specs.Tokens.{time_of as start_time}
 use Rattle.isoal_unframed.specs.Struck.{Place, Struck}
 use Rattle.line_runs.specs.Runs.{Accepted}
 use Rattle.source_machine.specs.Airs.{slots_of}
-use Rattle.source_machine.specs.Calls.{Setup}
+use Rattle.source_machine.specs.Calls.{Setup, Call as SourceCall, next_of}
 use Rattle.group_sink.specs.Calls.{Tuning, Call, place}
-use Rattle.group_sink.specs.Handing.{of_stream}
+use Rattle.group_sink.specs.Handing.{bis_of, of_stream}
 use Rattle.group_sink.specs.Streams.{closes, is_in, stay_on, stream_calls, streams_of}
 use Rattle.scenario_text.specs.declared.step.Step.{Step}
 use Rattle.scenario_text.specs.declared.step.Step.TheVariants.{Sink, Tuned, Event, Inject, Announce, Train, Stop, Terminate, End}
@@ -29,7 +32,7 @@ use Rattle.scenario_history.specs.Airs.{MeetAirs}
 use Rattle.scenario_history.specs.Sinks.{is_of, sink_calls, source_of}
 use Rattle.scenario_history.specs.Boxes.{SinkUnit, handed_by}
 use Rattle.scenario_history.specs.Lines.{rules_of, steps_of}
-use Rattle.scenario_laws.specs.SourceUnits.{AreSent, InSourceOrder, InStartOrder, InUnitOrder, IsOfSlot, valid_in}
+use Rattle.scenario_laws.specs.SourceUnits.{AreSent, InSourceOrder, InUnitOrder, IsOfSlot, anchor_in, time_in, valid_in, whole_stay}
 
 -- ---- what comes to a sink that its source did not send
 
@@ -95,6 +98,17 @@ shown_since begins airs s n bis steps = of_stream bis (of_sink s n (handed_since
 abbrev pub calls_on : Airs → List Step → ℕ → Tuning → ℕ → List stays.Call
 calls_on airs steps n tuning bis = stream_calls (stay_on tuning bis) (sink_calls airs n steps)
 
+-- The stay is on the group of the source: the numbers of its group and its presentation delay are the source's, and its
+-- streams are some of the source's. Its first event isn't before the source's first one and has the anchor that it has by the
+-- source's own, and its open event is at most the source's next one. So the times of the stay are those by the source's anchors.
+pub record IsOfSource (setup : Setup) (own_calls : List SourceCall) (calls : List Call) (tuning : Tuning) : Type 0 where
+  pub info : tuning.info ≡ setup.info
+  pub delay : tuning.delay ≡ setup.delay
+  pub streams : (bis : ℕ) → Contains (streams_of tuning.which) bis → bis ≤ setup.info.num_bis
+  pub least : setup.first ≤ tuning.first
+  pub anchor : tuning.anchor ≡ anchor_in setup tuning.first
+  pub open_event : tuning.first + closes tuning calls ≤ next_of setup own_calls
+
 -- the air of a stream of a source
 abbrev pub air_in : Airs → List Step → ℕ → Air
 air_in airs own bis = unwrap_or (slice_get (airs (setup_of own) (source_calls own)) (bis - 1)) []
@@ -109,18 +123,20 @@ pub record IsFramedStruck (airs : Airs) (steps : List Step) (s n : ℕ) (tuning 
       → AreSent (setup_of (steps_of_source s steps)) (source_calls (steps_of_source s steps)) bis (air_in airs (steps_of_source s steps) bis) units
       → shown_since (is_tuned n) airs s n bis steps ≡ struck (stay_on tuning bis) units (calls_on airs steps n tuning bis)
 
--- what the sink handed up on the stream since it was put on its group is struck, by the framing of the group. Unframed: over
--- the slots of the source: one entry for each slot of each event that was closed in the stay, in order: the source's unit of
--- the slot, valid, where the slot has one and all numbers that carry it are heard, else lost
+-- the stay is on the source's group, and what the sink handed up on the stream since it was put there is struck, by the
+-- framing of the group. Unframed: over the slots of the source: one entry for each slot of each event that was closed in the
+-- stay, in order: the source's unit of the slot, valid, where the slot has one and all numbers that carry it are heard, else lost
 pub record IsStayStruck (airs : Airs) (steps : List Step) (s n : ℕ) (tuning : Tuning) (bis : ℕ) : Type 0 where
+  pub of_source : IsOfSource (setup_of (steps_of_source s steps)) (source_calls (steps_of_source s steps)) (sink_calls airs n steps) tuning
   pub unframed : (setup_of (steps_of_source s steps)).info.framing ≡ 0
       → Struck (stay_on tuning bis) (slots_of (setup_of (steps_of_source s steps)) (source_calls (steps_of_source s steps)) bis)
       (calls_on airs steps n tuning bis) (shown_since (is_tuned n) airs s n bis steps)
   pub framed : (setup_of (steps_of_source s steps)).info.framing ≡ 1 → IsFramedStruck airs steps s n tuning bis
 
 -- The units law: of a scenario of which no line was refused, where a sink is on a group, of source `s`, by `tuned` or by what a
--- source announced, and since then no PDU was injected into it and no train was given to it by its octets, what it handed up
--- since on a stream that it takes is struck. It holds after each step, so at the end of each stay too.
+-- source announced, and since then no PDU was injected into it and no train was given to it by its octets, the stay is on the
+-- group of the source, by the source's anchors, and what the sink handed up since on a stream that it takes is struck. It holds
+-- after each step, so at the end of each stay too.
 abbrev pub UnitsLaw : List Account → Type 0
 UnitsLaw starts = (airs : Airs) → MeetAirs airs → (lines : List TextLine) → Accepted (rules_of airs starts) lines
     → (s : ℕ) → (n : ℕ) → (bis : ℕ) → (tuning : Tuning) → place (sink_calls airs n (steps_of lines)) ≡ Some tuning
@@ -176,20 +192,77 @@ slots_in setup bis closed =
 abbrev pub slots_closed : Setup → ℕ → List Closed → List Place
 slots_closed setup bis closed = flat_map (slots_in setup bis) closed
 
+-- ---- the starts that a sink heard
+
+-- a segment of a PDU, from 0, by the payload number of the PDU
+pub record SegmentPlace : Type 0 where
+  pub number : ℕ
+  pub segment : ℕ
+
+-- in the order in which they are sent, none twice
+abbrev pub IsBefore : SegmentPlace → SegmentPlace → Type 0
+IsBefore one other = (one.number < other.number) ⊎ ((one.number ≡ other.number) × (one.segment < other.segment))
+
+abbrev pub AreInOrder : List SegmentPlace → Type 0
+AreInOrder [] = Unit {0}
+AreInOrder (one ∷ []) = Unit {0}
+AreInOrder (one ∷ other ∷ places) = IsBefore one other × AreInOrder (other ∷ places)
+
+-- The sink heard this start with this TimeOffset in a stay with the source: after the earlier of its steps, since which it wasn't
+-- made again, it was on a group of the source and took the stream; in that stay the first PDU that it heard under this payload
+-- number has at this place a segment that begins a unit, with this TimeOffset; and the event of the number was closed in it.
+pub record IsStartHeard (airs : Airs) (steps : List Step) (s n bis : ℕ) (at : SegmentPlace) (offset : ℕ) : Type 0 where
+  pub later : List Step
+  pub made : List Step
+  pub steps_are : steps ≡ later ++ made
+  pub same_sink : list_any (is_made n made) later ≡ false
+  pub tuning : Tuning
+  pub there : place (sink_calls airs n made) ≡ Some tuning
+  pub its_source : source_of n made ≡ Some s
+  pub taken : Contains (streams_of tuning.which) bis
+  pub parts : List Part
+  pub heard : heard_in (stay_on tuning bis) (calls_on airs made n tuning bis) at.number ≡ Some parts
+  pub complete : Bool
+  pub octets : List ℕ
+  pub is_start : slice_get parts at.segment ≡ Some (start offset complete octets)
+  pub closed : at.number < closed_end (stay_on tuning bis) (calls_on airs made n tuning bis)
+
+-- the entry is of the stream and of a start that the sink heard, whose number is one of an event that was performed: its time is
+-- by that event's anchor, by the source's own, less the TimeOffset of the start, by the synchronization reference of a framed
+-- unit, which is never below 0, and the presentation delay
+pub record IsOfStart (airs : Airs) (steps : List Step) (s n bis : ℕ) (at : SegmentPlace) (entry : Handed) : Type 0 where
+  pub offset : ℕ
+  pub heard : IsStartHeard airs steps s n bis at offset
+  pub event : ℕ
+  pub event_is : event ≡ at.number / (setup_of (steps_of_source s steps)).info.bn
+  pub least : (setup_of (steps_of_source s steps)).first ≤ event
+  pub performed : event < next_of (setup_of (steps_of_source s steps)) (source_calls (steps_of_source s steps))
+  pub stream : bis_of entry ≡ bis
+  pub time_is : time_in entry ≡ start_time (whole_stay (setup_of (steps_of_source s steps)) bis) event offset
+
+-- there are starts that stand in order such that the entries are, in order, of them
+pub record InStartOrder (airs : Airs) (steps : List Step) (s n bis : ℕ) (entries : List Handed) : Type 0 where
+  pub places : List SegmentPlace
+  pub order : AreInOrder places
+  pub each : AllZip (IsOfStart airs steps s n bis) places entries
+
+-- ---- all stays with a source
+
 -- Over all stays of a sink with one and the same source: the events of it that the sink closed since it was made rise, so
 -- that none is closed twice. What it handed up on an unframed stream of it is one entry for each slot of each of these events
 -- that it took the stream in, in order, at the slot's time by the source's anchors; on a framed stream its entries are, in
--- order, of starts in events that never fall, at the time by the source's anchors and a TimeOffset. And where no PDU was
--- injected into the sink, its valid units of an unframed stream are, in order, units that the source accepted on the stream,
--- each at most once; and its entries of a framed stream are, in order, of such units, each at most once: each at the time by
--- the source's anchor of the event of its start and its TimeOffset, and the valid ones with the unit's octets
+-- order, of starts that it heard in these stays, each at most once, at the time by the source's anchor of the event of the
+-- start's payload number and the start's TimeOffset. And where no PDU was injected into the sink, its valid units of an unframed
+-- stream are, in order, units that the source accepted on the stream, each at most once and the own one of its slot; and its
+-- entries of a framed stream are, in order, of such units, each at most once and accepted before its event was laid: each at the
+-- time by the source's anchor of the event of its start and its TimeOffset, and the valid ones with the unit's octets
 pub record StaysInOrder (airs : Airs) (steps : List Step) (s n : ℕ) : Type 0 where
   pub rising : IsStrictlyIncreasing (map (λ (closed : Closed). closed.event) (closed_since airs s n steps))
   pub slots : (bis : ℕ) → n ≤ 7 → 1 ≤ bis → bis ≤ 31 → (setup_of (steps_of_source s steps)).info.framing ≡ 0
       → AllZip (IsOfSlot (setup_of (steps_of_source s steps)) bis)
       (slots_closed (setup_of (steps_of_source s steps)) bis (closed_since airs s n steps)) (shown_since (is_made n) airs s n bis steps)
   pub starts : (bis : ℕ) → n ≤ 7 → 1 ≤ bis → bis ≤ 31 → (setup_of (steps_of_source s steps)).info.framing ≡ 1
-      → InStartOrder (setup_of (steps_of_source s steps)) (source_calls (steps_of_source s steps)) bis (shown_since (is_made n) airs s n bis steps)
+      → InStartOrder airs steps s n bis (shown_since (is_made n) airs s n bis steps)
   pub in_source_order : (bis : ℕ) → n ≤ 7 → 1 ≤ bis → bis ≤ 31 → (setup_of (steps_of_source s steps)).info.framing ≡ 0
       → injected_since (is_made n) n steps ≡ false
       → InSourceOrder (setup_of (steps_of_source s steps)) (source_calls (steps_of_source s steps)) bis

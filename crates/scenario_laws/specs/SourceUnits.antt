@@ -9,13 +9,13 @@ use Rattle.big_info.specs.Time.{iso_us_of}
 use Rattle.unit_outlets.specs.Handed.{Handed, valid, lost}
 use Rattle.isoal_base.specs.Air.{Air}
 use Rattle.isoal_base.specs.Stays.{Stay}
-use Rattle.isoal_framed.specs.Calls.{Timed, accepted}
+use Rattle.isoal_framed.specs.Calls.{Laying, Timed, accepted, layings_of}
 use Rattle.isoal_framed.specs.Sends.{Sends}
 use Rattle.isoal_framed.specs.Struck.{Sent}
 use Rattle.isoal_framed.specs.Tokens.{time_of as start_time}
 use Rattle.isoal_unframed.specs.Struck.{Place}
 use Rattle.isoal_unframed.specs.State.Windows.{time_of as slot_time}
-use Rattle.source_machine.specs.Airs.{place_of}
+use Rattle.source_machine.specs.Airs.{place_of, slots_of}
 use Rattle.source_machine.specs.Calls.{Setup, Call, framed_calls, given, next_of}
 use Rattle.sync_reference.specs.Reference.{anchor_of}
 use Rattle.group_sink.specs.Handing.{bis_of}
@@ -52,7 +52,7 @@ abbrev pub IsOfSlot : Setup → ℕ → Place → Handed → Type 0
 IsOfSlot setup bis at unit = (bis_of unit ≡ bis) × (time_in unit ≡ slot_time (whole_stay setup bis) at.event at.slot)
 
 -- the unit of this number among those that the source accepted on the stream, valid, with its octets, at the time of its
--- slot in an event that was performed
+-- slot in an event that was performed: the slot's own unit, which was accepted before the step that laid the event
 pub record IsGiven (setup : Setup) (calls : List Call) (bis number : ℕ) (unit : Handed) : Type 0 where
   pub event : ℕ
   pub slot : ℕ
@@ -61,6 +61,7 @@ pub record IsGiven (setup : Setup) (calls : List Call) (bis number : ℕ) (unit 
   pub performed : event < next_of setup calls
   pub slot_below : slot < per_event_of setup.info
   pub number_is : number ≡ place_of setup calls bis event slot
+  pub in_slot : slots_of setup calls bis event slot ≡ Some octets
   pub accepted : slice_get (given bis calls) number ≡ Some octets
   pub unit_is : unit ≡ valid bis (slot_time (whole_stay setup bis) event slot) octets
 
@@ -88,36 +89,19 @@ pub record AreSent (setup : Setup) (calls : List Call) (bis : ℕ) (air : Air) (
   pub sends : Sends setup.info (framed_calls setup bis calls) air in_air
   pub numbered : units ≡ map (by_payload setup) in_air
 
--- the entry is of the stream and of a start in this event, which was performed: its time is by the event's anchor, less some
--- TimeOffset, by the synchronization reference of a framed unit, which is never below 0, and the presentation delay
-pub record IsOfStart (setup : Setup) (calls : List Call) (bis event : ℕ) (entry : Handed) : Type 0 where
-  pub least : setup.first ≤ event
-  pub performed : event < next_of setup calls
-  pub stream : bis_of entry ≡ bis
-  pub offset : ℕ
-  pub time_is : time_in entry ≡ start_time (whole_stay setup bis) event offset
-
--- events that never fall, from this one on
-abbrev pub NeverFall : ℕ → List ℕ → Type 0
-NeverFall least [] = Unit {0}
-NeverFall least (event ∷ events) = (least ≤ event) × NeverFall event events
-
--- there are events that never fall such that the entries are, in order, of starts in them
-pub record InStartOrder (setup : Setup) (calls : List Call) (bis : ℕ) (entries : List Handed) : Type 0 where
-  pub events : List ℕ
-  pub order : NeverFall setup.first events
-  pub each : AllZip (IsOfStart setup calls bis) events entries
-
 -- the entry is of the unit of this number among those that the source accepted on the stream, which starts in an event that
--- was performed: its time is by that event's anchor, less the TimeOffset from the unit's own time to the anchor, by the
--- synchronization reference of a framed unit, which is never below 0, and the presentation delay; if it is valid it has the
--- unit's octets
+-- was performed, and was accepted before the step that laid the event: its time is by that event's anchor, less the TimeOffset
+-- from the unit's own time to the anchor, by the synchronization reference of a framed unit, which is never below 0, and the
+-- presentation delay; if it is valid it has the unit's octets
 pub record IsOfUnit (setup : Setup) (calls : List Call) (bis number : ℕ) (entry : Handed) : Type 0 where
   pub event : ℕ
   pub unit : Timed
   pub least : setup.first ≤ event
   pub performed : event < next_of setup calls
   pub accepted : slice_get (accepted (framed_calls setup bis calls)) number ≡ Some unit
+  pub laying : Laying
+  pub laid : slice_get (layings_of (framed_calls setup bis calls)) (event - setup.first) ≡ Some laying
+  pub before : number < laying.units
   pub ready : unit.time ≤ anchor_in setup event
   pub stream : bis_of entry ≡ bis
   pub time_is : time_in entry ≡ start_time (whole_stay setup bis) event (anchor_in setup event - unit.time)

@@ -50,8 +50,9 @@ pub fn one_transcript()
 }
 
 /// The units law of a stay (Core 5.2, volume 6 part G, sections 2.1 and 2.2): where a sink was put on its group by hand or by
-/// what a source announced, and since then no PDU was injected into it and no train was given to it by its octets, what it
-/// handed up since on a stream that it takes is struck. Unframed: one entry for each slot of each event closed in the stay, in
+/// what a source announced, and since then no PDU was injected into it and no train was given to it by its octets, it is on the
+/// group of its source, by the source's own numbers, anchors and presentation delay, and what it handed up since on a stream that
+/// it takes is struck. Unframed: one entry for each slot of each event closed in the stay, in
 /// order: the source's unit of the slot, valid, where the slot has one and all numbers that carry it are heard, else lost.
 /// Framed: one entry for each unit of the source whose start is heard, in order: valid where it is wholly laid and all numbers
 /// that carry it were heard before their events closed, lost where the first that wasn't is closed. It holds after each step,
@@ -74,11 +75,13 @@ pub fn units_law()
 }
 
 /// The order of units over all stays of a sink with one and the same source since it was made, where no train was given to it by
-/// its octets (Core 5.2, volume 6 part G, sections 2.1, 2.2 and 3.2): the events that it closed rise, so none is closed twice; what it handed up on an unframed
-/// stream is one entry for each slot of each of these events that it took the stream in, in order, at the slot's time by the
-/// source's anchors. Where no PDU was injected into it, its valid units of an unframed stream are, in order, units that the
-/// source accepted on the stream, each at most once; and its entries of a framed stream are, in order, of such units, each at
-/// most once, at the time by the source's anchor of the event of its start and its TimeOffset.
+/// its octets (Core 5.2, volume 6 part G, sections 2.1, 2.2 and 3.2): the events that it closed rise, so none is closed twice;
+/// what it handed up on an unframed stream is one entry for each slot of each of these events that it took the stream in, in
+/// order, at the slot's time by the source's anchors; on a framed stream its entries are, in order, of starts that it heard in
+/// these stays, each at most once, at the time by the source's anchor of the event of the start and its TimeOffset. Where no PDU
+/// was injected into it, its valid units of an unframed stream are, in order, units that the source accepted on the stream, each
+/// at most once and the own one of its slot; and its entries of a framed stream are, in order, of such units, each at most once
+/// and accepted before the event of its start was laid.
 pub fn order_law()
     ensures { (starts : List Account) → OrderLaw starts }
 {
