@@ -59,7 +59,7 @@ pub record Promised (old new : World) (status : Status) : Type 0 where
   pub one_transcript : (airs : Airs) → (others : Airs) → MeetAirs airs → MeetAirs others → (lines : List TextLine)
       → transcript_of airs old.boxes lines ≡ transcript_of others old.boxes lines
   -- In a stay without injected PDUs, and without trains that are given by their octets, each closed slot, and each framed unit
-  -- whose start was heard, hands what the source's PDUs that were heard make of it.
+  -- whose start was heard, hands what the source's PDUs that were heard make of it, at its time by the source's own anchors.
   pub units_law : UnitsLaw old.boxes
   -- The units of a sink to which no train was given by its octets are in the order of the source, and each comes at most once.
   pub order_law : OrderLaw old.boxes

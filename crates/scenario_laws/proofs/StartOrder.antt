@@ -1,6 +1,6 @@
 -- The entries of a framed stream over all stays of a sink with a source, whatever was injected: each is of a start that was heard
 -- in its stay, in the order of these starts.
-use Rattle.std.proofs.Common.{ℕ, ◌≡◌, ◌<◌, ◌≤◌, ◌+◌, ◌*◌, ◌/◌, ◌||◌, is_some, Bool, true, false, List, [], ◌∷◌, ◌++◌, refl, sym, ◌∙◌, ap, subst, arith, inl, inr, append_assoc}
+use Rattle.std.proofs.Common.{ℕ, ◌≡◌, ◌<◌, ◌≤◌, ◌*◌, ◌/◌, ◌||◌, is_some, Bool, true, false, List, [], ◌∷◌, ◌++◌, refl, sym, ◌∙◌, ap, subst, arith, inl, inr, append_assoc}
 use Rattle.std.specs.List.{AllZip, Contains, list_any}
 use Rattle.std.proofs.Math.Nat.{div-mul-le_self, mul-le-mul}
 use Rattle.std.proofs.lemmas.Bool.{cases_Bool}
@@ -10,9 +10,8 @@ use Rattle.big_info.specs.declared.info.BigInfo.{BigInfo}
 use Rattle.unit_outlets.specs.Handed.{Handed}
 use Rattle.isoal_base.specs.Stays as stays
 use Rattle.isoal_base.specs.Stays.{opened}
-use Rattle.isoal_framed.specs.Histories.{decided, heard_in}
+use Rattle.isoal_framed.specs.Histories.{decided}
 use Rattle.isoal_framed.specs.Struck.{closed_end}
-use Rattle.isoal_framed.specs.Tokens.{time_of}
 use Rattle.source_machine.specs.Calls.{Setup, Call as SourceCall, next_of}
 use Rattle.group_sink.specs.Calls.{Tuning}
 use Rattle.group_sink.specs.Handing.{handed_since as ticked_since, of_stream}
@@ -23,8 +22,7 @@ use Rattle.scenario_text.specs.declared.step.Step.TheVariants as steps
 use Rattle.scenario_history.specs.Steps.{steps_of_source}
 use Rattle.scenario_history.specs.Source.{Airs, setup_of, source_calls}
 use Rattle.scenario_history.specs.Sinks.{sink_calls}
-use Rattle.scenario_laws.specs.SourceUnits.{whole_stay}
-use Rattle.scenario_laws.specs.Laws.{Closed, InStartOrder, IsOfStart, IsStartHeard, SegmentPlace, calls_on, given_since_made, is_given, is_made, is_tuned, shown_since}
+use Rattle.scenario_laws.specs.Laws.{Closed, InStartOrder, IsOfStart, SegmentPlace, calls_on, given_since_made, is_given, is_made, is_tuned, shown_since}
 use Rattle.scenario_laws.proofs.Below.{Below}
 use Rattle.scenario_laws.proofs.Legals.{Legal}
 use Rattle.scenario_laws.proofs.Sources.{true_not_false}
@@ -129,7 +127,7 @@ all_behind airs all s n bis made tuning at [] (entry ∷ entries) stay behind ea
 all_behind airs all s n bis made tuning at (next ∷ places) [] stay behind each = absurd each
 all_behind airs all s n bis made tuning at (next ∷ places) (entry ∷ entries) stay behind each = (
   one_start airs all s n bis made tuning next entry stay
-  (behind_below next places (closed_end (stay_on tuning bis) (calls_on airs made n tuning bis)) behind.1) each.0,
+      (behind_below next places (closed_end (stay_on tuning bis) (calls_on airs made n tuning bis)) behind.1) each.0,
   all_behind airs all s n bis made tuning next places entries stay behind.1 each.1,
 )
 
@@ -141,7 +139,7 @@ all_starts airs all s n bis made tuning low [] (entry ∷ entries) stay rise eac
 all_starts airs all s n bis made tuning low (at ∷ places) [] stay rise each = absurd each
 all_starts airs all s n bis made tuning low (at ∷ places) (entry ∷ entries) stay rise each = (
   one_start airs all s n bis made tuning at entry stay
-  (behind_below at places (closed_end (stay_on tuning bis) (calls_on airs made n tuning bis)) rise.1) each.0,
+      (behind_below at places (closed_end (stay_on tuning bis) (calls_on airs made n tuning bis)) rise.1) each.0,
   all_behind airs all s n bis made tuning at places entries stay rise.1 each.1,
 )
 

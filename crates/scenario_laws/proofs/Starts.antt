@@ -217,9 +217,9 @@ numbers_give stay calls max_sdu event number (suc count) of_event rest =
     let end : number + 1 + count ≡ number + suc count = omega arith in (
       first.0 ++ later.0,
       ap (units max_sdu stay.bis) (append_assoc tokens others rest)
-      ∙ first.1 ∙ ap (λ us. first.0 ++ us) later.1 ∙ sym (append_assoc first.0 later.0 (units max_sdu stay.bis rest)),
+          ∙ first.1 ∙ ap (λ us. first.0 ++ us) later.1 ∙ sym (append_assoc first.0 later.0 (units max_sdu stay.bis rest)),
       told_on stay calls number (number + 1) (number + suc count) first.0 later.0 (pdu_told stay calls number first.0 first.2)
-      (subst (λ high. Told stay calls (number + 1) high later.0) end later.2),
+          (subst (λ high. Told stay calls (number + 1) high later.0) end later.2),
     )
 
 event_of : (bn event number : ℕ) → event * bn ≤ number → number < event * bn + bn → event ≡ number / bn

@@ -5,16 +5,16 @@ use Rattle.std.proofs.lemmas.Option.{none-some, same_Some}
 use Rattle.big_info.specs.Time.{iso_us_of}
 use Rattle.delegator_machine.specs.Groups as machine
 use Rattle.sync_reference.specs.Reference.{anchor_of}
-use Rattle.source_machine.specs.Calls.{Setup}
+use Rattle.source_machine.specs.Calls.{Setup, next_of}
 use Rattle.group_sink.specs.Calls.{Tuning, Call, tune, hear, place}
 use Rattle.scenario_text.specs.declared.step.Step.{Step}
 use Rattle.scenario_text.specs.declared.step.Step.TheVariants as steps
 use Rattle.transcript_text.specs.declared.refusal.Refusal.TheVariants.{NoSuchBis}
 use Rattle.scenario_history.specs.Steps.{chosen_of, chosen_steps, steps_of_source}
-use Rattle.scenario_history.specs.Source.{Airs, event_back, is_started, open_event, pdu_in, setup_of}
+use Rattle.scenario_history.specs.Source.{Airs, event_back, is_started, open_event, pdu_in, setup_of, source_calls}
 use Rattle.scenario_history.specs.Sinks.{heard_on_air, is_of, reaches, sink_calls, source_of, spots_of, tuning_of}
 use Rattle.scenario_history.specs.Refusals.{has_beyond}
-use Rattle.scenario_laws.specs.Laws.{any_since, given_since_made, injected_since, is_given, is_injected, is_made, is_tuned}
+use Rattle.scenario_laws.specs.Laws.{any_since, given_since_made, injected_since, is_given, is_injected, is_made, is_tuned, steps_before}
 use Rattle.scenario_laws.proofs.Announced.{Announcing}
 use Rattle.scenario_laws.proofs.ByHand.{as_by_hand}
 use Rattle.scenario_laws.proofs.Legals.{Legal, Permitted, fails_not, permitted}
@@ -280,3 +280,34 @@ on_source laws airs boxes s n (step ∷ earlier) tuning legal is = still_to airs
   | inl before ↦ on_source laws airs boxes s n earlier tuning legal.0 before
   | inr begins ↦ begins_to laws airs boxes s n step earlier tuning legal.0 (permitted airs boxes earlier step legal.1) begins
 ])
+
+-- the first event of a stay was the source's next one as the stay began
+stays_first : (airs : Airs) (boxes s n : ℕ) (step : Step) (earlier : List Step) (tuning : Tuning) → Legal airs boxes (step ∷ earlier) → is_started (steps_of_source s earlier) ≡ true
+    → (begins : Bool) → is_tuned n earlier step ≡ begins → (before : List Step)
+    → tuning.first ≡ next_of (setup_of (steps_of_source s earlier)) (source_calls (steps_of_source s before)) → cond begins earlier (steps_before (is_tuned n) earlier) ≡ before
+    → tuning.first ≡ next_of (setup_of (steps_of_source s (step ∷ earlier))) (source_calls (steps_of_source s (steps_before (is_tuned n) (step ∷ earlier))))
+stays_first airs boxes s n step earlier tuning legal started begins is before first same =
+    first
+    ∙ ap (λ (setup : Setup). next_of setup (source_calls (steps_of_source s before))) (sym (goes airs boxes s earlier step legal started).setup_is)
+    ∙ ap (λ part. next_of (setup_of (steps_of_source s (step ∷ earlier))) (source_calls (steps_of_source s part)))
+    (sym same ∙ ap (λ b. cond b earlier (steps_before (is_tuned n) earlier)) (sym is))
+
+pub first_next : Announcing → (airs : Airs) (boxes s n : ℕ) (made : List Step) (tuning : Tuning) → Legal airs boxes made → IsOn airs s n made tuning
+    → tuning.first ≡ next_of (setup_of (steps_of_source s made)) (source_calls (steps_of_source s (steps_before (is_tuned n) made)))
+first_next laws airs boxes s n [] tuning legal is = absurd (none-some tuning is.place_is)
+first_next laws airs boxes s n (step ∷ earlier) tuning legal is =
+    elim (there_before airs s n step earlier tuning (last_not (is_tuned n earlier step) (is_given n step) (any_since (is_tuned n) (is_given n) earlier) is.ungiven)
+    (record { place_is = is.place_is; source_is = is.source_is })) [
+      | inl was ↦
+          let before : IsOn airs s n earlier tuning = record {
+            place_is = was.there.place_is;
+            source_is = was.there.source_is;
+            ungiven = rest_not (is_tuned n earlier step) (is_given n step) (any_since (is_tuned n) (is_given n) earlier) is.ungiven was.begins_not;
+          } in
+          stays_first airs boxes s n step earlier tuning legal (on_source laws airs boxes s n earlier tuning legal.0 before).started false was.begins_not (steps_before (is_tuned n) earlier)
+          (first_next laws airs boxes s n earlier tuning legal.0 before) refl
+      | inr begins ↦
+          let permits : Permitted airs boxes earlier step = permitted airs boxes earlier step legal.1 in
+          stays_first airs boxes s n step earlier tuning legal (begins_to laws airs boxes s n step earlier tuning legal.0 permits begins).started true
+          (tuned_by airs s n step earlier tuning begins) earlier (begins_next laws airs boxes s n step earlier tuning legal.0 permits begins) refl
+    ]

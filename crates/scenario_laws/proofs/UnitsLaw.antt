@@ -37,7 +37,7 @@ use Rattle.scenario_laws.proofs.Legals.{Legal, legal, maps_none}
 use Rattle.scenario_laws.proofs.Sources.{Allowed, Lawful, Settled, bounds_in, lawful, no_group_yet, settled}
 use Rattle.scenario_laws.proofs.Wholes.{within_itself}
 use Rattle.scenario_laws.proofs.Moves.{StaysBy, announced, given_stays, plain_stays}
-use Rattle.scenario_laws.proofs.Stays.{BeginsBy, IsOn, IsThere, OnSource, last_not, none_given, on_before, on_source, rest_not}
+use Rattle.scenario_laws.proofs.Stays.{BeginsBy, IsOn, IsThere, OnSource, first_next, last_not, none_given, on_before, on_source, rest_not}
 use Rattle.scenario_laws.proofs.Hears.{all_own}
 use Rattle.scenario_laws.proofs.Plains.{sends_own}
 use Rattle.scenario_laws.proofs.FromSources.{from_source}
@@ -319,9 +319,9 @@ units_law_holds below starts airs meets lines accepted s n bis tuning there of_s
         info = on.tuned.info;
         delay = on.tuned.delay;
         streams = λ stream has. taken_within (setup_of (steps_of_source s (steps_of lines))).info.num_bis tuning.which stream on.streams has;
-        least = on.tuned.first;
+        first_is = first_next below.announcing airs (length starts) s n (steps_of lines) tuning lawful_steps is;
         anchor = on.tuned.anchor;
-        open_event = stay_within below.announcing airs (length starts) s n (steps_of lines) tuning lawful_steps are.source_within is;
+        open_is = stay_within below.announcing airs (length starts) s n (steps_of lines) tuning lawful_steps are.source_within is;
       };
       unframed = λ plain.
           subst (λ units. Struck (stay_on tuning bis) (slots_of (setup_of (steps_of_source s (steps_of lines))) (source_calls (steps_of_source s (steps_of lines))) bis)

@@ -17,7 +17,7 @@ use Rattle.isoal_framed.specs.Tokens.{time_of as start_time}
 use Rattle.isoal_unframed.specs.Struck.{Place, Struck}
 use Rattle.line_runs.specs.Runs.{Accepted}
 use Rattle.source_machine.specs.Airs.{slots_of}
-use Rattle.source_machine.specs.Calls.{Setup, Call as SourceCall, next_of}
+use Rattle.source_machine.specs.Calls.{Setup, next_of}
 use Rattle.group_sink.specs.Calls.{Tuning, Call, place}
 use Rattle.group_sink.specs.Handing.{bis_of, of_stream}
 use Rattle.group_sink.specs.Streams.{closes, is_in, stay_on, stream_calls, streams_of}
@@ -98,16 +98,21 @@ shown_since begins airs s n bis steps = of_stream bis (of_sink s n (handed_since
 abbrev pub calls_on : Airs → List Step → ℕ → Tuning → ℕ → List stays.Call
 calls_on airs steps n tuning bis = stream_calls (stay_on tuning bis) (sink_calls airs n steps)
 
+-- the steps before the last step that begins
+abbrev pub steps_before : (List Step → Step → Bool) → List Step → List Step
+steps_before begins [] = []
+steps_before begins (step ∷ earlier) = if begins earlier step then earlier else steps_before begins earlier
+
 -- The stay is on the group of the source: the numbers of its group and its presentation delay are the source's, and its
--- streams are some of the source's. Its first event isn't before the source's first one and has the anchor that it has by the
--- source's own, and its open event is at most the source's next one. So the times of the stay are those by the source's anchors.
-pub record IsOfSource (setup : Setup) (own_calls : List SourceCall) (calls : List Call) (tuning : Tuning) : Type 0 where
-  pub info : tuning.info ≡ setup.info
-  pub delay : tuning.delay ≡ setup.delay
-  pub streams : (bis : ℕ) → Contains (streams_of tuning.which) bis → bis ≤ setup.info.num_bis
-  pub least : setup.first ≤ tuning.first
-  pub anchor : tuning.anchor ≡ anchor_in setup tuning.first
-  pub open_event : tuning.first + closes tuning calls ≤ next_of setup own_calls
+-- streams are some of the source's. Its first event was the source's next one as the stay began and has the anchor that it has
+-- by the source's own, and its open event is at most the source's next one. So the times of the stay are by the source's anchors.
+pub record IsOfSource (airs : Airs) (steps : List Step) (s n : ℕ) (tuning : Tuning) : Type 0 where
+  pub info : tuning.info ≡ (setup_of (steps_of_source s steps)).info
+  pub delay : tuning.delay ≡ (setup_of (steps_of_source s steps)).delay
+  pub streams : (bis : ℕ) → Contains (streams_of tuning.which) bis → bis ≤ (setup_of (steps_of_source s steps)).info.num_bis
+  pub first_is : tuning.first ≡ next_of (setup_of (steps_of_source s steps)) (source_calls (steps_of_source s (steps_before (is_tuned n) steps)))
+  pub anchor : tuning.anchor ≡ anchor_in (setup_of (steps_of_source s steps)) tuning.first
+  pub open_is : tuning.first + closes tuning (sink_calls airs n steps) ≤ next_of (setup_of (steps_of_source s steps)) (source_calls (steps_of_source s steps))
 
 -- the air of a stream of a source
 abbrev pub air_in : Airs → List Step → ℕ → Air
@@ -127,7 +132,7 @@ pub record IsFramedStruck (airs : Airs) (steps : List Step) (s n : ℕ) (tuning 
 -- framing of the group. Unframed: over the slots of the source: one entry for each slot of each event that was closed in the
 -- stay, in order: the source's unit of the slot, valid, where the slot has one and all numbers that carry it are heard, else lost
 pub record IsStayStruck (airs : Airs) (steps : List Step) (s n : ℕ) (tuning : Tuning) (bis : ℕ) : Type 0 where
-  pub of_source : IsOfSource (setup_of (steps_of_source s steps)) (source_calls (steps_of_source s steps)) (sink_calls airs n steps) tuning
+  pub of_source : IsOfSource airs steps s n tuning
   pub unframed : (setup_of (steps_of_source s steps)).info.framing ≡ 0
       → Struck (stay_on tuning bis) (slots_of (setup_of (steps_of_source s steps)) (source_calls (steps_of_source s steps)) bis)
       (calls_on airs steps n tuning bis) (shown_since (is_tuned n) airs s n bis steps)

@@ -1,7 +1,7 @@
 -- Units by the source's own anchors and numbers: which unit of the source an entry is that a sink hands up, and when it is
 -- due (Core 5.2, volume 6 part G, sections 2.1, 2.2 and 3.2). Lists of calls have the newest first; lists of events, of
 -- slots and of units have the oldest first.
-use Rattle.std.specs.Prelude.{ℕ, ◌+◌, ◌-◌, ◌*◌, ◌<◌, ◌≤◌, ◌≡◌, Bool, true, false, List, [], ◌∷◌, map, Some, slice_get}
+use Rattle.std.specs.Prelude.{ℕ, ◌+◌, ◌-◌, ◌*◌, ◌<◌, ◌≤◌, ◌≡◌, Bool, true, false, List, map, Some, slice_get}
 use Rattle.std.specs.List.{AllZip, filter}
 use Rattle.std.specs.List.Sorted.{IsStrictlyIncreasing}
 use Rattle.big_info.specs.Schedule.{per_event_of}
