@@ -1,4 +1,4 @@
--- Where a sink is that a train of its source put on the group (Basic Audio Profile 1.0, sections 3.7.2 and 6.5.4; Core 5.2,
+-- Where a sink is that a train of its source put on the group (Basic Audio Profile 1.0, sections 3.7.2 and 6.5; Core 5.2,
 -- volume 6 part B, section 4.4.6.11).
 use Rattle.std.specs.Prelude.{ℕ, ◌≡◌, ◌≤◌, ◌<◌, ◌^◌, None}
 use Rattle.base_grammar.specs.Layout.{Endpoint}

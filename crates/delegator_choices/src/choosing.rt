@@ -47,7 +47,7 @@ struct Choice<'a> {
 
 /// The streams that a sink takes of a group of `num_bis` streams: the first candidates, by subgroup and then by rising
 /// index, at most `streams` of them. A candidate is a stream of the subgroup that is wanted, is one of the group, and fits
-/// a record of the capability (Basic Audio Profile 1.0, section 6.5.4).
+/// a record of the capability (Basic Audio Profile 1.0, section 6.5).
 pub fn choose(
     alloc: Global,
     capability: &Capability,

@@ -1,4 +1,4 @@
--- The groups that a Scan Delegator is on (Basic Audio Profile 1.0, section 6.5.4): it is put on one by a caller or by a
+-- The groups that a Scan Delegator is on (Basic Audio Profile 1.0, section 6.5): it is put on one by a caller or by a
 -- train that is taken, and leaves it as the place of its control half says.
 use Rattle.std.specs.Prelude.{◌&&◌, not, Bool, List, [], ◌∷◌, Option, Some, None, if◌then◌else◌}
 use Rattle.std.specs.Option.{option_or}

@@ -19,7 +19,7 @@ use group_sink::{GroupReceivers, GroupSink};
 
 impl Delegator {
     /// Hears a train, at this time in µs: the data of its extended advertising, of its periodic advertising, and its additional
-    /// controller data (Basic Audio Profile 1.0, sections 3.7.2 and 6.5.4). The answer is the first that holds. The first four
+    /// controller data (Basic Audio Profile 1.0, sections 3.7.2 and 6.5). The answer is the first that holds. The first four
     /// change nothing; a train that is taken puts the sink on its group. After want of memory all is as before.
     pub fn train(
         &mut self,

@@ -1,4 +1,4 @@
--- What a Scan Delegator has at a time (Basic Audio Profile 1.0, section 6.5.3; Broadcast Audio Scan Service 1.0, sections
+-- What a Scan Delegator has at a time (Basic Audio Profile 1.0, section 6.5; Broadcast Audio Scan Service 1.0, sections
 -- 3.1.1 and 3.2): the sources in its slots with what is wanted of them, and the train or the group that it is on. Slots count
 -- from 0.
 use Rattle.std.specs.Prelude.{ℕ, ◌==◌, Bool, false, List, Option, Some, None, slice_index_or}

@@ -1,4 +1,4 @@
--- What a train is answered that is heard, and what it does (Basic Audio Profile 1.0, sections 3.7.2 and 6.5.4). The order of
+-- What a train is answered that is heard, and what it does (Basic Audio Profile 1.0, sections 3.7.2 and 6.5). The order of
 -- the answers, and which streams are taken first, are this project's own.
 use Rattle.std.specs.Prelude.{ℕ, ◌+◌, ◌-◌, ◌*◌, ◌/◌, ◌^◌, ◌==◌, ◌&&◌, not, Bool, false, List, [], ◌∷◌, length, map, take, bit_or, Option, Some, None, is_none, nat_le, Result, Ok, Err, if◌then◌else◌}
 use Rattle.std.specs.Int.{bit_at}

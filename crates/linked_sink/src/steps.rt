@@ -34,7 +34,7 @@ impl LinkedSink {
     }
 
     /// Hears a train, at this time in µs: the data of its extended advertising, of its periodic advertising, and its additional
-    /// controller data (Basic Audio Profile 1.0, sections 3.7.2 and 6.5.4). The answer is the first that holds. A train that is
+    /// controller data (Basic Audio Profile 1.0, sections 3.7.2 and 6.5). The answer is the first that holds. A train that is
     /// taken puts the sink on its group.
     pub fn train(
         &mut self,

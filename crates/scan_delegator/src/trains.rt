@@ -27,7 +27,7 @@ const ENCRYPTED_BIG_INFO: usize = 57;
 
 impl ScanDelegator {
     /// What a train brings that is heard at `now` in µs: the first answer that holds (Basic Audio Profile 1.0, sections
-    /// 3.7.2 and 6.5.4), and the group that the sink joins where it is OnGroup. Nothing changes before it is followed.
+    /// 3.7.2 and 6.5), and the group that the sink joins where it is OnGroup. Nothing changes before it is followed.
     pub fn bring(
         &self,
         address_type: u8,

@@ -1,5 +1,5 @@
 -- Where a sink is that `announce` puts on a group: where the group's source is for its next event (Basic Audio Profile 1.0,
--- sections 3.7.2 and 6.5.4).
+-- sections 3.7.2 and 6.5).
 use Rattle.std.proofs.Common.{ℕ, ◌≡◌, ◌<◌, ◌≤◌, ◌^◌, ◌∷◌, [], Bool, List, None, Some, refl, ◌∙◌, ap}
 use Rattle.std.specs.Prelude.{unwrap_or}
 use Rattle.std.proofs.lemmas.Option.{none-some}

@@ -21,7 +21,7 @@ impl Sinks {
     /// Runs a line that names the sink of this number, and puts what it prints at the end of the text. It is refused with
     /// NoSuchSink where no sink of this number lives, else by the first reason that holds of the sink: NoSuchLink, LinkTwice,
     /// NothingWaiting, RecordsTooLong. A train may put the sink on a group of the source that the line means (Basic Audio
-    /// Profile 1.0, section 6.5.4).
+    /// Profile 1.0, section 6.5).
     pub fn line(
         &mut self,
         sink: u8,
@@ -38,7 +38,7 @@ impl Sinks {
     }
 
     /// `announce`: puts the train of a source at the end of the text, hands it to the sink of this number, and puts the answer
-    /// behind it (Basic Audio Profile 1.0, sections 3.7.2 and 6.5.4). It is refused with NoSuchSink where no sink of this number
+    /// behind it (Basic Audio Profile 1.0, sections 3.7.2 and 6.5). It is refused with NoSuchSink where no sink of this number
     /// lives.
     pub fn announce(
         &mut self,

@@ -1,5 +1,5 @@
 -- What a line that names a sink makes of its receivers, and of the source that the sink is of (Basic Audio Profile 1.0, section
--- 6.5.4): it is put on a group by a train that is taken, and leaves it as its place says. Lists of calls have the newest first.
+-- 6.5): it is put on a group by a train that is taken, and leaves it as its place says. Lists of calls have the newest first.
 use Rattle.std.specs.Prelude.{ℕ, Bool, true, false, is_some, List, Option, Some, None, if◌then◌else◌}
 use Rattle.delegator_machine.specs.Groups.{joining_brought, with_step}
 use Rattle.delegator_states.specs.Sights.{Sight}

@@ -1,4 +1,4 @@
--- Which answers to a train leave the sink on it or on its group (Basic Audio Profile 1.0, section 6.5.4).
+-- Which answers to a train leave the sink on it or on its group (Basic Audio Profile 1.0, section 6.5).
 use Rattle.std.specs.Prelude.{Bool, true, false}
 use Rattle.delegator_states.specs.declared.train_heard.TrainHeard.{TrainHeard}
 use Rattle.delegator_states.specs.declared.train_heard.TrainHeard.TheVariants.{NoBroadcastId, NotWanted, OtherTrain, AlreadyOnGroup}

@@ -20,7 +20,7 @@ use transcript_text::Stop;
 
 impl LivingSink {
     /// `announce`: puts the train of a source at the end of the text, hands it to the sink, which has this number, and puts the
-    /// answer behind it (Basic Audio Profile 1.0, sections 3.7.2 and 6.5.4). It is never refused.
+    /// answer behind it (Basic Audio Profile 1.0, sections 3.7.2 and 6.5). It is never refused.
     pub fn announce(
         &mut self,
         sink: u8,

@@ -18,7 +18,7 @@ use std::alloc::Global;
 use unit_outlets::{TakerFault, UnitTaker};
 
 /// A sink of a scenario, with the assistants on its links, and the source that it is of: the one of the last line that put it on a
-/// train or on a group (Basic Audio Profile 1.0, section 6.5.4).
+/// train or on a group (Basic Audio Profile 1.0, section 6.5).
 ///
 /// After want of memory nothing is said of it.
 #[derive(Drop)]

@@ -23,7 +23,7 @@ use delegator_states::TrainHeard;
 use sink_lines::{put_control_heard, put_forged, put_idle, put_train_heard};
 use transcript_text::Stop;
 
-/// The answer to a train leaves the sink on it or on its group (Basic Audio Profile 1.0, section 6.5.4).
+/// The answer to a train leaves the sink on it or on its group (Basic Audio Profile 1.0, section 6.5).
 fn is_followed(heard: &TrainHeard) -> bool
     ensures { result ≡ is_followed heard.now }
 {
@@ -58,7 +58,7 @@ fn is_memory(fault: NoticeFault) -> bool
 
 impl LivingSink {
     /// Hears a train of a source, at this time in µs: the data of its extended advertising, of its periodic advertising, and its
-    /// additional controller data (Basic Audio Profile 1.0, sections 3.7.2 and 6.5.4).
+    /// additional controller data (Basic Audio Profile 1.0, sections 3.7.2 and 6.5).
     pub(crate) fn hear_train(
         &mut self,
         origin: Origin,
