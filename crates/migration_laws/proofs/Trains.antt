@@ -1,5 +1,5 @@
 -- What a train brings to a sink whose groups may reach more events ahead: what it brought, where it wasn't answered
--- `BadGroup 11` (Basic Audio Profile 1.0, section 6.5.4).
+-- `BadGroup 11` (Basic Audio Profile 1.0, section 6.5).
 use Rattle.std.proofs.Common.{ℕ, ◌≡◌, ◌⊎◌, ◌≤◌, cond, Bool, true, false, List, Option, None, Some, Result, Ok, Err, refl, ◌∙◌, ap, inl, inr}
 use Rattle.std.specs.Prelude.{◌==◌, length}
 use Rattle.base_grammar.specs.AdReading.{broadcast_id_of}
