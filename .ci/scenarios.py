@@ -28,14 +28,16 @@ OF_A_SINK = ('sum', 'heard', 'train', 'sink', 'reply', 'notice', 'read', 'state'
 
 class Scenario:
     """A text, the words of the command line, what the program writes, and its exit status. `steps` are the lines of the text, each
-    with the lines of the transcript that it brings."""
+    with the lines of the transcript that it brings; None stands for no line at all."""
 
-    def __init__(self, name, steps, exit_code, words=(), boxes=8, is_whole=True):
+    def __init__(self, name, steps, exit_code, words=(), boxes=8, is_whole=True, is_ended=True):
         self.name, self.steps, self.exit_code, self.words, self.boxes = name, steps, exit_code, list(words), boxes
-        self.text = b''.join(line + b'\n' for line, _ in steps)
+        self.text = b''.join(line + b'\n' for line, _ in steps if line is not None)
         if not is_whole:
             self.text = self.text[:-1]
         self.transcript = b''.join(line + b'\n' for _, lines in steps for line in lines)
+        if not is_ended:
+            self.transcript = self.transcript[:-1]
 
 
 def octets_of(line):
@@ -60,19 +62,19 @@ def is_refusal(line):
 
 def corpus_file(path):
     """The scenarios of a file of the corpus."""
-    name, steps, words, is_whole = '', [], [], True
-    with open(path, encoding='ascii') as file:
+    name, steps, words, is_whole, is_ended = '', [], [], True, True
+    with open(path, encoding='utf-8') as file:
         for place, line in enumerate(file, 1):
             line = line.rstrip('\n')
             step = STEP.fullmatch(line)
             if line.startswith('## '):
-                name, steps, words, is_whole = line[3:], [], [], True
+                name, steps, words, is_whole, is_ended = line[3:], [], [], True, True
             elif not line or line.startswith('#'):
                 continue
             elif line.startswith('$ '):
                 words = line[2:].split(' ')
             elif line.startswith('exit '):
-                yield Scenario(name, steps, int(line[5:]), words, is_whole=is_whole)
+                yield Scenario(name, steps, int(line[5:]), words, is_whole=is_whole, is_ended=is_ended)
             elif line.startswith('! '):
                 refusal, _, last = line[2:].partition(': ')
                 number = len(steps) + 1
@@ -83,11 +85,12 @@ def corpus_file(path):
                 is_whole = not text.endswith('\\')
                 steps += [(octets_of(text.removesuffix('\\')), []) for _ in range(int(step[1] or 1))]
             else:
-                printed = octets_of(line)
+                is_ended = not line.endswith('\\')
+                printed = octets_of(line.removesuffix('\\'))
                 if not (words or is_refusal(printed) or steps and is_of(steps[-1][0], printed)):
                     raise ValueError(f'{path}:{place}: the line above does not print this')
                 if not steps:
-                    steps.append((b'', []))
+                    steps.append((None, []))
                 steps[-1][1].append(printed)
 
 
@@ -118,7 +121,7 @@ def steps_of(text, transcript):
             taken.append(printed.pop(0))
         steps.append((line, taken))
     if printed:
-        steps.append((b'', []))
+        steps.append((None, []))
         number = int(printed[-1].split(b' ')[1].rstrip(b':')) if is_refusal(printed[-1]) else 0
         here = steps[number - 1] if 0 < number <= len(steps) else steps[-1]
         here[1].extend(printed)
@@ -134,7 +137,7 @@ def rows():
                 yield file, Scenario(name, steps_of(text, transcript), int(exit_code), boxes=int(boxes))
     with open(os.path.join(TESTS, 'limits.rt'), encoding='utf-8') as table:
         for refusal in TOO_LONG.findall(table.read()):
-            yield 'limits.rt', Scenario(refusal, [(b'', [refusal.encode()])], 1)
+            yield 'limits.rt', Scenario(refusal, [(None, [refusal.encode()])], 1)
 
 
 def examples():
