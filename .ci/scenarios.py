@@ -28,10 +28,12 @@ OF_A_SINK = ('sum', 'heard', 'train', 'sink', 'reply', 'notice', 'read', 'state'
 
 class Scenario:
     """A text, the words of the command line, what the program writes, and its exit status. `steps` are the lines of the text, each
-    with the lines of the transcript that it brings; None stands for no line at all."""
+    with the lines of the transcript that it brings; None stands for no line at all. Those
+    before `counted_from` lead to the others and stand in another scenario too."""
 
-    def __init__(self, name, steps, exit_code, words=(), boxes=8, is_whole=True, is_ended=True):
+    def __init__(self, name, steps, exit_code, words=(), boxes=8, is_whole=True, is_ended=True, counted_from=0):
         self.name, self.steps, self.exit_code, self.words, self.boxes = name, steps, exit_code, list(words), boxes
+        self.counted_from = counted_from
         self.text = b''.join(line + b'\n' for line, _ in steps if line is not None)
         if not is_whole:
             self.text = self.text[:-1]
@@ -79,7 +81,7 @@ def corpus_file(path):
                 refusal, _, last = line[2:].partition(': ')
                 number = len(steps) + 1
                 ends = [(octets_of(last), [b'line %d: %s' % (number, refusal.encode())])]
-                yield Scenario(f'{name}: {last[:40]}', steps + ends, 1)
+                yield Scenario(f'{name}: {last[:40]}', steps + ends, 1, counted_from=len(steps))
             elif step:
                 text = step[2] or ''
                 is_whole = not text.endswith('\\')
