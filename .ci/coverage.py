@@ -203,7 +203,7 @@ KINDS = {
 def row_of(kind, source, counts, is_all):
     """A row of the table."""
     if is_all or len(counts) <= FEW:
-        told = ', '.join(f'{name} {count}' for name, count in counts.items())
+        told = '; '.join(f'{name} {count}' for name, count in counts.items())
     else:
         least = min(counts, key=counts.get)
         told = f'{len(counts)} cases, from {counts[least]} time{"s" * (counts[least] != 1)} ({least}) to {max(counts.values())}'
