@@ -1,0 +1,248 @@
+"""Which cases a scenario has: what its lines say, in which state they come, and what they are answered.
+
+A case is a pair of its kind and its name. It is read from the lines of the scenario and of its transcript alone; the state that is
+kept beside them (phases, slots, places) follows docs/scenario-language.md."""
+import collections
+import re
+
+from octet_words import octets, segments
+from sink_cases import SinkCases, where
+
+SOURCE_LINES = ('group', 'ident', 'subgroup', 'meta', 'bis', 'cipher', 'start', 'tuned', 'unit', 'event', 'hear', 'air', 'inject', 'sniff',
+                'announce', 'train', 'terminate', 'stop')
+SINK_LINES = ('pac', 'locate', 'context', 'tuned', 'hear', 'air', 'inject', 'announce', 'train', 'write', 'add', 'modify', 'remove', 'code',
+              'serve', 'tell', 'read', 'drain', 'show', 'lose', 'drop', 'control', 'forge', 'assist', 'apart', 'awrite', 'aserve', 'atell',
+              'aread', 'adrain', 'ashow')
+
+# The lines, with the words behind the first: those of all, and those that may follow.
+LINES = {
+    'scenario': 1, 'group': 15, 'ident': 4, 'subgroup': 2, 'meta': 1, 'bis': 2, 'cipher': 2, 'start': 1, 'sink': 4, 'pac': 4, 'locate': 2,
+    'context': 3, 'tuned': 2, 'unit': 3, 'event': 0, 'hear': 4, 'air': 2, 'inject': 5, 'sniff': 3, 'announce': 1, 'train': 5, 'write': 2,
+    'add': 7, 'modify': 4, 'remove': 2, 'code': 3, 'serve': 1, 'tell': 1, 'read': 1, 'drain': 1, 'show': 1, 'lose': 1, 'drop': 1,
+    'terminate': 1, 'control': 2, 'forge': 3, 'stop': 0, 'end': 0, 'assist': 2, 'apart': 2, 'awrite': 3, 'aserve': 2, 'atell': 2,
+    'aread': 2, 'adrain': 2, 'ashow': 2, 'source': 1, 'relay': 3,
+}
+
+
+class Source:
+    """A source: its group by the numbers of its line, its identity, and its phase."""
+
+    def __init__(self):
+        self.group, self.ident, self.subgroups, self.first, self.performed = None, ('0', '0', '000000'), [], 0, 0
+        self.is_ciphered = self.is_started = self.is_open = False
+        self.end = None
+
+    def phase(self):
+        if self.group is None:
+            return 'no group'
+        if not self.is_started:
+            return 'a subgroup without a stream' if self.subgroups[-1:] == [0] else 'a group'
+        if self.is_ciphered:
+            return 'encrypted and ended' if self.end else 'encrypted'
+        return self.end or ('an event is open' if self.is_open else 'started')
+
+    def numbers(self):
+        names = ('origin', 'delay', 'iso', 'sdu', 'max_sdu', 'max_pdu', 'num_bis', 'bn', 'nse', 'irc', 'pto', 'sub', 'spacing', 'phy')
+        numbers = dict(zip(names, map(int, self.group[2:])), framing=self.group[1])
+        numbers['horizon'] = numbers['pto'] * (numbers['nse'] // max(1, numbers['bn']) - numbers['irc'])
+        return numbers
+
+
+class Walk(SinkCases):
+    """Walks through the lines of a scenario, and counts its cases."""
+
+    def __init__(self, counts):
+        self.counts = counts
+        self.version, self.chosen, self.sources, self.sinks, self.numbers = 0, 0, (Source(), Source()), {}, set()
+
+    def count(self, kind, name):
+        self.counts[kind, str(name)] += 1
+
+    def line(self, line, printed):
+        """A line of the text, without its end, and what it brings."""
+        words = (line or b'').decode('ascii', 'replace').split(' ')
+        printed = [it.decode('ascii', 'replace').split(' ') for it in printed]
+        refusal = printed[-1] if printed and printed[-1][0] == 'line' else None
+        if refusal and refusal[2] in ('LineTooLong', 'TextTooLong', 'NoEnd'):
+            self.count('refusals', refusal[2])
+            if refusal[2] != 'NoEnd':
+                return
+            refusal = None
+        if not line or line.startswith(b'#'):
+            return
+        if refusal:
+            self.refuse(words, refusal[2], refusal[3] if len(refusal) > 3 else None)
+            return
+        if not self.version:
+            self.version = int(words[1])
+        self.count(f'lines of version {self.version}', words[0])
+        source = self.sources[self.chosen]
+        if words[0] in SOURCE_LINES:
+            self.count('phases', source.phase())
+            self.count('lines in a phase', f'{words[0]}, {source.phase()}')
+        for has in (it for it in printed if it[0] != 'line'):
+            self.count('printed lines', 'unit ' + has[5] if has[0] == 'unit' else has[0])
+        if len(words) > 1 and words[1] in self.sinks and words[0] in SINK_LINES:
+            self.count('lines at a place', f'{words[0]}, {where(self.sinks[words[1]].place)}')
+        getattr(self, 'do_' + words[0], self.nothing)(words, source, printed)
+        if len(words) > 1 and words[1] in self.sinks and words[0] in SINK_LINES and words[0] not in SOURCE_LINES:
+            self.links(words, printed)
+
+    def nothing(self, words, source, printed):
+        pass
+
+    # Refusals.
+
+    def refuse(self, words, name, number):
+        self.count('refusals', name)
+        source, word = self.sources[self.chosen], words[0]
+        if name == 'BadLine':
+            k = int(number)
+            how = 'missing' if k == len(words) else 'none' if k == 0 else 'not fitting'
+            self.count('BadLine', f'0 {word}, version {self.version or 1}' if k == 0 and word in LINES else f'{k} {word if k else "other"}, {how}')
+        elif name == 'Order':
+            self.count('Order', f'{word}, {source.phase()}' if word in SOURCE_LINES and self.version else word)
+        elif name == 'BadGroup':
+            self.count('BadGroup at a start', number)
+            self.count('BadGroup at a start, by framing', f'{number} {source.group[1]}')
+        else:
+            self.count('refusals of a line', f'{name}, {word}')
+        if name == 'CounterEnds':
+            self.count('the payload counter', f'{word} refused, {source.group[1]}')
+        if name == 'LinkTwice':
+            self.count('links', f'{words[2]} joined twice')
+        if name == 'TimeOrder':
+            self.count('TimeOrder', self.time_order(words, source))
+
+    def time_order(self, words, source):
+        if source.group[1] == 'unframed':
+            return 'a time, unframed'
+        return 'no time, framed' if words[2] == '-' else f'framed, version {self.version}'
+
+    # Sources.
+
+    def do_source(self, words, _source, _printed):
+        self.chosen = int(words[1])
+        self.count('sources', words[1])
+
+    def do_group(self, words, source, _printed):
+        source.group = words
+
+    def do_ident(self, words, source, _printed):
+        source.ident = (words[1], words[3], words[4].lower())
+
+    def do_cipher(self, _words, source, _printed):
+        source.is_ciphered = True
+
+    def do_subgroup(self, _words, source, _printed):
+        source.subgroups.append(0)
+
+    def do_bis(self, _words, source, _printed):
+        source.subgroups[-1] += 1
+
+    def do_start(self, words, source, _printed):
+        source.is_started, source.first = True, int(words[1])
+        has = source.numbers()
+        framing = has['framing']
+        k = has['iso'] * 1250 // has['sdu']
+        self.count('groups', f'{framing}, BN {has["bn"]}')
+        self.count('groups', f'{framing}, k {"above 1" if k > 1 else k}')
+        self.count('groups', f'{framing}, NSE {"31" if has["nse"] == 31 else "below 31"}')
+        self.count('groups', f'{framing}, {"31 streams" if has["num_bis"] == 31 else "1 stream" if has["num_bis"] == 1 else "2 to 30 streams"}')
+        horizon = has['horizon']
+        self.count('groups', f'{framing}, horizon {horizon if horizon in (0, 15, 30) else "1 to 14" if horizon < 15 else "16 to 29"}')
+        self.count('groups', f'{framing}, PHY {has["phy"]}')
+        if framing == 'unframed':
+            m = -(-has['max_sdu'] // has['max_pdu'])
+            self.count('groups', f'unframed, {"a PDU" if m == 1 else "several PDUs"} a unit')
+        self.count('BASE', f'{len(source.subgroups) if len(source.subgroups) < 3 else "3 or more"} subgroups')
+        self.count('sources', f'started with {sum(it.is_started for it in self.sources)}')
+
+    def do_event(self, _words, source, printed):
+        has = source.numbers()
+        number = source.first + source.performed
+        source.performed += 1
+        source.is_open = True
+        if (number + has['horizon'] + 2) * has['bn'] > 1 << 39:
+            self.count('the payload counter', f'the last event, {has["framing"]}')
+        if source.performed > 32:
+            self.count('sources', 'more than 32 events')
+        for line in printed:
+            if line[0] == 'stale':
+                self.count('framed units', 'left out')
+        self.units(printed)
+
+    def do_stop(self, words, source, printed):
+        source.end, source.is_open = 'stopped' if words[0] == 'stop' else 'terminated', False
+        self.units(printed)
+
+    do_terminate = do_stop
+
+    def do_end(self, _words, _source, printed):
+        self.count('sources', f'open at the end: {sum(it.is_open for it in self.sources)}')
+        self.units(printed)
+        self.chosen = 0
+
+    def do_unit(self, words, source, _printed):
+        has, length = source.numbers(), len(octets(words[3]))
+        if has['framing'] == 'framed':
+            ahead = int(words[2]) > has['origin'] + source.performed * has['iso'] * 1250
+            self.count('framed units', 'given past the next anchor' if ahead else 'given for the next anchor or before')
+        self.count('units given', f'{has["framing"]}, {"no octet" if not length else "MAXSDU" if length == has["max_sdu"] else "between"}')
+
+    def units(self, printed):
+        for words in printed:
+            if words[0] != 'unit' or words[1] not in self.sinks:
+                continue
+            sink = self.sinks[words[1]]
+            source = self.sources[sink.source]
+            framing = sink.framing or source.group[1]
+            kind = f'{framing} units'
+            if words[5] == 'lost':
+                self.count(kind, 'lost')
+                continue
+            length, has = int(words[6]), source.numbers()
+            self.count(kind, 'valid')
+            if length == 0:
+                self.count(kind, 'valid, no octet')
+            if length == 4095 or length == 1757:
+                self.count(kind, f'valid, {length} octets')
+            if length > has['max_pdu']:
+                self.count(kind, 'valid, of several PDUs')
+            if framing == 'framed' and length > has['bn'] * has['max_pdu']:
+                self.count(kind, 'valid, of several events')
+
+    # What is on the air.
+
+    def do_sniff(self, words, source, printed):
+        framing, payload = source.group[1], octets(printed[0][4])
+        self.count('PDUs on the air', f'{framing}, {"padding" if payload in (bytes([1, 0]), bytes([2, 0])) else "more"}')
+        if words[1] == '31':
+            self.count('sources', 'the event 31 before the last')
+        if framing == 'framed':
+            found = list(segments(payload[2:]))
+            starts = [it for it in found if it[0]]
+            names = {'a continuation': len(starts) < len(found), 'two starts': len(starts) > 1, 'a start that is not complete': any(not it[1] for it in starts),
+                     'TimeOffset 0': any(it[2] == 0 for it in starts), 'TimeOffset 16,777,215': any(it[2] == 16777215 for it in starts),
+                     'an empty unit': any(not it[3] for it in starts), 'a continuation and a start': len(found) > len(starts) > 0}
+            for name in (it for it, holds in names.items() if holds):
+                self.count('framed PDUs on the air', name)
+
+    def do_inject(self, words, source, printed):
+        answer = ' '.join(printed[0][2:])
+        self.count('answers to a PDU', answer)
+        self.count('answers to a PDU, by framing', f'{answer}, {source.group[1]}')
+
+
+def count_cases(counts, scenario):
+    """Counts the cases of a scenario."""
+    walk = Walk(counts)
+    if scenario.words:
+        name = re.sub(r'[=\d]+', '', scenario.words[0])
+        counts['words', f'{name}, status {scenario.exit_code}'] += 1
+        return
+    for place, (line, printed) in enumerate(scenario.steps):
+        walk.counts = collections.Counter() if place < scenario.counted_from else counts
+        walk.line(line, printed)
+        if printed and printed[-1].startswith(b'line '):
+            return

@@ -1,0 +1,66 @@
+"""Octets that stand in the words of a scenario: operations, values of slots, advertising data, PDUs."""
+
+ALL = 0xffffffff
+
+
+def octets(word):
+    return bytes.fromhex(word) if word != '-' else b''
+
+
+def structure(ads, kind, front=b''):
+    """The contents of the first AD structure of a type that begins so, or None."""
+    while ads and ads[0]:
+        if ads[1:2 + len(front)] == bytes([kind]) + front:
+            return ads[2 + len(front):1 + ads[0]]
+        ads = ads[1 + ads[0]:]
+    return None
+
+
+def pairs_of(body):
+    """The BIS_Sync values and metadata of an operation, or None."""
+    found, count, body = [], body[0] if body else 0, body[1:]
+    for _ in range(count):
+        if len(body) < 5 or len(body) < 5 + body[4]:
+            return None
+        found.append((int.from_bytes(body[:4], 'little'), body[5:5 + body[4]]))
+        body = body[5 + body[4]:]
+    return None if body else found
+
+
+def operation(words):
+    """What a line writes: its name, the fields that count, and the wishes."""
+    if words[0] == 'add':
+        pairs = [(int.from_bytes(octets(a), 'little'), octets(b)) for a, b in zip(words[8::2], words[9::2])]
+        return 'Add', (words[2], words[4], words[5].lower()), int(words[6]), pairs
+    if words[0] == 'modify':
+        pairs = [(int.from_bytes(octets(a), 'little'), octets(b)) for a, b in zip(words[5::2], words[6::2])]
+        return 'Modify', int(words[2]), int(words[3]), pairs
+    if words[0] in ('remove', 'code'):
+        return words[0].capitalize(), int(words[2]), 0, None
+    raw = octets(words[-1])
+    if raw[:1] == b'\2' and len(raw) > 15:
+        return 'Add', (str(raw[1]), str(raw[8]), raw[9:12].hex()), raw[12], pairs_of(raw[15:])
+    if raw[:1] == b'\3' and len(raw) > 5:
+        return 'Modify', raw[1], raw[2], pairs_of(raw[5:])
+    names = ('Scan Stopped', 'Scan Started', 'Add', 'Modify', 'Code', 'Remove')
+    name = names[raw[0]] if raw and raw[0] < 6 else 'none'
+    return name, raw[1] if len(raw) > 1 else 0, 0, None
+
+
+def is_value(value):
+    """Whether the octets are the value of a slot."""
+    if not value:
+        return True
+    if len(value) < 15 or value[1] > 1 or value[8] > 15 or value[12] > 4 or value[13] > 3:
+        return False
+    pairs = pairs_of(value[14 + (16 if value[13] == 3 else 0):])
+    return pairs is not None and all(bits < 1 << 31 or bits == ALL for bits, _ in pairs)
+
+
+def segments(payload):
+    """The segments of a framed PDU: whether each is a start, whether it completes its unit, its TimeOffset and its part."""
+    while len(payload) > 1:
+        part = payload[2:2 + payload[1]]
+        starts = not payload[0] & 1
+        yield starts, bool(payload[0] & 2), int.from_bytes(part[:3], 'little') if starts else 0, part[3:] if starts else part
+        payload = payload[2 + payload[1]:]

@@ -1,0 +1,154 @@
+"""Scenarios with their transcripts, from where they stand: the corpus, the worked rows of the tests, and the examples.
+
+corpus/README.md tells how a file of the corpus is written."""
+import glob
+import os
+import re
+
+TOP = os.path.dirname(os.path.dirname(os.path.abspath(__file__)))
+TESTS = os.path.join(TOP, 'crates/replay_command/src/tests')
+ROW = re.compile(r'name: "(.*)",\s+boxes: (\d+),\s+text: "(.*)",\s+transcript: "(.*)",\s+exit_code: (\d+),')
+TOO_LONG = re.compile(r'b"(line \d+: (?:TextTooLong|LineTooLong))\\n"')
+REPEATED = re.compile(r'\{([^{}]*)\*(\d+)\}')
+OCTET = re.compile(rb'\\x([0-9a-f]{2})')
+STEP = re.compile(r'(\d*)>(?: (.*))?')
+
+# The lines of a transcript that a step may print, by their first words, in order.
+PRINTS = {
+    'event': ('unit', 'stale'), 'stop': ('unit',), 'terminate': ('unit', 'control'), 'end': ('unit', 'sum'), 'drop': ('sum',),
+    'sniff': ('pdu',), 'inject': ('heard',), 'announce': ('train', 'sink'), 'train': ('sink',), 'control': ('sink',),
+    'lose': ('sink',), 'serve': ('reply',), 'tell': ('notice',), 'read': ('read',), 'drain': ('reply', 'notice', 'read'),
+    'show': ('state', 'view'), 'forge': ('forged',), 'aserve': ('areply',), 'atell': ('anotice',), 'aread': ('aread',),
+    'adrain': ('areply', 'anotice', 'aread'), 'ashow': ('aview',),
+}
+ONCE = ('sniff', 'inject', 'train', 'control', 'lose', 'serve', 'tell', 'read', 'forge', 'aserve', 'atell', 'aread', 'drop')
+OF_A_LINK = ('areply', 'anotice', 'aread', 'aview')
+OF_A_SINK = ('sum', 'heard', 'train', 'sink', 'reply', 'notice', 'read', 'state', 'view', 'forged') + OF_A_LINK
+
+
+class Scenario:
+    """A text, the words of the command line, what the program writes, and its exit status. `steps` are the lines of the text, each
+    with the lines of the transcript that it brings; None stands for no line at all. Those
+    before `counted_from` lead to the others and stand in another scenario too."""
+
+    def __init__(self, name, steps, exit_code, words=(), boxes=8, is_whole=True, is_ended=True, counted_from=0):
+        self.name, self.steps, self.exit_code, self.words, self.boxes = name, steps, exit_code, list(words), boxes
+        self.counted_from = counted_from
+        self.text = b''.join(line + b'\n' for line, _ in steps if line is not None)
+        if not is_whole:
+            self.text = self.text[:-1]
+        self.transcript = b''.join(line + b'\n' for _, lines in steps for line in lines)
+        if not is_ended:
+            self.transcript = self.transcript[:-1]
+
+
+def octets_of(line):
+    """A line of a corpus file without its repetitions and escapes."""
+    return OCTET.sub(lambda it: bytes([int(it[1], 16)]), REPEATED.sub(lambda it: it[1] * int(it[2]), line).encode('ascii'))
+
+
+def is_of(step, printed):
+    """Whether the step may print the line: it has one of the kinds, and the sink and the link of the step."""
+    words, has = step.split(b' '), printed.split(b' ')
+    word, kind = words[0].decode(errors='replace'), has[0].decode(errors='replace')
+    if kind not in PRINTS.get(word, ()):
+        return False
+    if kind in OF_A_SINK and word != 'end' and has[1:2] != words[1:2]:
+        return False
+    return kind not in OF_A_LINK or has[2:3] == words[2:3]
+
+
+def is_refusal(line):
+    return re.fullmatch(rb'line \d+: [A-Za-z]+( \d+)?', line) is not None
+
+
+def corpus_file(path):
+    """The scenarios of a file of the corpus."""
+    name, steps, words, is_whole, is_ended = '', [], [], True, True
+    with open(path, encoding='utf-8') as file:
+        for place, line in enumerate(file, 1):
+            line = line.rstrip('\n')
+            step = STEP.fullmatch(line)
+            if line.startswith('## '):
+                name, steps, words, is_whole, is_ended = line[3:], [], [], True, True
+            elif not line or line.startswith('#'):
+                continue
+            elif line.startswith('$ '):
+                words = line[2:].split(' ')
+            elif line.startswith('exit '):
+                yield Scenario(name, steps, int(line[5:]), words, is_whole=is_whole, is_ended=is_ended)
+            elif line.startswith('! '):
+                refusal, _, last = line[2:].partition(': ')
+                number = len(steps) + 1
+                ends = [(octets_of(last), [b'line %d: %s' % (number, refusal.encode())])]
+                yield Scenario(f'{name}: {last[:40]}', steps + ends, 1, counted_from=len(steps))
+            elif step:
+                text = step[2] or ''
+                is_whole = not text.endswith('\\')
+                steps += [(octets_of(text.removesuffix('\\')), []) for _ in range(int(step[1] or 1))]
+            else:
+                is_ended = not line.endswith('\\')
+                printed = octets_of(line.removesuffix('\\'))
+                if not (words or is_refusal(printed) or steps and is_of(steps[-1][0], printed)):
+                    raise ValueError(f'{path}:{place}: the line above does not print this')
+                if not steps:
+                    steps.append((None, []))
+                steps[-1][1].append(printed)
+
+
+def corpus():
+    for path in sorted(glob.glob(os.path.join(TOP, 'corpus', '*.txt'))):
+        for scenario in corpus_file(path):
+            yield os.path.basename(path), scenario
+
+
+def steps_of(text, transcript):
+    """The lines of a text, each with the lines of the transcript that it brings, as far as their kinds tell."""
+    slots, steps, printed = {}, [], transcript.split(b'\n')[:-1]
+    for line in text.removesuffix(b'\n').split(b'\n') if text else []:
+        words = line.split(b' ')
+        word, taken = words[0].decode(errors='replace'), []
+        if word == 'sink' and len(words) > 3:
+            slots[words[1]] = int(words[3])
+        kinds = [it.encode() for it in PRINTS.get(word, ())]
+        most = 1 if word in ONCE else 2 if word == 'announce' else 10 ** 9
+        if word in ('show', 'ashow'):
+            most = slots.get(words[1], 0) * len(kinds)
+        place = 0
+        while printed and len(taken) < most and is_of(line, printed[0]):
+            now = kinds.index(printed[0].split(b' ')[0])
+            if now < place and word != 'show':
+                break
+            place = now
+            taken.append(printed.pop(0))
+        steps.append((line, taken))
+    if printed:
+        steps.append((None, []))
+        number = int(printed[-1].split(b' ')[1].rstrip(b':')) if is_refusal(printed[-1]) else 0
+        here = steps[number - 1] if 0 < number <= len(steps) else steps[-1]
+        here[1].extend(printed)
+    return steps
+
+
+def rows():
+    """The worked rows of the tests, and the two limits of a text that the tests make line by line."""
+    for file in ('rows.rt', 'sink_rows.rt'):
+        with open(os.path.join(TESTS, file), encoding='ascii') as table:
+            for name, boxes, text, transcript, exit_code in ROW.findall(table.read()):
+                text, transcript = (it.replace('\\n', '\n').encode() for it in (text, transcript))
+                yield file, Scenario(name, steps_of(text, transcript), int(exit_code), boxes=int(boxes))
+    with open(os.path.join(TESTS, 'limits.rt'), encoding='utf-8') as table:
+        for refusal in TOO_LONG.findall(table.read()):
+            yield 'limits.rt', Scenario(refusal, [(None, [refusal.encode()])], 1)
+
+
+def examples():
+    for path in sorted(glob.glob(os.path.join(TOP, 'examples', '*.scn'))):
+        with open(path, 'rb') as text, open(path[:-4] + '.out', 'rb') as transcript:
+            yield 'examples', Scenario(os.path.basename(path), steps_of(text.read(), transcript.read()), 0)
+
+
+def everything():
+    yield from rows()
+    yield from examples()
+    yield from corpus()
