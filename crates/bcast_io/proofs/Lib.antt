@@ -1,5 +1,6 @@
 mod Transfers
 pub mod Slices
 mod LineLaws
+mod CutTexts
 pub mod ReadingLaws
 pub mod Citable

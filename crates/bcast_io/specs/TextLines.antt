@@ -1,5 +1,6 @@
 -- The lines of a scenario text. The text, the octet that ends its lines and its limits are this project's own.
-use Rattle.std.specs.Prelude.{ℕ, ◌≢◌, ◌+◌, ◌==◌, All, nat_le, Bool, true, false, List, [], ◌∷◌, ◌++◌, length, if◌then◌else◌}
+use Rattle.std.specs.Prelude.{ℕ, ◌≡◌, ◌≢◌, ◌+◌, ◌==◌, All, nat_le, Bool, true, false, List, [], ◌∷◌, ◌++◌, length, map, take, if◌then◌else◌}
+use Rattle.std.specs.List.{concat}
 
 -- the octet that ends a line
 abbrev pub newline : ℕ
@@ -44,3 +45,25 @@ lines_from at_end taken part (x ∷ xs) =
 -- the lines of a text, or the whole lines of a front of it
 abbrev pub lines_of : Bool → List ℕ → List TextLine
 lines_of at_end text = lines_from at_end 0 [] text
+
+-- ---- the same lines, by what a reader of the text checks
+
+-- the octets of a line with its end
+abbrev pub with_end : List ℕ → List ℕ
+with_end octets = octets ++ newline ∷ []
+
+-- the line behind the last end, where there is one: the one that holds the octet past the limit of the text, or the one that
+-- the end of the text ends
+abbrev pub line_behind : Bool → List ℕ → List ℕ → List TextLine
+line_behind at_end text rest = if nat_le (length text) text_limit then last_line at_end rest else past ∷ []
+
+-- These are the lines of a text, or the whole lines of a front of it: with their ends, put together, they are the text, up to
+-- its limit; each goes to its first end; and none is split or joined with another.
+pub record AreLines (at_end : Bool) (text : List ℕ) (lines : List TextLine) : Type 0 where
+  -- the octets of each line that has an end, and those behind the last end
+  pub whole : List (List ℕ)
+  pub rest : List ℕ
+  pub together : take text_limit text ≡ concat (map with_end whole) ++ rest
+  pub apart : All NoNewline whole
+  pub unended : NoNewline rest
+  pub lines_are : lines ≡ map line_of whole ++ line_behind at_end text rest

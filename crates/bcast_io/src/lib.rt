@@ -4,6 +4,7 @@
 mod adapters;
 mod endless;
 mod faithful;
+mod laws;
 mod line_buffer;
 mod line_reader;
 mod memory;
@@ -16,6 +17,7 @@ mod whole;
 pub use adapters::{ReadSource, WriteSink};
 pub use endless::EndlessSource;
 pub use faithful::{FaithfulSink, FaithfulSource};
+pub use laws::a_text_is_its_lines;
 pub use line_reader::{LINE_LIMIT, LineRead, LineReader, TEXT_LIMIT};
 pub use memory::{MemorySink, MemorySource};
 pub use read_ahead::AHEAD_LIMIT;

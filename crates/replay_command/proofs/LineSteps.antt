@@ -44,7 +44,7 @@ module _ (starts : List Account) (history : List TextLine) (line : TextLine) (le
   run_refused reason kept' status is f =
       let m = met (Err (Refused reason)) is in
       let P : List Account → Type 0 = λ a. Ended airs_of status starts a left left' kept kept' in
-      subst P (sym m.2) (ends_refusal starts history line left left' kept mid kept' before number reason is_next comes ahead run.accepted run.written run.stands.boxes m.0 status f)
+      subst P (sym m.3) (ends_refusal starts history line left left' kept mid kept' before number reason is_next comes ahead run.accepted run.written run.stands.boxes m.0 status f)
 
   pub run_failed : (kept' : Option (List ℕ)) (put : Option Status) → result ≡ Err OutletFault → Puts told mid kept' put
       → (status : Status) → (put ≡ Some status) → Ended airs_of status starts after left left' kept kept'

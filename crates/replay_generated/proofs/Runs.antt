@@ -330,9 +330,9 @@ module _ (starts : List Account) (history : List TextLine) (line : TextLine) (ma
             ∙ counts_append (brought (rules_of airs_of starts) history) (refusal_line number reason) run.whole
             ∙ ap (λ n. counts_of (brought (rules_of airs_of starts) history ++ refusal_line n reason)) (sym f.0)
             ∙ ap (λ w. counts_of (brought (rules_of airs_of starts) history ++ refusal_line at w)) (sym f.1);
-        same = m.2;
+        same = m.3;
       }
-  line_refused reason number counts' endings.Memory next is f = inl (met (Err (stops.Refused reason)) is).2
+  line_refused reason number counts' endings.Memory next is f = inl (met (Err (stops.Refused reason)) is).3
   line_refused reason number counts' endings.Through next is f = absurd f
   line_refused reason number counts' endings.OutletFault next is f = absurd f
 

@@ -65,13 +65,15 @@ air_brings n lose = record { refusal = λ boxes version steps e. rw e refl }
 pub inject_brings : (n back bis subevent : ℕ) (octets : List ℕ) → Brings n (Inject n back bis subevent octets)
 inject_brings n back bis subevent octets = record { refusal = λ boxes version steps e. rw e refl }
 
-pub reach_fails : (boxes version n : ℕ) (steps : List Step) (made : Step) (new : Machine) (stop : Stop) → Brings n made → stage_of steps ≡ running version
+pub reach_fails : (boxes version n : ℕ) (steps : List Step) (made : Step) (new : Machine) (stop : Stop) → Stands steps new → Brings n made → stage_of steps ≡ running version
     → Reaches steps n (Err stop) → Quiet boxes steps made new (Err stop)
-reach_fails boxes version n steps made new (Refused reason) brings e r =
-    brings.refusal boxes version steps e
-    ∙ or_front (refuse_if (not (is_heard (chosen_steps steps))) Order) (no_sink n steps) (option_or (source_refusal airs_of version (chosen_steps steps) made) None) reason r
-reach_fails boxes version n steps made new OutletFault brings e r = r
-reach_fails boxes version n steps made new Memory brings e r = absurd r
+reach_fails boxes version n steps made new (Refused reason) stands brings e r = (
+  brings.refusal boxes version steps e
+      ∙ or_front (refuse_if (not (is_heard (chosen_steps steps))) Order) (no_sink n steps) (option_or (source_refusal airs_of version (chosen_steps steps) made) None) reason r,
+  stands,
+)
+reach_fails boxes version n steps made new OutletFault stands brings e r = r
+reach_fails boxes version n steps made new Memory stands brings e r = absurd r
 
 pub own_fault : (boxes version n : ℕ) (steps : List Step) (made : Step) → Brings n made → stage_of steps ≡ running version → is_heard (chosen_steps steps) ≡ true
     → is_some (box_of n steps) ≡ true → phase_refusal airs_of boxes steps made ≡ source_refusal airs_of version (chosen_steps steps) made
@@ -126,18 +128,18 @@ hear_meets boxes version n source event back bis subevent pdu steps old new o gr
       (some_heard (past_of steps) n source event bis subevent pdu new.sinks o r.2 h))),
 )
 
-pub place_fails : (boxes version n back bis subevent : ℕ) (steps : List Step) (made : Step) (new : Machine) (group : Group) (stop : Stop) → Brings n made
+pub place_fails : (boxes version n back bis subevent : ℕ) (steps : List Step) (made : Step) (new : Machine) (group : Group) (stop : Stop) → Stands steps new → Brings n made
     → source_refusal airs_of version (chosen_steps steps) made ≡ no_place (chosen_steps steps) back bis subevent → stage_of steps ≡ running version
     → Reaches steps n (Ok group) → NoPlace (chosen_steps steps) back bis subevent stop → Quiet boxes steps made new (Err stop)
-place_fails boxes version n back bis subevent steps made new group (Refused reason) brings own e r p = own_fault boxes version n steps made brings e r.0 r.2 ∙ own ∙ p
-place_fails boxes version n back bis subevent steps made new group OutletFault brings own e r p = p
-place_fails boxes version n back bis subevent steps made new group Memory brings own e r p = tt
+place_fails boxes version n back bis subevent steps made new group (Refused reason) stands brings own e r p = (own_fault boxes version n steps made brings e r.0 r.2 ∙ own ∙ p, stands)
+place_fails boxes version n back bis subevent steps made new group OutletFault stands brings own e r p = p
+place_fails boxes version n back bis subevent steps made new group Memory stands brings own e r p = tt
 
 -- ---- inject
 
 pub quiet_tells : (starts : List Account) (steps : List Step) (made : Step) (new : Machine) (text : List ℕ) (stop : Stop) → Quiet (length starts) steps made new (Err stop)
     → Tells starts steps made new text text (Err stop)
-quiet_tells starts steps made new text (Refused reason) q = (q, refl)
+quiet_tells starts steps made new text (Refused reason) q = (q.0, q.1, refl)
 quiet_tells starts steps made new text OutletFault q = q
 quiet_tells starts steps made new text Memory q = tt
 
@@ -311,11 +313,11 @@ sniff_fault : (boxes version back bis subevent : ℕ) (steps : List Step) → st
     → phase_refusal airs_of boxes steps (Sniff back bis subevent) ≡ no_place (chosen_steps steps) back bis subevent
 sniff_fault boxes version back bis subevent steps e started = rw (e, started) (or_none (no_place (chosen_steps steps) back bis subevent))
 
-pub sniff_fails : (starts : List Account) (version back bis subevent : ℕ) (steps : List Step) (new : Machine) (text : List ℕ) (stop : Stop) → stage_of steps ≡ running version
+pub sniff_fails : (starts : List Account) (version back bis subevent : ℕ) (steps : List Step) (new : Machine) (text : List ℕ) (stop : Stop) → Stands steps new → stage_of steps ≡ running version
     → is_heard (chosen_steps steps) ≡ true → NoPlace (chosen_steps steps) back bis subevent stop → Tells starts steps (Sniff back bis subevent) new text text (Err stop)
-sniff_fails starts version back bis subevent steps new text (Refused reason) e started p = (sniff_fault (length starts) version back bis subevent steps e started ∙ p, refl)
-sniff_fails starts version back bis subevent steps new text OutletFault e started p = p
-sniff_fails starts version back bis subevent steps new text Memory e started p = tt
+sniff_fails starts version back bis subevent steps new text (Refused reason) stands e started p = (sniff_fault (length starts) version back bis subevent steps e started ∙ p, stands, refl)
+sniff_fails starts version back bis subevent steps new text OutletFault stands e started p = p
+sniff_fails starts version back bis subevent steps new text Memory stands e started p = tt
 
 pub sniff_meets : (starts : List Account) (version event back bis subevent : ℕ) (pdu : List ℕ) (steps : List Step) (machine : Machine) (text told : List ℕ) → Stands steps machine
     → stage_of steps ≡ running version → is_heard (chosen_steps steps) ≡ true

@@ -27,7 +27,7 @@ use Rattle.replay_steps.specs.declared.machine.Machine.{Machine}
 use Rattle.replay_steps.specs.Machines.{Stands, past_of}
 use Rattle.replay_steps.specs.Meets.{Meets}
 use Rattle.replay_steps.specs.Versions.{stage_in}
-use Rattle.replay_steps.proofs.Stepping.{GoesOn, source_fault}
+use Rattle.replay_steps.proofs.Stepping.{GoesOn, source_fault, sources_stand}
 
 -- ---- the scenario goes on for each source
 
@@ -150,22 +150,24 @@ terminate_wants starts made reason new there text told last before after all = i
   },
 )
 
-pub terminate_refused : (starts : List Account) (version reason : ℕ) (made : List Step) (new : Machine) (text : List ℕ) (accounts : List Account) (stop : Stop)
-    → GoesOn (steps.Terminate reason) → stage_of made ≡ running version → sources.Terminates version made reason new.sources (Err stop)
+pub terminate_refused : (starts : List Account) (version reason : ℕ) (made : List Step) (old new : Machine) (text : List ℕ) (accounts : List Account) (stop : Stop)
+    → Stands made old → new.stage ≡ old.stage → new.sinks ≡ old.sinks → GoesOn (steps.Terminate reason) → stage_of made ≡ running version → sources.Terminates version made reason new.sources (Err stop)
     → Meets starts made (steps.Terminate reason) new text text accounts accounts (Err stop)
-terminate_refused starts version reason made new text accounts (Refused cause) on e c =
-    (source_fault (length starts) version made (steps.Terminate reason) on e ∙ c.0, refl, refl)
-terminate_refused starts version reason made new text accounts OutletFault on e c = absurd c
-terminate_refused starts version reason made new text accounts Memory on e c = inl refl
+terminate_refused starts version reason made old new text accounts (Refused cause) stands stage same on e c =
+    (source_fault (length starts) version made (steps.Terminate reason) on e ∙ c.0, sources_stand made old new stands stage same c.1, refl, refl)
+terminate_refused starts version reason made old new text accounts OutletFault stands stage same on e c = absurd c
+terminate_refused starts version reason made old new text accounts Memory stands stage same on e c = inl refl
 
-pub close_refused : (starts : List Account) (version : ℕ) (steps : List Step) (made : Step) (new : Machine) (text : List ℕ) (accounts : List Account) (stop : Stop) → GoesOn made
-    → stage_of steps ≡ running version → sources.Closes version steps made new.sources (Err stop) → Meets starts steps made new text text accounts accounts (Err stop)
-close_refused starts version steps made new text accounts (Refused reason) on e c = (source_fault (length starts) version steps made on e ∙ c.0, refl, refl)
-close_refused starts version steps made new text accounts OutletFault on e c = absurd c
-close_refused starts version steps made new text accounts Memory on e c = inl refl
+pub close_refused : (starts : List Account) (version : ℕ) (steps : List Step) (made : Step) (old new : Machine) (text : List ℕ) (accounts : List Account) (stop : Stop)
+    → Stands steps old → new.stage ≡ old.stage → new.sinks ≡ old.sinks → GoesOn made → stage_of steps ≡ running version → sources.Closes version steps made new.sources (Err stop) → Meets starts steps made new text text accounts accounts (Err stop)
+close_refused starts version steps made old new text accounts (Refused reason) stands stage same on e c =
+    (source_fault (length starts) version steps made on e ∙ c.0, sources_stand steps old new stands stage same c.1, refl, refl)
+close_refused starts version steps made old new text accounts OutletFault stands stage same on e c = absurd c
+close_refused starts version steps made old new text accounts Memory stands stage same on e c = inl refl
 
-pub event_refused : (starts : List Account) (version : ℕ) (made : List Step) (new : Machine) (text : List ℕ) (accounts : List Account) (stop : Stop) → GoesOn steps.Event
-    → stage_of made ≡ running version → sources.Performs version made new.sources (Err stop) → Meets starts made steps.Event new text text accounts accounts (Err stop)
-event_refused starts version made new text accounts (Refused reason) on e c = (source_fault (length starts) version made steps.Event on e ∙ c.0, refl, refl)
-event_refused starts version made new text accounts OutletFault on e c = absurd c
-event_refused starts version made new text accounts Memory on e c = inl refl
+pub event_refused : (starts : List Account) (version : ℕ) (made : List Step) (old new : Machine) (text : List ℕ) (accounts : List Account) (stop : Stop)
+    → Stands made old → new.stage ≡ old.stage → new.sinks ≡ old.sinks → GoesOn steps.Event → stage_of made ≡ running version → sources.Performs version made new.sources (Err stop) → Meets starts made steps.Event new text text accounts accounts (Err stop)
+event_refused starts version made old new text accounts (Refused reason) stands stage same on e c =
+    (source_fault (length starts) version made steps.Event on e ∙ c.0, sources_stand made old new stands stage same c.1, refl, refl)
+event_refused starts version made old new text accounts OutletFault stands stage same on e c = absurd c
+event_refused starts version made old new text accounts Memory stands stage same on e c = inl refl

@@ -34,7 +34,7 @@ use Rattle.replay_steps.specs.declared.machine.Machine.{Machine}
 use Rattle.replay_steps.specs.Machines.{Stands, past_of}
 use Rattle.replay_steps.specs.Meets.{BoxesStand, Meets, Tells}
 use Rattle.replay_steps.specs.Versions.{stage_in}
-use Rattle.replay_steps.proofs.Stepping.{or_none, sinks_meet}
+use Rattle.replay_steps.proofs.Stepping.{or_none, sinks_meet, sinks_stand}
 use Rattle.replay_steps.proofs.Closing.{closing_is}
 
 -- ---- the sums of a box as they stand are those at the start and what was handed to it
@@ -76,7 +76,8 @@ drop_meets starts accounts version n steps old new text told (Ok x) stands e box
       p ∙ ap (λ line. text ++ line)
           (ap (λ k. sum_where k n (box_of n steps)) boxes.accounts_are ∙ sum_same starts steps (handed_up airs_of steps) n (box_of n steps) refl boxes.room),
     )
-drop_meets starts accounts version n steps old new text told (Err (Refused reason)) stands e boxes stage same a p = (drop_fault (length starts) version n steps e ∙ a.0, p)
+drop_meets starts accounts version n steps old new text told (Err (Refused reason)) stands e boxes stage same a p =
+    (drop_fault (length starts) version n steps e ∙ a.0, sinks_stand steps old new stands stage same a.1, p)
 drop_meets starts accounts version n steps old new text told (Err OutletFault) stands e boxes stage same a p = a
 drop_meets starts accounts version n steps old new text told (Err Memory) stands e boxes stage same a p = tt
 

@@ -71,8 +71,15 @@ said_meets starts lines line made new text told before after (Ok x) boxes is m =
   m.2 ∙ ap (λ s. text ++ output_said airs_of starts (steps_of lines) s) (sym is),
   m.3 ∙ ap (λ s. accounts_after before (handed_said airs_of (steps_of lines) s)) (sym is),
 )
-said_meets starts lines line made new text told before after (Err (Refused reason)) boxes is m =
-    (ap (refusal_said airs_of (length starts) (steps_of lines)) is ∙ m.0, m.1, m.2)
+said_meets starts lines line made new text told before after (Err (Refused reason)) boxes is m = (
+  ap (refusal_said airs_of (length starts) (steps_of lines)) is ∙ m.0,
+  record {
+    stands = m.1;
+    boxes = (let P : List Account → Type 0 = λ accounts. BoxesStand starts (steps_of lines) accounts in subst P (sym m.3) boxes);
+  },
+  m.2,
+  m.3,
+)
 said_meets starts lines line made new text told before after (Err OutletFault) boxes is m = (
   ap (refusal_said airs_of (length starts) (steps_of lines)) is ∙ m.0,
   (let P : Said → Type 0 = λ s. BoxFails (handed_said airs_of (steps_of lines) s) text told before after in subst P (sym is) m.1),

@@ -33,7 +33,7 @@ use Rattle.scenario_sinks.specs.State.Standing.{SinksStand}
 use Rattle.replay_steps.specs.declared.machine.Machine.{Machine}
 use Rattle.replay_steps.specs.Machines.{Stands, past_of}
 use Rattle.replay_steps.specs.Meets.{Tells}
-use Rattle.replay_steps.proofs.Stepping.{brought, or_none}
+use Rattle.replay_steps.proofs.Stepping.{brought, or_none, sinks_stand}
 
 -- ---- what such a line says
 
@@ -172,7 +172,8 @@ named_meets starts n steps made old new text told (Ok x) stands is nothing on pa
   brought steps made old new stands nothing on stage same (let P : Past → Type 0 = λ p. SinksStand p new.sinks in subst P (sym past) m.1),
   m.2 ∙ ap (λ l. text ++ l) (sym output),
 )
-named_meets starts n steps made old new text told (Err (Refused reason)) stands is nothing on past output stage same m = (is ∙ m.0, m.1)
+named_meets starts n steps made old new text told (Err (Refused reason)) stands is nothing on past output stage same m =
+    (is ∙ m.0, sinks_stand steps old new stands stage same m.1, m.2)
 named_meets starts n steps made old new text told (Err OutletFault) stands is nothing on past output stage same m = m
 named_meets starts n steps made old new text told (Err Memory) stands is nothing on past output stage same m = tt
 
@@ -242,18 +243,19 @@ announce_nowhere boxes version n steps e going lives =
     announce_fault_is boxes version n steps e going
     ∙ ap (λ o. option_or o ends) (not_there n (life n steps) (made_of n steps) (made_with_box n steps ∙ lives))
 
-pub announce_fails : (starts : List Account) (version n : ℕ) (steps : List Step) (new : Machine) (text : List ℕ) (stop : Stop) → stage_of steps ≡ running version
+pub announce_fails : (starts : List Account) (version n : ℕ) (steps : List Step) (new : Machine) (text : List ℕ) (stop : Stop) → Stands steps new → stage_of steps ≡ running version
     → is_sending (chosen_steps steps) ≡ true → is_some (box_of n steps) ≡ true → AnnouncesAs (chosen_steps steps) (Err stop)
     → Tells starts steps (Announce n) new text text (Err stop)
-announce_fails starts version n steps new text (Refused reason) e going lives a =
+announce_fails starts version n steps new text (Refused reason) stands e going lives a =
     let ends = train_ends (announce_fault (setup_of (chosen_steps steps)) (source_calls (chosen_steps steps))) in
     let own : ends ≡ Some reason = sym (rw going refl) ∙ a in (
       announce_fault_is (length starts) version n steps e going
           ∙ ap (λ o. option_or o ends) (hears_train n (life n steps) (made_of n steps) (made_with_box n steps ∙ lives)) ∙ own,
+      stands,
       refl,
     )
-announce_fails starts version n steps new text OutletFault e going lives a = a
-announce_fails starts version n steps new text Memory e going lives a = tt
+announce_fails starts version n steps new text OutletFault stands e going lives a = a
+announce_fails starts version n steps new text Memory stands e going lives a = tt
 
 pub announce_meets : (starts : List Account) (version n : ℕ) (steps : List Step) (train : Announced) (old new : Machine) (text told : List ℕ) (r : Result (Unit {0}) Stop)
     → Stands steps old → stage_of steps ≡ running version → AnnouncesAs (chosen_steps steps) (Ok train) → new.stage ≡ old.stage → new.sources ≡ old.sources

@@ -15,6 +15,7 @@ use Rattle.scenario_history.proofs.Citable.{boxes_stay}
 use Rattle.replay_steps.specs.declared.machine.Machine.{Machine}
 use Rattle.transcript_text.specs.declared.stop.Stop.{Stop}
 use Rattle.transcript_text.specs.declared.stop.Stop.TheVariants.{Refused, OutletFault, Memory}
+use Rattle.replay_steps.specs.Machines.{Stands}
 use Rattle.replay_steps.specs.Meets.{BoxesStand, First, Quiet, Tells, Meets, StepMeets}
 
 -- there are as many boxes as at the start
@@ -31,14 +32,14 @@ pub quiet_meets : (starts : List Account) (boxes : ℕ) (steps : List Step) (mad
 quiet_meets starts boxes steps made new text accounts (Ok x) count output handed q =
     (subst (λ n. phase_refusal airs_of n steps made ≡ None) count q.0, q.1, sym (ap (λ l. text ++ l) output ∙ append-nil text), sym (ap (accounts_after accounts) handed))
 quiet_meets starts boxes steps made new text accounts (Err (Refused reason)) count output handed q =
-    (subst (λ n. phase_refusal airs_of n steps made ≡ Some reason) count q, refl, refl)
+    (subst (λ n. phase_refusal airs_of n steps made ≡ Some reason) count q.0, q.1, refl, refl)
 quiet_meets starts boxes steps made new text accounts (Err OutletFault) count output handed q = absurd q
 quiet_meets starts boxes steps made new text accounts (Err Memory) count output handed q = inl refl
 
 pub tells_meets : (starts : List Account) (steps : List Step) (made : Step) (new : Machine) (text told : List ℕ) (accounts : List Account) (r : Result (Unit {0}) Stop)
     → handed_by airs_of steps made ≡ [] → Tells starts steps made new text told r → Meets starts steps made new text told accounts accounts r
 tells_meets starts steps made new text told accounts (Ok x) handed t = (t.0, t.1, t.2, sym (ap (accounts_after accounts) handed))
-tells_meets starts steps made new text told accounts (Err (Refused reason)) handed t = (t.0, t.1, refl)
+tells_meets starts steps made new text told accounts (Err (Refused reason)) handed t = (t.0, t.1, t.2, refl)
 tells_meets starts steps made new text told accounts (Err OutletFault) handed t = absurd t
 tells_meets starts steps made new text told accounts (Err Memory) handed t = inl refl
 
@@ -49,7 +50,7 @@ goes_on boxes steps made not_over = rw not_over refl
 pub meets_step : (starts : List Account) (steps : List Step) (made : Step) (new : Machine) (text told : List ℕ) (before after : List Account) (r : Result (Unit {0}) Stop)
     → is_over steps ≡ false → Meets starts steps made new text told before after r → StepMeets starts steps made new text told before after r
 meets_step starts steps made new text told before after (Ok x) not_over m = (sym (goes_on (length starts) steps made not_over) ∙ m.0, m.1, m.2, m.3)
-meets_step starts steps made new text told before after (Err (Refused reason)) not_over m = (sym (goes_on (length starts) steps made not_over) ∙ m.0, m.1, m.2)
+meets_step starts steps made new text told before after (Err (Refused reason)) not_over m = (sym (goes_on (length starts) steps made not_over) ∙ m.0, m.1, m.2, m.3)
 meets_step starts steps made new text told before after (Err OutletFault) not_over m = (sym (goes_on (length starts) steps made not_over) ∙ m.0, m.1)
 meets_step starts steps made new text told before after (Err Memory) not_over (inl same) = inl same
 meets_step starts steps made new text told before after (Err Memory) not_over (inr m) = inr (sym (goes_on (length starts) steps made not_over) ∙ m.0, m.1)
@@ -83,8 +84,8 @@ pub not_begun : (steps : List Step) → stage_of steps ≡ unbegun → is_over s
 not_begun steps e = rw e refl
 
 pub refused_after_end : (starts : List Account) (version : ℕ) (steps : List Step) (made : Step) (new : Machine) (text : List ℕ) (accounts : List Account)
-    → stage_of steps ≡ over version → StepMeets starts steps made new text text accounts accounts (Err (Refused AfterEnd))
-refused_after_end starts version steps made new text accounts e = (rw e refl, refl, refl)
+    → Stands steps new → stage_of steps ≡ over version → StepMeets starts steps made new text text accounts accounts (Err (Refused AfterEnd))
+refused_after_end starts version steps made new text accounts stands e = (rw e refl, stands, refl, refl)
 
 -- the first step: only `scenario` is made
 pub first_meets : (starts : List Account) (steps : List Step) (made : Step) (new : Machine) (text : List ℕ) (accounts : List Account) (r : Result (Unit {0}) Stop)
@@ -93,7 +94,8 @@ first_meets starts steps (Scenario version) new text accounts (Ok x) e f = (rw e
 first_meets starts steps made new text accounts (Ok x) e f = absurd f.0
 first_meets starts steps made new text accounts (Err (Refused reason)) e f = (
   ap (λ b. option_or (refuse_if b AfterEnd) (phase_refusal airs_of (length starts) steps made)) (not_begun
-      steps e) ∙ f,
+      steps e) ∙ f.0,
+  f.1,
   refl,
   refl,
 )

@@ -61,6 +61,21 @@ source_fault boxes version steps made on e =
 stage_stays : (steps : List Step) (made : Step) (old new : Machine) → GoesOn made → Stands steps old → new.stage ≡ old.stage → stage_in new.stage ≡ stage_of (made ∷ steps)
 stage_stays steps made old new on stands same = ap stage_in same ∙ stands.stage ∙ sym (on.stage (stage_of steps))
 
+-- the machine after a refused step of the sources, or of the sinks
+pub sources_stand : (steps : List Step) (old new : Machine) → Stands steps old → new.stage ≡ old.stage → new.sinks ≡ old.sinks → SourcesStand steps new.sources → Stands steps new
+sources_stand steps old new stands stage same sources = record {
+  stage = ap stage_in stage ∙ stands.stage;
+  sources = sources;
+  sinks = let S : Sinks → Type 0 = λ k. SinksStand (past_of steps) k in subst S (sym same) stands.sinks;
+}
+
+pub sinks_stand : (steps : List Step) (old new : Machine) → Stands steps old → new.stage ≡ old.stage → new.sources ≡ old.sources → SinksStand (past_of steps) new.sinks → Stands steps new
+sinks_stand steps old new stands stage same sinks = record {
+  stage = ap stage_in stage ∙ stands.stage;
+  sources = let S : Sources → Type 0 = λ s. SourcesStand steps s in subst S (sym same) stands.sources;
+  sinks = sinks;
+}
+
 -- a step that says nothing of a source, by what it made of the sinks
 pub brought : (steps : List Step) (made : Step) (old new : Machine) → Stands steps old → SaysNothing made → stage_of (made ∷ steps) ≡ stage_of steps
     → new.stage ≡ old.stage → new.sources ≡ old.sources → SinksStand (past_of (made ∷ steps)) new.sinks → Stands (made ∷ steps) new
@@ -84,7 +99,8 @@ sources_meet boxes version steps made old new (Ok x) on past stands e stage same
         subst P (sym past) (subst S (sym same) stands.sinks);
   },
 )
-sources_meet boxes version steps made old new (Err (Refused reason)) on past stands e stage same a = source_fault boxes version steps made on e ∙ a.0
+sources_meet boxes version steps made old new (Err (Refused reason)) on past stands e stage same a =
+    (source_fault boxes version steps made on e ∙ a.0, sources_stand steps old new stands stage same a.1)
 sources_meet boxes version steps made old new (Err OutletFault) on past stands e stage same a = a
 sources_meet boxes version steps made old new (Err Memory) on past stands e stage same a = tt
 
@@ -119,7 +135,7 @@ sinks_meet boxes steps made fault next old new (Ok x) stands is nothing on past 
     sinks = let P : Past → Type 0 = λ p. SinksStand p new.sinks in subst P (sym past) a.1;
   },
 )
-sinks_meet boxes steps made fault next old new (Err (Refused reason)) stands is nothing on past stage same a = is ∙ a.0
+sinks_meet boxes steps made fault next old new (Err (Refused reason)) stands is nothing on past stage same a = (is ∙ a.0, sinks_stand steps old new stands stage same a.1)
 sinks_meet boxes steps made fault next old new (Err OutletFault) stands is nothing on past stage same a = a
 sinks_meet boxes steps made fault next old new (Err Memory) stands is nothing on past stage same a = tt
 

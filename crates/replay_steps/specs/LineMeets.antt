@@ -21,8 +21,8 @@ refusal_at starts lines line = (rules_of airs_of starts).refusal lines line
 abbrev pub output_at : List Account → List TextLine → TextLine → List ℕ
 output_at starts lines line = (rules_of airs_of starts).output lines line
 
--- a line after these, where a text ended in `text` and ends in `told`, and the accounts were `before` and are `after`
+-- a line after these, which leaves the machine where it is refused, where a text ended in `text` and ends in `told`, and the accounts were `before` and are `after`
 abbrev pub LineMeets : List Account → List TextLine → TextLine → Machine → List ℕ → List ℕ → List Account → List Account → Result (Unit {0}) Stop → Type 0
 LineMeets starts lines line new text told before after result =
     Becomes (refusal_at starts lines line) (output_at starts lines line) (handed_on airs_of lines line)
-    (LinesStand starts (line ∷ lines) new after) text told before after result
+    (LinesStand starts (line ∷ lines) new after) (LinesStand starts lines new after) text told before after result

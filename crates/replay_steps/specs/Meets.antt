@@ -15,10 +15,10 @@ use Rattle.transcript_text.specs.declared.stop.Stop.TheVariants.{Refused, Outlet
 use Rattle.replay_steps.specs.Machines.{Stands}
 use Rattle.scenario_sinks.specs.Handing.{BoxFails, CutShort}
 
--- a step that prints nothing and hands up no unit, with so many boxes
+-- a step that prints nothing and hands up no unit, with so many boxes; one that is refused leaves the machine
 abbrev pub Quiet : ℕ → List Step → Step → Machine → Result (Unit {0}) Stop → Type 0
 Quiet boxes steps next new (Ok _) = (phase_refusal airs_of boxes steps next ≡ None) × Stands (next ∷ steps) new
-Quiet boxes steps next new (Err (Refused reason)) = phase_refusal airs_of boxes steps next ≡ Some reason
+Quiet boxes steps next new (Err (Refused reason)) = (phase_refusal airs_of boxes steps next ≡ Some reason) × Stands steps new
 Quiet boxes steps next new (Err OutletFault) = ⊥
 Quiet boxes steps next new (Err Memory) = Unit {0}
 
@@ -30,7 +30,7 @@ IsScenario _ = ⊥
 -- the first step of a scenario
 abbrev pub First : ℕ → List Step → Step → Machine → Result (Unit {0}) Stop → Type 0
 First boxes steps next new (Ok _) = IsScenario next × Stands (next ∷ steps) new
-First boxes steps next new (Err (Refused reason)) = phase_refusal airs_of boxes steps next ≡ Some reason
+First boxes steps next new (Err (Refused reason)) = (phase_refusal airs_of boxes steps next ≡ Some reason) × Stands steps new
 First boxes steps next new (Err OutletFault) = ⊥
 First boxes steps next new (Err Memory) = Unit {0}
 
@@ -44,30 +44,30 @@ abbrev pub Tells : List Account → List Step → Step → Machine → List ℕ 
 Tells starts steps next new text told (Ok _) =
     (phase_refusal airs_of (length starts) steps next ≡ None) × Stands (next ∷ steps) new × (told ≡ text ++ output_of airs_of starts steps next)
 Tells starts steps next new text told (Err (Refused reason)) =
-    (phase_refusal airs_of (length starts) steps next ≡ Some reason) × (told ≡ text)
+    (phase_refusal airs_of (length starts) steps next ≡ Some reason) × Stands steps new × (told ≡ text)
 Tells starts steps next new text told (Err OutletFault) = ⊥
 Tells starts steps next new text told (Err Memory) = Unit {0}
 
--- What became of a step or a line that is refused for this reason, or else prints this output and hands up these units,
--- after which `stands` holds: a text that ended in `text` ends in `told`, and the accounts of the boxes were `before` and
--- are `after`.
-abbrev pub Becomes : Option Refusal → List ℕ → List SinkUnit → Type 0 → List ℕ → List ℕ → List Account → List Account → Result (Unit {0}) Stop → Type 0
-Becomes refusal output units stands text told before after (Ok _) =
+-- What became of a step or a line that is refused for this reason, after which `stays` holds, or else prints this output and
+-- hands up these units, after which `stands` holds: a text that ended in `text` ends in `told`, and the accounts of the boxes
+-- were `before` and are `after`.
+abbrev pub Becomes : Option Refusal → List ℕ → List SinkUnit → (stands stays : Type 0) → List ℕ → List ℕ → List Account → List Account → Result (Unit {0}) Stop → Type 0
+Becomes refusal output units stands stays text told before after (Ok _) =
     (refusal ≡ None) × stands × (told ≡ text ++ output) × (after ≡ accounts_after before units)
-Becomes refusal output units stands text told before after (Err (Refused reason)) =
-    (refusal ≡ Some reason) × (told ≡ text) × (after ≡ before)
-Becomes refusal output units stands text told before after (Err OutletFault) = (refusal ≡ None) × BoxFails units text told before after
-Becomes refusal output units stands text told before after (Err Memory) =
+Becomes refusal output units stands stays text told before after (Err (Refused reason)) =
+    (refusal ≡ Some reason) × stays × (told ≡ text) × (after ≡ before)
+Becomes refusal output units stands stays text told before after (Err OutletFault) = (refusal ≡ None) × BoxFails units text told before after
+Becomes refusal output units stands stays text told before after (Err Memory) =
     (after ≡ before) ⊎ ((refusal ≡ None) × CutShort units before after)
 
 -- a step that follows no `end`
 abbrev pub Meets : List Account → List Step → Step → Machine → List ℕ → List ℕ → List Account → List Account → Result (Unit {0}) Stop → Type 0
 Meets starts steps next new text told before after result =
     Becomes (phase_refusal airs_of (length starts) steps next) (output_of airs_of starts steps next) (handed_by airs_of steps next)
-    (Stands (next ∷ steps) new) text told before after result
+    (Stands (next ∷ steps) new) (Stands steps new) text told before after result
 
 -- a step, with the refusal of one that follows `end` beside the others
 abbrev pub StepMeets : List Account → List Step → Step → Machine → List ℕ → List ℕ → List Account → List Account → Result (Unit {0}) Stop → Type 0
 StepMeets starts steps next new text told before after result =
     Becomes (refusal_of airs_of (length starts) steps next) (output_of airs_of starts steps next) (handed_by airs_of steps next)
-    (Stands (next ∷ steps) new) text told before after result
+    (Stands (next ∷ steps) new) (Stands steps new) text told before after result

@@ -175,7 +175,11 @@ line_ran box how own life received source line new text told (Ok x) here makes =
           (record { box_is = here; how = how; made_is = refl; lives = makes.1 }),
       makes.2,
     )
-line_ran box how own life received source line new text told (Err (Refused reason)) here makes = makes
+line_ran box how own life received source line new text told (Err (Refused reason)) here makes = (
+  makes.0,
+  entry_of box (Some how) own life received new (record { box_is = here; how = how; made_is = refl; lives = makes.1 }),
+  makes.2,
+)
 line_ran box how own life received source line new text told (Err OutletFault) here makes = makes
 line_ran box how own life received source line new text told (Err Memory) here makes = makes
 

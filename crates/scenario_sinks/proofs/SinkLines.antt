@@ -34,6 +34,15 @@ own_sourced n source line (Some train) past some = rw (eq-eqb n n refl) refl
 
 -- ---- the sinks
 
+none_touched : (n : ℕ) (past : Past) → OthersStay n past past
+none_touched n past = record {
+  boxes = λ m apart. refl;
+  mades = λ m apart. refl;
+  sources = λ m apart. refl;
+  lives = λ m apart. refl;
+  received = λ m apart. refl;
+}
+
 line_stays : (n : ℕ) (source : Source) (step : Step) (past : Past) → OthersStay n past (with_line n source step past)
 line_stays n source step past = record {
   boxes = λ m apart. refl;
@@ -71,6 +80,10 @@ ran n at source line past old new entry text told (Ok x) stands same within eigh
       (line_here n source line past (Some entry) t.1) set (more ∙ stands.made) gathered,
   t.2,
 )
-ran n at source line past old new entry text told (Err (Refused reason)) stands same within eight t set more gathered = t
+ran n at source line past old new entry text told (Err (Refused reason)) stands same within eight t set more gathered = (
+  t.0,
+  one_changed n at past past old new entry same within eight (none_touched n past) stands t.1 set (more ∙ stands.made) gathered,
+  t.2,
+)
 ran n at source line past old new entry text told (Err OutletFault) stands same within eight t set more gathered = t
 ran n at source line past old new entry text told (Err Memory) stands same within eight t set more gathered = tt

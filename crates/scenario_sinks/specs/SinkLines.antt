@@ -12,12 +12,12 @@ use Rattle.scenario_sinks.specs.declared.sinks.Sinks.{Sinks}
 use Rattle.scenario_sinks.specs.Pasts.{Past, with_line}
 use Rattle.scenario_sinks.specs.State.Standing.{SinksStand}
 
--- it is refused, or else prints its lines behind a text, and the sinks have the past with it
+-- it is refused and the sinks have the past without it, or else it prints its lines behind a text, and they have the past with it
 abbrev pub SinkLineMakes : Past → ℕ → Source → Step → Sinks → (text told : List ℕ) → Result (Unit {0}) Stop → Type 0
 SinkLineMakes past n source line new text told (Ok _) =
     (refused_where line (past.mades n) (past.lives n) ≡ None) × SinksStand (with_line n source line past) new
     × (told ≡ text ++ concat (printed_where source line (past.mades n) (past.lives n)))
 SinkLineMakes past n source line new text told (Err (Refused reason)) =
-    (refused_where line (past.mades n) (past.lives n) ≡ Some reason) × (told ≡ text)
+    (refused_where line (past.mades n) (past.lives n) ≡ Some reason) × SinksStand past new × (told ≡ text)
 SinkLineMakes past n source line new text told (Err OutletFault) = ⊥
 SinkLineMakes past n source line new text told (Err Memory) = Unit {0}

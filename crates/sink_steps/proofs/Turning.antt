@@ -81,20 +81,21 @@ no_link joined others is = ap (λ b. link_refusal b others) is
 pub turned : {A : Type 0} (made : Made) (its : Option ℕ) (before after : List Call) (received : List sinks.Call) (first : Option A) (lines : Lines) (text told : List ℕ) (new : LivingSink)
     (waited : Bool) (result : Result (Unit {0}) Stop) → result ≡ answer_if waited
     → Turns first (Goes made its before after received lines text) (Stays made its before received text) told new (Ok waited)
-    → Makes (idle_refusal (is_none first)) lines (λ living. Lives made its after (stayed made before after received) living) text told new result
+    → Makes (idle_refusal (is_none first)) lines (λ living. Lives made its after (stayed made before after received) living) (Lives made its before received) text told new result
 turned made its before after received first lines text told new true result is turn =
     let next : LivingSink → Type 0 = λ living. Lives made its after (stayed made before after received) living in
-    subst (λ (r : Result (Unit {0}) Stop). Makes (idle_refusal (is_none first)) lines next text told new r) (sym is) (ap idle_refusal turn.0, turn.1.0, turn.1.1)
+    subst (λ (r : Result (Unit {0}) Stop). Makes (idle_refusal (is_none first)) lines next (Lives made its before received) text told new r) (sym is) (ap idle_refusal turn.0, turn.1.0, turn.1.1)
 turned made its before after received first lines text told new false result is turn =
     let next : LivingSink → Type 0 = λ living. Lives made its after (stayed made before after received) living in
-    subst (λ (r : Result (Unit {0}) Stop). Makes (idle_refusal (is_none first)) lines next text told new r) (sym is) (ap idle_refusal turn.0, turn.1.1)
+    subst (λ (r : Result (Unit {0}) Stop). Makes (idle_refusal (is_none first)) lines next (Lives made its before received) text told new r) (sym is) (ap idle_refusal turn.0, turn.1.0, turn.1.1)
 
 -- the same on a link that is joined
 pub turned_on : {A : Type 0} (link : ℕ) (made : Made) (its : Option ℕ) (before after : List Call) (received : List sinks.Call) (first : Option A) (lines : Lines) (text told : List ℕ)
     (new : LivingSink) (waited : Bool) (result : Result (Unit {0}) Stop) → is_joined link before ≡ true → result ≡ answer_if waited
     → Turns first (Goes made its before after received lines text) (Stays made its before received text) told new (Ok waited)
-    → Makes (link_refusal (is_joined link before) (idle_refusal (is_none first))) lines (λ living. Lives made its after (stayed made before after received) living) text told new result
+    → Makes (link_refusal (is_joined link before) (idle_refusal (is_none first))) lines (λ living. Lives made its after (stayed made before after received) living)
+    (Lives made its before received) text told new result
 turned_on link made its before after received first lines text told new waited result joined is turn =
     let next : LivingSink → Type 0 = λ living. Lives made its after (stayed made before after received) living in
-    subst (λ (b : Bool). Makes (link_refusal b (idle_refusal (is_none first))) lines next text told new result) (sym joined)
+    subst (λ (b : Bool). Makes (link_refusal b (idle_refusal (is_none first))) lines next (Lives made its before received) text told new result) (sym joined)
     (turned made its before after received first lines text told new waited result is turn)

@@ -18,19 +18,20 @@ use Rattle.transcript_text.specs.declared.refusal.Refusal.TheVariants.{NothingWa
 use Rattle.transcript_text.specs.declared.stop.Stop.{Stop}
 use Rattle.transcript_text.specs.declared.stop.Stop.TheVariants.{Refused, OutletFault, Memory}
 
--- it is refused for this reason, or else prints these lines behind a text, and `next` holds of the sink then
-abbrev pub Makes : Option Refusal → Lines → (LivingSink → Type 0) → List ℕ → List ℕ → LivingSink → Result (Unit {0}) Stop → Type 0
-Makes refusal lines next text told new (Ok _) = (refusal ≡ None) × next new × (told ≡ text ++ concat lines)
-Makes refusal lines next text told new (Err (Refused reason)) = (refusal ≡ Some reason) × (told ≡ text)
-Makes refusal lines next text told new (Err OutletFault) = ⊥
-Makes refusal lines next text told new (Err Memory) = Unit {0}
+-- it is refused for this reason, and `same` holds of the sink as before; or else it prints these lines behind a text, and `next`
+-- holds of the sink then
+abbrev pub Makes : Option Refusal → Lines → (next same : LivingSink → Type 0) → List ℕ → List ℕ → LivingSink → Result (Unit {0}) Stop → Type 0
+Makes refusal lines next same text told new (Ok _) = (refusal ≡ None) × next new × (told ≡ text ++ concat lines)
+Makes refusal lines next same text told new (Err (Refused reason)) = (refusal ≡ Some reason) × same new × (told ≡ text)
+Makes refusal lines next same text told new (Err OutletFault) = ⊥
+Makes refusal lines next same text told new (Err Memory) = Unit {0}
 
 -- the same of a line that prints nothing
-abbrev pub Quietly : Option Refusal → (LivingSink → Type 0) → LivingSink → Result (Unit {0}) Stop → Type 0
-Quietly refusal next new (Ok _) = (refusal ≡ None) × next new
-Quietly refusal next new (Err (Refused reason)) = refusal ≡ Some reason
-Quietly refusal next new (Err OutletFault) = ⊥
-Quietly refusal next new (Err Memory) = Unit {0}
+abbrev pub Quietly : Option Refusal → (next same : LivingSink → Type 0) → LivingSink → Result (Unit {0}) Stop → Type 0
+Quietly refusal next same new (Ok _) = (refusal ≡ None) × next new
+Quietly refusal next same new (Err (Refused reason)) = (refusal ≡ Some reason) × same new
+Quietly refusal next same new (Err OutletFault) = ⊥
+Quietly refusal next same new (Err Memory) = Unit {0}
 
 -- ---- a line that means this source
 
@@ -42,10 +43,10 @@ Next source step made its life received living =
 
 abbrev pub Prints : Source → Step → Made → Option ℕ → List Call → List sinks.Call → List ℕ → List ℕ → LivingSink → Result (Unit {0}) Stop → Type 0
 Prints source step made its life received text told new result =
-    Makes (refused_by step made life) (printed_of source step made life) (Next source step made its life received) text told new result
+    Makes (refused_by step made life) (printed_of source step made life) (Next source step made its life received) (Lives made its life received) text told new result
 
 abbrev pub Does : Source → Step → Made → Option ℕ → List Call → List sinks.Call → LivingSink → Result (Unit {0}) Stop → Type 0
-Does source step made its life received new result = Quietly (refused_by step made life) (Next source step made its life received) new result
+Does source step made its life received new result = Quietly (refused_by step made life) (Next source step made its life received) (Lives made its life received) new result
 
 -- ---- calls on a link
 

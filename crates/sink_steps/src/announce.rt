@@ -33,7 +33,7 @@ impl LivingSink {
             → source.announced ≡ train.now → Lives made its life received self.old
             → Makes (refused_by (Announce sink) made life) (printed_of source (Announce sink) made life)
             (Lives made (source_by source (Announce sink) (Some made) life its) (lived_by source (Announce sink) (Some made) life)
-            (received_by source (Announce sink) (Some made) life (lived_by source (Announce sink) (Some made) life) received)) text.old text.new self.new result }
+            (received_by source (Announce sink) (Some made) life (lived_by source (Announce sink) (Some made) life) received)) (Lives made its life received) text.old text.new self.new result }
     {
         put_train(text, sink, train)?;
         let ext = train.ext.as_slice();

@@ -1,5 +1,6 @@
-ghost use Rattle.std.specs.Prelude.{◌≡◌};
+ghost use Rattle.std.specs.Prelude.{◌≡◌, Some};
 ghost use Rattle.unit_outlets.specs.declared.fault.OutletFault.TheVariants.{Memory};
+ghost use Rattle.unit_outlets.specs.Texts.{outlet_text, taker_text};
 
 use std::error::Error;
 use std::fmt;
@@ -14,6 +15,8 @@ pub enum TakerFault {
 }
 
 impl fmt::Display for TakerFault {
+    ghost output = { λ fault. Some (taker_text fault) };
+
     fn fmt<W: fmt::Write>(&self, f: &mut fmt::Formatter<W>) -> fmt::Result {
         match self {
             TakerFault::Failed => write!(f, "the taker failed"),
@@ -34,6 +37,8 @@ pub enum OutletFault {
 }
 
 impl fmt::Display for OutletFault {
+    ghost output = { λ fault. Some (outlet_text fault) };
+
     fn fmt<W: fmt::Write>(&self, f: &mut fmt::Formatter<W>) -> fmt::Result {
         match self {
             OutletFault::Failed => write!(f, "the box failed"),

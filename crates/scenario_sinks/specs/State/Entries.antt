@@ -47,9 +47,9 @@ abbrev pub LineMakes : Made → Option ℕ → List links.Call → List Call →
 LineMakes made own life received source step text told living result =
     Makes (refused_by step made life) (printed_of source step made life)
     (Lives made (source_by source step (Some made) life own) (lived_by source step (Some made) life)
-    (received_by source step (Some made) life (lived_by source step (Some made) life) received)) text told living result
+    (received_by source step (Some made) life (lived_by source step (Some made) life) received)) (Lives made own life received) text told living result
 
--- a line names it, which means this source: it is refused, or else prints its lines behind a text
+-- a line names it, which means this source: it is refused and the entry is as before, or else it prints its lines behind a text
 abbrev pub EntryRuns : Option ℕ → Option Made → Option ℕ → List links.Call → List Call → Source → Step → Option Sink → (text told : List ℕ) → Result (Unit {0}) Stop → Type 0
 EntryRuns box made own life received source line entry text told (Ok _) =
     (refused_where line made life ≡ None)
@@ -57,6 +57,6 @@ EntryRuns box made own life received source line entry text told (Ok _) =
     (received_by source line made life (lived_by source line made life) received) (Some entry)
     × (told ≡ text ++ concat (printed_where source line made life))
 EntryRuns box made own life received source line entry text told (Err (Refused reason)) =
-    (refused_where line made life ≡ Some reason) × (told ≡ text)
+    (refused_where line made life ≡ Some reason) × EntryIs box made own life received (Some entry) × (told ≡ text)
 EntryRuns box made own life received source line entry text told (Err OutletFault) = ⊥
 EntryRuns box made own life received source line entry text told (Err Memory) = Unit {0}

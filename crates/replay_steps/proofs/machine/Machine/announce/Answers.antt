@@ -7,18 +7,19 @@ use Rattle.replay_steps.proofs.machine.Machine.announce.Goals as goal
 
 pub returns-then-not-is_sending : goal.returns-then-not-is_sending
 returns-then-not-is_sending c starts version steps stands e =
-    (announce_early (length starts) version c.args.sink steps e (sym (c.is_sending.ensures steps stands.sources) ∙ c.if-not-is_sending.true), refl)
+    (announce_early (length starts) version c.args.sink steps e (sym (c.is_sending.ensures steps stands.sources) ∙ c.if-not-is_sending.true), stands, refl)
 
 pub returns-then-not-lives : goal.returns-then-not-lives
 returns-then-not-lives c starts version steps stands e = (
   announce_nowhere (length starts) version c.args.sink steps e (sym (c.is_sending.ensures steps stands.sources) ∙ c.if-not-is_sending.false)
       (sym (c.lives.ensures (past_of steps) stands.sinks) ∙ c.if-not-lives.true),
+  stands,
   refl,
 )
 
 pub returns-in-Err : goal.returns-in-Err
 returns-in-Err c starts version steps stands e =
-    announce_fails starts version c.args.sink steps c.args.self.now c.args.text.now c.in-Err.stop e
+    announce_fails starts version c.args.sink steps c.args.self.now c.args.text.now c.in-Err.stop stands e
     (sym (c.is_sending.ensures steps stands.sources) ∙ c.if-not-is_sending.false)
     (sym (c.lives.ensures (past_of steps) stands.sinks) ∙ c.if-not-lives.false) (c.in-Err.ensures.announces steps stands.sources)
 

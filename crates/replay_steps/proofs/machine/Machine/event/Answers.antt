@@ -8,7 +8,7 @@ use Rattle.replay_steps.proofs.machine.Machine.event.Goals as goal
 
 pub returns-in-Err : goal.returns-in-Err
 returns-in-Err g c starts version steps stands e =
-    event_refused starts version steps (record c.args.self.now { sources = c.perform.new.self }) c.args.text.now _ c.in-Err.stop
+    event_refused starts version steps c.args.self.now (record c.args.self.now { sources = c.perform.new.self }) c.args.text.now _ c.in-Err.stop stands refl refl
     (record { stage = λ stage. refl; placed = λ v. refl; refusal = λ boxes steps. refl }) e (c.in-Err.ensures.performs version steps stands.sources)
 
 pub returns-in-Err-close : goal.returns-in-Err-close

@@ -6,7 +6,7 @@ use Rattle.replay_steps.proofs.machine.Machine.hear.Goals as goal
 
 pub returns-in-Err : goal.returns-in-Err
 returns-in-Err c boxes version steps stands e =
-    reach_fails boxes version c.args.sink steps (HearStep c.args.sink c.args.place.back c.args.place.bis c.args.place.subevent) c.args.self.now c.in-Err.stop
+    reach_fails boxes version c.args.sink steps (HearStep c.args.sink c.args.place.back c.args.place.bis c.args.place.subevent) c.args.self.now c.in-Err.stop stands
     (hear_brings c.args.sink c.args.place.back c.args.place.bis c.args.place.subevent) e (c.in-Err.ensures steps stands)
 
 pub returns-in-Ok-heard_at : goal.returns-in-Ok-heard_at
@@ -21,5 +21,5 @@ pub returns-in-Err-heard_at : goal.returns-in-Err-heard_at
 returns-in-Err-heard_at c boxes version steps stands e =
     let reach = c.in-Ok.ensures steps stands in
     place_fails boxes version c.args.sink c.args.place.back c.args.place.bis c.args.place.subevent steps (HearStep c.args.sink c.args.place.back c.args.place.bis c.args.place.subevent)
-    c.args.self.now c.in-Ok.field-0 c.in-Err-heard_at.stop
+    c.args.self.now c.in-Ok.field-0 c.in-Err-heard_at.stop stands
     (hear_brings c.args.sink c.args.place.back c.args.place.bis c.args.place.subevent) refl e reach (c.in-Err-heard_at.ensures.err steps stands.sources reach.0)

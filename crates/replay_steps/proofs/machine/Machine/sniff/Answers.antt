@@ -5,7 +5,7 @@ use Rattle.replay_steps.proofs.machine.Machine.sniff.Goals as goal
 
 pub returns-in_default : goal.returns-in_default
 returns-in_default c starts version steps stands e =
-    (sniff_early (length starts) version c.args.place.back c.args.place.bis c.args.place.subevent steps e (c.in_default.ensures steps stands.sources), refl)
+    (sniff_early (length starts) version c.args.place.back c.args.place.bis c.args.place.subevent steps e (c.in_default.ensures steps stands.sources), stands, refl)
 
 pub returns-in-Ok-put_pdu : goal.returns-in-Ok-put_pdu
 returns-in-Ok-put_pdu c starts version steps stands e =
@@ -17,5 +17,5 @@ returns-in-Ok-put_pdu c starts version steps stands e =
 
 pub returns-in-Err : goal.returns-in-Err
 returns-in-Err c starts version steps stands e =
-    sniff_fails starts version c.args.place.back c.args.place.bis c.args.place.subevent steps c.args.self.now c.args.text.now c.in-Err.stop e (c.in-Some.ensures steps stands.sources).0
+    sniff_fails starts version c.args.place.back c.args.place.bis c.args.place.subevent steps c.args.self.now c.args.text.now c.in-Err.stop stands e (c.in-Some.ensures steps stands.sources).0
     (c.in-Err.ensures.err steps stands.sources (c.in-Some.ensures steps stands.sources).0)

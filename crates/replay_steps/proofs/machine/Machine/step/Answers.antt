@@ -5,7 +5,7 @@ use Rattle.replay_steps.proofs.machine.Machine.step.Goals as goal
 
 pub returns-in-Over : goal.returns-in-Over
 returns-in-Over g c starts steps stands boxes =
-    refused_after_end starts (number_of c.in-Over.field-0) steps c.args.step c.args.self.now c.args.text.now _ (sym stands.stage ∙ ap stage_in c.in-Over.is)
+    refused_after_end starts (number_of c.in-Over.field-0) steps c.args.step c.args.self.now c.args.text.now _ stands (sym stands.stage ∙ ap stage_in c.in-Over.is)
 
 pub returns-in-Running : goal.returns-in-Running
 returns-in-Running g c starts steps stands boxes =

@@ -6,7 +6,7 @@ use Rattle.replay_steps.proofs.machine.Machine.stop.Goals as goal
 
 pub returns-in-Err : goal.returns-in-Err
 returns-in-Err g c starts version steps stands e =
-    close_refused starts version steps StopStep (record c.args.self.now { sources = c.stop.new.self }) c.args.text.now _ c.in-Err.stop (record {
+    close_refused starts version steps StopStep c.args.self.now (record c.args.self.now { sources = c.stop.new.self }) c.args.text.now _ c.in-Err.stop stands refl refl (record {
       stage = λ stage. refl;
       placed = λ v.
           refl;

@@ -6,7 +6,7 @@ use Rattle.replay_steps.proofs.machine.Machine.terminate.Goals as goal
 
 pub returns-in-Err : goal.returns-in-Err
 returns-in-Err g c starts version steps stands e =
-    terminate_refused starts version c.args.reason steps (record c.args.self.now { sources = c.terminate.new.self }) c.args.text.now _ c.in-Err.stop
+    terminate_refused starts version c.args.reason steps c.args.self.now (record c.args.self.now { sources = c.terminate.new.self }) c.args.text.now _ c.in-Err.stop stands refl refl
     (record { stage = λ stage. refl; placed = λ v. refl; refusal = λ boxes steps. refl }) e (c.in-Err.ensures.ends version steps stands.sources)
 
 pub returns-in-Err-close : goal.returns-in-Err-close

@@ -6,7 +6,8 @@ use Rattle.sink_steps.proofs.sink.LivingSink.apart.Goals as goal
 
 pub returns-then-not-is_joined : goal.returns-then-not-is_joined
 returns-then-not-is_joined c source sink made its life received lives =
-    ap (λ b. link_refusal b None) (sym (c.is_joined.ensures made its life received lives).0 ∙ c.if-not-is_joined.true)
+    let there = c.is_joined.ensures made its life received lives in
+    (ap (λ b. link_refusal b None) (sym there.0 ∙ c.if-not-is_joined.true), there.1)
 
 pub returns : goal.returns
 returns c source sink made its life received lives =

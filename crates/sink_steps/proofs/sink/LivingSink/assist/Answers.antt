@@ -1,6 +1,6 @@
-use Rattle.std.proofs.Common.{Err, ap, sym, ◌∙◌}
+use Rattle.std.proofs.Common.{Err, refl, ap, sym, ◌∙◌}
 use Rattle.link_histories.specs.Calls.{is_joined, joined}
-use Rattle.sink_steps.proofs.Grown.{its_joined, lives_more}
+use Rattle.sink_steps.proofs.Grown.{its_joined, lives_more, lives_on}
 use Rattle.sink_steps.proofs.Joins.{not_twice, twice_refusal}
 use Rattle.sink_steps.proofs.sink.LivingSink.assist.Goals as goal
 
@@ -12,6 +12,8 @@ returns-in-Ok c source sink made its life received lives =
     )
 
 pub returns-in-Err-LinkTwice : goal.returns-in-Err-LinkTwice
-returns-in-Err-LinkTwice c source sink made its life received lives =
-    ap twice_refusal (sym (its_joined c.args.link made its life received c.args.self.now lives)
-    ∙ (c.assist.ensures.twice made.setup made.mtu lives.all lives.stands).0 (c.in-Err-LinkTwice.is ∙ ap Err c.in-Err-LinkTwice.field-0-is))
+returns-in-Err-LinkTwice c source sink made its life received lives = (
+  ap twice_refusal (sym (its_joined c.args.link made its life received c.args.self.now lives)
+      ∙ (c.assist.ensures.twice made.setup made.mtu lives.all lives.stands).0 (c.in-Err-LinkTwice.is ∙ ap Err c.in-Err-LinkTwice.field-0-is)),
+  lives_on made its life received c.args.self.now _ lives (c.in-Err-LinkTwice.ensures.err made.setup made.mtu lives.all lives.stands) refl,
+)

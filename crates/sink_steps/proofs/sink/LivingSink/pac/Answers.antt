@@ -1,11 +1,11 @@
-use Rattle.std.proofs.Common.{subst}
+use Rattle.std.proofs.Common.{refl, subst}
 use Rattle.delegator_states.specs.States.{record_added, sight_of}
 use Rattle.link_histories.specs.Calls.{stepped, steps_of}
 use Rattle.ltv_codec.proofs.Citable.{are_read}
 use Rattle.octet_fields.specs.Spelling.{IsOctets}
 use Rattle.pacs_records.specs.Pushes.{RefusesPush}
 use Rattle.sink_histories.specs.Lives.{record_of}
-use Rattle.sink_steps.proofs.Grown.{its_same, lives_more}
+use Rattle.sink_steps.proofs.Grown.{its_same, lives_more, lives_on}
 use Rattle.sink_steps.proofs.Recorded.{has_room, no_room}
 use Rattle.sink_steps.proofs.sink.LivingSink.pac.Goals as goal
 
@@ -26,7 +26,9 @@ returns-in-Ok c source sink made its life received lives =
 pub returns-in-Err-TooLong : goal.returns-in-Err-TooLong
 returns-in-Err-TooLong c source sink made its life received lives =
     let same = its_same made its life received c.args.self.now lives in
-    let entry = record_of c.args.codec c.args.caps c.args.metadata in
-    no_room made entry lives.all life same
-    (subst (λ fault. RefusesPush fault (sight_of made.setup (steps_of lives.all)).capability.entries entry) c.in-Err-TooLong.field-0-is
-    (c.in-Err-TooLong.ensures.refused made.setup made.mtu lives.all lives.stands))
+    let entry = record_of c.args.codec c.args.caps c.args.metadata in (
+      no_room made entry lives.all life same
+          (subst (λ fault. RefusesPush fault (sight_of made.setup (steps_of lives.all)).capability.entries entry) c.in-Err-TooLong.field-0-is
+          (c.in-Err-TooLong.ensures.refused made.setup made.mtu lives.all lives.stands)),
+      lives_on made its life received c.args.self.now _ lives (c.in-Err-TooLong.ensures.err made.setup made.mtu lives.all lives.stands) refl,
+    )

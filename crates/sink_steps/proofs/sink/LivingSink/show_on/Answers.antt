@@ -6,7 +6,8 @@ use Rattle.sink_steps.proofs.sink.LivingSink.show_on.Goals as goal
 
 pub returns-then-not-is_joined : goal.returns-then-not-is_joined
 returns-then-not-is_joined c source made its life received lives =
-    (no_link (is_joined c.args.link life) None (sym (c.is_joined.ensures made its life received lives).0 ∙ c.if-not-is_joined.true), refl)
+    let there = c.is_joined.ensures made its life received lives in
+    (no_link (is_joined c.args.link life) None (sym there.0 ∙ c.if-not-is_joined.true), there.1, refl)
 
 pub returns : goal.returns
 returns c source made its life received lives =

@@ -12,6 +12,7 @@ pub returns-then-not-is_joined : goal.returns-then-not-is_joined
 returns-then-not-is_joined c source made its life received lives = (
   no_link (is_joined c.args.link life) (idle_refusal (is_none (slice_get (notices_waiting made.setup made.mtu c.args.link life) 0)))
       (sym (c.is_joined.ensures made its life received lives).0 ∙ c.if-not-is_joined.true),
+  (c.is_joined.ensures made its life received lives).1,
   refl,
 )
 
