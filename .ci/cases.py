@@ -155,6 +155,12 @@ class Walk(SinkCases):
         if framing == 'unframed':
             m = -(-has['max_sdu'] // has['max_pdu'])
             self.count('groups', f'unframed, {"a PDU" if m == 1 else "several PDUs"} a unit')
+        if has['num_bis'] * has['nse'] == 961:
+            self.count('greatest numbers', '961 PDUs an event')
+        if (has['horizon'] + 1) * has['bn'] == 217:
+            self.count('greatest numbers', '217 payloads in a window')
+        if len(source.subgroups) == 24:
+            self.count('greatest numbers', '24 subgroups of a BASE')
         self.count('BASE', f'{len(source.subgroups) if len(source.subgroups) < 3 else "3 or more"} subgroups')
         self.count('sources', f'started with {sum(it.is_started for it in self.sources)}')
 
@@ -167,9 +173,11 @@ class Walk(SinkCases):
             self.count('the payload counter', f'the last event, {has["framing"]}')
         if source.performed > 32:
             self.count('sources', 'more than 32 events')
-        for line in printed:
-            if line[0] == 'stale':
-                self.count('framed units', 'left out')
+        left_out = [line[1] for line in printed if line[0] == 'stale']
+        for bis in left_out:
+            self.count('framed units', 'left out')
+        if any(left_out.count(bis) == 16 for bis in left_out):
+            self.count('greatest numbers', '16 units of a stream left out at once')
         self.units(printed)
 
     def do_stop(self, words, source, printed):

@@ -1,12 +1,13 @@
 #!/usr/bin/env python3
-"""coverage.py [--all]: counts how often each case comes in the worked rows of the tests, the examples and the corpus, and prints a
-table. It fails where one that can come never does. With --all every case is printed with its count.
+"""coverage.py [--all] [--write]: counts how often each case comes in the worked rows of the tests, the examples and the corpus, and
+prints a table, or writes it into docs/gate.md. It fails where one that can come never does. With --all every case has its count.
 
 Not asked for, since they can't come yet: the refusals RelayTaken, Relayed, BadToml and BadDocument."""
 import collections
 import os
 import sys
 
+sys.dont_write_bytecode = True
 sys.path.insert(0, os.path.dirname(os.path.abspath(__file__)))
 import cases  # noqa: E402
 import scenarios  # noqa: E402
@@ -15,7 +16,9 @@ from cases import LINES, SINK_LINES  # noqa: E402
 VERSION_2 = ('assist', 'apart', 'awrite', 'aserve', 'atell', 'aread', 'adrain', 'ashow', 'source', 'relay')
 OF_LINKS = VERSION_2[:8]
 FRAMINGS = ('unframed', 'framed')
-FEW = 24  # as many cases are printed with their counts
+FEW = 24  # so many cases of a kind are printed with their counts
+GATE = os.path.join(scenarios.TOP, 'docs', 'gate.md')
+HEAD = '| What | Read from | How often |\n|---|---|---|\n'
 
 DESCRIBING = ('group', 'ident', 'subgroup', 'meta', 'bis', 'cipher', 'start')
 ON_AIR = ('hear', 'air', 'inject', 'sniff')
@@ -178,9 +181,7 @@ KINDS = {
               + ['a stream at most', 'some streams at most', '31 streams at most', 'tuned to a stream', 'tuned to some streams', 'tuned to 31 streams',
                  'a number a second time', 'from one source to the other']),
     'subgroups wanted': ('an `add` or `modify` line', ('0', '1', '2', '3 to 30', '31')),
-    'subgroups of a state': ('the octets of a `state` line', ('0', '1', '2', '3 or more')),
-    'subgroups of a view': ('the octets of a `view` line', ('0', '1', '2', '3 or more')),
-    'subgroups of a aview': ('the octets of an `aview` line', ('0', '1', '2', '3 or more')),
+    'subgroups of a value': ('the octets of a `state`, `view` or `aview` line', [f'{it} {much}' for it in ('state', 'view', 'aview') for much in ('0', '1', '2', '3 or more')]),
     'sources': ('the lines of both sources', ('0', '1', 'started with 1', 'started with 2', 'more than 32 events', 'the event 31 before the last',
                                              'open at the end: 0', 'open at the end: 1', 'open at the end: 2')),
     'BASE': ('the `subgroup` lines of a source that is started', ('0 subgroups', '1 subgroups', '2 subgroups', '3 or more subgroups')),
@@ -195,6 +196,10 @@ KINDS = {
                                                                'an empty unit', 'TimeOffset 0', 'TimeOffset 16,777,215')),
     'the payload counter': ('`start`, the `event` lines and the `group` line',
                             [f'{what}, {it}' for it in FRAMINGS for what in ('the last event', 'the last train', 'event refused', 'announce refused')]),
+    'greatest numbers': ('what the rows above are read from',
+                         ('961 PDUs an event', '217 payloads in a window', '24 subgroups of a BASE', '16 units of a stream left out at once', '73 records',
+                          '99 subgroups of a write', 'more than 32 writes of a drain', 'more than 32 notices of a drain', '512 octets, notice',
+                          '512 octets, anotice', '512 octets, aread', '512 octets, state', '512 octets, view')),
     'words': ('the words of the command line and the exit status', ('--migrate, status 0', '--seed, status 0', '--events, status 0', '--migrate, status 2',
                                                                     '--seed, status 2', '--events, status 2')),
 }
@@ -210,20 +215,33 @@ def row_of(kind, source, counts, is_all):
     return f'| {kind} | {source} | {told} |'
 
 
+def write(table):
+    """Puts the table in the place of the one that docs/gate.md has."""
+    with open(GATE, encoding='utf-8') as file:
+        before, _, rest = file.read().partition(HEAD)
+    after = rest[rest.index('\n\n') + 1:]
+    with open(GATE, 'w', encoding='utf-8') as file:
+        file.write(before + table + after)
+
+
 def main():
     counts, number = collections.Counter(), 0
     for _, scenario in scenarios.everything():
         number += 1
         cases.count_cases(counts, scenario)
     missing = total = 0
-    print('| What | Read from | How often |\n|---|---|---|')
+    table = HEAD
     for kind, (source, names) in KINDS.items():
         has = {str(name): counts[kind, str(name)] for name in names}
-        print(row_of(kind, source, has, '--all' in sys.argv))
+        table += row_of(kind, source, has, '--all' in sys.argv) + '\n'
         total += len(has)
         for name in (it for it in has if not has[it]):
             missing += 1
             print(f'never: {kind}: {name}', file=sys.stderr)
+    if '--write' in sys.argv:
+        write(table)
+    else:
+        print(table, end='')
     print(f'coverage: {number} scenarios, {total} cases, {missing} that never come', file=sys.stderr)
     return 1 if missing else 0
 

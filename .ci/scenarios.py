@@ -12,6 +12,7 @@ TOO_LONG = re.compile(r'b"(line \d+: (?:TextTooLong|LineTooLong))\\n"')
 REPEATED = re.compile(r'\{([^{}]*)\*(\d+)\}')
 OCTET = re.compile(rb'\\x([0-9a-f]{2})')
 STEP = re.compile(r'(\d*)>(?: (.*))?')
+MANY = re.compile(r'(\d+)< (.*)')
 
 # The lines of a transcript that a step may print, by their first words, in order.
 PRINTS = {
@@ -87,13 +88,15 @@ def corpus_file(path):
                 is_whole = not text.endswith('\\')
                 steps += [(octets_of(text.removesuffix('\\')), []) for _ in range(int(step[1] or 1))]
             else:
+                many = MANY.fullmatch(line)
+                line = many[2] if many else line
                 is_ended = not line.endswith('\\')
                 printed = octets_of(line.removesuffix('\\'))
                 if not (words or is_refusal(printed) or steps and is_of(steps[-1][0], printed)):
                     raise ValueError(f'{path}:{place}: the line above does not print this')
                 if not steps:
                     steps.append((None, []))
-                steps[-1][1].append(printed)
+                steps[-1][1].extend([printed] * int(many[1] if many else 1))
 
 
 def corpus():

@@ -10,6 +10,7 @@ class Sink:
     def __init__(self, words):
         self.slots, self.mtu = int(words[3]), int(words[4]) if len(words) > 4 else None
         self.links, self.held, self.place, self.source, self.framing = {0: []}, {}, ('idle', None), 0, None
+        self.records = 0
 
 
 def where(place):
@@ -37,8 +38,11 @@ class SinkCases:
     def do_drop(self, words, _source, _printed):
         self.count('sinks', f'dropped, {where(self.sinks.pop(words[1]).place)}')
 
-    def moved(self, sink, place):
-        sink.place = place
+    def do_pac(self, words, _source, _printed):
+        sink = self.sinks[words[1]]
+        sink.records += 1
+        if sink.records == 73:
+            self.count('greatest numbers', '73 records')
 
     def of_source(self, sink, framing):
         if sink.framing and sink.source != self.chosen:
@@ -49,12 +53,12 @@ class SinkCases:
         sink = self.sinks[words[1]]
         self.count('places', f'tuned, {where(sink.place)}')
         self.count('sinks', f'tuned to {"a stream" if len(words) == 3 else "31 streams" if len(words) == 33 else "some streams"}')
-        self.moved(sink, ('group', None))
+        sink.place = ('group', None)
         self.of_source(sink, source.group[1])
 
     def do_lose(self, words, _source, _printed):
         self.count('places', f'lose, {where(self.sinks[words[1]].place)}')
-        self.moved(self.sinks[words[1]], ('idle', None))
+        self.sinks[words[1]].place = ('idle', None)
 
     def do_control(self, words, _source, printed):
         sink, answer = self.sinks[words[1]], ' '.join(printed[0][2:])
@@ -62,7 +66,7 @@ class SinkCases:
         if answer in ('Left', 'MapIgnored'):
             self.count('places', f'{answer}, {where(sink.place)}')
         if answer == 'Left':
-            self.moved(sink, ('train', sink.place[1]) if sink.place[1] is not None else ('idle', None))
+            sink.place = ('train', sink.place[1]) if sink.place[1] is not None else ('idle', None)
 
     def do_announce(self, words, source, printed):
         self.train(words, source, printed[0][3:6], printed[1])
@@ -85,7 +89,7 @@ class SinkCases:
         if answer in LATE + ('OnGroup',):
             key = (source.ident[0], source.ident[1], structure(octets(parts[0]), 0x16, b'\x52\x18')[:3].hex())
             wanted = [source_id for source_id, held in sink.held.items() if held[0] == key and held[1]]
-            self.moved(sink, ('group' if answer == 'OnGroup' else 'train', wanted[0] if wanted else -1))
+            sink.place = ('group' if answer == 'OnGroup' else 'train', wanted[0] if wanted else -1)
             info = structure(octets(parts[2]), 0x2c) or b''
             self.of_source(sink, 'framed' if len(info) > 32 and info[32] & 0x80 else 'unframed')
             if len(info) == 57 and answer in ('BadGroup', 'NoneTaken', 'OnGroup'):
@@ -106,6 +110,9 @@ class SinkCases:
             self.count('links', 'parted with a write' if sink.links.pop(link) else 'parted')
         elif words[0] in ('write', 'awrite', 'add', 'modify', 'remove', 'code'):
             sink.links[link].append(operation(words))
+            pairs = sink.links[link][-1][3] or ()
+            if len(pairs) == 99:
+                self.count('greatest numbers', '99 subgroups of a write')
             waiting = len(sink.links[link])
             self.count('writes that wait', waiting if waiting < 9 else '9 or more')
             if words[0] in ('add', 'modify'):
@@ -120,6 +127,8 @@ class SinkCases:
                 many = sum(it[0].removeprefix('a') == kind or it[0] == kind for it in printed)
                 name = {'reply': 'writes', 'notice': 'notices', 'read': 'reads'}[kind]
                 self.count(f'{name} of a drain', many if many < 9 else '9 or more')
+                if many > 32:
+                    self.count('greatest numbers', f'more than 32 {name} of a drain')
                 if many > 8 or many == 8 and kind == 'read':
                     self.count('long drains', f'{words[0]}: {"more than eight " if many > 8 else "eight "}{name}')
 
@@ -130,9 +139,11 @@ class SinkCases:
         if kind in ('notice', 'read', 'state', 'view', 'anotice', 'aread', 'aview'):
             self.count('slots', f'{kind} {has[-2]}')
             value = octets(has[-1])
+            if len(value) == 512:
+                self.count('greatest numbers', f'512 octets, {kind}')
             if kind.endswith(('view', 'state')) and len(value) > 14:
                 groups = value[14 + (16 if value[13] == 3 else 0)]
-                self.count(f'subgroups of a {kind}', groups if groups < 3 else '3 or more')
+                self.count('subgroups of a value', f'{kind} {groups if groups < 3 else "3 or more"}')
             if kind.endswith('notice'):
                 edge = 'no MTU' if sink.mtu is None else 'at MTU - 3' if len(value) >= sink.mtu - 3 else 'below MTU - 3'
                 self.count('notices', edge)
@@ -173,7 +184,7 @@ class SinkCases:
             same = 'the same streams' if wishes == sink.held[key][2] else 'others'
             self.count('PA_Sync', f'Modify {pa_sync}, {same}, {here}')
             if here != 'elsewhere' and pa_sync == 0:
-                self.moved(sink, ('idle', None))
+                sink.place = ('idle', None)
             elif here == 'on the group of a slot' and same == 'others':
-                self.moved(sink, ('train', key))
+                sink.place = ('train', key)
             sink.held[key] = (sink.held[key][0], pa_sync, wishes)
