@@ -1,0 +1,11 @@
+mod Lives
+mod Said
+mod Same
+mod Units
+mod Moves
+mod Kept
+mod Left
+mod Elsewhere
+mod Lines
+mod Steps
+mod Isolated

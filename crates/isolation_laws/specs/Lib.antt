@@ -1,0 +1,3 @@
+pub mod Isolation
+pub mod Only
+pub mod Rows
