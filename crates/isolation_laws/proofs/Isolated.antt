@@ -128,6 +128,7 @@ none_same airs s n = record {
   calls = refl;
   boxed = refl;
   units = refl;
+  took = λ box other its its'. refl;
 }
 
 same_if : (airs : Airs) (s n : ℕ) (step : Step) (made : List Step) (hit : Bool) → is_kept s n made step ≡ hit
@@ -188,6 +189,7 @@ isolated airs s n made puts_not =
       source = same.source;
       calls = same.calls;
       units = same.units;
+      sums = same.took;
       lives = λ sink is. same_life sink (life n made) (life n (only s n made))
           (subst (λ m. LivesAlike m (life n made) (life n (only s n made))) is same.lives);
       lines = lines_kept airs s n made puts_not;

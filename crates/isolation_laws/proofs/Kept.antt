@@ -19,6 +19,7 @@ use Rattle.isolation_laws.specs.Isolation.{units_by}
 use Rattle.isolation_laws.proofs.Moves.{Sourced, cond_same, life_grows, moved_same, sourced_same}
 use Rattle.isolation_laws.proofs.Said.{back_same, hear_same, heard_same, said_grows, tuning_same}
 use Rattle.isolation_laws.proofs.Same.{LivesAlike, Same, chosen_alike, horizon_alike, own_alike, source_alike}
+use Rattle.isolation_laws.proofs.Sums.{kept_took}
 use Rattle.isolation_laws.proofs.Units.{both_alike, closing_alike, opens_alike, units_append}
 
 -- the step means this source, where it is a source line
@@ -241,4 +242,5 @@ kept airs s n step made others means same =
       calls = calls_grow airs s n step made others means same lives;
       boxed = boxed_grows airs s n step made others same;
       units = units_grow airs s n step made others same;
+      took = kept_took airs n step made others same.took (handed_same airs s n step made others same);
     }

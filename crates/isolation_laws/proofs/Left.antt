@@ -23,6 +23,7 @@ use Rattle.isolation_laws.specs.Only.{is_other, sink_in}
 use Rattle.isolation_laws.proofs.Lives.{alike_itself, alike_then}
 use Rattle.isolation_laws.proofs.Said.{Said, said_after, said_of, said_stays}
 use Rattle.isolation_laws.proofs.Same.{LivesAlike, Same}
+use Rattle.isolation_laws.proofs.Sums.{left_took}
 use Rattle.isolation_laws.proofs.Units.{units_append}
 
 -- ---- what a step leaves
@@ -64,6 +65,7 @@ left_out airs s n step made others leaves same = record {
   boxed = ap is_some leaves.boxed ∙ same.boxed;
   units = units_append n (handed_up airs made) (handed_by airs made step) ∙ ap (λ us. units_by n (handed_up airs made) ++ us) leaves.units
       ∙ append-nil (units_by n (handed_up airs made)) ∙ same.units;
+  took = left_took airs n step made others same.took leaves.units leaves.boxed;
 }
 
 -- ---- another sink is named

@@ -1,5 +1,6 @@
 mod Lives
 mod Said
+mod Sums
 mod Same
 mod Units
 mod Moves

@@ -12,6 +12,7 @@ use Rattle.scenario_history.specs.Worlds.{life, source_at}
 use Rattle.sink_histories.specs.Lives.{Made, horizon_in, horizon_of, made_of, version_given}
 use Rattle.isolation_laws.specs.Isolation.{units_by}
 use Rattle.isolation_laws.proofs.Lives.{Alike}
+use Rattle.isolation_laws.proofs.Sums.{TookAlike}
 use Rattle.isolation_laws.proofs.Said.{chosen_said, said_of, source_same}
 
 -- two lives of a sink that lives come to the same
@@ -30,6 +31,7 @@ pub record Same (airs : Airs) (s n : ℕ) (made others : List Step) : Type 0 whe
   pub calls : sink_calls airs n made ≡ sink_calls airs n others
   pub boxed : is_some (box_of n made) ≡ is_some (box_of n others)
   pub units : units_by n (handed_up airs made) ≡ units_by n (handed_up airs others)
+  pub took : TookAlike airs n made others
 
 pub chosen_alike : (airs : Airs) (s n : ℕ) (made others : List Step) → Same airs s n made others → chosen_of made ≡ chosen_of others
 chosen_alike airs s n made others same = ap (λ given. unwrap_or given 0) same.chosen

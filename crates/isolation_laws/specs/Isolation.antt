@@ -16,7 +16,7 @@ use Rattle.sink_histories.specs.Moves.{follows_by, train_by}
 use Rattle.sink_histories.specs.Output.{replied, sight_in}
 use Rattle.transcript_text.specs.Lines.{control_line, handed_line}
 use Rattle.scenario_history.specs.Airs.{MeetAirs}
-use Rattle.scenario_history.specs.Boxes.{SinkUnit, closing, closing_both, handed_up}
+use Rattle.scenario_history.specs.Boxes.{SinkUnit, box_of, closing, closing_both, handed_up, valid_for}
 use Rattle.scenario_history.specs.Lines.{rules_of, steps_of}
 use Rattle.scenario_history.specs.Output.{output_of, stale_lines}
 use Rattle.scenario_history.specs.Sinks.{sink_calls, source_of}
@@ -98,15 +98,17 @@ pub record IsSameLife (made : Made) (calls others : List Call) : Type 0 where
   pub reads : (link slot : ℕ) → read_waits made.setup made.mtu link slot calls ≡ read_waits made.setup made.mtu link slot others
   pub views : (link slot : ℕ) → view made.setup made.mtu link slot calls ≡ view made.setup made.mtu link slot others
 
--- sink `n` after these steps, and after only those that are kept for it and source `s`: it lives with the same limits, it is of the
--- same source, its receivers took the same groups, PDUs and closes, it handed up the same units, valid and lost, each with its
--- time, and it and the assistants on its links stand alike; and what the kept steps print of it, of its assistants and of the source
--- is the same
+-- sink `n` after these steps, and after only those that are kept for it and source `s`: it lives with the same limits and is of the
+-- same source; its receivers took the same groups, PDUs and closes; it handed up the same units, valid and lost, each with its time,
+-- and its box, whichever that is, took the same since the sink was made; it and the assistants on its links stand alike; and what the
+-- kept steps print of it, of its assistants and of the source is the same
 pub record IsIsolated (airs : Airs) (s n : ℕ) (steps : List Step) : Type 0 where
   pub made : made_of n steps ≡ made_of n (only s n steps)
   pub source : source_of n steps ≡ source_of n (only s n steps)
   pub calls : sink_calls airs n steps ≡ sink_calls airs n (only s n steps)
   pub units : units_by n (handed_up airs steps) ≡ units_by n (handed_up airs (only s n steps))
+  pub sums : (box other : ℕ) → box_of n steps ≡ Some box → box_of n (only s n steps) ≡ Some other
+      → valid_for box (handed_up airs steps) ≡ valid_for other (handed_up airs (only s n steps))
   pub lives : (made : Made) → made_of n steps ≡ Some made → IsSameLife made (life n steps) (life n (only s n steps))
   pub lines : kept_lines airs s n steps ≡ lines_of airs n (only s n steps)
 
