@@ -22,7 +22,7 @@ use Rattle.isolation_laws.proofs.Left.{another_sink, left_out}
 use Rattle.isolation_laws.proofs.Lines.{replied_same}
 use Rattle.isolation_laws.proofs.Lives.{Alike, notices_same, waiting_same}
 use Rattle.isolation_laws.proofs.Same.{LivesAlike, Same}
-use Rattle.isolation_laws.proofs.Steps.{lines_same}
+use Rattle.isolation_laws.proofs.Printed.{lines_same}
 
 -- ---- why a step is left out
 

@@ -8,5 +8,5 @@ mod Kept
 mod Left
 mod Elsewhere
 mod Lines
-mod Steps
+mod Printed
 mod Isolated

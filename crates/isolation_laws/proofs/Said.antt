@@ -63,9 +63,6 @@ said_after step said = record {
   calls = with_source_call step said.calls;
 }
 
-said_more : (step : Step) (own : List Step) → said_of (step ∷ own) ≡ said_after step (said_of own)
-said_more step own = refl
-
 -- ---- what they fix
 
 abbrev setup_in : Said → Setup
@@ -124,10 +121,6 @@ open_same own own' same = ap open_in same
 
 pub back_same : (own own' : List Step) (back : ℕ) → said_of own ≡ said_of own' → event_back own back ≡ event_back own' back
 back_same own own' back same = ap (λ said. back_in said back) same
-
-pub pdu_same : (airs : Airs) (own own' : List Step) (event bis subevent : ℕ) → said_of own ≡ said_of own'
-    → pdu_in airs own event bis subevent ≡ pdu_in airs own' event bis subevent
-pdu_same airs own own' event bis subevent same = ap (λ said. pdu_said airs said event bis subevent) same
 
 -- of the events before the last one performed
 pub pdu_back_same : (airs : Airs) (own own' : List Step) (back bis subevent : ℕ) → said_of own ≡ said_of own'

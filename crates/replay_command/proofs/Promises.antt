@@ -14,6 +14,7 @@ use Rattle.replay_command.specs.Generated.{Generated}
 use Rattle.replay_command.specs.Replayed.{ReadsAtMost, read_limit}
 use Rattle.source_machine.specs.Airs.{airs_of}
 use Rattle.scenario_history.specs.Airs.{MeetAirs}
+use Rattle.isolation_laws.specs.Isolation.{IsolationLaw}
 use Rattle.scenario_laws.specs.Laws.{UnitsLaw, OrderLaw}
 use Rattle.scenario_laws.specs.Links.{AgreementLaw, LinksLaw}
 use Rattle.migration_laws.specs.Laws.{MigrationLaw}
@@ -39,6 +40,7 @@ pub record Laws (boxes : List Account) : Type 0 where
   pub order : OrderLaw boxes
   pub agreement : AgreementLaw
   pub links : LinksLaw
+  pub isolation : IsolationLaw boxes
   pub migration : MigrationLaw boxes
 
 one_of : (boxes : List Account) → Laws boxes → (airs others : Airs) → MeetAirs airs → MeetAirs others → (lines : List TextLine) → transcript_of airs boxes lines ≡ transcript_of others boxes lines
@@ -80,6 +82,7 @@ module _ (old new : World) (status : Status) where
     order_law = laws.order;
     agreement_law = laws.agreement;
     links_law = laws.links;
+    isolation_law = laws.isolation;
     migration_law = laws.migration;
   }
 

@@ -12,6 +12,7 @@ use Rattle.replay_command.specs.declared.status.Status.{Status}
 use Rattle.replay_command.specs.declared.status.Status.TheVariants as statuses
 use Rattle.replay_command.specs.Ended.{AheadOf, Complete, Ended, IsWhole}
 use Rattle.replay_command.specs.Replayed.{ReadsAtMost, read_limit}
+use Rattle.isolation_laws.specs.Isolation.{IsolationLaw}
 use Rattle.scenario_laws.specs.Laws.{UnitsLaw, OrderLaw}
 use Rattle.scenario_laws.specs.Links.{AgreementLaw, LinksLaw}
 use Rattle.migration_laws.specs.Laws.{MigrationLaw}
@@ -73,3 +74,7 @@ pub record Promised (old new : World) (status : Status) : Type 0 where
   -- A text in which no `train` step prints `BadGroup 11`, and whose transcript has no refusal or a refusal other than BadLine,
   -- `BadGroup 11` and TimeOrder, has the same transcript in version 2, with the same end, and hands the boxes the same units.
   pub migration_law : MigrationLaw old.boxes
+  -- Where no step under the other source puts a sink on a train or a group, and no line is `relay`, all that the sink hands up, has,
+  -- answers and is asked, and all that its assistants know, is what it would be without the other sinks and without the lines of the
+  -- other source.
+  pub isolation_law : IsolationLaw old.boxes

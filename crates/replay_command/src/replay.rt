@@ -17,6 +17,7 @@ ghost use Rattle.replay_command.specs.State.Between.{ReadTo, TextIs, NextIs, Run
 use crate::status::Status;
 use bcast_base::{Memory, Octets};
 use bcast_io::{ByteSink, ByteSource, Failed, LineRead, LineReader, SinkFault, write_whole};
+use isolation_laws::isolation_law;
 use migration_laws::migration_law;
 use replay_generated::run_generated;
 use replay_migration::run_migration;
@@ -48,6 +49,9 @@ use unit_outlets::Outlet;
 /// A text in which no `train` step prints `BadGroup 11`, and whose transcript has no refusal or a refusal other than BadLine,
 /// `BadGroup 11` and TimeOrder, brings the same in version 2, as `--migrate` writes it: the same transcript, and the same units to
 /// the boxes.
+///
+/// A sink that no line under the other source puts on a train or a group hands up, has, answers and tells what it would without the
+/// other sinks and without the lines of the other source, in a scenario of which no line is refused and none is `relay`.
 pub fn replay<S: ByteSource, K: ByteSink>(
     alloc: Global,
     words: &Words,
@@ -75,6 +79,7 @@ pub fn replay<S: ByteSource, K: ByteSink>(
     order_law();
     agreement_law();
     links_law();
+    isolation_law();
     migration_law();
     match mode_of(alloc, words) {
         Ok(Mode::Replay) => run(alloc, source, sink, outlets),

@@ -31,6 +31,7 @@ returns-in-Ok-Replay-clause-promised g c =
       order = c.order_law.ensures boxes;
       agreement = c.agreement_law.ensures;
       links = c.links_law.ensures;
+      isolation = c.isolation_law.ensures boxes;
       migration = c.migration_law.ensures boxes;
     }))
 
@@ -55,6 +56,7 @@ returns-in-Err-clause-promised g c =
       order = c.order_law.ensures boxes;
       agreement = c.agreement_law.ensures;
       links = c.links_law.ensures;
+      isolation = c.isolation_law.ensures boxes;
       migration = c.migration_law.ensures boxes;
     })
 
