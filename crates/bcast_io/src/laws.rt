@@ -6,7 +6,6 @@ ghost use Rattle.bcast_io.specs.TextLines.{AreLines, TextLine, lines_of};
 /// the text, up to its limit; each goes to its first end, the last one maybe to the end of the text; one of more than 9,000
 /// octets is too long, and the one that holds octet 67,108,865 of the text is the last. Of a front of a text the line that has
 /// no end yet is none.
-#[tactic(auto, using(crate::proofs::CutTexts::lines_are, crate::proofs::CutTexts::no_others))]
 pub fn a_text_is_its_lines()
     ensures are { (at_end : Bool) (text : List ℕ) → AreLines at_end text (lines_of at_end text) }
     ensures only { (at_end : Bool) (text : List ℕ) (lines : List TextLine) → AreLines at_end text lines → lines ≡ lines_of at_end text }

@@ -22,7 +22,7 @@ use Rattle.replay_command.proofs.LineUnits.{units_line}
 -- ---- a source that tells its text
 
 -- what follows the octets read
-told : (text : List ℕ) (left' : Option (List ℕ)) (front : List ℕ) → Consumes (Some text) left' front → (rest : List ℕ) × (left' ≡ Some rest) × (text ≡ front ++ rest)
+pub told : (text : List ℕ) (left' : Option (List ℕ)) (front : List ℕ) → Consumes (Some text) left' front → (rest : List ℕ) × (left' ≡ Some rest) × (text ≡ front ++ rest)
 told text None front c = absurd c
 told text (Some rest) front c = (rest, refl, c)
 

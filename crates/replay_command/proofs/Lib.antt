@@ -6,6 +6,7 @@ mod LineEndings
 mod LineSteps
 mod Completing
 mod OtherAirs
+mod Untaken
 mod Migrating
 mod Generating
 mod Promises

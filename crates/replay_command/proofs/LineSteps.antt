@@ -14,7 +14,9 @@ use Rattle.replay_command.specs.declared.status.Status.TheVariants as statuses
 use Rattle.replay_steps.specs.declared.machine.Machine.{Machine}
 use Rattle.transcript_text.specs.declared.stop.Stop.{Stop}
 use Rattle.transcript_text.specs.declared.stop.Stop.TheVariants.{Refused, OutletFault, Memory}
-use Rattle.replay_generated.proofs.Citable.{meets_at}
+use Rattle.scenario_history.specs.Lines.{steps_of}
+use Rattle.replay_steps.specs.Untaken.{UntakenSame}
+use Rattle.replay_generated.proofs.Citable.{meets_at, untaken_line}
 use Rattle.replay_steps.specs.LineMeets.{LinesStand, LineMeets}
 use Rattle.replay_command.specs.Replayed.{Comes, ReadsAhead, Broken}
 use Rattle.replay_command.specs.Ended.{Ended}
@@ -112,41 +114,51 @@ step_line starts history line left left' kept kept' reader machine accounts (Som
 -- ---- the loop
 
 -- the lines so far were read and run
-pub record Running (starts accounts : List Account) (left left' kept kept' : Option (List ℕ)) (number : ℕ) (reader : Reading) (machine : Machine) : Type 0 where
+pub record Running {A : Type 0} (olds news : List A) (starts accounts : List Account) (left left' kept kept' : Option (List ℕ)) (number : ℕ) (reader : Reading) (machine : Machine)
+    : Type 0 where
   pub lines : List TextLine
   pub is_next : number ≡ length lines + 1
   pub read : ReadTo left left' lines reader
   pub run : RunTo starts lines kept kept' machine accounts
+  pub untaken : UntakenSame (steps_of lines) olds news
 
-pub running_none : (starts : List Account) (left kept : Option (List ℕ)) (reader : Reading) (machine : Machine)
+pub running_none : {A : Type 0} (olds : List A) (starts : List Account) (left kept : Option (List ℕ)) (reader : Reading) (machine : Machine)
     → reader ≡ record { ahead = []; part = []; taken = 0; over = false; line = None } → ((start : List Account) → LinesStand start [] machine start)
-    → Running starts starts left left kept kept 1 reader machine
-running_none starts left kept reader machine new stands = record {
+    → Running olds olds starts starts left left kept kept 1 reader machine
+running_none olds starts left kept reader machine new stands = record {
   lines = [];
   is_next = omega arith;
   read = read_none left reader new;
   run = record { accepted = tt; written = Appends-nothing kept; stands = stands starts };
+  untaken = λ box least. refl;
 }
 
 pub bound_none : (reader : Reading) → reader ≡ record { ahead = []; part = []; taken = 0; over = false; line = None } → 1 + lines_left reader ≤ text_limit + 2
 bound_none reader new = let P : Reading → Type 0 = λ r. 1 + lines_left r ≤ text_limit + 2 in subst P (sym new) (omega arith)
 
-pub running_more : (starts before after : List Account) (left mid left' kept put kept' : Option (List ℕ)) (number next : ℕ) (old new : Reading) (machine machine' : Machine) (result : Option Status)
-    → Running starts before left mid kept put number old machine → next ≡ number + 1 → result ≡ None
+pub running_more : {A : Type 0} (olds mids news : List A) (starts before after : List Account) (left mid left' kept put kept' : Option (List ℕ)) (number next : ℕ) (old new : Reading) (machine machine' : Machine) (result : Option Status)
+    → Running olds mids starts before left mid kept put number old machine → next ≡ number + 1 → result ≡ None
+    → ((lines : List TextLine) → LinesStand starts lines machine before → UntakenSame (steps_of lines) mids news)
     → ((lines : List TextLine) → number ≡ length lines + 1 → ReadTo left mid lines old → RunTo starts lines kept put machine before
     → LineRuns starts lines left left' kept kept' new machine' after result)
-    → Running starts after left left' kept kept' next new machine'
-running_more starts before after left mid left' kept put kept' number next old new machine machine' result r is none runs =
+    → Running olds news starts after left left' kept kept' next new machine'
+running_more olds mids news starts before after left mid left' kept put kept' number next old new machine machine' result r is none same runs =
     let P : Option Status → Type 0 = λ x. LineRuns starts r.lines left left' kept kept' new machine' after x in
     let m = subst P none (runs r.lines r.is_next r.read r.run) in
-    record { lines = m.0 ∷ r.lines; is_next = omega (arith, r.is_next); read = m.1; run = m.2 }
+    record {
+      lines = m.0 ∷ r.lines;
+      is_next = omega (arith, r.is_next);
+      read = m.1;
+      run = m.2;
+      untaken = untaken_line m.0 r.lines olds mids news r.untaken (same r.lines r.run.stands);
+    }
 
-pub running_ends : (starts before after : List Account) (left mid left' kept put kept' : Option (List ℕ)) (number : ℕ) (old new : Reading) (machine machine' : Machine)
+pub running_ends : {A : Type 0} (olds mids : List A) (starts before after : List Account) (left mid left' kept put kept' : Option (List ℕ)) (number : ℕ) (old new : Reading) (machine machine' : Machine)
     (result : Option Status) (status : Status)
-    → Running starts before left mid kept put number old machine → result ≡ Some status
+    → Running olds mids starts before left mid kept put number old machine → result ≡ Some status
     → ((lines : List TextLine) → number ≡ length lines + 1 → ReadTo left mid lines old → RunTo starts lines kept put machine before
     → LineRuns starts lines left left' kept kept' new machine' after result)
     → Ended airs_of status starts after left left' kept kept'
-running_ends starts before after left mid left' kept put kept' number old new machine machine' result status r some runs =
+running_ends olds mids starts before after left mid left' kept put kept' number old new machine machine' result status r some runs =
     let P : Option Status → Type 0 = λ x. LineRuns starts r.lines left left' kept kept' new machine' after x in
     subst P some (runs r.lines r.is_next r.read r.run)

@@ -1,11 +1,19 @@
 //! The run of a scenario, line by line.
 ghost use Rattle.std.specs.Prelude.{◌≡◌, ◌≢◌, ◌<◌, ◌+◌, ◌∷◌, ℕ, List, Option, None, Some, Ok, length, map, string_bytes, true, IfNone, IfOk, OnOk, OnErr, IsSome};
 ghost use Rattle.bcast_base.specs.Counts.{Rose};
-ghost use Rattle.bcast_io.specs.TextLines.{TextLine, plain};
+ghost use Rattle.bcast_io.specs.TextLines.{TextLine, lines_of, plain};
 ghost use Rattle.bcast_io.specs.State.Reading.{lines_left};
 ghost use Rattle.bcast_io.specs.State.Answering.{GoesOn};
 ghost use Rattle.unit_outlets.specs.Account.{Account};
 ghost use Rattle.source_machine.specs.Airs.{airs_of};
+ghost use Rattle.scenario_history.specs.Airs.{MeetAirs};
+ghost use Rattle.scenario_history.specs.Lines.{steps_of};
+ghost use Rattle.scenario_history.specs.Source.{Airs};
+ghost use Rattle.replay_steps.specs.LineMeets.{LinesStand};
+ghost use Rattle.replay_steps.specs.Untaken.{UntakenSame};
+ghost use Rattle.replay_generated.specs.Generated.{lines_made};
+ghost use Rattle.replay_generated.specs.State.Between.{UntakenRun};
+ghost use Rattle.replay_generated.specs.Untaken.{UntakenBy};
 ghost use Rattle.replay_words.specs.Words.{mode_of as mode_of_words};
 ghost use Rattle.replay_words.specs.declared.mode.Mode.TheVariants as modes;
 ghost use Rattle.replay_command.specs.World.{world_of};
@@ -69,6 +77,12 @@ pub fn replay<S: ByteSource, K: ByteSink>(
     ensures unwritten { result ≡ Status.Usage → sink.new ≡ sink.old }
     ensures uncalled { result ≡ Status.Usage → outlets.new ≡ outlets.old }
 
+    // A box that no accepted `sink` line of the text that is run takes stays the same.
+    ensures untaken { (text : List ℕ) (airs : Airs) → mode_of_words (map string_bytes words.now) ≡ modes.Replay → S.left source.old ≡ Some text → MeetAirs airs
+        → UntakenBy airs (map account outlets.old.items) (lines_of true text) outlets.old.items outlets.new.items }
+    ensures untaken_generated { (seed events : ℕ) (airs : Airs) → mode_of_words (map string_bytes words.now) ≡ modes.Generate seed events → MeetAirs airs
+        → UntakenBy airs (map account outlets.old.items) (lines_made seed events) outlets.old.items outlets.new.items }
+
     // In migration no box is called, and in generated mode the source isn't read.
     ensures boxes_kept { mode_of_words (map string_bytes words.now) ≡ modes.Migrate → outlets.new ≡ outlets.old }
     ensures source_kept { (seed events : ℕ) → mode_of_words (map string_bytes words.now) ≡ modes.Generate seed events → source.new ≡ source.old }
@@ -100,6 +114,7 @@ fn run<S: ByteSource, K: ByteSink>(
     outlets: &mut Vec<Box<dyn Outlet>>,
 ) -> Status
     ensures ended { Ended airs_of result (map account outlets.old.items) (map account outlets.new.items) (S.left source.old) (S.left source.new) (K.contents sink.old) (K.contents sink.new) }
+    ensures untaken { (text : List ℕ) → S.left source.old ≡ Some text → UntakenRun (map account outlets.old.items) (lines_of true text) outlets.old.items outlets.new.items }
     ensures within { ReadsAtMost (S.left source.old) (S.left source.new) read_limit }
     ensures read_fault { result ≡ Status.ReadFault → Rose (S.faults source.old) (S.faults source.new) }
     ensures no_read_fault { result ≢ Status.ReadFault → S.faults source.new ≡ S.faults source.old }
@@ -143,6 +158,8 @@ fn run_line<S: ByteSource, K: ByteSink>(
     ensures runs { (starts : List Account) (lines : List TextLine) (left kept : Option (List ℕ)) → number ≡ length lines + 1
         → ReadTo left (S.left source.old) lines reader.old → RunTo starts lines kept (K.contents sink.old) machine.old (map account outlets.old.items)
         → LineRuns starts lines left (S.left source.new) kept (K.contents sink.new) reader.new machine.new (map account outlets.new.items) result }
+    ensures untaken { (starts : List Account) (lines : List TextLine) (accounts : List Account) → LinesStand starts lines machine.old accounts
+        → UntakenSame (steps_of lines) outlets.old.items outlets.new.items }
     ensures within { (left : Option (List ℕ)) (lines : List TextLine) → ReadTo left (S.left source.old) lines reader.old
         → ReadsAtMost left (S.left source.new) read_limit }
     ensures nearer { IfNone result (lines_left reader.new < lines_left reader.old) }
@@ -222,6 +239,8 @@ fn run_step<K: ByteSink>(
         → Comes left left' lines (plain line.now) → ReadsAhead left left' number
         → RunTo starts lines kept (K.contents sink.old) machine.old (map account outlets.old.items)
         → StepRuns starts (plain line.now ∷ lines) left left' kept (K.contents sink.new) machine.new (map account outlets.new.items) result }
+    ensures untaken { (starts : List Account) (lines : List TextLine) (accounts : List Account) → LinesStand starts lines machine.old accounts
+        → UntakenSame (steps_of lines) outlets.old.items outlets.new.items }
     ensures never_read_fault { result ≢ Some Status.ReadFault }
     ensures write_fault { result ≡ Some Status.WriteFault → Rose (K.faults sink.old) (K.faults sink.new) }
     ensures no_write_fault { result ≢ Some Status.WriteFault → K.faults sink.new ≡ K.faults sink.old }

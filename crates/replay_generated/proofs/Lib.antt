@@ -2,6 +2,7 @@ mod GeneratedText
 mod EndLines
 mod SinkOutputs
 mod Outputs
+mod Untaken
 mod Runs
 mod Standing
 mod Waiting

@@ -26,10 +26,12 @@ use Rattle.replay_steps.specs.Meets.{BoxesStand}
 use Rattle.replay_steps.specs.declared.machine.Machine.{Machine}
 use Rattle.replay_steps.proofs.Citable.{accounts_append}
 use Rattle.replay_generated.specs.Generated.{BoxFailed}
-use Rattle.replay_generated.specs.State.Between.{Counted, FrontTaken, LineRefused, LineRuns, Ran, Refuses, RunTo, Told}
+use Rattle.replay_steps.specs.Untaken.{UntakenSame}
+use Rattle.replay_generated.specs.State.Between.{Counted, FrontTaken, LineRefused, LineRuns, Ran, Refuses, RunTo, Told, UntakenRun}
 use Rattle.replay_generated.specs.declared.running.Ending.{Ending}
 use Rattle.replay_generated.specs.declared.running.Ending.TheVariants as endings
 use Rattle.replay_generated.proofs.Outputs.{said_whole}
+use Rattle.replay_generated.proofs.Untaken.{untaken_line}
 
 -- ---- the transcript over an accepted history
 
@@ -166,23 +168,26 @@ front_taken starts ends lines done b t = record { done = done; rest = b.rest; sp
 -- ---- the run as far as it came
 
 -- the lines so far were run, and these are left
-pub record Running (starts accounts : List Account) (lines : List TextLine) (left : List (List ℕ)) (number : ℕ) (machine : Machine) (counts : Counts) : Type 0 where
+pub record Running {A : Type 0} (olds news : List A) (starts accounts : List Account) (lines : List TextLine) (left : List (List ℕ)) (number : ℕ) (machine : Machine)
+    (counts : Counts) : Type 0 where
   pub history : List TextLine
   pub whole : lines ≡ reverse history ++ map plain left
   pub number_is : number ≡ length history
   pub run : RunTo starts history counts machine accounts
+  pub untaken : UntakenSame (steps_of history) olds news
 
-pub running_none : (starts : List Account) (lines : List TextLine) (left all : List (List ℕ)) (machine : Machine) (counts : Counts) → lines ≡ map plain all → left ≡ all
-    → ((start : List Account) → LinesStand start [] machine start) → counts ≡ none_counted → Running starts starts lines left 0 machine counts
-running_none starts lines left all machine counts are is stands none = record {
+pub running_none : {A : Type 0} (olds : List A) (starts : List Account) (lines : List TextLine) (left all : List (List ℕ)) (machine : Machine) (counts : Counts) → lines ≡ map plain all → left ≡ all
+    → ((start : List Account) → LinesStand start [] machine start) → counts ≡ none_counted → Running olds olds starts starts lines left 0 machine counts
+running_none olds starts lines left all machine counts are is stands none = record {
   history = [];
   whole = are ∙ ap (λ ls. map plain ls) (sym is);
   number_is = refl;
   run = record { accepted = tt; whole = whole_none; counted = none; stands = stands starts };
+  untaken = λ box least. refl;
 }
 
-module _ (starts accounts : List Account) (lines : List TextLine) (left : List (List ℕ)) (number : ℕ) (machine : Machine) (counts : Counts)
-    (r : Running starts accounts lines left number machine counts) where
+module _ {A : Type 0} (olds news : List A) (starts accounts : List Account) (lines : List TextLine) (left : List (List ℕ)) (number : ℕ) (machine : Machine) (counts : Counts)
+    (r : Running olds news starts accounts lines left number machine counts) where
   took : Took starts accounts (handed_up airs_of (steps_of r.history))
   took = took_history starts accounts r.history r.run.stands.boxes
 
@@ -191,6 +196,20 @@ module _ (starts accounts : List Account) (lines : List TextLine) (left : List (
   units_begin =
       let b = units_rest starts r.history (map plain left) in
       record { rest = b.rest; split = ap (units_of airs_of starts) r.whole ∙ units_then starts r.history r.run.accepted (map plain left) ∙ b.split }
+
+  -- the boxes that no line so far took, and after the next line
+  pub untaken_here : UntakenRun starts lines olds news
+  untaken_here = record { earlier = r.history; later = map plain left; split = r.whole; accepted = r.run.accepted; same = r.untaken }
+
+  pub untaken_out : (after : List A) → ((history : List TextLine) → RunTo starts history counts machine accounts → UntakenSame (steps_of history) news after)
+      → UntakenRun starts lines olds after
+  untaken_out after untaken = record {
+    earlier = r.history;
+    later = map plain left;
+    split = r.whole;
+    accepted = r.run.accepted;
+    same = λ box least. untaken r.history r.run box least ∙ r.untaken box least;
+  }
 
   pub stops_here : FrontTaken starts accounts lines
   stops_here = front_taken starts accounts lines (handed_up airs_of (steps_of r.history)) units_begin took
@@ -210,13 +229,14 @@ module _ (starts accounts : List Account) (lines : List TextLine) (left : List (
     split_at : lines ≡ reverse r.history ++ plain line ∷ map plain later
     split_at = r.whole ∙ ap (λ ls. reverse r.history ++ map plain ls) next
 
-    goes_on : (ends : List Account) (new : Machine) (counts' : Counts) (number' : ℕ) → number' ≡ number + 1
-        → LineRuns starts r.history (plain line) counts' new accounts ends None → Running starts ends lines later number' new counts'
-    goes_on ends new counts' number' more run = record {
+    goes_on : (after : List A) (ends : List Account) (new : Machine) (counts' : Counts) (number' : ℕ) → number' ≡ number + 1 → UntakenSame (steps_of r.history) news after
+        → LineRuns starts r.history (plain line) counts' new accounts ends None → Running olds after starts ends lines later number' new counts'
+    goes_on after ends new counts' number' more untaken run = record {
       history = plain line ∷ r.history;
       whole = split_at ∙ sym (reverse_onto (plain line) r.history (map plain later));
       number_is = omega (arith, more, r.number_is);
       run = run;
+      untaken = untaken_line (plain line) r.history olds news after r.untaken untaken;
     }
 
     refused_here : (ends : List Account) (counts' : Counts) (at : ℕ) (reason : Refusal) → LineRefused starts r.history (plain line) counts' accounts ends at reason
@@ -267,13 +287,14 @@ module _ (starts accounts : List Account) (lines : List TextLine) (left : List (
     ends_here ends new counts' endings.Memory (inr cut) = cut_here ends cut.0 cut.1
 
     -- the line was run
-    pub runs_on : (ends : List Account) (new : Machine) (counts' : Counts) (number' : ℕ) (result : Option Ending) → number' ≡ number + 1 → result ≡ None
+    pub runs_on : (after : List A) (ends : List Account) (new : Machine) (counts' : Counts) (number' : ℕ) (result : Option Ending) → number' ≡ number + 1 → result ≡ None
+        → ((history : List TextLine) → RunTo starts history counts machine accounts → UntakenSame (steps_of history) news after)
         → ((history : List TextLine) → number' ≡ length history + 1 → RunTo starts history counts machine accounts
         → LineRuns starts history (plain line) counts' new accounts ends result)
-        → Running starts ends lines later number' new counts'
-    runs_on ends new counts' number' result more is runs =
+        → Running olds after starts ends lines later number' new counts'
+    runs_on after ends new counts' number' result more is untaken runs =
         let P : Option Ending → Type 0 = λ o. LineRuns starts r.history (plain line) counts' new accounts ends o in
-        goes_on ends new counts' number' more (subst P is (runs r.history (more ∙ ap (λ n. n + 1) r.number_is) r.run))
+        goes_on after ends new counts' number' more (untaken r.history r.run) (subst P is (runs r.history (more ∙ ap (λ n. n + 1) r.number_is) r.run))
 
     pub runs_out : (ends : List Account) (new : Machine) (counts' : Counts) (number' : ℕ) (result : Option Ending) (ending : Ending) → number' ≡ number + 1 → result ≡ Some ending
         → ((history : List TextLine) → number' ≡ length history + 1 → RunTo starts history counts machine accounts
@@ -345,3 +366,6 @@ module _ (starts : List Account) (history : List TextLine) (line : TextLine) (ma
 -- no line was run
 pub none_taken : (starts : List Account) (lines : List TextLine) → FrontTaken starts starts lines
 none_taken starts lines = front_taken starts starts lines [] (record { rest = units_of airs_of starts lines; split = refl }) (took_all starts [])
+
+pub none_run : {A : Type 0} (starts : List Account) (lines : List TextLine) (boxes : List A) → UntakenRun starts lines boxes boxes
+none_run starts lines boxes = record { earlier = []; later = lines; split = refl; accepted = tt; same = λ box least. refl }

@@ -2,7 +2,10 @@
 ghost use Rattle.std.specs.Prelude.{◌≡◌, ◌≤◌, map};
 ghost use Rattle.transcript_summary.specs.Summary.{summary_of};
 ghost use Rattle.replay_generated.specs.Generated.{GeneratedRun, lines_made};
-ghost use Rattle.replay_generated.specs.State.Between.{Ends, Puts};
+ghost use Rattle.replay_generated.specs.State.Between.{Ends, Puts, UntakenRun};
+ghost use Rattle.replay_generated.specs.Untaken.{UntakenBy};
+ghost use Rattle.scenario_history.specs.Airs.{MeetAirs};
+ghost use Rattle.scenario_history.specs.Source.{Airs};
 
 use crate::outcome::Outcome;
 use crate::running::{Ending, run_lines};
@@ -18,7 +21,8 @@ use unit_outlets::Outlet;
 ///
 /// `Done` comes where no line is refused. `Refused` has the line, from 1, and the reason. After both the summary was
 /// written. After `OutletFault`, which comes only where the count of a box rose, nothing was written. After `WriteFault`,
-/// which comes only where the sink's count rose, and after `Memory` a front of the summary was written.
+/// which comes only where the sink's count rose, and after `Memory` a front of the summary was written. The boxes that no `sink` line
+/// takes stay the same.
 pub fn run_generated<K: ByteSink>(
     alloc: Global,
     seed: u32,
@@ -31,6 +35,7 @@ pub fn run_generated<K: ByteSink>(
     requires most { events ≤ 100000 }
     ensures generated { GeneratedRun seed events result (map account outlets.old.items) (map account outlets.new.items) (K.contents sink.old) (K.contents sink.new)
         (K.faults sink.old) (K.faults sink.new) }
+    ensures untaken { (airs : Airs) → MeetAirs airs → UntakenBy airs (map account outlets.old.items) (lines_made seed events) outlets.old.items outlets.new.items }
 {
     a_line_says_one_step();
     some_airs_meet();
@@ -49,8 +54,9 @@ fn run<K: ByteSink>(
     requires seed { seed ≤ 2147483647 }
     requires least { 1 ≤ events }
     requires most { events ≤ 100000 }
-    ensures { Ends (map account outlets.old.items) (map account outlets.new.items) events (lines_made seed events) (K.contents sink.old) (K.contents sink.new)
+    ensures ends { Ends (map account outlets.old.items) (map account outlets.new.items) events (lines_made seed events) (K.contents sink.old) (K.contents sink.new)
         (K.faults sink.old) (K.faults sink.new) result }
+    ensures untaken { UntakenRun (map account outlets.old.items) (lines_made seed events) outlets.old.items outlets.new.items }
 {
     let mut counts = Counts::new(alloc);
     match run_lines(alloc, seed, events, &mut counts, outlets) {

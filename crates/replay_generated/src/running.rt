@@ -4,7 +4,9 @@ ghost use Rattle.bcast_io.specs.TextLines.{TextLine, plain};
 ghost use Rattle.unit_outlets.specs.Account.{Account};
 ghost use Rattle.transcript_summary.specs.Summary.{none_counted};
 ghost use Rattle.replay_generated.specs.Generated.{lines_made};
-ghost use Rattle.replay_generated.specs.State.Between.{Counted, Ran, Refuses, RunTo, LineRuns};
+ghost use Rattle.scenario_history.specs.Lines.{steps_of};
+ghost use Rattle.replay_steps.specs.Untaken.{UntakenSame};
+ghost use Rattle.replay_generated.specs.State.Between.{Counted, Ran, Refuses, RunTo, LineRuns, UntakenRun};
 
 use bcast_base::{Memory, Octets};
 use replay_steps::Machine;
@@ -39,7 +41,8 @@ pub(crate) fn run_lines(
     requires least { 1 ≤ events }
     requires most { events ≤ 100000 }
     requires none { counts.old ≡ none_counted }
-    ensures { Ran (map account outlets.old.items) (map account outlets.new.items) (lines_made seed events) counts.new result }
+    ensures ran { Ran (map account outlets.old.items) (map account outlets.new.items) (lines_made seed events) counts.new result }
+    ensures untaken { UntakenRun (map account outlets.old.items) (lines_made seed events) outlets.old.items outlets.new.items }
 {
     let Ok(mut machine) = Machine::new(alloc) else {
         return Ending::Memory;
@@ -78,9 +81,11 @@ fn run_line(
     outlets: &mut Vec<Box<dyn Outlet>>,
 ) -> Option<Ending>
     requires { length line.now < 2 ^ 64 }
-    ensures { (starts : List Account) (lines : List TextLine) → number ≡ length lines + 1
+    ensures runs { (starts : List Account) (lines : List TextLine) → number ≡ length lines + 1
         → RunTo starts lines counts.old machine.old (map account outlets.old.items)
         → LineRuns starts lines (plain line.now) counts.new machine.new (map account outlets.old.items) (map account outlets.new.items) result }
+    ensures untaken { (starts : List Account) (lines : List TextLine) → RunTo starts lines counts.old machine.old (map account outlets.old.items)
+        → UntakenSame (steps_of lines) outlets.old.items outlets.new.items }
 {
     text.clear();
     match machine.line(line, outlets, text) {

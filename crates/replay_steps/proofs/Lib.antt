@@ -6,3 +6,4 @@ pub mod Closing
 pub mod Ending
 pub mod StepLaws
 pub mod LineLaws
+pub mod Untaken

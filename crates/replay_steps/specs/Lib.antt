@@ -3,3 +3,4 @@ pub mod Machines
 pub mod Meets
 pub mod LineMeets
 pub mod Airing
+pub mod Untaken

@@ -24,6 +24,7 @@ impl Machine {
     ghost use Rattle.scenario_history.specs.Steps.{is_over};
     ghost use Rattle.scenario_history.specs.Lines.{steps_of};
     ghost use Rattle.replay_steps.specs.LineMeets.{LinesStand, LineMeets};
+    ghost use Rattle.replay_steps.specs.Untaken.{UntakenSame};
 
     /// A scenario before its first line.
     pub fn new(alloc: Global) -> Result<Machine, Memory>
@@ -44,7 +45,8 @@ impl Machine {
         matches!(self.stage, Stage::Over(_))
     }
 
-    /// Runs a line, and puts what it prints at the end of the text. The condition is one that every slice meets.
+    /// Runs a line, and puts what it prints at the end of the text. A refused line changes nothing. The boxes that no sink took stay
+    /// the same. The condition is one that every slice meets.
     pub fn line(
         &mut self,
         line: &[u8],
@@ -52,8 +54,10 @@ impl Machine {
         text: &mut Octets,
     ) -> Result<(), Stop>
         requires { length line.now < 2 ^ 64 }
-        ensures { (starts : List Account) (lines : List TextLine) → LinesStand starts lines self.old (map account outlets.old.items)
+        ensures meets { (starts : List Account) (lines : List TextLine) → LinesStand starts lines self.old (map account outlets.old.items)
             → LineMeets starts lines (plain line.now) self.new text.old text.new (map account outlets.old.items) (map account outlets.new.items) result }
+        ensures untaken { (starts : List Account) (lines : List TextLine) (accounts : List Account) → LinesStand starts lines self.old accounts
+            → UntakenSame (steps_of lines) outlets.old.items outlets.new.items }
     {
         let version = self.stage.version().number();
         match read_line_in(self.alloc, version, line) {

@@ -1,6 +1,7 @@
 pub mod Citable
 pub mod Ranges
 pub mod Handings
+mod Untaken
 pub mod Entries
 pub mod Closings
 pub mod SumLaws

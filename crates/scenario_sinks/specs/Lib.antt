@@ -2,6 +2,7 @@ pub mod Pasts
 pub mod Joinings
 pub mod Refusals
 pub mod Handing
+pub mod Untaken
 pub mod Closing
 pub mod Hearing
 pub mod Sums

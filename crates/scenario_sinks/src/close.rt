@@ -6,6 +6,7 @@ ghost use Rattle.sink_histories.specs.Lives.{Made};
 ghost use Rattle.scenario_sinks.specs.Pasts.{Past};
 ghost use Rattle.scenario_sinks.specs.State.Standing.{EntryIs, EntriesAre};
 ghost use Rattle.scenario_sinks.specs.State.Between.{SinkCloses, AllClose};
+ghost use Rattle.scenario_sinks.specs.Untaken.{AllButSame, UntakenSame};
 
 use crate::gathered::Gathered;
 use crate::hand::hand_units;
@@ -26,9 +27,11 @@ fn close_sink(
     text: &mut Octets,
 ) -> Result<(), Stop>
     requires { event < 2 ^ 39 }
-    ensures { (box : Option ℕ) (made : Option Made) (own : Option ℕ) (life : List links.Call) (received : List Call)
+    ensures closes { (box : Option ℕ) (made : Option Made) (own : Option ℕ) (life : List links.Call) (received : List Call)
         → EntryIs box made own life received (Some entry.old) → gathered.old.units.items ≡ []
         → SinkCloses box made own life received number source event entry.new gathered.new text.old text.new (map account outlets.old.items) (map account outlets.new.items) result }
+    ensures others { (box : Option ℕ) (made : Option Made) (own : Option ℕ) (life : List links.Call) (received : List Call)
+        → EntryIs box made own life received (Some entry.old) → AllButSame box outlets.old.items outlets.new.items }
 {
     let Some(sink) = entry else {
         return Ok(());
@@ -64,8 +67,10 @@ pub(crate) fn close_sinks(
 ) -> Result<(), Stop>
     requires event { event < 2 ^ 39 }
     requires eight { length sinks.old ≡ 8 }
-    ensures { (past : Past) → EntriesAre past sinks.old → gathered.old.units.items ≡ []
+    ensures closes { (past : Past) → EntriesAre past sinks.old → gathered.old.units.items ≡ []
         → AllClose past source event sinks.new gathered.new text.old text.new (map account outlets.old.items) (map account outlets.new.items) result }
+    ensures others { (past : Past) → EntriesAre past sinks.old → gathered.old.units.items ≡ []
+        → UntakenSame past outlets.old.items outlets.new.items }
 {
     'sinks: for number in 0..8u8 {
         match close_sink(

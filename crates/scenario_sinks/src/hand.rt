@@ -2,6 +2,7 @@
 ghost use Rattle.std.specs.Prelude.{◌≡◌, ◌<◌, ◌≤◌, ◌^◌, ◌∷◌, [], ℕ, List, Option, Some, map};
 ghost use Rattle.unit_outlets.specs.Account.{Account};
 ghost use Rattle.unit_outlets.specs.Handed.{valid, lost};
+ghost use Rattle.unit_outlets.specs.Took.{OthersSame};
 ghost use Rattle.scenario_sinks.specs.State.Gathering.{handed_of, units_for};
 ghost use Rattle.scenario_sinks.specs.Handing.{BoxTakes, Hands};
 
@@ -13,7 +14,8 @@ use unit_outlets::{Outlet, OutletFault, TakerFault, take_at};
 
 /// Puts a unit into the box at a place, where there is one.
 fn put_in_box(outlets: &mut Vec<Box<dyn Outlet>>, place: usize, octets: &[u8]) -> Result<(), Stop>
-    ensures { BoxTakes place octets.now (map account outlets.old.items) (map account outlets.new.items) result }
+    ensures takes { BoxTakes place octets.now (map account outlets.old.items) (map account outlets.new.items) result }
+    ensures others { OthersSame place outlets.old.items outlets.new.items }
 {
     if place >= outlets.len() {
         return Ok(());
@@ -34,7 +36,8 @@ fn hand_valid(
     outlets: &mut Vec<Box<dyn Outlet>>,
     text: &mut Octets,
 ) -> Result<(), Stop>
-    ensures { Hands (units_for owner (valid bis time octets.now ∷ [])) text.old text.new (map account outlets.old.items) (map account outlets.new.items) result }
+    ensures hands { Hands (units_for owner (valid bis time octets.now ∷ [])) text.old text.new (map account outlets.old.items) (map account outlets.new.items) result }
+    ensures others { OthersSame owner.outlet outlets.old.items outlets.new.items }
 {
     match put_in_box(outlets, owner.outlet, octets) {
         Ok(()) => {}
@@ -63,7 +66,8 @@ fn hand_unit(
     outlets: &mut Vec<Box<dyn Outlet>>,
     text: &mut Octets,
 ) -> Result<(), Stop>
-    ensures { Hands (units_for owner (handed_of unit.now ∷ [])) text.old text.new (map account outlets.old.items) (map account outlets.new.items) result }
+    ensures hands { Hands (units_for owner (handed_of unit.now ∷ [])) text.old text.new (map account outlets.old.items) (map account outlets.new.items) result }
+    ensures others { OthersSame owner.outlet outlets.old.items outlets.new.items }
 {
     match &unit.octets {
         Some(octets) => { hand_valid(owner, unit.bis, unit.time, octets.as_slice(), outlets, text) }
@@ -78,7 +82,8 @@ pub(crate) fn hand_units(
     outlets: &mut Vec<Box<dyn Outlet>>,
     text: &mut Octets,
 ) -> Result<(), Stop>
-    ensures { Hands (units_for owner (map handed_of units.now)) text.old text.new (map account outlets.old.items) (map account outlets.new.items) result }
+    ensures hands { Hands (units_for owner (map handed_of units.now)) text.old text.new (map account outlets.old.items) (map account outlets.new.items) result }
+    ensures others { OthersSame owner.outlet outlets.old.items outlets.new.items }
 {
     'units: for unit in units {
         match hand_unit(unit, owner, outlets, text) {

@@ -38,6 +38,7 @@ impl Sinks {
     ghost use Rattle.scenario_sinks.specs.Refusals.{Answers, Tunes, not_living, not_made, not_tuned};
     ghost use Rattle.scenario_sinks.specs.State.Standing.{SinksStand};
     ghost use Rattle.scenario_sinks.specs.Sums.{Puts, sum_where, sums_where};
+    ghost use Rattle.scenario_sinks.specs.Untaken.{UntakenSame};
 
     /// No sinks yet.
     pub fn new(alloc: Global) -> Result<Sinks, Memory>
@@ -160,7 +161,7 @@ impl Sinks {
 
     /// Closes the open event of a source, where one is open: the sinks of the source hand their units up, by rising number
     /// and then by rising stream, each valid unit to the box of its sink and then, as a line, to the end of the text. After a
-    /// refusal of a box, or want of memory, a front of the units was handed.
+    /// refusal of a box, or want of memory, a front of the units was handed. The boxes of no living sink stay the same.
     pub fn close(
         &mut self,
         source: u8,
@@ -169,8 +170,9 @@ impl Sinks {
         text: &mut Octets,
     ) -> Result<(), Stop>
         requires { ForSome closed (λ event. event < 2 ^ 39) }
-        ensures { (past : Past) → SinksStand past self.old
+        ensures closes { (past : Past) → SinksStand past self.old
             → Closes past source closed self.new text.old text.new (map account outlets.old.items) (map account outlets.new.items) result }
+        ensures others { (past : Past) → SinksStand past self.old → UntakenSame past outlets.old.items outlets.new.items }
     {
         let Some(event) = closed else {
             return Ok(());

@@ -1,11 +1,11 @@
 -- A box of a list, seen through the list of accounts.
-use Rattle.std.proofs.Common.{◌∙◌, ap}
+use Rattle.std.proofs.Common.{◌∙◌, ap, zero, suc, [], ◌∷◌}
 use Rattle.std.proofs.lemmas.List.{map-set}
 use Rattle.std.proofs.lemmas.Option.{slice_get-map, slice_get_read}
 use Rattle.std.specs.Option.{option_map}
-use Rattle.std.specs.Prelude.{ℕ, ◌≡◌, ◌<◌, List, length, map, slice_set, get_or, Result, refl}
+use Rattle.std.specs.Prelude.{ℕ, ◌≡◌, ◌≢◌, ◌<◌, List, length, map, slice_get, slice_set, get_or, Result, refl}
 use Rattle.unit_outlets.specs.Account.{Account}
-use Rattle.unit_outlets.specs.Took.{Took, TookAt}
+use Rattle.unit_outlets.specs.Took.{OthersSame, Took, TookAt}
 use Rattle.unit_outlets.specs.declared.fault.OutletFault.{OutletFault}
 
 pub took_at : {A : Type 0} (account : A → Account) (boxes : List A) (place : ℕ) (unit : List ℕ) (old new : A)
@@ -22,3 +22,11 @@ took_at account boxes place unit old new result inside at took = record {
   others = map-set account boxes place new;
   took = took;
 }
+
+-- the boxes of a list of which one was set
+pub others_same : {A : Type 0} (boxes : List A) (place : ℕ) (new : A) → OthersSame place boxes (slice_set boxes place new)
+others_same [] place new other apart = refl
+others_same (box ∷ boxes) zero new zero apart = absurd (apart refl)
+others_same (box ∷ boxes) zero new (suc other) apart = refl
+others_same (box ∷ boxes) (suc place) new zero apart = refl
+others_same (box ∷ boxes) (suc place) new (suc other) apart = others_same boxes place new other (λ same. apart (ap suc same))

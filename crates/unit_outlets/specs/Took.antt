@@ -1,6 +1,6 @@
 -- What a box does with a unit (the units are the SDUs of Core 5.2, volume 6 part G, section 1). Boxes are this project's
 -- own.
-use Rattle.std.specs.Prelude.{ℕ, ◌≡◌, IsTrue, List, Some, slice_get, slice_set, Result, Ok, Err}
+use Rattle.std.specs.Prelude.{ℕ, ◌≡◌, ◌≢◌, IsTrue, List, Some, slice_get, slice_set, Result, Ok, Err}
 use Rattle.unit_outlets.specs.Account.{Account, Fits, with_unit}
 use Rattle.bcast_base.specs.Counts.{Rose}
 use Rattle.unit_outlets.specs.declared.fault.OutletFault.{OutletFault}
@@ -25,3 +25,7 @@ pub record TookAt
   pub here : slice_get old place ≡ Some before
   pub others : new ≡ slice_set old place after
   pub took : Took unit before after result
+
+-- each box but the one at this place is the same
+abbrev pub OthersSame : {A : Type 0} → ℕ → List A → List A → Type 0
+OthersSame place old new = (other : ℕ) → other ≢ place → slice_get new other ≡ slice_get old other

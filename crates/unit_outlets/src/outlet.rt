@@ -1,6 +1,6 @@
 ghost use Rattle.std.specs.Prelude.{◌≡◌, ◌<◌, length, map};
 ghost use Rattle.unit_outlets.specs.Account.{Account};
-ghost use Rattle.unit_outlets.specs.Took.{Took, TookAt};
+ghost use Rattle.unit_outlets.specs.Took.{OthersSame, Took, TookAt};
 
 use crate::fault::OutletFault;
 
@@ -25,16 +25,17 @@ pub trait Outlet: Drop {
         ensures { result ≡ (account self.now).octets };
 }
 
-/// Puts a unit into the box at a place of the list, from 0. Each other box is left as it is.
-#[tactic(auto, using(crate::proofs::Places::took_at))]
+/// Puts a unit into the box at a place of the list, from 0. Each other box is the same as before.
+#[tactic(auto, using(crate::proofs::Places::took_at, crate::proofs::Places::others_same))]
 pub fn take_at(
     outlets: &mut Vec<Box<dyn Outlet>>,
     place: usize,
     octets: &[u8],
 ) -> Result<(), OutletFault>
     requires { place < length outlets.old.items }
-    ensures { TookAt place octets.now
+    ensures took { TookAt place octets.now
         (map account outlets.old.items) (map account outlets.new.items) result }
+    ensures others { OthersSame place outlets.old.items outlets.new.items }
 {
     take(&mut outlets[place], octets)
 }

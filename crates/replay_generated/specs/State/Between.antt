@@ -1,6 +1,6 @@
 -- What stands between two lines of a generated run: the lines so far are its history, the newest first. Runs and lines are
 -- this project's own.
-use Rattle.std.specs.Prelude.{ℕ, ◌≡◌, ◌≢◌, ◌⊎◌, ◌+◌, List, [], ◌∷◌, ◌++◌, length, Option, None, Some}
+use Rattle.std.specs.Prelude.{ℕ, ◌≡◌, ◌≢◌, ◌⊎◌, ◌+◌, List, [], ◌∷◌, ◌++◌, length, reverse, Option, None, Some}
 use Rattle.std.specs.Io.KnownBytes.{Appends}
 use Rattle.bcast_base.specs.Counts.{Rose}
 use Rattle.bcast_io.specs.TextLines.{TextLine}
@@ -14,11 +14,12 @@ use Rattle.transcript_summary.specs.Summary.{counts_of, with_lines}
 use Rattle.transcript_summary.specs.declared.counts.Counts.{Counts}
 use Rattle.line_runs.specs.Runs.{End, through, refused, brought, Accepted}
 use Rattle.scenario_history.specs.Boxes.{SinkUnit, Took}
-use Rattle.scenario_history.specs.Lines.{rules_of, handed_on}
+use Rattle.scenario_history.specs.Lines.{rules_of, handed_on, steps_of}
 use Rattle.scenario_history.specs.Transcript.{transcript_of, transcript_end, units_of}
 use Rattle.scenario_sinks.specs.Handing.{BoxFails, CutShort}
 use Rattle.replay_steps.specs.LineMeets.{LinesStand, refusal_at}
 use Rattle.replay_steps.specs.declared.machine.Machine.{Machine}
+use Rattle.replay_steps.specs.Untaken.{UntakenSame}
 use Rattle.replay_generated.specs.Generated.{BoxFailed, EndedOver}
 use Rattle.replay_generated.specs.declared.outcome.Outcome.{Outcome}
 use Rattle.replay_generated.specs.declared.outcome.Outcome.TheVariants as outcomes
@@ -85,6 +86,14 @@ Ran starts ends lines counts endings.Through = Told starts ends lines counts thr
 Ran starts ends lines counts (endings.Refused line reason) = Told starts ends lines counts (refused line reason)
 Ran starts ends lines counts endings.OutletFault = BoxFailed airs_of starts ends lines
 Ran starts ends lines counts endings.Memory = FrontTaken starts ends lines
+
+-- the first of these lines were run, of which none is refused, and each box that none of them took is the same
+pub record UntakenRun {A : Type 0} (starts : List Account) (lines : List TextLine) (old new : List A) : Type 0 where
+  pub earlier : List TextLine
+  pub later : List TextLine
+  pub split : lines ≡ reverse earlier ++ later
+  pub accepted : Accepted (rules_of airs_of starts) earlier
+  pub same : UntakenSame (steps_of earlier) old new
 
 -- ---- the summary
 

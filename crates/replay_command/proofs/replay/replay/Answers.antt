@@ -1,4 +1,8 @@
-use Rattle.std.proofs.Common.{◌∙◌, refl, sym, subst, map, string_bytes}
+use Rattle.std.proofs.Common.{◌≡◌, ◌∙◌, true, refl, sym, subst, map, string_bytes}
+use Rattle.bcast_io.specs.TextLines.{lines_of}
+use Rattle.replay_generated.specs.Generated.{lines_made}
+use Rattle.replay_generated.specs.Untaken.{UntakenBy}
+use Rattle.replay_generated.proofs.Citable.{untaken_run}
 use Rattle.replay_words.specs.Words.{mode_of}
 use Rattle.replay_command.specs.World.{world_of}
 use Rattle.replay_command.specs.Migrated.{Migrated}
@@ -79,3 +83,27 @@ returns-in-Ok-Generate-clause-promised g c =
     in_generation (mode_of (map string_bytes c.args.words.now)) c.in-Ok-Generate.seed c.in-Ok-Generate.events old new c.from-in-Ok-Generate.result
     (sym c.in-Ok-Generate.ensures.meaning ∙ c.in-Ok-Generate.field-0-is)
     (record { outcome = c.run_generated.result; told = c.from-in-Ok-Generate.ensures; run = c.run_generated.ensures.generated; left = refl; reads = refl })
+
+pub returns-in-Ok-Replay-clause-untaken : goal.returns-in-Ok-Replay-clause-untaken
+returns-in-Ok-Replay-clause-untaken g c text airs replays is meets =
+    let boxes = (map (λ b. (goal.Outlet-dyn g (b.vtable, b.value)).account b.value) c.args.outlets.now.items) in
+    untaken_run airs boxes (lines_of true text) c.args.outlets.now.items c.run.new.outlets.items
+    (λ history. c.one_transcript.ensures.accepted airs_of airs boxes history c.some_airs_meet.ensures meets) (c.run.ensures.untaken text is)
+
+pub returns-in-Ok-Replay-clause-untaken_generated : goal.returns-in-Ok-Replay-clause-untaken_generated
+returns-in-Ok-Replay-clause-untaken_generated g c seed events airs generates meets =
+    absurd (let same = sym c.in-Ok-Replay.field-0-is ∙ c.in-Ok-Replay.ensures.meaning ∙ generates in cc)
+
+pub returns-in-Ok-Generate-clause-untaken : goal.returns-in-Ok-Generate-clause-untaken
+returns-in-Ok-Generate-clause-untaken g c text airs replays is meets =
+    absurd (let same = sym c.in-Ok-Generate.field-0-is ∙ c.in-Ok-Generate.ensures.meaning ∙ replays in cc)
+
+pub returns-in-Ok-Generate-clause-untaken_generated : goal.returns-in-Ok-Generate-clause-untaken_generated
+returns-in-Ok-Generate-clause-untaken_generated g c seed events airs generates meets =
+    let boxes = (map (λ b. (goal.Outlet-dyn g (b.vtable, b.value)).account b.value) c.args.outlets.now.items) in
+    let same = sym c.in-Ok-Generate.field-0-is ∙ c.in-Ok-Generate.ensures.meaning ∙ generates in
+    let first : c.in-Ok-Generate.seed ≡ seed = cc in
+    let second : c.in-Ok-Generate.events ≡ events = cc in
+    subst (λ e. UntakenBy airs boxes (lines_made seed e) c.args.outlets.now.items c.run_generated.new.outlets.items) second
+    (subst (λ s. UntakenBy airs boxes (lines_made s c.in-Ok-Generate.events) c.args.outlets.now.items c.run_generated.new.outlets.items) first
+    (c.run_generated.ensures.untaken airs meets))

@@ -6,7 +6,7 @@ use Rattle.replay_command.proofs.replay.run.Given as goal
 
 abbrev pub invariant-lines : goal.invariant-lines
 invariant-lines g l = record {
-  running : Running
+  running : Running l.initial.outlets.items l.outlets.items
       (map (λ b. (goal.Outlet-dyn g (b.vtable, b.value)).account b.value) l.initial.outlets.items)
       (map (λ b. (goal.Outlet-dyn g (b.vtable, b.value)).account b.value) l.outlets.items)
       (g.S.ByteSource.left l.initial.source) (g.S.ByteSource.left l.source)

@@ -3,26 +3,38 @@ use Rattle.bcast_io.specs.TextLines.{plain}
 use Rattle.replay_generated.proofs.Runs.{line_failed, line_memory, line_ran, line_refused}
 use Rattle.replay_generated.proofs.running.run_line.Goals as goal
 
-pub returns-in-Ok : goal.returns-in-Ok
-returns-in-Ok g c =
+pub returns-in-Ok-clause-runs : goal.returns-in-Ok-clause-runs
+returns-in-Ok-clause-runs g c =
     λ starts lines next run.
     line_ran starts lines (plain c.args.line.now) c.args.machine.now c.line.new.self _ _ c.args.counts.now c.clear.new.self c.line.new.text c.line.result run c.clear.ensures
-    (c.line.ensures starts lines) c.in-Ok.field-0 c.count.new.counts c.count.result c.in-Ok.is c.count.ensures
+    (c.line.ensures.meets starts lines) c.in-Ok.field-0 c.count.new.counts c.count.result c.in-Ok.is c.count.ensures
 
-pub returns-in-Err-Refused : goal.returns-in-Err-Refused
-returns-in-Err-Refused g c =
+pub returns-in-Err-Refused-clause-runs : goal.returns-in-Err-Refused-clause-runs
+returns-in-Err-Refused-clause-runs g c =
     λ starts lines next run.
     line_refused starts lines (plain c.args.line.now) c.args.machine.now c.line.new.self _ _ c.args.counts.now c.clear.new.self c.line.new.text c.line.result run c.clear.ensures
-    (c.line.ensures starts lines) c.in-Err-Refused.reason c.args.number c.refuse.new.counts c.refuse.result next (c.in-Err-Refused.is ∙ ap Err c.in-Err-Refused.field-0-is) c.refuse.ensures
+    (c.line.ensures.meets starts lines) c.in-Err-Refused.reason c.args.number c.refuse.new.counts c.refuse.result next (c.in-Err-Refused.is ∙ ap Err c.in-Err-Refused.field-0-is) c.refuse.ensures
 
-pub returns-in-Err-OutletFault : goal.returns-in-Err-OutletFault
-returns-in-Err-OutletFault g c =
+pub returns-in-Err-OutletFault-clause-runs : goal.returns-in-Err-OutletFault-clause-runs
+returns-in-Err-OutletFault-clause-runs g c =
     λ starts lines next run.
     line_failed starts lines (plain c.args.line.now) c.args.machine.now c.line.new.self _ _ c.args.counts.now c.clear.new.self c.line.new.text c.line.result run c.clear.ensures
-    (c.line.ensures starts lines) c.args.counts.now (c.in-Err-OutletFault.is ∙ ap Err c.in-Err-OutletFault.field-0-is)
+    (c.line.ensures.meets starts lines) c.args.counts.now (c.in-Err-OutletFault.is ∙ ap Err c.in-Err-OutletFault.field-0-is)
 
-pub returns-in-Err-Memory : goal.returns-in-Err-Memory
-returns-in-Err-Memory g c =
+pub returns-in-Err-Memory-clause-runs : goal.returns-in-Err-Memory-clause-runs
+returns-in-Err-Memory-clause-runs g c =
     λ starts lines next run.
     line_memory starts lines (plain c.args.line.now) c.args.machine.now c.line.new.self _ _ c.args.counts.now c.clear.new.self c.line.new.text c.line.result run c.clear.ensures
-    (c.line.ensures starts lines) c.args.counts.now (c.in-Err-Memory.is ∙ ap Err c.in-Err-Memory.field-0-is)
+    (c.line.ensures.meets starts lines) c.args.counts.now (c.in-Err-Memory.is ∙ ap Err c.in-Err-Memory.field-0-is)
+
+pub returns-in-Ok-clause-untaken : goal.returns-in-Ok-clause-untaken
+returns-in-Ok-clause-untaken g c = λ starts lines run. c.line.ensures.untaken starts lines _ run.stands
+
+pub returns-in-Err-Refused-clause-untaken : goal.returns-in-Err-Refused-clause-untaken
+returns-in-Err-Refused-clause-untaken g c = λ starts lines run. c.line.ensures.untaken starts lines _ run.stands
+
+pub returns-in-Err-OutletFault-clause-untaken : goal.returns-in-Err-OutletFault-clause-untaken
+returns-in-Err-OutletFault-clause-untaken g c = λ starts lines run. c.line.ensures.untaken starts lines _ run.stands
+
+pub returns-in-Err-Memory-clause-untaken : goal.returns-in-Err-Memory-clause-untaken
+returns-in-Err-Memory-clause-untaken g c = λ starts lines run. c.line.ensures.untaken starts lines _ run.stands

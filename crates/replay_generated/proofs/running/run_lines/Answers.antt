@@ -3,29 +3,29 @@ use Rattle.scenario_generator.specs.Generated.{generated_lines}
 use Rattle.replay_generated.specs.Generated.{lines_made}
 use Rattle.replay_generated.proofs.EndLines.{made_end}
 use Rattle.replay_generated.proofs.GeneratedText.{generated_count, generated_read}
-use Rattle.replay_generated.proofs.Runs.{none_taken, running_none, runs_on, runs_out, runs_through, stops_here}
+use Rattle.replay_generated.proofs.Runs.{none_run, none_taken, running_none, runs_on, runs_out, runs_through, stops_here, untaken_here, untaken_out}
 use Rattle.replay_generated.proofs.running.run_lines.Goals as goal
 
-pub returns-in_default : goal.returns-in_default
-returns-in_default g c =
+pub returns-in_default-clause-ran : goal.returns-in_default-clause-ran
+returns-in_default-clause-ran g c =
     none_taken (map (λ b. (goal.Outlet-dyn g (b.vtable, b.value)).account b.value) c.args.outlets.now.items) (lines_made c.args.seed c.args.events)
 
 pub lines-init : goal.lines-init
 lines-init g c = record {
-  running = running_none (map (λ b. (goal.Outlet-dyn g (b.vtable, b.value)).account b.value) c.args.outlets.now.items) (lines_made c.args.seed c.args.events) _
+  running = running_none c.args.outlets.now.items (map (λ b. (goal.Outlet-dyn g (b.vtable, b.value)).account b.value) c.args.outlets.now.items) (lines_made c.args.seed c.args.events) _
       (generated_lines c.args.seed c.args.events) c.in-Ok.machine c.args.counts.now (generated_read c.args.seed c.args.events c.requires.most) c.new-lines.ensures c.in-Ok.ensures c.requires.none;
   bound = omega (arith, generated_count c.args.seed c.args.events c.requires.most, ap length c.new-lines.ensures);
 }
 
-pub returns-in-Err : goal.returns-in-Err
-returns-in-Err g c =
-    stops_here (map (λ b. (goal.Outlet-dyn g (b.vtable, b.value)).account b.value) c.args.outlets.now.items)
+pub returns-in-Err-clause-ran : goal.returns-in-Err-clause-ran
+returns-in-Err-clause-ran g c =
+    stops_here c.args.outlets.now.items c.lines.outlets.items (map (λ b. (goal.Outlet-dyn g (b.vtable, b.value)).account b.value) c.args.outlets.now.items)
     (map (λ b. (goal.Outlet-dyn g (b.vtable, b.value)).account b.value) c.lines.outlets.items)
     (lines_made c.args.seed c.args.events) c.lines.lines c.lines.number c.lines.machine c.lines.counts c.lines.invariant.running
 
-pub returns-in-Ok-false : goal.returns-in-Ok-false
-returns-in-Ok-false g c =
-    runs_through (map (λ b. (goal.Outlet-dyn g (b.vtable, b.value)).account b.value) c.args.outlets.now.items)
+pub returns-in-Ok-false-clause-ran : goal.returns-in-Ok-false-clause-ran
+returns-in-Ok-false-clause-ran g c =
+    runs_through c.args.outlets.now.items c.lines.outlets.items (map (λ b. (goal.Outlet-dyn g (b.vtable, b.value)).account b.value) c.args.outlets.now.items)
     (map (λ b. (goal.Outlet-dyn g (b.vtable, b.value)).account b.value) c.lines.outlets.items)
     (lines_made c.args.seed c.args.events) c.lines.lines c.lines.number c.lines.machine c.lines.counts c.lines.invariant.running
     (c.next_line.ensures.none (c.in-Ok-false.is ∙ ap Ok c.in-Ok-false.field-0-test))
@@ -36,22 +36,44 @@ lines-preserved g c =
     let next = c.next_line.ensures.next (c.in-Ok-true.is ∙ ap Ok c.in-Ok-true.field-0-test) in
     let starts = map (λ b. (goal.Outlet-dyn g (b.vtable, b.value)).account b.value) c.args.outlets.now.items in
     record {
-      running = runs_on starts
+      running = runs_on c.args.outlets.now.items c.lines.outlets.items starts
           (map (λ b. (goal.Outlet-dyn g (b.vtable, b.value)).account b.value) c.lines.outlets.items)
           (lines_made c.args.seed c.args.events) c.lines.lines c.lines.number c.lines.machine c.lines.counts c.lines.invariant.running
           c.as_slice.result.now c.next_line.new.self (next ∙ ap (λ l. l ∷ c.next_line.new.self) (sym c.as_slice.ensures))
-          (map (λ b. (goal.Outlet-dyn g (b.vtable, b.value)).account b.value) c.run_line.new.outlets.items)
-          c.run_line.new.machine c.run_line.new.counts (c.lines.number + 1) c.run_line.result refl c.in-None.is (c.run_line.ensures starts);
+          c.run_line.new.outlets.items (map (λ b. (goal.Outlet-dyn g (b.vtable, b.value)).account b.value) c.run_line.new.outlets.items)
+          c.run_line.new.machine c.run_line.new.counts (c.lines.number + 1) c.run_line.result refl c.in-None.is (c.run_line.ensures.untaken starts) (c.run_line.ensures.runs starts);
       bound = omega (arith, c.lines.invariant.bound, ap length next);
     }
 
-pub returns-in-Some : goal.returns-in-Some
-returns-in-Some g c =
+pub returns-in-Some-clause-ran : goal.returns-in-Some-clause-ran
+returns-in-Some-clause-ran g c =
     let next = c.next_line.ensures.next (c.in-Ok-true.is ∙ ap Ok c.in-Ok-true.field-0-test) in
     let starts = map (λ b. (goal.Outlet-dyn g (b.vtable, b.value)).account b.value) c.args.outlets.now.items in
-    runs_out starts
+    runs_out c.args.outlets.now.items c.lines.outlets.items starts
     (map (λ b. (goal.Outlet-dyn g (b.vtable, b.value)).account b.value) c.lines.outlets.items)
     (lines_made c.args.seed c.args.events) c.lines.lines c.lines.number c.lines.machine c.lines.counts c.lines.invariant.running
     c.as_slice.result.now c.next_line.new.self (next ∙ ap (λ l. l ∷ c.next_line.new.self) (sym c.as_slice.ensures))
     (map (λ b. (goal.Outlet-dyn g (b.vtable, b.value)).account b.value) c.run_line.new.outlets.items)
-    c.run_line.new.machine c.run_line.new.counts (c.lines.number + 1) c.run_line.result c.in-Some.ending refl c.in-Some.is (c.run_line.ensures starts)
+    c.run_line.new.machine c.run_line.new.counts (c.lines.number + 1) c.run_line.result c.in-Some.ending refl c.in-Some.is (c.run_line.ensures.runs starts)
+
+pub returns-in-Err-clause-untaken : goal.returns-in-Err-clause-untaken
+returns-in-Err-clause-untaken g c =
+    untaken_here c.args.outlets.now.items c.lines.outlets.items (map (λ b. (goal.Outlet-dyn g (b.vtable, b.value)).account b.value) c.args.outlets.now.items)
+    (map (λ b. (goal.Outlet-dyn g (b.vtable, b.value)).account b.value) c.lines.outlets.items)
+    (lines_made c.args.seed c.args.events) c.lines.lines c.lines.number c.lines.machine c.lines.counts c.lines.invariant.running
+
+pub returns-in-Ok-false-clause-untaken : goal.returns-in-Ok-false-clause-untaken
+returns-in-Ok-false-clause-untaken g c =
+    untaken_here c.args.outlets.now.items c.lines.outlets.items (map (λ b. (goal.Outlet-dyn g (b.vtable, b.value)).account b.value) c.args.outlets.now.items)
+    (map (λ b. (goal.Outlet-dyn g (b.vtable, b.value)).account b.value) c.lines.outlets.items)
+    (lines_made c.args.seed c.args.events) c.lines.lines c.lines.number c.lines.machine c.lines.counts c.lines.invariant.running
+
+pub returns-in-Some-clause-untaken : goal.returns-in-Some-clause-untaken
+returns-in-Some-clause-untaken g c =
+    untaken_out c.args.outlets.now.items c.lines.outlets.items (map (λ b. (goal.Outlet-dyn g (b.vtable, b.value)).account b.value) c.args.outlets.now.items)
+    (map (λ b. (goal.Outlet-dyn g (b.vtable, b.value)).account b.value) c.lines.outlets.items)
+    (lines_made c.args.seed c.args.events) c.lines.lines c.lines.number c.lines.machine c.lines.counts c.lines.invariant.running
+    c.run_line.new.outlets.items (c.run_line.ensures.untaken (map (λ b. (goal.Outlet-dyn g (b.vtable, b.value)).account b.value) c.args.outlets.now.items))
+
+pub returns-in_default-clause-untaken : goal.returns-in_default-clause-untaken
+returns-in_default-clause-untaken g c = none_run (map (λ b. (goal.Outlet-dyn g (b.vtable, b.value)).account b.value) c.args.outlets.now.items) (lines_made c.args.seed c.args.events) c.args.outlets.now.items

@@ -5,7 +5,7 @@ use Rattle.replay_generated.proofs.running.run_lines.Given as goal
 
 abbrev pub invariant-lines : goal.invariant-lines
 invariant-lines g l = record {
-  running : Running
+  running : Running l.initial.outlets.items l.outlets.items
       (map (λ b. (goal.Outlet-dyn g (b.vtable, b.value)).account b.value) l.initial.outlets.items)
       (map (λ b. (goal.Outlet-dyn g (b.vtable, b.value)).account b.value) l.outlets.items)
       (lines_made l.fn.seed l.fn.events) l.lines l.number l.machine l.counts;
