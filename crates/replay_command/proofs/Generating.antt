@@ -24,6 +24,8 @@ none_run seed events old = record {
     boxes = took_all old.boxes [];
   };
   no_write_fault = λ other. refl;
+  no_outlet_fault = λ other box. refl;
+  one_outlet_fault = record { place = 0; others = λ box apart. refl };
   complete = λ airs meets two room counts. tt;
 }
 

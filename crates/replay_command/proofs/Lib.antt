@@ -6,6 +6,7 @@ mod LineEndings
 mod LineSteps
 mod Completing
 mod OtherAirs
+mod Counting
 mod Untaken
 mod Migrating
 mod Generating

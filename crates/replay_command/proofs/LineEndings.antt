@@ -21,13 +21,13 @@ use Rattle.replay_steps.specs.declared.machine.Machine.{Machine}
 use Rattle.scenario_sinks.specs.Handing.{BoxFails, CutShort}
 use Rattle.replay_steps.specs.Meets.{BoxesStand}
 use Rattle.replay_steps.specs.LineMeets.{LinesStand, refusal_at, output_at}
-use Rattle.replay_command.specs.Replayed.{Comes, brought_by, BoxesCut, BoxFailed, Broken, OutletFaulted, ReadsAhead, CutAt, BoxesAt}
+use Rattle.replay_command.specs.Replayed.{Comes, brought_by, BoxesCut, Broken, FaultCut, OutletFaulted, ReadsAhead, CutAt, BoxesAt}
 use Rattle.replay_command.specs.Ended.{Ended}
 use Rattle.replay_command.specs.State.Between.{Refuses, Puts, StepRuns}
 use Rattle.replay_command.proofs.Endings.{out_then, out_all, ends_refused, writes_refused, units_all, units_refused, took_history, front_of_short, front_none}
 use Rattle.replay_command.proofs.RefusalLaws.{never_no_end}
 use Rattle.replay_command.proofs.LineUnits.{Brings, CutFor, brings_nothing, brings_refused, brings_output, brings_units, cut_before}
-use Rattle.replay_command.proofs.LineUnits.{cut_after, cut_within, cut_failed, at_refused, at_front, at_after}
+use Rattle.replay_command.proofs.LineUnits.{cut_after, cut_within, at_refused, at_front, at_after, took_before}
 
 -- ---- a write that was cut short
 
@@ -50,13 +50,13 @@ lines_now left left' history line c =
 
 pub ends_broken : (starts : List Account) (history : List TextLine) (line : TextLine) (left left' kept mid kept' : Option (List ℕ)) (accounts : List Account) (octets : List ℕ)
     → Comes left left' history line → Accepted (rules_of airs_of starts) history → Appends kept mid (brought (rules_of airs_of starts) history)
-    → Brings starts history line octets → CutFor starts history line accounts → AppendsFront mid kept' octets
+    → Brings starts history line octets → CutFor starts history line accounts ⊎ FaultCut airs_of starts accounts left left' kept kept' → AppendsFront mid kept' octets
     → Broken airs_of starts accounts left left' kept kept'
 ends_broken starts history line left left' kept mid kept' accounts octets c accepted written brings cut f =
     let now = lines_now left left' history line c in
     let more = brings now.0 in
     let so_far = brought (rules_of airs_of starts) history in
-    let P : List TextLine → Type 0 = λ ls. BoxesCut airs_of starts accounts ls ⊎ BoxFailed airs_of starts accounts ls in
+    let P : List TextLine → Type 0 = λ ls. BoxesCut airs_of starts accounts ls in
     record {
       text = c.text;
       over = c.over;
@@ -64,7 +64,7 @@ ends_broken starts history line left left' kept mid kept' accounts octets c acce
       written = brought_front c.over starts kept kept' c.text (so_far ++ octets) more.0
           (ap (out_of airs_of starts) now.1 ∙ out_then starts history accepted (line ∷ now.0) ∙ ap (λ rest. so_far ++ rest) more.1 ∙ sym (append_assoc so_far octets more.0))
           (AppendsFront-then kept mid kept' so_far octets written f);
-      boxes = subst P (sym now.1) (cut now.0);
+      boxes = elim cut [ inl front ↦ inl (subst P (sym now.1) (front now.0)) | inr failed ↦ inr failed ];
     }
 
 ends_cut : (starts : List Account) (history : List TextLine) (line : TextLine) (left left' kept mid kept' : Option (List ℕ)) (accounts : List Account) (octets : List ℕ) (number : ℕ)
@@ -107,7 +107,7 @@ ends_cut starts history line left left' kept mid kept' accounts octets number is
 ends_write : (starts : List Account) (history : List TextLine) (line : TextLine) (left left' kept mid kept' : Option (List ℕ)) (accounts : List Account) (octets : List ℕ) (number : ℕ)
     → number ≡ length history + 1 → Comes left left' history line → ReadsAhead left left' number
     → Accepted (rules_of airs_of starts) history → Appends kept mid (brought (rules_of airs_of starts) history)
-    → Brings starts history line octets → CutFor starts history line accounts → BoxesAt airs_of starts accounts history line → AppendsShort mid kept' octets
+    → Brings starts history line octets → CutFor starts history line accounts ⊎ FaultCut airs_of starts accounts left left' kept kept' → BoxesAt airs_of starts accounts history line → AppendsShort mid kept' octets
     → Ended airs_of statuses.WriteFault starts accounts left left' kept kept'
 ends_write starts history line left left' kept mid kept' accounts octets number is_next c ahead accepted written brings cut at s = (
   ends_broken starts history line left left' kept mid kept' accounts octets c accepted written brings cut (front_of_short mid kept' octets s),
@@ -127,10 +127,10 @@ ends_refusal starts history line left left' kept mid kept' accounts number reaso
 ends_refusal starts history line left left' kept mid kept' accounts number reason is_next c ahead accepted written b because statuses.OutletFault f = absurd f
 ends_refusal starts history line left left' kept mid kept' accounts number reason is_next c ahead accepted written b because statuses.Memory f =
     ends_broken starts history line left left' kept mid kept' accounts (refusal_line number reason) c accepted written
-    (brings_refused starts history line reason number is_next accepted because) (cut_before starts accounts history line accepted b) f
+    (brings_refused starts history line reason number is_next accepted because) (inl (cut_before starts accounts history line accepted b)) f
 ends_refusal starts history line left left' kept mid kept' accounts number reason is_next c ahead accepted written b because statuses.WriteFault f =
     ends_write starts history line left left' kept mid kept' accounts (refusal_line number reason) number is_next c ahead accepted written
-    (brings_refused starts history line reason number is_next accepted because) (cut_before starts accounts history line accepted b)
+    (brings_refused starts history line reason number is_next accepted because) (inl (cut_before starts accounts history line accepted b))
     (at_refused starts accounts history line reason accepted because b) f
 ends_refusal starts history line left left' kept mid kept' accounts number reason is_next c ahead accepted written b because (statuses.Refused at why) f =
     let so_far = brought (rules_of airs_of starts) history in
@@ -180,12 +180,12 @@ step_put starts history line left left' kept mid kept' machine accounts number o
 step_put starts history line left left' kept mid kept' machine accounts number octets is_next c ahead accepted written none stands told (Some statuses.WriteFault) p =
     let P : List ℕ → Type 0 = λ xs. AppendsShort mid kept' xs in
     ends_write starts history line left left' kept mid kept' accounts (output_at starts history line) number is_next c ahead accepted written
-    (brings_output starts history line accepted none) (cut_after starts accounts history line accepted none stands.boxes)
+    (brings_output starts history line accepted none) (inl (cut_after starts accounts history line accepted none stands.boxes))
     (at_after starts accounts history line accepted none stands.boxes) (subst P told p)
 step_put starts history line left left' kept mid kept' machine accounts number octets is_next c ahead accepted written none stands told (Some statuses.Memory) p =
     let P : List ℕ → Type 0 = λ xs. AppendsShort mid kept' xs in
     ends_broken starts history line left left' kept mid kept' accounts (output_at starts history line) c accepted written
-    (brings_output starts history line accepted none) (cut_after starts accounts history line accepted none stands.boxes) (front_of_short mid kept' (output_at starts history line) (subst P told p))
+    (brings_output starts history line accepted none) (inl (cut_after starts accounts history line accepted none stands.boxes)) (front_of_short mid kept' (output_at starts history line) (subst P told p))
 step_put starts history line left left' kept mid kept' machine accounts number octets is_next c ahead accepted written none stands told (Some statuses.Done) p = absurd p
 step_put starts history line left left' kept mid kept' machine accounts number octets is_next c ahead accepted written none stands told (Some statuses.Usage) p = absurd p
 step_put starts history line left left' kept mid kept' machine accounts number octets is_next c ahead accepted written none stands told (Some statuses.ReadFault) p = absurd p
@@ -202,6 +202,22 @@ module _ (starts : List Account) (history : List TextLine) (line : TextLine) (le
   brings_told =
       let P : List ℕ → Type 0 = λ xs. Brings starts history line xs in
       subst P (sym f.lines) (brings_units starts history line f.done (f.unit ∷ f.rest) accepted none f.split)
+
+  -- writing what comes before the unit was cut short
+  fault_cut : AppendsShort mid kept' told → FaultCut airs_of starts after left left' kept kept'
+  fault_cut short = record {
+    earlier = history;
+    line = line;
+    comes = c;
+    accepted = (accepted, none);
+    accounts = before;
+    before = took_before starts before history accepted b;
+    told = told;
+    fails = f;
+    between = mid;
+    written = let P : List ℕ → Type 0 = λ xs. Appends kept mid xs in subst P (sym (out_all starts history accepted)) written;
+    cut = short;
+  }
 
   pub outlet_put : (result : Option Status) → Puts told mid kept' result
       → (status : Status) → result ≡ Some status ⊎ ((result ≡ None) × (status ≡ statuses.OutletFault)) → Ended airs_of status starts after left left' kept kept'
@@ -221,7 +237,7 @@ module _ (starts : List Account) (history : List TextLine) (line : TextLine) (le
         ahead = let P : ℕ → Type 0 = λ n. ReadsAhead left left' n in subst P is_next ahead;
         accepted = (accepted, none);
         accounts = before;
-        before = let P : List SinkUnit → Type 0 = λ u. Took starts before u in subst P (sym (units_all starts history accepted)) (took_history starts before history b);
+        before = took_before starts before history accepted b;
         told = brought (rules_of airs_of starts) history ++ told;
         fails = record {
           done = f.done;
@@ -242,11 +258,11 @@ module _ (starts : List Account) (history : List TextLine) (line : TextLine) (le
       stopped : (status : Status) → Puts told mid kept' (Some status) → Ended airs_of status starts after left left' kept kept'
       stopped statuses.WriteFault p =
           ends_write starts history line left left' kept mid kept' after told number is_next c ahead accepted written
-          brings_told (cut_failed starts before after history line [] told accepted none b f)
+          brings_told (inr (fault_cut p))
           (at_front starts before after history line accepted none b (inr (told, f))) p
       stopped statuses.Memory p =
           ends_broken starts history line left left' kept mid kept' after told c accepted written
-          brings_told (cut_failed starts before after history line [] told accepted none b f) (front_of_short mid kept' told p)
+          brings_told (inr (fault_cut p)) (front_of_short mid kept' told p)
       stopped statuses.Done p = absurd p
       stopped statuses.Usage p = absurd p
       stopped statuses.ReadFault p = absurd p
@@ -260,7 +276,7 @@ pub step_memory : (starts : List Account) (history : List TextLine) (line : Text
     → (after ≡ before) ⊎ ((refusal_at starts history line ≡ None) × CutShort (handed_on airs_of history line) before after)
     → Broken airs_of starts after left left' kept mid
 step_memory starts history line left left' kept mid before after c accepted written b how =
-    ends_broken starts history line left left' kept mid mid after [] c accepted written (brings_nothing starts history line) (cut how) (front_none mid [])
+    ends_broken starts history line left left' kept mid mid after [] c accepted written (brings_nothing starts history line) (inl (cut how)) (front_none mid [])
   where
     cut : (after ≡ before) ⊎ ((refusal_at starts history line ≡ None) × CutShort (handed_on airs_of history line) before after) → CutFor starts history line after
     cut (inl same) = let P : List Account → Type 0 = λ a. CutFor starts history line a in subst P (sym same) (cut_before starts before history line accepted b)

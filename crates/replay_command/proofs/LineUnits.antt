@@ -17,7 +17,7 @@ use Rattle.scenario_text.specs.declared.step.Step.TheVariants as kinds
 use Rattle.scenario_sinks.specs.Handing.{BoxFails, CutShort}
 use Rattle.replay_steps.specs.Meets.{BoxesStand}
 use Rattle.replay_steps.specs.LineMeets.{refusal_at, output_at}
-use Rattle.replay_command.specs.Replayed.{BoxesCut, BoxFailed, BoxesAt, TookFront}
+use Rattle.replay_command.specs.Replayed.{BoxesCut, BoxesAt, TookFront}
 use Rattle.replay_steps.proofs.Citable.{accounts_append, lines_append}
 use Rattle.replay_command.proofs.Endings.{out_line, out_refused, units_then, units_all, units_refused, units_rest, handed_line, took_history}
 
@@ -28,8 +28,7 @@ Brings starts history line octets =
 
 -- whatever comes after the line, the boxes took a front of the units
 abbrev pub CutFor : List Account → List TextLine → TextLine → List Account → Type 0
-CutFor starts history line accounts =
-    (later : List TextLine) → BoxesCut airs_of starts accounts (reverse history ++ line ∷ later) ⊎ BoxFailed airs_of starts accounts (reverse history ++ line ∷ later)
+CutFor starts history line accounts = (later : List TextLine) → BoxesCut airs_of starts accounts (reverse history ++ line ∷ later)
 
 -- ---- what a line brings
 
@@ -97,24 +96,24 @@ pub cut_before : (starts accounts : List Account) (history : List TextLine) (lin
     → BoxesStand starts (steps_of history) accounts → CutFor starts history line accounts
 cut_before starts accounts history line accepted b later =
     let more = units_rest starts history (line ∷ later) in
-    inl (record {
+    record {
       done = handed_up airs_of (steps_of history);
       rest = more.0;
       split = units_then starts history accepted (line ∷ later) ∙ more.1;
       boxes = took_history starts accounts history b;
-    })
+    }
 
 pub cut_after : (starts accounts : List Account) (history : List TextLine) (line : TextLine) → Accepted (rules_of airs_of starts) history
     → refusal_at starts history line ≡ None → BoxesStand starts (steps_of (line ∷ history)) accounts → CutFor starts history line accounts
 cut_after starts accounts history line accepted none b later =
     let more = units_line starts history line later accepted none in
-    inl (record {
+    record {
       done = handed_up airs_of (steps_of (line ∷ history));
       rest = more.0;
       split = more.1 ∙ sym (append_assoc (handed_up airs_of (steps_of history)) (handed_on airs_of history line) more.0)
           ∙ ap (λ front. front ++ more.0) (sym (handed_line history line));
       boxes = took_history starts accounts (line ∷ history) b;
-    })
+    }
 
 pub cut_within : (starts before after : List Account) (history : List TextLine) (line : TextLine) → Accepted (rules_of airs_of starts) history
     → refusal_at starts history line ≡ None → BoxesStand starts (steps_of history) before → CutShort (handed_on airs_of history line) before after
@@ -123,30 +122,13 @@ cut_within starts before after history line accepted none b c later =
     let more = units_line starts history line later accepted none in
     let all = handed_up airs_of (steps_of history) in
     let P : List Account → Type 0 = λ a. Took starts a (all ++ c.done) in
-    inl (record {
+    record {
       done = all ++ c.done;
       rest = c.rest ++ more.0;
       split = more.1 ∙ ap (λ units. all ++ (units ++ more.0)) c.split ∙ ap (λ rest. all ++ rest) (append_assoc c.done c.rest more.0)
           ∙ sym (append_assoc all c.done (c.rest ++ more.0));
       boxes = subst P (accounts_append all c.done starts ∙ ap (λ a. accounts_after a c.done) (sym b.accounts_are) ∙ sym c.boxes) (took_all starts (all ++ c.done));
-    })
-
-pub cut_failed : (starts before after : List Account) (history : List TextLine) (line : TextLine) (text told : List ℕ) → Accepted (rules_of airs_of starts) history
-    → refusal_at starts history line ≡ None → BoxesStand starts (steps_of history) before → BoxFails (handed_on airs_of history line) text told before after
-    → CutFor starts history line after
-cut_failed starts before after history line text told accepted none b f later =
-    let more = units_line starts history line later accepted none in
-    inr (record {
-      before = handed_up airs_of (steps_of history);
-      behind = more.0;
-      units = handed_on airs_of history line;
-      split = more.1 ∙ sym (append_assoc (handed_up airs_of (steps_of history)) (handed_on airs_of history line) more.0);
-      accounts = before;
-      boxes = took_history starts before history b;
-      text = text;
-      told = told;
-      fails = f;
-    })
+    }
 
 -- ---- what the boxes took where a write was cut short
 
@@ -158,7 +140,7 @@ units_added starts history line accepted none =
     ∙ handed_line history line
     ∙ ap (λ front. front ++ handed_on airs_of history line) (sym (units_all starts history accepted))
 
-took_before : (starts accounts : List Account) (history : List TextLine) → Accepted (rules_of airs_of starts) history → BoxesStand starts (steps_of history) accounts
+pub took_before : (starts accounts : List Account) (history : List TextLine) → Accepted (rules_of airs_of starts) history → BoxesStand starts (steps_of history) accounts
     → Took starts accounts (units_of airs_of starts (reverse history))
 took_before starts accounts history accepted b =
     let P : List SinkUnit → Type 0 = λ u. Took starts accounts u in subst P (sym (units_all starts history accepted)) (took_history starts accounts history b)

@@ -1,5 +1,5 @@
 -- What a call did over one air it did over any other that gives the same transcripts.
-use Rattle.std.proofs.Common.{◌≡◌, ◌≤◌, ◌<◌, ℕ, Bool, true, false, List, ◌∷◌, ◌++◌, length, reverse, sym, ap, subst, ◌∙◌, Option, inl, inr}
+use Rattle.std.proofs.Common.{◌≡◌, ◌≤◌, ◌<◌, ℕ, Bool, true, false, List, [], ◌∷◌, ◌++◌, length, reverse, sym, ap, subst, ◌∙◌, Option, inl, inr, ◌⊎◌}
 use Rattle.std.specs.Io.KnownBytes.{Appends}
 use Rattle.bcast_io.specs.TextLines.{TextLine, lines_of}
 use Rattle.bcast_io.specs.Writing.{AppendsFront}
@@ -13,9 +13,10 @@ use Rattle.scenario_history.specs.Source.{Airs}
 use Rattle.scenario_history.specs.Transcript.{end_after, out_of, transcript_end, transcript_of, units_of}
 use Rattle.replay_command.specs.declared.status.Status.{Status}
 use Rattle.replay_command.specs.declared.status.Status.TheVariants as statuses
-use Rattle.replay_command.specs.Ended.{AheadOf, Complete, Ended, RoomForText}
+use Rattle.scenario_sinks.specs.Faults.{CountsStay}
+use Rattle.replay_command.specs.Ended.{AheadOf, Complete, Ended, IsCut, RoomForText}
 use Rattle.replay_generated.specs.Generated.{RoomFor}
-use Rattle.replay_command.specs.Replayed.{BoxFailed, BoxesAt, BoxesCut, Broken, CutAt, Done, NoEndCut, OutletFaulted, ReadFaulted, RefusedAt, WriteCut, brought_by}
+use Rattle.replay_command.specs.Replayed.{BoxesAt, BoxesCut, Broken, CutAt, Done, FaultCut, NoEndCut, OutletFaulted, ReadFaulted, RefusedAt, WriteCut, brought_by}
 
 -- both airs give the same
 pub record Same (airs others : Airs) : Type 0 where
@@ -71,17 +72,19 @@ module _ (airs others : Airs) (same : Same airs others) (starts ends : List Acco
   cut_as : (lines : List TextLine) → BoxesCut airs starts ends lines → BoxesCut others starts ends lines
   cut_as lines d = record { done = d.done; rest = d.rest; split = sym (same.units starts lines) ∙ d.split; boxes = d.boxes }
 
-  failed_as : (lines : List TextLine) → BoxFailed airs starts ends lines → BoxFailed others starts ends lines
-  failed_as lines d = record {
-    before = d.before;
-    behind = d.behind;
-    units = d.units;
-    split = sym (same.units starts lines) ∙ d.split;
+  failed_as : FaultCut airs starts ends left left' kept kept' → FaultCut others starts ends left left' kept kept'
+  failed_as d = record {
+    earlier = d.earlier;
+    line = d.line;
+    comes = d.comes;
+    accepted = same.accepted starts (d.line ∷ d.earlier) d.accepted;
     accounts = d.accounts;
-    boxes = d.boxes;
-    text = d.text;
+    before = took_as starts d.accounts _ _ (same.units starts (reverse d.earlier)) d.before;
     told = d.told;
-    fails = d.fails;
+    fails = subst (λ units. BoxFails units [] d.told d.accounts ends) (same.handed starts d.earlier d.line d.accepted.0) d.fails;
+    between = d.between;
+    written = subst (λ octets. Appends kept d.between octets) (same.out starts (reverse d.earlier)) d.written;
+    cut = d.cut;
   }
 
   broken_as : Broken airs starts ends left left' kept kept' → Broken others starts ends left left' kept kept'
@@ -92,7 +95,7 @@ module _ (airs others : Airs) (same : Same airs others) (starts ends : List Acco
     written = subst (λ octets. AppendsFront kept kept' octets) (brought_as d.over d.text) d.written;
     boxes = elim d.boxes [
       | inl cut ↦ inl (cut_as (lines_of d.over d.text) cut)
-      | inr failed ↦ inr (failed_as (lines_of d.over d.text) failed)
+      | inr failed ↦ inr (failed_as failed)
     ];
   }
 
@@ -186,3 +189,7 @@ module _ (airs others : Airs) (same : Same airs others) (starts ends : List Acco
     room = λ room. d.room (room_as text room);
     no_fault = λ room. d.no_fault (room_as text room);
   }
+
+  pub counts_as : (status : Status) → CountsStay starts ends ⊎ (IsCut status × FaultCut airs starts ends left left' kept kept')
+      → CountsStay starts ends ⊎ (IsCut status × FaultCut others starts ends left left' kept kept')
+  counts_as status counts = elim counts [ inl stay ↦ inl stay | inr failed ↦ inr (failed.0, failed_as failed.1) ]

@@ -22,10 +22,11 @@ use Rattle.scenario_history.specs.Source.{Airs}
 use Rattle.scenario_history.specs.Transcript.{transcript_of}
 use Rattle.replay_command.specs.World.{World}
 use Rattle.replay_command.proofs.Completing.{ended_at, ended_whole, ended_ahead, ended_complete}
+use Rattle.replay_command.proofs.Counting.{ended_counts, ended_one}
 use Rattle.replay_command.proofs.Endings.{ends_at_once}
 use Rattle.replay_command.proofs.Migrating.{migrated_none}
 use Rattle.replay_command.proofs.Generating.{generated_none}
-use Rattle.replay_command.proofs.OtherAirs.{Same, ahead_as, complete_as, ended_as, took_text_as}
+use Rattle.replay_command.proofs.OtherAirs.{Same, ahead_as, complete_as, counts_as, ended_as, took_text_as}
 use Rattle.replay_command.proofs.ReadingOn.{none_within}
 
 -- any airs that meet their relation give the same transcripts
@@ -66,6 +67,10 @@ module _ (old new : World) (status : Status) where
     memory = did laws.same e statuses.Memory;
     no_read_fault = no_read;
     no_write_fault = no_write;
+    no_outlet_fault = λ airs meets other.
+        counts_as airs_of airs (laws.same airs meets) old.boxes new.boxes old.left new.left old.taken new.taken status
+        (ended_counts status old.boxes new.boxes old.left new.left old.taken new.taken e other);
+    one_outlet_fault = ended_one status old.boxes new.boxes old.left new.left old.taken new.taken e;
     boxes = λ airs meets text is whole.
         took_text_as airs_of airs (laws.same airs meets) old.boxes new.boxes old.left new.left old.taken new.taken text
         (ended_whole text old.boxes new.boxes old.left new.left old.taken new.taken status e is whole);

@@ -41,6 +41,12 @@ IsWhole statuses.Done = Unit {0}
 IsWhole (statuses.Refused line reason) = Unit {0}
 IsWhole _ = ⊥
 
+-- writing was cut short, or memory ran out
+abbrev pub IsCut : Status → Type 0
+IsCut statuses.WriteFault = Unit {0}
+IsCut statuses.Memory = Unit {0}
+IsCut _ = ⊥
+
 -- At most so many octets were read past the end of the line of a refusal other than NoEnd, and past that in whose octets
 -- a write was cut. What an outlet fault says of the line of its unit has the same.
 abbrev pub AheadOf : Airs → Status → List Account → List Account → Option (List ℕ) → Option (List ℕ) → Option (List ℕ) → Option (List ℕ) → Type 0

@@ -1,6 +1,6 @@
 -- What a call of `replay` promises of the outside before it and after it, by its status, where its words mean replay. The
 -- program is this project's own.
-use Rattle.std.specs.Prelude.{ℕ, ◌≡◌, ◌≢◌, true, List, Some}
+use Rattle.std.specs.Prelude.{ℕ, ◌≡◌, ◌≢◌, ◌⊎◌, true, List, Some}
 use Rattle.bcast_base.specs.Counts.{Rose}
 use Rattle.bcast_io.specs.TextLines.{TextLine, lines_of}
 use Rattle.transcript_text.specs.declared.refusal.Refusal.{Refusal}
@@ -8,10 +8,11 @@ use Rattle.scenario_history.specs.Airs.{MeetAirs}
 use Rattle.scenario_history.specs.Boxes.{Took}
 use Rattle.scenario_history.specs.Source.{Airs}
 use Rattle.scenario_history.specs.Transcript.{transcript_of, units_of}
+use Rattle.scenario_sinks.specs.Faults.{CountsStay, OneCounts}
 use Rattle.replay_command.specs.declared.status.Status.{Status}
 use Rattle.replay_command.specs.declared.status.Status.TheVariants as statuses
-use Rattle.replay_command.specs.Ended.{AheadOf, Complete, Ended, IsWhole}
-use Rattle.replay_command.specs.Replayed.{ReadsAtMost, read_limit}
+use Rattle.replay_command.specs.Ended.{AheadOf, Complete, Ended, IsCut, IsWhole}
+use Rattle.replay_command.specs.Replayed.{FaultCut, ReadsAtMost, read_limit}
 use Rattle.isolation_laws.specs.Isolation.{IsolationLaw}
 use Rattle.scenario_laws.specs.Laws.{UnitsLaw, OrderLaw}
 use Rattle.scenario_laws.specs.Links.{AgreementLaw, LinksLaw}
@@ -45,6 +46,11 @@ pub record Promised (old new : World) (status : Status) : Type 0 where
   pub no_read_fault : status ≢ statuses.ReadFault → new.reads ≡ old.reads
   -- The sink's count stays with each status but WriteFault.
   pub no_write_fault : status ≢ statuses.WriteFault → new.writes ≡ old.writes
+  -- Each box's count stays with each status but OutletFault; or the status is WriteFault or Memory, and what comes before the
+  -- unit that a box refused wasn't written whole. The count of at most one box changes.
+  pub no_outlet_fault : (airs : Airs) → MeetAirs airs → status ≢ statuses.OutletFault
+      → CountsStay old.boxes new.boxes ⊎ (IsCut status × FaultCut airs old.boxes new.boxes old.left new.left old.taken new.taken)
+  pub one_outlet_fault : OneCounts old.boxes new.boxes
   -- The boxes took the units of the whole text, where the transcript was written to its end or to its refusal.
   pub boxes : (airs : Airs) → MeetAirs airs → (text : List ℕ) → old.left ≡ Some text → IsWhole status
       → Took old.boxes new.boxes (units_of airs old.boxes (lines_of true text))

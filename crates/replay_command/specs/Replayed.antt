@@ -5,7 +5,7 @@ use Rattle.std.specs.Prelude.{ℕ, ◌≡◌, ◌≤◌, ◌<◌, ◌⊎◌, ◌
 use Rattle.std.specs.Io.KnownBytes.{Appends, Consumes, IsAtEnd}
 use Rattle.bcast_io.specs.TextLines.{TextLine, lines_of, text_limit}
 use Rattle.bcast_io.specs.State.Reading.{MayFollow}
-use Rattle.bcast_io.specs.Writing.{AppendsFront}
+use Rattle.bcast_io.specs.Writing.{AppendsFront, AppendsShort}
 use Rattle.unit_outlets.specs.Account.{Account}
 use Rattle.transcript_text.specs.declared.refusal.Refusal.{Refusal}
 use Rattle.transcript_text.specs.declared.refusal.Refusal.TheVariants.{NoEnd}
@@ -72,26 +72,29 @@ pub record BoxesCut (airs : Airs) (starts ends : List Account) (lines : List Tex
   pub split : units_of airs starts lines ≡ done ++ rest
   pub boxes : Took starts ends done
 
--- the boxes took a front of the units of these lines, and then one of them failed at the next unit and counted it
-pub record BoxFailed (airs : Airs) (starts ends : List Account) (lines : List TextLine) : Type 0 where
-  pub before : List SinkUnit
-  pub behind : List SinkUnit
-  pub units : List SinkUnit
-  pub split : units_of airs starts lines ≡ before ++ units ++ behind
+-- The lines before one were run, and none is refused; the box of a unit that this line hands up failed and counted it. What
+-- those lines bring was written, and then a front of what this one brings before the unit, and not all of that.
+pub record FaultCut (airs : Airs) (starts ends : List Account) (left left' kept kept' : Option (List ℕ)) : Type 0 where
+  pub earlier : List TextLine
+  pub line : TextLine
+  pub comes : Comes left left' earlier line
+  pub accepted : Accepted (rules_of airs starts) (line ∷ earlier)
   pub accounts : List Account
-  pub boxes : Took starts accounts before
-  pub text : List ℕ
+  pub before : Took starts accounts (units_of airs starts (reverse earlier))
   pub told : List ℕ
-  pub fails : BoxFails units text told accounts ends
+  pub fails : BoxFails (handed_on airs earlier line) [] told accounts ends
+  pub between : Option (List ℕ)
+  pub written : Appends kept between (out_of airs starts (reverse earlier))
+  pub cut : AppendsShort between kept' told
 
--- WriteFault and Memory: a front of what the lines read bring was written, and the boxes took a front of their units;
--- at most one box failed
+-- WriteFault and Memory: a front of what the lines read bring was written, and the boxes took a front of their units; or one
+-- of them failed, and what comes before its unit wasn't written whole
 pub record Broken (airs : Airs) (starts ends : List Account) (left left' kept kept' : Option (List ℕ)) : Type 0 where
   pub text : List ℕ
   pub over : Bool
   pub read : TextRead left left' text over
   pub written : AppendsFront kept kept' (brought_by airs over starts text)
-  pub boxes : BoxesCut airs starts ends (lines_of over text) ⊎ BoxFailed airs starts ends (lines_of over text)
+  pub boxes : BoxesCut airs starts ends (lines_of over text) ⊎ FaultCut airs starts ends left left' kept kept'
 
 -- At most so many octets were read past the end of this line, from 1: but for the last ones, the octets that a call took
 -- from its source hold no more lines.

@@ -19,7 +19,9 @@ use Rattle.scenario_history.specs.Boxes.{SinkUnit, Took}
 use Rattle.scenario_history.specs.Lines.{rules_of, handed_on}
 use Rattle.scenario_history.specs.Source.{Airs}
 use Rattle.scenario_history.specs.Transcript.{transcript_of, transcript_end, units_of}
+use Rattle.scenario_sinks.specs.Faults.{CountsStay, OneCounts}
 use Rattle.scenario_sinks.specs.Handing.{BoxFails}
+use Rattle.scenario_sinks.proofs.Citable.{failed_one, none_counts, one_then, took_stay}
 use Rattle.replay_generated.specs.Generated.{BoxFailed, CutShort, Did, EndedOver, GeneratedRun, IsDoneOrMemory, RoomFor, Summed, lines_made, summary_in}
 use Rattle.replay_generated.specs.State.Between.{Ends, FrontTaken, Puts, Told}
 use Rattle.replay_generated.specs.declared.outcome.Outcome.{Outcome}
@@ -158,6 +160,23 @@ complete_over starts ends seed events kept kept' faults faults' outcomes.OutletF
 complete_over starts ends seed events kept kept' faults faults' outcomes.WriteFault e rose whole room none = absurd (none (rose refl))
 complete_over starts ends seed events kept kept' faults faults' outcomes.Memory e rose whole room none = tt
 
+-- the counts of the boxes
+module _ (starts ends : List Account) (events : ℕ) (lines : List TextLine) (kept kept' : Option (List ℕ)) where
+  counts_stay : (outcome : Outcome) → EndedOver airs_of events lines outcome starts ends kept kept' → outcome ≢ outcomes.OutletFault → CountsStay starts ends
+  counts_stay outcomes.Done e other = took_stay starts ends (units_of airs_of starts lines) e.boxes
+  counts_stay (outcomes.Refused line reason) e other = took_stay starts ends (units_of airs_of starts lines) e.boxes
+  counts_stay outcomes.OutletFault e other = absurd (other refl)
+  counts_stay outcomes.WriteFault e other = took_stay starts ends e.done e.boxes
+  counts_stay outcomes.Memory e other = took_stay starts ends e.done e.boxes
+
+  one_counts : (outcome : Outcome) → EndedOver airs_of events lines outcome starts ends kept kept' → OneCounts starts ends
+  one_counts outcomes.Done e = none_counts starts ends (took_stay starts ends (units_of airs_of starts lines) e.boxes)
+  one_counts (outcomes.Refused line reason) e = none_counts starts ends (took_stay starts ends (units_of airs_of starts lines) e.boxes)
+  one_counts outcomes.OutletFault e =
+      one_then starts e.0.accounts ends (took_stay starts e.0.accounts (units_of airs_of starts (reverse e.0.earlier)) e.0.before) (failed_one (handed_on airs_of e.0.earlier e.0.line) [] e.0.told e.0.accounts ends e.0.fails)
+  one_counts outcomes.WriteFault e = none_counts starts ends (took_stay starts ends e.done e.boxes)
+  one_counts outcomes.Memory e = none_counts starts ends (took_stay starts ends e.done e.boxes)
+
 refused_so : (starts : List Account) (line : ℕ) (reason : Refusal) (end : End Refusal) → end ≡ refused line reason
     → (2 ≤ length starts → end ≡ through) → (length starts < 2 → end ≡ refused (length starts + 3) NoOutlet) → (reason ≡ NoOutlet) × (length starts < 2)
 refused_so starts line reason end is enough few = elim (cases_lt (length starts) 2) [
@@ -182,6 +201,8 @@ run_promises seed events outcome starts ends kept kept' faults faults' most read
       write_fault = λ is. (e.rose is, over outcomes.WriteFault is);
       memory = over outcomes.Memory;
       no_write_fault = e.stays;
+      no_outlet_fault = counts_stay starts ends events (lines_made seed events) kept kept' outcome e.did;
+      one_outlet_fault = one_counts starts ends events (lines_made seed events) kept kept' outcome e.did;
       complete = λ airs meets two room none.
           complete_over starts ends seed events kept kept' faults faults' outcome e.did e.rose (made_through reads starts seed events most two)
           (subst (λ (us : List SinkUnit). RoomFor starts us) (sym ((same airs meets).units starts (lines_made seed events))) room) none;

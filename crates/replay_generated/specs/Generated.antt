@@ -17,6 +17,7 @@ use Rattle.scenario_history.specs.Boxes.{SinkUnit, Took, valid_for, with_units}
 use Rattle.scenario_history.specs.Lines.{rules_of, handed_on}
 use Rattle.scenario_history.specs.Source.{Airs}
 use Rattle.scenario_history.specs.Transcript.{transcript_of, transcript_end, units_of}
+use Rattle.scenario_sinks.specs.Faults.{CountsStay, OneCounts}
 use Rattle.scenario_sinks.specs.Handing.{BoxFails}
 use Rattle.replay_generated.specs.declared.outcome.Outcome.{Outcome}
 use Rattle.replay_generated.specs.declared.outcome.Outcome.TheVariants as outcomes
@@ -99,6 +100,9 @@ pub record GeneratedRun (seed events : ℕ) (outcome : Outcome) (starts ends : L
   pub memory : outcome ≡ outcomes.Memory → Did seed events outcomes.Memory starts ends kept kept'
   -- The sink's count stays with each outcome but WriteFault.
   pub no_write_fault : outcome ≢ outcomes.WriteFault → faults' ≡ faults
+  -- Each box's count stays with each outcome but OutletFault, with which that of one box changes.
+  pub no_outlet_fault : outcome ≢ outcomes.OutletFault → CountsStay starts ends
+  pub one_outlet_fault : OneCounts starts ends
   -- With two boxes or more, each with room for the valid units of its sink, and a sink that counts no fault, it is Done or Memory.
   pub complete : (airs : Airs) → MeetAirs airs → 2 ≤ length starts → RoomFor starts (units_of airs starts (lines_made seed events)) → ¬ Rose faults faults'
       → IsDoneOrMemory outcome

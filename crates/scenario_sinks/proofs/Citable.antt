@@ -16,6 +16,7 @@ use Rattle.scenario_sinks.specs.declared.sinks.Sinks.{Sinks}
 use Rattle.scenario_sinks.specs.Handing.{Hands}
 use Rattle.scenario_sinks.specs.Pasts.{Past}
 use Rattle.scenario_sinks.specs.State.Standing.{EntryIs, SinksStand}
+pub use Rattle.scenario_sinks.proofs.Faults.{failed_one, none_counts, one_then, took_stay}
 
 pub lines_append : (us vs : List SinkUnit) → unit_lines (us ++ vs) ≡ unit_lines us ++ unit_lines vs
 lines_append [] vs = refl

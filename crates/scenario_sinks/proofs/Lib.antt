@@ -2,6 +2,7 @@ pub mod Citable
 pub mod Ranges
 pub mod Handings
 mod Untaken
+pub mod Faults
 pub mod Entries
 pub mod Closings
 pub mod SumLaws

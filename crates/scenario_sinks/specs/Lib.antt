@@ -3,6 +3,7 @@ pub mod Joinings
 pub mod Refusals
 pub mod Handing
 pub mod Untaken
+pub mod Faults
 pub mod Closing
 pub mod Hearing
 pub mod Sums
