@@ -11,3 +11,4 @@ mod Untaken
 mod Migrating
 mod Generating
 mod Promises
+mod CommandLines

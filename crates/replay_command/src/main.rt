@@ -1,6 +1,7 @@
 //! The program `replay`: reads a scenario, runs it line by line and writes its transcript.
 #![tactic(auto)]
 
+mod program;
 mod replay;
 mod status;
 #[cfg(test)]
@@ -8,16 +9,12 @@ mod tests;
 
 use bcast_base::Memory;
 use bcast_io::{ReadSource, WriteSink};
-use replay::replay;
+use program::{replay_with_tallies, words_behind_name};
 use replay_words::Words;
 use status::Status;
 use std::process::ExitCode;
 use std::rt::Env;
 use std::{env, io};
-use unit_outlets::{Outlet, Tally};
-
-/// How many boxes the program has.
-const BOXES: usize = 8;
 
 fn main(rt: HostRuntime) -> ExitCode {
     let status = match run(&rt) {
@@ -30,19 +27,15 @@ fn main(rt: HostRuntime) -> ExitCode {
     ExitCode::from(status.exit_code())
 }
 
-/// Runs the program over standard input and output, with a box for each sink that may live.
+/// Runs the program over standard input and output.
 fn run<R: Input + Print + Env + AllocGlobal>(rt: &R) -> Result<Status, Memory> {
     let alloc = rt.alloc();
     let Some(words) = words_of(rt)? else {
         return Ok(Status::Usage);
     };
-    let mut outlets: Vec<Box<dyn Outlet>> = Vec::new(alloc);
-    for _ in 0..BOXES {
-        outlets.push(Box::new(alloc, Tally::new())?)?;
-    }
     let mut source = ReadSource::new(rt.reader());
     let mut sink = WriteSink::new(io::writer(rt));
-    Ok(replay(alloc, &words, &mut source, &mut sink, &mut outlets))
+    replay_with_tallies(alloc, &words, &mut source, &mut sink)
 }
 
 /// The words of the command line, without the program's name. `None` where one of them is no text.
@@ -52,9 +45,5 @@ fn words_of<R: Env + AllocGlobal>(rt: &R) -> Result<Option<Words>, Memory> {
         Err(error) if error.kind() == io::ErrorKind::InvalidData => return Ok(None),
         Err(_) => return Err(Memory),
     };
-    let mut words = Words::new(rt.alloc());
-    for word in args.skip(1) {
-        words.push(word)?;
-    }
-    Ok(Some(words))
+    Ok(Some(words_behind_name(rt.alloc(), args)?))
 }

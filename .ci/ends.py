@@ -1,0 +1,67 @@
+#!/usr/bin/env python3
+"""ends.py PROGRAM: runs the built program to its ends, and prints each whose exit status, output or standard error differs.
+
+These are what `main` does around `replay`: the words go without the program's name, there are eight boxes, a fault of standard input
+or output is one of the source or the sink, and each status has its exit status and says its text on standard error. The end for want
+of memory is in memory.py."""
+import os
+import subprocess
+import sys
+
+USAGE = b'usage: replay [--migrate | --toml | --seed N --events M]\n'
+UNIT = b'scenario 1\ngroup unframed 20000 40000 8 10000 4 4 1 1 1 1 0 0 0 1\nsink 0 1 1\nstart 0\ntuned 0 1\nunit 1 - 0a\nevent\nhear 0 0 1 0\nend\n'
+HEARD = b'unit 0 1 at 60060 valid 1 0a\nsum 0 1 1\n'
+EIGHT = b'scenario 1\n' + b''.join(b'sink %d 1 1\n' % sink for sink in range(8))
+SUMS = b''.join(b'sum %d 0 0\n' % sink for sink in range(8))
+
+# a name, the words, the text that is read, what is written, the exit status, and what is said on standard error
+ENDS = [
+    ('done', [], UNIT, HEARD, 0, b''),
+    ('refused', [], b'scenario 1\nx\n', b'line 2: BadLine 0\n', 1, b''),
+    ('eight sinks have boxes', [], EIGHT + b'end\n', SUMS, 0, b''),
+    ('a ninth sink has none', [], EIGHT + b'drop 0\nsink 0 1 1\nend\n', b'sum 0 0 0\nline 11: NoOutlet\n', 1, b''),
+    ('migrated', ['--migrate'], b'scenario 1\nend\n', b'scenario 2\nend\n', 0, b''),
+    ('generated', ['--seed', '1', '--events', '5'], b'', b'events 5\nunits 9 lost 1\nsum 0 5 500\nsum 1 4 400\n', 0, b''),
+    ('usage: a word', ['x'], UNIT, b'', 2, USAGE),
+    ('usage: an option alone', ['--seed', '1'], UNIT, b'', 2, USAGE),
+    ('usage: no text', [b'\xff'], UNIT, b'', 2, USAGE),
+    ('usage: an empty word', [''], UNIT, b'', 2, USAGE),
+]
+# the words, and whether they read, for standard input that can't be read: a folder
+READ_FAULTS = [([], 3, b'read fault\n'), (['--migrate'], 3, b'read fault\n'), (['x'], 2, USAGE)]
+# the words and the text, for standard output that takes nothing: a device that is full
+WRITE_FAULTS = [([], UNIT), (['--migrate'], UNIT), (['--seed', '1', '--events', '1'], b''), ([], b'x\n')]
+
+
+def run(words, name=None, **more):
+    words = [name or sys.argv[1]] + words
+    return subprocess.run(words, executable=sys.argv[1], stderr=subprocess.PIPE, timeout=60, check=False, **more)
+
+
+def differences():
+    """The name of each end, and whether it differs."""
+    for name, words, text, written, status, said in ENDS:
+        for called in (None, '--migrate', 'x'):
+            ran = run(words, called, input=text, stdout=subprocess.PIPE)
+            yield f'{name}, called {called}', (ran.stdout, ran.returncode, ran.stderr) != (written, status, said)
+    for words, status, said in READ_FAULTS:
+        folder = os.open('/', os.O_RDONLY)
+        ran = run(words, stdin=folder, stdout=subprocess.PIPE)
+        os.close(folder)
+        yield f'read fault, words {words}', (ran.stdout, ran.returncode, ran.stderr) != (b'', status, said)
+    for words, text in WRITE_FAULTS:
+        with open('/dev/full', 'wb') as full:
+            ran = run(words, input=text, stdout=full)
+        yield f'write fault, words {words}', (ran.returncode, ran.stderr) != (4, b'write fault\n')
+
+
+def main():
+    tried = list(differences())
+    failed = [name for name, differs in tried if differs]
+    for name in failed:
+        print(f'{name}: differs')
+    print(f'{len(tried)} ends, {len(failed)} differ')
+    return 1 if failed else 0
+
+
+sys.exit(main())
