@@ -3,6 +3,7 @@
 ghost use Rattle.std.specs.Prelude.{◌≤◌};
 
 mod boxes;
+mod calls;
 mod faults;
 mod limits;
 mod rows;

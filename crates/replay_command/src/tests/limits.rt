@@ -10,9 +10,6 @@ use std::process::Abort;
 use std::test::*;
 use transcript_text::Refusal;
 
-/// The most reads of a call: the longest text an octet a read, the octet behind it, and the end.
-const MOST_READS: u64 = 67_108_866;
-
 /// A source without an end that counts its reads.
 #[derive(Drop)]
 struct Counting {
@@ -29,8 +26,9 @@ impl ByteSource for Counting {
     }
 }
 
-/// Reads a text without an end, so many octets a call: lines of 8,192 octets, each a comment.
-fn read_endless(rt: &(impl Abort + AllocGlobal), piece: usize) -> Result<(), Fail>
+/// Reads a text without an end, so many octets a call: lines of 8,192 octets, each a comment. It makes so many reads: up to octet
+/// 67,108,865, and no more.
+fn read_endless(rt: &(impl Abort + AllocGlobal), piece: usize, reads: u64) -> Result<(), Fail>
     requires { 1 ≤ piece }
 {
     let mut line = Octets::copy(rt.alloc(), b"#")?;
@@ -50,18 +48,18 @@ fn read_endless(rt: &(impl Abort + AllocGlobal), piece: usize) -> Result<(), Fai
     let status = run(rt.alloc(), &mut source, &mut sink)?;
     assert!(rt; status == refused);
     assert!(rt; sink.taken() == b"line 8193: TextTooLong\n".as_slice());
-    assert!(rt; source.reads <= MOST_READS);
+    assert!(rt; source.reads == reads);
     Ok(())
 }
 
 #[test]
 fn a_text_without_end_is_too_long(rt: HostRuntime) -> Result<(), Fail> {
-    read_endless(&rt, 4_096)
+    read_endless(&rt, 4_096, 16_385)
 }
 
 #[test]
 fn a_text_without_end_is_too_long_an_octet_a_call(rt: HostRuntime) -> Result<(), Fail> {
-    read_endless(&rt, 1)
+    read_endless(&rt, 1, 67_108_865)
 }
 
 #[test]

@@ -90,9 +90,12 @@ pub const WORD_ROWS: [WordRow; 10] = [
     },
 ];
 
-/// The words of a row.
-fn words_of(alloc: Global, text: &str) -> Result<Words, Fail> {
+/// The words of a text, a space between each two; none where it has no octet.
+pub fn words_of(alloc: Global, text: &str) -> Result<Words, Fail> {
     let mut words = Words::new(alloc);
+    if text.is_empty() {
+        return Ok(words);
+    }
     for word in text.split(' ') {
         words.push(String::from_str(alloc, word)?)?;
     }
