@@ -1,0 +1,82 @@
+#!/usr/bin/env python3
+"""memory.py PROGRAM: counts the allocations of the built program, and refuses one.
+
+Nothing is allocated by reading a line, by handing a sink a PDU, and by closing an event, but for what the program itself keeps of a
+valid unit until it goes to its box, its octets: runs that differ only in how often they do so make as many allocations. A run whose
+first allocation is refused ends with status 6, says so and writes nothing."""
+import os
+import sys
+import tempfile
+
+sys.path.insert(0, os.path.join(os.path.dirname(os.path.abspath(__file__)), '..', 'bench'))
+from allocations import Allocator  # noqa: E402
+
+TIMES = [10, 300]
+UNFRAMED = 'scenario 1\ngroup unframed 20000 40000 8 10000 8 4 1 2 2 1 0 400 0 1\n{}start 0\n{}'
+FRAMED = 'scenario 1\ngroup framed 20000 40000 8 10884 8 10 1 2 2 1 0 400 0 1\n{}start 0\n{}'
+SINK = 'sink 0 1 1\n', 'tuned 0 1\n'
+HEAR = 'hear 0 0 1 0\nhear 0 0 1 1\n'
+
+
+def unframed_unit(event):
+    return 'unit 1 - 0102030405\nevent\n'
+
+
+def framed_unit(event):
+    return f'unit 1 {15000 + 10000 * event} 0102030405060708\nevent\n'
+
+
+def lines(line):
+    """A text with so many of a line."""
+    return lambda times: 'scenario 1\n' + line * times + 'end\n'
+
+
+def hears(group, unit):
+    """A text in which a sink hears the PDUs of an event so often."""
+    return lambda times: group.format(*SINK) + unit(0) + HEAR * times + 'end\n'
+
+
+def closes(count, group, unit, heard):
+    """How many allocations more so many events take where a sink closes them than where none is there."""
+    def more(times):
+        events = [unit(event) for event in range(times)]
+        alone = group.format('', '') + ''.join(events) + 'end\n'
+        return count(group.format(*SINK) + ''.join(event + heard for event in events) + 'end\n') - count(alone)
+    return more
+
+
+def differences(allocator):
+    """What takes more allocations, or fewer, than it should."""
+    def count(text):
+        return allocator.count(text.encode())
+
+    for name, text in [
+        ('comments', lines('#\n')),
+        ('long comments', lines('#' + 'x' * 8999 + '\n')),
+        ('PDUs of an unframed stream', hears(UNFRAMED, unframed_unit)),
+        ('PDUs of a framed stream', hears(FRAMED, framed_unit)),
+    ]:
+        yield name, [count(text(times)) for times in TIMES], 0
+    for name, group, unit in [('unframed', UNFRAMED, unframed_unit), ('framed', FRAMED, framed_unit)]:
+        for heard, each in [('', 0), ('hear 0 0 1 0\n', 0), ('air 0 0\n', 1)]:
+            more = closes(count, group, unit, heard)
+            yield f'closes of a {name} stream after {heard!r}', [more(times) for times in TIMES], each
+
+
+def main():
+    failed = 0
+    with tempfile.TemporaryDirectory() as folder:
+        allocator = Allocator(sys.argv[1], folder)
+        for name, counts, each in differences(allocator):
+            if counts[1] - counts[0] != each * (TIMES[1] - TIMES[0]):
+                failed += 1
+                print(f'{name}: {counts} allocations for {TIMES} times')
+        ran = allocator.refusing(b'scenario 1\nend\n', 1)
+        if (ran.returncode, ran.stdout, ran.stderr) != (6, b'', b'no memory\n'):
+            failed += 1
+            print(f'the first allocation refused: {ran}')
+    print(f'allocations: {failed} differ')
+    return 1 if failed else 0
+
+
+sys.exit(main())
