@@ -1,5 +1,6 @@
 -- How a text grows by the parts of a document, one after the other.
-use Rattle.std.proofs.Common.{◌≡◌, ℕ, Bool, true, false, cond, List, [], ◌∷◌, ◌++◌, Option, None, Some, Result, Ok, Err, refl, sym, ap, ◌∙◌, append_assoc, ◌<◌, ◌+◌, length, drop, get_or, map}
+use Rattle.std.proofs.Common.{◌≡◌, ℕ, ◌+◌, ◌<◌, true, false, cond, List, [], ◌∷◌, ◌++◌, length, drop, get_or, map}
+use Rattle.std.proofs.Common.{Option, None, Some, Result, Ok, Err, refl, sym, ap, ◌∙◌, append_assoc}
 use Rattle.std.specs.Bool.{⊤}
 use Rattle.std.proofs.lemmas.Option.{same_Some}
 use Rattle.std.proofs.lemmas.List.{drop_more}
@@ -22,7 +23,8 @@ none_is_some : (octets : List ℕ) (some : Option (List ℕ)) → some ≡ Some 
 none_is_some octets some is none = let both : Some octets ≡ None = sym is ∙ none in cc
 
 -- a part that was put leaves what follows it
-pub after_both : (front back : Option (List ℕ)) (old mid : List ℕ) → after old front ≡ Some mid → after old (both front back) ≡ after mid back
+pub after_both : (front back : Option (List ℕ)) (old mid : List ℕ) → after old front ≡ Some mid
+    → after old (both front back) ≡ after mid back
 after_both None back old mid put = absurd (none_is_some mid None put refl)
 after_both (Some front) None old mid put = refl
 after_both (Some front) (Some back) old mid put = ap Some (sym (append_assoc old front back) ∙ ap (λ l. l ++ back) (same_Some _ _ put))
@@ -37,14 +39,17 @@ after_none old None none = refl
 after_none old (Some part) none = absurd (none_is_some (old ++ part) _ refl none)
 
 -- one part was put, and then the other
-pub goes : (front back : Option (List ℕ)) (old mid new : List ℕ) (r : Result ⊤ TomlFault) → after old front ≡ Some mid → Grows back mid new r → Grows (both front back) old new r
+pub goes : (front back : Option (List ℕ)) (old mid new : List ℕ) (r : Result ⊤ TomlFault) → after old front ≡ Some mid
+    → Grows back mid new r → Grows (both front back) old new r
 goes front back old mid new (Ok done) put grows = after_both front back old mid put ∙ grows
 goes front back old mid new (Err faults.BadToml) put grows = grows
-goes front back old mid new (Err faults.BadDocument) put grows = after_none old _ (after_both front back old mid put ∙ ap (after mid) grows)
+goes front back old mid new (Err faults.BadDocument) put grows =
+    after_none old _ (after_both front back old mid put ∙ ap (after mid) grows)
 goes front back old mid new (Err faults.Memory) put grows = tt
 
 -- the first part was not put
-pub stops : (front back : Option (List ℕ)) (old new new' : List ℕ) (fault : TomlFault) → Grows front old new (Err fault) → Grows (both front back) old new' (Err fault)
+pub stops : (front back : Option (List ℕ)) (old new new' : List ℕ) (fault : TomlFault) → Grows front old new (Err fault)
+    → Grows (both front back) old new' (Err fault)
 stops front back old new new' faults.BadToml grows = grows
 stops front back old new new' faults.BadDocument grows = both_none front back grows
 stops front back old new new' faults.Memory grows = tt
@@ -54,7 +59,8 @@ pub words_goes : (keys : List CodeField) (i : ℕ) (key : CodeField) (table : Me
     → after text (field (field_of (get_or keys i key)) table) ≡ Some text'
     → after text (words (map field_of (drop i keys)) table) ≡ after text' (words (map field_of (drop (i + 1) keys)) table)
 words_goes keys i key table text text' within put =
-    rw (drop_more keys i key within) (after_both (field (field_of (get_or keys i key)) table) (words (map field_of (drop (i + 1) keys)) table) text text' put)
+    rw (drop_more keys i key within)
+    (after_both (field (field_of (get_or keys i key)) table) (words (map field_of (drop (i + 1) keys)) table) text text' put)
 
 -- another number of texts than two
 pub not_two : (values : List Value) → (length values ≡ 2 → ⊥) → two_texts (Some (items_view values)) ≡ None
@@ -64,7 +70,8 @@ not_two (a ∷ b ∷ []) not = absurd (not refl)
 not_two (a ∷ b ∷ c ∷ others) not = refl
 
 -- what a document in TOML means
-pub means : (octets : List ℕ) (members : Members) → IsUtf8 octets × (parse_document octets ≡ Some members) → meaning_of octets ≡ meaning_in_keys members
+pub means : (octets : List ℕ) (members : Members) → IsUtf8 octets × (parse_document octets ≡ Some members)
+    → meaning_of octets ≡ meaning_in_keys members
 unfolding meaning_of
 means octets members parsed = rw (is_utf8-from_IsUtf8 octets parsed.0, parsed.1) refl
 

@@ -1,13 +1,13 @@
 -- The lines that a scenario in TOML stands for, in the order of its keys: `version`, `group`, `ident`, `subgroups`, `sinks` and
 -- `steps`. Of a value, `Some` is the lines and `None` that the document has not this form. The form is this project's own:
 -- TOML is its notation alone.
-use Rattle.std.specs.Prelude.{ℕ, ◌&&◌, not, Bool, true, false, List, [], ◌∷◌, ◌++◌, Option, None, Some, if◌then◌else◌, codes, ◌==◌}
+use Rattle.std.specs.Prelude.{ℕ, ◌==◌, List, [], ◌∷◌, Option, None, Some, if◌then◌else◌, codes}
 use Rattle.std.specs.List.{list_any}
 use Rattle.std.specs.Str.{is_utf8}
 use Rattle.bcast_io.specs.TextLines.{newline}
 use Rattle.toml.specs.Data.{Data, as_str, as_array, Items, no_items, item, Members, get_member}
 use Rattle.toml.specs.Parse.{parse_document}
-use Rattle.scenario_toml.specs.Parts.{after, both, each, required, where_given, items_of}
+use Rattle.scenario_toml.specs.Parts.{both, required, where_given, items_of}
 use Rattle.scenario_toml.specs.Words.{Field, text, number, field, words, spaced_text, spaced_number}
 use Rattle.scenario_toml.specs.Tables.{table_with, only_has, line}
 

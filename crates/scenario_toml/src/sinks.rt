@@ -1,6 +1,7 @@
-ghost use Rattle.toml.specs.View.{view, table_view, items_view};
 ghost use Rattle.std.specs.Prelude.{Some, map};
-ghost use Rattle.scenario_toml.specs.Document.{sink_number, pac_line, locate_line, context_line, sink_line, sink_words, sink_lines, two_texts};
+ghost use Rattle.toml.specs.View.{view, table_view, items_view};
+ghost use Rattle.scenario_toml.specs.Document.{sink_number, pac_line, locate_line, context_line, two_texts};
+ghost use Rattle.scenario_toml.specs.Document.{sink_line, sink_words, sink_lines};
 ghost use Rattle.scenario_toml.specs.State.Fields.{field_of};
 ghost use Rattle.scenario_toml.specs.State.Growth.{Grows};
 
