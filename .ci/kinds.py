@@ -185,8 +185,8 @@ KINDS = {
     'the payload counter': ('`start`, the `event` lines and the `group` line',
                             each(('the last event', 'the last train', 'event refused', 'announce refused'), FRAMINGS)),
     'greatest numbers': ('what the rows above are read from',
-                         ['961 PDUs an event', '217 payloads in a window', '24 subgroups of a BASE',
-                          '16 units of a stream left out at once', '73 records', '99 subgroups of a write', 'more than 32 writes of a drain', 'more than 32 notices of a drain']
-                         + each(['512 octets'], ('notice', 'anotice', 'aread', 'state', 'view'))),
+                         ['961 PDUs an event', '217 payloads in a window', '24 subgroups of a BASE', '73 records',
+                          '16 units of a stream left out at once', '99 subgroups of a write', 'more than 32 writes of a drain',
+                          'more than 32 notices of a drain'] + each(['512 octets'], ('notice', 'anotice', 'aread', 'state', 'view'))),
     'words': ('the words of the command line and the exit status', each(('--migrate', '--seed', '--events'), ('status 0', 'status 2'))),
 }
