@@ -48,6 +48,33 @@ class Source:
         return numbers
 
 
+def numbers_of(has):
+    """What the numbers of a group are counted by."""
+    horizon, streams, k = has['horizon'], has['num_bis'], has['iso'] * 1250 // has['sdu']
+    yield f'BN {has["bn"]}'
+    yield f'PHY {has["phy"]}'
+    yield f'k {"above 1" if k > 1 else k}'
+    yield f'NSE {"31" if has["nse"] == 31 else "below 31"}'
+    yield '1 stream' if streams == 1 else '31 streams' if streams == 31 else '2 to 30 streams'
+    yield f'horizon {horizon if horizon in (0, 15, 30) else "1 to 14" if horizon < 15 else "16 to 29"}'
+    if has['framing'] == 'unframed':
+        yield 'a PDU a unit' if has['max_sdu'] <= has['max_pdu'] else 'several PDUs a unit'
+
+
+def segment_cases(found):
+    """What the segments of a PDU are counted by."""
+    starts = [it for it in found if it.starts]
+    return {
+        'a continuation': len(starts) < len(found),
+        'two starts': len(starts) > 1,
+        'a continuation and a start': len(found) > len(starts) > 0,
+        'a start that is not complete': any(not it.is_complete for it in starts),
+        'an empty unit': any(not it.part for it in starts),
+        'TimeOffset 0': any(it.offset == 0 for it in starts),
+        'TimeOffset 16,777,215': any(it.offset == 0xffffff for it in starts),
+    }
+
+
 class Walk(SinkCases):
     """Walks through the lines of a scenario, and counts its cases."""
 
@@ -57,6 +84,11 @@ class Walk(SinkCases):
 
     def count(self, kind, name):
         self.counts[kind, str(name)] += 1
+
+    def count_those(self, kind, names):
+        for name, holds in names.items():
+            if holds:
+                self.count(kind, name)
 
     def line(self, line, printed):
         """A line of the text, without its end, and what it brings."""
@@ -97,9 +129,7 @@ class Walk(SinkCases):
         self.count('refusals', name)
         source, word = self.sources[self.chosen], words[0]
         if name == 'BadLine':
-            k = int(number)
-            how = 'missing' if k == len(words) else 'none' if k == 0 else 'not fitting'
-            self.count('BadLine', f'0 {word}, version {self.version or 1}' if k == 0 and word in LINES else f'{k} {word if k else "other"}, {how}')
+            self.count('BadLine', self.bad_line(words, int(number)))
         elif name == 'Order':
             self.count('Order', f'{word}, {source.phase()}' if word in SOURCE_LINES and self.version else word)
         elif name == 'BadGroup':
@@ -113,6 +143,11 @@ class Walk(SinkCases):
             self.count('links', f'{words[2]} joined twice')
         if name == 'TimeOrder':
             self.count('TimeOrder', self.time_order(words, source))
+
+    def bad_line(self, words, number):
+        if number == 0:
+            return f'0 {words[0]}, version {self.version or 1}' if words[0] in LINES else '0 other, none'
+        return f'{number} {words[0]}, {"missing" if number == len(words) else "not fitting"}'
 
     def time_order(self, words, source):
         if source.group[1] == 'unframed':
@@ -142,27 +177,14 @@ class Walk(SinkCases):
 
     def do_start(self, words, source, _printed):
         source.is_started, source.first = True, int(words[1])
-        has = source.numbers()
-        framing = has['framing']
-        k = has['iso'] * 1250 // has['sdu']
-        self.count('groups', f'{framing}, BN {has["bn"]}')
-        self.count('groups', f'{framing}, k {"above 1" if k > 1 else k}')
-        self.count('groups', f'{framing}, NSE {"31" if has["nse"] == 31 else "below 31"}')
-        self.count('groups', f'{framing}, {"31 streams" if has["num_bis"] == 31 else "1 stream" if has["num_bis"] == 1 else "2 to 30 streams"}')
-        horizon = has['horizon']
-        self.count('groups', f'{framing}, horizon {horizon if horizon in (0, 15, 30) else "1 to 14" if horizon < 15 else "16 to 29"}')
-        self.count('groups', f'{framing}, PHY {has["phy"]}')
-        if framing == 'unframed':
-            m = -(-has['max_sdu'] // has['max_pdu'])
-            self.count('groups', f'unframed, {"a PDU" if m == 1 else "several PDUs"} a unit')
-        if has['num_bis'] * has['nse'] == 961:
-            self.count('greatest numbers', '961 PDUs an event')
-        if (has['horizon'] + 1) * has['bn'] == 217:
-            self.count('greatest numbers', '217 payloads in a window')
-        if len(source.subgroups) == 24:
-            self.count('greatest numbers', '24 subgroups of a BASE')
-        self.count('BASE', f'{len(source.subgroups) if len(source.subgroups) < 3 else "3 or more"} subgroups')
         self.count('sources', f'started with {sum(it.is_started for it in self.sources)}')
+        has, subgroups = source.numbers(), len(source.subgroups)
+        for name in numbers_of(has):
+            self.count('groups', f'{has["framing"]}, {name}')
+        self.count('BASE', f'{subgroups if subgroups < 3 else "3 or more"} subgroups')
+        greatest = {'961 PDUs an event': has['num_bis'] * has['nse'] == 961,
+                    '217 payloads in a window': (has['horizon'] + 1) * has['bn'] == 217, '24 subgroups of a BASE': subgroups == 24}
+        self.count_those('greatest numbers', greatest)
 
     def do_event(self, _words, source, printed):
         has = source.numbers()
@@ -196,7 +218,8 @@ class Walk(SinkCases):
         if has['framing'] == 'framed':
             ahead = int(words[2]) > has['origin'] + source.performed * has['iso'] * 1250
             self.count('framed units', 'given past the next anchor' if ahead else 'given for the next anchor or before')
-        self.count('units given', f'{has["framing"]}, {"no octet" if not length else "MAXSDU" if length == has["max_sdu"] else "between"}')
+        much = 'no octet' if not length else 'MAXSDU' if length == has['max_sdu'] else 'between'
+        self.count('units given', f'{has["framing"]}, {much}')
 
     def units(self, printed):
         for words in printed:
@@ -210,15 +233,9 @@ class Walk(SinkCases):
                 self.count(kind, 'lost')
                 continue
             length, has = int(words[6]), source.numbers()
-            self.count(kind, 'valid')
-            if length == 0:
-                self.count(kind, 'valid, no octet')
-            if length == 4095 or length == 1757:
-                self.count(kind, f'valid, {length} octets')
-            if length > has['max_pdu']:
-                self.count(kind, 'valid, of several PDUs')
-            if framing == 'framed' and length > has['bn'] * has['max_pdu']:
-                self.count(kind, 'valid, of several events')
+            self.count_those(kind, {'valid': True, 'valid, no octet': length == 0, f'valid, {length} octets': length in (1757, 4095),
+                                    'valid, of several PDUs': length > has['max_pdu'],
+                                    'valid, of several events': framing == 'framed' and length > has['bn'] * has['max_pdu']})
 
     # What is on the air.
 
@@ -228,13 +245,7 @@ class Walk(SinkCases):
         if words[1] == '31':
             self.count('sources', 'the event 31 before the last')
         if framing == 'framed':
-            found = list(segments(payload[2:]))
-            starts = [it for it in found if it[0]]
-            names = {'a continuation': len(starts) < len(found), 'two starts': len(starts) > 1, 'a start that is not complete': any(not it[1] for it in starts),
-                     'TimeOffset 0': any(it[2] == 0 for it in starts), 'TimeOffset 16,777,215': any(it[2] == 16777215 for it in starts),
-                     'an empty unit': any(not it[3] for it in starts), 'a continuation and a start': len(found) > len(starts) > 0}
-            for name in (it for it, holds in names.items() if holds):
-                self.count('framed PDUs on the air', name)
+            self.count_those('framed PDUs on the air', segment_cases(list(segments(payload[2:]))))
 
     def do_inject(self, words, source, printed):
         answer = ' '.join(printed[0][2:])

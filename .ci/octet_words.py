@@ -1,4 +1,5 @@
 """Octets that stand in the words of a scenario: operations, values of slots, advertising data, PDUs."""
+import collections
 
 ALL = 0xffffffff
 
@@ -57,10 +58,15 @@ def is_value(value):
     return pairs is not None and all(bits < 1 << 31 or bits == ALL for bits, _ in pairs)
 
 
+Segment = collections.namedtuple('Segment', 'starts is_complete offset part')
+
+
 def segments(payload):
-    """The segments of a framed PDU: whether each is a start, whether it completes its unit, its TimeOffset and its part."""
+    """The segments of a framed PDU."""
     while len(payload) > 1:
-        part = payload[2:2 + payload[1]]
-        starts = not payload[0] & 1
-        yield starts, bool(payload[0] & 2), int.from_bytes(part[:3], 'little') if starts else 0, part[3:] if starts else part
+        part, starts, is_complete = payload[2:2 + payload[1]], not payload[0] & 1, bool(payload[0] & 2)
+        if starts:
+            yield Segment(True, is_complete, int.from_bytes(part[:3], 'little'), part[3:])
+        else:
+            yield Segment(False, is_complete, None, part)
         payload = payload[2 + payload[1]:]

@@ -68,14 +68,14 @@ lines-whole e t [] more apart fits = let same : t ≡ t + 0 = omega arith in ap 
 lines-whole e t (line ∷ lines) more apart fits =
     let others : List ℕ = concat (map with_end lines) in
     let long : length (with_end line ++ others) ≡ (length line + 1) + length others =
-        length-append (with_end line) others ∙ ap (λ n. n + length others) (length-append line (newline ∷ [])) in
+    length-append (with_end line) others ∙ ap (λ n. n + length others) (length-append line (newline ∷ [])) in
     let behind : t + length line + 1 + length others ≡ t + length (with_end line ++ others) = omega (arith, long) in
     ap (lines_from e t []) (append_assoc (with_end line) others more ∙ append_assoc line (newline ∷ []) (others ++ more))
     ∙ lines-run e t [] line (newline ∷ (others ++ more)) (All-head NoNewline line lines apart) (omega (arith, long))
     ∙ lines-newline e (t + length line) line (others ++ more) (omega (arith, long))
     ∙ ap (λ ls. line_of line ∷ ls) (
-      lines-whole e (t + length line + 1) lines more (All-tail NoNewline line lines apart) (omega (arith, long))
-      ∙ ap (λ k. map line_of lines ++ lines_from e k [] more) behind
+    lines-whole e (t + length line + 1) lines more (All-tail NoNewline line lines apart) (omega (arith, long))
+    ∙ ap (λ k. map line_of lines ++ lines_from e k [] more) behind
     )
 
 -- what stands behind the last end of a text within its limit
@@ -96,13 +96,13 @@ lines-cut e text whole rest together apart unended = elim (cases_lt text_limit (
       let front : List ℕ = concat (map with_end whole) in
       let later : List ℕ = drop text_limit text in
       let long : length front + length rest ≡ text_limit =
-          sym (length-append front rest) ∙ sym (ap length together) ∙ length-take-le text_limit text (omega arith) in
+      sym (length-append front rest) ∙ sym (ap length together) ∙ length-take-le text_limit text (omega arith) in
       let some : 0 < length later = omega (arith, length-drop text_limit text) in
       let all : text ≡ front ++ (rest ++ later) = sym (take-append-drop text_limit text) ∙ ap (λ l. l ++ later) together ∙ append_assoc front rest later in
       ap (lines_from e 0 []) all ∙ lines-whole e 0 whole (rest ++ later) apart (omega arith)
       ∙ ap (λ ls. map line_of whole ++ ls) (
-        lines-limit e (0 + length front) rest later unended (omega arith) some
-        ∙ sym (ap (λ b. cond b (last_line e rest) (past ∷ [])) (lt-leb (length text) text_limit more))
+      lines-limit e (0 + length front) rest later unended (omega arith) some
+      ∙ sym (ap (λ b. cond b (last_line e rest) (past ∷ [])) (lt-leb (length text) text_limit more))
       )
   | inr within ↦
       let front : List ℕ = concat (map with_end whole) in
@@ -110,8 +110,8 @@ lines-cut e text whole rest together apart unended = elim (cases_lt text_limit (
       let long : length text ≡ length front + length rest = ap length all ∙ length-append front rest in
       ap (lines_from e 0 []) all ∙ lines-whole e 0 whole rest apart (omega arith)
       ∙ ap (λ ls. map line_of whole ++ ls) (
-        lines-rest e (0 + length front) rest unended (omega arith)
-        ∙ sym (ap (λ b. cond b (last_line e rest) (past ∷ [])) (le-leb (length text) text_limit within))
+      lines-rest e (0 + length front) rest unended (omega arith)
+      ∙ sym (ap (λ b. cond b (last_line e rest) (past ∷ [])) (le-leb (length text) text_limit within))
       )
 ]
 

@@ -23,7 +23,7 @@ lines_told text left left' lines reader is read =
     let more : List ℕ = reader.ahead ++ t.0 in
     let all : text ≡ r.passed ++ more = t.2 ∙ append_assoc r.passed reader.ahead t.0 in
     let follows : MayFollow reader.over true more =
-        λ over. (refl, ap (λ front. front ++ t.0) (r.sound.ended over).0 ∙ subst IsAtEnd t.1 (r.at_end over)) in
+    λ over. (refl, ap (λ front. front ++ t.0) (r.sound.ended over).0 ∙ subst IsAtEnd t.1 (r.at_end over)) in
     (lines_after true reader more, ap (lines_of true) all ∙ r.begins true more follows)
 
 -- the last line was run

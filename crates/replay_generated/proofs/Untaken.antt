@@ -45,7 +45,7 @@ module _ (airs : Airs) (starts : List Account) where
       → UntakenSame (steps_of earlier) old new → UntakenBy airs starts lines old new
   untaken_by lines earlier later old new split accepted same box least =
       let all : accepted_of (rules_of airs starts) [] lines ≡ accepted_of (rules_of airs starts) earlier later =
-          ap (accepted_of (rules_of airs starts) []) split ∙ accepted_accepted (rules_of airs starts) earlier later accepted in
+      ap (accepted_of (rules_of airs starts) []) split ∙ accepted_accepted (rules_of airs starts) earlier later accepted in
       let more = made_more earlier later in
       same box (omega (arith, more, ap (λ ls. sinks_made (steps_of ls)) all, least))
 

@@ -42,21 +42,141 @@ struct Run {
 }
 
 const RUNS: [Run; 15] = [
-    Run { name: "to its end", words: "", text: TEXT, refused: Refused::Nothing, exit_code: 0, reads: 141, units: 1 },
-    Run { name: "a last line without its end", words: "", text: "scenario 1\nend", refused: Refused::Nothing, exit_code: 0, reads: 15, units: 0 },
-    Run { name: "no octet", words: "", text: "", refused: Refused::Nothing, exit_code: 1, reads: 1, units: 0 },
-    Run { name: "without `end`", words: "", text: "scenario 1\n", refused: Refused::Nothing, exit_code: 1, reads: 12, units: 0 },
-    Run { name: "refused at line 2", words: "", text: "scenario 1\nscenario 1\nend\n", refused: Refused::Nothing, exit_code: 1, reads: 22, units: 0 },
-    Run { name: "refused at the first word", words: "", text: "x\nscenario 1\nend\n", refused: Refused::Nothing, exit_code: 1, reads: 2, units: 0 },
-    Run { name: "a read fails", words: "", text: TEXT, refused: Refused::Read(20), exit_code: 3, reads: 20, units: 0 },
-    Run { name: "the last read fails", words: "", text: TEXT, refused: Refused::Read(141), exit_code: 3, reads: 141, units: 1 },
-    Run { name: "a write fails", words: "", text: TEXT, refused: Refused::Write(1), exit_code: 4, reads: 136, units: 1 },
-    Run { name: "a write wants memory", words: "", text: TEXT, refused: Refused::WriteForMemory(1), exit_code: 6, reads: 136, units: 1 },
-    Run { name: "a box fails", words: "", text: TEXT, refused: Refused::Take(1), exit_code: 5, reads: 136, units: 0 },
-    Run { name: "a box wants memory", words: "", text: TEXT, refused: Refused::TakeForMemory(1), exit_code: 6, reads: 136, units: 0 },
-    Run { name: "migrated", words: "--migrate", text: TEXT, refused: Refused::Nothing, exit_code: 0, reads: 141, units: 0 },
-    Run { name: "migrated until a read fails", words: "--migrate", text: TEXT, refused: Refused::Read(20), exit_code: 3, reads: 20, units: 0 },
-    Run { name: "words that mean nothing", words: "x", text: TEXT, refused: Refused::Nothing, exit_code: 2, reads: 0, units: 0 },
+    Run {
+        name: "to its end",
+        words: "",
+        text: TEXT,
+        refused: Refused::Nothing,
+        exit_code: 0,
+        reads: 141,
+        units: 1,
+    },
+    Run {
+        name: "a last line without its end",
+        words: "",
+        text: "scenario 1\nend",
+        refused: Refused::Nothing,
+        exit_code: 0,
+        reads: 15,
+        units: 0,
+    },
+    Run {
+        name: "no octet",
+        words: "",
+        text: "",
+        refused: Refused::Nothing,
+        exit_code: 1,
+        reads: 1,
+        units: 0,
+    },
+    Run {
+        name: "without `end`",
+        words: "",
+        text: "scenario 1\n",
+        refused: Refused::Nothing,
+        exit_code: 1,
+        reads: 12,
+        units: 0,
+    },
+    Run {
+        name: "refused at line 2",
+        words: "",
+        text: "scenario 1\nscenario 1\nend\n",
+        refused: Refused::Nothing,
+        exit_code: 1,
+        reads: 22,
+        units: 0,
+    },
+    Run {
+        name: "refused at the first word",
+        words: "",
+        text: "x\nscenario 1\nend\n",
+        refused: Refused::Nothing,
+        exit_code: 1,
+        reads: 2,
+        units: 0,
+    },
+    Run {
+        name: "a read fails",
+        words: "",
+        text: TEXT,
+        refused: Refused::Read(20),
+        exit_code: 3,
+        reads: 20,
+        units: 0,
+    },
+    Run {
+        name: "the last read fails",
+        words: "",
+        text: TEXT,
+        refused: Refused::Read(141),
+        exit_code: 3,
+        reads: 141,
+        units: 1,
+    },
+    Run {
+        name: "a write fails",
+        words: "",
+        text: TEXT,
+        refused: Refused::Write(1),
+        exit_code: 4,
+        reads: 136,
+        units: 1,
+    },
+    Run {
+        name: "a write wants memory",
+        words: "",
+        text: TEXT,
+        refused: Refused::WriteForMemory(1),
+        exit_code: 6,
+        reads: 136,
+        units: 1,
+    },
+    Run {
+        name: "a box fails",
+        words: "",
+        text: TEXT,
+        refused: Refused::Take(1),
+        exit_code: 5,
+        reads: 136,
+        units: 0,
+    },
+    Run {
+        name: "a box wants memory",
+        words: "",
+        text: TEXT,
+        refused: Refused::TakeForMemory(1),
+        exit_code: 6,
+        reads: 136,
+        units: 0,
+    },
+    Run {
+        name: "migrated",
+        words: "--migrate",
+        text: TEXT,
+        refused: Refused::Nothing,
+        exit_code: 0,
+        reads: 141,
+        units: 0,
+    },
+    Run {
+        name: "migrated until a read fails",
+        words: "--migrate",
+        text: TEXT,
+        refused: Refused::Read(20),
+        exit_code: 3,
+        reads: 20,
+        units: 0,
+    },
+    Run {
+        name: "words that mean nothing",
+        words: "x",
+        text: TEXT,
+        refused: Refused::Nothing,
+        exit_code: 2,
+        reads: 0,
+        units: 0,
+    },
 ];
 
 /// A source that counts its reads, and those that have no room or come after its end or a fault.
@@ -183,7 +303,14 @@ fn boxes(alloc: Global, fails_at: u64, wants_at: u64) -> Result<Vec<Box<dyn Outl
     let mut outlets: Vec<Box<dyn Outlet>> = Vec::new(alloc);
     if wants_at > 0 {
         let tally = Tally::new();
-        outlets.push(Box::new(alloc, WantingTally { tally, wants_at, calls: 0 })?)?;
+        outlets.push(Box::new(
+            alloc,
+            WantingTally {
+                tally,
+                wants_at,
+                calls: 0,
+            },
+        )?)?;
     } else {
         outlets.push(Box::new(alloc, FailingTally::new(calls_of(alloc, fails_at)?))?)?;
     }
@@ -197,7 +324,11 @@ fn run_watched(rt: &(impl Abort + AllocGlobal), run: Run, piece: usize) -> Resul
 {
     let (read, write, take, want) = refused_at(run.refused);
     let mut source = WatchedSource {
-        source: MemorySource::new(Octets::copy(rt.alloc(), run.text.as_bytes())?, piece, calls_of(rt.alloc(), read)?),
+        source: MemorySource::new(
+            Octets::copy(rt.alloc(), run.text.as_bytes())?,
+            piece,
+            calls_of(rt.alloc(), read)?,
+        ),
         reads: 0,
         misplaced: 0,
         is_over: false,
@@ -227,7 +358,9 @@ fn run_watched(rt: &(impl Abort + AllocGlobal), run: Run, piece: usize) -> Resul
 }
 
 #[test]
-fn each_run_reads_what_its_end_needs_and_calls_nothing_that_refused(rt: HostRuntime) -> Result<(), Fail> {
+fn each_run_reads_what_its_end_needs_and_calls_nothing_that_refused(
+    rt: HostRuntime,
+) -> Result<(), Fail> {
     for run in RUNS {
         run_watched(&rt, run, 1)?;
     }

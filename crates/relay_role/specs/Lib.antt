@@ -1,0 +1,3 @@
+pub mod Passing
+pub mod Relayed
+pub mod State

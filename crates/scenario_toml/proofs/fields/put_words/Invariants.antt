@@ -1,0 +1,11 @@
+use Rattle.std.proofs.Common.{◌≡◌, drop, map}
+use Rattle.toml.specs.View.{table_view}
+use Rattle.scenario_toml.specs.Parts.{after}
+use Rattle.scenario_toml.specs.Words.{words}
+use Rattle.scenario_toml.specs.State.Fields.{field_of}
+use Rattle.scenario_toml.proofs.fields.put_words.Given as goal
+
+abbrev pub invariant-keys : goal.invariant-keys
+invariant-keys l =
+    after l.initial.text (words (map field_of l.keys) (table_view l.table))
+    ≡ after l.text (words (map field_of (drop l.key-index l.keys)) (table_view l.table))

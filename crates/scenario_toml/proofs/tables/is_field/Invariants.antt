@@ -1,0 +1,7 @@
+use Rattle.std.proofs.Common.{◌≡◌, drop, map}
+use Rattle.scenario_toml.specs.Tables.{is_field}
+use Rattle.scenario_toml.specs.State.Fields.{field_of}
+use Rattle.scenario_toml.proofs.tables.is_field.Given as goal
+
+abbrev pub invariant-fields : goal.invariant-fields
+invariant-fields l = is_field (map field_of (drop l.field-index l.fields)) l.key ≡ is_field (map field_of l.fields) l.key
