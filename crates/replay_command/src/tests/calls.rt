@@ -222,24 +222,36 @@ struct WatchedSink {
     later: u64,
 }
 
+impl WatchedSink {
+    /// Counts a call, and those behind the refused one apart: whether it is the one that is refused.
+    fn is_refused(&mut self) -> bool
+        ensures sink { self.new.sink ≡ self.old.sink }
+        ensures faults { self.new.faults ≡ self.old.faults }
+    {
+        self.calls = self.calls.saturating_add(1);
+        if self.calls > self.refused_at && self.refused_at > 0 {
+            self.later = self.later.saturating_add(1);
+        }
+        self.calls == self.refused_at
+    }
+}
+
 impl ByteSink for WatchedSink {
     ghost contents = { λ s. Some s.sink };
 
     ghost faults = { λ s. s.faults };
 
     fn write(&mut self, from: &[u8]) -> Result<usize, SinkFault> {
-        self.calls = self.calls.saturating_add(1);
-        if self.calls > self.refused_at && self.refused_at > 0 {
-            self.later = self.later.saturating_add(1);
+        if !self.is_refused() {
+            return self.sink.write(from);
         }
-        if self.calls == self.refused_at && self.fault == SinkFault::Memory {
-            return Err(SinkFault::Memory);
+        match self.fault {
+            SinkFault::Memory => Err(SinkFault::Memory),
+            SinkFault::Failed => {
+                self.faults = self.faults.saturating_add(1);
+                Err(SinkFault::Failed)
+            }
         }
-        if self.calls == self.refused_at {
-            self.faults = self.faults.saturating_add(1);
-            return Err(SinkFault::Failed);
-        }
-        self.sink.write(from)
     }
 }
 
