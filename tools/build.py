@@ -104,12 +104,14 @@ class Kept:
     """What was proved of a crate is known by a sum of the kit, the crate's line and files, and the libraries below it."""
 
     def __init__(self, lines, below, version):
-        self.lines, self.below, self.version, self.libraries, self.sums = lines, below, version, {}, {}
+        self.lines, self.below, self.version = lines, below, version
+        self.files, self.libraries, self.sums = {}, {}, {}
 
     def of_files(self, name):
-        total = hashlib.sha256(repr((self.version, text_of(f'{TOP}/HANDLES'), self.lines[name])).encode())
-        add_files(total, f'{TOP}/crates/{name}', PARTS)
-        return total
+        if name not in self.files:
+            self.files[name] = hashlib.sha256(repr((self.version, text_of(f'{TOP}/HANDLES'), self.lines[name])).encode())
+            add_files(self.files[name], f'{TOP}/crates/{name}', PARTS)
+        return self.files[name].copy()
 
     def of_library(self, name):
         if name not in self.libraries:
@@ -202,10 +204,11 @@ class Lanes:
         self.rt, self.kept = rt, kept
         self.memory, self.lanes = 0.85 * rt.free(), rt.processors()
         self.left, self.proved, self.running = list(crates), set(), {}
+        self.below, self.needs = {it: it.below() for it in crates}, {it: rt.need(it) for it in crates}
         self.behind = {it: 0 for it in crates}
         for it in reversed(crates):
             self.behind[it] += self.seconds(it)
-            for below in it.below():
+            for below in self.below[it]:
                 self.behind[below] = max(self.behind[below], self.behind[it])
         self.left.sort(key=lambda it: -self.behind[it])
 
@@ -216,7 +219,7 @@ class Lanes:
 
     def jobs_of(self, crate, ready):
         """How many processors the crate gets if it begins now, or none if it has to wait."""
-        needs = self.rt.need(crate) + sum(self.rt.need(it) for it, _ in self.running.values())
+        needs = self.needs[crate] + sum(self.needs[it] for it, _ in self.running.values())
         if self.running and needs > self.memory:
             return 0
         idle = self.lanes - len(self.running)
@@ -226,7 +229,7 @@ class Lanes:
 
     def begin(self, pool):
         """Begins what can begin now, and passes over what was proved before."""
-        ready = [it for it in self.left if all(below in self.proved for below in it.below())]
+        ready = [it for it in self.left if all(below in self.proved for below in self.below[it])]
         for crate in list(ready):
             if self.kept.has(crate):
                 self.left.remove(crate)
@@ -297,7 +300,7 @@ def build():
         is_well = build_plainly(order)
     if not is_well:
         return False
-    if whole == kept.of_program():
+    if whole == Kept(lines, below, version).of_program():
         write(built_file(), whole)
     say(f'proved and built in {time.monotonic() - begun:.0f} s')
     return True
