@@ -1,4 +1,4 @@
-//! Tests of the public calls of the crates of senders and sources, for what no clause says: each call that takes memory
+//! Tests of the public calls of the crates of senders, sources and relays, for what no clause says: each call that takes memory
 //! succeeds once where there is enough.
 #![tactic(auto)]
 
@@ -7,8 +7,12 @@ mod framed_senders;
 #[cfg(test)]
 mod numbers;
 #[cfg(test)]
+mod relays;
+#[cfg(test)]
 mod senders;
 #[cfg(test)]
 mod sources;
+#[cfg(test)]
+mod taken;
 #[cfg(test)]
 mod two_sources;
