@@ -17,6 +17,10 @@ mod numbers;
 #[cfg(test)]
 mod receivers;
 #[cfg(test)]
+mod refused_takers;
+#[cfg(test)]
+mod refusing;
+#[cfg(test)]
 mod scan_delegators;
 #[cfg(test)]
 mod source_octets;

@@ -1,0 +1,163 @@
+//! A taker that refused a unit isn't called again by the same close: of several units that wait one after the other is refused.
+use crate::numbers::SINGLE;
+use crate::refusing::Refusing;
+use bcast_base::{Bis, BisSet};
+use big_info::{BigInfo, check_group};
+use group_sink::GroupSink;
+use isoal_framed::FramedIn;
+use isoal_unframed::UnframedIn;
+use unit_outlets::TakerFault;
+
+/// Two streams of units of 4 octets every 10 ms, three an event, each in one PDU on LE 2M.
+const THREE_UNITS: BigInfo = BigInfo {
+    iso_interval: 24,
+    num_bis: 2,
+    nse: 3,
+    bn: 3,
+    sub_interval: 400,
+    bis_spacing: 1200,
+    ..SINGLE
+};
+
+/// Framed units of at most 4 octets in a PDU of at most 20 octets an event.
+const SEGMENTS: BigInfo = BigInfo {
+    framing: 1,
+    max_pdu: 20,
+    ..SINGLE
+};
+
+/// A unit of one octet in one fragment.
+const FRAGMENT: [u8; 3] = [0x00, 0x01, 0xaa];
+
+/// Three starts of one octet: the second isn't complete, so that its unit is lost.
+const STARTS: [u8; 20] = [
+    0x02, 0x12, 0x02, 0x04, 0x10, 0x27, 0x00, 0xaa, 0x00, 0x04, 0x10, 0x27, 0x00, 0xbb, 0x02, 0x04,
+    0x10, 0x27, 0x00, 0xcc,
+];
+
+/// The answer of a close of an unframed receiver, which hands three units, the second as lost.
+fn close_unframed(
+    receiver: &mut UnframedIn,
+    taker: &mut Refusing,
+) -> Option<Result<(), TakerFault>> {
+    let event = receiver.open_event();
+    if event > 100 {
+        return None;
+    }
+    let _ = receiver.hear(3 * event, &FRAGMENT);
+    let _ = receiver.hear(3 * event + 2, &FRAGMENT);
+    if receiver.open_event() > 100 {
+        return None;
+    }
+    Some(receiver.close(taker))
+}
+
+/// The answer of a close of a framed receiver, which hands three units, the second as lost.
+fn close_framed(receiver: &mut FramedIn, taker: &mut Refusing) -> Option<Result<(), TakerFault>> {
+    let event = receiver.open_event();
+    let _ = receiver.hear(event, &STARTS);
+    if receiver.open_event() > 100 {
+        return None;
+    }
+    Some(receiver.close(taker))
+}
+
+/// The answer of a tick of a sink, which hands three units of each of two streams, all but two as lost.
+fn tick(sink: &mut GroupSink, event: u64, taker: &mut Refusing) -> Option<Result<(), TakerFault>> {
+    let (Some(first), Some(second)) = (Bis::new(1), Bis::new(2)) else {
+        return None;
+    };
+    if event > 100 {
+        return None;
+    }
+    let _ = sink.hear(event, first, 0, &FRAGMENT);
+    let _ = sink.hear(event, second, 2, &FRAGMENT);
+    Some(sink.tick(event, taker))
+}
+
+/// Whether each of three calls, refused for this fault, is the last one of its close.
+fn ends_unframed(receiver: &mut UnframedIn, taker: &mut Refusing, fault: TakerFault) -> bool {
+    'calls: for call in 1..4usize {
+        taker.refuse(call, fault);
+        let answer = close_unframed(receiver, taker);
+        if !taker.refused_last(answer) {
+            return false;
+        }
+    }
+    true
+}
+
+/// Whether each of three calls, refused for this fault, is the last one of its close.
+fn ends_framed(receiver: &mut FramedIn, taker: &mut Refusing, fault: TakerFault) -> bool {
+    'calls: for call in 1..4usize {
+        taker.refuse(call, fault);
+        let answer = close_framed(receiver, taker);
+        if !taker.refused_last(answer) {
+            return false;
+        }
+    }
+    true
+}
+
+/// Whether each of six calls, refused for this fault, is the last one of its tick, from this event on.
+fn ends_tick(sink: &mut GroupSink, taker: &mut Refusing, event: u64, fault: TakerFault) -> bool {
+    'calls: for call in 1..7usize {
+        taker.refuse(call, fault);
+        let answer = tick(sink, event.saturating_add(call as u64), taker);
+        if !taker.refused_last(answer) {
+            return false;
+        }
+    }
+    true
+}
+
+#[test]
+fn a_close_of_fragments_ends_with_the_call_that_was_refused(rt: HostRuntime) {
+    assert!(rt; THREE_UNITS.fits());
+    let (Ok(group), Some(bis)) = (check_group(&THREE_UNITS), Bis::new(1)) else {
+        return assert!(rt; false);
+    };
+    let Ok(mut receiver) = UnframedIn::new(rt.alloc(), &group, bis, 0, 20000, 40000) else {
+        return assert!(rt; false);
+    };
+    let mut taker = Refusing::new(rt.alloc());
+    let all = close_unframed(&mut receiver, &mut taker);
+    assert!(rt; taker.took(all, 3));
+    assert!(rt; ends_unframed(&mut receiver, &mut taker, TakerFault::Failed));
+    assert!(rt; ends_unframed(&mut receiver, &mut taker, TakerFault::Memory));
+}
+
+#[test]
+fn a_close_of_segments_ends_with_the_call_that_was_refused(rt: HostRuntime) {
+    assert!(rt; SEGMENTS.fits());
+    let (Ok(group), Some(bis)) = (check_group(&SEGMENTS), Bis::new(1)) else {
+        return assert!(rt; false);
+    };
+    let Ok(mut receiver) = FramedIn::new(rt.alloc(), &group, bis, 0, 20000, 40000) else {
+        return assert!(rt; false);
+    };
+    let mut taker = Refusing::new(rt.alloc());
+    let all = close_framed(&mut receiver, &mut taker);
+    assert!(rt; taker.took(all, 3));
+    assert!(rt; ends_framed(&mut receiver, &mut taker, TakerFault::Failed));
+    assert!(rt; ends_framed(&mut receiver, &mut taker, TakerFault::Memory));
+}
+
+#[test]
+fn a_tick_of_two_streams_ends_with_the_call_that_was_refused(rt: HostRuntime) {
+    assert!(rt; THREE_UNITS.fits());
+    let Ok(group) = check_group(&THREE_UNITS) else {
+        return assert!(rt; false);
+    };
+    let (Some(first), Some(second)) = (Bis::new(1), Bis::new(2)) else {
+        return assert!(rt; false);
+    };
+    let both = BisSet::new().with(first).with(second);
+    let mut sink = GroupSink::new(rt.alloc());
+    assert!(rt; sink.tune(&group, both, 0, 20000, 40000).is_ok());
+    let mut taker = Refusing::new(rt.alloc());
+    let all = tick(&mut sink, 0, &mut taker);
+    assert!(rt; taker.took(all, 6));
+    assert!(rt; ends_tick(&mut sink, &mut taker, 0, TakerFault::Failed));
+    assert!(rt; ends_tick(&mut sink, &mut taker, 6, TakerFault::Memory));
+}
