@@ -103,6 +103,8 @@ class Fit:
         self.before = self.follow(first, [it for it in reversed(items) if it.time < self.first_mark.time])
         first = Anchors(self.first_mark.event, anchor, self.length)
         self.after = self.follow(first, [it for it in items if it.time >= self.first_mark.time])
+        if not self.placed:
+            raise FitFault('PDUs of its streams that are in a subevent')
         self.placed.sort(key=lambda it: it.heard.time)
 
     def start(self):

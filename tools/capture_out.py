@@ -19,7 +19,7 @@ from air_source import TRAIN_BEFORE, Source  # noqa: E402
 from att_links import Link, octets_of, written_octets  # noqa: E402
 
 BEGIN = 1000000  # µs, the time in the capture of the run's time 0
-STEP = 1000  # µs between what has no time of its own and nothing behind it
+STEP = 100  # µs between what has no time of its own and nothing behind it
 ADVERTISED_EVERY = 100000  # µs
 CONTROL = 3  # the LLID of a control PDU
 CONTROL_LENGTHS = {b'\x00': 10, b'\x01': 6}  # of a control PDU by its opcode
@@ -201,9 +201,10 @@ class Run:
                 continue
             until = one[0] if one is not None and one[0] > now else now + STEP * (len(waiting) + 1)
             for place, packets in enumerate(waiting, 1):
+                time = max(now + 2, now + (until - now) // (len(waiting) + 2 - place))
                 for behind, packet in enumerate(packets):
-                    spread = (until - now) * place // (len(waiting) + 1)
-                    yield BEGIN + now + max(spread, 2 * place) + behind, packet
+                    yield BEGIN + time + behind, packet
+                now = time
             now, waiting = max([now] + list(one or ())), []
 
     def train_packets(self):

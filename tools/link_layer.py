@@ -52,6 +52,11 @@ class Captured(typing.NamedTuple):
     crc: bytes
 
 
+def crc_of(pdu, start):
+    """The CRC of a PDU as it stands on the air. scapy takes the octets of what it begins with the other way round."""
+    return BTLE.compute_crc(pdu, int.from_bytes(start.to_bytes(3, 'little'), 'big'))
+
+
 def spell(layout, **values):
     """The octets of the fields; those that aren't given are 0."""
     number = place = 0
@@ -151,7 +156,7 @@ def framed(pdu, address, crc_start, channel, kind, phy=0, sort=0):
     """A packet of the PDU as a sniffer gives it: without whitening, its CRC checked and right. `channel` is that of the radio."""
     header = BTLE_RF(rf_channel=channel, dewhitened=1, type=kind, crc_checked=1, crc_valid=1, phy=phy,
                      mic_checked=sort & 1, mic_valid=sort >> 1)
-    crc = int.from_bytes(BTLE.compute_crc(pdu, crc_start), 'big')
+    crc = int.from_bytes(crc_of(pdu, crc_start), 'big')
     return header / BTLE(access_addr=address, crc=crc) / Raw(pdu)
 
 
@@ -175,7 +180,7 @@ def has_good_crc(packet, crc_start):
     """What the sniffer says of the CRC where it checked it, else whether it is right."""
     if packet.is_right is not None:
         return packet.is_right
-    return BTLE.compute_crc(packet.pdu, crc_start) == packet.crc
+    return crc_of(packet.pdu, crc_start) == packet.crc
 
 
 def read_capture(path, skipped):

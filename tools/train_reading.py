@@ -35,12 +35,15 @@ class Train:
     def name(self):
         return self.broadcast_id.hex() or 'without a Broadcast_ID'
 
+    def is_named(self):
+        return len(self.broadcast_id) == 3 and len(self.advertiser) == 6
+
     def info(self):
         return link_layer.read(link_layer.BIG_INFO, self.info_octets[:link_layer.octets_in(link_layer.BIG_INFO)])
 
     def missing(self):
         """What must still be heard before its group can be followed."""
-        if self.broadcast_id == b'' or len(self.advertiser) != 6:
+        if not self.is_named():
             return 'an AUX_ADV_IND that has the address of the advertiser and the Broadcast_ID'
         if not self.heard:
             return 'an AUX_SYNC_IND with a good CRC'
@@ -89,7 +92,7 @@ def trains_of(packets):
         if fields and len(fields.get('sync_info', b'')) == link_layer.octets_in(link_layer.SYNC_INFO):
             train = Train(packet, fields)
             known = trains.get(train.address)
-            if known is None or known.missing() and known.broadcast_id == b'':
+            if known is None or not known.is_named():
                 trains[train.address] = train
     return trains
 
