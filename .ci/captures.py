@@ -208,8 +208,11 @@ def by_tshark(program, folder):
     write(path, packets)
     fields = ('_ws.malformed', '_ws.expert.severity', 'btcommon.eir_ad.entry.biginfo.bis_access_address')
     words = ['tshark', '-r', path, '-T', 'fields', '-E', 'separator=|'] + [word for field in fields for word in ('-e', field)]
-    shown = subprocess.run(words, capture_output=True, check=True, timeout=60).stdout.decode().rstrip('\n').split('\n')
-    told = [line.split('|') for line in shown]
+    done = subprocess.run(words, capture_output=True, check=False, timeout=60)
+    if done.returncode:
+        yield 'tshark', done.stderr.decode(errors='replace')
+        return
+    told = [line.split('|') for line in done.stdout.decode().rstrip('\n').split('\n')]
     severe = [number for number, (malformed, severity, _) in enumerate(told)
               if malformed or any(int(it, 0) >= 0x600000 for it in severity.split(',') if it)]
     yield f'tshark: {len(packets)} packets', None if len(told) == len(packets) and severe == [len(packets) - 1] else (
