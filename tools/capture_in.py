@@ -126,6 +126,8 @@ def event_lines(broadcast, first, is_once):
     """An `event` for each event, with the PDUs heard in it, and the end of the group where it was heard."""
     by_event = broadcast.placed(first)
     last = broadcast.ended_at - 1 if broadcast.ended_at is not None else max(by_event, default=first)
+    if last - first > GREATEST_TEXT // len('event\n'):
+        raise Missing(f'the events {first} to {last} are more than a scenario holds')
     lines, given = [], {}
     for event in range(first, last + 1):
         lines.append('event')
@@ -145,8 +147,7 @@ def event_lines(broadcast, first, is_once):
 def scenario_of(broadcast, asked):
     """The lines of the scenario."""
     train, fit = broadcast.train, broadcast.fit
-    announced = [it.mark.event for it in train.announced]
-    first = fit.first_mark.event if asked.follow else min(announced + [it.event for it in fit.placed])
+    first = fit.first_mark.event if asked.follow else min(fit.first_mark.event, *(it.event for it in fit.placed))
     chosen = next(it for it in train.announced if it.mark == fit.first_mark)
     anchor = fit.anchor(first)
     base = asked.base if asked.base is not None else int(anchor // SECOND - 1) * SECOND
