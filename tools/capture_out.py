@@ -262,11 +262,11 @@ def commented(time, packet, comment):
 
 def read_run(scenario, transcript, program):
     """The steps of the run."""
-    with open(scenario, encoding='utf-8') as file:
-        text = file.read()
+    with open(scenario, 'rb') as file:
+        text = file.read().decode(run_reading.OCTETS)
     if transcript is not None:
-        with open(transcript, encoding='ascii') as file:
-            return run_reading.steps_of(text, file.read())
+        with open(transcript, 'rb') as file:
+            return run_reading.steps_of(text, file.read().decode(run_reading.OCTETS))
     text = run_reading.with_sniffs(text)
     return run_reading.steps_of(text, run_reading.run_program(program, text))
 
@@ -282,7 +282,7 @@ def main(words=None):
     asked = parser.parse_args(words)
     try:
         run = Run(read_run(asked.scenario, asked.transcript, asked.program))
-    except (OSError, UnicodeDecodeError, run_reading.RunFault) as error:
+    except (OSError, run_reading.RunFault) as error:
         print(f'capture_out: {error}', file=sys.stderr)
         return 1
     packets = list(run.packets(asked.ear))

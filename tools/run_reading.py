@@ -18,6 +18,7 @@ PRINTED_MANY = {
 }
 PRINTED_OF_SLOTS = {'show': ('state', 'view'), 'ashow': ('aview',)}
 WRITES = ('write', 'add', 'modify', 'remove', 'code')
+OCTETS = 'latin-1'  # each octet of a text is a character, whatever it is
 REFUSAL = re.compile(r'line \d+: ')
 
 
@@ -78,12 +79,12 @@ def with_sniffs(text):
 def run_program(program, text):
     """The transcript that the program writes."""
     try:
-        done = subprocess.run([program], input=text.encode(), capture_output=True, check=False)
+        done = subprocess.run([program], input=text.encode(OCTETS), capture_output=True, check=False)
     except OSError as error:
         raise RunFault(f'{program}: {error.strerror}') from error
     if done.returncode not in (0, 1):
         raise RunFault(f'{program} ended with {done.returncode}: {done.stderr.decode(errors="replace").strip()}')
-    return done.stdout.decode()
+    return done.stdout.decode(OCTETS)
 
 
 def steps_of(text, transcript):
