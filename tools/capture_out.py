@@ -261,14 +261,14 @@ def commented(time, packet, comment):
 
 
 def read_run(scenario, transcript, program):
-    """The steps of the run."""
+    """The text that was run, and its transcript."""
     with open(scenario, 'rb') as file:
         text = file.read().decode(run_reading.OCTETS)
     if transcript is not None:
         with open(transcript, 'rb') as file:
-            return run_reading.steps_of(text, file.read().decode(run_reading.OCTETS))
+            return text, file.read().decode(run_reading.OCTETS)
     text = run_reading.with_sniffs(text)
-    return run_reading.steps_of(text, run_reading.run_program(program, text))
+    return text, run_reading.run_program(program, text)
 
 
 def main(words=None):
@@ -281,12 +281,15 @@ def main(words=None):
     parser.add_argument('--ear', metavar='SINK')
     asked = parser.parse_args(words)
     try:
-        run = Run(read_run(asked.scenario, asked.transcript, asked.program))
+        text, transcript = read_run(asked.scenario, asked.transcript, asked.program)
+        run = Run(run_reading.steps_of(text, transcript))
     except (OSError, run_reading.RunFault) as error:
         print(f'capture_out: {error}', file=sys.stderr)
         return 1
     packets = list(run.packets(asked.ear))
     link_layer.write_capture(asked.capture, packets)
+    if run_reading.refused_line(transcript) is not None:
+        print(f'capture_out: the run ends with a refusal: {transcript.rstrip().split(": ")[-1]}', file=sys.stderr)
     for what, number in run.left_out.items():
         print(f'capture_out: left out: {number} {what}', file=sys.stderr)
     print(f'capture_out: {len(packets)} packets', file=sys.stderr)
