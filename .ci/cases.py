@@ -1,7 +1,7 @@
 """Which cases a scenario has: what its lines say, in which state they come, and what they are answered.
 
 A case is a pair of its kind and its name. It is read from the lines of the scenario and of its transcript alone; the state that is
-kept beside them (phases, slots, places) follows docs/scenario-language.md."""
+kept beside them (phases, slots, places) follows docs/answers.md and docs/refusals.md."""
 import collections
 import re
 

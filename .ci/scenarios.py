@@ -148,7 +148,9 @@ def rows():
 def examples():
     for path in sorted(glob.glob(os.path.join(TOP, 'examples', '*.scn'))):
         with open(path, 'rb') as text, open(path[:-4] + '.out', 'rb') as transcript:
-            yield 'examples', Scenario(os.path.basename(path), steps_of(text.read(), transcript.read()), 0)
+            steps = steps_of(text.read(), transcript.read())
+            is_refused = any(is_refusal(line) for _, lines in steps for line in lines)
+            yield 'examples', Scenario(os.path.basename(path), steps, 1 if is_refused else 0)
 
 
 def everything():

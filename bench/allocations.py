@@ -49,17 +49,17 @@ class Allocator:
         self.counted = os.path.join(folder, 'counted')
         subprocess.run(['cc', '-shared', '-fPIC', '-x', 'c', '-o', self.library, '-', '-ldl'], input=SOURCE.encode(), check=True)
 
-    def run(self, text, **more):
+    def run(self, text, words=(), **more):
         environment = dict({'LD_PRELOAD': self.library}, **more)
-        return subprocess.run([self.program], input=text, capture_output=True, env=environment, timeout=60, check=False)
+        return subprocess.run([self.program, *words], input=text, capture_output=True, env=environment, timeout=60, check=False)
 
     def refusing(self, text, number):
         """A run in which the allocation of this number, from 1, is refused; none is where it is 0."""
         return self.run(text, REFUSED_ALLOCATION=str(number))
 
-    def count(self, text):
-        """How many allocations a run makes that ends well."""
-        ran = self.run(text, COUNTED_ALLOCATIONS=self.counted)
+    def count(self, text, words=()):
+        """How many allocations a run with these words makes that ends well."""
+        ran = self.run(text, words, COUNTED_ALLOCATIONS=self.counted)
         with open(self.counted, encoding='ascii') as file:
             made = int(file.read())
         if ran.returncode != 0:

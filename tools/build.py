@@ -14,6 +14,7 @@ another crate reaches it, which are 65,000 from the top. It was made for the kit
 kit's `rt` lacks what it calls, it says so and calls plain `rt`, crate by crate.
 """
 import contextlib
+import functools
 import hashlib
 import importlib.machinery
 import importlib.util
@@ -23,6 +24,7 @@ import signal
 import subprocess
 import sys
 import tempfile
+import threading
 import time
 from concurrent.futures import FIRST_COMPLETED, ThreadPoolExecutor, wait
 
@@ -88,7 +90,7 @@ def add_files(total, folder, inside):
             for name in sorted(names):
                 total.update(f'{os.path.relpath(f"{at}/{name}", folder)}\0'.encode())
                 with open(f'{at}/{name}', 'rb') as file:
-                    total.update(hashlib.sha256(file.read()).digest())
+                    total.update(hashlib.blake2b(file.read()).digest())
 
 
 def kit():
@@ -160,6 +162,8 @@ def load(path):
         crate.cuts_libraries, lib.Crate = True, crate
         # the kit's own sums are not asked for: `Kept` stands for them
         crate.stamp = lambda it: ''
+        # the kit goes each way anew to what lies below
+        crate.below = functools.cache(crate.below)
         calls = crate.build_rlib, crate.words, crate.prove, crate.link, lib.crates_below, lib.lock, rt.need, rt.free, rt.processors
         lib.guarded()
     except (AttributeError, SystemExit):
@@ -195,10 +199,16 @@ def prove_program(rt, crate, jobs):
     return status
 
 
+def give_way():
+    """Lets what this thread starts come behind what others start."""
+    with contextlib.suppress(OSError):
+        os.setpriority(os.PRIO_PROCESS, threading.get_native_id(), 5)
+
+
 class Lanes:
     """Proves crates side by side, each once those below it are proved: as many as there are processors and as memory holds, and
-    of those that could begin first the one with the longest chain of others above it. That one begins at once and gets all
-    processors, since the others wait for it in the end; another gets those that are idle."""
+    of those that could begin first the one with the longest chain of others above it. That one begins at once, gets all
+    processors and comes first on each, since the others wait for it in the end; another gets those that are idle."""
 
     def __init__(self, rt, crates, kept):
         self.rt, self.kept = rt, kept
@@ -217,26 +227,31 @@ class Lanes:
         """About what a crate takes to prove. The libraries below it are read first, most of a small crate's time."""
         return 20 + crate.count(rb'\n') / 12
 
+    def is_longest(self, crate):
+        """Whether no crate that is left or running has a longer chain above it."""
+        return all(self.behind[crate] >= self.behind[it] for it in [*self.left, *[it for it, _ in self.running.values()]])
+
     def jobs_of(self, crate, ready):
         """How many processors the crate gets if it begins now, or none if it has to wait."""
         needs = self.needs[crate] + sum(self.needs[it] for it, _ in self.running.values())
         if self.running and needs > self.memory:
             return 0
         idle = self.lanes - len(self.running)
-        if all(self.behind[crate] >= self.behind[it] for it in [*self.left, *[it for it, _ in self.running.values()]]):
+        if self.is_longest(crate):
             return min(4, self.lanes)
         return min(4, max(1, idle // len(ready))) if idle > 0 else 0
 
-    def begin(self, pool):
-        """Begins what can begin now, and passes over what was proved before."""
+    def begin(self, first, others):
+        """Begins what can begin now, the longest chain by the pool that comes first, and passes over what was proved before."""
         ready = [it for it in self.left if all(below in self.proved for below in self.below[it])]
         for crate in list(ready):
             if self.kept.has(crate):
                 self.left.remove(crate)
                 self.proved.add(crate)
-                return self.begin(pool)
+                return self.begin(first, others)
             jobs = self.jobs_of(crate, ready)
             if jobs:
+                pool = first if self.is_longest(crate) else others
                 ready.remove(crate)
                 self.left.remove(crate)
                 self.running[pool.submit(prove, self.rt, crate, jobs)] = crate, time.monotonic()
@@ -244,8 +259,8 @@ class Lanes:
 
     def run(self):
         """Whether all are proved; it stops at the first that isn't."""
-        with ThreadPoolExecutor(self.lanes + 1) as pool:
-            self.begin(pool)
+        with ThreadPoolExecutor(self.lanes + 1) as first, ThreadPoolExecutor(self.lanes + 1, initializer=give_way) as others:
+            self.begin(first, others)
             while self.running:
                 for it in wait(self.running, return_when=FIRST_COMPLETED).done:
                     crate, since = self.running.pop(it)
@@ -257,7 +272,7 @@ class Lanes:
                     self.proved.add(crate)
                     self.kept.keep(crate)
                     say(f'{len(self.proved)} of {len(self.behind)} proved: {crate.name}, in {time.monotonic() - since:.0f} s')
-                self.begin(pool)
+                self.begin(first, others)
         return True
 
 

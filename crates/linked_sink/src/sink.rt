@@ -15,7 +15,7 @@ use std::alloc::Global;
 /// Audio Scan Service 1.0, section 3). Between two calls every notice of the delegator waits on the links. Link 0 is always
 /// joined.
 ///
-/// After want of memory nothing is said of it, but that it may be used on.
+/// After want of memory nothing is said of what its delegator and its links are then, but that it may be used on or dropped.
 #[derive(Drop)]
 pub struct LinkedSink {
     pub(crate) alloc: Global,

@@ -20,7 +20,7 @@ use unit_outlets::{TakerFault, UnitTaker};
 /// A sink of a scenario, with the assistants on its links, and the source that it is of: the one of the last line that put it on a
 /// train or on a group (Basic Audio Profile 1.0, section 6.5).
 ///
-/// After want of memory nothing is said of it.
+/// After want of memory nothing is said of it: it may be dropped, and the scenario in which it is ends.
 #[derive(Drop)]
 pub struct LivingSink {
     pub(crate) alloc: Global,

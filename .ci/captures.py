@@ -1,0 +1,272 @@
+#!/usr/bin/env python3
+"""captures.py PROGRAM: takes runs out as captures and in again, by tools/capture_out.py and tools/capture_in.py, and prints each that
+differs.
+
+What is read of a capture that was bent must bring the program to the units of the run by its `hear` lines. Where no unit depends on
+framing, these are also worked out here, by the payloads that were heard. Where tshark is there, it must find nothing malformed in what
+was written, and the access addresses of the streams that it works out itself must be those of the capture."""
+import contextlib
+import io
+import os
+import random
+import shutil
+import subprocess
+import sys
+import tempfile
+
+sys.dont_write_bytecode = True
+sys.path.insert(0, os.path.dirname(os.path.abspath(__file__)))
+from bent_captures import BEGIN, DRIFT, EPOCH, GROUPS, IDENT, JITTER, ORIGIN, TOP, Bent, Run, records, write  # noqa: E402
+import capture_in  # noqa: E402
+import capture_out  # noqa: E402
+import link_layer  # noqa: E402
+from anchor_fit import Fit, Heard, Mark  # noqa: E402
+
+SHIFT = 20  # us by which a fitted anchor may be wrong
+# The access addresses of control and of stream 1 for the seed 0, by section 2.1.2: 42 is 0101010, 77 is 1001101.
+WORKED_ADDRESSES = {0: 0x02A40000, 1: 0xFD060000}
+
+
+def replay(program, text):
+    return subprocess.run([program], input=text.encode(), capture_output=True, check=True, timeout=60).stdout.decode()
+
+
+def register_crc(pdu, start):
+    """The CRC by the register of volume 6 part B, section 3.1: x^24 + x^10 + x^9 + x^6 + x^4 + x^3 + x + 1, octets from their least bit
+    on, and the CRC from its greatest."""
+    register = start
+    for bit in (octet >> place & 1 for octet in pdu for place in range(8)):
+        is_fed = register >> 23 ^ bit
+        register = (register << 1 & 0xFFFFFF) ^ (0x00065B if is_fed else 0)
+    return bytes(sum((register >> 23 - place - 8 * octet & 1) << place for place in range(8)) for octet in range(3))
+
+
+def wrong_crcs(written):
+    """How many packets of streams and of their control have another CRC than BaseCRCInit and the number of their stream give."""
+    octets = next(octets for _, octets, _ in written if b'\x22\x2c' in octets)
+    place = octets.index(b'\x22\x2c') + 2
+    base = int.from_bytes(octets[place + 21:place + 23], 'little')
+    numbers = [(octets, 0 if 'control;' in comment else int(comment.split(', stream ')[1].split(',')[0]))
+               for _, octets, comment in written if 'control;' in comment or ', stream ' in comment]
+    return sum(register_crc(octets[14:-3], base << 8 | number) != octets[-3:] for octets, number in numbers)
+
+
+def units_of(transcript):
+    """The stream, the time and the rest of each `unit` line."""
+    words = [line.split(' ', 5) for line in transcript.split('\n') if line.startswith('unit ')]
+    return [(stream, int(time), rest) for _, _, stream, _, time, rest in words]
+
+
+def said(tool, words):
+    """The exit status of a tool and what it says on standard error."""
+    told = io.StringIO()
+    with contextlib.redirect_stderr(told):
+        status = tool.main(words)
+    return status, told.getvalue()
+
+
+def taken_out(program, text, path, *words):
+    with open(path + '.scn', 'w', encoding='ascii') as file:
+        file.write(text)
+    status, told = said(capture_out, [path + '.scn', path, '--program', program, *words])
+    if status:
+        raise RuntimeError(told)
+    return records(path)
+
+
+def taken_in(path, *words):
+    """The scenario of a capture, or what was said instead."""
+    status, told = said(capture_in, [path, '--out', path + '.in', *words])
+    if status:
+        return None, told
+    with open(path + '.in', encoding='ascii') as file:
+        return file.read(), told
+
+
+def different(run, expected, got, base):
+    """In how many units what was read of a bent capture differs, and what else is wrong with it."""
+    wrong = sum(one[::2] != other[::2] for one, other in zip(expected, got)) + abs(len(expected) - len(got))
+    shifts = {other[1] - one[1] for one, other in zip(expected, got)}
+    if wrong:
+        return wrong, f'{wrong} units differ'
+    if len(shifts) != 1 or abs(shifts.pop() - (EPOCH + ORIGIN * DRIFT - base)) > SHIFT:
+        return wrong, 'the times are not those of the capture'
+    if run.units and list(run.worked()) != [it[::2] for it in got]:
+        return wrong, 'the units are not those that were worked out'
+    return wrong, None
+
+
+def base_of(text):
+    return int(text.split('\n')[1].split(' ')[3])
+
+
+def bent_runs(program, folder, counts):
+    """Each group out, bent, and in again, as it is, without repeats, and with the announcement followed."""
+    for place, name in enumerate(GROUPS):
+        draw = random.Random(place)
+        run = Run(name, draw)
+        written = taken_out(program, run.text, os.path.join(folder, f'run{place}'))
+        expected = units_of(replay(program, run.text))
+        wrong = wrong_crcs(written)
+        yield f'{name}: CRCs', f'{wrong} are not those of the standard' if wrong else None
+        for train, words in ((run.events // 2, ()), (run.events // 3, ('--once',)), (1, ('--follow',))):
+            path = os.path.join(folder, f'bent{place}')
+            bent = Bent(written, draw, train)
+            write(path, bent.packets, is_old=train == 1)
+            text, told = taken_in(path, *words)
+            what = f'{name} {" ".join(words)}'
+            if text is None:
+                yield what, told
+                continue
+            transcript = replay(program, text)
+            wrong, why = different(run, expected, units_of(transcript), base_of(text))
+            if run.is_ended and 'sink 0 Left' not in transcript:
+                why = why or 'the end of the group was not heard'
+            for key, number in (('captures', 1), ('deleted', bent.deleted), ('put', bent.put), ('units', len(expected)),
+                                ('wrong', wrong)):
+                counts[key] = counts.get(key, 0) + number
+            yield what, why
+        if place == 0:
+            yield from circles(program, folder, path, counts)
+            yield from by_transcript(program, folder)
+            yield from missing(program, folder, written)
+
+
+def circles(program, folder, path, counts):
+    """What was read of a capture, written as a capture of what its sink heard, is read as the same."""
+    text, _ = taken_in(path)
+    again = os.path.join(folder, 'again')
+    taken_out(program, text or '', again, '--ear', '0')
+    other, told = taken_in(again, '--base', str(BEGIN))
+    counts['captures'] += 1
+    is_same = None not in (text, other) and other.split('\n')[2:] == text.split('\n')[2:]
+    yield 'in, out and in again', None if is_same else told or 'the scenarios differ'
+    for place, octets in enumerate((234, 236)):
+        meta = f'meta {octets + 1:02x}03{"41" * octets}'
+        lines = ['scenario 1', f'group unframed {ORIGIN} 40000 8 10000 4 4 1 1 1 1 0 0 0 1', IDENT, 'subgroup 0600000000 -', meta]
+        lines += ['bis 1 -', 'start 0', 'event', 'end', '']
+        path = os.path.join(folder, 'again' if place else 'run9')
+        taken_out(program, '\n'.join(lines), path)
+        text, told = taken_in(path)
+        yield 'a BASE that is continued', None if text and meta in text.split('\n') else told or 'the BASE differs'
+
+
+def by_transcript(program, folder):
+    """An example whose `sniff` lines print all PDUs is the same capture by its transcript as by a run."""
+    example, path = os.path.join(TOP, 'examples', 'framed'), os.path.join(folder, 'again')
+    said(capture_out, [example + '.scn', path, '--program', program])
+    by_run = records(path)
+    status, told = said(capture_out, [example + '.scn', path, '--transcript', example + '.out'])
+    yield 'a transcript', None if status == 0 and records(path) == by_run else told or 'it differs'
+    status, _ = said(capture_out, [example + '.scn', path, '--transcript', os.path.join(TOP, 'examples', 'stereo.out')])
+    yield 'the transcript of another scenario', None if status == 1 else 'it is not refused'
+
+
+def missing(program, folder, written):
+    """What can't be taken is named."""
+    path = os.path.join(folder, 'missing')
+
+    def changed(old, new):
+        return [(time, octets.replace(bytes.fromhex(old), bytes.fromhex(new)), comment) for time, octets, comment in written]
+
+    def without(words):
+        return [it for it in written if words not in it[2]]
+
+    cases = [
+        ('an AUX_ADV_IND with SyncInfo', without('leads to')), ('an AUX_SYNC_IND with a good CRC', without('train for event')),
+        ('an AUX_SYNC_IND with a BIGInfo', changed('222c', '222d')), ('an AUX_SYNC_IND with a BASE', changed('165118', '165218')),
+        ('the Broadcast_ID', changed('06165218', '06165118')), ('a PDU of its streams', without(', stream ')),
+    ]
+    for told, packets in cases:
+        write(path, packets)
+        text, why = taken_in(path)
+        yield f'without {told}', None if text is None and told in why else f'it says: {why}'
+    write(path, written, link_type=251)
+    yield 'of another link type', None if 'of link type 251' in taken_in(path)[1] else 'it is not named'
+    yield 'no capture', None if 'neither pcap' in taken_in(os.path.join(folder, 'run0.scn'))[1] else 'it is not named'
+    for example, told in (('encrypted', 'is encrypted'), ('two-sources', 'choose one')):
+        with open(os.path.join(TOP, 'examples', example + '.scn'), encoding='ascii') as file:
+            taken_out(program, file.read(), path)
+        yield example, None if told in taken_in(path)[1] else 'it is not named'
+
+
+def by_tshark(program, folder):
+    """All examples and the runs in one capture, and behind them a packet that is broken, which tshark must find, and no other."""
+    packets, addresses = [], set()
+    for place, name in enumerate(sorted(os.listdir(os.path.join(TOP, 'examples')))):
+        if name.endswith('.scn'):
+            with open(os.path.join(TOP, 'examples', name), encoding='ascii') as file:
+                taken_out(program, file.read(), os.path.join(folder, f'example{place}'))
+    for place, name in enumerate(sorted(it for it in os.listdir(folder) if it.rstrip('0123456789') in ('example', 'run'))):
+        for time, octets, comment in records(os.path.join(folder, name))[:400]:
+            packets.append((time + place * 1000000000, octets))
+            if ', stream ' in comment:
+                addresses.add(int.from_bytes(octets[10:14], 'little'))
+    announcement = next(octets for _, octets in reversed(packets) if b'\x22\x2c' in octets)
+    packets.append((packets[-1][0] + 1, announcement.replace(b'\x22\x2c', b'\x72\x2c')))
+    path = os.path.join(folder, 'all')
+    write(path, packets)
+    fields = ('_ws.malformed', '_ws.expert.severity', 'btcommon.eir_ad.entry.biginfo.bis_access_address')
+    words = ['tshark', '-r', path, '-T', 'fields', '-E', 'separator=|'] + [word for field in fields for word in ('-e', field)]
+    done = subprocess.run(words, capture_output=True, check=False, timeout=60)
+    if done.returncode:
+        yield 'tshark', done.stderr.decode(errors='replace')
+        return
+    told = [line.split('|') for line in done.stdout.decode().rstrip('\n').split('\n')]
+    severe = [number for number, (malformed, severity, _) in enumerate(told)
+              if malformed or any(int(it, 0) >= 0x600000 for it in severity.split(',') if it)]
+    yield f'tshark: {len(packets)} packets', None if len(told) == len(packets) and severe == [len(packets) - 1] else (
+        f'{len(told)} packets, malformed are those at {severe}, not the last alone')
+    worked = {int(it, 0) for _, _, listed in told for it in listed.split(',') if it}
+    yield f'tshark: {len(addresses)} access addresses', None if addresses and addresses <= worked else 'they differ from those worked out'
+
+
+def fits():
+    """PDUs that are placed by their times alone: none wrong, and none left out, with gaps of 20 and 40 s and a clock that jumps."""
+    cases = [
+        ('a gap of 40 s', {'iso': 8, 'nse': 3, 'sub': 600, 'spacing': 1800}, 4800, (400, 4400), {100}, 0),
+        ('a gap of 40 s before the BIGInfo', {'iso': 8, 'nse': 6, 'sub': 240, 'spacing': 1500}, 4800, (300, 4300), {4500}, 0),
+        ('a gap of 20 s before the clocks were compared', {'iso': 8, 'nse': 2, 'sub': 400, 'spacing': 900}, 2300, (30, 2030), {0}, 0),
+        ('a gap of an hour, then a BIGInfo', {'iso': 8, 'nse': 2, 'sub': 400, 'spacing': 900}, 360300, (200, 360200), {0, 360199}, 0),
+        ('a clock that jumps', {'iso': 24, 'nse': 4, 'sub': 1000, 'spacing': 250}, 400, (0, 0), {5, 200}, 5432),
+    ]
+    for place, (name, info, events, (low, high), marked, jump) in enumerate(cases):
+        draw = random.Random(place)
+        length, marks, places = info['iso'] * 1250 * (1 - DRIFT if place % 2 else 1 + DRIFT), [], {}
+        for event in (it for it in range(events) if not low <= it < high or it in marked):
+            anchor = EPOCH + event * length + (jump if event >= 200 else 0)
+            if event in marked:
+                time = anchor - 3000 - draw.uniform(0, 300)
+                marks.append(Mark(time, event, time + 3000, time + 3300))
+            for stream, subevent in ((stream, subevent) for stream in (1, 2) for subevent in range(info['nse'])):
+                if draw.random() < 0.4:
+                    time = anchor + (stream - 1) * info['spacing'] + subevent * info['sub'] + draw.uniform(-JITTER, JITTER)
+                    places[Heard(time, stream, b'')] = event, subevent
+        fit = Fit(info, marks, list(places))
+        wrong = sum(places[it.heard] != (it.event, it.subevent) for it in fit.placed)
+        left = len(places) - len(fit.placed)
+        yield name, f'of {len(places)} PDUs {wrong} are in a wrong place, {left} in none' if wrong or left else None
+
+
+def main():
+    program, counts, failed, tried = os.path.abspath(sys.argv[1]), {}, 0, 0
+    with tempfile.TemporaryDirectory() as folder:
+        results = [('access addresses', None if all(link_layer.stream_address(0, number) == address for number, address in
+                                                    WORKED_ADDRESSES.items()) else 'they are not those of the standard')]
+        results += list(fits()) + list(bent_runs(program, folder, counts))
+        if shutil.which('tshark'):
+            results += by_tshark(program, folder)
+        else:
+            print('skipped: the captures as Wireshark reads them, since tshark is missing (apt-get install tshark)')
+    for name, why in results:
+        tried += 1
+        if why:
+            failed += 1
+            print(f'captures: {name}: {why.strip()}')
+    print(f'captures: {counts["captures"]} out and in again, {counts["deleted"]} PDUs deleted, {counts["put"]} packets put between, '
+          f'{counts["wrong"]} of {counts["units"]} units differ; {tried} cases, {failed} fail')
+    return 1 if failed else 0
+
+
+if __name__ == '__main__':
+    sys.exit(main())
