@@ -66,13 +66,6 @@ class Source:
         """When the control PDU of an event begins: behind all its streams."""
         return self.anchor(event) + self.sync_delay() + BETWEEN_PACKETS
 
-    def payload_number(self, event, subevent):
-        """The number of the payload that this subevent of the event carries."""
-        group = self.group
-        carrier, place = divmod(subevent, group['bn'])
-        later = group['pto'] * (carrier - group['irc'] + 1) if carrier >= group['irc'] else 0
-        return (event + later) * group['bn'] + place
-
     def stream_address(self, stream):
         return link_layer.stream_address(self.seed, stream)
 

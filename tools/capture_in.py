@@ -74,12 +74,6 @@ class Broadcast:
             elif self.ended_at is None or instant < self.ended_at:
                 self.ended_at, self.ended_by = instant, packet.pdu
 
-    def payload_number(self, event, subevent):
-        info = self.info
-        carrier, place = divmod(subevent, info['bn'])
-        later = info['pto'] * (carrier - info['irc'] + 1) if carrier >= info['irc'] else 0
-        return (event + later) * info['bn'] + place
-
     def placed(self, first):
         """The PDUs by their events, from the first event on and before the end."""
         by_event = {}
@@ -132,7 +126,7 @@ def event_lines(broadcast, first, is_once):
     for event in range(first, last + 1):
         lines.append('event')
         for _, subevent, heard in by_event.get(event, []):
-            payload = heard.stream, broadcast.payload_number(event, subevent)
+            payload = heard.stream, link_layer.payload_number(broadcast.info, event, subevent)
             octets = bytes([heard.pdu[0] & 3]) + heard.pdu[1:]
             if is_once and given.get(payload) == octets:
                 broadcast.counted['that repeat a payload'] += 1

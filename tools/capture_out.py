@@ -233,7 +233,7 @@ class Run:
                 yield self.stream_packet(source, event, stream, subevent, octets, f'not sent, but heard by sink {sink}: {answer}')
 
     def stream_packet(self, source, event, stream, subevent, octets, told):
-        number = source.payload_number(event, subevent)
+        number = link_layer.payload_number(source.group, event, subevent)
         comment = f'source {source.number}, event {event}, stream {stream}, subevent {subevent}, payload {number}; {told}'
         return commented(source.place(event, stream, subevent), source.stream_packet(stream, octets), comment)
 

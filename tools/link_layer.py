@@ -82,6 +82,13 @@ def octets_in(layout):
     return sum(bits for _, bits in layout) // 8
 
 
+def payload_number(group, event, subevent):
+    """The number of the payload that a subevent of an event carries (Core 5.2, volume 6 part B, section 4.4.6)."""
+    carrier, place = divmod(subevent, group['bn'])
+    later = group['pto'] * (carrier - group['irc'] + 1) if carrier >= group['irc'] else 0
+    return (event + later) * group['bn'] + place
+
+
 def stream_address(seed, number):
     """The access address of the stream of this BIS_Number, or with 0 that of the control PDUs of the group."""
     d = (35 * number + 42) % 128
