@@ -8,4 +8,4 @@ use Rattle.linked_sink.proofs.sink.LinkedSink.state.Goals as goal
 pub returns : goal.returns
 returns c setup mtu calls its =
     subst (λ (s : Sight). IfOk c.read_state.result (λ octets. octets ≡ value_at s c.args.slot)) (its_sight setup its.took.taken calls its.took.own)
-    (c.read_state.ensures setup its.took.taken its.took.delegator)
+    (c.read_state.ensures.value setup its.took.taken its.took.delegator)
