@@ -1,6 +1,6 @@
 -- A train that is heard puts the sink on a group, or leaves it off one.
 use Rattle.std.proofs.Common.{ℕ, ◌≡◌, Bool, true, false, List, ◌∷◌, Option, Some, None, option_map, refl, sym, ◌∙◌, ap}
-use Rattle.std.specs.Prelude.{not, if◌then◌else◌}
+use Rattle.std.specs.Prelude.{not, is_some, if◌then◌else◌}
 use Rattle.base_grammar.specs.AdReading.{broadcast_id_of}
 use Rattle.delegator_states.specs.declared.train_heard.TrainHeard.{TrainHeard}
 use Rattle.delegator_states.specs.declared.train_heard.TrainHeard.TheVariants as answers
@@ -16,6 +16,7 @@ use Rattle.group_sink.specs.State.Sinks.{OnGroup, StandsFor as SinkStands}
 use Rattle.group_sink.specs.State.Steps.{fresh_on}
 use Rattle.delegator_choices.specs.declared.brought.Joining.{Joining}
 use Rattle.delegator_choices.specs.State.Brings.{joining_by, joining_in}
+use Rattle.scan_delegator.specs.Following.{has_base, is_followed}
 use Rattle.scan_delegator.specs.Groups.{has_group}
 use Rattle.scan_delegator.specs.State.Machines.{Machine, moved, StandsFor as ScanStands}
 use Rattle.delegator_machine.specs.Calls.{Call, control, steps_of}
@@ -93,3 +94,21 @@ stands_trained setup train source calls old new (Some joining) made is makes qui
     λ i. joining_brought (brought_by (stands.setup_is i) (sight_is setup calls old stands i) train) in
     stands_joined setup (train_heard source train) calls old new joining (sym same ∙ sym is) (ap (λ (m : Machine). m.setup) step) steps
     (puts (tuning_of joining) (group_calls setup calls) makes) stands
+
+-- ---- where memory may be wanted
+
+pub base_followed : (brought : Brought) → has_base brought ≡ true → is_followed brought ≡ true
+base_followed (ignored answer) is = absurd cc
+base_followed (heard slot answer encrypted) is = refl
+base_followed (taken slot bits encrypted joining) is = refl
+
+pub joined_followed : (joining : Option Joining) (brought : Brought) → option_map joining_by joining ≡ joining_in brought → is_some joining ≡ true → is_followed brought ≡ true
+joined_followed None brought is some = absurd cc
+joined_followed (Some joining) (ignored answer) is some = absurd cc
+joined_followed (Some joining) (heard slot answer encrypted) is some = refl
+joined_followed (Some joining) (taken slot bits encrypted other) is some = refl
+
+pub followed_so : (setup : Setup) (calls : List Call) (old : Halves) (train : Train) → StandsFor setup calls old
+    → is_followed (brought_by old.scan.setup old.scan.sight train) ≡ true → is_followed (brought_by setup (sight_of setup (steps_of calls)) train) ≡ true
+followed_so setup calls old train stands is =
+    (λ i. is_followed (brought_by (sym stands.setup_is i) (sym (sight_is setup calls old stands) i) train)) ∙ is

@@ -1,6 +1,8 @@
-ghost use Rattle.std.specs.Prelude.{◌≡◌, ◌+◌, ◌≤◌, ◌<◌, ◌^◌, ◌&&◌, ◌∷◌, not, ℕ, List, [], option_map, slice_get, IfOk, OnOk, OnErr};
+ghost use Rattle.std.specs.Prelude.{◌≡◌, ◌+◌, ◌≤◌, ◌<◌, ◌^◌, ◌&&◌, ◌∷◌, not, ℕ, List, [], option_map, slice_get, IfOk, IsOk, IsSome, OnOk, OnErr};
+ghost use Rattle.bass_operations.specs.Reading.{op_of};
 ghost use Rattle.delegator_states.specs.Controls.{control_heard};
 ghost use Rattle.delegator_states.specs.Notices.{handed_out, mtu_in, waiting};
+ghost use Rattle.delegator_states.specs.Sights.{entry_at, slot_of};
 ghost use Rattle.delegator_states.specs.States.{control_heard as controlled, put_on, sight_of, told, train_lost, written};
 ghost use Rattle.delegator_states.specs.Trains.{Setup};
 ghost use Rattle.delegator_states.specs.Values.{value_at};
@@ -108,12 +110,14 @@ impl Delegator {
     }
 
     /// Serves a write to the control point (Broadcast Audio Scan Service 1.0, section 3.1.1). The reply is the first cause that
-    /// holds, or that it is accepted; a refused write changes nothing. After want of memory all is as before.
+    /// holds, or that it is accepted; a refused write changes nothing. Memory is wanted only for octets that are an operation;
+    /// all is then as before.
     pub fn serve(&mut self, write: &[u8]) -> Result<Reply, Memory>
         ensures answer { (setup : Setup) (calls : List Call) → StandsFor setup calls self.old → IfOk result (λ reply. reply ≡ reply_of (sight_of setup (steps_of calls)) write.now) }
         ensures stands { (setup : Setup) (calls : List Call) (link : ℕ) → StandsFor setup calls self.old → OnOk result (StandsFor setup (control (written link write.now) ∷ calls) self.new) }
         ensures settings { settings_of self.new ≡ settings_of self.old }
         ensures err { OnErr result (self.new ≡ self.old) }
+        ensures memory { OnErr result (IsOk (op_of write.now)) }
     {
         let was_on_group = self.scan.is_on_group();
         let reply = self.scan.serve(write)?;
@@ -121,11 +125,13 @@ impl Delegator {
         Ok(reply)
     }
 
-    /// The train is lost: the sink is idle. After want of memory all is as before.
+    /// The train is lost: the sink is idle. Memory is wanted only where it was on the train or the group of a slot; all is then
+    /// as before.
     pub fn lost(&mut self) -> Result<(), Memory>
         ensures stands { (setup : Setup) (calls : List Call) → StandsFor setup calls self.old → OnOk result (StandsFor setup (control train_lost ∷ calls) self.new) }
         ensures settings { settings_of self.new ≡ settings_of self.old }
         ensures err { OnErr result (self.new ≡ self.old) }
+        ensures memory { (setup : Setup) (calls : List Call) → StandsFor setup calls self.old → OnErr result (IsSome (slot_of (sight_of setup (steps_of calls)).place)) }
     {
         let was_on_group = self.scan.is_on_group();
         self.scan.lost()?;
@@ -134,12 +140,15 @@ impl Delegator {
     }
 
     /// A PDU is heard as a control PDU (Core 5.2, volume 6 part B, section 2.6.3). The answer is the first that holds. A
-    /// terminate takes the sink off its group; it stays on the train of its slot. After want of memory all is as before.
+    /// terminate takes the sink off its group; it stays on the train of its slot. Memory is wanted only for Left, on the group
+    /// of a slot; all is then as before.
     pub fn control(&mut self, pdu: &[u8]) -> Result<ControlHeard, Memory>
         ensures answer { (setup : Setup) (calls : List Call) → StandsFor setup calls self.old → IfOk result (λ heard. heard ≡ control_heard (sight_of setup (steps_of calls)).place pdu.now) }
         ensures stands { (setup : Setup) (calls : List Call) → StandsFor setup calls self.old → OnOk result (StandsFor setup (control (controlled pdu.now) ∷ calls) self.new) }
         ensures settings { settings_of self.new ≡ settings_of self.old }
         ensures err { OnErr result (self.new ≡ self.old) }
+        ensures memory { (setup : Setup) (calls : List Call) → StandsFor setup calls self.old → OnErr result (control_heard (sight_of setup (steps_of calls)).place pdu.now ≡ ControlHeard.Left) }
+        ensures slot { (setup : Setup) (calls : List Call) → StandsFor setup calls self.old → OnErr result (IsSome (slot_of (sight_of setup (steps_of calls)).place)) }
     {
         let was_on_group = self.scan.is_on_group();
         let heard = self.scan.control(pdu)?;
@@ -183,10 +192,12 @@ impl Delegator {
         self.scan.next_notice()
     }
 
-    /// The value of a slot, which exists (Broadcast Audio Scan Service 1.0, section 3.2).
+    /// The value of a slot, which exists (Broadcast Audio Scan Service 1.0, section 3.2). Memory is wanted only where it is
+    /// filled.
     pub fn read_state(&self, slot: u8) -> Result<Octets, Memory>
         requires { slot < self.now.scan.setup.slots }
-        ensures { (setup : Setup) (calls : List Call) → StandsFor setup calls self.now → IfOk result (λ octets. octets ≡ value_at (sight_of setup (steps_of calls)) slot) }
+        ensures value { (setup : Setup) (calls : List Call) → StandsFor setup calls self.now → IfOk result (λ octets. octets ≡ value_at (sight_of setup (steps_of calls)) slot) }
+        ensures memory { (setup : Setup) (calls : List Call) → StandsFor setup calls self.now → OnErr result (IsSome (entry_at (sight_of setup (steps_of calls)).slots slot)) }
     {
         self.scan.read_state(slot)
     }

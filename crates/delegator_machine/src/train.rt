@@ -1,11 +1,12 @@
 //! A train that is heard.
-ghost use Rattle.std.specs.Prelude.{◌≡◌, ◌≤◌, ◌^◌, ◌∷◌, ℕ, List, option_map, None, Some, IfOk, OnOk, OnErr};
+ghost use Rattle.std.specs.Prelude.{◌≡◌, ◌≤◌, ◌^◌, ◌∷◌, ℕ, List, option_map, true, None, Some, IfOk, IsSome, OnOk, OnErr};
 ghost use Rattle.delegator_states.specs.States.{sight_of, train_heard};
 ghost use Rattle.delegator_states.specs.Trains.{Setup, Train, answer_of, brought_by};
 ghost use Rattle.group_sink.specs.Calls as sinks;
 ghost use Rattle.group_sink.specs.Calls.{Tuning};
 ghost use Rattle.group_sink.specs.State.Sinks.{StandsFor as SinkStands};
 ghost use Rattle.group_sink.specs.State.Steps.{fresh_on};
+ghost use Rattle.scan_delegator.specs.Following.{is_followed};
 ghost use Rattle.delegator_machine.specs.Calls.{Call, control, steps_of};
 ghost use Rattle.delegator_machine.specs.State.Halves.{StandsFor, settings_of};
 ghost use Rattle.delegator_machine.specs.State.Joined.{made_for};
@@ -20,7 +21,8 @@ use group_sink::{GroupReceivers, GroupSink};
 impl Delegator {
     /// Hears a train, at this time in µs: the data of its extended advertising, of its periodic advertising, and its additional
     /// controller data (Basic Audio Profile 1.0, sections 3.7.2 and 6.5). The answer is the first that holds. The first four
-    /// change nothing; a train that is taken puts the sink on its group. After want of memory all is as before.
+    /// change nothing, and want no memory; a train that is taken puts the sink on its group. After want of memory all is as
+    /// before.
     pub fn train(
         &mut self,
         address_type: u8,
@@ -37,6 +39,8 @@ impl Delegator {
             → OnOk result (StandsFor setup (control (train_heard source (record { address_type = address_type; sid = sid; ext = ext.now; adv = adv.now; acad = acad.now; now = now })) ∷ calls) self.new) }
         ensures settings { settings_of self.new ≡ settings_of self.old }
         ensures err { OnErr result (self.new ≡ self.old) }
+        ensures memory { (setup : Setup) (calls : List Call) → StandsFor setup calls self.old
+            → OnErr result (is_followed (brought_by setup (sight_of setup (steps_of calls)) (record { address_type = address_type; sid = sid; ext = ext.now; adv = adv.now; acad = acad.now; now = now })) ≡ true) }
     {
         let brought = self.scan.bring(address_type, sid, ext, adv, acad, now)?;
         let joining = brought.joining();
@@ -52,7 +56,8 @@ fn receivers_of(
     sink: &GroupSink,
     joining: Option<Joining>,
 ) -> Result<Option<GroupReceivers>, Memory>
-    ensures { IfOk result (λ made. made ≡ option_map made_for joining) }
+    ensures made { IfOk result (λ made. made ≡ option_map made_for joining) }
+    ensures memory { OnErr result (IsSome joining) }
 {
     let Some(joining) = joining else {
         return Ok(None);

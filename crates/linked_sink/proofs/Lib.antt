@@ -9,4 +9,5 @@ mod Places
 mod Results
 mod Stands
 mod Untold
+mod Wanting
 pub mod Citable

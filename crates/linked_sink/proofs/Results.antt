@@ -13,3 +13,7 @@ on_err (Err e) f p = f p
 pub if_ok : {T E : Type 0} (result : Result T E) (P Q : T → Type 0) → ((x : T) → P x → Q x) → IfOk result P → IfOk result Q
 if_ok (Ok x) P Q f p = f x p
 if_ok (Err e) P Q f p = p
+
+pub on_any_err : {T E P : Type 0} (result : Result T E) → P → OnErr result P
+on_any_err (Ok x) p = tt
+on_any_err (Err e) p = p

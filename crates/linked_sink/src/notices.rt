@@ -1,7 +1,8 @@
 //! Notices, which wait on their link until they are delivered.
-ghost use Rattle.std.specs.Prelude.{ℕ, ◌≡◌, ◌≢◌, ◌∷◌, true, List, Option, None, Ok, Err, option_map, slice_get, IfErr, IfOk, OnOk};
+ghost use Rattle.std.specs.Prelude.{ℕ, ◌≡◌, ◌≢◌, ◌∷◌, true, List, Option, None, Ok, Err, option_map, slice_get, IfErr, IfOk, IsSomeAnd, OnOk, OnErr};
 ghost use Rattle.assistant_machine.specs.Answers.{IsCause, answer_of};
 ghost use Rattle.assistant_machine.specs.declared.fault.NoticeFault.TheVariants.{Memory as NoMemory};
+ghost use Rattle.assistant_machine.specs.declared.fault.NoticeTaken.TheVariants.{View};
 ghost use Rattle.delegator_states.specs.Trains.{Setup};
 ghost use Rattle.link_histories.specs.Calls.{Call, forged, is_joined, told};
 ghost use Rattle.link_histories.specs.Links.{delivered, notices_waiting};
@@ -17,7 +18,8 @@ use link_histories::links_law;
 impl LinkedSink {
     /// Delivers the first notice that waits on a joined link to its assistant, and answers it as it was delivered: its value
     /// is cut to the MTU but three octets, where there is one (Broadcast Audio Scan Service 1.0, section 3.2). `None` comes
-    /// exactly where no notice waits; then nothing changes.
+    /// exactly where no notice waits; then nothing changes. Memory is wanted only where the assistant takes the value for its
+    /// view of the slot, and so for none that may have been cut.
     pub fn tell(&mut self, link: u8) -> Result<Option<Notice>, Memory>
         ensures answer { (setup : Setup) (mtu : Option ℕ) (calls : List Call) → LinkedStands setup mtu calls self.old → is_joined link calls ≡ true
             → IfOk result (λ notice. notice ≡ option_map (delivered mtu) (slice_get (notices_waiting setup mtu link calls) 0)) }
@@ -25,6 +27,9 @@ impl LinkedSink {
             → OnOk result (LinkedStands setup mtu (told link ∷ calls) self.new) }
         ensures none { (setup : Setup) (mtu : Option ℕ) (calls : List Call) → LinkedStands setup mtu calls self.old → is_joined link calls ≡ true → result ≡ Ok None
             → LinkedStands setup mtu calls self.new }
+        ensures memory { (setup : Setup) (mtu : Option ℕ) (calls : List Call) → LinkedStands setup mtu calls self.old → is_joined link calls ≡ true
+            → OnErr result (IsSomeAnd (option_map (delivered mtu) (slice_get (notices_waiting setup mtu link calls) 0))
+            (λ notice. answer_of setup.slots mtu notice.slot notice.value ≡ Ok View)) }
         ensures slots { self.new.slots ≡ self.old.slots }
     {
         links_law();

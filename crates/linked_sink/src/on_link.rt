@@ -1,10 +1,11 @@
 //! What is done on one link.
 ghost use Rattle.std.specs.Option.{option_copied};
-ghost use Rattle.std.specs.Prelude.{ℕ, ◌≡◌, ◌≢◌, ◌∷◌, [], List, Some, Ok, Err, length, IfErr, IfOk, IfSome, IfNone, OnOk, is_some, slice_index_or, None, drop};
+ghost use Rattle.std.specs.Prelude.{ℕ, ◌≡◌, ◌≢◌, ◌∷◌, [], List, Some, Ok, Err, length, IfErr, IfOk, IfSome, IfNone, OnOk, OnErr, IsSome, is_some, slice_index_or, None, drop};
 ghost use Rattle.assistant_machine.specs.Answers.{IsCause, answer_of};
 ghost use Rattle.assistant_machine.specs.Calls as assistants;
 ghost use Rattle.assistant_machine.specs.State.Assistants.{Assistant, IsLowest, NoneWaits};
 ghost use Rattle.assistant_machine.specs.declared.fault.NoticeFault.TheVariants.{Memory as NoMemory};
+ghost use Rattle.assistant_machine.specs.declared.fault.NoticeTaken.TheVariants.{View};
 ghost use Rattle.multi_assist.specs.State.Links.{link_at, mtu_of, slots_of, with_assistant_on};
 ghost use Rattle.delegator_states.specs.Values.{value};
 ghost use Rattle.receive_state.specs.Layout.{HasSpelling};
@@ -70,8 +71,10 @@ pub(crate) fn take_notice(
 
 /// The same, whatever the assistant makes of it.
 pub(crate) fn deliver(links: &mut Links, link: u8, slot: u8, value: &[u8]) -> Result<(), Memory>
-    ensures { (before : Assistant) → assistant_in (link_at links.old link) ≡ Some before
+    ensures takes { (before : Assistant) → assistant_in (link_at links.old link) ≡ Some before
         → OnOk result (Takes (assistants.told slot value.now ∷ []) link before links.old links.new) }
+    ensures memory { (before : Assistant) → assistant_in (link_at links.old link) ≡ Some before
+        → OnErr result (answer_of (length before.views) before.mtu slot value.now ≡ Ok View) }
 {
     match take_notice(links, link, slot, value) {
         Ok(_) => Ok(()),
@@ -113,7 +116,8 @@ fn answer_read(links: &mut Links, link: u8, slot: u8, value: &[u8]) -> Result<()
 
 /// Of the faults of a value the want of memory alone.
 fn wants_memory(fault: NoticeFault) -> Result<(), Memory>
-    ensures { OnOk result (fault ≢ NoMemory) }
+    ensures ok { OnOk result (fault ≢ NoMemory) }
+    ensures err { OnErr result (fault ≡ NoMemory) }
 {
     match fault {
         NoticeFault::Memory => Err(Memory),
@@ -131,6 +135,8 @@ pub(crate) fn view_on(
     ensures answer { (before : Assistant) → assistant_in (link_at links.old link) ≡ Some before
         → ((state : ReceiveState) → slice_index_or before.views slot None ≡ Some state → HasSpelling state)
         → IfOk result (λ octets. octets ≡ value (slice_index_or before.views slot None)) }
+    ensures memory { (before : Assistant) → assistant_in (link_at links.old link) ≡ Some before
+        → OnErr result (IsSome (slice_index_or before.views slot None)) }
     ensures same { (other : ℕ) → link_at links.new other ≡ link_at links.old other }
     ensures terms { (slots_of links.new ≡ slots_of links.old) × (mtu_of links.new ≡ mtu_of links.old) }
 {
@@ -142,8 +148,9 @@ pub(crate) fn view_on(
 
 /// The octets of a state that has any, or none where there is no source.
 fn octets_of(alloc: Global, view: Option<&ReceiveState>) -> Result<Octets, Memory>
-    ensures { ((state : ReceiveState) → option_copied view.entry ≡ Some state → HasSpelling state)
+    ensures value { ((state : ReceiveState) → option_copied view.entry ≡ Some state → HasSpelling state)
         → IfOk result (λ octets. octets ≡ value (option_copied view.entry)) }
+    ensures memory { OnErr result (IsSome (option_copied view.entry)) }
 {
     let Some(state) = view else {
         return Ok(Octets::new(alloc));

@@ -1,5 +1,5 @@
 //! Reads of the states of the slots, which wait on their link until they are served, and what the assistants know.
-ghost use Rattle.std.specs.Prelude.{ℕ, ◌≡◌, ◌<◌, ◌∷◌, true, List, Option, None, Ok, option_map, slice_get, IfOk, OnOk};
+ghost use Rattle.std.specs.Prelude.{ℕ, ◌≡◌, ◌<◌, ◌∷◌, true, List, Option, None, Ok, option_map, slice_get, IfOk, IsSome, OnOk, OnErr};
 ghost use Rattle.delegator_states.specs.Trains.{Setup};
 ghost use Rattle.delegator_states.specs.Values.{value};
 ghost use Rattle.link_histories.specs.Calls.{Call, is_joined, read};
@@ -16,7 +16,7 @@ use receive_state::read_is_state;
 impl LinkedSink {
     /// Serves the read that waits on a joined link of the lowest slot: the assistant takes the value of the slot, whole. It
     /// answers the slot and its value (Broadcast Audio Scan Service 1.0, section 3.2). `None` comes exactly where no read
-    /// waits; then nothing changes.
+    /// waits; then nothing changes. Memory is wanted only where one waits.
     pub fn read(&mut self, link: u8) -> Result<Option<Notice>, Memory>
         ensures answer { (setup : Setup) (mtu : Option ℕ) (calls : List Call) → LinkedStands setup mtu calls self.old → is_joined link calls ≡ true
             → IfOk result (λ notice. notice ≡ option_map (λ slot. record { slot = slot; value = value (state setup slot calls) }) (slice_get (reads_waiting setup mtu link calls) 0)) }
@@ -24,6 +24,8 @@ impl LinkedSink {
             → OnOk result (LinkedStands setup mtu (read link ∷ calls) self.new) }
         ensures none { (setup : Setup) (mtu : Option ℕ) (calls : List Call) → LinkedStands setup mtu calls self.old → is_joined link calls ≡ true → result ≡ Ok None
             → LinkedStands setup mtu calls self.new }
+        ensures memory { (setup : Setup) (mtu : Option ℕ) (calls : List Call) → LinkedStands setup mtu calls self.old → is_joined link calls ≡ true
+            → OnErr result (IsSome (slice_get (reads_waiting setup mtu link calls) 0)) }
         ensures slots { self.new.slots ≡ self.old.slots }
     {
         links_law();
@@ -40,11 +42,13 @@ impl LinkedSink {
     }
 
     /// The octets of what the assistant of a joined link takes for the state of a slot; none where it takes the slot for
-    /// empty. It changes nothing.
+    /// empty, which takes no memory. It changes nothing.
     pub fn view(&mut self, link: u8, slot: u8) -> Result<Octets, Memory>
         requires { slot < self.old.slots }
         ensures answer { (setup : Setup) (mtu : Option ℕ) (calls : List Call) → LinkedStands setup mtu calls self.old → is_joined link calls ≡ true
             → IfOk result (λ octets. octets ≡ value (view setup mtu link slot calls)) }
+        ensures memory { (setup : Setup) (mtu : Option ℕ) (calls : List Call) → LinkedStands setup mtu calls self.old → is_joined link calls ≡ true
+            → OnErr result (IsSome (view setup mtu link slot calls)) }
         ensures stands { (setup : Setup) (mtu : Option ℕ) (calls : List Call) → LinkedStands setup mtu calls self.old → LinkedStands setup mtu calls self.new }
         ensures slots { self.new.slots ≡ self.old.slots }
     {

@@ -1,4 +1,4 @@
-ghost use Rattle.std.specs.Prelude.{ℕ, ◌≡◌, ◌≤◌, ◌<◌, ◌∷◌, List, Option, IfOk, OnOk};
+ghost use Rattle.std.specs.Prelude.{ℕ, ◌≡◌, ◌≤◌, ◌<◌, ◌≢◌, ◌∷◌, [], List, Option, IfOk, IsSome, OnOk, OnErr};
 ghost use Rattle.delegator_machine.specs.State.Halves.{StandsFor};
 ghost use Rattle.multi_assist.specs.Mtus.{IsMtu};
 ghost use Rattle.link_histories.specs.Calls.{born};
@@ -27,9 +27,11 @@ pub struct LinkedSink {
 }
 
 impl LinkedSink {
+    ghost use Rattle.delegator_states.specs.Notices.{changes};
+    ghost use Rattle.delegator_states.specs.States.{sight_of};
     ghost use Rattle.delegator_states.specs.Trains.{Setup};
     ghost use Rattle.delegator_states.specs.Values.{value};
-    ghost use Rattle.link_histories.specs.Calls.{Call};
+    ghost use Rattle.link_histories.specs.Calls.{Call, steps_of};
     ghost use Rattle.link_histories.specs.Links.{state};
     ghost use Rattle.linked_sink.specs.State.Stands.{HasStepped, LinkedStands};
 
@@ -75,19 +77,24 @@ impl LinkedSink {
         self.slots
     }
 
-    /// The octets of the state of a slot, which exists (Broadcast Audio Scan Service 1.0, section 3.2); none where it is empty.
+    /// The octets of the state of a slot, which exists (Broadcast Audio Scan Service 1.0, section 3.2); none where it is empty,
+    /// which takes no memory.
     pub fn state(&self, slot: u8) -> Result<Octets, Memory>
         requires { slot < self.now.slots }
-        ensures { (setup : Setup) (mtu : Option ℕ) (calls : List Call) → LinkedStands setup mtu calls self.now
+        ensures value { (setup : Setup) (mtu : Option ℕ) (calls : List Call) → LinkedStands setup mtu calls self.now
             → IfOk result (λ octets. octets ≡ value (state setup slot calls)) }
+        ensures memory { (setup : Setup) (mtu : Option ℕ) (calls : List Call) → LinkedStands setup mtu calls self.now
+            → OnErr result (IsSome (state setup slot calls)) }
     {
         self.delegator.read_state(slot)
     }
 
-    /// Every notice that waits at the delegator, all of one step, goes to the links.
+    /// Every notice that waits at the delegator, all of one step, goes to the links. Memory is wanted only where the step gives one.
     pub(crate) fn gather(&mut self) -> Result<(), Memory>
         ensures stands { (setup : Setup) (mtu : Option ℕ) (call : Call) (calls : List Call) → HasStepped setup mtu call calls self.old
             → OnOk result (LinkedStands setup mtu (call ∷ calls) self.new) }
+        ensures memory { (setup : Setup) (mtu : Option ℕ) (call : Call) (calls : List Call) → HasStepped setup mtu call calls self.old
+            → OnErr result (changes setup.slots (sight_of setup (steps_of calls)) (sight_of setup (steps_of (call ∷ calls))) ≢ []) }
         ensures slots { self.new.slots ≡ self.old.slots }
     {
         a_step_tells_each_link();

@@ -1,9 +1,11 @@
 //! Where a sink is put, and what takes it from there.
-ghost use Rattle.std.specs.Prelude.{ℕ, ◌≡◌, ◌+◌, ◌≤◌, ◌<◌, ◌^◌, ◌∷◌, List, Option, IfOk, OnOk};
+ghost use Rattle.std.specs.Prelude.{ℕ, ◌≡◌, ◌+◌, ◌≤◌, ◌<◌, ◌^◌, ◌∷◌, true, List, Option, IfOk, IsSome, OnOk, OnErr};
 ghost use Rattle.delegator_states.specs.Controls.{control_heard};
+ghost use Rattle.delegator_states.specs.Sights.{slot_of};
 ghost use Rattle.delegator_states.specs.States.{control_heard as controlled, put_on, sight_of, train_heard, train_lost};
 ghost use Rattle.delegator_states.specs.Trains.{Setup, answer_of, brought_by};
 ghost use Rattle.link_histories.specs.Calls.{Call, stepped, steps_of};
+ghost use Rattle.scan_delegator.specs.Following.{is_followed};
 ghost use Rattle.linked_sink.specs.State.Stands.{LinkedStands};
 
 use crate::sink::LinkedSink;
@@ -35,7 +37,7 @@ impl LinkedSink {
 
     /// Hears a train, at this time in µs: the data of its extended advertising, of its periodic advertising, and its additional
     /// controller data (Basic Audio Profile 1.0, sections 3.7.2 and 6.5). The answer is the first that holds. A train that is
-    /// taken puts the sink on its group.
+    /// taken puts the sink on its group. Memory is wanted with none of the first four answers.
     pub fn train(
         &mut self,
         address_type: u8,
@@ -52,6 +54,9 @@ impl LinkedSink {
         ensures stands { (setup : Setup) (mtu : Option ℕ) (calls : List Call) (source : ℕ) → LinkedStands setup mtu calls self.old
             → OnOk result (LinkedStands setup mtu (stepped (train_heard source
             (record { address_type = address_type; sid = sid; ext = ext.now; adv = adv.now; acad = acad.now; now = now })) ∷ calls) self.new) }
+        ensures memory { (setup : Setup) (mtu : Option ℕ) (calls : List Call) → LinkedStands setup mtu calls self.old
+            → OnErr result (is_followed (brought_by setup (sight_of setup (steps_of calls))
+            (record { address_type = address_type; sid = sid; ext = ext.now; adv = adv.now; acad = acad.now; now = now })) ≡ true) }
         ensures slots { self.new.slots ≡ self.old.slots }
     {
         let heard = self
@@ -61,10 +66,12 @@ impl LinkedSink {
         Ok(heard)
     }
 
-    /// The train is lost: the sink is idle.
+    /// The train is lost: the sink is idle. Memory is wanted only where it was on the train or the group of a slot.
     pub fn lost(&mut self) -> Result<(), Memory>
         ensures stands { (setup : Setup) (mtu : Option ℕ) (calls : List Call) → LinkedStands setup mtu calls self.old
             → OnOk result (LinkedStands setup mtu (stepped train_lost ∷ calls) self.new) }
+        ensures memory { (setup : Setup) (mtu : Option ℕ) (calls : List Call) → LinkedStands setup mtu calls self.old
+            → OnErr result (IsSome (slot_of (sight_of setup (steps_of calls)).place)) }
         ensures slots { self.new.slots ≡ self.old.slots }
     {
         self.delegator.lost()?;
@@ -72,12 +79,17 @@ impl LinkedSink {
     }
 
     /// A PDU is heard as a control PDU (Core 5.2, volume 6 part B, section 2.6.3). The answer is the first that holds. A
-    /// terminate takes the sink off its group; it stays on the train of its slot.
+    /// terminate takes the sink off its group; it stays on the train of its slot. Memory is wanted only for Left, on the group
+    /// of a slot.
     pub fn control(&mut self, pdu: &[u8]) -> Result<ControlHeard, Memory>
         ensures answer { (setup : Setup) (mtu : Option ℕ) (calls : List Call) → LinkedStands setup mtu calls self.old
             → IfOk result (λ heard. heard ≡ control_heard (sight_of setup (steps_of calls)).place pdu.now) }
         ensures stands { (setup : Setup) (mtu : Option ℕ) (calls : List Call) → LinkedStands setup mtu calls self.old
             → OnOk result (LinkedStands setup mtu (stepped (controlled pdu.now) ∷ calls) self.new) }
+        ensures memory { (setup : Setup) (mtu : Option ℕ) (calls : List Call) → LinkedStands setup mtu calls self.old
+            → OnErr result (control_heard (sight_of setup (steps_of calls)).place pdu.now ≡ ControlHeard.Left) }
+        ensures slot { (setup : Setup) (mtu : Option ℕ) (calls : List Call) → LinkedStands setup mtu calls self.old
+            → OnErr result (IsSome (slot_of (sight_of setup (steps_of calls)).place)) }
         ensures slots { self.new.slots ≡ self.old.slots }
     {
         let heard = self.delegator.control(pdu)?;

@@ -1,5 +1,6 @@
 //! Writes to the control point, which wait on their link until they are served.
-ghost use Rattle.std.specs.Prelude.{ℕ, ◌≡◌, ◌∷◌, true, List, Option, None, Ok, option_map, slice_get, IfOk, OnOk};
+ghost use Rattle.std.specs.Prelude.{ℕ, ◌≡◌, ◌∷◌, true, List, Option, None, Ok, option_map, slice_get, IfOk, IsOk, IsSomeAnd, OnOk, OnErr};
+ghost use Rattle.bass_operations.specs.Reading.{op_of};
 ghost use Rattle.delegator_states.specs.States.{sight_of};
 ghost use Rattle.delegator_states.specs.Trains.{Setup};
 ghost use Rattle.delegator_states.specs.Writes.{reply_of};
@@ -26,7 +27,7 @@ impl LinkedSink {
 
     /// Serves the first write that waits on a joined link, and answers the reply: the first cause that holds, or that it is
     /// accepted; a refused write changes nothing of the slots. `None` comes exactly where no write waits; then nothing
-    /// changes.
+    /// changes. Memory is wanted only where the first write that waits is an operation.
     pub fn serve(&mut self, link: u8) -> Result<Option<Reply>, Memory>
         ensures answer { (setup : Setup) (mtu : Option ℕ) (calls : List Call) → LinkedStands setup mtu calls self.old → is_joined link calls ≡ true
             → IfOk result (λ reply. reply ≡ option_map (reply_of (sight_of setup (steps_of calls))) (slice_get (writes_waiting link calls) 0)) }
@@ -34,6 +35,8 @@ impl LinkedSink {
             → OnOk result (LinkedStands setup mtu (served link ∷ calls) self.new) }
         ensures none { (setup : Setup) (mtu : Option ℕ) (calls : List Call) → LinkedStands setup mtu calls self.old → is_joined link calls ≡ true → result ≡ Ok None
             → LinkedStands setup mtu calls self.new }
+        ensures memory { (setup : Setup) (mtu : Option ℕ) (calls : List Call) → LinkedStands setup mtu calls self.old → is_joined link calls ≡ true
+            → OnErr result (IsSomeAnd (slice_get (writes_waiting link calls) 0) (λ write. IsOk (op_of write))) }
         ensures slots { self.new.slots ≡ self.old.slots }
     {
         a_step_tells_each_link();

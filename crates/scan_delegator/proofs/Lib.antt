@@ -4,4 +4,5 @@ pub mod Serving
 pub mod Spelled
 pub mod Standing
 pub mod Streams
+pub mod Wanting
 pub mod Written

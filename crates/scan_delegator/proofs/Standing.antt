@@ -5,6 +5,7 @@ use Rattle.std.specs.List.{range_with_len}
 use Rattle.std.proofs.lemmas.List.{append-nil}
 use Rattle.pacs_records.specs.declared.record.PacRecord.{PacRecord}
 use Rattle.delegator_states.specs.declared.train_heard.ControlHeard.{ControlHeard}
+use Rattle.delegator_states.specs.declared.train_heard.ControlHeard.TheVariants as controls
 use Rattle.delegator_states.specs.Controls.{control_heard, done_heard, done_by_control}
 use Rattle.delegator_states.specs.Trains.{Setup}
 use Rattle.delegator_states.specs.declared.notice.Notice.{Notice}
@@ -75,6 +76,19 @@ pub control_stays : (m : Machine) (octets : List ℕ) (heard : ControlHeard) (le
     → leaves ≡ false → m ≡ moved (done_by_control m.sight.place octets) m
 control_stays m octets heard leaves is done so =
     sym (moved_nothing m) ∙ ap (λ d. moved d m) (sym (ap done_heard (sym is) ∙ done ∙ ap (λ b. if b then left else nothing) so))
+
+left_alone : (answer : ControlHeard) → done_heard answer ≡ left → answer ≡ controls.Left
+left_alone controls.NotOnGroup is = absurd cc
+left_alone (controls.Malformed fault) is = absurd cc
+left_alone controls.NotControl is = absurd cc
+left_alone controls.UnknownOpcode is = absurd cc
+left_alone controls.ControlLength is = absurd cc
+left_alone controls.MapIgnored is = absurd cc
+left_alone controls.Left is = refl
+
+pub control_left : (m : Machine) (octets : List ℕ) (heard : ControlHeard) (leaves : Bool) → heard ≡ control_heard m.sight.place octets → done_heard heard ≡ (if leaves then left else nothing)
+    → leaves ≡ true → control_heard m.sight.place octets ≡ controls.Left
+control_left m octets heard leaves is done so = left_alone (control_heard m.sight.place octets) (control_leaves m octets heard leaves is done so)
 
 -- ---- a new machine
 

@@ -1,3 +1,4 @@
+pub mod Following
 pub mod Groups
 pub mod Serving
 pub mod State

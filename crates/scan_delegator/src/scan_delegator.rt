@@ -1,4 +1,4 @@
-ghost use Rattle.std.specs.Prelude.{◌≡◌, ◌≤◌, ◌<◌, ◌++◌, vec_len, option_map, replicate, slice_get, None, Option, IfOk, OnOk, OnErr, MatchOption};
+ghost use Rattle.std.specs.Prelude.{◌≡◌, ◌≤◌, ◌<◌, ◌++◌, vec_len, option_map, replicate, slice_get, None, Option, IfOk, IsOk, IsSome, OnOk, OnErr, MatchOption};
 ghost use Rattle.delegator_states.specs.Notices.{handed_out};
 ghost use Rattle.scan_delegator.specs.State.Places.{IsWithin};
 
@@ -33,6 +33,8 @@ pub struct ScanDelegator {
 
 impl ScanDelegator {
     ghost use Rattle.std.specs.Prelude.{ℕ, List, [], ◌∷◌};
+    ghost use Rattle.bass_operations.specs.Reading.{op_of};
+    ghost use Rattle.delegator_states.specs.Sights.{entry_at, slot_of};
     ghost use Rattle.delegator_states.specs.States.{Step, control_heard as controlled, put_on, told, train_lost, written};
     ghost use Rattle.delegator_states.specs.Steps.{lost, tuned};
     ghost use Rattle.delegator_states.specs.Trains.{Joining};
@@ -86,40 +88,49 @@ impl ScanDelegator {
     }
 
     /// Serves a write to the control point (Broadcast Audio Scan Service 1.0, section 3.1.1). The reply is the first cause
-    /// that holds, or that it is accepted; a refused write changes nothing. After want of memory the sink is as before.
+    /// that holds, or that it is accepted; a refused write changes nothing. Memory is wanted only for octets that are an
+    /// operation; the sink is then as before.
     pub fn serve(&mut self, write: &[u8]) -> Result<Reply, Memory>
         ensures answer { IfOk result (λ reply. reply ≡ reply_of (machine self.old).sight write.now) }
         ensures step { OnOk result (machine self.new ≡ moved (done_by_write (machine self.old).sight write.now) (machine self.old)) }
         ensures err { OnErr result (machine self.new ≡ machine self.old) }
+        ensures memory { OnErr result (IsOk (op_of write.now)) }
         ensures stands { OnOk result ((steps : List Step) (link : ℕ) → StandsFor steps (machine self.old) → StandsFor (written link write.now ∷ steps) (machine self.new)) }
     {
         self.serve_write(write)
     }
 
-    /// The train is lost: the sink is idle. After want of memory it is as before.
+    /// The train is lost: the sink is idle. Memory is wanted only where it was on the train or the group of a slot; it is then
+    /// as before.
     pub fn lost(&mut self) -> Result<(), Memory>
         ensures step { OnOk result (machine self.new ≡ moved lost (machine self.old)) }
         ensures err { OnErr result (machine self.new ≡ machine self.old) }
+        ensures memory { OnErr result (IsSome (slot_of (machine self.old).sight.place)) }
         ensures stands { OnOk result ((steps : List Step) → StandsFor steps (machine self.old) → StandsFor (train_lost ∷ steps) (machine self.new)) }
     {
         self.go(Move::Off)
     }
 
-    /// The sink is put on a group of no slot: it leaves what it was on. After want of memory it is as before.
+    /// The sink is put on a group of no slot: it leaves what it was on. Memory is wanted only where this was the train or the
+    /// group of a slot; the sink is then as before.
     pub fn tune(&mut self) -> Result<(), Memory>
         ensures step { OnOk result (machine self.new ≡ moved tuned (machine self.old)) }
         ensures err { OnErr result (machine self.new ≡ machine self.old) }
+        ensures memory { OnErr result (IsSome (slot_of (machine self.old).sight.place)) }
         ensures stands { OnOk result ((steps : List Step) (source : ℕ) (joining : Joining) → StandsFor steps (machine self.old) → StandsFor (put_on source joining ∷ steps) (machine self.new)) }
     {
         self.put_on_group()
     }
 
     /// A PDU is heard as a control PDU (Core 5.2, volume 6 part B, section 2.6.3). The answer is the first that holds. A
-    /// terminate takes the sink off its group; it stays on the train of its slot. After want of memory it is as before.
+    /// terminate takes the sink off its group; it stays on the train of its slot. Memory is wanted only for Left, on the group
+    /// of a slot; the sink is then as before.
     pub fn control(&mut self, pdu: &[u8]) -> Result<ControlHeard, Memory>
         ensures answer { IfOk result (λ heard. heard ≡ control_heard (machine self.old).sight.place pdu.now) }
         ensures step { OnOk result (machine self.new ≡ moved (done_by_control (machine self.old).sight.place pdu.now) (machine self.old)) }
         ensures err { OnErr result (machine self.new ≡ machine self.old) }
+        ensures memory { OnErr result (control_heard (machine self.old).sight.place pdu.now ≡ ControlHeard.Left) }
+        ensures slot { OnErr result (IsSome (slot_of (machine self.old).sight.place)) }
         ensures stands { OnOk result ((steps : List Step) → StandsFor steps (machine self.old) → StandsFor (controlled pdu.now ∷ steps) (machine self.new)) }
     {
         self.hear_control(pdu)
@@ -134,10 +145,12 @@ impl ScanDelegator {
         self.take_notice()
     }
 
-    /// The value of a slot, which exists (Broadcast Audio Scan Service 1.0, section 3.2).
+    /// The value of a slot, which exists (Broadcast Audio Scan Service 1.0, section 3.2). Memory is wanted only where it is
+    /// filled.
     pub fn read_state(&self, slot: u8) -> Result<Octets, Memory>
         requires { slot < vec_len self.now.slots }
-        ensures { IfOk result (λ octets. octets ≡ value_at (machine self.now).sight slot) }
+        ensures value { IfOk result (λ octets. octets ≡ value_at (machine self.now).sight slot) }
+        ensures memory { OnErr result (IsSome (entry_at (machine self.now).sight.slots slot)) }
     {
         let status = status_after(&self.place, slot, Move::Stay);
         value_as(self.alloc, &self.slots[usize::from(slot)], &status)
@@ -148,6 +161,7 @@ impl ScanDelegator {
         ensures answer { IfOk result (λ reply. reply ≡ reply_of (machine self.old).sight write.now) }
         ensures step { OnOk result (machine self.new ≡ moved (done_by_write (machine self.old).sight write.now) (machine self.old)) }
         ensures err { OnErr result (machine self.new ≡ machine self.old) }
+        ensures memory { OnErr result (IsOk (op_of write.now)) }
     {
         match decode_operation(self.alloc, write) {
             Ok(op) => self.operate(op),
@@ -162,6 +176,7 @@ impl ScanDelegator {
     fn put_on_group(&mut self) -> Result<(), Memory>
         ensures step { OnOk result (machine self.new ≡ moved tuned (machine self.old)) }
         ensures err { OnErr result (machine self.new ≡ machine self.old) }
+        ensures memory { OnErr result (IsSome (slot_of (machine self.old).sight.place)) }
     {
         self.note_move(Move::Off)?;
         join(&mut self.place, self.alloc);
@@ -173,6 +188,8 @@ impl ScanDelegator {
         ensures answer { IfOk result (λ heard. heard ≡ control_heard (machine self.old).sight.place pdu.now) }
         ensures step { OnOk result (machine self.new ≡ moved (done_by_control (machine self.old).sight.place pdu.now) (machine self.old)) }
         ensures err { OnErr result (machine self.new ≡ machine self.old) }
+        ensures memory { OnErr result (control_heard (machine self.old).sight.place pdu.now ≡ ControlHeard.Left) }
+        ensures slot { OnErr result (IsSome (slot_of (machine self.old).sight.place)) }
     {
         let heard = heard_control(&self.place, pdu);
         if !leaves(heard) {
@@ -195,6 +212,7 @@ impl ScanDelegator {
     pub(crate) fn go(&mut self, moves: Move) -> Result<(), Memory>
         ensures step { OnOk result (machine self.new ≡ gone (place_by (place_of self.old.place) moves) (machine self.old)) }
         ensures err { OnErr result (machine self.new ≡ machine self.old) }
+        ensures memory { OnErr result (IsSome (slot_of (machine self.old).sight.place)) }
     {
         self.note_move(moves)?;
         make_move(&mut self.place, moves);
@@ -206,6 +224,7 @@ impl ScanDelegator {
         ensures ok { OnOk result (machine self.new ≡ record (machine self.old) { waiting = (gone (place_by (place_of self.old.place) moves) (machine self.old)).waiting }) }
         ensures place { self.new.place ≡ self.old.place }
         ensures err { OnErr result (machine self.new ≡ machine self.old) }
+        ensures memory { OnErr result (IsSome (slot_of (machine self.old).sight.place)) }
     {
         let Some(slot) = self.place.slot() else {
             return Ok(());

@@ -10,6 +10,7 @@ ghost use Rattle.delegator_states.specs.Trains as trains;
 ghost use Rattle.delegator_states.specs.Trains.{answer_of, base_in, big_info_in, brought_by, by_base, by_big_info, by_endpoint, by_group, by_slot, by_streams, done_brought, first_candidates, heard};
 ghost use Rattle.delegator_states.specs.declared.train_heard.TrainHeard.TheVariants as answers;
 ghost use Rattle.delegator_choices.specs.State.Brings.{brought_of};
+ghost use Rattle.scan_delegator.specs.Following.{has_base, is_followed};
 ghost use Rattle.scan_delegator.specs.State.Brings.{train_of, IsBrought};
 ghost use Rattle.scan_delegator.specs.State.Machines.{machine, moved, StandsFor};
 
@@ -27,7 +28,8 @@ const ENCRYPTED_BIG_INFO: usize = 57;
 
 impl ScanDelegator {
     /// What a train brings that is heard at `now` in µs: the first answer that holds (Basic Audio Profile 1.0, sections
-    /// 3.7.2 and 6.5), and the group that the sink joins where it is OnGroup. Nothing changes before it is followed.
+    /// 3.7.2 and 6.5), and the group that the sink joins where it is OnGroup. Nothing changes before it is followed. Memory is
+    /// wanted only where what the train announces as BASE is one, so with none of the first four answers.
     pub fn bring(
         &self,
         address_type: u8,
@@ -38,8 +40,10 @@ impl ScanDelegator {
         now: u64,
     ) -> Result<Brought, Memory>
         requires { now ≤ 2 ^ 61 }
-        ensures { IfOk result (λ brought. brought_of brought ≡ brought_by (machine self.now).setup (machine self.now).sight
+        ensures brought { IfOk result (λ brought. brought_of brought ≡ brought_by (machine self.now).setup (machine self.now).sight
             (record { address_type = address_type; sid = sid; ext = ext.now; adv = adv.now; acad = acad.now; now = now })) }
+        ensures memory { OnErr result (has_base (brought_by (machine self.now).setup (machine self.now).sight
+            (record { address_type = address_type; sid = sid; ext = ext.now; adv = adv.now; acad = acad.now; now = now })) ≡ true) }
     {
         self.bring_train(&Train {
             address_type,
@@ -51,12 +55,14 @@ impl ScanDelegator {
         })
     }
 
-    /// Follows the train that brought this to the sink as it is. After want of memory the sink is as before.
+    /// Follows the train that brought this to the sink as it is. Memory is wanted with none of the first four answers; the sink
+    /// is then as before.
     pub fn follow(&mut self, brought: Brought) -> Result<TrainHeard, Memory>
         requires { IsBrought brought (machine self.old) }
         ensures answer { IfOk result (λ heard. heard ≡ answer_of (brought_of brought)) }
         ensures step { OnOk result (machine self.new ≡ moved (done_brought (brought_of brought)) (machine self.old)) }
         ensures err { OnErr result (machine self.new ≡ machine self.old) }
+        ensures memory { OnErr result (is_followed (brought_of brought) ≡ true) }
         ensures stands { OnOk result ((steps : List Step) (source : ℕ) (train : trains.Train)
             → brought_of brought ≡ brought_by (machine self.old).setup (machine self.old).sight train
             → StandsFor steps (machine self.old) → StandsFor (train_heard source train ∷ steps) (machine self.new)) }
@@ -67,7 +73,8 @@ impl ScanDelegator {
     // By the source that it is of.
     fn bring_train(&self, train: &Train<'_>) -> Result<Brought, Memory>
         requires { train.now.heard_at ≤ 2 ^ 61 }
-        ensures { IfOk result (λ brought. brought_of brought ≡ brought_by (machine self.now).setup (machine self.now).sight (train_of train.now)) }
+        ensures brought { IfOk result (λ brought. brought_of brought ≡ brought_by (machine self.now).setup (machine self.now).sight (train_of train.now)) }
+        ensures memory { OnErr result (has_base (brought_by (machine self.now).setup (machine self.now).sight (train_of train.now)) ≡ true) }
     {
         let Some(id) = broadcast_id(train.ext) else {
             return Ok(Brought::Ignored(TrainHeard::NoBroadcastId));
@@ -89,7 +96,8 @@ impl ScanDelegator {
         requires time { train.now.heard_at ≤ 2 ^ 61 }
         requires within { slot < vec_len self.now.slots }
         requires filled { is_some (entry_at self.now.slots.items slot) ≡ true }
-        ensures { IfOk result (λ brought. brought_of brought ≡ by_slot (machine self.now).setup (machine self.now).sight (train_of train.now) (Some slot)) }
+        ensures brought { IfOk result (λ brought. brought_of brought ≡ by_slot (machine self.now).setup (machine self.now).sight (train_of train.now) (Some slot)) }
+        ensures memory { OnErr result (has_base (by_slot (machine self.now).setup (machine self.now).sight (train_of train.now) (Some slot)) ≡ true) }
     {
         if self.place.is_elsewhere(slot) {
             return Ok(Brought::Ignored(TrainHeard::OtherTrain));
@@ -106,7 +114,8 @@ impl ScanDelegator {
     // By the octets that are announced as BASE.
     fn bring_base(&self, slot: u8, wishes: &Wishes, train: &Train<'_>) -> Result<Brought, Memory>
         requires { train.now.heard_at ≤ 2 ^ 61 }
-        ensures { IfOk result (λ brought. brought_of brought ≡ by_base (machine self.now).setup (machine self.now).sight.capability wishes.now slot (train_of train.now) (base_in train.now.adv.now)) }
+        ensures brought { IfOk result (λ brought. brought_of brought ≡ by_base (machine self.now).setup (machine self.now).sight.capability wishes.now slot (train_of train.now) (base_in train.now.adv.now)) }
+        ensures memory { OnErr result (has_base (by_base (machine self.now).setup (machine self.now).sight.capability wishes.now slot (train_of train.now) (base_in train.now.adv.now)) ≡ true) }
     {
         let Some(octets) = base_octets(train.adv) else {
             return Ok(heard_so(slot, TrainHeard::NoBase, None));
@@ -199,6 +208,7 @@ impl ScanDelegator {
         ensures answer { IfOk result (λ heard. heard ≡ answer_of (brought_of brought)) }
         ensures step { OnOk result (machine self.new ≡ moved (done_brought (brought_of brought)) (machine self.old)) }
         ensures err { OnErr result (machine self.new ≡ machine self.old) }
+        ensures memory { OnErr result (is_followed (brought_of brought) ≡ true) }
     {
         match brought {
             Brought::Ignored(answer) => Ok(answer),
@@ -236,7 +246,8 @@ fn heard_so(slot: u8, answer: TrainHeard, encrypted: Option<bool>) -> Brought
 
 /// What octets bring that are no BASE.
 fn bad_base(slot: u8, fault: BaseFault) -> Result<Brought, Memory>
-    ensures { IfOk result (λ brought. (wants fault ≡ false) × (brought_of brought ≡ heard slot answers.BadBase None)) }
+    ensures brought { IfOk result (λ brought. (wants fault ≡ false) × (brought_of brought ≡ heard slot answers.BadBase None)) }
+    ensures memory { OnErr result (wants fault ≡ true) }
 {
     match fault {
         BaseFault::Memory => Err(Memory),

@@ -1,5 +1,5 @@
 //! The values of slots, and the notices of their changes.
-ghost use Rattle.std.specs.Prelude.{◌≡◌, ◌<◌, ◌+◌, ◌++◌, ◌∷◌, drop, length, if◌then◌else◌, get_or, option_map, None, IfOk, OnOk, OnErr};
+ghost use Rattle.std.specs.Prelude.{◌≡◌, ◌<◌, ◌+◌, ◌++◌, ◌∷◌, drop, length, if◌then◌else◌, get_or, option_map, None, IfOk, IsSome, OnOk, OnErr};
 ghost use Rattle.receive_state.specs.Layout.{spelling};
 ghost use Rattle.delegator_states.specs.Notices.{change};
 ghost use Rattle.delegator_states.specs.Sights.{Sight};
@@ -47,14 +47,15 @@ pub(crate) fn status_after(place: &Place, slot: u8, moves: Move) -> Status<'_>
     }
 }
 
-/// The value of a slot to which the sink stands so.
+/// The value of a slot to which the sink stands so. Memory is wanted only where the slot is filled.
 pub(crate) fn value_as(
     alloc: Global,
     slot: &Option<Slot>,
     status: &Status<'_>,
 ) -> Result<Octets, Memory>
     requires { AreSets status.now.bits.now }
-    ensures { IfOk result (λ octets. octets ≡ value (option_map (received (status_seen status.now)) slot.now)) }
+    ensures value { IfOk result (λ octets. octets ≡ value (option_map (received (status_seen status.now)) slot.now)) }
+    ensures memory { OnErr result (IsSome slot.now) }
 {
     match slot {
         None => Ok(Octets::new(alloc)),

@@ -86,4 +86,4 @@ ran n at source line past old new entry text told (Err (Refused reason)) stands 
   t.2,
 )
 ran n at source line past old new entry text told (Err OutletFault) stands same within eight t set more gathered = t
-ran n at source line past old new entry text told (Err Memory) stands same within eight t set more gathered = tt
+ran n at source line past old new entry text told (Err Memory) stands same within eight t set more gathered = t

@@ -6,13 +6,15 @@ use Rattle.scenario_text.specs.declared.step.Step.{Step}
 use Rattle.sink_histories.specs.Lives.{Source}
 use Rattle.sink_histories.specs.Output.{printed_where}
 use Rattle.sink_histories.specs.Refusals.{refused_where}
+use Rattle.sink_steps.specs.Making.{Takes}
 use Rattle.transcript_text.specs.declared.stop.Stop.{Stop}
 use Rattle.transcript_text.specs.declared.stop.Stop.TheVariants.{Refused, OutletFault, Memory}
 use Rattle.scenario_sinks.specs.declared.sinks.Sinks.{Sinks}
 use Rattle.scenario_sinks.specs.Pasts.{Past, with_line}
 use Rattle.scenario_sinks.specs.State.Standing.{SinksStand}
 
--- it is refused and the sinks have the past without it, or else it prints its lines behind a text, and they have the past with it
+-- it is refused and the sinks have the past without it, or else it prints its lines behind a text, and they have the past with it, or
+-- memory ran out, of a line that isn't refused and takes some
 abbrev pub SinkLineMakes : Past → ℕ → Source → Step → Sinks → (text told : List ℕ) → Result (Unit {0}) Stop → Type 0
 SinkLineMakes past n source line new text told (Ok _) =
     (refused_where line (past.mades n) (past.lives n) ≡ None) × SinksStand (with_line n source line past) new
@@ -20,4 +22,4 @@ SinkLineMakes past n source line new text told (Ok _) =
 SinkLineMakes past n source line new text told (Err (Refused reason)) =
     (refused_where line (past.mades n) (past.lives n) ≡ Some reason) × SinksStand past new × (told ≡ text)
 SinkLineMakes past n source line new text told (Err OutletFault) = ⊥
-SinkLineMakes past n source line new text told (Err Memory) = Unit {0}
+SinkLineMakes past n source line new text told (Err Memory) = (refused_where line (past.mades n) (past.lives n) ≡ None) × Takes line

@@ -1,8 +1,12 @@
 //! A Scan Delegator by itself, with no receivers.
-use crate::source_octets::ADD;
+use crate::links::tells;
+use crate::source_octets::{ADD, ADDED};
 use delegator_states::{Cause, Reply};
 use scan_delegator::ScanDelegator;
 use std::alloc::Global;
+
+/// A Remove Source of the first Source_ID.
+const REMOVE: [u8; 2] = [0x05, 0x00];
 
 /// Whether a new sink refuses a write with this code for this cause.
 fn refuses(alloc: Global, write: &[u8], code: u8, cause: Cause) -> bool {
@@ -21,4 +25,27 @@ fn a_write_is_refused_for_its_first_cause(rt: HostRuntime) {
     assert!(rt; refuses(rt.alloc(), &[], 0xfc, Cause::Empty));
     assert!(rt; refuses(rt.alloc(), &[2], 0xfc, Cause::Length));
     assert!(rt; refuses(rt.alloc(), &reserved, 0xfc, Cause::Rfu));
+}
+
+/// Whether a source that comes and goes nine times is told of each time, by notices that all wait.
+fn eighteen_wait(sink: &mut ScanDelegator) -> bool {
+    'writes: for _ in 0..9 {
+        if sink.serve(&ADD) != Ok(Reply::Accepted) || sink.serve(&REMOVE) != Ok(Reply::Accepted) {
+            return false;
+        }
+    }
+    'notices: for _ in 0..9 {
+        if !tells(sink.next_notice(), &ADDED) || !tells(sink.next_notice(), &[]) {
+            return false;
+        }
+    }
+    sink.next_notice().is_none()
+}
+
+#[test]
+fn eighteen_notices_wait_at_a_delegator(rt: HostRuntime) {
+    let Ok(mut sink) = ScanDelegator::new(rt.alloc(), 1, 1) else {
+        return assert!(rt; false);
+    };
+    assert!(rt; eighteen_wait(&mut sink));
 }

@@ -7,6 +7,7 @@ mod Fresh
 mod Grown
 mod Joins
 mod Leaving
+mod Others
 mod Printing
 mod Queues
 mod Recorded

@@ -1,6 +1,6 @@
 -- What waits first on a link: it is taken, or none waits.
 use Rattle.std.proofs.Common.{ℕ, ◌≡◌, Bool, true, false, List, ◌++◌, slice_get, Option, Some, None, Result, Ok, refl, sym, ap, ◌∙◌, subst}
-use Rattle.std.specs.Prelude.{is_none, not, option_map}
+use Rattle.std.specs.Prelude.{IsSome, IsSomeAnd, is_none, not, option_map}
 use Rattle.std.specs.List.{concat}
 use Rattle.std.specs.Option.{option_or}
 use Rattle.delegator_states.specs.declared.notice.Notice.{Notice}
@@ -50,6 +50,19 @@ was_read_same made link all life same =
     let stated_by : List Step → ℕ → Notice = λ steps slot. record { slot = slot; value = value (state_at (sight_of made.setup steps) slot) } in
     λ i. option_map (stated_by (same.steps i)) (slice_get (reads_of (language made.mtu) made.setup.slots (same.acts made.setup made.mtu link i)) 0)
 
+-- memory was wanted for the first that there is
+pub wanted_there : {A : Type 0} (first : Option A) (P : A → Type 0) → IsSomeAnd first P → is_none first ≡ false
+wanted_there (Some x) P is = refl
+wanted_there None P is = absurd is
+
+pub wanted_some : {A : Type 0} (first : Option A) → IsSome first → is_none first ≡ false
+wanted_some (Some x) is = refl
+wanted_some None is = absurd cc
+
+pub wanted_made : {A B : Type 0} (f : A → B) (first : Option A) (P : B → Type 0) → IsSomeAnd (option_map f first) P → is_none first ≡ false
+wanted_made f (Some x) P is = refl
+wanted_made f None P is = absurd is
+
 -- ---- whether one was taken
 
 pub one_taken : {A : Type 0} (first : Option A) (next same : List ℕ → LivingSink → Type 0) (told : List ℕ) (new : LivingSink) (some : Bool) → some ≡ true
@@ -75,27 +88,31 @@ link_refusal joined others = option_or (refuse_if (not joined) NoSuchLink) other
 pub no_link : (joined : Bool) (others : Option Refusal) → joined ≡ false → link_refusal joined others ≡ Some NoSuchLink
 no_link joined others is = ap (λ b. link_refusal b others) is
 
+-- a link that is joined, on which one waits
+pub some_wait : (joined none : Bool) → joined ≡ true → none ≡ false → link_refusal joined (idle_refusal none) ≡ None
+some_wait joined none on waits = λ i. link_refusal (on i) (idle_refusal (waits i))
+
 -- ---- a line that takes the first that waits
 
 -- it prints what that gives, or it is refused since none waits
 pub turned : {A : Type 0} (made : Made) (its : Option ℕ) (before after : List Call) (received : List sinks.Call) (first : Option A) (lines : Lines) (text told : List ℕ) (new : LivingSink)
     (waited : Bool) (result : Result (Unit {0}) Stop) → result ≡ answer_if waited
     → Turns first (Goes made its before after received lines text) (Stays made its before received text) told new (Ok waited)
-    → Makes (idle_refusal (is_none first)) lines (λ living. Lives made its after (stayed made before after received) living) (Lives made its before received) text told new result
+    → Makes (idle_refusal (is_none first)) (Unit {0}) lines (λ living. Lives made its after (stayed made before after received) living) (Lives made its before received) text told new result
 turned made its before after received first lines text told new true result is turn =
     let next : LivingSink → Type 0 = λ living. Lives made its after (stayed made before after received) living in
-    subst (λ (r : Result (Unit {0}) Stop). Makes (idle_refusal (is_none first)) lines next (Lives made its before received) text told new r) (sym is) (ap idle_refusal turn.0, turn.1.0, turn.1.1)
+    subst (λ (r : Result (Unit {0}) Stop). Makes (idle_refusal (is_none first)) (Unit {0}) lines next (Lives made its before received) text told new r) (sym is) (ap idle_refusal turn.0, turn.1.0, turn.1.1)
 turned made its before after received first lines text told new false result is turn =
     let next : LivingSink → Type 0 = λ living. Lives made its after (stayed made before after received) living in
-    subst (λ (r : Result (Unit {0}) Stop). Makes (idle_refusal (is_none first)) lines next (Lives made its before received) text told new r) (sym is) (ap idle_refusal turn.0, turn.1.0, turn.1.1)
+    subst (λ (r : Result (Unit {0}) Stop). Makes (idle_refusal (is_none first)) (Unit {0}) lines next (Lives made its before received) text told new r) (sym is) (ap idle_refusal turn.0, turn.1.0, turn.1.1)
 
 -- the same on a link that is joined
 pub turned_on : {A : Type 0} (link : ℕ) (made : Made) (its : Option ℕ) (before after : List Call) (received : List sinks.Call) (first : Option A) (lines : Lines) (text told : List ℕ)
     (new : LivingSink) (waited : Bool) (result : Result (Unit {0}) Stop) → is_joined link before ≡ true → result ≡ answer_if waited
     → Turns first (Goes made its before after received lines text) (Stays made its before received text) told new (Ok waited)
-    → Makes (link_refusal (is_joined link before) (idle_refusal (is_none first))) lines (λ living. Lives made its after (stayed made before after received) living)
+    → Makes (link_refusal (is_joined link before) (idle_refusal (is_none first))) (Unit {0}) lines (λ living. Lives made its after (stayed made before after received) living)
     (Lives made its before received) text told new result
 turned_on link made its before after received first lines text told new waited result joined is turn =
     let next : LivingSink → Type 0 = λ living. Lives made its after (stayed made before after received) living in
-    subst (λ (b : Bool). Makes (link_refusal b (idle_refusal (is_none first))) lines next (Lives made its before received) text told new result) (sym joined)
+    subst (λ (b : Bool). Makes (link_refusal b (idle_refusal (is_none first))) (Unit {0}) lines next (Lives made its before received) text told new result) (sym joined)
     (turned made its before after received first lines text told new waited result is turn)

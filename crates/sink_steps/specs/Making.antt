@@ -6,6 +6,7 @@ use Rattle.delegator_machine.specs.Groups.{with_step}
 use Rattle.group_sink.specs.Calls as sinks
 use Rattle.link_histories.specs.Calls.{Call}
 use Rattle.scenario_text.specs.declared.step.Step.{Step}
+use Rattle.scenario_text.specs.declared.step.Step.TheVariants.{Apart, Context, Locate}
 use Rattle.sink_histories.specs.Lives.{Made, Source, lived_by}
 use Rattle.sink_histories.specs.Moves.{received_by, source_by}
 use Rattle.sink_histories.specs.Output.{Lines, printed_of, sight_in, stated, viewed}
@@ -18,20 +19,27 @@ use Rattle.transcript_text.specs.declared.refusal.Refusal.TheVariants.{NothingWa
 use Rattle.transcript_text.specs.declared.stop.Stop.{Stop}
 use Rattle.transcript_text.specs.declared.stop.Stop.TheVariants.{Refused, OutletFault, Memory}
 
+-- a line that may take memory: one that prints, keeps octets, or puts an assistant on a link
+abbrev pub Takes : Step → Type 0
+Takes (Locate sink bits) = ⊥
+Takes (Context sink sink_bits source_bits) = ⊥
+Takes (Apart sink link) = ⊥
+Takes step = Unit {0}
+
 -- it is refused for this reason, and `same` holds of the sink as before; or else it prints these lines behind a text, and `next`
--- holds of the sink then
-abbrev pub Makes : Option Refusal → Lines → (next same : LivingSink → Type 0) → List ℕ → List ℕ → LivingSink → Result (Unit {0}) Stop → Type 0
-Makes refusal lines next same text told new (Ok _) = (refusal ≡ None) × next new × (told ≡ text ++ concat lines)
-Makes refusal lines next same text told new (Err (Refused reason)) = (refusal ≡ Some reason) × same new × (told ≡ text)
-Makes refusal lines next same text told new (Err OutletFault) = ⊥
-Makes refusal lines next same text told new (Err Memory) = Unit {0}
+-- holds of the sink then; or memory ran out, of a line that isn't refused and `takes` some
+abbrev pub Makes : Option Refusal → (takes : Type 0) → Lines → (next same : LivingSink → Type 0) → List ℕ → List ℕ → LivingSink → Result (Unit {0}) Stop → Type 0
+Makes refusal takes lines next same text told new (Ok _) = (refusal ≡ None) × next new × (told ≡ text ++ concat lines)
+Makes refusal takes lines next same text told new (Err (Refused reason)) = (refusal ≡ Some reason) × same new × (told ≡ text)
+Makes refusal takes lines next same text told new (Err OutletFault) = ⊥
+Makes refusal takes lines next same text told new (Err Memory) = (refusal ≡ None) × takes
 
 -- the same of a line that prints nothing
-abbrev pub Quietly : Option Refusal → (next same : LivingSink → Type 0) → LivingSink → Result (Unit {0}) Stop → Type 0
-Quietly refusal next same new (Ok _) = (refusal ≡ None) × next new
-Quietly refusal next same new (Err (Refused reason)) = (refusal ≡ Some reason) × same new
-Quietly refusal next same new (Err OutletFault) = ⊥
-Quietly refusal next same new (Err Memory) = Unit {0}
+abbrev pub Quietly : Option Refusal → (takes : Type 0) → (next same : LivingSink → Type 0) → LivingSink → Result (Unit {0}) Stop → Type 0
+Quietly refusal takes next same new (Ok _) = (refusal ≡ None) × next new
+Quietly refusal takes next same new (Err (Refused reason)) = (refusal ≡ Some reason) × same new
+Quietly refusal takes next same new (Err OutletFault) = ⊥
+Quietly refusal takes next same new (Err Memory) = (refusal ≡ None) × takes
 
 -- ---- a line that means this source
 
@@ -43,10 +51,10 @@ Next source step made its life received living =
 
 abbrev pub Prints : Source → Step → Made → Option ℕ → List Call → List sinks.Call → List ℕ → List ℕ → LivingSink → Result (Unit {0}) Stop → Type 0
 Prints source step made its life received text told new result =
-    Makes (refused_by step made life) (printed_of source step made life) (Next source step made its life received) (Lives made its life received) text told new result
+    Makes (refused_by step made life) (Takes step) (printed_of source step made life) (Next source step made its life received) (Lives made its life received) text told new result
 
 abbrev pub Does : Source → Step → Made → Option ℕ → List Call → List sinks.Call → LivingSink → Result (Unit {0}) Stop → Type 0
-Does source step made its life received new result = Quietly (refused_by step made life) (Next source step made its life received) (Lives made its life received) new result
+Does source step made its life received new result = Quietly (refused_by step made life) (Takes step) (Next source step made its life received) (Lives made its life received) new result
 
 -- ---- calls on a link
 
@@ -58,11 +66,11 @@ stayed made before after received = with_step None (sight_in made before) (sight
 abbrev pub Goes : Made → Option ℕ → (before after : List Call) → List sinks.Call → Lines → List ℕ → List ℕ → LivingSink → Type 0
 Goes made its before after received lines text told new = Lives made its after (stayed made before after received) new × (told ≡ text ++ concat lines)
 
--- the first that waited was taken, or none waited and nothing changed
+-- the first that waited was taken, or none waited and nothing changed, or memory ran out for the first that waited
 abbrev pub Turns : {A : Type 0} → Option A → (List ℕ → LivingSink → Type 0) → (List ℕ → LivingSink → Type 0) → List ℕ → LivingSink → Result Bool NoMemory → Type 0
 Turns first next same told new (Ok true) = (is_none first ≡ false) × next told new
 Turns first next same told new (Ok false) = (is_none first ≡ true) × same told new
-Turns first next same told new (Err memory) = Unit {0}
+Turns first next same told new (Err memory) = is_none first ≡ false
 
 -- what a line answers that takes the first that waits: it is refused where none does
 abbrev pub answer_if : Bool → Result (Unit {0}) Stop

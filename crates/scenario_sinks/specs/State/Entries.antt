@@ -16,7 +16,7 @@ use Rattle.sink_histories.specs.Lives.{Made, Source, lived_by}
 use Rattle.sink_histories.specs.Moves.{received_by, source_by}
 use Rattle.sink_histories.specs.Output.{printed_of, printed_where}
 use Rattle.sink_histories.specs.Refusals.{refused_by, refused_where}
-use Rattle.sink_steps.specs.Making.{Makes}
+use Rattle.sink_steps.specs.Making.{Makes, Takes}
 use Rattle.sink_steps.specs.State.Living.{Lives}
 use Rattle.sink_steps.specs.declared.sink.LivingSink.{LivingSink}
 use Rattle.transcript_text.specs.declared.stop.Stop.{Stop}
@@ -45,11 +45,12 @@ EntryHears box made own life received source event bis subevent octets entry (So
 -- a line on a living sink that was made so, which means this source
 abbrev pub LineMakes : Made → Option ℕ → List links.Call → List Call → Source → Step → (text told : List ℕ) → LivingSink → Result (Unit {0}) Stop → Type 0
 LineMakes made own life received source step text told living result =
-    Makes (refused_by step made life) (printed_of source step made life)
+    Makes (refused_by step made life) (Takes step) (printed_of source step made life)
     (Lives made (source_by source step (Some made) life own) (lived_by source step (Some made) life)
     (received_by source step (Some made) life (lived_by source step (Some made) life) received)) (Lives made own life received) text told living result
 
--- a line names it, which means this source: it is refused and the entry is as before, or else it prints its lines behind a text
+-- a line names it, which means this source: it is refused and the entry is as before, or else it prints its lines behind a text, or
+-- memory ran out, of a line that isn't refused and takes some
 abbrev pub EntryRuns : Option ℕ → Option Made → Option ℕ → List links.Call → List Call → Source → Step → Option Sink → (text told : List ℕ) → Result (Unit {0}) Stop → Type 0
 EntryRuns box made own life received source line entry text told (Ok _) =
     (refused_where line made life ≡ None)
@@ -59,4 +60,4 @@ EntryRuns box made own life received source line entry text told (Ok _) =
 EntryRuns box made own life received source line entry text told (Err (Refused reason)) =
     (refused_where line made life ≡ Some reason) × EntryIs box made own life received (Some entry) × (told ≡ text)
 EntryRuns box made own life received source line entry text told (Err OutletFault) = ⊥
-EntryRuns box made own life received source line entry text told (Err Memory) = Unit {0}
+EntryRuns box made own life received source line entry text told (Err Memory) = (refused_where line made life ≡ None) × Takes line

@@ -1,9 +1,13 @@
-use Rattle.std.proofs.Common.{refl, sym, ap, subst}
+use Rattle.std.proofs.Common.{refl, sym, ◌∙◌, ap, subst}
+use Rattle.std.specs.Prelude.{IsSome}
+use Rattle.delegator_states.specs.Controls.{control_heard as answer_to}
+use Rattle.delegator_states.specs.Sights.{Sight, slot_of}
 use Rattle.delegator_states.specs.States.{control_heard}
+use Rattle.scan_delegator.proofs.Wanting.{on_any_err}
 use Rattle.scan_delegator.specs.State.Machines.{Machine, machine}
 use Rattle.delegator_machine.specs.Calls.{steps_of}
 use Rattle.delegator_machine.specs.State.Halves.{Halves, StandsFor}
-use Rattle.delegator_machine.proofs.Standing.{stands_settled}
+use Rattle.delegator_machine.proofs.Standing.{sight_is, stands_settled}
 use Rattle.delegator_machine.proofs.delegator.Delegator.control.Goals as goal
 
 pub returns-clause-stands : goal.returns-clause-stands
@@ -13,3 +17,17 @@ returns-clause-stands c setup calls stands =
     stands_settled setup (control_heard c.args.pdu.now) calls old c.settle.new.self (machine c.control.new.self) c.is_on_group-was_on_group.result
     refl (ap (λ (m : Machine). m.setup) c.in_ok-heard.ensures.step) (c.in_ok-heard.ensures.stands (steps_of calls) before.steps)
     c.is_on_group-was_on_group.ensures c.settle.ensures.scan c.settle.ensures.sink before
+
+pub returns-in_err-heard-clause-memory : goal.returns-in_err-heard-clause-memory
+returns-in_err-heard-clause-memory c setup calls stands =
+    let old : Halves = record { scan = machine c.self.inside.scan; sink = c.self.inside.sink } in
+    let before : StandsFor setup calls old = subst (StandsFor setup calls) (sym c.self.view_is) stands in
+    on_any_err c.from_residual.result
+    (ap (λ (s : Sight). answer_to s.place c.args.pdu.now) (sym (sight_is setup calls old before)) ∙ c.in_err-heard.ensures.memory)
+
+pub returns-in_err-heard-clause-slot : goal.returns-in_err-heard-clause-slot
+returns-in_err-heard-clause-slot c setup calls stands =
+    let old : Halves = record { scan = machine c.self.inside.scan; sink = c.self.inside.sink } in
+    let before : StandsFor setup calls old = subst (StandsFor setup calls) (sym c.self.view_is) stands in
+    on_any_err c.from_residual.result
+    (subst (λ (s : Sight). IsSome (slot_of s.place)) (sight_is setup calls old before) c.in_err-heard.ensures.slot)

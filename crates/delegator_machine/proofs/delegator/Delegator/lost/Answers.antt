@@ -1,9 +1,12 @@
 use Rattle.std.proofs.Common.{refl, sym, ap, subst}
+use Rattle.std.specs.Prelude.{IsSome}
+use Rattle.delegator_states.specs.Sights.{Sight, slot_of}
 use Rattle.delegator_states.specs.States.{train_lost}
+use Rattle.scan_delegator.proofs.Wanting.{on_any_err}
 use Rattle.scan_delegator.specs.State.Machines.{Machine, machine}
 use Rattle.delegator_machine.specs.Calls.{steps_of}
 use Rattle.delegator_machine.specs.State.Halves.{Halves, StandsFor}
-use Rattle.delegator_machine.proofs.Standing.{stands_settled}
+use Rattle.delegator_machine.proofs.Standing.{sight_is, stands_settled}
 use Rattle.delegator_machine.proofs.delegator.Delegator.lost.Goals as goal
 
 pub returns-clause-stands : goal.returns-clause-stands
@@ -13,3 +16,10 @@ returns-clause-stands c setup calls stands =
     stands_settled setup train_lost calls old c.settle.new.self (machine c.lost.new.self) c.is_on_group-was_on_group.result
     refl (ap (λ (m : Machine). m.setup) c.in_ok-lost.ensures.step) (c.in_ok-lost.ensures.stands (steps_of calls) before.steps)
     c.is_on_group-was_on_group.ensures c.settle.ensures.scan c.settle.ensures.sink before
+
+pub returns-in_err-lost-clause-memory : goal.returns-in_err-lost-clause-memory
+returns-in_err-lost-clause-memory c setup calls stands =
+    let old : Halves = record { scan = machine c.self.inside.scan; sink = c.self.inside.sink } in
+    let before : StandsFor setup calls old = subst (StandsFor setup calls) (sym c.self.view_is) stands in
+    on_any_err c.from_residual.result
+    (subst (λ (s : Sight). IsSome (slot_of s.place)) (sight_is setup calls old before) c.in_err-lost.ensures.memory)

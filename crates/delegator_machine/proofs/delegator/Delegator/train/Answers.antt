@@ -1,11 +1,13 @@
 use Rattle.std.proofs.Common.{◌≡◌, ◌∙◌, option_map, sym, ap, subst}
 use Rattle.delegator_states.specs.Trains.{Train, brought_by, done_brought}
-use Rattle.delegator_choices.specs.State.Brings.{brought_of, joining_by}
+use Rattle.delegator_choices.specs.State.Brings.{brought_of, joining_by, joining_in}
+use Rattle.scan_delegator.specs.Following.{is_followed}
+use Rattle.scan_delegator.proofs.Wanting.{on_any_err}
 use Rattle.scan_delegator.specs.State.Machines.{machine, moved}
 use Rattle.delegator_machine.specs.Calls.{steps_of}
 use Rattle.delegator_machine.specs.Groups.{joining_brought}
 use Rattle.delegator_machine.specs.State.Halves.{Halves, StandsFor}
-use Rattle.delegator_machine.proofs.Trains.{made_is, same_joining, stands_trained}
+use Rattle.delegator_machine.proofs.Trains.{base_followed, followed_so, joined_followed, made_is, same_joining, stands_trained}
 use Rattle.delegator_machine.proofs.delegator.Delegator.train.Goals as goal
 
 pub returns-clause-stands : goal.returns-clause-stands
@@ -13,12 +15,38 @@ returns-clause-stands c setup calls source stands =
     let old : Halves = record { scan = machine c.self.inside.scan; sink = c.self.inside.sink } in
     let before : StandsFor setup calls old = subst (StandsFor setup calls) (sym c.self.view_is) stands in
     let train : Train = record { address_type = c.args.address_type; sid = c.args.sid; ext = c.args.ext.now; adv = c.args.adv.now; acad = c.args.acad.now; now = c.args.now } in
-    let heard : brought_of c.in_ok-brought.brought ≡ brought_by old.scan.setup old.scan.sight train = c.in_ok-brought.ensures in
+    let heard : brought_of c.in_ok-brought.brought ≡ brought_by old.scan.setup old.scan.sight train = c.in_ok-brought.ensures.brought in
     stands_trained setup train source calls old (record { scan = machine c.follow.new.self; sink = c.join.new.sink })
     (option_map joining_by c.joining-joining.result) c.in_ok-made.made
     (c.joining-joining.ensures ∙ (same_joining (brought_of c.in_ok-brought.brought) ∙ ap joining_brought heard))
-    (c.in_ok-made.ensures ∙ made_is c.joining-joining.result)
+    (c.in_ok-made.ensures.made ∙ made_is c.joining-joining.result)
     c.join.ensures.none c.join.ensures.some
     (c.in_ok-heard.ensures.step ∙ ap (λ brought. moved (done_brought brought) old.scan) heard)
     (c.in_ok-heard.ensures.stands (steps_of calls) source train heard before.steps)
     before
+
+pub returns-in_err-brought-clause-memory : goal.returns-in_err-brought-clause-memory
+returns-in_err-brought-clause-memory c setup calls stands =
+    let old : Halves = record { scan = machine c.self.inside.scan; sink = c.self.inside.sink } in
+    let before : StandsFor setup calls old = subst (StandsFor setup calls) (sym c.self.view_is) stands in
+    let train : Train = record { address_type = c.args.address_type; sid = c.args.sid; ext = c.args.ext.now; adv = c.args.adv.now; acad = c.args.acad.now; now = c.args.now } in
+    on_any_err c.from_residual.result
+    (followed_so setup calls old train before (base_followed (brought_by old.scan.setup old.scan.sight train) c.in_err-brought.ensures.memory))
+
+pub returns-in_err-made-clause-memory : goal.returns-in_err-made-clause-memory
+returns-in_err-made-clause-memory c setup calls stands =
+    let old : Halves = record { scan = machine c.self.inside.scan; sink = c.self.inside.sink } in
+    let before : StandsFor setup calls old = subst (StandsFor setup calls) (sym c.self.view_is) stands in
+    let train : Train = record { address_type = c.args.address_type; sid = c.args.sid; ext = c.args.ext.now; adv = c.args.adv.now; acad = c.args.acad.now; now = c.args.now } in
+    on_any_err c.from_residual-in_err-made.result
+    (followed_so setup calls old train before
+    (joined_followed c.joining-joining.result (brought_by old.scan.setup old.scan.sight train) (c.joining-joining.ensures ∙ ap joining_in c.in_ok-brought.ensures.brought)
+    c.in_err-made.ensures.memory))
+
+pub returns-in_err-heard-clause-memory : goal.returns-in_err-heard-clause-memory
+returns-in_err-heard-clause-memory c setup calls stands =
+    let old : Halves = record { scan = machine c.self.inside.scan; sink = c.self.inside.sink } in
+    let before : StandsFor setup calls old = subst (StandsFor setup calls) (sym c.self.view_is) stands in
+    let train : Train = record { address_type = c.args.address_type; sid = c.args.sid; ext = c.args.ext.now; adv = c.args.adv.now; acad = c.args.acad.now; now = c.args.now } in
+    on_any_err c.from_residual-in_err-heard.result
+    (followed_so setup calls old train before (ap is_followed (sym c.in_ok-brought.ensures.brought) ∙ c.in_err-heard.ensures.memory))

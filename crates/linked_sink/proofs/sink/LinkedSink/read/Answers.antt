@@ -1,11 +1,12 @@
 use Rattle.std.proofs.Common.{ℕ, ◌≡◌, ◌<◌, [], ◌∷◌, refl, sym, ap, subst, slice_get, arith}
-use Rattle.std.specs.Prelude.{option_map}
+use Rattle.std.specs.Prelude.{is_some, option_map}
 use Rattle.assistant_machine.specs.Calls.{read}
 use Rattle.delegator_states.specs.declared.notice.Notice.{Notice}
 use Rattle.delegator_states.specs.Values.{value}
 use Rattle.link_histories.specs.Links.{reads_waiting, state}
 use Rattle.linked_sink.specs.State.Taking.{Takes}
 use Rattle.linked_sink.proofs.Calls.{Here, here, its_assistant, kept, no_read, reads_none, reads_one, slot_there, slots_there, value_read, was_read, which_read}
+use Rattle.linked_sink.proofs.Results.{on_any_err}
 use Rattle.linked_sink.proofs.sink.LinkedSink.read.Goals as goal
 
 pub returns-in_default-clause-answer : goal.returns-in_default-clause-answer
@@ -54,7 +55,7 @@ returns-clause-answer c setup mtu calls its is_on =
     let h : Here setup mtu c.args.link calls c.args.self.now.links = here setup mtu c.args.link calls c.args.self.now its is_on in
     let some = c.in-Some.ensures.some h.on.assistant (its_assistant setup mtu c.args.link calls c.args.self.now.links h) in
     was_read setup calls c.in-Some.slot c.in_ok-value.value (reads_waiting setup mtu c.args.link calls) (which_read setup mtu c.args.link calls c.args.self.now.links h c.in-Some.slot some.0)
-    (value_read setup c.in-Some.slot calls its.took.taken c.in_ok-value.value its.took.own (c.in_ok-value.ensures setup its.took.taken its.took.delegator))
+    (value_read setup c.in-Some.slot calls its.took.taken c.in_ok-value.value its.took.own (c.in_ok-value.ensures.value setup its.took.taken its.took.delegator))
 
 pub returns-clause-stands : goal.returns-clause-stands
 returns-clause-stands c setup mtu calls its is_on =
@@ -62,6 +63,20 @@ returns-clause-stands c setup mtu calls its is_on =
     let some = c.in-Some.ensures.some h.on.assistant (its_assistant setup mtu c.args.link calls c.args.self.now.links h) in
     let few : setup.slots < 256 = let same : setup.slots ≡ c.args.self.now.slots = slots_there setup mtu calls c.args.self.now its in omega (arith, same, c.args.self.now.few) in
     reads_one c.links_law.ensures.apart c.a_read_gives_the_state.ensures setup mtu c.args.link c.in-Some.slot c.in_ok-value.value calls c.args.self.now c.next_read.new.links _ its is_on few some.0
-    (value_read setup c.in-Some.slot calls its.took.taken c.in_ok-value.value its.took.own (c.in_ok-value.ensures setup its.took.taken its.took.delegator)) some.1 refl
+    (value_read setup c.in-Some.slot calls its.took.taken c.in_ok-value.value its.took.own (c.in_ok-value.ensures.value setup its.took.taken its.took.delegator)) some.1 refl
     (λ before is. subst (λ octets. Takes (read c.in-Some.slot octets ∷ []) c.args.link before c.next_read.new.links c.take_value.new.links) c.as_slice.ensures
     (c.in_ok-take_value.ensures before is))
+
+pub returns-in_err-value-clause-memory : goal.returns-in_err-value-clause-memory
+returns-in_err-value-clause-memory c setup mtu calls its is_on =
+    let h : Here setup mtu c.args.link calls c.args.self.now.links = here setup mtu c.args.link calls c.args.self.now its is_on in
+    let some = c.in-Some.ensures.some h.on.assistant (its_assistant setup mtu c.args.link calls c.args.self.now.links h) in
+    on_any_err c.from_residual.result
+    (ap is_some (which_read setup mtu c.args.link calls c.args.self.now.links h c.in-Some.slot some.0))
+
+pub returns-in_err-take_value-clause-memory : goal.returns-in_err-take_value-clause-memory
+returns-in_err-take_value-clause-memory c setup mtu calls its is_on =
+    let h : Here setup mtu c.args.link calls c.args.self.now.links = here setup mtu c.args.link calls c.args.self.now its is_on in
+    let some = c.in-Some.ensures.some h.on.assistant (its_assistant setup mtu c.args.link calls c.args.self.now.links h) in
+    on_any_err c.from_residual-in_err-take_value.result
+    (ap is_some (which_read setup mtu c.args.link calls c.args.self.now.links h c.in-Some.slot some.0))

@@ -1,9 +1,11 @@
 use Rattle.std.proofs.Common.{◌≡◌, ◌<◌, ◌++◌, ◌∙◌, ap, sym, subst, None, Some}
+use Rattle.std.specs.Prelude.{is_some}
 use Rattle.std.proofs.lemmas.Result.{on_ok_weaker}
 use Rattle.std.proofs.lemmas.List.{append-nil}
 use Rattle.delegator_states.specs.Sights.{slot_of}
 use Rattle.scan_delegator.specs.State.Machines.{Machine, machine}
 use Rattle.scan_delegator.proofs.Changes.{moved_none, note_done}
+use Rattle.scan_delegator.proofs.Wanting.{on_any_err}
 use Rattle.scan_delegator.specs.State.Statuses.{status_seen}
 use Rattle.scan_delegator.proofs.scan_delegator.ScanDelegator.note_move.Goals as goal
 
@@ -21,7 +23,10 @@ returns-clause-ok c =
     on_ok_weaker c.note.result
     (λ put. λ i. record m {
       waiting = (put ∙ note_done m.setup.slots c.in-Some.slot c.from.result m.sight m.waiting c.args.moves c.index.result.now (status_seen c.status_after-status.result) _ _
-          is within (subst (λ n. c.in-Some.slot < n) c.args.self.now.slots.ok.0 within) c.from.ensures c.index.ensures c.in_ok-before.ensures
-          (c.status_after-status.ensures.same m.sight) c.in_ok-after.ensures) i;
+          is within (subst (λ n. c.in-Some.slot < n) c.args.self.now.slots.ok.0 within) c.from.ensures c.index.ensures c.in_ok-before.ensures.value
+          (c.status_after-status.ensures.same m.sight) c.in_ok-after.ensures.value) i;
     })
     c.note.ensures.ok
+
+pub returns-clause-memory : goal.returns-clause-memory
+returns-clause-memory c = on_any_err c.note.result (ap is_some (sym c.slot.ensures ∙ c.in-Some.is))

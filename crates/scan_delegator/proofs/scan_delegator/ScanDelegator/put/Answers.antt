@@ -18,5 +18,5 @@ returns-clause-puts c =
     let value = c.in_ok-after.ensures ∙ ap (λ status. spelling (received status c.args.filled)) (c.status_after-status.ensures.same m.sight) in (
       sym (ap (λ v. nat_lt 512 (length v)) value) ∙ sym c.is_too_long.ensures ∙ c.if-is_too_long.false,
       ap (λ k. set c.args.self.now.slots.items k (Some c.args.filled)) c.from.ensures,
-      c.in_ok-note.ensures.ok ∙ (λ i. m.waiting ++ change c.args.slot (c.in_ok-before.ensures i) (value i)),
+      c.in_ok-note.ensures.ok ∙ (λ i. m.waiting ++ change c.args.slot (c.in_ok-before.ensures.value i) (value i)),
     )

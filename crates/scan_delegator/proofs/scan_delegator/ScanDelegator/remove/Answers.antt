@@ -32,4 +32,4 @@ returns c =
     remove_accepted m _ c.args.source_id c.in-Some.slot held.0 _ _ found held.1 (sym c.is_on.ensures ∙ c.if-is_on.false) within
     (subst (λ n. c.in-Some.slot < n) c.args.self.now.slots.ok.0 within) refl
     (ap (λ k. set m.sight.slots k None) c.from.ensures)
-    (c.in_ok-note.ensures.ok ∙ (λ i. m.waiting ++ change c.in-Some.slot (c.in_ok-before.ensures i) (c.new.ensures i)))
+    (c.in_ok-note.ensures.ok ∙ (λ i. m.waiting ++ change c.in-Some.slot (c.in_ok-before.ensures.value i) (c.new.ensures i)))

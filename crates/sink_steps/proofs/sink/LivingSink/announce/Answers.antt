@@ -1,4 +1,5 @@
 use Rattle.std.proofs.Common.{◌++◌, ◌∷◌, Some, refl, sym, ap, subst, ◌∙◌}
+use Rattle.std.proofs.lemmas.Result.{err_from_is_err_and}
 use Rattle.std.specs.Prelude.{if◌then◌else◌}
 use Rattle.delegator_machine.specs.Groups.{joining_brought, with_step}
 use Rattle.delegator_states.specs.States.{train_heard}
@@ -27,3 +28,18 @@ returns c source made its life received from announced lives =
           ∙ ap (λ heard. c.put_train.new.text ++ sink_line c.args.sink (train_words heard))
           (c.in_ok-heard.ensures.answer source made its life received from lives ∙ ap (λ t. answer_of (brought_by made.setup sight t)) train)),
     )
+
+pub returns-in_err-put_train : goal.returns-in_err-put_train
+returns-in_err-put_train c source made its life received from announced lives =
+    let p = err_from_is_err_and c.from_residual.result c.from_residual.ensures.1 in
+    rw (p.1, p.2) (refl, tt)
+
+pub returns-in_err-heard : goal.returns-in_err-heard
+returns-in_err-heard c source made its life received from announced lives =
+    let p = err_from_is_err_and c.from_residual-in_err-heard.result c.from_residual-in_err-heard.ensures.1 in
+    rw (p.1, p.2) (refl, tt)
+
+pub returns-in_err-put_train_heard : goal.returns-in_err-put_train_heard
+returns-in_err-put_train_heard c source made its life received from announced lives =
+    let p = err_from_is_err_and c.from_residual-in_err-put_train_heard.result c.from_residual-in_err-put_train_heard.ensures.1 in
+    rw (p.1, p.2) (refl, tt)

@@ -1,4 +1,5 @@
 use Rattle.std.proofs.Common.{◌++◌, refl, ap, ◌∙◌}
+use Rattle.std.proofs.lemmas.Result.{err_from_is_err_and}
 use Rattle.delegator_states.specs.Controls.{control_heard}
 use Rattle.delegator_states.specs.States.{control_heard as controlled, sight_of}
 use Rattle.link_histories.specs.Calls.{stepped}
@@ -17,3 +18,13 @@ returns c source made its life received lives =
       one_put c.args.text.now c.put_control_heard.new.text _
           (c.in_ok-put_control_heard.ensures ∙ ap (λ answer. c.args.text.now ++ sink_line c.args.sink (control_words answer)) heard),
     )
+
+pub returns-in_err-heard : goal.returns-in_err-heard
+returns-in_err-heard c source made its life received lives =
+    let p = err_from_is_err_and c.from_residual.result c.from_residual.ensures.1 in
+    rw (p.1, p.2) (refl, tt)
+
+pub returns-in_err-put_control_heard : goal.returns-in_err-put_control_heard
+returns-in_err-put_control_heard c source made its life received lives =
+    let p = err_from_is_err_and c.from_residual-in_err-put_control_heard.result c.from_residual-in_err-put_control_heard.ensures.1 in
+    rw (p.1, p.2) (refl, tt)

@@ -1,4 +1,5 @@
 use Rattle.std.proofs.Common.{None, refl, sym, ap, ◌∙◌}
+use Rattle.std.proofs.lemmas.Result.{err_from_is_err_and}
 use Rattle.link_histories.specs.Calls.{is_joined}
 use Rattle.sink_steps.proofs.Turning.{link_refusal, no_link}
 use Rattle.sink_steps.proofs.sink.LivingSink.drain_on.Goals as goal
@@ -14,3 +15,9 @@ returns c source made its life received lives =
     let joined = sym there.0 ∙ c.if-not-is_joined.false in
     let goes = c.in_ok-drain_link.ensures made its life received there.1 joined in
     (ap (λ b. link_refusal b None) joined, goes.0, goes.1)
+
+pub returns-in_err-drain_link : goal.returns-in_err-drain_link
+returns-in_err-drain_link c source made its life received lives =
+    let there = c.is_joined.ensures made its life received lives in
+    let p = err_from_is_err_and c.from_residual.result c.from_residual.ensures.1 in
+    rw (p.1, p.2) (ap (λ b. link_refusal b None) (sym there.0 ∙ c.if-not-is_joined.false), tt)

@@ -1,4 +1,5 @@
 use Rattle.std.proofs.Common.{◌++◌, refl, ap, ◌∙◌}
+use Rattle.std.proofs.lemmas.Result.{err_from_is_err_and}
 use Rattle.assistant_machine.specs.Answers.{answer_of}
 use Rattle.link_histories.specs.Calls.{forged}
 use Rattle.sink_lines.specs.Lines.{forged_line}
@@ -18,3 +19,11 @@ returns c source made its life received lives =
       one_put c.args.text.now c.put_forged.new.text _
           (c.in_ok-put_forged.ensures ∙ ap (λ result. c.args.text.now ++ forged_line c.args.sink result) answer),
     )
+
+pub returns-then-wants_memory : goal.returns-then-wants_memory
+returns-then-wants_memory c source made its life received lives = (refl, tt)
+
+pub returns-in_err-put_forged : goal.returns-in_err-put_forged
+returns-in_err-put_forged c source made its life received lives =
+    let p = err_from_is_err_and c.from_residual.result c.from_residual.ensures.1 in
+    rw (p.1, p.2) (refl, tt)

@@ -2,6 +2,7 @@ use Rattle.std.proofs.Common.{refl, sym, ap, subst, ◌∙◌, arith}
 use Rattle.scenario_text.specs.Ranges.{IsInRange}
 use Rattle.scenario_text.specs.declared.step.Step.TheVariants as steps
 use Rattle.sink_steps.proofs.Arms.{does_so, prints_so}
+use Rattle.sink_steps.proofs.Others.{no_sink_line}
 use Rattle.sink_steps.proofs.sink.LivingSink.line.Goals as goal
 
 pub pac-requires-clause-caps_count : goal.pac-requires-clause-caps_count
@@ -143,3 +144,33 @@ returns-in-Train c source made its life received from is lives =
     prints_so source c.args.step _ made its life received c.args.text.now c.train.new.text c.train.new.self c.train.result
     (c.in-Train.is ∙ (λ i. steps.Train c.in-Train.sink c.in-Train.time (sym c.as_slice.ensures i) (sym c.as_slice-in-Train.ensures i) (sym c.as_slice-in-Train-2.ensures i)))
     (c.train.ensures source made its life received from lives)
+
+pub returns : goal.returns
+returns c source made its life received from is lives =
+    absurd (no_sink_line c.args.step (record {
+      pac = c.in_default.not-Pac;
+      locate = c.in_default.not-Locate;
+      context = c.in_default.not-Context;
+      train = c.in_default.not-Train;
+      write = c.in_default.not-Write;
+      add = c.in_default.not-Add;
+      modify = c.in_default.not-Modify;
+      remove = c.in_default.not-Remove;
+      code = c.in_default.not-Code;
+      serve = c.in_default.not-Serve;
+      tell = c.in_default.not-Tell;
+      read = c.in_default.not-Read;
+      drain = c.in_default.not-Drain;
+      show = c.in_default.not-Show;
+      lose = c.in_default.not-Lose;
+      control = c.in_default.not-Control;
+      forge = c.in_default.not-Forge;
+      assist = c.in_default.not-Assist;
+      apart = c.in_default.not-Apart;
+      awrite = c.in_default.not-AWrite;
+      aserve = c.in_default.not-AServe;
+      atell = c.in_default.not-ATell;
+      aread = c.in_default.not-ARead;
+      adrain = c.in_default.not-ADrain;
+      ashow = c.in_default.not-AShow;
+    }) is)

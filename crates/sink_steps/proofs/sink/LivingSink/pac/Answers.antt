@@ -32,3 +32,13 @@ returns-in-Err-TooLong c source sink made its life received lives =
           (c.in-Err-TooLong.ensures.refused made.setup made.mtu lives.all lives.stands)),
       lives_on made its life received c.args.self.now _ lives (c.in-Err-TooLong.ensures.err made.setup made.mtu lives.all lives.stands) refl,
     )
+
+pub returns-in-Err-Memory : goal.returns-in-Err-Memory
+returns-in-Err-Memory c source sink made its life received lives =
+    let same = its_same made its life received c.args.self.now lives in
+    let entry = record_of c.args.codec c.args.caps c.args.metadata in (
+      has_room made entry lives.all life same
+          (subst (λ fault. RefusesPush fault (sight_of made.setup (steps_of lives.all)).capability.entries entry) c.in-Err-Memory.field-0-is
+          (c.in-Err-Memory.ensures.refused made.setup made.mtu lives.all lives.stands)),
+      tt,
+    )

@@ -1,11 +1,14 @@
 use Rattle.std.proofs.Common.{Ok, slice_get, refl, sym, ap, ◌∙◌}
-use Rattle.link_histories.specs.Links.{reads_waiting}
+use Rattle.std.proofs.lemmas.Result.{err_from_is_err_and}
+use Rattle.std.specs.Prelude.{is_none}
+use Rattle.link_histories.specs.Links.{language, reads_waiting}
+use Rattle.notice_links.specs.Links.{reads_of}
 use Rattle.sink_histories.specs.Output.{stated, was_read}
 use Rattle.link_histories.specs.Calls as calls
 use Rattle.sink_lines.specs.Labels.{label_of}
 use Rattle.sink_lines.specs.Lines.{value_line}
 use Rattle.sink_steps.proofs.Grown.{its_joined, its_same, lives_more, lives_on}
-use Rattle.sink_steps.proofs.Turning.{its_line, none_there, was_read_same, some_there}
+use Rattle.sink_steps.proofs.Turning.{its_line, none_there, some_there, wanted_some, was_read_same}
 use Rattle.sink_steps.proofs.sink.LivingSink.read_next.Goals as goal
 
 pub returns-in_default : goal.returns-in_default
@@ -29,3 +32,21 @@ returns c made its life received lives on =
             c.in_ok-put_read.ensures,
       ),
     )
+
+pub returns-in_err-notice : goal.returns-in_err-notice
+returns-in_err-notice c made its life received lives on =
+    let same = its_same made its life received c.args.self.now lives in
+    let there = its_joined c.args.link made its life received c.args.self.now lives ∙ on in
+    let p = err_from_is_err_and c.from_residual.result c.from_residual.ensures.1 in
+    rw p.1
+    (ap (λ acts. is_none (slice_get (reads_of (language made.mtu) made.setup.slots acts) 0)) (sym (same.acts made.setup made.mtu c.args.link))
+    ∙ wanted_some (slice_get (reads_waiting made.setup made.mtu c.args.link lives.all) 0) (c.in_err-notice.ensures.memory made.setup made.mtu lives.all lives.stands there))
+
+pub returns-in_err-put_read : goal.returns-in_err-put_read
+returns-in_err-put_read c made its life received lives on =
+    let same = its_same made its life received c.args.self.now lives in
+    let there = its_joined c.args.link made its life received c.args.self.now lives ∙ on in
+    let p = err_from_is_err_and c.from_residual-in_err-put_read.result c.from_residual-in_err-put_read.ensures.1 in
+    rw p.1
+    (some_there (stated made life) (slice_get (reads_waiting made.setup made.mtu c.args.link life) 0) c.in-Some.notice
+    (sym c.in-Some.is ∙ c.in_ok-notice.ensures.answer made.setup made.mtu lives.all lives.stands there ∙ was_read_same made c.args.link lives.all life same))

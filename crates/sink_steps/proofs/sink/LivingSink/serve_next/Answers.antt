@@ -1,11 +1,15 @@
 use Rattle.std.proofs.Common.{Ok, slice_get, refl, sym, ap, ◌∙◌}
+use Rattle.std.proofs.lemmas.Result.{err_from_is_err_and}
+use Rattle.std.specs.Prelude.{IsOk, is_none}
+use Rattle.bass_operations.specs.Reading.{op_of}
 use Rattle.delegator_states.specs.Writes.{reply_of}
 use Rattle.sink_histories.specs.Output.{replied, sight_in}
 use Rattle.link_histories.specs.Calls.{writes_waiting}
 use Rattle.sink_lines.specs.Labels.{label_of}
 use Rattle.sink_lines.specs.Lines.{reply_line}
 use Rattle.sink_steps.proofs.Grown.{its_joined, its_same, lives_on, lives_served}
-use Rattle.sink_steps.proofs.Turning.{its_line, none_there, replied_same, some_there}
+use Rattle.sink_steps.proofs.Turning.{its_line, none_there, replied_same, some_there, wanted_there}
+use Rattle.sink_steps.proofs.Air.{waiting_same}
 use Rattle.sink_steps.proofs.sink.LivingSink.serve_next.Goals as goal
 
 pub returns-in_default : goal.returns-in_default
@@ -28,3 +32,20 @@ returns c made its life received lives on =
         its_line (reply_line (label_of c.args.label)) (replied made c.args.link life) c.in-Some.reply c.args.text.now c.put_reply.new.text answer c.in_ok-put_reply.ensures,
       ),
     )
+
+pub returns-in_err-reply : goal.returns-in_err-reply
+returns-in_err-reply c made its life received lives on =
+    let there = its_joined c.args.link made its life received c.args.self.now lives ∙ on in
+    let p = err_from_is_err_and c.from_residual.result c.from_residual.ensures.1 in
+    rw p.1
+    (ap (λ ws. is_none (slice_get ws 0)) (sym (waiting_same c.args.link lives.all life (its_same made its life received c.args.self.now lives)))
+    ∙ wanted_there (slice_get (writes_waiting c.args.link lives.all) 0) (λ write. IsOk (op_of write)) (c.in_err-reply.ensures.memory made.setup made.mtu lives.all lives.stands there))
+
+pub returns-in_err-put_reply : goal.returns-in_err-put_reply
+returns-in_err-put_reply c made its life received lives on =
+    let same = its_same made its life received c.args.self.now lives in
+    let there = its_joined c.args.link made its life received c.args.self.now lives ∙ on in
+    let p = err_from_is_err_and c.from_residual-in_err-put_reply.result c.from_residual-in_err-put_reply.ensures.1 in
+    rw p.1
+    (some_there (reply_of (sight_in made life)) (slice_get (writes_waiting c.args.link life) 0) c.in-Some.reply
+    (sym c.in-Some.is ∙ c.in_ok-reply.ensures.answer made.setup made.mtu lives.all lives.stands there ∙ replied_same made c.args.link lives.all life same))

@@ -1,4 +1,5 @@
 use Rattle.std.proofs.Common.{None, refl, sym, ap, ◌∙◌}
+use Rattle.std.proofs.lemmas.Result.{err_from_is_err_and}
 use Rattle.link_histories.specs.Calls.{is_joined}
 use Rattle.sink_steps.proofs.Grown.{lives_stayed}
 use Rattle.sink_steps.proofs.Turning.{link_refusal, no_link}
@@ -15,3 +16,9 @@ returns c source made its life received lives =
     let joined = sym there.0 ∙ c.if-not-is_joined.false in
     let shown = c.in_ok-show_views.ensures made its life received there.1 joined in
     (ap (λ b. link_refusal b None) joined, lives_stayed made its life received _ shown.0, shown.1)
+
+pub returns-in_err-show_views : goal.returns-in_err-show_views
+returns-in_err-show_views c source made its life received lives =
+    let there = c.is_joined.ensures made its life received lives in
+    let p = err_from_is_err_and c.from_residual.result c.from_residual.ensures.1 in
+    rw (p.1, p.2) (ap (λ b. link_refusal b None) (sym there.0 ∙ c.if-not-is_joined.false), tt)

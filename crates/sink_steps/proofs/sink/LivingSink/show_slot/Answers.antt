@@ -9,7 +9,7 @@ returns-clause-shows c made its life received lives =
       lives_on made its life received c.args.self.now _ lives (c.in_ok-view.ensures.stands made.setup made.mtu lives.all lives.stands) refl,
       slot_shown made c.args.sink c.args.slot life (with_value c.args.slot c.as_slice.result.now) (with_value c.args.slot c.as_slice-2.result.now) c.args.text.now c.put_state.new.text
           c.put_view.new.text
-          (its_state made c.args.slot lives.all life _ c.as_slice.result.now same (c.in_ok-state.ensures made.setup made.mtu lives.all lives.stands) c.as_slice.ensures)
+          (its_state made c.args.slot lives.all life _ c.as_slice.result.now same (c.in_ok-state.ensures.value made.setup made.mtu lives.all lives.stands) c.as_slice.ensures)
           (its_view made 0 c.args.slot lives.all life _ c.as_slice-2.result.now same
           (c.in_ok-view.ensures.answer made.setup made.mtu lives.all lives.stands lives.stands.took.first) c.as_slice-2.ensures)
           c.in_ok-put_state.ensures c.in_ok-put_view.ensures,

@@ -1,11 +1,16 @@
-use Rattle.std.proofs.Common.{Ok, slice_get, refl, sym, ap, ◌∙◌}
+use Rattle.std.proofs.Common.{◌≡◌, Ok, slice_get, refl, sym, ap, ◌∙◌}
+use Rattle.std.proofs.lemmas.Result.{err_from_is_err_and}
+use Rattle.std.specs.Prelude.{is_none}
+use Rattle.assistant_machine.specs.declared.fault.NoticeTaken.TheVariants.{View}
+use Rattle.assistant_machine.specs.Answers.{answer_of}
+use Rattle.notice_links.specs.Links.{waiting_of}
 use Rattle.link_histories.specs.Links.{delivered, notices_waiting}
 use Rattle.sink_histories.specs.Output.{notified}
 use Rattle.link_histories.specs.Calls as calls
 use Rattle.sink_lines.specs.Labels.{label_of}
 use Rattle.sink_lines.specs.Lines.{value_line}
 use Rattle.sink_steps.proofs.Grown.{its_joined, its_same, lives_more, lives_on}
-use Rattle.sink_steps.proofs.Turning.{its_line, none_there, notified_same, some_there}
+use Rattle.sink_steps.proofs.Turning.{its_line, none_there, notified_same, some_there, wanted_made}
 use Rattle.sink_steps.proofs.sink.LivingSink.tell_next.Goals as goal
 
 pub returns-in_default : goal.returns-in_default
@@ -29,3 +34,22 @@ returns c made its life received lives on =
             c.in_ok-put_notice.ensures,
       ),
     )
+
+pub returns-in_err-notice : goal.returns-in_err-notice
+returns-in_err-notice c made its life received lives on =
+    let same = its_same made its life received c.args.self.now lives in
+    let there = its_joined c.args.link made its life received c.args.self.now lives ∙ on in
+    let p = err_from_is_err_and c.from_residual.result c.from_residual.ensures.1 in
+    rw p.1
+    (ap (λ acts. is_none (slice_get (waiting_of acts) 0)) (sym (same.acts made.setup made.mtu c.args.link))
+    ∙ wanted_made (delivered made.mtu) (slice_get (notices_waiting made.setup made.mtu c.args.link lives.all) 0)
+    (λ notice. answer_of made.setup.slots made.mtu notice.slot notice.value ≡ Ok View) (c.in_err-notice.ensures.memory made.setup made.mtu lives.all lives.stands there))
+
+pub returns-in_err-put_notice : goal.returns-in_err-put_notice
+returns-in_err-put_notice c made its life received lives on =
+    let same = its_same made its life received c.args.self.now lives in
+    let there = its_joined c.args.link made its life received c.args.self.now lives ∙ on in
+    let p = err_from_is_err_and c.from_residual-in_err-put_notice.result c.from_residual-in_err-put_notice.ensures.1 in
+    rw p.1
+    (some_there (delivered made.mtu) (slice_get (notices_waiting made.setup made.mtu c.args.link life) 0) c.in-Some.notice
+    (sym c.in-Some.is ∙ c.in_ok-notice.ensures.answer made.setup made.mtu lives.all lives.stands there ∙ notified_same made c.args.link lives.all life same))
