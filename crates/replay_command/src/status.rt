@@ -1,7 +1,8 @@
 ghost use Rattle.std.specs.Prelude.{◌≡◌, option_copied};
-ghost use Rattle.replay_command.specs.Statuses.{exit_number, text_of, status_of, status_after};
+ghost use Rattle.replay_command.specs.Statuses.{exit_number, text_of, status_of, status_after, status_at};
 
 use replay_generated::Outcome;
+use replay_lines::Ending;
 use replay_migration::Migration;
 use transcript_text::Refusal;
 
@@ -51,6 +52,21 @@ impl Status {
             Status::WriteFault => Some("write fault"),
             Status::OutletFault => Some("outlet fault"),
             Status::Memory => Some("no memory"),
+        }
+    }
+}
+
+impl From<Ending> for Status {
+    ghost from_gives = { λ ending status. status ≡ status_at ending };
+
+    fn from(ending: Ending) -> Status {
+        match ending {
+            Ending::Done => Status::Done,
+            Ending::Refused { line, reason } => Status::Refused { line, reason },
+            Ending::ReadFault => Status::ReadFault,
+            Ending::WriteFault => Status::WriteFault,
+            Ending::OutletFault => Status::OutletFault,
+            Ending::Memory => Status::Memory,
         }
     }
 }
