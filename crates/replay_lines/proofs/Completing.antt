@@ -26,7 +26,7 @@ pub told : (text : List ℕ) (left' : Option (List ℕ)) (front : List ℕ) → 
 told text None front c = absurd c
 told text (Some rest) front c = (rest, refl, c)
 
-rest_of : (text : List ℕ) (left' : Option (List ℕ)) (front : List ℕ) (over : Bool) → TextRead (Some text) left' front over
+pub rest_of : (text : List ℕ) (left' : Option (List ℕ)) (front : List ℕ) (over : Bool) → TextRead (Some text) left' front over
     → (rest : List ℕ) × (text ≡ front ++ rest) × MayFollow over true rest
 rest_of text left' front over read =
     let t = told text left' front read.consumed in

@@ -9,3 +9,4 @@ mod OtherAirs
 mod Counting
 mod Untaken
 mod Promises
+pub mod Citable
