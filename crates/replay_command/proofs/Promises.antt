@@ -1,11 +1,13 @@
 -- What is promised of a call, by what its words mean.
-use Rattle.std.proofs.Common.{◌≡◌, ◌∙◌, ℕ, refl, sym, subst, inr}
+use Rattle.std.proofs.Common.{◌≡◌, ◌∙◌, ℕ, refl, sym, subst, Ok, inr}
 use Rattle.replay_lines.specs.Promised.{Promised}
 use Rattle.replay_lines.specs.World.{World}
 use Rattle.replay_lines.specs.declared.ending.Ending.TheVariants as endings
 use Rattle.replay_words.specs.declared.mode.Mode.{Mode}
 use Rattle.replay_words.specs.declared.mode.Mode.TheVariants as modes
 use Rattle.replay_command.specs.ByWords.{IsNone, PromisedIn}
+use Rattle.replay_toml.specs.FromToml.{FromToml}
+use Rattle.replay_command.specs.FromDocument.{FromDocument}
 use Rattle.replay_command.specs.FromText.{FromText}
 use Rattle.replay_command.specs.Generated.{Generated}
 use Rattle.replay_command.specs.Migrated.{Migrated}
@@ -18,6 +20,7 @@ use Rattle.replay_command.proofs.Migrating.{migrated_none}
 pub in_replay : (mode : Mode) (old new : World) (status : Status) → mode ≡ modes.Replay → FromText old new status → PromisedIn mode old new status
 in_replay mode old new status is run = record {
   replay = λ again. run;
+  document = λ documents. absurd cc;
   migrated = λ migrates. absurd cc;
   generated = λ seed events generates. absurd cc;
   usage = λ none. absurd (let P : Mode → Type 0 = λ m. IsNone m in subst P is none);
@@ -28,6 +31,7 @@ pub in_migration : (mode : Mode) (old new : World) (status : Status) → mode �
 in_migration mode old new status is migrated = record {
   replay = λ replays. absurd cc;
   migrated = λ again. migrated;
+  document = λ documents. absurd cc;
   generated = λ seed events generates. absurd cc;
   usage = λ none. absurd (let P : Mode → Type 0 = λ m. IsNone m in subst P is none);
 }
@@ -38,6 +42,7 @@ pub in_generation : (mode : Mode) (seed events : ℕ) (old new : World) (status 
 in_generation mode seed events old new status is generated = record {
   replay = λ replays. absurd cc;
   migrated = λ migrates. absurd cc;
+  document = λ documents. absurd cc;
   generated = λ other more again.
       let same : modes.Generate seed events ≡ modes.Generate other more = sym is ∙ again in
       let first : seed ≡ other = cc in
@@ -48,11 +53,23 @@ in_generation mode seed events old new status is generated = record {
   usage = λ none. absurd (let P : Mode → Type 0 = λ m. IsNone m in subst P is none);
 }
 
+-- the call of words that mean a document
+pub in_document : (mode : Mode) (old new : World) (status : Status) → mode ≡ modes.Toml → FromDocument old new status → PromisedIn mode old new status
+in_document mode old new status is run = record {
+  replay = λ replays. absurd cc;
+  migrated = λ migrates. absurd cc;
+  document = λ again. run;
+  generated = λ seed events generates. absurd cc;
+  usage = λ none. absurd (let P : Mode → Type 0 = λ m. IsNone m in subst P is none);
+}
+
 -- memory ran out before the words were read
-pub in_memory : (mode : Mode) (old : World) → Promised old old endings.Memory → PromisedIn mode old old statuses.Memory
-in_memory mode old promised = record {
+pub in_memory : (mode : Mode) (old : World) → Promised old old endings.Memory → FromToml old old (Ok endings.Memory)
+    → PromisedIn mode old old statuses.Memory
+in_memory mode old promised unread = record {
   replay = λ replays. record { ending = endings.Memory; told = refl; run = promised };
   migrated = λ migrates. migrated_none old;
+  document = λ documents. record { ended = Ok endings.Memory; told = refl; run = unread };
   generated = λ seed events generates. generated_none seed events old;
   usage = λ none. (inr refl, refl);
 }

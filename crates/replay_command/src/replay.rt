@@ -6,6 +6,7 @@ ghost use Rattle.scenario_history.specs.Source.{Airs};
 ghost use Rattle.replay_generated.specs.Generated.{lines_made};
 ghost use Rattle.replay_generated.specs.Untaken.{UntakenBy};
 ghost use Rattle.replay_lines.specs.World.{world_of};
+ghost use Rattle.replay_toml.specs.Standing.{lines_over, standing_of};
 ghost use Rattle.replay_words.specs.Words.{mode_of as mode_of_words};
 ghost use Rattle.replay_words.specs.declared.mode.Mode.TheVariants as modes;
 ghost use Rattle.replay_command.specs.ByWords.{PromisedFor};
@@ -16,6 +17,7 @@ use bcast_io::{ByteSink, ByteSource};
 use replay_generated::run_generated;
 use replay_lines::{run_text, want_of_memory_at_once};
 use replay_migration::run_migration;
+use replay_toml::{run_toml, want_of_memory_before_a_document};
 use replay_words::{Mode, Words, mode_of};
 use std::alloc::Global;
 use unit_outlets::Outlet;
@@ -24,7 +26,9 @@ use unit_outlets::Outlet;
 /// transcript to the sink. Each `sink` line takes the next box of the list. The lines of a step are written before the
 /// next line is read. With `--migrate` it reads the text whole and writes it in version 2; then a text of more than
 /// 67,108,864 octets alone is refused, and no box is called. With `--seed` and `--events` it runs the scenario of the
-/// generator and writes the summary of its transcript, and reads nothing.
+/// generator and writes the summary of its transcript, and reads nothing. With `--toml` it reads a document whole and runs the
+/// lines that it stands for; a document of more than 1,048,576 octets, one that is no TOML and one that has not the form of a
+/// scenario are refused with the line 0.
 ///
 /// `Done` comes where the text was read to its end and no line is refused. `Refused` has the line, from 1, and the reason;
 /// the line of the refusal was written, and nothing behind it was run. `Usage` comes for words that ask for nothing built. `ReadFault`,
@@ -64,18 +68,23 @@ pub fn replay<S: ByteSource, K: ByteSink>(
         → UntakenBy airs (map account outlets.old.items) (lines_of true text) outlets.old.items outlets.new.items }
     ensures untaken_generated { (seed events : ℕ) (airs : Airs) → mode_of_words (map string_bytes words.now) ≡ modes.Generate seed events → MeetAirs airs
         → UntakenBy airs (map account outlets.old.items) (lines_made seed events) outlets.old.items outlets.new.items }
+    ensures untaken_document { (document : List ℕ) (airs : Airs) → mode_of_words (map string_bytes words.now) ≡ modes.Toml
+        → S.left source.old ≡ Some document → MeetAirs airs
+        → UntakenBy airs (map account outlets.old.items) (lines_over (standing_of document)) outlets.old.items outlets.new.items }
 
     // In migration no box is called, and in generated mode the source isn't read.
     ensures boxes_kept { mode_of_words (map string_bytes words.now) ≡ modes.Migrate → outlets.new ≡ outlets.old }
     ensures source_kept { (seed events : ℕ) → mode_of_words (map string_bytes words.now) ≡ modes.Generate seed events → source.new ≡ source.old }
 {
     want_of_memory_at_once();
+    want_of_memory_before_a_document();
     match mode_of(alloc, words) {
         Ok(Mode::Replay) => Status::from(run_text(alloc, source, sink, outlets)),
         Ok(Mode::Migrate) => Status::from(run_migration(alloc, source, sink)),
         Ok(Mode::Generate { seed, events }) => {
             Status::from(run_generated(alloc, seed, events, sink, outlets))
         }
+        Ok(Mode::Toml) => Status::of_document(run_toml(alloc, source, sink, outlets)),
         Ok(_) => Status::Usage,
         Err(Memory) => Status::Memory,
     }

@@ -1,6 +1,6 @@
 -- What a document stands for, and what its run brings: the transcript of the lines that it stands for, or the line of its refusal.
 -- The form of documents is this project's own.
-use Rattle.std.specs.Prelude.{ℕ, ◌++◌, nat_lt, true, List, [], length, Option, None, Result, Ok, Err, if◌then◌else◌, codes, decimal}
+use Rattle.std.specs.Prelude.{ℕ, nat_lt, true, List, [], length, Result, Ok, Err, if◌then◌else◌}
 use Rattle.bcast_io.specs.TextLines.{TextLine, lines_of}
 use Rattle.document_reading.specs.Reading.{document_limit}
 use Rattle.line_runs.specs.Runs.{End}
@@ -8,8 +8,9 @@ use Rattle.scenario_history.specs.Boxes.{SinkUnit}
 use Rattle.scenario_history.specs.Source.{Airs}
 use Rattle.scenario_history.specs.Transcript.{transcript_of, transcript_end, units_of}
 use Rattle.scenario_toml.specs.Document.{Meaning, no_toml, no_form, lines, meaning_of}
-use Rattle.transcript_text.specs.Lines.{named_line}
+use Rattle.transcript_text.specs.Lines.{refusal_line}
 use Rattle.transcript_text.specs.declared.refusal.Refusal.{Refusal}
+use Rattle.transcript_text.specs.declared.refusal.Refusal.TheVariants as refusals
 use Rattle.unit_outlets.specs.Account.{Account}
 use Rattle.replay_toml.specs.declared.cause.Cause.{Cause}
 use Rattle.replay_toml.specs.declared.cause.Cause.TheVariants.{TooLong, BadToml, BadDocument}
@@ -31,14 +32,15 @@ standing_of document = if nat_lt document_limit (length document) then refused_f
 
 -- ---- what its run brings
 
-abbrev pub cause_name : Cause → List ℕ
-cause_name TooLong = codes "TextTooLong"
-cause_name BadToml = codes "BadToml"
-cause_name BadDocument = codes "BadDocument"
+-- the refusal of the scenario language
+abbrev pub reason_of : Cause → Refusal
+reason_of TooLong = refusals.TextTooLong
+reason_of BadToml = refusals.BadToml
+reason_of BadDocument = refusals.BadDocument
 
 -- the line of the refusal of a document has the number 0
 abbrev pub cause_line : Cause → List ℕ
-cause_line cause = named_line (codes "line") (decimal 0 ++ codes ":") (cause_name cause) None
+cause_line cause = refusal_line 0 (reason_of cause)
 
 -- the lines that are run
 abbrev pub lines_over : Standing → List TextLine

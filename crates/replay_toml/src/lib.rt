@@ -5,4 +5,4 @@ mod cause;
 mod mode;
 
 pub use cause::Cause;
-pub use mode::run_toml;
+pub use mode::{run_toml, want_of_memory_before_a_document};

@@ -3,7 +3,7 @@ ghost use Rattle.std.specs.Prelude.{◌≡◌, ◌≢◌, ℕ, List, Ok, Some, m
 ghost use Rattle.bcast_base.specs.Counts.{Rose};
 ghost use Rattle.unit_outlets.specs.Account.{Account};
 ghost use Rattle.replay_generated.specs.Untaken.{UntakenBy};
-ghost use Rattle.replay_lines.specs.World.{world_of};
+ghost use Rattle.replay_lines.specs.World.{World, world_of};
 ghost use Rattle.replay_lines.specs.declared.ending.Ending.TheVariants as endings;
 ghost use Rattle.scenario_history.specs.Airs.{MeetAirs};
 ghost use Rattle.scenario_history.specs.Source.{Airs};
@@ -12,13 +12,14 @@ ghost use Rattle.replay_toml.specs.FromToml.{FromToml};
 ghost use Rattle.replay_toml.specs.Standing.{lines_over, standing_by, standing_of};
 ghost use Rattle.replay_toml.specs.State.Runs.{DocumentRuns, Refuses};
 
-use crate::cause::{Cause, put_cause};
+use crate::cause::Cause;
 use bcast_base::{Memory, Octets};
 use bcast_io::{ByteSink, ByteSource, FaithfulSource, SinkFault, write_whole};
 use document_reading::{Document, Unread, read_document};
 use replay_lines::{Ending, run_text, want_of_memory_at_once};
 use scenario_toml::{TomlFault, lines_of};
 use std::alloc::Global;
+use transcript_text::put_refusal;
 use unit_outlets::Outlet;
 
 /// The most octets that one read of the text of a document's lines gives.
@@ -50,6 +51,14 @@ pub fn run_toml<S: ByteSource, K: ByteSink>(
         Err(Unread::Failed) => Ok(Ending::ReadFault),
         Err(Unread::Memory) => Ok(Ending::Memory),
     }
+}
+
+/// Memory may run out before anything of a document is read: then nothing was written, no box was called, and all that is
+/// promised of its run holds.
+pub fn want_of_memory_before_a_document()
+    ensures { (old : World) → FromToml old old (Ok endings.Memory) }
+{
+    want_of_memory_at_once();
 }
 
 /// Runs the lines that a document stands for.
@@ -84,7 +93,7 @@ fn refuse<K: ByteSink>(alloc: Global, cause: Cause, sink: &mut K) -> Result<Endi
     ensures no_write_fault { result ≢ Ok endings.WriteFault → K.faults sink.new ≡ K.faults sink.old }
 {
     let mut text = Octets::new(alloc);
-    match put_cause(&mut text, cause) {
+    match put_refusal(&mut text, 0, cause.reason()) {
         Err(Memory) => Ok(Ending::Memory),
         Ok(()) => match write_whole(sink, text.as_slice()) {
             Ok(()) => Err(cause),

@@ -5,7 +5,7 @@ use Rattle.replay_words.specs.Words.{mode_of}
 use Rattle.replay_lines.specs.World.{world_of}
 use Rattle.replay_command.specs.Migrated.{Migrated}
 use Rattle.replay_command.proofs.Migrating.{migrated_of}
-use Rattle.replay_command.proofs.Promises.{in_replay, in_migration, in_generation, in_memory}
+use Rattle.replay_command.proofs.Promises.{in_replay, in_migration, in_document, in_generation, in_memory}
 use Rattle.replay_command.proofs.replay.replay.Goals as goal
 
 pub returns-in-Ok-Replay-clause-promised : goal.returns-in-Ok-Replay-clause-promised
@@ -21,7 +21,7 @@ pub returns-in-Err-clause-promised : goal.returns-in-Err-clause-promised
 returns-in-Err-clause-promised g c =
     let boxes = map (λ b. (goal.Outlet-dyn g (b.vtable, b.value)).account b.value) c.args.outlets.now.items in
     let old = world_of g.S.ByteSource.left g.S.ByteSource.faults g.K.ByteSink.contents g.K.ByteSink.faults c.args.source.now c.args.sink.now boxes in
-    in_memory (mode_of (map string_bytes c.args.words.now)) old (c.want_of_memory_at_once.ensures old)
+    in_memory (mode_of (map string_bytes c.args.words.now)) old (c.want_of_memory_at_once.ensures old) (c.want_of_memory_before_a_document.ensures old)
 
 pub returns-in-Ok-Migrate-clause-promised : goal.returns-in-Ok-Migrate-clause-promised
 returns-in-Ok-Migrate-clause-promised g c =
@@ -32,6 +32,15 @@ returns-in-Ok-Migrate-clause-promised g c =
     in_migration (mode_of (map string_bytes c.args.words.now)) old new c.from-in-Ok-Migrate.result (sym c.in-Ok-Migrate.ensures.meaning ∙ c.in-Ok-Migrate.field-0-is)
     (subst (λ s. Migrated old new s) (sym c.from-in-Ok-Migrate.ensures)
     (migrated_of c.run_migration.result old new did.ended did.read_fault did.no_read_fault did.write_fault did.no_write_fault refl))
+
+pub returns-in-Ok-Toml-clause-promised : goal.returns-in-Ok-Toml-clause-promised
+returns-in-Ok-Toml-clause-promised g c =
+    let boxes = map (λ b. (goal.Outlet-dyn g (b.vtable, b.value)).account b.value) c.args.outlets.now.items in
+    let after = map (λ b. (goal.Outlet-dyn g (b.vtable, b.value)).account b.value) c.run_toml.new.outlets.items in
+    let old = world_of g.S.ByteSource.left g.S.ByteSource.faults g.K.ByteSink.contents g.K.ByteSink.faults c.args.source.now c.args.sink.now boxes in
+    let new = world_of g.S.ByteSource.left g.S.ByteSource.faults g.K.ByteSink.contents g.K.ByteSink.faults c.run_toml.new.source c.run_toml.new.sink after in
+    in_document (mode_of (map string_bytes c.args.words.now)) old new c.of_document.result (sym c.in-Ok-Toml.ensures.meaning ∙ c.in-Ok-Toml.field-0-is)
+    (record { ended = c.run_toml.result; told = c.of_document.ensures; run = c.run_toml.ensures.promised })
 
 pub returns-in-Ok-Generate-clause-promised : goal.returns-in-Ok-Generate-clause-promised
 returns-in-Ok-Generate-clause-promised g c =
@@ -63,3 +72,22 @@ returns-in-Ok-Generate-clause-untaken_generated g c seed events airs generates m
     subst (λ e. UntakenBy airs boxes (lines_made seed e) c.args.outlets.now.items c.run_generated.new.outlets.items) second
     (subst (λ s. UntakenBy airs boxes (lines_made s c.in-Ok-Generate.events) c.args.outlets.now.items c.run_generated.new.outlets.items) first
     (c.run_generated.ensures.untaken airs meets))
+
+pub returns-in-Ok-Replay-clause-untaken_document : goal.returns-in-Ok-Replay-clause-untaken_document
+returns-in-Ok-Replay-clause-untaken_document g c document airs documents is meets =
+    absurd (let same = sym c.in-Ok-Replay.field-0-is ∙ c.in-Ok-Replay.ensures.meaning ∙ documents in cc)
+
+pub returns-in-Ok-Generate-clause-untaken_document : goal.returns-in-Ok-Generate-clause-untaken_document
+returns-in-Ok-Generate-clause-untaken_document g c document airs documents is meets =
+    absurd (let same = sym c.in-Ok-Generate.field-0-is ∙ c.in-Ok-Generate.ensures.meaning ∙ documents in cc)
+
+pub returns-in-Ok-Toml-clause-untaken : goal.returns-in-Ok-Toml-clause-untaken
+returns-in-Ok-Toml-clause-untaken g c text airs replays is meets =
+    absurd (let same = sym c.in-Ok-Toml.field-0-is ∙ c.in-Ok-Toml.ensures.meaning ∙ replays in cc)
+
+pub returns-in-Ok-Toml-clause-untaken_generated : goal.returns-in-Ok-Toml-clause-untaken_generated
+returns-in-Ok-Toml-clause-untaken_generated g c seed events airs generates meets =
+    absurd (let same = sym c.in-Ok-Toml.field-0-is ∙ c.in-Ok-Toml.ensures.meaning ∙ generates in cc)
+
+pub returns-in-Ok-Toml-clause-untaken_document : goal.returns-in-Ok-Toml-clause-untaken_document
+returns-in-Ok-Toml-clause-untaken_document g c document airs documents is meets = c.run_toml.ensures.untaken document airs is meets
