@@ -1,16 +1,17 @@
 -- What is promised of a call, by what its words mean.
-use Rattle.std.proofs.Common.{◌≡◌, ◌∙◌, ℕ, refl, sym, subst, Ok, inr}
+use Rattle.std.proofs.Common.{◌≡◌, ◌∙◌, ℕ, refl, sym, subst, Ok, Err, inr}
 use Rattle.replay_lines.specs.Promised.{Promised}
 use Rattle.replay_lines.specs.World.{World}
 use Rattle.replay_lines.specs.declared.ending.Ending.TheVariants as endings
 use Rattle.replay_words.specs.declared.mode.Mode.{Mode}
 use Rattle.replay_words.specs.declared.mode.Mode.TheVariants as modes
 use Rattle.replay_command.specs.ByWords.{IsNone, PromisedIn}
-use Rattle.replay_toml.specs.FromToml.{FromToml}
+use Rattle.replay_toml.specs.FromToml.{FromToml, TomlEnding}
 use Rattle.replay_command.specs.FromDocument.{FromDocument}
 use Rattle.replay_command.specs.FromText.{FromText}
 use Rattle.replay_command.specs.Generated.{Generated}
 use Rattle.replay_command.specs.Migrated.{Migrated}
+use Rattle.replay_command.specs.Statuses.{status_in_toml}
 use Rattle.replay_command.specs.declared.status.Status.{Status}
 use Rattle.replay_command.specs.declared.status.Status.TheVariants as statuses
 use Rattle.replay_command.proofs.Generating.{generated_none}
@@ -73,3 +74,13 @@ in_memory mode old promised unread = record {
   generated = λ seed events generates. generated_none seed events old;
   usage = λ none. (inr refl, refl);
 }
+
+-- the status of a document tells that it couldn't be read
+pub unread_in_toml : (ended : TomlEnding) → status_in_toml ended ≡ statuses.ReadFault → ended ≡ Ok endings.ReadFault
+unread_in_toml (Ok endings.Done) is = absurd cc
+unread_in_toml (Ok (endings.Refused line reason)) is = absurd cc
+unread_in_toml (Ok endings.ReadFault) is = refl
+unread_in_toml (Ok endings.WriteFault) is = absurd cc
+unread_in_toml (Ok endings.OutletFault) is = absurd cc
+unread_in_toml (Ok endings.Memory) is = absurd cc
+unread_in_toml (Err cause) is = absurd cc

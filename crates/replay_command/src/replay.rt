@@ -72,8 +72,9 @@ pub fn replay<S: ByteSource, K: ByteSink>(
         → S.left source.old ≡ Some document → MeetAirs airs
         → UntakenBy airs (map account outlets.old.items) (lines_over (standing_of document)) outlets.old.items outlets.new.items }
 
-    // In migration no box is called, and in generated mode the source isn't read.
+    // In migration no box is called, nor where a document couldn't be read, and in generated mode the source isn't read.
     ensures boxes_kept { mode_of_words (map string_bytes words.now) ≡ modes.Migrate → outlets.new ≡ outlets.old }
+    ensures uncalled_document { mode_of_words (map string_bytes words.now) ≡ modes.Toml → result ≡ Status.ReadFault → outlets.new ≡ outlets.old }
     ensures source_kept { (seed events : ℕ) → mode_of_words (map string_bytes words.now) ≡ modes.Generate seed events → source.new ≡ source.old }
 {
     want_of_memory_at_once();
@@ -85,7 +86,7 @@ pub fn replay<S: ByteSource, K: ByteSink>(
             Status::from(run_generated(alloc, seed, events, sink, outlets))
         }
         Ok(Mode::Toml) => Status::of_document(run_toml(alloc, source, sink, outlets)),
-        Ok(_) => Status::Usage,
+        Ok(Mode::Usage) => Status::Usage,
         Err(Memory) => Status::Memory,
     }
 }

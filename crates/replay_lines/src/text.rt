@@ -1,5 +1,5 @@
 //! The run of a text, and what holds of every scenario.
-ghost use Rattle.std.specs.Prelude.{◌≡◌, ℕ, List, Some, map, true};
+ghost use Rattle.std.specs.Prelude.{◌≡◌, ◌<◌, ◌^◌, ℕ, List, Some, map, true, vec_len};
 ghost use Rattle.bcast_io.specs.TextLines.{lines_of};
 ghost use Rattle.unit_outlets.specs.Account.{Account};
 ghost use Rattle.scenario_history.specs.Airs.{MeetAirs};
@@ -26,13 +26,14 @@ use unit_outlets::Outlet;
 /// `Done` comes where the text was read to its end and no line is refused. `Refused` has the line, from 1, and the reason;
 /// the line of the refusal was written, and nothing behind it was run. `ReadFault`, `WriteFault` and `OutletFault` come only
 /// where the count of the source, of the sink or of a box rose. After `Memory` a front of the transcript was written. A box
-/// that no accepted `sink` line takes stays the same.
+/// that no accepted `sink` line takes stays the same. The condition is one that every list of boxes meets.
 pub fn run_text<S: ByteSource, K: ByteSink>(
     alloc: Global,
     source: &mut S,
     sink: &mut K,
     outlets: &mut Vec<Box<dyn Outlet>>,
 ) -> Ending
+    requires { vec_len outlets.old < 2 ^ 64 }
     ensures promised { let old = world_of S.left S.faults K.contents K.faults source.old sink.old (map account outlets.old.items) in
         let new = world_of S.left S.faults K.contents K.faults source.new sink.new (map account outlets.new.items) in
         Promised old new result }

@@ -1,5 +1,5 @@
 -- What is promised of a document that was read.
-use Rattle.std.proofs.Common.{◌≡◌, ℕ, List, refl, sym, subst, Option, Some, Result, Ok, Err}
+use Rattle.std.proofs.Common.{◌≡◌, ◌≢◌, ℕ, List, refl, sym, subst, Option, Some, Result, Ok, Err}
 use Rattle.document_reading.specs.Reading.{ReadsDocument}
 use Rattle.document_reading.specs.declared.document.Document.{Document}
 use Rattle.document_reading.specs.declared.piece.Unread.{Unread}
@@ -11,9 +11,9 @@ use Rattle.unit_outlets.specs.Account.{Account}
 use Rattle.replay_toml.specs.Documents.{DocumentIs}
 use Rattle.replay_toml.specs.FromToml.{DocumentLaws, FromToml, TomlEnding}
 use Rattle.replay_toml.specs.Standing.{Standing, refused_for, stands_for, cause_line}
-use Rattle.replay_toml.specs.State.Runs.{DocumentRuns, over_text}
+use Rattle.replay_toml.specs.State.Runs.{DocumentRuns, Refuses, over_text}
 use Rattle.replay_toml.proofs.Refusing.{refused_toml}
-use Rattle.replay_toml.proofs.Running.{ran_toml}
+use Rattle.replay_toml.proofs.Running.{ending_is, never_fails, ran_toml}
 use Rattle.replay_toml.proofs.Unread.{nothing_put}
 
 -- what was read, by the answer
@@ -58,3 +58,12 @@ wanting_at_once (refused_for cause) boxes kept writes promised = record {
 }
 wanting_at_once (stands_for text) boxes kept writes promised =
     record { left = Some text; run = promised (over_text (Some text) kept writes boxes) }
+
+-- a document that was read doesn't bring a read fault
+pub ran_unfailed : (standing : Standing) (starts ends : List Account) (kept kept' : Option (List ℕ)) (writes writes' : ℕ)
+    (result : TomlEnding) → DocumentRuns standing starts ends kept kept' writes writes' result → result ≢ Ok endings.ReadFault
+ran_unfailed (refused_for cause) starts ends kept kept' writes writes' result runs is =
+    let P : TomlEnding → Type 0 = λ r. Refuses cause kept kept' r in subst P is runs.puts
+ran_unfailed (stands_for text) starts ends kept kept' writes writes' (Ok ending) runs is =
+    never_fails (runs.run.read_fault (ending_is ending endings.ReadFault is)).0
+ran_unfailed (stands_for text) starts ends kept kept' writes writes' (Err cause) runs is = absurd runs

@@ -29,16 +29,16 @@ use Rattle.replay_toml.proofs.Reading.{document_told, front_read}
 use Rattle.replay_toml.proofs.Unread.{laws_of}
 
 -- a source in memory counts no fault
-never_fails : ¬ Rose 0 0
+pub never_fails : ¬ Rose 0 0
 never_fails rose = omega (arith, rose.0)
 
 ok_is : {T E : Type 0} (one other : T) (result : Result T E) → result ≡ Ok one → result ≡ Ok other → one ≡ other
 ok_is one other result here is = cc
 
-abbrev ran : Ending → TomlEnding
+abbrev pub ran : Ending → TomlEnding
 ran ending = Ok ending
 
-ending_is : (ending other : Ending) → ran ending ≡ ran other → ending ≡ other
+pub ending_is : (ending other : Ending) → ran ending ≡ ran other → ending ≡ other
 ending_is ending other is = ok_is ending other (ran ending) refl is
 
 module _ (airs : Airs) (starts ends : List Account) (text : List ℕ) (left kept kept' : Option (List ℕ)) where

@@ -1,5 +1,5 @@
 //! The mode: a document is read whole, and the lines that it stands for are run.
-ghost use Rattle.std.specs.Prelude.{◌≡◌, ◌≢◌, ℕ, List, Ok, Some, map};
+ghost use Rattle.std.specs.Prelude.{◌≡◌, ◌≢◌, ◌<◌, ◌^◌, ℕ, List, Ok, Some, map, vec_len};
 ghost use Rattle.bcast_base.specs.Counts.{Rose};
 ghost use Rattle.unit_outlets.specs.Account.{Account};
 ghost use Rattle.replay_generated.specs.Untaken.{UntakenBy};
@@ -30,19 +30,21 @@ const PIECE: usize = 65_536;
 ///
 /// `Err` has the cause for which the document is refused: then the line of the refusal, of number 0, was written, and no line
 /// was run. `TooLong` comes once octet 1,048,577 was read, and no read follows. `ReadFault`, `WriteFault` and `OutletFault` come
-/// only where the count of the source, of the sink or of a box rose. After `ReadFault` nothing was written. After `Memory` a front
-/// of what is due was written.
+/// only where the count of the source, of the sink or of a box rose. After `ReadFault` nothing was written, and no box was called.
+/// After `Memory` a front of what is due was written. The condition is one that every list of boxes meets.
 pub fn run_toml<S: ByteSource, K: ByteSink>(
     alloc: Global,
     source: &mut S,
     sink: &mut K,
     outlets: &mut Vec<Box<dyn Outlet>>,
 ) -> Result<Ending, Cause>
+    requires { vec_len outlets.old < 2 ^ 64 }
     ensures promised { let old = world_of S.left S.faults K.contents K.faults source.old sink.old (map account outlets.old.items) in
         let new = world_of S.left S.faults K.contents K.faults source.new sink.new (map account outlets.new.items) in
         FromToml old new result }
     ensures untaken { (document : List ℕ) (airs : Airs) → S.left source.old ≡ Some document → MeetAirs airs
         → UntakenBy airs (map account outlets.old.items) (lines_over (standing_of document)) outlets.old.items outlets.new.items }
+    ensures uncalled { result ≡ Ok endings.ReadFault → outlets.new ≡ outlets.old }
 {
     want_of_memory_at_once();
     match read_document(alloc, source) {

@@ -109,8 +109,8 @@ fn number_of(reason: Refusal) -> Option<u64>
     }
 }
 
-/// Puts the line of a refusal, with the number of the line that is refused, from 1, or 0 for a document; behind BadLine stands the number of
-/// the word, and behind BadGroup that of the fault.
+/// Puts the line of a refusal, with the number of the line that is refused, from 1, or 0 for a document; behind BadLine stands the
+/// number of the word, and behind BadGroup that of the fault.
 ///
 /// After Memory a front of the line stands at the end of the text.
 pub fn put_refusal(text: &mut Octets, line: u64, reason: Refusal) -> Result<(), Memory>

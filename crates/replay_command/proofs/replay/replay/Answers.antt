@@ -5,7 +5,7 @@ use Rattle.replay_words.specs.Words.{mode_of}
 use Rattle.replay_lines.specs.World.{world_of}
 use Rattle.replay_command.specs.Migrated.{Migrated}
 use Rattle.replay_command.proofs.Migrating.{migrated_of}
-use Rattle.replay_command.proofs.Promises.{in_replay, in_migration, in_document, in_generation, in_memory}
+use Rattle.replay_command.proofs.Promises.{in_replay, in_migration, in_document, in_generation, in_memory, unread_in_toml}
 use Rattle.replay_command.proofs.replay.replay.Goals as goal
 
 pub returns-in-Ok-Replay-clause-promised : goal.returns-in-Ok-Replay-clause-promised
@@ -91,3 +91,15 @@ returns-in-Ok-Toml-clause-untaken_generated g c seed events airs generates meets
 
 pub returns-in-Ok-Toml-clause-untaken_document : goal.returns-in-Ok-Toml-clause-untaken_document
 returns-in-Ok-Toml-clause-untaken_document g c document airs documents is meets = c.run_toml.ensures.untaken document airs is meets
+
+pub returns-in-Ok-Replay-clause-uncalled_document : goal.returns-in-Ok-Replay-clause-uncalled_document
+returns-in-Ok-Replay-clause-uncalled_document g c documents is =
+    absurd (let same = sym c.in-Ok-Replay.field-0-is ∙ c.in-Ok-Replay.ensures.meaning ∙ documents in cc)
+
+pub returns-in-Ok-Generate-clause-uncalled_document : goal.returns-in-Ok-Generate-clause-uncalled_document
+returns-in-Ok-Generate-clause-uncalled_document g c documents is =
+    absurd (let same = sym c.in-Ok-Generate.field-0-is ∙ c.in-Ok-Generate.ensures.meaning ∙ documents in cc)
+
+pub returns-in-Ok-Toml-clause-uncalled_document : goal.returns-in-Ok-Toml-clause-uncalled_document
+returns-in-Ok-Toml-clause-uncalled_document g c documents is =
+    c.run_toml.ensures.uncalled (unread_in_toml c.run_toml.result (sym c.of_document.ensures ∙ is))

@@ -7,7 +7,7 @@ use Rattle.replay_lines.specs.declared.ending.Ending.TheVariants as endings
 use Rattle.scenario_toml.specs.Document.{meaning_of}
 use Rattle.replay_toml.specs.declared.cause.Cause.TheVariants as causes
 use Rattle.replay_toml.specs.Standing.{standing_by, lines_over}
-use Rattle.replay_toml.proofs.Promises.{read_at, read_toml}
+use Rattle.replay_toml.proofs.Promises.{ran_unfailed, read_at, read_toml}
 use Rattle.replay_toml.proofs.Reading.{document_told, whole_is}
 use Rattle.replay_toml.proofs.Refusing.{refused_toml}
 use Rattle.replay_toml.proofs.Unread.{failed_toml, laws_of, wanting_toml}
@@ -74,3 +74,12 @@ returns-in-Ok-Whole-clause-untaken g c told airs tells meets =
     (read_at left left' c.read_document.result (Ok (Whole document)) is c.read_document.ensures.reads) in
     subst (λ standing. UntakenBy airs boxes (lines_over standing) c.args.outlets.now.items c.run_document.new.outlets.items)
     (sym (document_told left left' told tells (standing_by (meaning_of document)) read)) (c.run_document.ensures.untaken airs meets)
+
+pub returns-in-Ok-Whole-clause-uncalled : goal.returns-in-Ok-Whole-clause-uncalled
+returns-in-Ok-Whole-clause-uncalled g c is =
+    let boxes = map (λ b. (goal.Outlet-dyn g (b.vtable, b.value)).account b.value) c.args.outlets.now.items in
+    let after = map (λ b. (goal.Outlet-dyn g (b.vtable, b.value)).account b.value) c.run_document.new.outlets.items in
+    absurd (ran_unfailed (standing_by (meaning_of c.in-Ok-Whole.document)) boxes after
+    (g.K.ByteSink.contents c.args.sink.now) (g.K.ByteSink.contents c.run_document.new.sink)
+    (g.K.ByteSink.faults c.args.sink.now) (g.K.ByteSink.faults c.run_document.new.sink)
+    c.run_document.result c.run_document.ensures.runs is)
