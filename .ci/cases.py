@@ -259,6 +259,8 @@ def count_cases(counts, scenario):
     if scenario.words:
         name = re.sub(r'[=\d]+', '', scenario.words[0])
         counts['words', f'{name}, status {scenario.exit_code}'] += 1
+        if scenario.words == ['--toml'] and scenario.exit_code == 1:
+            counts['refusals', scenario.transcript.splitlines()[-1].split(b' ')[2].decode()] += 1
         return
     for place, (line, printed) in enumerate(scenario.steps):
         walk.counts = collections.Counter() if place < scenario.counted_from else counts

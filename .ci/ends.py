@@ -12,6 +12,7 @@ USAGE = b'usage: replay [--migrate | --toml | --seed N --events M]\n'
 UNIT = b'scenario 1\ngroup unframed 20000 40000 8 10000 4 4 1 1 1 1 0 0 0 1\nsink 0 1 1\nstart 0\ntuned 0 1\nunit 1 - 0a\nevent\nhear 0 0 1 0\nend\n'
 HEARD = b'unit 0 1 at 60060 valid 1 0a\nsum 0 1 1\n'
 EIGHT = b'scenario 1\n' + b''.join(b'sink %d 1 1\n' % sink for sink in range(8))
+DOCUMENT = b'version = 1\nsteps = ["end"]\n[[sinks]]\nnumber = 3\nstreams = 1\nslots = 1\n'
 SUMS = b''.join(b'sum %d 0 0\n' % sink for sink in range(8))
 
 # a name, the words, the text that is read, what is written, the exit status, and what is said on standard error
@@ -21,6 +22,8 @@ ENDS = [
     ('eight sinks have boxes', [], EIGHT + b'end\n', SUMS, 0, b''),
     ('a ninth sink has none', [], EIGHT + b'drop 0\nsink 0 1 1\nend\n', b'sum 0 0 0\nline 11: NoOutlet\n', 1, b''),
     ('migrated', ['--migrate'], b'scenario 1\nend\n', b'scenario 2\nend\n', 0, b''),
+    ('a document', ['--toml'], DOCUMENT, b'sum 3 0 0\n', 0, b''),
+    ('no document', ['--toml'], UNIT, b'line 0: BadToml\n', 1, b''),
     ('generated', ['--seed', '1', '--events', '5'], b'', b'events 5\nunits 9 lost 1\nsum 0 5 500\nsum 1 4 400\n', 0, b''),
     ('usage: a word', ['x'], UNIT, b'', 2, USAGE),
     ('usage: an option alone', ['--seed', '1'], UNIT, b'', 2, USAGE),
@@ -28,9 +31,10 @@ ENDS = [
     ('usage: an empty word', [''], UNIT, b'', 2, USAGE),
 ]
 # the words, and whether they read, for standard input that can't be read: a folder
-READ_FAULTS = [([], 3, b'read fault\n'), (['--migrate'], 3, b'read fault\n'), (['x'], 2, USAGE)]
+READ_FAULTS = [([], 3, b'read fault\n'), (['--migrate'], 3, b'read fault\n'), (['--toml'], 3, b'read fault\n'), (['x'], 2, USAGE)]
 # the words and the text, for standard output that takes nothing: a device that is full
-WRITE_FAULTS = [([], UNIT), (['--migrate'], UNIT), (['--seed', '1', '--events', '1'], b''), ([], b'x\n')]
+WRITE_FAULTS = [([], UNIT), (['--migrate'], UNIT), (['--seed', '1', '--events', '1'], b''), ([], b'x\n'), (['--toml'], DOCUMENT),
+                (['--toml'], b'x')]
 
 
 def run(words, name=None, **more):

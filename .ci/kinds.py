@@ -1,6 +1,6 @@
 """The kinds of cases that can come: what each is read from, and which cases it has.
 
-Not among them, since they can't come yet: the refusals RelayTaken, Relayed, BadToml and BadDocument."""
+Not among them, since they can't come yet: the refusals RelayTaken and Relayed."""
 from cases import LINES, SINK_LINES, SOURCE_LINES
 
 OF_LINKS = ('assist', 'apart', 'awrite', 'aserve', 'atell', 'aread', 'adrain', 'ashow')
@@ -35,7 +35,7 @@ PRINTED = ('unit valid', 'unit lost', 'stale', 'pdu', 'heard', 'train', 'sink', 
            'control', 'sum', 'areply', 'anotice', 'aread', 'aview')
 REFUSALS = ('TextTooLong', 'LineTooLong', 'BadLine', 'AfterEnd', 'Order', 'NotBuilt', 'BadGroup', 'BaseTooLong', 'IdentTwice', 'NoSuchSink',
             'NoSuchLink', 'LinkTwice', 'SinkTwice', 'NoOutlet', 'NoSuchBis', 'UnitTooLong', 'TimeOrder', 'Backlog', 'NoSuchSubevent',
-            'NotOnAir', 'CounterEnds', 'NothingWaiting', 'RecordsTooLong', 'NoEnd')
+            'NotOnAir', 'CounterEnds', 'NothingWaiting', 'RecordsTooLong', 'NoEnd', 'BadToml', 'BadDocument')
 CAUSES = ('Empty', 'Opcode', 'Length', 'Rfu', 'BisTwice', 'SourceUnknown', 'NoDecrypt', 'Known', 'NoRoom', 'ValueTooLong', 'StillSynced')
 OPERATIONS = ('Scan Stopped', 'Scan Started', 'Add', 'Modify', 'Code', 'Remove')
 FIRST_ANSWERS = ('NoBroadcastId', 'NotWanted', 'OtherTrain', 'AlreadyOnGroup')
@@ -188,5 +188,5 @@ KINDS = {
                          ['961 PDUs an event', '217 payloads in a window', '24 subgroups of a BASE', '73 records',
                           '16 units of a stream left out at once', '99 subgroups of a write', 'more than 32 writes of a drain',
                           'more than 32 notices of a drain'] + each(['512 octets'], ('notice', 'anotice', 'aread', 'state', 'view'))),
-    'words': ('the words of the command line and the exit status', each(('--migrate', '--seed', '--events'), ('status 0', 'status 2'))),
+    'words': ('the words of the command line and the exit status', each(('--migrate', '--toml', '--seed', '--events'), ('status 0', 'status 2')) + ['--toml, status 1']),
 }

@@ -5,6 +5,8 @@ import glob
 import os
 import re
 
+import documents
+
 TOP = os.path.dirname(os.path.dirname(os.path.abspath(__file__)))
 TESTS = os.path.join(TOP, 'crates/replay_command/src/tests')
 ROW = re.compile(r'name: "(.*)",\s+boxes: (\d+),\s+text: "(.*)",\s+transcript: "(.*)",\s+exit_code: (\d+),')
@@ -153,7 +155,15 @@ def examples():
             yield 'examples', Scenario(os.path.basename(path), steps, 1 if is_refused else 0)
 
 
+def worked_documents():
+    """The documents of documents.py, of which no line is told, but what is written."""
+    for name, _, written in documents.FORMS:
+        lines = written.encode().splitlines()
+        yield 'documents.py', Scenario(name, [(None, lines)], int(documents.is_refused(written)), ['--toml'])
+
+
 def everything():
     yield from rows()
     yield from examples()
     yield from corpus()
+    yield from worked_documents()

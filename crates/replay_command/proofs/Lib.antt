@@ -1,13 +1,3 @@
-mod ReadingOn
-mod RefusalLaws
-mod Endings
-mod LineUnits
-mod LineEndings
-mod LineSteps
-mod Completing
-mod OtherAirs
-mod Counting
-mod Untaken
 mod Migrating
 mod Generating
 mod Promises

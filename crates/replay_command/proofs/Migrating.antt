@@ -14,7 +14,7 @@ use Rattle.replay_command.specs.declared.status.Status.{Status}
 use Rattle.replay_command.specs.declared.status.Status.TheVariants as statuses
 use Rattle.replay_command.specs.Migrated.{Migrated}
 use Rattle.replay_command.specs.Statuses.{status_of}
-use Rattle.replay_command.specs.World.{World}
+use Rattle.replay_lines.specs.World.{World}
 
 -- what a migration read and wrote, by its status
 abbrev Did : Status → World → World → Type 0
@@ -94,7 +94,8 @@ migrated_of how old new e read no_read write no_write boxes =
       boxes = boxes;
     }
 
-keeps_same : (kept : Option (List ℕ)) → Keeps kept kept
+-- a sink that took nothing
+pub keeps_same : (kept : Option (List ℕ)) → Keeps kept kept
 keeps_same None = tt
 keeps_same (Some octets) = refl
 

@@ -5,24 +5,28 @@ use Rattle.replay_words.specs.declared.mode.Mode.{Mode}
 use Rattle.replay_words.specs.declared.mode.Mode.TheVariants as modes
 use Rattle.replay_command.specs.declared.status.Status.{Status}
 use Rattle.replay_command.specs.declared.status.Status.TheVariants as statuses
-use Rattle.replay_command.specs.Promised.{Promised}
+use Rattle.replay_command.specs.FromDocument.{FromDocument}
+use Rattle.replay_command.specs.FromText.{FromText}
 use Rattle.replay_command.specs.Migrated.{Migrated}
 use Rattle.replay_command.specs.Generated.{Generated}
-use Rattle.replay_command.specs.World.{World}
+use Rattle.replay_lines.specs.World.{World}
 
--- nothing is run for words of this mode: they are Usage, or ask for a TOML document, which isn't built
+-- nothing is run for words of this mode
 abbrev pub IsNone : Mode → Type 0
 IsNone modes.Replay = ⊥
 IsNone modes.Migrate = ⊥
+IsNone modes.Toml = ⊥
 IsNone (modes.Generate seed events) = ⊥
 IsNone _ = Unit {0}
 
 -- what is promised of a call by what its words mean
 pub record PromisedIn (mode : Mode) (old new : World) (status : Status) : Type 0 where
   -- Words that mean replay: the scenario of the source is run.
-  pub replay : mode ≡ modes.Replay → Promised old new status
+  pub replay : mode ≡ modes.Replay → FromText old new status
   -- Words that mean migration: the text of the source is written in version 2.
   pub migrated : mode ≡ modes.Migrate → Migrated old new status
+  -- Words that mean a document: the lines that the document of the source stands for are run.
+  pub document : mode ≡ modes.Toml → FromDocument old new status
   -- Words that mean generation: the scenario of the generator is run, and its summary written.
   pub generated : (seed events : ℕ) → mode ≡ modes.Generate seed events → Generated seed events old new status
   -- All other words are Usage. Where memory ran out before they were read, the status is Memory; nothing happened then either.

@@ -5,7 +5,7 @@ use Rattle.replay_generated.specs.Generated.{GeneratedRun}
 use Rattle.replay_generated.specs.declared.outcome.Outcome.{Outcome}
 use Rattle.replay_command.specs.declared.status.Status.{Status}
 use Rattle.replay_command.specs.Statuses.{status_after}
-use Rattle.replay_command.specs.World.{World}
+use Rattle.replay_lines.specs.World.{World}
 
 pub record Generated (seed events : ℕ) (old new : World) (status : Status) : Type 0 where
   -- The status tells how the run ended, so that neither Usage nor ReadFault comes.

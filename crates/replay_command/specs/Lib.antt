@@ -1,9 +1,6 @@
-pub mod World
-pub mod Replayed
-pub mod Ended
-pub mod Promised
+pub mod Statuses
+pub mod FromText
+pub mod FromDocument
 pub mod Migrated
 pub mod Generated
 pub mod ByWords
-pub mod Statuses
-pub mod State

@@ -9,7 +9,7 @@ use Rattle.replay_migration.specs.TextRead.{IsTooLong}
 use Rattle.replay_migration.specs.Ended.{WroteText, WroteRefusal, WroteNothing, WroteShort, WroteFront, RanOut}
 use Rattle.replay_command.specs.declared.status.Status.{Status}
 use Rattle.replay_command.specs.declared.status.Status.TheVariants as statuses
-use Rattle.replay_command.specs.World.{World}
+use Rattle.replay_lines.specs.World.{World}
 
 pub record Migrated (old new : World) (status : Status) : Type 0 where
   -- Done: the text was read to its end, and was written in version 2.

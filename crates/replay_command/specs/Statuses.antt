@@ -1,10 +1,14 @@
 -- What the program makes of a status: its exit status, and what it says on standard error. Both are this project's own.
-use Rattle.std.specs.Prelude.{ℕ, List, Option, None, Some, codes}
+use Rattle.std.specs.Prelude.{ℕ, List, Option, None, Some, Result, Ok, Err, codes}
 use Rattle.transcript_text.specs.declared.refusal.Refusal.TheVariants.{TextTooLong}
 use Rattle.replay_generated.specs.declared.outcome.Outcome.{Outcome}
 use Rattle.replay_generated.specs.declared.outcome.Outcome.TheVariants as outcomes
+use Rattle.replay_lines.specs.declared.ending.Ending.{Ending}
+use Rattle.replay_lines.specs.declared.ending.Ending.TheVariants as endings
 use Rattle.replay_migration.specs.declared.migration.Migration.{Migration}
 use Rattle.replay_migration.specs.declared.migration.Migration.TheVariants as ends
+use Rattle.replay_toml.specs.Standing.{reason_of}
+use Rattle.replay_toml.specs.declared.cause.Cause.{Cause}
 use Rattle.replay_command.specs.declared.status.Status.{Status}
 use Rattle.replay_command.specs.declared.status.Status.TheVariants.{Done, Refused, Usage, ReadFault, WriteFault, OutletFault, Memory}
 
@@ -25,6 +29,20 @@ text_of ReadFault = Some (codes "read fault")
 text_of WriteFault = Some (codes "write fault")
 text_of OutletFault = Some (codes "outlet fault")
 text_of Memory = Some (codes "no memory")
+
+-- the status of the run of a text
+abbrev pub status_at : Ending → Status
+status_at endings.Done = Done
+status_at (endings.Refused line reason) = Refused line reason
+status_at endings.ReadFault = ReadFault
+status_at endings.WriteFault = WriteFault
+status_at endings.OutletFault = OutletFault
+status_at endings.Memory = Memory
+
+-- the status of the run of a document, of which a refusal has the line 0
+abbrev pub status_in_toml : Result Ending Cause → Status
+status_in_toml (Ok ending) = status_at ending
+status_in_toml (Err cause) = Refused 0 (reason_of cause)
 
 -- the status of a migration
 abbrev pub status_of : Migration → Status

@@ -3,7 +3,7 @@ ghost use Rattle.std.specs.Prelude.{◌≡◌, List, drop, length, map, string_b
 ghost use Rattle.std.specs.Vec.Iter.{into_iter_items};
 ghost use Rattle.unit_outlets.specs.Account.{Account};
 ghost use Rattle.replay_command.specs.ByWords.{PromisedFor};
-ghost use Rattle.replay_command.specs.World.{world_of};
+ghost use Rattle.replay_lines.specs.World.{world_of};
 
 use crate::replay::replay;
 use crate::status::Status;

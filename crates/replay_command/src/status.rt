@@ -1,8 +1,10 @@
 ghost use Rattle.std.specs.Prelude.{◌≡◌, option_copied};
-ghost use Rattle.replay_command.specs.Statuses.{exit_number, text_of, status_of, status_after};
+ghost use Rattle.replay_command.specs.Statuses.{exit_number, text_of, status_of, status_after, status_at, status_in_toml};
 
 use replay_generated::Outcome;
+use replay_lines::Ending;
 use replay_migration::Migration;
+use replay_toml::Cause;
 use transcript_text::Refusal;
 
 /// How a call of `replay` ended.
@@ -10,7 +12,7 @@ use transcript_text::Refusal;
 pub enum Status {
     /// The text was read to its end, and its transcript was written.
     Done,
-    /// The transcript ends with this refusal of this line, from 1, and was written.
+    /// The transcript ends with this refusal of this line, from 1, or of a document, with the line 0, and was written.
     Refused { line: u64, reason: Refusal },
     /// The words ask for nothing that there is.
     Usage,
@@ -25,6 +27,19 @@ pub enum Status {
 }
 
 impl Status {
+    /// How the run of a document ended: as that of its lines did, or refused, with the line 0.
+    pub(crate) fn of_document(ended: Result<Ending, Cause>) -> Status
+        ensures { result ≡ status_in_toml ended }
+    {
+        match ended {
+            Ok(ending) => Status::from(ending),
+            Err(cause) => Status::Refused {
+                line: 0,
+                reason: cause.reason(),
+            },
+        }
+    }
+
     /// The exit status of the program.
     pub(crate) fn exit_code(self) -> u8
         ensures { result ≡ exit_number self }
@@ -51,6 +66,21 @@ impl Status {
             Status::WriteFault => Some("write fault"),
             Status::OutletFault => Some("outlet fault"),
             Status::Memory => Some("no memory"),
+        }
+    }
+}
+
+impl From<Ending> for Status {
+    ghost from_gives = { λ ending status. status ≡ status_at ending };
+
+    fn from(ending: Ending) -> Status {
+        match ending {
+            Ending::Done => Status::Done,
+            Ending::Refused { line, reason } => Status::Refused { line, reason },
+            Ending::ReadFault => Status::ReadFault,
+            Ending::WriteFault => Status::WriteFault,
+            Ending::OutletFault => Status::OutletFault,
+            Ending::Memory => Status::Memory,
         }
     }
 }

@@ -12,7 +12,7 @@ use Rattle.unit_outlets.specs.Handed.{Handed, valid, lost}
 use Rattle.transcript_text.specs.declared.refusal.Refusal.{Refusal}
 use Rattle.transcript_text.specs.declared.refusal.Refusal.TheVariants.{TextTooLong, LineTooLong, BadLine, NotBuilt, AfterEnd, Order, BadGroup, BaseTooLong}
 use Rattle.transcript_text.specs.declared.refusal.Refusal.TheVariants.{IdentTwice, NoSuchSink, NoSuchLink, LinkTwice, SinkTwice, NoOutlet, NoSuchBis, UnitTooLong}
-use Rattle.transcript_text.specs.declared.refusal.Refusal.TheVariants.{TimeOrder, Backlog, NoSuchSubevent, NotOnAir, CounterEnds, NothingWaiting, RecordsTooLong, NoEnd}
+use Rattle.transcript_text.specs.declared.refusal.Refusal.TheVariants.{TimeOrder, Backlog, NoSuchSubevent, NotOnAir, CounterEnds, NothingWaiting, RecordsTooLong, NoEnd, BadToml, BadDocument}
 
 -- the octet that ends a line
 abbrev pub newline : ℕ
@@ -106,6 +106,8 @@ refusal_name CounterEnds = codes "CounterEnds"
 refusal_name NothingWaiting = codes "NothingWaiting"
 refusal_name RecordsTooLong = codes "RecordsTooLong"
 refusal_name NoEnd = codes "NoEnd"
+refusal_name BadToml = codes "BadToml"
+refusal_name BadDocument = codes "BadDocument"
 
 -- the number of the word from 0, or of the fault from 1
 abbrev pub refusal_number : Refusal → Option ℕ

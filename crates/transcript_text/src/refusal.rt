@@ -58,6 +58,10 @@ pub enum Refusal {
     RecordsTooLong,
     /// The text ends without `end`.
     NoEnd,
+    /// The document is not TOML.
+    BadToml,
+    /// The document has not the form of a scenario.
+    BadDocument,
 }
 
 /// The name of a refusal in the scenario language.
@@ -89,6 +93,8 @@ fn name_of(reason: Refusal) -> &'static [u8]
         Refusal::NothingWaiting => b"NothingWaiting",
         Refusal::RecordsTooLong => b"RecordsTooLong",
         Refusal::NoEnd => b"NoEnd",
+        Refusal::BadToml => b"BadToml",
+        Refusal::BadDocument => b"BadDocument",
     }
 }
 
@@ -103,8 +109,8 @@ fn number_of(reason: Refusal) -> Option<u64>
     }
 }
 
-/// Puts the line of a refusal, with the number of the line that is refused, from 1; behind BadLine stands the number of
-/// the word, and behind BadGroup that of the fault.
+/// Puts the line of a refusal, with the number of the line that is refused, from 1, or 0 for a document; behind BadLine stands the
+/// number of the word, and behind BadGroup that of the fault.
 ///
 /// After Memory a front of the line stands at the end of the text.
 pub fn put_refusal(text: &mut Octets, line: u64, reason: Refusal) -> Result<(), Memory>

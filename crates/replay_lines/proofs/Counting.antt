@@ -1,0 +1,49 @@
+-- The counts of the boxes, by how a run ended.
+use Rattle.std.proofs.Common.{◌≢◌, ℕ, true, false, List, [], reverse, refl, Option, inl, inr, ◌⊎◌}
+use Rattle.bcast_io.specs.TextLines.{lines_of}
+use Rattle.unit_outlets.specs.Account.{Account}
+use Rattle.source_machine.specs.Airs.{airs_of}
+use Rattle.scenario_history.specs.Lines.{handed_on}
+use Rattle.scenario_history.specs.Transcript.{out_of, units_of}
+use Rattle.scenario_sinks.specs.Faults.{CountsStay, OneCounts}
+use Rattle.scenario_sinks.proofs.Citable.{failed_one, none_counts, one_then, took_stay}
+use Rattle.replay_lines.specs.declared.ending.Ending.{Ending}
+use Rattle.replay_lines.specs.declared.ending.Ending.TheVariants as endings
+use Rattle.replay_lines.specs.Ended.{Ended, IsCut}
+use Rattle.replay_lines.specs.Replayed.{Broken, FaultCut}
+
+broken_counts : (starts ends : List Account) (left left' kept kept' : Option (List ℕ)) → Broken airs_of starts ends left left' kept kept'
+    → CountsStay starts ends ⊎ FaultCut airs_of starts ends left left' kept kept'
+broken_counts starts ends left left' kept kept' e = elim e.boxes [
+  | inl cut ↦ inl (took_stay starts ends cut.done cut.boxes)
+  | inr failed ↦ inr failed
+]
+
+pub ended_counts : (ending : Ending) (starts ends : List Account) (left left' kept kept' : Option (List ℕ)) → Ended airs_of ending starts ends left left' kept kept'
+    → ending ≢ endings.OutletFault → CountsStay starts ends ⊎ (IsCut ending × FaultCut airs_of starts ends left left' kept kept')
+ended_counts endings.Done starts ends left left' kept kept' e other = inl (took_stay starts ends (units_of airs_of starts (lines_of true e.text)) e.boxes)
+ended_counts (endings.Refused line reason) starts ends left left' kept kept' e other = inl (took_stay starts ends e.0.units e.0.boxes)
+ended_counts endings.ReadFault starts ends left left' kept kept' e other = inl (took_stay starts ends (units_of airs_of starts (lines_of false e.text)) e.boxes)
+ended_counts endings.WriteFault starts ends left left' kept kept' e other =
+    elim (broken_counts starts ends left left' kept kept' e.0) [ inl stay ↦ inl stay | inr failed ↦ inr (tt, failed) ]
+ended_counts endings.OutletFault starts ends left left' kept kept' e other = absurd (other refl)
+ended_counts endings.Memory starts ends left left' kept kept' e other =
+    elim (broken_counts starts ends left left' kept kept' e) [ inl stay ↦ inl stay | inr failed ↦ inr (tt, failed) ]
+
+broken_one : (starts ends : List Account) (left left' kept kept' : Option (List ℕ)) → Broken airs_of starts ends left left' kept kept' → OneCounts starts ends
+broken_one starts ends left left' kept kept' e = elim (broken_counts starts ends left left' kept kept' e) [
+  | inl stay ↦ none_counts starts ends stay
+  | inr failed ↦
+      one_then starts failed.accounts ends (took_stay starts failed.accounts (units_of airs_of starts (reverse failed.earlier)) failed.before)
+      (failed_one (handed_on airs_of failed.earlier failed.line) [] failed.told failed.accounts ends failed.fails)
+]
+
+pub ended_one : (ending : Ending) (starts ends : List Account) (left left' kept kept' : Option (List ℕ)) → Ended airs_of ending starts ends left left' kept kept' → OneCounts starts ends
+ended_one endings.Done starts ends left left' kept kept' e = none_counts starts ends (took_stay starts ends (units_of airs_of starts (lines_of true e.text)) e.boxes)
+ended_one (endings.Refused line reason) starts ends left left' kept kept' e = none_counts starts ends (took_stay starts ends e.0.units e.0.boxes)
+ended_one endings.ReadFault starts ends left left' kept kept' e = none_counts starts ends (took_stay starts ends (units_of airs_of starts (lines_of false e.text)) e.boxes)
+ended_one endings.WriteFault starts ends left left' kept kept' e = broken_one starts ends left left' kept kept' e.0
+ended_one endings.OutletFault starts ends left left' kept kept' e =
+    one_then starts e.accounts ends (took_stay starts e.accounts (units_of airs_of starts (reverse e.earlier)) e.before)
+    (failed_one (handed_on airs_of e.earlier e.line) (out_of airs_of starts (reverse e.earlier)) e.told e.accounts ends e.fails)
+ended_one endings.Memory starts ends left left' kept kept' e = broken_one starts ends left left' kept kept' e

@@ -1,0 +1,269 @@
+-- How a run of a text ends at a line, by what was run and written before it.
+use Rattle.std.proofs.Common.{◌≡◌, ℕ, ◌+◌, Bool, true, false, List, [], ◌∷◌, ◌++◌, length, reverse, refl, sym, ap, subst, ◌∙◌, append_assoc, arith, Option, None, Some, length-append, inl, inr}
+use Rattle.std.proofs.lemmas.List.{append-nil, length-reverse, reverse-reverse}
+use Rattle.std.proofs.lemmas.Bool.{false≢true}
+use Rattle.std.specs.Io.KnownBytes.{Appends, Keeps}
+use Rattle.bcast_io.specs.TextLines.{TextLine, lines_of}
+use Rattle.bcast_io.specs.State.Reading.{MayFollow}
+use Rattle.bcast_io.specs.Writing.{AppendsFront, AppendsShort}
+use Rattle.bcast_io.proofs.Citable.{Appends-then, AppendsFront-then, AppendsFront-nothing, Consumes-nothing}
+use Rattle.unit_outlets.specs.Account.{Account}
+use Rattle.source_machine.specs.Airs.{airs_of}
+use Rattle.transcript_text.specs.declared.refusal.Refusal.{Refusal}
+use Rattle.transcript_text.specs.declared.refusal.Refusal.TheVariants.{NoEnd}
+use Rattle.transcript_text.specs.Lines.{refusal_line}
+use Rattle.line_runs.specs.Runs.{through, refused, out, out_unless, end_of, end_unless, accepted_of, accepted_unless, brought, Accepted}
+use Rattle.line_runs.proofs.Citable.{out_accepted, end_accepted, accepted_accepted}
+use Rattle.scenario_text.specs.declared.step.Step.{Step}
+use Rattle.scenario_history.specs.Steps.{is_over}
+use Rattle.scenario_history.specs.Boxes.{SinkUnit, handed_up, Took}
+use Rattle.scenario_history.specs.Lines.{Said, a_step, nothing, unsaid, rules_of, steps_of, said_after, handed_on, handed_said, with_said}
+use Rattle.scenario_history.specs.Source.{Airs}
+use Rattle.scenario_history.specs.Transcript.{out_of, end_after, last_line_after, last_end_after, has_end, transcript_of, transcript_end, units_of}
+use Rattle.scenario_history.proofs.Citable.{took_all}
+use Rattle.replay_lines.specs.declared.ending.Ending.{Ending}
+use Rattle.replay_lines.specs.declared.ending.Ending.TheVariants as endings
+use Rattle.replay_steps.specs.declared.machine.Machine.{Machine}
+use Rattle.replay_steps.specs.Meets.{BoxesStand}
+use Rattle.replay_steps.specs.LineMeets.{refusal_at, output_at}
+use Rattle.replay_lines.specs.Replayed.{Done, ReadFaulted, brought_by, Broken}
+use Rattle.replay_lines.specs.Ended.{Ended}
+use Rattle.replay_lines.specs.State.Between.{TextIs, RunTo, Refuses}
+
+-- ---- the transcript over an accepted history
+
+module _ (starts : List Account) (history : List TextLine) (accepted : Accepted (rules_of airs_of starts) history) where
+  pub out_then : (lines : List TextLine) → out_of airs_of starts (reverse history ++ lines)
+      ≡ brought (rules_of airs_of starts) history ++ out (rules_of airs_of starts) history lines
+  out_then lines = out_accepted (rules_of airs_of starts) history lines accepted
+
+  pub end_then : (lines : List TextLine) → end_after airs_of starts (reverse history ++ lines) ≡ end_of (rules_of airs_of starts) history lines
+  end_then lines = end_accepted (rules_of airs_of starts) history lines accepted
+
+  pub units_then : (lines : List TextLine) → units_of airs_of starts (reverse history ++ lines)
+      ≡ handed_up airs_of (steps_of (accepted_of (rules_of airs_of starts) history lines))
+  units_then lines = ap (λ all. handed_up airs_of (steps_of all)) (accepted_accepted (rules_of airs_of starts) history lines accepted)
+
+  pub out_all : out_of airs_of starts (reverse history) ≡ brought (rules_of airs_of starts) history
+  out_all = ap (out_of airs_of starts) (sym (append-nil (reverse history))) ∙ out_then [] ∙ append-nil (brought (rules_of airs_of starts) history)
+
+  pub end_all : end_after airs_of starts (reverse history) ≡ through
+  end_all = ap (end_after airs_of starts) (sym (append-nil (reverse history))) ∙ end_then []
+
+  pub units_all : units_of airs_of starts (reverse history) ≡ handed_up airs_of (steps_of history)
+  units_all = ap (units_of airs_of starts) (sym (append-nil (reverse history))) ∙ units_then []
+
+  over_all : (b : Bool) → is_over (steps_of history) ≡ b → has_end (reverse history) ≡ b
+  over_all b over = ap (λ lines. is_over (steps_of lines)) (reverse-reverse history) ∙ over
+
+  number_all : length (reverse history) + 1 ≡ length history + 1
+  number_all = ap (λ n. n + 1) (length-reverse history)
+
+  -- the whole transcript, where the history is all
+  pub ends_through : (b : Bool) → is_over (steps_of history) ≡ b → transcript_end airs_of starts (reverse history) ≡ last_end_after through b (length history + 1)
+  ends_through b over =
+      ap (λ e. last_end_after e (has_end (reverse history)) (length (reverse history) + 1)) end_all
+      ∙ ap (λ x. last_end_after through x (length (reverse history) + 1)) (over_all b over)
+      ∙ ap (λ n. last_end_after through b n) number_all
+
+  pub writes_through : (b : Bool) → is_over (steps_of history) ≡ b
+      → transcript_of airs_of starts (reverse history) ≡ brought (rules_of airs_of starts) history ++ last_line_after through b (length history + 1)
+  writes_through b over =
+      ap (λ front. front ++ last_line_after (end_after airs_of starts (reverse history)) (has_end (reverse history)) (length (reverse history) + 1)) out_all
+      ∙ ap (λ e. brought (rules_of airs_of starts) history ++ last_line_after e (has_end (reverse history)) (length (reverse history) + 1)) end_all
+      ∙ ap (λ x. brought (rules_of airs_of starts) history ++ last_line_after through x (length (reverse history) + 1)) (over_all b over)
+      ∙ ap (λ n. brought (rules_of airs_of starts) history ++ last_line_after through b n) number_all
+
+  -- a line is refused
+  module _ (line : TextLine) (reason : Refusal) (because : refusal_at starts history line ≡ Some reason) (later : List TextLine) where
+    pub out_refused : out (rules_of airs_of starts) history (line ∷ later) ≡ refusal_line (length history + 1) reason
+    out_refused = ap (λ why. out_unless (rules_of airs_of starts) history why (output_at starts history line ++ out (rules_of airs_of starts) (line ∷ history) later)) because
+
+    end_refused : end_after airs_of starts (reverse history ++ line ∷ later) ≡ refused (length history + 1) reason
+    end_refused = end_then (line ∷ later) ∙ ap (λ why. end_unless history why (end_of (rules_of airs_of starts) (line ∷ history) later)) because
+
+    pub ends_refused : transcript_end airs_of starts (reverse history ++ line ∷ later) ≡ refused (length history + 1) reason
+    ends_refused = ap (λ e. last_end_after e (has_end (reverse history ++ line ∷ later)) (length (reverse history ++ line ∷ later) + 1)) end_refused
+
+    pub writes_refused : transcript_of airs_of starts (reverse history ++ line ∷ later) ≡ brought (rules_of airs_of starts) history ++ refusal_line (length history + 1) reason
+    writes_refused =
+        ap (λ e. out_of airs_of starts (reverse history ++ line ∷ later) ++ last_line_after e (has_end (reverse history ++ line ∷ later)) (length (reverse history ++ line ∷ later) + 1)) end_refused
+        ∙ append-nil (out_of airs_of starts (reverse history ++ line ∷ later))
+        ∙ out_then (line ∷ later)
+        ∙ ap (λ last. brought (rules_of airs_of starts) history ++ last) out_refused
+
+    pub units_refused : units_of airs_of starts (reverse history ++ line ∷ later) ≡ handed_up airs_of (steps_of history)
+    units_refused =
+        units_then (line ∷ later)
+        ∙ ap (λ why. handed_up airs_of (steps_of (accepted_unless history why (accepted_of (rules_of airs_of starts) (line ∷ history) later)))) because
+
+  -- a line is accepted
+  pub out_line : (line : TextLine) → refusal_at starts history line ≡ None → (later : List TextLine)
+      → out (rules_of airs_of starts) history (line ∷ later) ≡ output_at starts history line ++ out (rules_of airs_of starts) (line ∷ history) later
+  out_line line none later =
+      ap (λ why. out_unless (rules_of airs_of starts) history why (output_at starts history line ++ out (rules_of airs_of starts) (line ∷ history) later)) none
+
+-- ---- the units of further lines
+
+handed_with : (airs : Airs) (steps : List Step) (said : Said) → handed_up airs (with_said said steps) ≡ handed_up airs steps ++ handed_said airs steps said
+handed_with airs steps (a_step next) = refl
+handed_with airs steps nothing = sym (append-nil (handed_up airs steps))
+handed_with airs steps (unsaid reason) = sym (append-nil (handed_up airs steps))
+
+-- the units of a line come behind those of the lines before it
+pub handed_line : (airs : Airs) (history : List TextLine) (line : TextLine) → handed_up airs (steps_of (line ∷ history)) ≡ handed_up airs (steps_of history) ++ handed_on airs history line
+handed_line airs history line = handed_with airs (steps_of history) (said_after history line)
+
+-- what further lines hand up, where they are accepted after a history
+pub units_rest : (airs : Airs) (starts : List Account) (history lines : List TextLine)
+    → (rest : List SinkUnit) × (handed_up airs (steps_of (accepted_of (rules_of airs starts) history lines)) ≡ handed_up airs (steps_of history) ++ rest)
+units_rest airs starts history [] = ([], sym (append-nil (handed_up airs (steps_of history))))
+units_rest airs starts history (line ∷ lines) = by_refusal (units_rest airs starts (line ∷ history) lines) ((rules_of airs starts).refusal history line) refl
+  where
+    by_refusal : (rest : List SinkUnit) × (handed_up airs (steps_of (accepted_of (rules_of airs starts) (line ∷ history) lines)) ≡ handed_up airs (steps_of (line ∷ history)) ++ rest)
+        → (why : Option Refusal) → (rules_of airs starts).refusal history line ≡ why
+        → (rest : List SinkUnit) × (handed_up airs (steps_of (accepted_of (rules_of airs starts) history (line ∷ lines))) ≡ handed_up airs (steps_of history) ++ rest)
+    by_refusal more (Some reason) is = (
+      [],
+      ap (λ w. handed_up airs (steps_of (accepted_unless history w (accepted_of (rules_of airs starts) (line ∷ history) lines)))) is
+          ∙ sym (append-nil (handed_up airs (steps_of history))),
+    )
+    by_refusal more None is = (
+      handed_on airs history line ++ more.0,
+      ap (λ w. handed_up airs (steps_of (accepted_unless history w (accepted_of (rules_of airs starts) (line ∷ history) lines)))) is
+          ∙ more.1
+          ∙ ap (λ front. front ++ more.0) (handed_line airs history line)
+          ∙ append_assoc (handed_up airs (steps_of history)) (handed_on airs history line) more.0,
+    )
+
+-- ---- what was run before the line
+
+-- the boxes took the units of the history
+pub took_history : (starts accounts : List Account) (history : List TextLine) → BoxesStand starts (steps_of history) accounts → Took starts accounts (handed_up airs_of (steps_of history))
+took_history starts accounts history b =
+    let P : List Account → Type 0 = λ a. Took starts a (handed_up airs_of (steps_of history)) in
+    subst P (sym b.accounts_are) (took_all starts (handed_up airs_of (steps_of history)))
+
+took_same : (starts accounts : List Account) (us vs : List SinkUnit) → us ≡ vs → Took starts accounts us → Took starts accounts vs
+took_same starts accounts us vs e t = let P : List SinkUnit → Type 0 = λ u. Took starts accounts u in subst P e t
+
+appends_same : (kept kept' : Option (List ℕ)) (xs ys : List ℕ) → xs ≡ ys → Appends kept kept' xs → Appends kept kept' ys
+appends_same kept kept' xs ys e a = let P : List ℕ → Type 0 = λ x. Appends kept kept' x in subst P e a
+
+front_same : (kept kept' : Option (List ℕ)) (xs ys : List ℕ) → xs ≡ ys → AppendsFront kept kept' xs → AppendsFront kept kept' ys
+front_same kept kept' xs ys e a = let P : List ℕ → Type 0 = λ x. AppendsFront kept kept' x in subst P e a
+
+pub front_of_short : (kept kept' : Option (List ℕ)) (xs : List ℕ) → AppendsShort kept kept' xs → AppendsFront kept kept' xs
+front_of_short kept kept' xs s = record { front = s.front; rest = s.rest; whole = s.whole; appended = s.appended }
+
+keeps_same : (kept : Option (List ℕ)) → Keeps kept kept
+keeps_same None = tt
+keeps_same (Some xs) = refl
+
+pub front_none : (kept : Option (List ℕ)) (xs : List ℕ) → AppendsFront kept kept xs
+front_none kept xs = AppendsFront-nothing kept kept xs (keeps_same kept)
+
+-- ---- the end of the text, and a fault of the source
+
+pub ends_done : (starts : List Account) (history : List TextLine) (left left' kept kept' : Option (List ℕ)) (machine : Machine) (accounts : List Account)
+    → TextIs left left' history true → RunTo starts history kept kept' machine accounts → is_over (steps_of history) ≡ true → Done airs_of starts accounts left left' kept kept'
+ends_done starts history left left' kept kept' machine accounts t r over = record {
+  text = t.text;
+  read = t.read;
+  through_all = ap (transcript_end airs_of starts) t.whole ∙ ends_through starts history r.accepted true over;
+  written = appends_same kept kept' _ _
+      (sym (ap (transcript_of airs_of starts) t.whole ∙ writes_through starts history r.accepted true over ∙ append-nil (brought (rules_of airs_of starts) history))) r.written;
+  boxes = took_same starts accounts _ _ (sym (ap (units_of airs_of starts) t.whole ∙ units_all starts history r.accepted)) (took_history starts accounts history r.stands.boxes);
+}
+
+pub ends_faulted : (starts : List Account) (history : List TextLine) (left left' kept kept' : Option (List ℕ)) (machine : Machine) (accounts : List Account)
+    → TextIs left left' history false → RunTo starts history kept kept' machine accounts → ReadFaulted airs_of starts accounts left left' kept kept'
+ends_faulted starts history left left' kept kept' machine accounts t r = record {
+  text = t.text;
+  read = t.read;
+  through_all = ap (end_after airs_of starts) t.whole ∙ end_all starts history r.accepted;
+  written = appends_same kept kept' _ _ (sym (ap (out_of airs_of starts) t.whole ∙ out_all starts history r.accepted)) r.written;
+  boxes = took_same starts accounts _ _ (sym (ap (units_of airs_of starts) t.whole ∙ units_all starts history r.accepted)) (took_history starts accounts history r.stands.boxes);
+}
+
+-- nothing was read, for want of memory
+pub ends_at_once : (starts : List Account) (left kept : Option (List ℕ)) → Broken airs_of starts starts left left kept kept
+ends_at_once starts left kept = record {
+  text = [];
+  over = false;
+  read = record { consumed = Consumes-nothing left; at_end = λ over. absurd (false≢true over) };
+  written = front_none kept (brought_by airs_of false starts []);
+  boxes = inl (record { done = []; rest = units_of airs_of starts (lines_of false []); split = refl; boxes = took_all starts [] });
+}
+
+-- NoEnd
+module _ (starts : List Account) (history : List TextLine) (left left' kept mid kept' : Option (List ℕ)) (machine : Machine) (accounts : List Account) (number : ℕ)
+    (is_next : number ≡ length history + 1) (t : TextIs left left' history true) (r : RunTo starts history kept mid machine accounts)
+    (not_over : is_over (steps_of history) ≡ false) where
+  no_end_line : transcript_of airs_of starts (lines_of true t.text) ≡ brought (rules_of airs_of starts) history ++ refusal_line number NoEnd
+  no_end_line =
+      ap (transcript_of airs_of starts) t.whole ∙ writes_through starts history r.accepted false not_over
+      ∙ ap (λ n. brought (rules_of airs_of starts) history ++ refusal_line n NoEnd) (sym is_next)
+
+  no_end_end : transcript_end airs_of starts (lines_of true t.text) ≡ refused number NoEnd
+  no_end_end =
+      ap (transcript_end airs_of starts) t.whole ∙ ends_through starts history r.accepted false not_over ∙ ap (λ n. refused n NoEnd) (sym is_next)
+
+  no_end_units : units_of airs_of starts (lines_of true t.text) ≡ handed_up airs_of (steps_of history)
+  no_end_units = ap (units_of airs_of starts) t.whole ∙ units_all starts history r.accepted
+
+  same_lines : (at_end : Bool) (more : List ℕ) → MayFollow true at_end more → lines_of at_end (t.text ++ more) ≡ lines_of true t.text
+  same_lines at_end more follows =
+      let f = follows refl in
+      ap (λ b. lines_of b (t.text ++ more)) f.0 ∙ ap (λ rest. lines_of true (t.text ++ rest)) f.1 ∙ ap (lines_of true) (append-nil t.text)
+
+  broken_no_end : AppendsFront mid kept' (refusal_line number NoEnd) → Broken airs_of starts accounts left left' kept kept'
+  broken_no_end f = record {
+    text = t.text;
+    over = true;
+    read = t.read;
+    written = front_same kept kept' _ _ (sym no_end_line) (AppendsFront-then kept mid kept' (brought (rules_of airs_of starts) history) (refusal_line number NoEnd) r.written f);
+    boxes = inl (record {
+      done = handed_up airs_of (steps_of history);
+      rest = [];
+      split = no_end_units ∙ sym (append-nil (handed_up airs_of (steps_of history)));
+      boxes = took_history starts accounts history r.stands.boxes;
+    });
+  }
+
+  pub ends_no_end : (ending : Ending) → Refuses number NoEnd mid kept' ending → Ended airs_of ending starts accounts left left' kept kept'
+  ends_no_end endings.Done f = absurd f
+  ends_no_end endings.ReadFault f = absurd f
+  ends_no_end endings.OutletFault f = absurd f
+  ends_no_end endings.Memory f = broken_no_end f
+  ends_no_end endings.WriteFault f = (
+    broken_no_end (front_of_short mid kept' (refusal_line number NoEnd) f),
+    inr (record {
+      text = t.text;
+      read = t.read;
+      ends_so = no_end_end ∙ ap (λ n. refused n NoEnd) (is_next ∙ ap (λ n. n + 1) (sym (ap length t.whole ∙ length-reverse history)));
+      front = brought (rules_of airs_of starts) history ++ f.front;
+      written = Appends-then kept mid kept' (brought (rules_of airs_of starts) history) f.front r.written f.appended;
+      not_before = omega (arith, ap length (ap (out_of airs_of starts) t.whole ∙ out_all starts history r.accepted), length-append (brought (rules_of airs_of starts) history) f.front);
+      boxes = took_same starts accounts _ _ (sym no_end_units) (took_history starts accounts history r.stands.boxes);
+    }),
+  )
+  ends_no_end (endings.Refused line why) f =
+      let P : Ending → Type 0 = λ s. Ended airs_of s starts accounts left left' kept kept' in
+      let at_line : P (endings.Refused number NoEnd) = (
+        record {
+          text = t.text;
+          over = true;
+          read = t.read;
+          no_end = λ e. refl;
+          ends_so = λ at_end more follows. ap (transcript_end airs_of starts) (same_lines at_end more follows) ∙ no_end_end;
+          octets = brought (rules_of airs_of starts) history ++ refusal_line number NoEnd;
+          transcript = λ at_end more follows. ap (transcript_of airs_of starts) (same_lines at_end more follows) ∙ no_end_line;
+          written = Appends-then kept mid kept' (brought (rules_of airs_of starts) history) (refusal_line number NoEnd) r.written f.2;
+          units = handed_up airs_of (steps_of history);
+          handed = λ at_end more follows. ap (units_of airs_of starts) (same_lines at_end more follows) ∙ no_end_units;
+          boxes = took_history starts accounts history r.stands.boxes;
+        },
+        (λ other. absurd (other refl)),
+      ) in
+      subst P (ap (λ n. endings.Refused n NoEnd) (sym f.0) ∙ ap (endings.Refused line) (sym f.1)) at_line

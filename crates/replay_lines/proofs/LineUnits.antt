@@ -1,0 +1,189 @@
+-- What a line brings of a transcript, and what the boxes took of its units.
+use Rattle.std.proofs.Common.{◌≡◌, ℕ, ◌+◌, List, [], ◌∷◌, ◌++◌, length, reverse, refl, sym, ap, subst, ◌∙◌, append_assoc, None, Some, inl}
+use Rattle.std.proofs.lemmas.List.{append-nil, reverse-append}
+use Rattle.bcast_io.specs.TextLines.{TextLine}
+use Rattle.unit_outlets.specs.Account.{Account}
+use Rattle.source_machine.specs.Airs.{airs_of}
+use Rattle.transcript_text.specs.declared.refusal.Refusal.{Refusal}
+use Rattle.transcript_text.specs.Lines.{refusal_line}
+use Rattle.line_runs.specs.Runs.{out, accepted_of, accepted_unless, Accepted}
+use Rattle.scenario_history.specs.Boxes.{SinkUnit, accounts_after, handed_up, handed_by, Took}
+use Rattle.scenario_history.specs.Output.{unit_lines, output_of}
+use Rattle.scenario_history.specs.Lines.{Said, a_step, nothing, unsaid, rules_of, steps_of, said_after, handed_on, handed_said, output_said}
+use Rattle.scenario_history.specs.Transcript.{units_of}
+use Rattle.scenario_history.proofs.Citable.{took_all}
+use Rattle.scenario_text.specs.declared.step.Step.{Step}
+use Rattle.scenario_text.specs.declared.step.Step.TheVariants as kinds
+use Rattle.scenario_sinks.specs.Handing.{CutShort}
+use Rattle.replay_steps.specs.Meets.{BoxesStand}
+use Rattle.replay_steps.specs.LineMeets.{refusal_at, output_at}
+use Rattle.replay_lines.specs.Replayed.{BoxesCut, BoxesAt, TookFront}
+use Rattle.replay_steps.proofs.Citable.{accounts_append, lines_append}
+use Rattle.replay_lines.proofs.Endings.{out_line, out_refused, units_then, units_all, units_refused, units_rest, handed_line, took_history}
+
+-- whatever comes after it, the line begins with these octets
+abbrev pub Brings : List Account → List TextLine → TextLine → List ℕ → Type 0
+Brings starts history line octets =
+    (later : List TextLine) → (rest : List ℕ) × (out (rules_of airs_of starts) history (line ∷ later) ≡ octets ++ rest)
+
+-- whatever comes after the line, the boxes took a front of the units
+abbrev pub CutFor : List Account → List TextLine → TextLine → List Account → Type 0
+CutFor starts history line accounts = (later : List TextLine) → BoxesCut airs_of starts accounts (reverse history ++ line ∷ later)
+
+-- ---- what a line brings
+
+pub brings_nothing : (starts : List Account) (history : List TextLine) (line : TextLine) → Brings starts history line []
+brings_nothing starts history line later = (out (rules_of airs_of starts) history (line ∷ later), refl)
+
+pub brings_refused : (starts : List Account) (history : List TextLine) (line : TextLine) (reason : Refusal) (number : ℕ) → number ≡ length history + 1
+    → Accepted (rules_of airs_of starts) history → refusal_at starts history line ≡ Some reason → Brings starts history line (refusal_line number reason)
+brings_refused starts history line reason number is_next accepted because later = (
+  [],
+  out_refused starts history accepted line reason because later ∙ ap (λ n. refusal_line n reason) (sym is_next) ∙ sym (append-nil (refusal_line number reason)),
+)
+
+pub brings_output : (starts : List Account) (history : List TextLine) (line : TextLine) → Accepted (rules_of airs_of starts) history → refusal_at starts history line ≡ None
+    → Brings starts history line (output_at starts history line)
+brings_output starts history line accepted none later =
+    (out (rules_of airs_of starts) (line ∷ history) later, out_line starts history accepted line none later)
+
+-- the lines of the units come first
+step_begins : (starts : List Account) (earlier : List Step) (step : Step)
+    → (rest : List ℕ) × (output_of airs_of starts earlier step ≡ unit_lines (handed_by airs_of earlier step) ++ rest)
+step_begins starts earlier kinds.Event = (_, refl)
+step_begins starts earlier kinds.Stop = ([], sym (append-nil (unit_lines (handed_by airs_of earlier kinds.Stop))))
+step_begins starts earlier (kinds.Terminate reason) = (_, refl)
+step_begins starts earlier kinds.End = (_, refl)
+step_begins starts earlier step = (output_of airs_of starts earlier step, refl)
+
+said_begins : (starts : List Account) (earlier : List Step) (said : Said)
+    → (rest : List ℕ) × (output_said airs_of starts earlier said ≡ unit_lines (handed_said airs_of earlier said) ++ rest)
+said_begins starts earlier (a_step step) = step_begins starts earlier step
+said_begins starts earlier nothing = ([], refl)
+said_begins starts earlier (unsaid reason) = ([], refl)
+
+-- the lines of the first units of a line
+pub brings_units : (starts : List Account) (history : List TextLine) (line : TextLine) (done rest : List SinkUnit)
+    → Accepted (rules_of airs_of starts) history → refusal_at starts history line ≡ None → handed_on airs_of history line ≡ done ++ rest
+    → Brings starts history line (unit_lines done)
+brings_units starts history line done rest accepted none split later =
+    let said = said_begins starts (steps_of history) (said_after history line) in (
+      unit_lines rest ++ (said.0 ++ out (rules_of airs_of starts) (line ∷ history) later),
+      out_line starts history accepted line none later
+          ∙ ap (λ front. front ++ out (rules_of airs_of starts) (line ∷ history) later)
+          (said.1 ∙ ap (λ units. unit_lines units ++ said.0) split ∙ ap (λ front. front ++ said.0) (lines_append done rest) ∙ append_assoc (unit_lines done) (unit_lines rest) said.0)
+          ∙ append_assoc (unit_lines done) (unit_lines rest ++ said.0) (out (rules_of airs_of starts) (line ∷ history) later)
+          ∙ ap (λ more. unit_lines done ++ more) (append_assoc (unit_lines rest) said.0 (out (rules_of airs_of starts) (line ∷ history) later)),
+    )
+
+-- ---- what the boxes took
+
+-- the units of an accepted line come behind those of the history
+pub units_line : (starts : List Account) (history : List TextLine) (line : TextLine) (later : List TextLine)
+    → Accepted (rules_of airs_of starts) history → refusal_at starts history line ≡ None
+    → (rest : List SinkUnit) × (units_of airs_of starts (reverse history ++ line ∷ later) ≡ handed_up airs_of (steps_of history) ++ (handed_on airs_of history line ++ rest))
+units_line starts history line later accepted none =
+    let more = units_rest airs_of starts (line ∷ history) later in (
+      more.0,
+      units_then starts history accepted (line ∷ later)
+          ∙ ap (λ why. handed_up airs_of (steps_of (accepted_unless history why (accepted_of (rules_of airs_of starts) (line ∷ history) later)))) none
+          ∙ more.1
+          ∙ ap (λ front. front ++ more.0) (handed_line airs_of history line)
+          ∙ append_assoc (handed_up airs_of (steps_of history)) (handed_on airs_of history line) more.0,
+    )
+
+pub cut_before : (starts accounts : List Account) (history : List TextLine) (line : TextLine) → Accepted (rules_of airs_of starts) history
+    → BoxesStand starts (steps_of history) accounts → CutFor starts history line accounts
+cut_before starts accounts history line accepted b later =
+    let more = units_rest airs_of starts history (line ∷ later) in
+    record {
+      done = handed_up airs_of (steps_of history);
+      rest = more.0;
+      split = units_then starts history accepted (line ∷ later) ∙ more.1;
+      boxes = took_history starts accounts history b;
+    }
+
+pub cut_after : (starts accounts : List Account) (history : List TextLine) (line : TextLine) → Accepted (rules_of airs_of starts) history
+    → refusal_at starts history line ≡ None → BoxesStand starts (steps_of (line ∷ history)) accounts → CutFor starts history line accounts
+cut_after starts accounts history line accepted none b later =
+    let more = units_line starts history line later accepted none in
+    record {
+      done = handed_up airs_of (steps_of (line ∷ history));
+      rest = more.0;
+      split = more.1 ∙ sym (append_assoc (handed_up airs_of (steps_of history)) (handed_on airs_of history line) more.0)
+          ∙ ap (λ front. front ++ more.0) (sym (handed_line airs_of history line));
+      boxes = took_history starts accounts (line ∷ history) b;
+    }
+
+pub cut_within : (starts before after : List Account) (history : List TextLine) (line : TextLine) → Accepted (rules_of airs_of starts) history
+    → refusal_at starts history line ≡ None → BoxesStand starts (steps_of history) before → CutShort (handed_on airs_of history line) before after
+    → CutFor starts history line after
+cut_within starts before after history line accepted none b c later =
+    let more = units_line starts history line later accepted none in
+    let all = handed_up airs_of (steps_of history) in
+    let P : List Account → Type 0 = λ a. Took starts a (all ++ c.done) in
+    record {
+      done = all ++ c.done;
+      rest = c.rest ++ more.0;
+      split = more.1 ∙ ap (λ units. all ++ (units ++ more.0)) c.split ∙ ap (λ rest. all ++ rest) (append_assoc c.done c.rest more.0)
+          ∙ sym (append_assoc all c.done (c.rest ++ more.0));
+      boxes = subst P (accounts_append all c.done starts ∙ ap (λ a. accounts_after a c.done) (sym b.accounts_are) ∙ sym c.boxes) (took_all starts (all ++ c.done));
+    }
+
+-- ---- what the boxes took where a write was cut short
+
+-- the units that an accepted line adds
+units_added : (starts : List Account) (history : List TextLine) (line : TextLine) → Accepted (rules_of airs_of starts) history → refusal_at starts history line ≡ None
+    → units_of airs_of starts (reverse (line ∷ history)) ≡ units_of airs_of starts (reverse history) ++ handed_on airs_of history line
+units_added starts history line accepted none =
+    units_all starts (line ∷ history) (accepted, none)
+    ∙ handed_line airs_of history line
+    ∙ ap (λ front. front ++ handed_on airs_of history line) (sym (units_all starts history accepted))
+
+pub took_before : (starts accounts : List Account) (history : List TextLine) → Accepted (rules_of airs_of starts) history → BoxesStand starts (steps_of history) accounts
+    → Took starts accounts (units_of airs_of starts (reverse history))
+took_before starts accounts history accepted b =
+    let P : List SinkUnit → Type 0 = λ u. Took starts accounts u in subst P (sym (units_all starts history accepted)) (took_history starts accounts history b)
+
+pub at_refused : (starts accounts : List Account) (history : List TextLine) (line : TextLine) (reason : Refusal) → Accepted (rules_of airs_of starts) history
+    → refusal_at starts history line ≡ Some reason → BoxesStand starts (steps_of history) accounts → BoxesAt airs_of starts accounts history line
+at_refused starts accounts history line reason accepted because b = record {
+  accounts = accounts;
+  before = took_before starts accounts history accepted b;
+  units = [];
+  added = ap (units_of airs_of starts) (reverse-append (line ∷ []) history)
+      ∙ units_refused starts history accepted line reason because []
+      ∙ sym (units_all starts history accepted)
+      ∙ sym (append-nil (units_of airs_of starts (reverse history)));
+  front = inl (record { done = []; rest = []; split = refl; boxes = refl });
+}
+
+pub at_front : (starts before after : List Account) (history : List TextLine) (line : TextLine) → Accepted (rules_of airs_of starts) history
+    → refusal_at starts history line ≡ None → BoxesStand starts (steps_of history) before → TookFront (handed_on airs_of history line) before after
+    → BoxesAt airs_of starts after history line
+at_front starts before after history line accepted none b front = record {
+  accounts = before;
+  before = took_before starts before history accepted b;
+  units = handed_on airs_of history line;
+  added = units_added starts history line accepted none;
+  front = front;
+}
+
+-- all units of the line were taken
+pub at_after : (starts accounts : List Account) (history : List TextLine) (line : TextLine) → Accepted (rules_of airs_of starts) history
+    → refusal_at starts history line ≡ None → BoxesStand starts (steps_of (line ∷ history)) accounts → BoxesAt airs_of starts accounts history line
+at_after starts accounts history line accepted none b =
+    let all = handed_up airs_of (steps_of history) in
+    let here = handed_on airs_of history line in
+    record {
+      accounts = accounts_after starts all;
+      before = let P : List SinkUnit → Type 0 = λ u. Took starts (accounts_after starts all) u in subst P (sym (units_all starts history accepted)) (took_all starts all);
+      units = here;
+      added = units_added starts history line accepted none;
+      front = inl (record {
+        done = here;
+        rest = [];
+        split = sym (append-nil here);
+        boxes = b.accounts_are ∙ ap (accounts_after starts) (handed_line airs_of history line) ∙ accounts_append all here starts;
+      });
+    }

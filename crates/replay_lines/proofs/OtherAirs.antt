@@ -1,0 +1,183 @@
+-- What a run did over one air it did over any other that gives the same transcripts.
+use Rattle.std.proofs.Common.{◌≡◌, ◌≤◌, ◌<◌, ℕ, Bool, true, false, List, [], ◌∷◌, ◌++◌, length, reverse, sym, ap, subst, ◌∙◌, Option, inl, inr, ◌⊎◌}
+use Rattle.std.specs.Io.KnownBytes.{Appends}
+use Rattle.bcast_io.specs.TextLines.{TextLine, lines_of}
+use Rattle.bcast_io.specs.Writing.{AppendsFront}
+use Rattle.unit_outlets.specs.Account.{Account}
+use Rattle.transcript_text.specs.declared.refusal.Refusal.{Refusal}
+use Rattle.scenario_sinks.specs.Handing.{BoxFails}
+use Rattle.scenario_history.specs.Boxes.{SinkUnit, Took}
+use Rattle.scenario_history.specs.Lines.{handed_on}
+use Rattle.scenario_history.specs.Source.{Airs}
+use Rattle.scenario_history.specs.Transcript.{out_of, units_of}
+use Rattle.replay_lines.specs.declared.ending.Ending.{Ending}
+use Rattle.replay_lines.specs.declared.ending.Ending.TheVariants as endings
+use Rattle.scenario_sinks.specs.Faults.{CountsStay}
+use Rattle.replay_lines.specs.Ended.{AheadOf, Complete, Ended, IsCut, RoomForText}
+use Rattle.replay_generated.specs.Generated.{RoomFor}
+use Rattle.replay_lines.specs.State.Laws.{Same}
+use Rattle.replay_lines.specs.Replayed.{BoxesAt, BoxesCut, Broken, CutAt, Done, FaultCut, NoEndCut, OutletFaulted, ReadFaulted, RefusedAt, WriteCut, brought_by}
+
+took_as : (starts ends : List Account) (us vs : List SinkUnit) → us ≡ vs → Took starts ends us → Took starts ends vs
+took_as starts ends us vs same took = subst (λ units. Took starts ends units) same took
+
+module _ (airs others : Airs) (same : Same airs others) (starts ends : List Account) (left left' kept kept' : Option (List ℕ)) where
+  done_as : Done airs starts ends left left' kept kept' → Done others starts ends left left' kept kept'
+  done_as d = record {
+    text = d.text;
+    read = d.read;
+    through_all = sym (same.end starts (lines_of true d.text)) ∙ d.through_all;
+    written = subst (λ octets. Appends kept kept' octets) (same.octets starts (lines_of true d.text)) d.written;
+    boxes = took_as starts ends _ _ (same.units starts (lines_of true d.text)) d.boxes;
+  }
+
+  refused_as : (line : ℕ) (reason : Refusal) → RefusedAt airs starts ends left left' kept kept' line reason → RefusedAt others starts ends left left' kept kept' line reason
+  refused_as line reason d = record {
+    text = d.text;
+    over = d.over;
+    read = d.read;
+    no_end = d.no_end;
+    ends_so = λ at_end more follows. sym (same.end starts (lines_of at_end (d.text ++ more))) ∙ d.ends_so at_end more follows;
+    octets = d.octets;
+    transcript = λ at_end more follows. sym (same.octets starts (lines_of at_end (d.text ++ more))) ∙ d.transcript at_end more follows;
+    written = d.written;
+    units = d.units;
+    handed = λ at_end more follows. sym (same.units starts (lines_of at_end (d.text ++ more))) ∙ d.handed at_end more follows;
+    boxes = d.boxes;
+  }
+
+  read_fault_as : ReadFaulted airs starts ends left left' kept kept' → ReadFaulted others starts ends left left' kept kept'
+  read_fault_as d = record {
+    text = d.text;
+    read = d.read;
+    through_all = sym (same.lines_end starts (lines_of false d.text)) ∙ d.through_all;
+    written = subst (λ octets. Appends kept kept' octets) (same.out starts (lines_of false d.text)) d.written;
+    boxes = took_as starts ends _ _ (same.units starts (lines_of false d.text)) d.boxes;
+  }
+
+  brought_as : (over : Bool) (text : List ℕ) → brought_by airs over starts text ≡ brought_by others over starts text
+  brought_as true text = same.octets starts (lines_of true text)
+  brought_as false text = same.out starts (lines_of false text)
+
+  cut_as : (lines : List TextLine) → BoxesCut airs starts ends lines → BoxesCut others starts ends lines
+  cut_as lines d = record { done = d.done; rest = d.rest; split = sym (same.units starts lines) ∙ d.split; boxes = d.boxes }
+
+  failed_as : FaultCut airs starts ends left left' kept kept' → FaultCut others starts ends left left' kept kept'
+  failed_as d = record {
+    earlier = d.earlier;
+    line = d.line;
+    comes = d.comes;
+    accepted = same.accepted starts (d.line ∷ d.earlier) d.accepted;
+    accounts = d.accounts;
+    before = took_as starts d.accounts _ _ (same.units starts (reverse d.earlier)) d.before;
+    told = d.told;
+    fails = subst (λ units. BoxFails units [] d.told d.accounts ends) (same.handed starts d.earlier d.line d.accepted.0) d.fails;
+    between = d.between;
+    written = subst (λ octets. Appends kept d.between octets) (same.out starts (reverse d.earlier)) d.written;
+    cut = d.cut;
+  }
+
+  broken_as : Broken airs starts ends left left' kept kept' → Broken others starts ends left left' kept kept'
+  broken_as d = record {
+    text = d.text;
+    over = d.over;
+    read = d.read;
+    written = subst (λ octets. AppendsFront kept kept' octets) (brought_as d.over d.text) d.written;
+    boxes = elim d.boxes [
+      | inl cut ↦ inl (cut_as (lines_of d.over d.text) cut)
+      | inr failed ↦ inr (failed_as failed)
+    ];
+  }
+
+  outlet_fault_as : OutletFaulted airs starts ends left left' kept kept' → OutletFaulted others starts ends left left' kept kept'
+  outlet_fault_as d = record {
+    earlier = d.earlier;
+    line = d.line;
+    comes = d.comes;
+    ahead = d.ahead;
+    accepted = same.accepted starts (d.line ∷ d.earlier) d.accepted;
+    accounts = d.accounts;
+    before = took_as starts d.accounts _ _ (same.units starts (reverse d.earlier)) d.before;
+    told = d.told;
+    fails = subst (λ units. BoxFails units (out_of others starts (reverse d.earlier)) d.told d.accounts ends) (same.handed starts d.earlier d.line d.accepted.0)
+        (subst (λ text. BoxFails (handed_on airs d.earlier d.line) text d.told d.accounts ends) (same.out starts (reverse d.earlier)) d.fails);
+    written = d.written;
+  }
+
+  boxes_at_as : (earlier : List TextLine) (line : TextLine) → BoxesAt airs starts ends earlier line → BoxesAt others starts ends earlier line
+  boxes_at_as earlier line d = record {
+    accounts = d.accounts;
+    before = took_as starts d.accounts _ _ (same.units starts (reverse earlier)) d.before;
+    units = d.units;
+    added = sym (same.units starts (reverse (line ∷ earlier))) ∙ d.added ∙ ap (λ us. us ++ d.units) (same.units starts (reverse earlier));
+    front = d.front;
+  }
+
+  cut_at_as : (line : ℕ) → CutAt airs starts ends left left' kept kept' line → CutAt others starts ends left left' kept kept' line
+  cut_at_as line d = record {
+    text = d.text;
+    over = d.over;
+    read = d.read;
+    earlier = d.earlier;
+    last = d.last;
+    later = d.later;
+    lines = d.lines;
+    number = d.number;
+    accepted = same.accepted starts d.earlier d.accepted;
+    front = d.front;
+    written = d.written;
+    not_before = subst (λ octets. length octets ≤ length d.front) (same.out starts (reverse d.earlier)) d.not_before;
+    longer = subst (λ octets. length d.front < length octets) (same.out starts (reverse (d.last ∷ d.earlier))) d.longer;
+    boxes = boxes_at_as d.earlier d.last d.boxes;
+  }
+
+  no_end_as : NoEndCut airs starts ends left left' kept kept' → NoEndCut others starts ends left left' kept kept'
+  no_end_as d = record {
+    text = d.text;
+    read = d.read;
+    ends_so = sym (same.end starts (lines_of true d.text)) ∙ d.ends_so;
+    front = d.front;
+    written = d.written;
+    not_before = subst (λ octets. length octets ≤ length d.front) (same.out starts (lines_of true d.text)) d.not_before;
+    boxes = took_as starts ends _ _ (same.units starts (lines_of true d.text)) d.boxes;
+  }
+
+  write_cut_as : WriteCut airs starts ends left left' kept kept' → WriteCut others starts ends left left' kept kept'
+  write_cut_as d = elim d [
+    | inl cut ↦ inl (cut.0, cut_at_as cut.0 cut.1, cut.2)
+    | inr no_end ↦ inr (no_end_as no_end)
+  ]
+
+  pub ended_as : (ending : Ending) → Ended airs ending starts ends left left' kept kept' → Ended others ending starts ends left left' kept kept'
+  ended_as endings.Done d = done_as d
+  ended_as (endings.Refused line reason) d = (refused_as line reason d.0, d.1)
+  ended_as endings.ReadFault d = read_fault_as d
+  ended_as endings.WriteFault d = (broken_as d.0, write_cut_as d.1)
+  ended_as endings.OutletFault d = outlet_fault_as d
+  ended_as endings.Memory d = broken_as d
+
+  pub ahead_as : (ending : Ending) → AheadOf airs ending starts ends left left' kept kept' → AheadOf others ending starts ends left left' kept kept'
+  ahead_as endings.Done d = tt
+  ahead_as (endings.Refused line reason) d = d
+  ahead_as endings.ReadFault d = tt
+  ahead_as endings.WriteFault d = write_cut_as d
+  ahead_as endings.OutletFault d = tt
+  ahead_as endings.Memory d = tt
+
+  pub took_text_as : (text : List ℕ) → Took starts ends (units_of airs starts (lines_of true text)) → Took starts ends (units_of others starts (lines_of true text))
+  took_text_as text took = took_as starts ends _ _ (same.units starts (lines_of true text)) took
+
+  room_as : (text : List ℕ) → RoomForText others starts text → RoomForText airs starts text
+  room_as text room = subst (λ units. RoomFor starts units) (sym (same.units starts (lines_of true text))) room
+
+  pub complete_as : (text : List ℕ) (read read' write write' : ℕ) (ending : Ending) → Complete airs text starts ends read read' write write' ending
+      → Complete others text starts ends read read' write write' ending
+  complete_as text read read' write write' ending d = record {
+    through_all = λ is. d.through_all (same.end starts (lines_of true text) ∙ is);
+    room = λ room. d.room (room_as text room);
+    no_fault = λ room. d.no_fault (room_as text room);
+  }
+
+  pub counts_as : (ending : Ending) → CountsStay starts ends ⊎ (IsCut ending × FaultCut airs starts ends left left' kept kept')
+      → CountsStay starts ends ⊎ (IsCut ending × FaultCut others starts ends left left' kept kept')
+  counts_as ending counts = elim counts [ inl stay ↦ inl stay | inr failed ↦ inr (failed.0, failed_as failed.1) ]

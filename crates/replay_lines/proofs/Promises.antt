@@ -1,0 +1,76 @@
+-- What is promised of a run, from what it did.
+use Rattle.std.proofs.Common.{◌≡◌, ◌≢◌, ◌∙◌, List, refl, sym}
+use Rattle.bcast_io.specs.TextLines.{TextLine}
+use Rattle.unit_outlets.specs.Account.{Account}
+use Rattle.bcast_base.specs.Counts.{Rose}
+use Rattle.source_machine.specs.Airs.{airs_of}
+use Rattle.scenario_history.specs.Airs.{MeetAirs}
+use Rattle.scenario_history.specs.Source.{Airs}
+use Rattle.scenario_history.specs.Transcript.{transcript_of}
+use Rattle.replay_lines.specs.declared.ending.Ending.{Ending}
+use Rattle.replay_lines.specs.declared.ending.Ending.TheVariants as endings
+use Rattle.replay_lines.specs.Promised.{Promised, Did, DidOver}
+use Rattle.replay_lines.specs.Replayed.{ReadsAtMost, read_limit}
+use Rattle.replay_lines.specs.State.Laws.{AllSame, Laws}
+use Rattle.replay_lines.specs.World.{World}
+use Rattle.replay_lines.proofs.Completing.{ended_at, ended_whole, ended_ahead, ended_complete}
+use Rattle.replay_lines.proofs.Counting.{ended_counts, ended_one}
+use Rattle.replay_lines.proofs.Endings.{ends_at_once}
+use Rattle.replay_lines.proofs.OtherAirs.{ahead_as, complete_as, counts_as, ended_as, took_text_as}
+use Rattle.replay_lines.proofs.ReadingOn.{none_within}
+
+one_of : (boxes : List Account) → Laws boxes → (airs others : Airs) → MeetAirs airs → MeetAirs others → (lines : List TextLine)
+    → transcript_of airs boxes lines ≡ transcript_of others boxes lines
+one_of boxes laws airs others meets meet_too lines =
+    sym ((laws.same airs meets).octets boxes lines) ∙ (laws.same others meet_too).octets boxes lines
+
+module _ (old new : World) (ending : Ending) where
+  did : AllSame → DidOver airs_of ending old new → (other : Ending) → ending ≡ other → Did other old new
+  did same e other is = λ airs meets.
+      ended_as airs_of airs (same airs meets) old.boxes new.boxes old.left new.left old.taken new.taken other
+      (ended_at ending other old.boxes new.boxes old.left new.left old.taken new.taken e is)
+
+  pub promised_run : DidOver airs_of ending old new → ReadsAtMost old.left new.left read_limit
+      → (ending ≡ endings.ReadFault → Rose old.reads new.reads) → (ending ≢ endings.ReadFault → new.reads ≡ old.reads)
+      → (ending ≡ endings.WriteFault → Rose old.writes new.writes) → (ending ≢ endings.WriteFault → new.writes ≡ old.writes)
+      → Laws old.boxes → Promised old new ending
+  promised_run e within read no_read write no_write laws = record {
+    done = did laws.same e endings.Done;
+    refused = λ line reason is. did laws.same e (endings.Refused line reason) is;
+    read_fault = λ is. (read is, did laws.same e endings.ReadFault is);
+    write_fault = λ is. (write is, did laws.same e endings.WriteFault is);
+    outlet_fault = did laws.same e endings.OutletFault;
+    memory = did laws.same e endings.Memory;
+    no_read_fault = no_read;
+    no_write_fault = no_write;
+    no_outlet_fault = λ airs meets other.
+        counts_as airs_of airs (laws.same airs meets) old.boxes new.boxes old.left new.left old.taken new.taken ending
+        (ended_counts ending old.boxes new.boxes old.left new.left old.taken new.taken e other);
+    one_outlet_fault = ended_one ending old.boxes new.boxes old.left new.left old.taken new.taken e;
+    boxes = λ airs meets text is whole.
+        took_text_as airs_of airs (laws.same airs meets) old.boxes new.boxes old.left new.left old.taken new.taken text
+        (ended_whole text old.boxes new.boxes old.left new.left old.taken new.taken ending e is whole);
+    complete = λ airs meets text is.
+        complete_as airs_of airs (laws.same airs meets) old.boxes new.boxes old.left new.left old.taken new.taken text
+        old.reads new.reads old.writes new.writes ending
+        (ended_complete text old.boxes new.boxes old.left new.left old.taken new.taken old.reads new.reads old.writes new.writes ending
+        e is read write);
+    reading_ahead = λ airs meets.
+        ahead_as airs_of airs (laws.same airs meets) old.boxes new.boxes old.left new.left old.taken new.taken ending
+        (ended_ahead ending old.boxes new.boxes old.left new.left old.taken new.taken e);
+    reads_at_most = within;
+    some_airs = (airs_of, laws.meet);
+    one_transcript = one_of old.boxes laws;
+    units_law = laws.units;
+    order_law = laws.order;
+    agreement_law = laws.agreement;
+    links_law = laws.links;
+    isolation_law = laws.isolation;
+    migration_law = laws.migration;
+  }
+
+-- memory ran out before anything was read
+pub promised_none : (old : World) → Laws old.boxes → Promised old old endings.Memory
+promised_none old laws =
+    promised_run old old endings.Memory (ends_at_once old.boxes old.left old.taken) (none_within old.left)
+    (λ e. absurd cc) (λ e. refl) (λ e. absurd cc) (λ e. refl) laws

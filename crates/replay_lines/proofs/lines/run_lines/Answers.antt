@@ -1,0 +1,79 @@
+use Rattle.std.proofs.Common.{◌+◌, ◌∙◌, true, map, refl, arith}
+use Rattle.bcast_io.specs.TextLines.{lines_of}
+use Rattle.replay_generated.proofs.Citable.{none_run}
+use Rattle.replay_lines.proofs.Endings.{ends_at_once}
+use Rattle.replay_lines.proofs.ReadingOn.{none_within}
+use Rattle.replay_lines.proofs.LineSteps.{running_none, bound_none, running_more, running_ends}
+use Rattle.replay_lines.proofs.Untaken.{untaken_at}
+use Rattle.replay_lines.proofs.lines.run_lines.Goals as goal
+
+pub returns-in_default-clause-ended : goal.returns-in_default-clause-ended
+returns-in_default-clause-ended g c =
+    ends_at_once (map (λ b. (goal.Outlet-dyn g (b.vtable, b.value)).account b.value) c.args.outlets.now.items) (g.S.ByteSource.left c.args.source.now) (g.K.ByteSink.contents c.args.sink.now)
+
+pub returns-in_default-new-clause-ended : goal.returns-in_default-new-clause-ended
+returns-in_default-new-clause-ended g c =
+    ends_at_once (map (λ b. (goal.Outlet-dyn g (b.vtable, b.value)).account b.value) c.args.outlets.now.items) (g.S.ByteSource.left c.args.source.now) (g.K.ByteSink.contents c.args.sink.now)
+
+pub returns-in_default-clause-within : goal.returns-in_default-clause-within
+returns-in_default-clause-within g c = none_within (g.S.ByteSource.left c.args.source.now)
+
+pub returns-in_default-new-clause-within : goal.returns-in_default-new-clause-within
+returns-in_default-new-clause-within g c = none_within (g.S.ByteSource.left c.args.source.now)
+
+pub returns-in-Some-clause-within : goal.returns-in-Some-clause-within
+returns-in-Some-clause-within g c =
+    c.run_line.ensures.within (g.S.ByteSource.left c.args.source.now) c.lines.invariant.running.lines c.lines.invariant.running.read
+
+pub lines-init : goal.lines-init
+lines-init g c = record {
+  running = running_none c.args.outlets.now.items (map (λ b. (goal.Outlet-dyn g (b.vtable, b.value)).account b.value) c.args.outlets.now.items) (g.S.ByteSource.left c.args.source.now) (g.K.ByteSink.contents c.args.sink.now)
+      c.in-Ok.reader c.in-Ok-new.machine c.in-Ok.ensures c.in-Ok-new.ensures;
+  bound = bound_none c.in-Ok.reader c.in-Ok.ensures;
+  reads = refl;
+  writes = refl;
+}
+
+pub lines-preserved : goal.lines-preserved
+lines-preserved g c = record {
+  running = running_more c.args.outlets.now.items c.lines.outlets.items c.run_line.new.outlets.items (map (λ b. (goal.Outlet-dyn g (b.vtable, b.value)).account b.value) c.args.outlets.now.items)
+      (map (λ b. (goal.Outlet-dyn g (b.vtable, b.value)).account b.value) c.lines.outlets.items)
+      (map (λ b. (goal.Outlet-dyn g (b.vtable, b.value)).account b.value) c.run_line.new.outlets.items)
+      (g.S.ByteSource.left c.args.source.now) (g.S.ByteSource.left c.lines.source) (g.S.ByteSource.left c.run_line.new.source)
+      (g.K.ByteSink.contents c.args.sink.now) (g.K.ByteSink.contents c.lines.sink) (g.K.ByteSink.contents c.run_line.new.sink)
+      c.lines.number (c.lines.number + 1) c.lines.reader c.run_line.new.reader c.lines.machine c.run_line.new.machine c.run_line.result
+      c.lines.invariant.running refl c.in-None.is
+      (λ lines. c.run_line.ensures.untaken (map (λ b. (goal.Outlet-dyn g (b.vtable, b.value)).account b.value) c.args.outlets.now.items) lines
+      (map (λ b. (goal.Outlet-dyn g (b.vtable, b.value)).account b.value) c.lines.outlets.items))
+      (λ lines. c.run_line.ensures.runs (map (λ b. (goal.Outlet-dyn g (b.vtable, b.value)).account b.value) c.args.outlets.now.items) lines
+      (g.S.ByteSource.left c.args.source.now) (g.K.ByteSink.contents c.args.sink.now));
+  bound = omega (arith, c.in-None.ensures.nearer, c.lines.invariant.bound);
+  reads = c.in-None.ensures.no_read_fault (λ e. cc) ∙ c.lines.invariant.reads;
+  writes = c.in-None.ensures.no_write_fault (λ e. cc) ∙ c.lines.invariant.writes;
+}
+
+pub returns-in-Some-clause-ended : goal.returns-in-Some-clause-ended
+returns-in-Some-clause-ended g c =
+    running_ends c.args.outlets.now.items c.lines.outlets.items (map (λ b. (goal.Outlet-dyn g (b.vtable, b.value)).account b.value) c.args.outlets.now.items)
+    (map (λ b. (goal.Outlet-dyn g (b.vtable, b.value)).account b.value) c.lines.outlets.items)
+    (map (λ b. (goal.Outlet-dyn g (b.vtable, b.value)).account b.value) c.run_line.new.outlets.items)
+    (g.S.ByteSource.left c.args.source.now) (g.S.ByteSource.left c.lines.source) (g.S.ByteSource.left c.run_line.new.source)
+    (g.K.ByteSink.contents c.args.sink.now) (g.K.ByteSink.contents c.lines.sink) (g.K.ByteSink.contents c.run_line.new.sink)
+    c.lines.number c.lines.reader c.run_line.new.reader c.lines.machine c.run_line.new.machine c.run_line.result c.in-Some.ending
+    c.lines.invariant.running c.in-Some.is
+    (λ lines. c.run_line.ensures.runs (map (λ b. (goal.Outlet-dyn g (b.vtable, b.value)).account b.value) c.args.outlets.now.items) lines
+    (g.S.ByteSource.left c.args.source.now) (g.K.ByteSink.contents c.args.sink.now))
+
+pub returns-in_default-clause-untaken : goal.returns-in_default-clause-untaken
+returns-in_default-clause-untaken g c text is = none_run (map (λ b. (goal.Outlet-dyn g (b.vtable, b.value)).account b.value) c.args.outlets.now.items) (lines_of true text) c.args.outlets.now.items
+
+pub returns-in_default-new-clause-untaken : goal.returns-in_default-new-clause-untaken
+returns-in_default-new-clause-untaken g c text is = none_run (map (λ b. (goal.Outlet-dyn g (b.vtable, b.value)).account b.value) c.args.outlets.now.items) (lines_of true text) c.args.outlets.now.items
+
+pub returns-in-Some-clause-untaken : goal.returns-in-Some-clause-untaken
+returns-in-Some-clause-untaken g c =
+    let starts = (map (λ b. (goal.Outlet-dyn g (b.vtable, b.value)).account b.value) c.args.outlets.now.items) in
+    let before = (map (λ b. (goal.Outlet-dyn g (b.vtable, b.value)).account b.value) c.lines.outlets.items) in
+    untaken_at c.args.outlets.now.items c.lines.outlets.items c.run_line.new.outlets.items starts before
+    (g.S.ByteSource.left c.args.source.now) (g.S.ByteSource.left c.lines.source) (g.K.ByteSink.contents c.args.sink.now) (g.K.ByteSink.contents c.lines.sink)
+    c.lines.number c.lines.reader c.lines.machine c.lines.invariant.running (λ lines. c.run_line.ensures.untaken starts lines before)

@@ -1,0 +1,22 @@
+use Rattle.source_machine.specs.Airs.{airs_of}
+use Rattle.replay_lines.proofs.text.laws_hold.Goals as goal
+
+pub returns : goal.returns
+returns c boxes = record {
+  same = λ airs meets. record {
+    octets = λ starts lines. c.one_transcript.ensures.octets airs_of airs starts lines c.some_airs_meet.ensures meets;
+    end = λ starts lines. c.one_transcript.ensures.end airs_of airs starts lines c.some_airs_meet.ensures meets;
+    units = λ starts lines. c.one_transcript.ensures.units airs_of airs starts lines c.some_airs_meet.ensures meets;
+    out = λ starts lines. c.one_transcript.ensures.out airs_of airs starts lines c.some_airs_meet.ensures meets;
+    lines_end = λ starts lines. c.one_transcript.ensures.lines_end airs_of airs starts lines c.some_airs_meet.ensures meets;
+    accepted = λ starts lines. c.one_transcript.ensures.accepted airs_of airs starts lines c.some_airs_meet.ensures meets;
+    handed = λ starts lines line. c.one_transcript.ensures.handed airs_of airs starts lines line c.some_airs_meet.ensures meets;
+  };
+  meet = c.some_airs_meet.ensures;
+  units = c.units_law.ensures boxes;
+  order = c.order_law.ensures boxes;
+  agreement = c.agreement_law.ensures;
+  links = c.links_law.ensures;
+  isolation = c.isolation_law.ensures boxes;
+  migration = c.migration_law.ensures boxes;
+}

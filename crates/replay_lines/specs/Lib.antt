@@ -1,0 +1,5 @@
+pub mod World
+pub mod Replayed
+pub mod Ended
+pub mod Promised
+pub mod State

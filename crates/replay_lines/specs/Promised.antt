@@ -1,0 +1,83 @@
+-- What a run of a text promises of the outside before it and after it, by its ending. The program is this project's own.
+use Rattle.std.specs.Prelude.{ℕ, ◌≡◌, ◌≢◌, ◌⊎◌, true, List, Some}
+use Rattle.bcast_base.specs.Counts.{Rose}
+use Rattle.bcast_io.specs.TextLines.{TextLine, lines_of}
+use Rattle.transcript_text.specs.declared.refusal.Refusal.{Refusal}
+use Rattle.scenario_history.specs.Airs.{MeetAirs}
+use Rattle.scenario_history.specs.Boxes.{Took}
+use Rattle.scenario_history.specs.Source.{Airs}
+use Rattle.scenario_history.specs.Transcript.{transcript_of, units_of}
+use Rattle.scenario_sinks.specs.Faults.{CountsStay, OneCounts}
+use Rattle.replay_lines.specs.declared.ending.Ending.{Ending}
+use Rattle.replay_lines.specs.declared.ending.Ending.TheVariants as endings
+use Rattle.replay_lines.specs.Ended.{AheadOf, Complete, Ended, IsCut, IsWhole}
+use Rattle.replay_lines.specs.Replayed.{FaultCut, ReadsAtMost, read_limit}
+use Rattle.isolation_laws.specs.Isolation.{IsolationLaw}
+use Rattle.scenario_laws.specs.Laws.{UnitsLaw, OrderLaw}
+use Rattle.scenario_laws.specs.Links.{AgreementLaw, LinksLaw}
+use Rattle.migration_laws.specs.Laws.{MigrationLaw}
+use Rattle.replay_lines.specs.World.{World}
+
+-- between these worlds a run read, wrote and handed to the boxes what this ending says
+abbrev pub DidOver : Airs → Ending → World → World → Type 0
+DidOver airs ending old new = Ended airs ending old.boxes new.boxes old.left new.left old.taken new.taken
+
+-- whichever airs of the sources that meet the relation of their framing the scenario is taken over
+abbrev pub Did : Ending → World → World → Type 0
+Did ending old new = (airs : Airs) → MeetAirs airs → DidOver airs ending old new
+
+pub record Promised (old new : World) (ending : Ending) : Type 0 where
+  -- Done: the text was read to its end, no line of it is refused, and its transcript was written.
+  pub done : ending ≡ endings.Done → Did endings.Done old new
+  -- Refused: the transcript ends with this refusal of this line, whatever follows what was read, and was written.
+  pub refused : (line : ℕ) (reason : Refusal) → ending ≡ endings.Refused line reason → Did (endings.Refused line reason) old new
+  -- ReadFault: the source counted a fault, and what the whole lines read bring was written; none of them is refused.
+  pub read_fault : ending ≡ endings.ReadFault → Rose old.reads new.reads × Did endings.ReadFault old new
+  -- WriteFault: the sink counted a fault, and a front of what the lines read bring was written.
+  pub write_fault : ending ≡ endings.WriteFault → Rose old.writes new.writes × Did endings.WriteFault old new
+  -- OutletFault: the box of a unit counted a fault, and what comes before the line of that unit was written.
+  pub outlet_fault : ending ≡ endings.OutletFault → Did endings.OutletFault old new
+  -- Memory: a front of what the lines read bring was written.
+  pub memory : ending ≡ endings.Memory → Did endings.Memory old new
+  -- The source's count stays with each ending but ReadFault.
+  pub no_read_fault : ending ≢ endings.ReadFault → new.reads ≡ old.reads
+  -- The sink's count stays with each ending but WriteFault.
+  pub no_write_fault : ending ≢ endings.WriteFault → new.writes ≡ old.writes
+  -- Each box's count stays with each ending but OutletFault; or the ending is WriteFault or Memory, and what comes before the
+  -- unit that a box refused wasn't written whole. The count of at most one box changes.
+  pub no_outlet_fault : (airs : Airs) → MeetAirs airs → ending ≢ endings.OutletFault
+      → CountsStay old.boxes new.boxes ⊎ (IsCut ending × FaultCut airs old.boxes new.boxes old.left new.left old.taken new.taken)
+  pub one_outlet_fault : OneCounts old.boxes new.boxes
+  -- The boxes took the units of the whole text, where the transcript was written to its end or to its refusal.
+  pub boxes : (airs : Airs) → MeetAirs airs → (text : List ℕ) → old.left ≡ Some text → IsWhole ending
+      → Took old.boxes new.boxes (units_of airs old.boxes (lines_of true text))
+  -- What the outside does decides which endings can come.
+  pub complete : (airs : Airs) → MeetAirs airs → (text : List ℕ) → old.left ≡ Some text
+      → Complete airs text old.boxes new.boxes old.reads new.reads old.writes new.writes ending
+  -- At most 65,536 octets were read past the line of the ending.
+  pub reading_ahead : (airs : Airs) → MeetAirs airs → AheadOf airs ending old.boxes new.boxes old.left new.left old.taken new.taken
+  -- No more is read than the longest text and the one read behind it that shows it too long.
+  pub reads_at_most : ReadsAtMost old.left new.left read_limit
+  -- Some airs of the sources meet the relation of their framing, and any two that do give the same transcript.
+  pub some_airs : (airs : Airs) × MeetAirs airs
+  pub one_transcript : (airs : Airs) → (others : Airs) → MeetAirs airs → MeetAirs others → (lines : List TextLine)
+      → transcript_of airs old.boxes lines ≡ transcript_of others old.boxes lines
+  -- In a stay without injected PDUs, and without trains that are given by their octets, each closed slot, and each framed unit
+  -- whose start was heard, hands what the source's PDUs that were heard make of it, at its time by the source's own anchors.
+  pub units_law : UnitsLaw old.boxes
+  -- The units of a sink to which no train was given by its octets are in the order of the source, and each comes at most once.
+  pub order_law : OrderLaw old.boxes
+  -- On each link of a living sink over which no notice was forged since it was joined, a slot for which neither a notice nor a
+  -- read waits has its state as the assistant's view; once the waiting notices are delivered and the waiting reads are served,
+  -- all views are the states (Broadcast Audio Scan Service 1.0, section 3.2).
+  pub agreement_law : AgreementLaw
+  -- On each link but 0 the same holds whatever the other links do: they change nothing of it but through the states of the slots,
+  -- and a link that is joined begins anew.
+  pub links_law : LinksLaw
+  -- A text in which no `train` step prints `BadGroup 11`, and whose transcript has no refusal or a refusal other than BadLine,
+  -- `BadGroup 11` and TimeOrder, has the same transcript in version 2, with the same end, and hands the boxes the same units.
+  pub migration_law : MigrationLaw old.boxes
+  -- Where no step under the other source puts a sink on a train or a group, and no line is `relay`, all that the sink hands up, has,
+  -- answers and is asked, and all that its assistants know, is what it would be without the other sinks and without the lines of the
+  -- other source.
+  pub isolation_law : IsolationLaw old.boxes

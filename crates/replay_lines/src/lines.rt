@@ -1,0 +1,188 @@
+//! The loop over the lines of a text.
+ghost use Rattle.std.specs.Prelude.{◌≡◌, ◌≢◌, ◌<◌, ◌+◌, ◌∷◌, ℕ, List, Option, None, Some, Ok, length, map, true, IfNone, IfOk, OnOk, OnErr, IsSome};
+ghost use Rattle.bcast_base.specs.Counts.{Rose};
+ghost use Rattle.bcast_io.specs.TextLines.{TextLine, lines_of, plain};
+ghost use Rattle.bcast_io.specs.State.Reading.{lines_left};
+ghost use Rattle.bcast_io.specs.State.Answering.{GoesOn};
+ghost use Rattle.unit_outlets.specs.Account.{Account};
+ghost use Rattle.source_machine.specs.Airs.{airs_of};
+ghost use Rattle.scenario_history.specs.Lines.{steps_of};
+ghost use Rattle.replay_steps.specs.LineMeets.{LinesStand};
+ghost use Rattle.replay_steps.specs.Untaken.{UntakenSame};
+ghost use Rattle.replay_generated.specs.State.Between.{UntakenRun};
+ghost use Rattle.replay_lines.specs.Replayed.{Comes, ReadsAhead, ReadsAtMost, read_limit};
+ghost use Rattle.replay_lines.specs.Ended.{Ended};
+ghost use Rattle.replay_lines.specs.State.Between.{ReadTo, TextIs, NextIs, RunTo, Refuses, Puts, StepRuns, LineRuns};
+
+use crate::ending::Ending;
+use bcast_base::Octets;
+use bcast_io::{ByteSink, ByteSource, Failed, LineRead, LineReader, SinkFault, write_whole};
+use replay_steps::Machine;
+use std::alloc::Global;
+use transcript_text::{Refusal, Stop, put_refusal};
+use unit_outlets::Outlet;
+
+/// Runs the lines of the source to their end, to a refusal or to a fault.
+pub(crate) fn run_lines<S: ByteSource, K: ByteSink>(
+    alloc: Global,
+    source: &mut S,
+    sink: &mut K,
+    outlets: &mut Vec<Box<dyn Outlet>>,
+) -> Ending
+    ensures ended { Ended airs_of result (map account outlets.old.items) (map account outlets.new.items) (S.left source.old) (S.left source.new) (K.contents sink.old) (K.contents sink.new) }
+    ensures untaken { (text : List ℕ) → S.left source.old ≡ Some text → UntakenRun (map account outlets.old.items) (lines_of true text) outlets.old.items outlets.new.items }
+    ensures within { ReadsAtMost (S.left source.old) (S.left source.new) read_limit }
+    ensures read_fault { result ≡ Ending.ReadFault → Rose (S.faults source.old) (S.faults source.new) }
+    ensures no_read_fault { result ≢ Ending.ReadFault → S.faults source.new ≡ S.faults source.old }
+    ensures write_fault { result ≡ Ending.WriteFault → Rose (K.faults sink.old) (K.faults sink.new) }
+    ensures no_write_fault { result ≢ Ending.WriteFault → K.faults sink.new ≡ K.faults sink.old }
+{
+    let Ok(mut reader) = LineReader::new(alloc) else {
+        return Ending::Memory;
+    };
+    let Ok(mut machine) = Machine::new(alloc) else {
+        return Ending::Memory;
+    };
+    let mut text = Octets::new(alloc);
+    let mut number: u64 = 1;
+    'lines: loop {
+        match run_line(
+            number,
+            &mut reader,
+            &mut machine,
+            &mut text,
+            source,
+            sink,
+            outlets,
+        ) {
+            None => number += 1,
+            Some(ending) => return ending,
+        }
+    }
+}
+
+/// Reads the next line, of this number, runs it and writes what it brings: an ending where it is the last.
+fn run_line<S: ByteSource, K: ByteSink>(
+    number: u64,
+    reader: &mut LineReader,
+    machine: &mut Machine,
+    text: &mut Octets,
+    source: &mut S,
+    sink: &mut K,
+    outlets: &mut Vec<Box<dyn Outlet>>,
+) -> Option<Ending>
+    ensures runs { (starts : List Account) (lines : List TextLine) (left kept : Option (List ℕ)) → number ≡ length lines + 1
+        → ReadTo left (S.left source.old) lines reader.old → RunTo starts lines kept (K.contents sink.old) machine.old (map account outlets.old.items)
+        → LineRuns starts lines left (S.left source.new) kept (K.contents sink.new) reader.new machine.new (map account outlets.new.items) result }
+    ensures untaken { (starts : List Account) (lines : List TextLine) (accounts : List Account) → LinesStand starts lines machine.old accounts
+        → UntakenSame (steps_of lines) outlets.old.items outlets.new.items }
+    ensures within { (left : Option (List ℕ)) (lines : List TextLine) → ReadTo left (S.left source.old) lines reader.old
+        → ReadsAtMost left (S.left source.new) read_limit }
+    ensures nearer { IfNone result (lines_left reader.new < lines_left reader.old) }
+    ensures read_fault { result ≡ Some Ending.ReadFault → Rose (S.faults source.old) (S.faults source.new) }
+    ensures no_read_fault { result ≢ Some Ending.ReadFault → S.faults source.new ≡ S.faults source.old }
+    ensures write_fault { result ≡ Some Ending.WriteFault → Rose (K.faults sink.old) (K.faults sink.new) }
+    ensures no_write_fault { result ≢ Some Ending.WriteFault → K.faults sink.new ≡ K.faults sink.old }
+{
+    match read_next(reader, source) {
+        Err(Failed) => Some(Ending::ReadFault),
+        Ok(LineRead::End) => Some(end_text(number, machine, text, sink)),
+        Ok(LineRead::TextTooLong) => Some(refuse(number, Refusal::TextTooLong, text, sink)),
+        Ok(LineRead::LineTooLong) => Some(refuse(number, Refusal::LineTooLong, text, sink)),
+        Ok(LineRead::Line) => run_step(number, reader.line(), machine, text, sink, outlets),
+    }
+}
+
+/// Reads the next line.
+fn read_next<S: ByteSource>(reader: &mut LineReader, source: &mut S) -> Result<LineRead, Failed>
+    ensures next { (left : Option (List ℕ)) (lines : List TextLine) → ReadTo left (S.left source.old) lines reader.old
+        → NextIs left (S.left source.new) lines reader.new result }
+    ensures within { (left : Option (List ℕ)) (lines : List TextLine) → ReadTo left (S.left source.old) lines reader.old
+        → ReadsAtMost left (S.left source.new) read_limit }
+    ensures line { result ≡ Ok LineRead.Line → IsSome reader.new.line }
+    ensures nearer { IfOk result (λ read. GoesOn read reader.old reader.new) }
+    ensures cause { OnErr result (Rose (S.faults source.old) (S.faults source.new)) }
+    ensures none_failed { OnOk result (S.faults source.new ≡ S.faults source.old) }
+{
+    reader.next_line(source)
+}
+
+/// The end of the text, which may come only behind `end`.
+fn end_text<K: ByteSink>(number: u64, machine: &Machine, text: &mut Octets, sink: &mut K) -> Ending
+    ensures ends { (starts : List Account) (lines : List TextLine) (left left' kept : Option (List ℕ)) (accounts : List Account) → number ≡ length lines + 1
+        → TextIs left left' lines true → RunTo starts lines kept (K.contents sink.old) machine.now accounts
+        → Ended airs_of result starts accounts left left' kept (K.contents sink.new) }
+    ensures never_read_fault { result ≢ Ending.ReadFault }
+    ensures write_fault { result ≡ Ending.WriteFault → Rose (K.faults sink.old) (K.faults sink.new) }
+    ensures no_write_fault { result ≢ Ending.WriteFault → K.faults sink.new ≡ K.faults sink.old }
+{
+    if machine.is_over() {
+        return Ending::Done;
+    }
+    refuse(number, Refusal::NoEnd, text, sink)
+}
+
+/// Writes the line of a refusal.
+fn refuse<K: ByteSink>(number: u64, reason: Refusal, text: &mut Octets, sink: &mut K) -> Ending
+    ensures refuses { Refuses number reason (K.contents sink.old) (K.contents sink.new) result }
+    ensures never_read_fault { result ≢ Ending.ReadFault }
+    ensures write_fault { result ≡ Ending.WriteFault → Rose (K.faults sink.old) (K.faults sink.new) }
+    ensures no_write_fault { result ≢ Ending.WriteFault → K.faults sink.new ≡ K.faults sink.old }
+{
+    text.clear();
+    match put_refusal(text, number, reason) {
+        Err(_) => Ending::Memory,
+        Ok(()) => match put(text, sink) {
+            Some(fault) => fault,
+            None => Ending::Refused {
+                line: number,
+                reason,
+            },
+        },
+    }
+}
+
+/// Runs a line, and writes what it brings.
+fn run_step<K: ByteSink>(
+    number: u64,
+    line: &[u8],
+    machine: &mut Machine,
+    text: &mut Octets,
+    sink: &mut K,
+    outlets: &mut Vec<Box<dyn Outlet>>,
+) -> Option<Ending>
+    ensures runs { (starts : List Account) (lines : List TextLine) (left left' kept : Option (List ℕ)) → number ≡ length lines + 1
+        → Comes left left' lines (plain line.now) → ReadsAhead left left' number
+        → RunTo starts lines kept (K.contents sink.old) machine.old (map account outlets.old.items)
+        → StepRuns starts (plain line.now ∷ lines) left left' kept (K.contents sink.new) machine.new (map account outlets.new.items) result }
+    ensures untaken { (starts : List Account) (lines : List TextLine) (accounts : List Account) → LinesStand starts lines machine.old accounts
+        → UntakenSame (steps_of lines) outlets.old.items outlets.new.items }
+    ensures never_read_fault { result ≢ Some Ending.ReadFault }
+    ensures write_fault { result ≡ Some Ending.WriteFault → Rose (K.faults sink.old) (K.faults sink.new) }
+    ensures no_write_fault { result ≢ Some Ending.WriteFault → K.faults sink.new ≡ K.faults sink.old }
+{
+    text.clear();
+    match machine.line(line, outlets, text) {
+        Ok(()) => put(text, sink),
+        Err(Stop::Refused(reason)) => Some(refuse(number, reason, text, sink)),
+        Err(Stop::OutletFault) => match put(text, sink) {
+            Some(fault) => Some(fault),
+            None => Some(Ending::OutletFault),
+        },
+        Err(Stop::Memory) => Some(Ending::Memory),
+    }
+}
+
+/// Writes a text: an ending where it was not written whole.
+fn put<K: ByteSink>(text: &Octets, sink: &mut K) -> Option<Ending>
+    ensures puts { Puts text.now (K.contents sink.old) (K.contents sink.new) result }
+    ensures never_read_fault { result ≢ Some Ending.ReadFault }
+    ensures write_fault { result ≡ Some Ending.WriteFault → Rose (K.faults sink.old) (K.faults sink.new) }
+    ensures no_write_fault { result ≢ Some Ending.WriteFault → K.faults sink.new ≡ K.faults sink.old }
+{
+    match write_whole(sink, text.as_slice()) {
+        Ok(()) => None,
+        Err(SinkFault::Failed) => Some(Ending::WriteFault),
+        Err(SinkFault::Memory) => Some(Ending::Memory),
+    }
+}

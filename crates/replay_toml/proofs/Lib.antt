@@ -1,0 +1,6 @@
+mod Fronts
+mod Reading
+mod Unread
+mod Refusing
+mod Running
+mod Promises

@@ -1,0 +1,4 @@
+pub mod Standing
+pub mod Documents
+pub mod FromToml
+pub mod State
