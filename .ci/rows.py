@@ -1,9 +1,8 @@
 #!/usr/bin/env python3
 """rows.py PROGRAM: runs the built program on each worked row of the tests, and prints each that differs.
 
-The rows stand in crates/replay_command/src/tests/: scenarios in rows.rt and sink_rows.rt, documents in TOML in toml_rows.rt, and
-in word_rows.rt words of the command line, each over the scenario of the first row. Those with fewer than two boxes are for objects
-alone: the program has eight.
+The rows stand in crates/replay_command/src/tests/: scenarios in rows.rt and sink_rows.rt, and in word_rows.rt words of the
+command line, each over the scenario of the first row. Those with fewer than two boxes are for objects alone: the program has eight.
 
 Behind them two long generated runs: 2,000 events give the same summary twice, and 100,000 events, a text of 44 million
 octets, give the sums that all their units make, in a minute."""
@@ -18,7 +17,7 @@ ROW = re.compile(r'name: "(.*)",\s+boxes: (\d+),\s+text: "(.*)",\s+transcript: "
 
 
 def octets_of(literal):
-    return literal.replace('\\n', '\n').replace('\\"', '"').encode()
+    return literal.replace('\\n', '\n').encode()
 
 
 def table(name):
@@ -30,8 +29,6 @@ def worked_rows():
     rows = ROW.findall(table('rows.rt')) + ROW.findall(table('sink_rows.rt'))
     for name, boxes, text, transcript, exit_code in rows:
         yield name, [], int(boxes), text, transcript, int(exit_code)
-    for name, boxes, text, transcript, exit_code in ROW.findall(table('toml_rows.rt')):
-        yield name, ['--toml'], int(boxes), text, transcript, int(exit_code)
     for name, words, boxes, transcript, exit_code in WORD_ROW.findall(table('word_rows.rt')):
         yield name, words.split(' '), int(boxes), rows[0][2], transcript, int(exit_code)
 

@@ -1,11 +1,13 @@
-//! Tests of the public calls of the crates of bytes, schedules, lines and migration, for what no clause says: each call that
-//! takes memory succeeds once where there is enough, and faults of the outside come as they were made.
+//! Tests of the public calls of the crates of bytes, schedules, lines, documents and migration, for what no clause says: each call
+//! that takes memory succeeds once where there is enough, and faults of the outside come as they were made.
 #![tactic(auto)]
 
 #[cfg(test)]
 mod air;
 #[cfg(test)]
 mod boxes;
+#[cfg(test)]
+mod documents;
 #[cfg(test)]
 mod generator;
 #[cfg(test)]

@@ -17,7 +17,7 @@ pub struct WordRow {
     pub exit_code: u8,
 }
 
-pub const WORD_ROWS: [WordRow; 10] = [
+pub const WORD_ROWS: [WordRow; 11] = [
     WordRow {
         name: "word-unknown",
         words: "x",
@@ -80,6 +80,13 @@ pub const WORD_ROWS: [WordRow; 10] = [
         boxes: 2,
         transcript: "scenario 2\ngroup unframed 20000 40000 8 10000 4 4 1 1 1 1 0 0 0 1\nsink 0 1 1\nstart 0\ntuned 0 1\nunit 1 - 0a0b0c\nevent\nhear 0 0 1 0\nend\n",
         exit_code: 0,
+    },
+    WordRow {
+        name: "toml-of-lines",
+        words: "--toml",
+        boxes: 2,
+        transcript: "line 0: BadToml\n",
+        exit_code: 1,
     },
     WordRow {
         name: "dashes-alone",
