@@ -2,38 +2,34 @@
 //! no room, none follows the end of the input or a fault, and none goes past what the answer needs. A sink or a box that refused
 //! isn't called again.
 
-ghost use Rattle.std.specs.Prelude.{◌≡◌, ◌≤◌, true, Some, length};
-ghost use Rattle.unit_outlets.specs.Account.{Fits};
+ghost use Rattle.std.specs.Prelude.{◌-◌, ◌^◌, false, None};
 
 use crate::tests::run_with;
-use crate::tests::word_rows::words_of;
-use bcast_base::{Calls, Octets};
-use bcast_io::{ByteSink, ByteSource, Failed, FaithfulSink, MemorySource, SinkFault};
+use bcast_io::{ByteSink, ByteSource, Failed, SinkFault};
+use replay_words::Words;
 use std::alloc::Global;
 use std::process::Abort;
 use std::test::*;
-use unit_outlets::{FailingTally, Outlet, OutletFault, Tally};
+use unit_outlets::{Outlet, OutletFault};
 
 /// Two events, the first of which is heard: its unit is handed up and printed at line 9.
 const TEXT: &str =
     "scenario 1\ngroup unframed 20000 40000 8 10000 4 4 1 1 1 1 0 0 0 1\nsink 0 1 1\nstart 0\ntuned 0 1\nunit 1 - 0a0b0c\nevent\nhear 0 0 1 0\nevent\nend\n";
 
-/// What is refused: the call of this number, from 1.
-#[derive(Clone, Copy, PartialEq, Eq)]
+/// What is refused: the read of this number, from 1, or the first write or unit, for this fault.
+#[derive(Clone, Copy)]
 enum Refused {
     Nothing,
     Read(u64),
-    Write(u64),
-    WriteForMemory(u64),
-    Take(u64),
-    TakeForMemory(u64),
+    Write(SinkFault),
+    Take(OutletFault),
 }
 
-/// Words and a text, what is refused, the exit status, how many reads are made, and how many units the first box has then.
+/// A word and a text, what is refused, the exit status, how many reads are made, and how many units the box has then.
 #[derive(Clone, Copy)]
 struct Run {
     name: &'static str,
-    words: &'static str,
+    word: &'static str,
     text: &'static str,
     refused: Refused,
     exit_code: u8,
@@ -44,7 +40,7 @@ struct Run {
 const RUNS: [Run; 15] = [
     Run {
         name: "to its end",
-        words: "",
+        word: "",
         text: TEXT,
         refused: Refused::Nothing,
         exit_code: 0,
@@ -53,7 +49,7 @@ const RUNS: [Run; 15] = [
     },
     Run {
         name: "a last line without its end",
-        words: "",
+        word: "",
         text: "scenario 1\nend",
         refused: Refused::Nothing,
         exit_code: 0,
@@ -62,7 +58,7 @@ const RUNS: [Run; 15] = [
     },
     Run {
         name: "no octet",
-        words: "",
+        word: "",
         text: "",
         refused: Refused::Nothing,
         exit_code: 1,
@@ -71,7 +67,7 @@ const RUNS: [Run; 15] = [
     },
     Run {
         name: "without `end`",
-        words: "",
+        word: "",
         text: "scenario 1\n",
         refused: Refused::Nothing,
         exit_code: 1,
@@ -80,7 +76,7 @@ const RUNS: [Run; 15] = [
     },
     Run {
         name: "refused at line 2",
-        words: "",
+        word: "",
         text: "scenario 1\nscenario 1\nend\n",
         refused: Refused::Nothing,
         exit_code: 1,
@@ -89,7 +85,7 @@ const RUNS: [Run; 15] = [
     },
     Run {
         name: "refused at the first word",
-        words: "",
+        word: "",
         text: "x\nscenario 1\nend\n",
         refused: Refused::Nothing,
         exit_code: 1,
@@ -98,7 +94,7 @@ const RUNS: [Run; 15] = [
     },
     Run {
         name: "a read fails",
-        words: "",
+        word: "",
         text: TEXT,
         refused: Refused::Read(20),
         exit_code: 3,
@@ -107,7 +103,7 @@ const RUNS: [Run; 15] = [
     },
     Run {
         name: "the last read fails",
-        words: "",
+        word: "",
         text: TEXT,
         refused: Refused::Read(141),
         exit_code: 3,
@@ -116,43 +112,43 @@ const RUNS: [Run; 15] = [
     },
     Run {
         name: "a write fails",
-        words: "",
+        word: "",
         text: TEXT,
-        refused: Refused::Write(1),
+        refused: Refused::Write(SinkFault::Failed),
         exit_code: 4,
         reads: 136,
         units: 1,
     },
     Run {
         name: "a write wants memory",
-        words: "",
+        word: "",
         text: TEXT,
-        refused: Refused::WriteForMemory(1),
+        refused: Refused::Write(SinkFault::Memory),
         exit_code: 6,
         reads: 136,
         units: 1,
     },
     Run {
         name: "a box fails",
-        words: "",
+        word: "",
         text: TEXT,
-        refused: Refused::Take(1),
+        refused: Refused::Take(OutletFault::Failed),
         exit_code: 5,
         reads: 136,
         units: 0,
     },
     Run {
         name: "a box wants memory",
-        words: "",
+        word: "",
         text: TEXT,
-        refused: Refused::TakeForMemory(1),
+        refused: Refused::Take(OutletFault::Memory),
         exit_code: 6,
         reads: 136,
         units: 0,
     },
     Run {
         name: "migrated",
-        words: "--migrate",
+        word: "--migrate",
         text: TEXT,
         refused: Refused::Nothing,
         exit_code: 0,
@@ -161,7 +157,7 @@ const RUNS: [Run; 15] = [
     },
     Run {
         name: "migrated until a read fails",
-        words: "--migrate",
+        word: "--migrate",
         text: TEXT,
         refused: Refused::Read(20),
         exit_code: 3,
@@ -170,7 +166,7 @@ const RUNS: [Run; 15] = [
     },
     Run {
         name: "words that mean nothing",
-        words: "x",
+        word: "x",
         text: TEXT,
         refused: Refused::Nothing,
         exit_code: 2,
@@ -179,202 +175,210 @@ const RUNS: [Run; 15] = [
     },
 ];
 
-/// A source that counts its reads, and those that have no room or come after its end or a fault.
-#[derive(Drop)]
+/// A source that gives a text, an octet a read, and fails at one read. It counts its reads, and those that have no room or come
+/// behind its end or a fault. It tells no content, and its count of faults stands at its last value.
+#[derive(Clone, Copy)]
 struct WatchedSource {
-    source: MemorySource,
+    text: &'static str,
+    fails_at: u64,
+    given: usize,
     reads: u64,
     misplaced: u64,
     is_over: bool,
 }
 
-impl ByteSource for WatchedSource {
-    ghost left = { λ s. Some s.source.left };
+impl WatchedSource {
+    fn new(text: &'static str, refused: Refused) -> WatchedSource {
+        let fails_at = match refused {
+            Refused::Read(call) => call,
+            _ => 0,
+        };
+        WatchedSource {
+            text,
+            fails_at,
+            given: 0,
+            reads: 0,
+            misplaced: 0,
+            is_over: false,
+        }
+    }
 
-    ghost faults = { λ s. s.source.script.faults };
-
-    fn read(&mut self, into: &mut [u8]) -> Result<usize, Failed> {
+    /// Counts a read.
+    fn count(&mut self, has_room: bool) {
         self.reads = self.reads.saturating_add(1);
-        if self.is_over || into.is_empty() {
+        if self.is_over || !has_room {
             self.misplaced = self.misplaced.saturating_add(1);
         }
-        match self.source.read(into) {
-            Ok(count) => {
-                self.is_over = self.is_over || count == 0;
-                Ok(count)
+    }
+
+    /// The next octet; `None` at the end.
+    fn next(&mut self) -> Option<u8> {
+        let octet = self.text.as_bytes().get(self.given).copied();
+        self.is_over = octet.is_none();
+        self.given = self.given.saturating_add(1);
+        octet
+    }
+}
+
+impl ByteSource for WatchedSource {
+    ghost faults = { λ _. 2 ^ 64 - 1 };
+
+    fn read(&mut self, into: &mut [u8]) -> Result<usize, Failed> {
+        self.count(!into.is_empty());
+        if self.reads == self.fails_at {
+            self.is_over = true;
+            return Err(Failed);
+        }
+        let Some(place) = into.first_mut() else {
+            return Ok(0);
+        };
+        match self.next() {
+            Some(octet) => {
+                *place = octet;
+                Ok(1)
             }
-            Err(failed) => {
-                self.is_over = true;
-                Err(failed)
-            }
+            None => Ok(0),
         }
     }
 }
 
-/// A sink that refuses one call for this fault, and counts those that come after it.
-#[derive(Drop)]
+/// A sink that counts its calls, and refuses the first one for this fault, where there is one. It tells no content, and its count of
+/// faults stands at its last value.
+#[derive(Clone, Copy)]
 struct WatchedSink {
-    sink: FaithfulSink,
-    refused_at: u64,
-    fault: SinkFault,
-    faults: u64,
+    refuses: Option<SinkFault>,
     calls: u64,
-    later: u64,
 }
 
 impl WatchedSink {
-    /// Counts a call, and those behind the refused one apart: whether it is the one that is refused.
-    fn is_refused(&mut self) -> bool
-        ensures sink { self.new.sink ≡ self.old.sink }
-        ensures faults { self.new.faults ≡ self.old.faults }
-    {
-        self.calls = self.calls.saturating_add(1);
-        if self.calls > self.refused_at && self.refused_at > 0 {
-            self.later = self.later.saturating_add(1);
-        }
-        self.calls == self.refused_at
+    fn new(refused: Refused) -> WatchedSink {
+        let refuses = match refused {
+            Refused::Write(fault) => Some(fault),
+            _ => None,
+        };
+        WatchedSink { refuses, calls: 0 }
     }
 }
 
 impl ByteSink for WatchedSink {
-    ghost contents = { λ s. Some s.sink };
-
-    ghost faults = { λ s. s.faults };
+    ghost faults = { λ _. 2 ^ 64 - 1 };
 
     fn write(&mut self, from: &[u8]) -> Result<usize, SinkFault> {
-        if !self.is_refused() {
-            return self.sink.write(from);
-        }
-        match self.fault {
-            SinkFault::Memory => Err(SinkFault::Memory),
-            SinkFault::Failed => {
-                self.faults = self.faults.saturating_add(1);
-                Err(SinkFault::Failed)
-            }
+        self.calls = self.calls.saturating_add(1);
+        match self.refuses {
+            Some(fault) if self.calls == 1 => Err(fault),
+            _ => Ok(from.len()),
         }
     }
 }
 
-/// A box that wants memory for one unit, and takes each later one: so its count tells whether it is called again.
+/// A box that refuses its first unit for this fault, where there is one, and takes each later one: so its count tells whether it is
+/// called again. Its count of faults stands at its last value.
 #[derive(Drop)]
-struct WantingTally {
-    tally: Tally,
-    wants_at: u64,
+struct WatchedBox {
+    refuses: Option<OutletFault>,
     calls: u64,
+    units: u64,
+    octets: u64,
 }
 
-/// Whether a tally has room for a unit of so many octets.
-fn has_room(tally: &Tally, octets: &[u8]) -> bool
-    ensures { result ≡ true → Fits octets.now tally.now }
-{
-    tally.units() < u64::MAX && (octets.len() as u64) < u64::MAX - tally.octets()
-}
-
-impl Outlet for WantingTally {
-    ghost account = { λ b. b.tally };
+impl Outlet for WatchedBox {
+    ghost account = { λ b. record {
+      units = b.units;
+      octets = b.octets;
+      faults = 2 ^ 64 - 1;
+      is_sound = false;
+      greatest = 0;
+      kept = None;
+    } };
 
     fn take(&mut self, octets: &[u8]) -> Result<(), OutletFault> {
         self.calls = self.calls.saturating_add(1);
-        if self.calls == self.wants_at && has_room(&self.tally, octets) {
-            return Err(OutletFault::Memory);
+        let (Some(units), Some(sum)) = (
+            self.units.checked_add(1),
+            self.octets.checked_add(octets.len() as u64),
+        ) else {
+            return Err(OutletFault::Failed);
+        };
+        match self.refuses {
+            Some(fault) if self.calls == 1 => Err(fault),
+            _ => {
+                self.units = units;
+                self.octets = sum;
+                Ok(())
+            }
         }
-        self.tally.take(octets)
     }
 
     fn units(&self) -> u64 {
-        self.tally.units()
+        self.units
     }
 
     fn octets(&self) -> u64 {
-        self.tally.octets()
+        self.octets
     }
 }
 
-/// The number of a call that is refused, where one of this kind is, and else 0.
-fn refused_at(refused: Refused) -> (u64, u64, u64, u64) {
-    match refused {
-        Refused::Nothing => (0, 0, 0, 0),
-        Refused::Read(call) => (call, 0, 0, 0),
-        Refused::Write(call) | Refused::WriteForMemory(call) => (0, call, 0, 0),
-        Refused::Take(call) => (0, 0, call, 0),
-        Refused::TakeForMemory(call) => (0, 0, 0, call),
-    }
-}
-
-/// The list of this call alone, and of none where it is 0.
-fn calls_of(alloc: Global, call: u64) -> Result<Calls, Fail> {
-    let mut calls = Calls::new(alloc);
-    if call > 0 {
-        calls.push(call)?;
-    }
-    Ok(calls)
-}
-
-/// A box that fails at one call, or wants memory at one, where either is asked for.
-fn boxes(alloc: Global, fails_at: u64, wants_at: u64) -> Result<Vec<Box<dyn Outlet>>, Fail> {
-    let mut outlets: Vec<Box<dyn Outlet>> = Vec::new(alloc);
-    if wants_at > 0 {
-        let tally = Tally::new();
-        outlets.push(Box::new(
-            alloc,
-            WantingTally {
-                tally,
-                wants_at,
-                calls: 0,
-            },
-        )?)?;
-    } else {
-        outlets.push(Box::new(alloc, FailingTally::new(calls_of(alloc, fails_at)?))?)?;
-    }
-    outlets.push(Box::new(alloc, Tally::new())?)?;
-    Ok(outlets)
-}
-
-/// Runs what a row says, over a source that gives so many octets a read.
-fn run_watched(rt: &(impl Abort + AllocGlobal), run: Run, piece: usize) -> Result<(), Fail>
-    requires { 1 ≤ piece }
-{
-    let (read, write, take, want) = refused_at(run.refused);
-    let mut source = WatchedSource {
-        source: MemorySource::new(
-            Octets::copy(rt.alloc(), run.text.as_bytes())?,
-            piece,
-            calls_of(rt.alloc(), read)?,
-        ),
-        reads: 0,
-        misplaced: 0,
-        is_over: false,
+/// The list of one watched box.
+fn boxes(alloc: Global, refused: Refused) -> Option<Vec<Box<dyn Outlet>>> {
+    let refuses = match refused {
+        Refused::Take(fault) => Some(fault),
+        _ => None,
     };
-    let fault = match run.refused {
-        Refused::WriteForMemory(_) => SinkFault::Memory,
-        _ => SinkFault::Failed,
-    };
-    let mut sink = WatchedSink {
-        sink: FaithfulSink::new(rt.alloc()),
-        refused_at: write,
-        fault,
-        faults: 0,
+    let watched = WatchedBox {
+        refuses,
         calls: 0,
-        later: 0,
+        units: 0,
+        octets: 0,
     };
-    let mut outlets = boxes(rt.alloc(), take, want)?;
-    let words = words_of(rt.alloc(), run.words)?;
-    let status = run_with(rt.alloc(), &words, &mut source, &mut sink, &mut outlets);
-    assert!(rt; status.exit_code() == run.exit_code, "{}", run.name);
-    assert!(rt; source.reads == run.reads, "{}", run.name);
-    assert!(rt; source.misplaced == 0 && sink.later == 0, "{}", run.name);
-    for outlet in outlets.as_slice().iter().take(1) {
-        assert!(rt; outlet.units() == run.units, "{}", run.name);
+    let mut outlets: Vec<Box<dyn Outlet>> = Vec::new(alloc);
+    outlets.push(Box::new(alloc, watched).ok()?).ok()?;
+    Some(outlets)
+}
+
+/// The list of this word alone, and of none where it has no octet.
+fn words_of(alloc: Global, word: &str) -> Option<Words> {
+    let mut words = Words::new(alloc);
+    if !word.is_empty() {
+        words.push(String::from_str(alloc, word).ok()?).ok()?;
     }
-    Ok(())
+    Some(words)
+}
+
+/// Whether the only box took so many units.
+fn has_units(outlets: &Vec<Box<dyn Outlet>>, units: u64) -> bool {
+    match outlets.as_slice() {
+        [watched] => watched.units() == units,
+        _ => false,
+    }
+}
+
+/// Whether a run over these boxes ends as it is to, calls what it is to call, and nothing behind that.
+fn ends_into(alloc: Global, run: &Run, outlets: &mut Vec<Box<dyn Outlet>>) -> bool {
+    let Some(words) = words_of(alloc, run.word) else {
+        return false;
+    };
+    let mut source = WatchedSource::new(run.text, run.refused);
+    let mut sink = WatchedSink::new(run.refused);
+    let status = run_with(alloc, &words, &mut source, &mut sink, outlets);
+    status.exit_code() == run.exit_code
+        && source.reads == run.reads
+        && source.misplaced == 0
+        && (sink.refuses.is_none() || sink.calls == 1)
+        && has_units(outlets, run.units)
+}
+
+/// The same with boxes of its own.
+fn ends_so(alloc: Global, run: &Run) -> bool {
+    let Some(mut outlets) = boxes(alloc, run.refused) else {
+        return false;
+    };
+    ends_into(alloc, run, &mut outlets)
 }
 
 #[test]
-fn each_run_reads_what_its_end_needs_and_calls_nothing_that_refused(
-    rt: HostRuntime,
-) -> Result<(), Fail> {
+fn each_run_reads_what_its_end_needs_and_calls_nothing_that_refused(rt: HostRuntime) {
     for run in RUNS {
-        run_watched(&rt, run, 1)?;
+        assert!(rt; ends_so(rt.alloc(), &run), "{}", run.name);
     }
-    Ok(())
 }
