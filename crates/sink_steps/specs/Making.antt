@@ -24,7 +24,7 @@ abbrev pub Takes : Step → Type 0
 Takes (Locate sink bits) = ⊥
 Takes (Context sink sink_bits source_bits) = ⊥
 Takes (Apart sink link) = ⊥
-Takes step = Unit {0}
+Takes _ = Unit {0}
 
 -- it is refused for this reason, and `same` holds of the sink as before; or else it prints these lines behind a text, and `next`
 -- holds of the sink then; or memory ran out, of a line that isn't refused and `takes` some
