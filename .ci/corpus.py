@@ -10,10 +10,10 @@ sys.path.insert(0, os.path.dirname(os.path.abspath(__file__)))
 import scenarios  # noqa: E402
 
 
-def difference(program, scenario):
+def difference(program, scenario, environment=None):
     """What differs, or None."""
     try:
-        got = subprocess.run([program] + scenario.words, input=scenario.text, capture_output=True, timeout=60, check=False)
+        got = subprocess.run([program] + scenario.words, input=scenario.text, capture_output=True, env=environment, timeout=60, check=False)
     except (OSError, subprocess.TimeoutExpired) as error:
         return str(error)
     if got.returncode != scenario.exit_code:

@@ -1,0 +1,82 @@
+#!/usr/bin/env python3
+"""pieces.py PROGRAM: runs the built program on the examples, and on every tenth scenario of corpus/ and every tenth document of
+documents.py, over reads and writes that move at most 1, 7 and 4,096 octets a call. What is written, and the exit status, are the same
+whatever the pieces are."""
+import concurrent.futures
+import os
+import subprocess
+import sys
+import tempfile
+
+sys.dont_write_bytecode = True
+sys.path.insert(0, os.path.dirname(os.path.abspath(__file__)))
+import corpus  # noqa: E402
+import documents  # noqa: E402
+import scenarios  # noqa: E402
+
+PIECES = [1, 7, 4096]
+# A text of 64 MiB an octet a call takes a minute.
+LONGEST = 200_000
+SOURCE = r'''
+#define _GNU_SOURCE
+#include <dlfcn.h>
+#include <stdlib.h>
+#include <unistd.h>
+static size_t cut(size_t count) {
+    static size_t piece;
+    if (!piece) piece = (size_t) atol(getenv("OCTETS_A_CALL"));
+    return count < piece ? count : piece;
+}
+ssize_t read(int file, void *into, size_t count) {
+    static ssize_t (*next)(int, void *, size_t);
+    if (!next) next = (ssize_t (*)(int, void *, size_t)) dlsym(RTLD_NEXT, "read");
+    return next(file, into, cut(count));
+}
+ssize_t write(int file, const void *from, size_t count) {
+    static ssize_t (*next)(int, const void *, size_t);
+    if (!next) next = (ssize_t (*)(int, const void *, size_t)) dlsym(RTLD_NEXT, "write");
+    return next(file, from, cut(count));
+}
+ssize_t __write(int file, const void *from, size_t count) { return write(file, from, count); }
+'''
+
+
+class Document:
+    """A document with what is written of it, as a scenario has it."""
+
+    words = ['--toml']
+
+    def __init__(self, name, text, written):
+        self.name, self.text, self.transcript = name, text if isinstance(text, bytes) else text.encode(), written.encode()
+        self.exit_code = int(documents.is_refused(written))
+
+
+def every_tenth(found):
+    return [it for place, it in enumerate(found) if place % 10 == 0]
+
+
+def chosen():
+    """Where each stands, and the scenario."""
+    found = list(scenarios.examples())
+    found += every_tenth((f'corpus/{file}', scenario) for file, scenario in scenarios.corpus())
+    found += every_tenth(('documents.py', Document(*form)) for form in documents.FORMS)
+    return [it for it in found if len(it[1].text) <= LONGEST]
+
+
+def main():
+    program, found, failed = os.path.abspath(sys.argv[1]), chosen(), 0
+    with tempfile.TemporaryDirectory() as folder, concurrent.futures.ThreadPoolExecutor(os.cpu_count()) as pool:
+        library = os.path.join(folder, 'pieces.so')
+        subprocess.run(['cc', '-shared', '-fPIC', '-x', 'c', '-o', library, '-', '-ldl'], input=SOURCE.encode(), check=True)
+        for piece in PIECES:
+            of = dict(os.environ, LD_PRELOAD=library, OCTETS_A_CALL=str(piece))
+            results = pool.map(lambda it, of=of: corpus.difference(program, it[1], of), found)
+            for (name, scenario), result in zip(found, results):
+                if result:
+                    failed += 1
+                    print(f'{name}: {scenario.name}, {piece} octets a call: {result[:600]}')
+    print(f'pieces: {len(found)} scenarios and documents at {PIECES} octets a call, {failed} differ')
+    return 1 if failed or not found else 0
+
+
+sys.exit(main())
