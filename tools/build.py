@@ -8,7 +8,7 @@ build.py record S  takes the program that `rt ci` has just built for built, wher
 
 It runs the prover by the Rattle kit's own `rt`, as `rt ci` does: each crate from nothing, over the statements of the crates
 below it, but for the search for contracts that no call can meet, which `rt ci` makes behind each proof and `rt lib` doesn't: it
-changes no proof, and takes a sixth of the time. It differs from `rt lib` in two things. A crate that was proved is known by its own files and by what the prover reads
+changes no proof, and takes nearly a fifth of the time. It differs from `rt lib` in two things. A crate that was proved is known by its own files and by what the prover reads
 of the crates below, their libraries as they were built: so a change that changes no library, as one of a comment, proves
 one crate again and not all above it. And each sum is taken once; `rt lib` takes a crate's sum anew for each way in which
 another crate reaches it, which are 65,000 from the top. It was made for the kit whose logic is dac8208d650f15bf; where the
