@@ -81,6 +81,7 @@ class Walk(SinkCases):
     def __init__(self, counts):
         self.counts = counts
         self.version, self.chosen, self.sources, self.sinks, self.numbers = 0, 0, (Source(), Source()), {}, set()
+        self.relays = set()
 
     def count(self, kind, name):
         self.counts[kind, str(name)] += 1
@@ -210,8 +211,22 @@ class Walk(SinkCases):
 
     def do_end(self, _words, _source, printed):
         self.count('sources', f'open at the end: {sum(it.is_open for it in self.sources)}')
+        if any(line[0] == 'relay' for line in printed):
+            self.count('relays', 'a unit dropped at the end')
         self.units(printed)
         self.chosen = 0
+
+    def do_relay(self, words, _source, _printed):
+        self.relays.add(words[1])
+        self.count('relays', 'made while an event is open' if self.sources[0].is_open else 'made')
+        if len(self.relays) == 2:
+            self.count('relays', 'two at once')
+
+    def do_drop(self, words, source, printed):
+        if words[1] in self.relays:
+            self.relays.remove(words[1])
+            self.count('relays', 'ended by `drop`')
+        super().do_drop(words, source, printed)
 
     def do_unit(self, words, source, _printed):
         has, length = source.numbers(), len(octets(words[3]))
@@ -223,6 +238,8 @@ class Walk(SinkCases):
 
     def units(self, printed):
         for words in printed:
+            if words[0] == 'relay':
+                self.count('units dropped', words[4])
             if words[0] != 'unit' or words[1] not in self.sinks:
                 continue
             sink = self.sinks[words[1]]

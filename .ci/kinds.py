@@ -1,6 +1,4 @@
-"""The kinds of cases that can come: what each is read from, and which cases it has.
-
-Not among them, since they can't come yet: the refusals RelayTaken and Relayed."""
+"""The kinds of cases that can come: what each is read from, and which cases it has."""
 from cases import LINES, SINK_LINES, SOURCE_LINES
 
 OF_LINKS = ('assist', 'apart', 'awrite', 'aserve', 'atell', 'aread', 'adrain', 'ashow')
@@ -31,11 +29,11 @@ HEARD = ('NotOnGroup', 'NotTaken', 'NoNumber', 'Malformed 1', 'Malformed 2', 'Ma
          'Late', 'Beyond', 'Repeat', 'Kept')
 CONTROLS = ('NotOnGroup', 'Malformed 1', 'Malformed 2', 'Malformed 3', 'Malformed 4', 'Malformed 5', 'NotControl', 'UnknownOpcode',
             'ControlLength', 'MapIgnored', 'Left')
-PRINTED = ('unit valid', 'unit lost', 'stale', 'pdu', 'heard', 'train', 'sink', 'reply', 'notice', 'read', 'state', 'view', 'forged',
+PRINTED = ('unit valid', 'unit lost', 'relay', 'stale', 'pdu', 'heard', 'train', 'sink', 'reply', 'notice', 'read', 'state', 'view', 'forged',
            'control', 'sum', 'areply', 'anotice', 'aread', 'aview')
-REFUSALS = ('TextTooLong', 'LineTooLong', 'BadLine', 'AfterEnd', 'Order', 'NotBuilt', 'BadGroup', 'BaseTooLong', 'IdentTwice', 'NoSuchSink',
-            'NoSuchLink', 'LinkTwice', 'SinkTwice', 'NoOutlet', 'NoSuchBis', 'UnitTooLong', 'TimeOrder', 'Backlog', 'NoSuchSubevent',
-            'NotOnAir', 'CounterEnds', 'NothingWaiting', 'RecordsTooLong', 'NoEnd', 'BadToml', 'BadDocument')
+REFUSALS = ('TextTooLong', 'LineTooLong', 'BadLine', 'AfterEnd', 'Order', 'BadGroup', 'BaseTooLong', 'IdentTwice', 'NoSuchSink',
+            'NoSuchLink', 'LinkTwice', 'SinkTwice', 'NoOutlet', 'NoSuchBis', 'UnitTooLong', 'TimeOrder', 'RelayTaken', 'Relayed', 'Backlog',
+            'NoSuchSubevent', 'NotOnAir', 'CounterEnds', 'NothingWaiting', 'RecordsTooLong', 'NoEnd', 'BadToml', 'BadDocument')
 CAUSES = ('Empty', 'Opcode', 'Length', 'Rfu', 'BisTwice', 'SourceUnknown', 'NoDecrypt', 'Known', 'NoRoom', 'ValueTooLong', 'StillSynced')
 OPERATIONS = ('Scan Stopped', 'Scan Started', 'Add', 'Modify', 'Code', 'Remove')
 FIRST_ANSWERS = ('NoBroadcastId', 'NotWanted', 'OtherTrain', 'AlreadyOnGroup')
@@ -61,13 +59,13 @@ def allowed():
 
 
 def refused_lines():
-    return (each(['NoSuchSink'], SINK_LINES) + each(['NoSuchLink'], OF_LINKS[1:])
+    return (each(['NoSuchSink'], SINK_LINES + ('relay',)) + each(['NoSuchLink'], OF_LINKS[1:])
             + each(['NothingWaiting'], ('serve', 'tell', 'read', 'aserve', 'atell', 'aread'))
-            + each(['NoSuchBis'], ('bis', 'tuned', 'unit', 'hear', 'inject', 'sniff'))
+            + each(['NoSuchBis'], ('bis', 'tuned', 'unit', 'hear', 'inject', 'sniff', 'relay'))
             + each(['NoSuchSubevent'], ('hear', 'inject', 'sniff')) + each(['NotOnAir'], ON_AIR)
-            + each(['AfterEnd'], ('end', 'event', 'scenario', 'source')) + each(['CounterEnds'], ('event', 'announce'))
+            + each(['AfterEnd'], ('end', 'event', 'scenario', 'source', 'relay')) + each(['CounterEnds'], ('event', 'announce'))
             + ['LinkTwice, assist', 'SinkTwice, sink', 'NoOutlet, sink', 'UnitTooLong, unit', 'TimeOrder, unit', 'Backlog, unit',
-               'RecordsTooLong, pac', 'BaseTooLong, start', 'IdentTwice, start', 'NotBuilt, relay'])
+               'RecordsTooLong, pac', 'BaseTooLong, start', 'IdentTwice, start', 'RelayTaken, relay', 'Relayed, unit'])
 
 
 def bad_lines():
@@ -127,13 +125,13 @@ DRAIN = 'the transcript of a `drain` or `adrain` line'
 
 KINDS = {
     'lines of version 1': (STEP, [it for it in LINES if it not in VERSION_2]),
-    'lines of version 2': (STEP, [it for it in LINES if it != 'relay']),
+    'lines of version 2': (STEP, LINES),
     'printed lines': ('a line of a transcript', PRINTED),
     'refusals': (LAST, REFUSALS),
     'refusals of a line': (f'{LAST}, and the line that it names', refused_lines()),
     'BadLine': (f'{LAST}: K, and the first word of the line; a word is missing where the line has K words', bad_lines()),
     'Order': (f'{LAST}, and the phase of the chosen source',
-              [f'{word}, {phase}' for phase, words in REFUSED.items() for word in words] + ['scenario', 'end', 'sink', 'serve']),
+              [f'{word}, {phase}' for phase, words in REFUSED.items() for word in words] + ['scenario', 'end', 'sink', 'serve', 'relay']),
     'TimeOrder': (f'{LAST}, the `unit` line and the `group` line',
                   ('a time, unframed', 'no time, framed', 'framed, version 1', 'framed, version 2')),
     'BadGroup at a start': (LAST, range(1, 14)),
@@ -170,6 +168,9 @@ KINDS = {
                              [f'{it} {number}' for it in ('state', 'view', 'aview') for number in UP_TO_2]),
     'sources': ('the lines of both sources', ['0', '1', 'more than 32 events', 'the event 31 before the last']
                 + many('started with', (1, 2)) + many('open at the end:', range(3))),
+    'relays': ('the `relay` lines, and the lines behind them',
+               ['made', 'made while an event is open', 'two at once', 'ended by `drop`', 'a unit dropped at the end']),
+    'units dropped': ('a `relay` line of the transcript', ('NotStreaming', 'UnitTooLong', 'TimeOrder', 'Backlog')),
     'BASE': ('the `subgroup` lines of a source that is started', [f'{it} subgroups' for it in UP_TO_2]),
     'groups': ('the `group` line of a source that is started', groups()),
     'units given': ('a `unit` line and the `group` line', each(FRAMINGS, ('no octet', 'between', 'MAXSDU'))),

@@ -16,10 +16,10 @@ OCTET = re.compile(rb'\\x([0-9a-f]{2})')
 STEP = re.compile(r'(\d*)>(?: (.*))?')
 MANY = re.compile(r'(\d+)< (.*)')
 
-# The lines of a transcript that a step may print, by their first words, in order.
+# The lines of a transcript that a step may print, by their first words, in order; `unit` and `relay` lines stand among each other.
 PRINTS = {
-    'event': ('unit', 'stale'), 'stop': ('unit',), 'terminate': ('unit', 'control'), 'end': ('unit', 'sum'), 'drop': ('sum',),
-    'sniff': ('pdu',), 'inject': ('heard',), 'announce': ('train', 'sink'), 'train': ('sink',), 'control': ('sink',),
+    'event': ('unit', 'relay', 'stale'), 'stop': ('unit', 'relay'), 'terminate': ('unit', 'relay', 'control'),
+    'end': ('unit', 'relay', 'sum'), 'drop': ('sum',), 'sniff': ('pdu',), 'inject': ('heard',), 'announce': ('train', 'sink'), 'train': ('sink',), 'control': ('sink',),
     'lose': ('sink',), 'serve': ('reply',), 'tell': ('notice',), 'read': ('read',), 'drain': ('reply', 'notice', 'read'),
     'show': ('state', 'view'), 'forge': ('forged',), 'aserve': ('areply',), 'atell': ('anotice',), 'aread': ('aread',),
     'adrain': ('areply', 'anotice', 'aread'), 'ashow': ('aview',),
@@ -121,7 +121,7 @@ def steps_of(text, transcript):
             most = slots.get(words[1], 0) * len(kinds)
         place = 0
         while printed and len(taken) < most and is_of(line, printed[0]):
-            now = kinds.index(printed[0].split(b' ')[0])
+            now = kinds.index(printed[0].split(b' ')[0].replace(b'relay', b'unit'))
             if now < place and word != 'show':
                 break
             place = now

@@ -4,7 +4,7 @@ ghost use Rattle.isoal_base.specs.Air.{Air, laid_in};
 ghost use Rattle.isoal_framed.specs.Air.{IsEvent, event_of, IsFramedAir};
 ghost use Rattle.isoal_framed.specs.Calls.{Call, Timed, accept, lay};
 ghost use Rattle.isoal_framed.specs.Places.{Act, ends, done, sent as sent_by, room};
-ghost use Rattle.isoal_framed.specs.State.Senders.{Above, NotPast, MayWait, PutFaultIs, StandsFor, waiting, with_unit};
+ghost use Rattle.isoal_framed.specs.State.Senders.{Above, InOrder, NotPast, MayWait, PutFaultIs, StandsFor, waiting, with_unit};
 
 use crate::packing::{Packing, pack_pdus};
 use bcast_base::{Memory, Octets, Times, Unit};
@@ -103,6 +103,14 @@ impl FramedOut {
         self.queue.push_back(unit)?;
         self.last = Some(time);
         Ok(())
+    }
+
+    /// Whether a unit with this time in µs would be in order: above the time of the last accepted unit, and not past the limit, where
+    /// there is one.
+    pub fn is_in_order(&self, time: u64, limit: Option<u64>) -> bool
+        ensures { IsTrue result ↔ InOrder self.now limit time }
+    {
+        is_above(self.last, time) && !is_past(limit, time)
     }
 
     /// How many units wait for their start.

@@ -196,4 +196,4 @@ isolated airs s n made puts_not =
     }
 
 pub isolation_holds : (starts : List Account) → IsolationLaw starts
-isolation_holds starts airs meet lines accepted no_relay s n puts_not = isolated airs s n (steps_of lines) puts_not
+isolation_holds starts airs meet lines accepted no_relay s n puts_not = isolated airs s n (steps_of airs lines) puts_not

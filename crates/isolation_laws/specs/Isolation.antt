@@ -1,8 +1,8 @@
 -- The isolation law: with two sources and many sinks, what a sink makes of one source is what it makes of that source alone (the
 -- sink is after Basic Audio Profile 1.0, section 6.5, its links after Broadcast Audio Scan Service 1.0, section 3.2). Lists of steps
 -- have the newest first; lists of units and of octets have the oldest first.
-use Rattle.std.specs.Prelude.{ℕ, ◌≡◌, ◌≢◌, ◌==◌, ◌&&◌, Bool, true, false, List, [], ◌∷◌, ◌++◌, map, Some, if◌then◌else◌}
-use Rattle.std.specs.List.{filter, flat_map, list_any}
+use Rattle.std.specs.Prelude.{ℕ, ◌≡◌, ◌≢◌, ◌==◌, ◌&&◌, Bool, false, List, [], ◌∷◌, ◌++◌, map, Some, if◌then◌else◌}
+use Rattle.std.specs.List.{filter, flat_map}
 use Rattle.bcast_io.specs.TextLines.{TextLine}
 use Rattle.unit_outlets.specs.Account.{Account}
 use Rattle.unit_outlets.specs.Handed.{Handed}
@@ -10,15 +10,16 @@ use Rattle.line_runs.specs.Runs.{Accepted}
 use Rattle.link_histories.specs.Calls.{Call, is_joined, writes_waiting}
 use Rattle.link_histories.specs.Links.{notices_waiting, read_waits, state, view}
 use Rattle.scenario_text.specs.declared.step.Step.{Step}
-use Rattle.scenario_text.specs.declared.step.Step.TheVariants.{Tuned, Event, Announce, Train, Drop, Relay, Stop, Terminate, End}
+use Rattle.scenario_text.specs.declared.step.Step.TheVariants.{Tuned, Event, Announce, Train, Drop, Stop, Terminate, End}
 use Rattle.sink_histories.specs.Lives.{Made, made_of}
 use Rattle.sink_histories.specs.Moves.{follows_by, train_by}
 use Rattle.sink_histories.specs.Output.{replied, sight_in}
 use Rattle.transcript_text.specs.Lines.{control_line, handed_line}
 use Rattle.scenario_history.specs.Airs.{MeetAirs}
 use Rattle.scenario_history.specs.Boxes.{SinkUnit, box_of, closing, closing_both, handed_up, valid_for}
-use Rattle.scenario_history.specs.Lines.{rules_of, steps_of}
+use Rattle.scenario_history.specs.Lines.{rules_of, said_of, steps_of}
 use Rattle.scenario_history.specs.Output.{output_of, stale_lines}
+use Rattle.scenario_history.specs.Relays.{has_relay}
 use Rattle.scenario_history.specs.Sinks.{sink_calls, source_of}
 use Rattle.scenario_history.specs.Source.{Airs, end_pdu, stale_in}
 use Rattle.scenario_history.specs.Steps.{chosen_of, chosen_steps}
@@ -43,14 +44,6 @@ puts n earlier _ = false
 abbrev pub NoOtherPuts : ℕ → ℕ → List Step → Type 0
 NoOtherPuts s n [] = Unit {0}
 NoOtherPuts s n (step ∷ earlier) = NoOtherPuts s n earlier × (chosen_of earlier ≢ s → puts n earlier step ≡ false)
-
-abbrev pub is_relay : Step → Bool
-is_relay (Relay sink bis to) = true
-is_relay _ = false
-
--- the steps have a `relay` line
-abbrev pub has_relay : List Step → Bool
-has_relay steps = list_any is_relay steps
 
 -- ---- what is handed up and printed
 
@@ -114,7 +107,8 @@ pub record IsIsolated (airs : Airs) (s n : ℕ) (steps : List Step) : Type 0 whe
 
 -- The isolation law: of a scenario of which no line was refused and which has no `relay` line, where no step under another source
 -- than `s` puts sink `n` on a train or a group, the sink is isolated from all steps that aren't kept for it and `s`. It holds after
--- each step.
+-- each step. Without a `relay` line what the lines say is all that happens.
 abbrev pub IsolationLaw : List Account → Type 0
 IsolationLaw starts = (airs : Airs) → MeetAirs airs → (lines : List TextLine) → Accepted (rules_of airs starts) lines
-    → has_relay (steps_of lines) ≡ false → (s : ℕ) → (n : ℕ) → NoOtherPuts s n (steps_of lines) → IsIsolated airs s n (steps_of lines)
+    → has_relay (said_of lines) ≡ false → (s : ℕ) → (n : ℕ) → NoOtherPuts s n (steps_of airs lines)
+    → IsIsolated airs s n (steps_of airs lines)

@@ -6,6 +6,7 @@ mod Seconds
 mod Sources
 mod Lived
 mod Received
+mod Relays
 mod Refused
 mod Outputs
 mod Reach

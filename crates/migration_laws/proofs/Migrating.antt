@@ -1,5 +1,5 @@
 -- The migration law, over the airs of each stream by its framing: a text and the text in version 2.
-use Rattle.std.proofs.Common.{ℕ, ◌≡◌, ◌⊎◌, ◌+◌, cond, leb, Bool, true, false, List, [], ◌∷◌, ◌++◌, length, reverse, Option, None}
+use Rattle.std.proofs.Common.{ℕ, ◌≡◌, ◌⊎◌, ◌+◌, nat_eq, cond, leb, Bool, true, false, List, [], ◌∷◌, ◌++◌, length, reverse, Option, None}
 use Rattle.std.proofs.Common.{Some, Ok, refl, sym, ◌∙◌, ap, ap₂, subst, inl, inr}
 use Rattle.std.specs.Fmt.{digits as numerals}
 use Rattle.std.proofs.lemmas.List.{append-nil}
@@ -19,8 +19,10 @@ use Rattle.scenario_text.specs.declared.step.Step.{Step}
 use Rattle.scenario_text.specs.declared.step.Step.TheVariants as steps
 use Rattle.transcript_text.specs.declared.refusal.Refusal.{Refusal}
 use Rattle.transcript_text.specs.declared.refusal.Refusal.TheVariants.{LineTooLong}
-use Rattle.scenario_history.specs.Lines.{a_step, nothing, unsaid, output_said, refusal_said, said_after, said_by, said_in, steps_of}
-use Rattle.scenario_history.specs.Lines.{with_said}
+use Rattle.scenario_history.specs.Lines.{a_step, nothing, unsaid, output_said, refusal_said, said_after, said_by, said_in, said_of}
+use Rattle.scenario_history.specs.Lines.{steps_of, with_said}
+use Rattle.scenario_history.specs.Gifts.{happened}
+use Rattle.scenario_history.specs.Relays.{has_relay}
 use Rattle.scenario_history.specs.Steps.{is_over, is_unbegun_at, stage_of, version_of}
 use Rattle.scenario_history.specs.Transcript.{end_after, has_end, last_end_after, last_line_after, out_of, transcript_end, transcript_of}
 use Rattle.scenario_history.specs.Transcript.{units_of}
@@ -104,33 +106,36 @@ second_says made none = subst (λ before. said_in (version_of before) (plain sec
 abbrev SaysVersion : List TextLine → ℕ → List ℕ → Type 0
 SaysVersion history version line = said_after history (plain line) ≡ a_step (steps.Scenario version)
 
-its_refusal : (starts : List Account) (history : List TextLine) (version : ℕ) (line : List ℕ) → steps_of history ≡ []
+its_refusal : (starts : List Account) (history : List TextLine) (version : ℕ) (line : List ℕ) → said_of history ≡ []
     → SaysVersion history version line
     → (Its starts).refusal history (plain line) ≡ None
 its_refusal starts history version line none says =
-    ap (refusal_said airs_of (length starts) (steps_of history)) says ∙ first_refusal (length starts) version (steps_of history) none
+    ap (refusal_said airs_of (length starts) (steps_of airs_of history)) says
+    ∙ first_refusal (length starts) version (steps_of airs_of history) (ap (happened airs_of) none)
 
 its_output : (starts : List Account) (history : List TextLine) (version : ℕ) (line : List ℕ) → SaysVersion history version line
     → (Its starts).output history (plain line) ≡ []
-its_output starts history version line says = ap (output_said airs_of starts (steps_of history)) says
+its_output starts history version line says = ap (output_said airs_of starts (steps_of airs_of history)) says
 
-its_steps : (history : List TextLine) (version : ℕ) (line : List ℕ) → steps_of history ≡ [] → SaysVersion history version line
-    → steps_of (plain line ∷ history) ≡ steps.Scenario version ∷ []
+its_steps : (history : List TextLine) (version : ℕ) (line : List ℕ) → said_of history ≡ [] → SaysVersion history version line
+    → said_of (plain line ∷ history) ≡ steps.Scenario version ∷ []
 its_steps history version line none says = ap₂ with_said says none
 
 begun_calm : AreCalm (steps.Scenario 1 ∷ [])
 begun_calm = (tt, λ n made names lives. tt)
 
-first_stands : (starts : List Account) (history : List TextLine) → steps_of history ≡ [] → Accepted (Its starts) history
+first_stands : (starts : List Account) (history : List TextLine) → said_of history ≡ [] → Accepted (Its starts) history
     → Stands starts (plain first_version ∷ history) (plain second_version ∷ history)
 first_stands starts history none accepted =
-    let one : SaysVersion history 1 first_version = first_says (steps_of history) none in
-    let two : SaysVersion history 2 second_version = second_says (steps_of history) none in
-    let made : steps_of (plain first_version ∷ history) ≡ steps.Scenario 1 ∷ [] = its_steps history 1 first_version none one in
+    let one : SaysVersion history 1 first_version = first_says (said_of history) none in
+    let two : SaysVersion history 2 second_version = second_says (said_of history) none in
+    let made : said_of (plain first_version ∷ history) ≡ steps.Scenario 1 ∷ [] = its_steps history 1 first_version none one in
     record {
       made = its_steps history 2 second_version none two ∙ ap seconds (sym made);
       count = refl;
       begun = ap (λ all. is_unbegun_at (stage_of all)) made;
+      first = ap (λ all. nat_eq (version_of all) 2) made;
+      plain = ap has_relay made;
       calm = subst AreCalm (sym made) begun_calm;
       accepted = (accepted, its_refusal starts history 1 first_version none one);
     }
@@ -139,11 +144,11 @@ first_stands starts history none accepted =
 
 first_alike : Laws → (starts : List Account) (all history rest : List TextLine) → NonePrintsTooFar airs_of starts all
     → Begins all history (plain first_version ∷ rest)
-    → steps_of history ≡ [] → Accepted (Its starts) history → EndsLasting (end_of (Its starts) history (plain first_version ∷ rest))
+    → said_of history ≡ [] → Accepted (Its starts) history → EndsLasting (end_of (Its starts) history (plain first_version ∷ rest))
     → RunAlike starts history history (plain first_version ∷ rest) (plain second_version ∷ rest)
 first_alike laws starts all history rest never begins none accepted lasting =
-    let one : SaysVersion history 1 first_version = first_says (steps_of history) none in
-    let two : SaysVersion history 2 second_version = second_says (steps_of history) none in
+    let one : SaysVersion history 1 first_version = first_says (said_of history) none in
+    let two : SaysVersion history 2 second_version = second_says (said_of history) none in
     let none_one : (Its starts).refusal history (plain first_version) ≡ None = its_refusal starts history 1 first_version none one in
     let none_two : (Its starts).refusal history (plain second_version) ≡ None = its_refusal starts history 2 second_version none two in
     skips starts history history ((Its starts).refusal history (plain first_version)) ((Its starts).refusal history (plain second_version))
@@ -158,24 +163,24 @@ first_alike laws starts all history rest never begins none accepted lasting =
     none_one lasting))
 
 turned_alike : Laws → (starts : List Account) (all history lines others : List TextLine) → NonePrintsTooFar airs_of starts all
-    → Begins all history lines → steps_of history ≡ []
+    → Begins all history lines → said_of history ≡ []
     → Accepted (Its starts) history → EndsLasting (end_of (Its starts) history lines) → Turned lines others
     → RunAlike starts history history lines others
 turned_alike laws starts all history _ _ never begins none accepted lasting (here rest) =
     first_alike laws starts all history rest never begins none accepted lasting
 turned_alike laws starts all history _ _ never begins none accepted lasting (later line lines others blank turned) =
     let it : TextLine = line_of line in
-    elim (blank_says (version_of (steps_of history)) line blank) [
+    elim (blank_says (version_of (said_of history)) line blank) [
       | inl says ↦
-          let passes : (Its starts).refusal history it ≡ None = ap (refusal_said airs_of (length starts) (steps_of history)) says in
-          let empty : (Its starts).output history it ≡ [] = ap (output_said airs_of starts (steps_of history)) says in
+          let passes : (Its starts).refusal history it ≡ None = ap (refusal_said airs_of (length starts) (steps_of airs_of history)) says in
+          let empty : (Its starts).output history it ≡ [] = ap (output_said airs_of starts (steps_of airs_of history)) says in
           skips starts history history ((Its starts).refusal history it) ((Its starts).refusal history it) ((Its starts).output history it)
           ((Its starts).output history it)
           (out (Its starts) (it ∷ history) lines) (out (Its starts) (it ∷ history) others) (end_of (Its starts) (it ∷ history) lines)
           (end_of (Its starts) (it ∷ history) others)
           (accepted_of (Its starts) (it ∷ history) lines) (accepted_of (Its starts) (it ∷ history) others) passes passes empty empty
           (turned_alike laws starts all (it ∷ history) lines others never (begins ∙ sym (reverse_onto it history lines))
-          (ap (λ said. with_said said (steps_of history)) says ∙ none) (accepted, passes)
+          (ap (λ said. with_said said (said_of history)) says ∙ none) (accepted, passes)
           (lasting_next history ((Its starts).refusal history it) (end_of (Its starts) (it ∷ history) lines) passes lasting) turned)
       | inr says ↦
           stops starts history ((Its starts).refusal history it) LineTooLong ((Its starts).output history it
@@ -183,7 +188,7 @@ turned_alike laws starts all history _ _ never begins none accepted lasting (lat
           ((Its starts).output history it ++ out (Its starts) (it ∷ history) others) (end_of (Its starts) (it ∷ history) lines)
           (end_of (Its starts) (it ∷ history) others)
           (accepted_of (Its starts) (it ∷ history) lines) (accepted_of (Its starts) (it ∷ history) others)
-          (ap (refusal_said airs_of (length starts) (steps_of history)) says)
+          (ap (refusal_said airs_of (length starts) (steps_of airs_of history)) says)
     ]
 
 -- ---- the transcripts
@@ -203,8 +208,8 @@ through_all rules history (line ∷ lines) is = through_if rules history lines l
     (through_all rules (line ∷ history) lines) is
 
 ends_over : (starts : List Account) (lines : List TextLine) → end_after airs_of starts lines ≡ through
-    → has_end lines ≡ is_over (steps_of (accepted_of (Its starts) [] lines))
-ends_over starts lines is = ap (λ all. is_over (steps_of all)) (sym (through_all (Its starts) [] lines is ∙ append-nil (reverse lines)))
+    → has_end lines ≡ is_over (said_of (accepted_of (Its starts) [] lines))
+ends_over starts lines is = ap (λ all. is_over (said_of all)) (sym (through_all (Its starts) [] lines is ∙ append-nil (reverse lines)))
 
 line_if : (end : End Refusal) (over over' : Bool) (number : ℕ) → (end ≡ through → over' ≡ over)
     → last_line_after end over' number ≡ last_line_after end over number

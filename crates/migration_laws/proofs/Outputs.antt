@@ -1,6 +1,6 @@
 -- What the steps of a scenario in version 2 hand up and print: the same, where no train was answered `BadGroup 11`. Lists of
 -- steps have the newest first; where a list is called `own` its steps are those of one source.
-use Rattle.std.proofs.Common.{ℕ, ◌≡◌, cond, List, [], ◌∷◌, ◌++◌, Option, None, Some, refl, ◌∙◌, ap, ap₂}
+use Rattle.std.proofs.Common.{ℕ, ◌≡◌, cond, false, List, [], ◌∷◌, ◌++◌, Option, None, Some, refl, sym, ◌∙◌, ap, ap₂}
 use Rattle.std.specs.List.{concat, flat_map}
 use Rattle.unit_outlets.specs.Account.{Account}
 use Rattle.isoal_base.specs.declared.hearing.Hearing.TheVariants.{NotOnGroup}
@@ -15,15 +15,18 @@ use Rattle.sink_histories.specs.Moves.{train_by}
 use Rattle.sink_histories.specs.Output.{printed_at, printed_of, printed_where}
 use Rattle.scenario_history.specs.Boxes.{SinkUnit, box_of, closing, closing_at, closing_both, closing_by, handed_by, handed_up}
 use Rattle.scenario_history.specs.Boxes.{sink_numbers}
-use Rattle.scenario_history.specs.Output.{output_of, sink_lines, stale_lines, sum_if, sums_of, unit_lines}
+use Rattle.scenario_history.specs.Output.{close_lines, output_of, sink_lines, stale_lines, sum_if, sums_of, unit_lines}
+use Rattle.scenario_history.specs.Relays.{has_relay}
 use Rattle.scenario_history.specs.Sinks.{is_of, sink_calls, source_of}
 use Rattle.scenario_history.specs.Source.{end_pdu, event_back, open_event, pdu_in, stale_in}
 use Rattle.scenario_history.specs.Steps.{chosen_of, chosen_steps, steps_of_source}
 use Rattle.scenario_history.specs.Worlds.{life, source_at, the_world}
+use Rattle.gift_laws.proofs.Citable.{plain_close, plain_end}
 use Rattle.migration_laws.proofs.Lived.{AreCalm, AreFar, IsCalm, QuietLife, is_quiet, life_same, made_far, quiet_life, source_same}
 use Rattle.migration_laws.proofs.Printed.{printed_same}
 use Rattle.migration_laws.proofs.Received.{HeardNear, of_chosen, sink_calls_same, source_of_same}
 use Rattle.migration_laws.proofs.Refused.{box_same}
+use Rattle.migration_laws.proofs.Relays.{has_relay_same}
 use Rattle.migration_laws.proofs.Seconds.{at_second, chosen_same, own_same, second, seconds}
 use Rattle.migration_laws.proofs.Sources.{end_same, event_same, open_same, pdu_same, stale_same}
 
@@ -109,44 +112,57 @@ sniff_same back bis subevent own =
     ap (λ event. pdu_line event bis subevent (pdu_in airs_of (seconds own) event bis subevent)) (event_same own back)
     ∙ ap (pdu_line (event_back own back) bis subevent) (pdu_same own (event_back own back) bis subevent)
 
-pub output_same : (starts : List Account) (made : List Step) (step : Step) → AreCalm made → IsCalm made step
-    → output_of airs_of starts (seconds made) step ≡ output_of airs_of starts made step
-output_same starts made steps.Event calm is =
-    ap₂ (λ units stale. unit_lines units ++ stale_lines stale) (closing_chosen made calm) (of_chosen (stale_in airs_of) stale_same made)
-output_same starts made steps.Stop calm is = ap unit_lines (closing_chosen made calm)
-output_same starts made (steps.Terminate reason) calm is =
-    ap₂ (λ units octets. unit_lines units ++ control_line octets) (closing_chosen made calm)
-    (of_chosen (λ own. end_pdu own reason) (λ own. end_same own reason) made)
-output_same starts made steps.End calm is =
-    ap₂ (λ units before. unit_lines units ++ sums_of starts (before ++ units) (seconds made)) (both_same made calm)
+-- a close of a scenario without relays
+close_same : (made : List Step) (step : Step) → has_relay made ≡ false → AreCalm made
+    → close_lines airs_of (seconds made) step ≡ close_lines airs_of made step
+close_same made step none calm =
+    plain_close airs_of (seconds made) step (has_relay_same made ∙ none) ∙ ap unit_lines (closing_chosen made calm)
+    ∙ sym (plain_close airs_of made step none)
+
+ends_same : (starts : List Account) (made : List Step) → has_relay made ≡ false → AreCalm made
+    → output_of airs_of starts (seconds made) steps.End ≡ output_of airs_of starts made steps.End
+ends_same starts made none calm =
+    plain_end airs_of starts (seconds made) (has_relay_same made ∙ none)
+    ∙ ap₂ (λ units before. unit_lines units ++ sums_of starts (before ++ units) (seconds made)) (both_same made calm)
     (handed_up_same made calm)
     ∙ ap (λ lines. unit_lines (closing_both airs_of made) ++ lines)
     (sums_same starts (handed_up airs_of made ++ closing_both airs_of made) made)
-output_same starts made (steps.Drop sink) calm is = ap₂ (λ units box. sum_if starts units sink box) (handed_up_same made calm)
+    ∙ sym (plain_end airs_of starts made none)
+
+pub output_same : (starts : List Account) (made : List Step) (step : Step) → has_relay made ≡ false → AreCalm made → IsCalm made step
+    → output_of airs_of starts (seconds made) step ≡ output_of airs_of starts made step
+output_same starts made steps.Event none calm is =
+    ap₂ (λ lines stale. lines ++ stale_lines stale) (close_same made steps.Event none calm) (of_chosen (stale_in airs_of) stale_same made)
+output_same starts made steps.Stop none calm is = close_same made steps.Stop none calm
+output_same starts made (steps.Terminate reason) none calm is =
+    ap₂ (λ lines octets. lines ++ control_line octets) (close_same made (steps.Terminate reason) none calm)
+    (of_chosen (λ own. end_pdu own reason) (λ own. end_same own reason) made)
+output_same starts made steps.End none calm is = ends_same starts made none calm
+output_same starts made (steps.Drop sink) none calm is = ap₂ (λ units box. sum_if starts units sink box) (handed_up_same made calm)
     (box_same sink made)
-output_same starts made (steps.Inject sink back bis subevent octets) calm is =
+output_same starts made (steps.Inject sink back bis subevent octets) none calm is =
     ap₂ (λ chosen source. heard_line sink (cond (is_of chosen source)
     (hearing_of (sink_calls airs_of sink (seconds made)) (event_back (chosen_steps (seconds made)) back) bis subevent octets) NotOnGroup))
     (chosen_same made) (source_of_same sink made calm)
     ∙ ap₂ (λ calls event. heard_line sink (cond (is_of (chosen_of made) (source_of sink made)) (hearing_of calls event bis subevent octets)
     NotOnGroup))
     (sink_calls_same sink made calm) (of_chosen (λ own. event_back own back) (λ own. event_same own back) made)
-output_same starts made (steps.Sniff back bis subevent) calm is =
+output_same starts made (steps.Sniff back bis subevent) none calm is =
     of_chosen (λ own. pdu_line (event_back own back) bis subevent (pdu_in airs_of own (event_back own back) bis subevent))
     (sniff_same back bis subevent) made
-output_same starts made (steps.Announce sink) calm is = lines_same made (steps.Announce sink) calm is
-output_same starts made (steps.Train sink time ext adv acad) calm is = lines_same made (steps.Train sink time ext adv acad) calm is
-output_same starts made (steps.Serve sink) calm is = lines_same made (steps.Serve sink) calm is
-output_same starts made (steps.Tell sink) calm is = lines_same made (steps.Tell sink) calm is
-output_same starts made (steps.Read sink) calm is = lines_same made (steps.Read sink) calm is
-output_same starts made (steps.Drain sink) calm is = lines_same made (steps.Drain sink) calm is
-output_same starts made (steps.Show sink) calm is = lines_same made (steps.Show sink) calm is
-output_same starts made (steps.Lose sink) calm is = lines_same made (steps.Lose sink) calm is
-output_same starts made (steps.Control sink octets) calm is = lines_same made (steps.Control sink octets) calm is
-output_same starts made (steps.Forge sink slot octets) calm is = lines_same made (steps.Forge sink slot octets) calm is
-output_same starts made (steps.AServe sink link) calm is = lines_same made (steps.AServe sink link) calm is
-output_same starts made (steps.ATell sink link) calm is = lines_same made (steps.ATell sink link) calm is
-output_same starts made (steps.ARead sink link) calm is = lines_same made (steps.ARead sink link) calm is
-output_same starts made (steps.ADrain sink link) calm is = lines_same made (steps.ADrain sink link) calm is
-output_same starts made (steps.AShow sink link) calm is = lines_same made (steps.AShow sink link) calm is
-output_same starts made _ calm is = refl
+output_same starts made (steps.Announce sink) none calm is = lines_same made (steps.Announce sink) calm is
+output_same starts made (steps.Train sink time ext adv acad) none calm is = lines_same made (steps.Train sink time ext adv acad) calm is
+output_same starts made (steps.Serve sink) none calm is = lines_same made (steps.Serve sink) calm is
+output_same starts made (steps.Tell sink) none calm is = lines_same made (steps.Tell sink) calm is
+output_same starts made (steps.Read sink) none calm is = lines_same made (steps.Read sink) calm is
+output_same starts made (steps.Drain sink) none calm is = lines_same made (steps.Drain sink) calm is
+output_same starts made (steps.Show sink) none calm is = lines_same made (steps.Show sink) calm is
+output_same starts made (steps.Lose sink) none calm is = lines_same made (steps.Lose sink) calm is
+output_same starts made (steps.Control sink octets) none calm is = lines_same made (steps.Control sink octets) calm is
+output_same starts made (steps.Forge sink slot octets) none calm is = lines_same made (steps.Forge sink slot octets) calm is
+output_same starts made (steps.AServe sink link) none calm is = lines_same made (steps.AServe sink link) calm is
+output_same starts made (steps.ATell sink link) none calm is = lines_same made (steps.ATell sink link) calm is
+output_same starts made (steps.ARead sink link) none calm is = lines_same made (steps.ARead sink link) calm is
+output_same starts made (steps.ADrain sink link) none calm is = lines_same made (steps.ADrain sink link) calm is
+output_same starts made (steps.AShow sink link) none calm is = lines_same made (steps.AShow sink link) calm is
+output_same starts made _ none calm is = refl

@@ -5,8 +5,10 @@ use Rattle.unit_outlets.specs.Account.{Account}
 use Rattle.line_runs.specs.Runs.{Accepted}
 use Rattle.scenario_migration.specs.Migrated.{migrated}
 use Rattle.source_machine.specs.Airs.{airs_of}
+use Rattle.scenario_text.specs.declared.step.Step.TheVariants as steps
 use Rattle.scenario_history.specs.Airs.{MeetAirs}
 use Rattle.scenario_history.specs.Lines.{output_said, rules_of, steps_of}
+use Rattle.scenario_history.specs.Output.{sink_lines}
 use Rattle.scenario_history.specs.Source.{Airs}
 use Rattle.scenario_history.specs.Transcript.{transcript_end, transcript_of, units_of}
 use Rattle.migration_laws.specs.Laws.{EndsLasting, IsLastingText, MigrationLaw, PrintsTooFar}
@@ -23,20 +25,22 @@ pub record OneTranscript : Type 0 where
       → units_of airs starts lines ≡ units_of others starts lines
   pub accepted : (airs others : Airs) (starts : List Account) (lines : List TextLine) → MeetAirs airs → MeetAirs others
       → Accepted (rules_of airs starts) lines → Accepted (rules_of others starts) lines
+  pub steps : (airs others : Airs) (starts : List Account) (lines : List TextLine) → MeetAirs airs → MeetAirs others
+      → Accepted (rules_of airs starts) lines → steps_of airs lines ≡ steps_of others lines
 
 -- a `train` step prints the same over all airs
 prints_over : (airs others : Airs) (starts : List Account) (earlier : List TextLine) (line : TextLine)
-    → PrintsTooFar airs starts earlier line
-    → PrintsTooFar others starts earlier line
-prints_over airs others starts earlier line prints = record {
+    → steps_of airs earlier ≡ steps_of others earlier → PrintsTooFar airs starts earlier line → PrintsTooFar others starts earlier line
+prints_over airs others starts earlier line same prints = record {
   sink = prints.sink;
   time = prints.time;
   ext = prints.ext;
   adv = prints.adv;
   acad = prints.acad;
   says = prints.says;
-  prints = ap (output_said others starts (steps_of earlier)) prints.says
-      ∙ sym (ap (output_said airs starts (steps_of earlier)) prints.says) ∙ prints.prints;
+  prints = ap (output_said others starts (steps_of others earlier)) prints.says
+      ∙ ap (λ made. sink_lines made (steps.Train prints.sink prints.time prints.ext prints.adv prints.acad)) (sym same)
+      ∙ sym (ap (output_said airs starts (steps_of airs earlier)) prints.says) ∙ prints.prints;
 }
 
 lasting_over : OneTranscript → MeetAirs airs_of → (airs : Airs) (starts : List Account) (text : List ℕ) → MeetAirs airs
@@ -44,7 +48,8 @@ lasting_over : OneTranscript → MeetAirs airs_of → (airs : Airs) (starts : Li
     → IsLastingText airs_of starts text
 lasting_over one meet airs starts text meets lasting = record {
   trains = λ earlier line later is accepted prints. lasting.trains earlier line later is
-      (one.accepted airs_of airs starts (line ∷ earlier) meet meets accepted) (prints_over airs_of airs starts earlier line prints);
+      (one.accepted airs_of airs starts (line ∷ earlier) meet meets accepted) (prints_over airs_of airs starts earlier line
+      (one.steps airs_of airs starts earlier meet meets accepted.0) prints);
   end = subst EndsLasting (one.end airs airs_of starts (lines_of true text) meets meet) lasting.end;
 }
 

@@ -19,15 +19,15 @@ use Rattle.scenario_text.specs.declared.step.Step.{Step}
 use Rattle.scenario_text.specs.declared.step.Step.TheVariants as steps
 use Rattle.transcript_text.specs.declared.refusal.Refusal.{Refusal}
 use Rattle.transcript_text.specs.declared.refusal.Refusal.TheVariants.{AfterEnd, BaseTooLong, IdentTwice, NoOutlet, NoSuchBis, NoSuchSink}
-use Rattle.transcript_text.specs.declared.refusal.Refusal.TheVariants.{NotBuilt, NotOnAir, Order, SinkTwice}
+use Rattle.transcript_text.specs.declared.refusal.Refusal.TheVariants.{NotOnAir, Order, RelayTaken, SinkTwice}
 use Rattle.sink_histories.specs.Lives.{Made, made_of, named_by}
 use Rattle.sink_histories.specs.Refusals.{refused_at, refused_by, refused_where}
 use Rattle.scenario_history.specs.Bases.{is_base_too_long}
 use Rattle.scenario_history.specs.Boxes.{box_after, box_of}
 use Rattle.scenario_history.specs.Refusals.{air_refusal, counter_ends, give_refusal, group_refusal, has_beyond, horizon_in, is_ident_twice}
 use Rattle.scenario_history.specs.Refusals.{is_misplaced, is_out_of_order, is_out_of_phase}
-use Rattle.scenario_history.specs.Refusals.{is_unbuilt, no_place, no_sink, own_refusal, refusal_of, refuse_if, sink_refusal}
-use Rattle.scenario_history.specs.Refusals.{source_refusal, train_ends, twin_refusal}
+use Rattle.scenario_history.specs.Refusals.{no_place, no_sink, own_refusal, refusal_of, refuse_if, sink_refusal}
+use Rattle.scenario_history.specs.Refusals.{relay_refusal, source_refusal, train_ends, twin_refusal}
 use Rattle.scenario_history.specs.Source.{GroupLine, checked_info, identity_of, is_absent_at}
 use Rattle.scenario_history.specs.Source.{is_described_at, is_started, setup_of, source_calls}
 use Rattle.scenario_history.specs.Steps.{chosen_of, chosen_steps, is_over, other_of, stage_of, steps_of_source, version_of}
@@ -37,6 +37,7 @@ use Rattle.migration_laws.proofs.Groups.{first_same, near_or_far}
 use Rattle.migration_laws.proofs.Lived.{AreCalm, AreFar, QuietLife, is_quiet, life_same, made_far, quiet_life}
 use Rattle.migration_laws.proofs.Printed.{refused_same}
 use Rattle.migration_laws.proofs.Received.{of_chosen}
+use Rattle.migration_laws.proofs.Relays.{beyond_same, may_same, taken_same}
 use Rattle.migration_laws.proofs.Seconds.{IsLater, ahead_stays, at_second, calls_same, chosen_own, chosen_same, horizon_grows, ident_same}
 use Rattle.migration_laws.proofs.Seconds.{is_later, over_same, own_same, phase_same}
 use Rattle.migration_laws.proofs.Seconds.{seconds, sinks_same, unbegun_same}
@@ -209,6 +210,7 @@ sink_same boxes made (steps.Tuned sink which) calm = no_sink_same sink made
 sink_same boxes made (steps.Hear sink back bis subevent) calm = no_sink_same sink made
 sink_same boxes made (steps.Air sink lose) calm = no_sink_same sink made
 sink_same boxes made (steps.Inject sink back bis subevent octets) calm = no_sink_same sink made
+sink_same boxes made (steps.Relay sink bis to) calm = refl
 sink_same boxes made this calm = named_same this (named_by this) made calm
 
 -- ---- the order of steps
@@ -268,8 +270,16 @@ twice_same made =
     ∙ ap₂ (λ one two. is_started (steps_of_source (other_of (chosen_of made)) made) && are_twins one two)
     (identity_in (chosen_of made) made) (identity_in (other_of (chosen_of made)) made)
 
+relay_row : (made : List Step) (sink bis to : ℕ) → relay_refusal (seconds made) sink bis to ≡ relay_refusal made sink bis to
+relay_row made sink bis to =
+    ap₂ (λ may rest. option_or (refuse_if (not may) Order) rest) (may_same made)
+    (ap₂ option_or (no_sink_same sink made)
+    (ap₂ (λ beyond taken. option_or (refuse_if beyond NoSuchBis) (refuse_if taken RelayTaken)) (beyond_same made bis to)
+    (taken_same made sink to)))
+
 twin_same : (made : List Step) (step : Step) → twin_refusal (seconds made) step ≡ twin_refusal made step
 twin_same made (steps.Start first) = ap (λ twice. refuse_if twice IdentTwice) (twice_same made)
+twin_same made (steps.Relay sink bis to) = relay_row made sink bis to
 twin_same made _ = refl
 
 -- ---- the first reason that holds
@@ -281,16 +291,14 @@ step_lasts boxes made step calm =
     let here : Option Refusal = source_refusal airs_of (version_of made) (chosen_steps made) step in
     let sink : Option Refusal = sink_refusal boxes made step in
     let order : Option Refusal = refuse_if (is_out_of_order made step) Order in
-    let built : Option Refusal = refuse_if (is_unbuilt step) NotBuilt in
     let ended : Option Refusal = refuse_if (is_over made) AfterEnd in
     let twin : Option Refusal = twin_refusal made step in
     subst (Lasts (refusal_of airs_of boxes made step))
     (sym (ap₂ (λ over out. option_or (refuse_if over AfterEnd)
-    (option_or (refuse_if out Order) (option_or built (own_refusal airs_of boxes (seconds made) step))))
+    (option_or (refuse_if out Order) (own_refusal airs_of boxes (seconds made) step)))
     (over_same made) (order_same made step)
-    ∙ ap₂ (λ by_sink source. option_or ended (option_or order
-    (option_or built (option_or by_sink (option_or source (twin_refusal (seconds made) step))))))
+    ∙ ap₂ (λ by_sink source. option_or ended (option_or order (option_or by_sink (option_or source (twin_refusal (seconds made) step)))))
     (sink_same boxes made step calm) (ap (λ own. source_refusal airs_of (version_of (seconds made)) own step) (chosen_own made))
-    ∙ ap (λ twins. option_or ended (option_or order (option_or built (option_or sink (option_or later twins))))) (twin_same made step)))
-    (or_lasts ended _ _ (or_lasts order _ _ (or_lasts built _ _ (or_lasts sink _ _
-    (lasts_or here later twin (source_lasts (version_of made) (version_of (seconds made)) (chosen_steps made) step (is_later made)))))))
+    ∙ ap (λ twins. option_or ended (option_or order (option_or sink (option_or later twins)))) (twin_same made step)))
+    (or_lasts ended _ _ (or_lasts order _ _ (or_lasts sink _ _
+    (lasts_or here later twin (source_lasts (version_of made) (version_of (seconds made)) (chosen_steps made) step (is_later made))))))

@@ -33,7 +33,7 @@ at_second P first others step = others step
 
 -- ---- what is gathered step by step
 
-gathered : {A : Type 0} (f : List Step → A) (with : Step → A → A)
+pub gathered : {A : Type 0} (f : List Step → A) (with : Step → A → A)
     → ((step : Step) (earlier : List Step) → f (step ∷ earlier) ≡ with step (f earlier))
     → ((version : ℕ) (a : A) → with (steps.Scenario 2) a ≡ with (steps.Scenario version) a) → (made : List Step) → f (seconds made) ≡ f made
 gathered f with next first [] = refl
@@ -42,7 +42,7 @@ gathered f with next first (step ∷ earlier) =
     ∙ at_second (λ one other. with other (f earlier) ≡ with one (f earlier)) (λ version. first version (f earlier)) (λ same. refl) step
     ∙ sym (next step earlier)
 
-given_same : {A : Type 0} (gives : Step → Option A) → ((version : ℕ) → gives (steps.Scenario 2) ≡ gives (steps.Scenario version))
+pub given_same : {A : Type 0} (gives : Step → Option A) → ((version : ℕ) → gives (steps.Scenario 2) ≡ gives (steps.Scenario version))
     → (made : List Step)
     → last_given gives (seconds made) ≡ last_given gives made
 given_same gives first made =

@@ -7,7 +7,7 @@ use Rattle.scenario_text.specs.Table.{first_row_of, row_of}
 use Rattle.scenario_text.specs.declared.step.Step.TheVariants.{End}
 use Rattle.scenario_generator.specs.Generated.{generated_lines}
 use Rattle.scenario_history.specs.Steps.{is_over, version_of}
-use Rattle.scenario_history.specs.Lines.{said_by, steps_of, with_said}
+use Rattle.scenario_history.specs.Lines.{said_by, said_of, with_said}
 use Rattle.scenario_history.specs.Transcript.{has_end}
 use Rattle.replay_generated.specs.Generated.{lines_made}
 use Rattle.replay_generated.proofs.GeneratedText.{generated_end}
@@ -16,13 +16,13 @@ read_end : (version : ℕ) → read_of version (codes "end") ≡ Ok (Some End)
 unfolding read_of step_of row_of first_row_of
 read_end version = refl
 
-over_end : (earlier : List TextLine) → is_over (steps_of (plain (codes "end") ∷ earlier)) ≡ true
-over_end earlier = ap (λ r. is_over (with_said (said_by r) (steps_of earlier))) (read_end (version_of (steps_of earlier)))
+over_end : (earlier : List TextLine) → is_over (said_of (plain (codes "end") ∷ earlier)) ≡ true
+over_end earlier = ap (λ r. is_over (with_said (said_by r) (said_of earlier))) (read_end (version_of (said_of earlier)))
 
 ended : (front : List (List ℕ)) → has_end (map plain (front ++ codes "end" ∷ [])) ≡ true
 ended front =
     ap has_end (map-append plain front (codes "end" ∷ []))
-    ∙ ap (λ ls. is_over (steps_of ls)) (reverse-append (map plain front) (plain (codes "end") ∷ []))
+    ∙ ap (λ ls. is_over (said_of ls)) (reverse-append (map plain front) (plain (codes "end") ∷ []))
     ∙ over_end (reverse (map plain front))
 
 pub made_end : (seed events : ℕ) → lines_made seed events ≡ map plain (generated_lines seed events) → has_end (lines_made seed events) ≡ true

@@ -1,5 +1,5 @@
 -- How the generated lines end: at their last, or where no box is left for a sink.
-use Rattle.std.proofs.Common.{◌≡◌, ℕ, zero, suc, ◌+◌, ◌<◌, ◌≤◌, true, false, List, [], ◌∷◌, length, map, codes, refl, sym, ap, ◌∙◌, arith, None, Some, Ok}
+use Rattle.std.proofs.Common.{◌≡◌, ℕ, zero, suc, ◌+◌, ◌<◌, ◌≤◌, true, false, List, [], ◌∷◌, length, map, codes, refl, sym, ap, subst, ◌∙◌, arith, None, Some, Ok}
 use Rattle.std.proofs.lemmas.Bool.{lt-leb, le-leb}
 use Rattle.bcast_io.specs.TextLines.{TextLine, plain}
 use Rattle.unit_outlets.specs.Account.{Account}
@@ -11,7 +11,9 @@ use Rattle.scenario_text.specs.Lines.{LineIs}
 use Rattle.scenario_text.specs.Steps.{read_of}
 use Rattle.scenario_text.specs.declared.step.Step.{Step}
 use Rattle.scenario_generator.specs.Generated.{generated_lines, lines_from, unit_line}
-use Rattle.scenario_history.specs.Lines.{a_step, refusal_said, rules_of, said_after, said_by, said_in, steps_of, with_said}
+use Rattle.scenario_history.specs.Lines.{a_step, refusal_said, rules_of, said_after, said_by, said_in, said_of, with_said}
+use Rattle.scenario_history.specs.Relays.{has_relay, makes_relay}
+use Rattle.gift_laws.proofs.Citable.{SaidNever, none_relayed, nothing_else, plain_after, says_no_relay}
 use Rattle.scenario_history.specs.Refusals.{refusal_of}
 use Rattle.scenario_history.specs.Steps.{version_of}
 use Rattle.scenario_history.specs.Transcript.{end_after, has_end, last_end_after, transcript_end}
@@ -26,19 +28,26 @@ use Rattle.replay_generated.proofs.Saying.{AllSay, all_say}
 abbrev pub Reads : Type 0
 Reads = (version : ℕ) (line : List ℕ) (next : Step) → LineIs version next line → read_of version line ≡ Ok (Some next)
 
+-- a step that a line of version 1 says is no `relay`
+never_relay : (line : List ℕ) (next : Step) → read_of 1 line ≡ Ok (Some next) → makes_relay next ≡ false
+never_relay line next reads = subst SaidNever (ap said_by reads) (says_no_relay 1 (plain line) refl)
+
 module _ (reads : Reads) (starts : List Account) where
   -- the next line says a step
-  module _ (history : List TextLine) (made : List Step) (line : List ℕ) (next : Step) (are : steps_of history ≡ made) (version : version_of made ≡ 1) (says : LineIs 1 next line) where
+  module _ (history : List TextLine) (made : List Step) (line : List ℕ) (next : Step) (are : said_of history ≡ made) (unrelayed : has_relay made ≡ false)
+      (version : version_of made ≡ 1) (says : LineIs 1 next line) where
     said : said_after history (plain line) ≡ a_step next
     said =
         ap (λ m. said_in (version_of m) (plain line)) are ∙ ap (λ v. said_by (read_of v line)) version ∙ ap said_by (reads 1 line next says)
 
     because : refusal_at starts history (plain line) ≡ refusal_of airs_of (length starts) made next
     because =
-        ap (refusal_said airs_of (length starts) (steps_of history)) said ∙ ap (λ m. refusal_of airs_of (length starts) m next) are
+        ap (λ m. refusal_said airs_of (length starts) m (said_after history (plain line)))
+        (nothing_else airs_of (said_of history) (ap has_relay are ∙ unrelayed) ∙ are)
+        ∙ ap (refusal_said airs_of (length starts) made) said ∙ none_relayed (length starts) airs_of made next unrelayed
 
-    made_next : steps_of (plain line ∷ history) ≡ next ∷ made
-    made_next = ap (λ w. with_said w (steps_of history)) said ∙ ap (λ m. next ∷ m) are
+    made_next : said_of (plain line ∷ history) ≡ next ∷ made
+    made_next = ap (λ w. with_said w (said_of history)) said ∙ ap (λ m. next ∷ m) are
 
     accepted_next : (later : List TextLine) → refusal_of airs_of (length starts) made next ≡ None
         → end_of (rules_of airs_of starts) history (plain line ∷ later) ≡ end_of (rules_of airs_of starts) (plain line ∷ history) later
@@ -48,14 +57,16 @@ module _ (reads : Reads) (starts : List Account) where
         → end_of (rules_of airs_of starts) history (plain line ∷ later) ≡ refused (length history + 1) reason
     refused_next later reason is = ap (λ why. end_unless history why (end_of (rules_of airs_of starts) (plain line ∷ history) later)) (because ∙ is)
 
-  all_accepted : (history : List TextLine) (made : List Step) (lines : List (List ℕ)) (steps : List Step) → steps_of history ≡ made → AllSay lines steps
+  all_accepted : (history : List TextLine) (made : List Step) (lines : List (List ℕ)) (steps : List Step) → said_of history ≡ made
+      → has_relay made ≡ false → AllSay lines steps
       → AllFine (length starts) made steps → end_of (rules_of airs_of starts) history (map plain lines) ≡ through
-  all_accepted history made [] [] are say fine = refl
-  all_accepted history made [] (next ∷ later) are say fine = absurd say
-  all_accepted history made (line ∷ lines) [] are say fine = absurd say
-  all_accepted history made (line ∷ lines) (next ∷ later) are say fine =
-      accepted_next history made line next are fine.0.0 say.0 (map plain lines) fine.0.1
-      ∙ all_accepted (plain line ∷ history) (next ∷ made) lines later (made_next history made line next are fine.0.0 say.0) say.1 fine.1
+  all_accepted history made [] [] are unrelayed say fine = refl
+  all_accepted history made [] (next ∷ later) are unrelayed say fine = absurd say
+  all_accepted history made (line ∷ lines) [] are unrelayed say fine = absurd say
+  all_accepted history made (line ∷ lines) (next ∷ later) are unrelayed say fine =
+      accepted_next history made line next are unrelayed fine.0.0 say.0 (map plain lines) fine.0.1
+      ∙ all_accepted (plain line ∷ history) (next ∷ made) lines later (made_next history made line next are unrelayed fine.0.0 say.0)
+      (plain_after made next (never_relay line next (reads 1 line next say.0)) unrelayed) say.1 fine.1
 
   -- ---- the generated lines
 
@@ -71,7 +82,7 @@ module _ (reads : Reads) (starts : List Account) where
 
     pub made_through : 2 ≤ length starts → transcript_end airs_of starts (lines_made seed events) ≡ through
     made_through two =
-        last_of through (all_accepted [] [] (generated_lines seed events) (made_steps seed events) refl (all_say seed events) (all_fine (length starts) seed events two most))
+        last_of through (all_accepted [] [] (generated_lines seed events) (made_steps seed events) refl refl (all_say seed events) (all_fine (length starts) seed events two most))
 
     -- the lines behind those of the sinks
     abbrev behind : List TextLine
@@ -84,31 +95,31 @@ module _ (reads : Reads) (starts : List Account) where
     abbrev head : List TextLine
     head = plain group_line ∷ plain (codes "scenario 1") ∷ []
 
-    head_made : steps_of head ≡ group_step ∷ scenario_step ∷ []
+    head_made : said_of head ≡ group_step ∷ scenario_step ∷ []
     head_made =
         made_next (plain (codes "scenario 1") ∷ []) (scenario_step ∷ []) group_line group_step
-        (made_next [] [] (codes "scenario 1") scenario_step refl refl (all_say seed events).0) refl (all_say seed events).1.0
+        (made_next [] [] (codes "scenario 1") scenario_step refl refl refl (all_say seed events).0) refl refl (all_say seed events).1.0
 
     head_accepted : (later : List TextLine) → end_of (rules_of airs_of starts) [] (plain (codes "scenario 1") ∷ plain group_line ∷ later) ≡ end_of (rules_of airs_of starts) head later
     head_accepted later =
-        accepted_next [] [] (codes "scenario 1") scenario_step refl refl (all_say seed events).0 (plain group_line ∷ later) (scenario_fine (length starts))
+        accepted_next [] [] (codes "scenario 1") scenario_step refl refl refl (all_say seed events).0 (plain group_line ∷ later) (scenario_fine (length starts))
         ∙ accepted_next (plain (codes "scenario 1") ∷ []) (scenario_step ∷ []) group_line group_step
-        (made_next [] [] (codes "scenario 1") scenario_step refl refl (all_say seed events).0) refl (all_say seed events).1.0 later (group_fine (length starts))
+        (made_next [] [] (codes "scenario 1") scenario_step refl refl refl (all_say seed events).0) refl refl (all_say seed events).1.0 later (group_fine (length starts))
 
     none_left : length starts ≡ 0 → end_of (rules_of airs_of starts) [] (map plain (generated_lines seed events)) ≡ refused 3 NoOutlet
     none_left none =
         head_accepted (plain (codes "sink 0 1 1") ∷ plain (codes "sink 1 1 1") ∷ behind)
-        ∙ refused_next head (group_step ∷ scenario_step ∷ []) (codes "sink 0 1 1") (sink_step 0) head_made refl (all_say seed events).1.1.0
+        ∙ refused_next head (group_step ∷ scenario_step ∷ []) (codes "sink 0 1 1") (sink_step 0) head_made refl refl (all_say seed events).1.1.0
         (plain (codes "sink 1 1 1") ∷ behind) NoOutlet (first_sink (length starts) true (le-leb (length starts) 0 (omega (arith, none))))
 
     one_left : length starts ≡ 1 → end_of (rules_of airs_of starts) [] (map plain (generated_lines seed events)) ≡ refused 4 NoOutlet
     one_left one =
         head_accepted (plain (codes "sink 0 1 1") ∷ plain (codes "sink 1 1 1") ∷ behind)
-        ∙ accepted_next head (group_step ∷ scenario_step ∷ []) (codes "sink 0 1 1") (sink_step 0) head_made refl (all_say seed events).1.1.0
+        ∙ accepted_next head (group_step ∷ scenario_step ∷ []) (codes "sink 0 1 1") (sink_step 0) head_made refl refl (all_say seed events).1.1.0
         (plain (codes "sink 1 1 1") ∷ behind) (first_sink (length starts) false (lt-leb (length starts) 0 (omega (arith, one))))
         ∙ refused_next (plain (codes "sink 0 1 1") ∷ head) (sink_step 0 ∷ group_step ∷ scenario_step ∷ []) (codes "sink 1 1 1") (sink_step 1)
-        (made_next head (group_step ∷ scenario_step ∷ []) (codes "sink 0 1 1") (sink_step 0) head_made refl (all_say seed events).1.1.0)
-        refl (all_say seed events).1.1.1.0 behind NoOutlet (second_sink (length starts) true (le-leb (length starts) 1 (omega (arith, one))))
+        (made_next head (group_step ∷ scenario_step ∷ []) (codes "sink 0 1 1") (sink_step 0) head_made refl refl (all_say seed events).1.1.0)
+        refl refl (all_say seed events).1.1.1.0 behind NoOutlet (second_sink (length starts) true (le-leb (length starts) 1 (omega (arith, one))))
 
     pub made_refused : length starts < 2 → transcript_end airs_of starts (lines_made seed events) ≡ refused (length starts + 3) NoOutlet
     made_refused few = by_count (length starts) refl few

@@ -3,6 +3,7 @@ mod EndLines
 mod SinkOutputs
 mod Outputs
 mod Untaken
+mod Failing
 mod Runs
 mod Standing
 mod Waiting

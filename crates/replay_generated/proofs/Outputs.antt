@@ -1,19 +1,21 @@
 -- What each line prints is whole lines.
-use Rattle.std.proofs.Common.{ℕ, ◌+◌, List, [], ◌∷◌, ◌++◌, codes, decimal, length, map, Option, None, Some}
+use Rattle.std.proofs.Common.{ℕ, ◌+◌, ◌==◌, cond, Bool, true, false, List, [], ◌∷◌, ◌++◌, codes, decimal, length, map, Option, None, Some}
 use Rattle.std.specs.Prelude.{sum}
-use Rattle.std.specs.List.{flat_map}
+use Rattle.std.specs.List.{filter, flat_map}
 use Rattle.unit_outlets.specs.Account.{Account}
 use Rattle.unit_outlets.specs.Handed.{Handed, valid, lost}
 use Rattle.source_machine.specs.Airs.{airs_of}
 use Rattle.source_machine.specs.declared.sent.Stale.{Stale}
 use Rattle.printed_words.specs.Digits.{digits}
 use Rattle.printed_words.specs.Lines.{joined}
-use Rattle.transcript_text.specs.Lines.{control_line, handed_line, hearing_name, hearing_number, line_of, numbers, stale_line}
+use Rattle.transcript_text.specs.Lines.{control_line, dropped_name, handed_line, hearing_name, hearing_number, line_of, numbers, stale_line}
 use Rattle.scenario_text.specs.declared.step.Step.{Step}
 use Rattle.scenario_text.specs.declared.step.Step.TheVariants as kinds
 use Rattle.scenario_history.specs.Boxes.{SinkUnit, account_at, box_of, closing, closing_both, handed_up, sink_numbers, valid_for}
+use Rattle.transcript_text.specs.declared.refusal.Refusal.{Refusal}
+use Rattle.scenario_history.specs.Gifts.{Answered, Offer, answered_by, handed_of}
 use Rattle.scenario_history.specs.Lines.{Said, a_step, nothing, unsaid, output_said}
-use Rattle.scenario_history.specs.Output.{injected_hearing, output_of, stale_lines, sum_if, sums_of, unit_line, unit_lines}
+use Rattle.scenario_history.specs.Output.{answer_line, close_lines, dropped_lines, first_lines, injected_hearing, output_of, stale_lines, sum_if, sums_of, unit_line, unit_lines}
 use Rattle.scenario_history.specs.Source.{end_pdu, event_back, pdu_in, stale_in}
 use Rattle.scenario_history.specs.Steps.{chosen_of, chosen_steps}
 use Rattle.transcript_summary.specs.Lines.{IsWhole}
@@ -51,17 +53,46 @@ sum_whole starts units n (Some box) =
 sums_whole : (starts : List Account) (units : List SinkUnit) (steps : List Step) → IsWhole (sums_of starts units steps)
 sums_whole starts units steps = all_whole (λ n. sum_if starts units n (box_of n steps)) (λ n. sum_whole starts units n (box_of n steps)) sink_numbers
 
+answer_whole : (offer : Offer) (reason : Option Refusal) → IsWhole (answer_line offer reason)
+answer_whole offer None = whole_none
+answer_whole offer (Some reason) =
+    line_whole (codes "relay") (decimal offer.sink ∷ decimal offer.route.bis ∷ codes "dropped" ∷ dropped_name reason ∷ [])
+
+dropped_whole : (n : ℕ) (answers : List Answered) → IsWhole (dropped_lines n answers)
+dropped_whole n answers =
+    all_whole (λ (answer : Answered). answer_line answer.offer answer.reason) (λ answer. answer_whole answer.offer answer.reason)
+    (filter (λ (answer : Answered). answer.offer.sink == n) answers)
+
+first_whole : (units : List SinkUnit) (answers : List Answered) → IsWhole (first_lines units answers)
+first_whole units answers =
+    all_whole (λ n. flat_map (handed_line n) (handed_of 0 n units) ++ dropped_lines n answers)
+    (λ n. whole_append (flat_map (handed_line n) (handed_of 0 n units)) (dropped_lines n answers)
+    (all_whole (handed_line n) (handed_whole n) (handed_of 0 n units)) (dropped_whole n answers)) sink_numbers
+
+whole_if : (b : Bool) (one other : List ℕ) → IsWhole one → IsWhole other → IsWhole (cond b one other)
+whole_if true one other first second = first
+whole_if false one other first second = second
+
+close_whole : (steps : List Step) (made : Step) → IsWhole (close_lines airs_of steps made)
+close_whole steps made =
+    whole_if (chosen_of steps == 0) (first_lines (closing airs_of 0 steps) (answered_by airs_of steps made))
+    (unit_lines (closing airs_of (chosen_of steps) steps)) (first_whole (closing airs_of 0 steps) (answered_by airs_of steps made))
+    (units_whole (closing airs_of (chosen_of steps) steps))
+
 output_whole : (starts : List Account) (steps : List Step) (made : Step) → IsWhole (output_of airs_of starts steps made)
 output_whole starts steps kinds.Event =
-    whole_append (unit_lines (closing airs_of (chosen_of steps) steps)) (stale_lines (stale_in airs_of (chosen_steps steps)))
-    (units_whole (closing airs_of (chosen_of steps) steps)) (stale_whole (stale_in airs_of (chosen_steps steps)))
-output_whole starts steps kinds.Stop = units_whole (closing airs_of (chosen_of steps) steps)
+    whole_append (close_lines airs_of steps kinds.Event) (stale_lines (stale_in airs_of (chosen_steps steps)))
+    (close_whole steps kinds.Event) (stale_whole (stale_in airs_of (chosen_steps steps)))
+output_whole starts steps kinds.Stop = close_whole steps kinds.Stop
 output_whole starts steps (kinds.Terminate reason) =
-    whole_append (unit_lines (closing airs_of (chosen_of steps) steps)) (control_line (end_pdu (chosen_steps steps) reason))
-    (units_whole (closing airs_of (chosen_of steps) steps)) (line_whole (codes "control") (digits (end_pdu (chosen_steps steps) reason) ∷ []))
+    whole_append (close_lines airs_of steps (kinds.Terminate reason)) (control_line (end_pdu (chosen_steps steps) reason))
+    (close_whole steps (kinds.Terminate reason)) (line_whole (codes "control") (digits (end_pdu (chosen_steps steps) reason) ∷ []))
 output_whole starts steps kinds.End =
-    whole_append (unit_lines (closing_both airs_of steps)) (sums_of starts (handed_up airs_of steps ++ closing_both airs_of steps) steps)
-    (units_whole (closing_both airs_of steps)) (sums_whole starts (handed_up airs_of steps ++ closing_both airs_of steps) steps)
+    let sums = sums_of starts (handed_up airs_of steps ++ closing_both airs_of steps) steps in
+    whole_append (first_lines (closing airs_of 0 steps) (answered_by airs_of steps kinds.End)) (unit_lines (closing airs_of 1 steps) ++ sums)
+    (first_whole (closing airs_of 0 steps) (answered_by airs_of steps kinds.End))
+    (whole_append (unit_lines (closing airs_of 1 steps)) sums (units_whole (closing airs_of 1 steps))
+    (sums_whole starts (handed_up airs_of steps ++ closing_both airs_of steps) steps))
 output_whole starts steps (kinds.Drop sink) = sum_whole starts (handed_up airs_of steps) sink (box_of sink steps)
 output_whole starts steps (kinds.Inject sink back bis subevent octets) =
     let hearing = injected_hearing airs_of steps sink back bis subevent octets in

@@ -17,11 +17,14 @@ use Rattle.line_runs.specs.Runs.{through, refused, out, out_unless, end_of, end_
 use Rattle.line_runs.proofs.Citable.{out_accepted, end_accepted, accepted_accepted, reverse_onto}
 use Rattle.scenario_text.specs.declared.step.Step.{Step}
 use Rattle.scenario_history.specs.Boxes.{SinkUnit, accounts_after, handed_up, Took}
-use Rattle.scenario_history.specs.Lines.{Said, a_step, nothing, unsaid, rules_of, steps_of, said_after, handed_on, handed_said, with_said}
+use Rattle.scenario_history.specs.Gifts.{happened}
+use Rattle.scenario_history.specs.Source.{Airs}
+use Rattle.gift_laws.proofs.Citable.{handed_happened}
+use Rattle.scenario_history.specs.Lines.{Said, a_step, nothing, unsaid, rules_of, said_of, steps_of, said_after, handed_on, handed_said, with_said}
 use Rattle.scenario_history.specs.Transcript.{out_of, end_after, last_line_after, last_end_after, has_end, transcript_of, transcript_end, units_of}
 use Rattle.scenario_history.proofs.Citable.{took_all}
 use Rattle.scenario_sinks.specs.Handing.{BoxFails, CutShort}
-use Rattle.replay_steps.specs.LineMeets.{LinesStand, LineMeets, refusal_at, output_at}
+use Rattle.replay_steps.specs.LineMeets.{LinesStand, LineMeets, refusal_at, output_at, answered_on}
 use Rattle.replay_steps.specs.Meets.{BoxesStand}
 use Rattle.replay_steps.specs.declared.machine.Machine.{Machine}
 use Rattle.replay_steps.proofs.Citable.{accounts_append}
@@ -30,6 +33,7 @@ use Rattle.replay_steps.specs.Untaken.{UntakenSame}
 use Rattle.replay_generated.specs.State.Between.{Counted, FrontTaken, LineRefused, LineRuns, Ran, Refuses, RunTo, Told, UntakenRun}
 use Rattle.replay_generated.specs.declared.running.Ending.{Ending}
 use Rattle.replay_generated.specs.declared.running.Ending.TheVariants as endings
+use Rattle.replay_generated.proofs.Failing.{box_fails}
 use Rattle.replay_generated.proofs.Outputs.{said_whole}
 use Rattle.replay_generated.proofs.Untaken.{untaken_line}
 
@@ -44,10 +48,10 @@ module _ (starts : List Account) (history : List TextLine) (accepted : Accepted 
   end_then lines = end_accepted (rules_of airs_of starts) history lines accepted
 
   units_then : (lines : List TextLine) → units_of airs_of starts (reverse history ++ lines)
-      ≡ handed_up airs_of (steps_of (accepted_of (rules_of airs_of starts) history lines))
-  units_then lines = ap (λ all. handed_up airs_of (steps_of all)) (accepted_accepted (rules_of airs_of starts) history lines accepted)
+      ≡ handed_up airs_of (steps_of airs_of (accepted_of (rules_of airs_of starts) history lines))
+  units_then lines = ap (λ all. handed_up airs_of (steps_of airs_of all)) (accepted_accepted (rules_of airs_of starts) history lines accepted)
 
-  pub units_all : units_of airs_of starts (reverse history) ≡ handed_up airs_of (steps_of history)
+  pub units_all : units_of airs_of starts (reverse history) ≡ handed_up airs_of (steps_of airs_of history)
   units_all = ap (units_of airs_of starts) (sym (append-nil (reverse history))) ∙ units_then []
 
   -- the history is all, and `end` is among it
@@ -68,7 +72,7 @@ module _ (starts : List Account) (history : List TextLine) (accepted : Accepted 
         ∙ out_then []
         ∙ append-nil (brought (rules_of airs_of starts) history)
 
-    units_through : units_of airs_of starts lines ≡ handed_up airs_of (steps_of history)
+    units_through : units_of airs_of starts lines ≡ handed_up airs_of (steps_of airs_of history)
     units_through = ap (units_of airs_of starts) whole ∙ units_then []
 
   -- a line is refused
@@ -93,20 +97,22 @@ module _ (starts : List Account) (history : List TextLine) (accepted : Accepted 
         ∙ out_then (line ∷ later)
         ∙ ap (λ last. brought (rules_of airs_of starts) history ++ last) out_refused
 
-    units_refused : units_of airs_of starts lines ≡ handed_up airs_of (steps_of history)
+    units_refused : units_of airs_of starts lines ≡ handed_up airs_of (steps_of airs_of history)
     units_refused =
         ap (units_of airs_of starts) whole ∙ units_then (line ∷ later)
-        ∙ ap (λ why. handed_up airs_of (steps_of (accepted_unless history why (accepted_of (rules_of airs_of starts) (line ∷ history) later)))) because
+        ∙ ap (λ why. handed_up airs_of (steps_of airs_of (accepted_unless history why (accepted_of (rules_of airs_of starts) (line ∷ history) later)))) because
 
 -- ---- the units of further lines
 
-handed_with : (steps : List Step) (said : Said) → handed_up airs_of (with_said said steps) ≡ handed_up airs_of steps ++ handed_said airs_of steps said
-handed_with steps (a_step next) = refl
-handed_with steps nothing = sym (append-nil (handed_up airs_of steps))
-handed_with steps (unsaid reason) = sym (append-nil (handed_up airs_of steps))
+handed_with : (airs : Airs) (earlier : List Step) (said : Said)
+    → handed_up airs (happened airs (with_said said earlier)) ≡ handed_up airs (happened airs earlier) ++ handed_said airs (happened airs earlier) said
+handed_with airs earlier (a_step next) = handed_happened airs earlier next
+handed_with airs earlier nothing = sym (append-nil (handed_up airs (happened airs earlier)))
+handed_with airs earlier (unsaid reason) = sym (append-nil (handed_up airs (happened airs earlier)))
 
-handed_line : (history : List TextLine) (line : TextLine) → handed_up airs_of (steps_of (line ∷ history)) ≡ handed_up airs_of (steps_of history) ++ handed_on airs_of history line
-handed_line history line = handed_with (steps_of history) (said_after history line)
+handed_line : (history : List TextLine) (line : TextLine)
+    → handed_up airs_of (steps_of airs_of (line ∷ history)) ≡ handed_up airs_of (steps_of airs_of history) ++ handed_on airs_of history line
+handed_line history line = handed_with airs_of (said_of history) (said_after history line)
 
 -- units that begin with these
 pub record Begins (front all : List SinkUnit) : Type 0 where
@@ -123,38 +129,38 @@ begins_as : (front other all : List SinkUnit) → front ≡ other → Begins fro
 begins_as front other all is b = record { rest = b.rest; split = b.split ∙ ap (λ f. f ++ b.rest) is }
 
 units_rest : (starts : List Account) (history lines : List TextLine)
-    → Begins (handed_up airs_of (steps_of history)) (handed_up airs_of (steps_of (accepted_of (rules_of airs_of starts) history lines)))
-units_rest starts history [] = begins_all (handed_up airs_of (steps_of history))
+    → Begins (handed_up airs_of (steps_of airs_of history)) (handed_up airs_of (steps_of airs_of (accepted_of (rules_of airs_of starts) history lines)))
+units_rest starts history [] = begins_all (handed_up airs_of (steps_of airs_of history))
 units_rest starts history (line ∷ lines) = by_refusal (units_rest starts (line ∷ history) lines) (refusal_at starts history line)
   where
-    by_refusal : Begins (handed_up airs_of (steps_of (line ∷ history))) (handed_up airs_of (steps_of (accepted_of (rules_of airs_of starts) (line ∷ history) lines)))
+    by_refusal : Begins (handed_up airs_of (steps_of airs_of (line ∷ history))) (handed_up airs_of (steps_of airs_of (accepted_of (rules_of airs_of starts) (line ∷ history) lines)))
         → (why : Option Refusal)
-        → Begins (handed_up airs_of (steps_of history)) (handed_up airs_of (steps_of (accepted_unless history why (accepted_of (rules_of airs_of starts) (line ∷ history) lines))))
-    by_refusal more (Some reason) = begins_all (handed_up airs_of (steps_of history))
+        → Begins (handed_up airs_of (steps_of airs_of history)) (handed_up airs_of (steps_of airs_of (accepted_unless history why (accepted_of (rules_of airs_of starts) (line ∷ history) lines))))
+    by_refusal more (Some reason) = begins_all (handed_up airs_of (steps_of airs_of history))
     by_refusal more None =
-        begins_more (handed_up airs_of (steps_of history)) (handed_on airs_of history line) _
-        (begins_as (handed_up airs_of (steps_of (line ∷ history))) (handed_up airs_of (steps_of history) ++ handed_on airs_of history line) _ (handed_line history line) more)
+        begins_more (handed_up airs_of (steps_of airs_of history)) (handed_on airs_of history line) _
+        (begins_as (handed_up airs_of (steps_of airs_of (line ∷ history))) (handed_up airs_of (steps_of airs_of history) ++ handed_on airs_of history line) _ (handed_line history line) more)
 
 -- the units of an accepted line come behind those of the history
 pub units_line : (starts : List Account) (history : List TextLine) (line : TextLine) (lines later : List TextLine) → lines ≡ reverse history ++ line ∷ later
     → Accepted (rules_of airs_of starts) history → refusal_at starts history line ≡ None
-    → Begins (handed_up airs_of (steps_of history) ++ handed_on airs_of history line) (units_of airs_of starts lines)
+    → Begins (handed_up airs_of (steps_of airs_of history) ++ handed_on airs_of history line) (units_of airs_of starts lines)
 units_line starts history line lines later split accepted none =
-    let b = begins_as (handed_up airs_of (steps_of (line ∷ history))) (handed_up airs_of (steps_of history) ++ handed_on airs_of history line) _
+    let b = begins_as (handed_up airs_of (steps_of airs_of (line ∷ history))) (handed_up airs_of (steps_of airs_of history) ++ handed_on airs_of history line) _
     (handed_line history line) (units_rest starts (line ∷ history) later) in
     record {
       rest = b.rest;
       split = ap (units_of airs_of starts) split ∙ units_then starts history accepted (line ∷ later)
-          ∙ ap (λ why. handed_up airs_of (steps_of (accepted_unless history why (accepted_of (rules_of airs_of starts) (line ∷ history) later)))) none
+          ∙ ap (λ why. handed_up airs_of (steps_of airs_of (accepted_unless history why (accepted_of (rules_of airs_of starts) (line ∷ history) later)))) none
           ∙ b.split;
     }
 
 -- ---- what the boxes took
 
-took_history : (starts accounts : List Account) (history : List TextLine) → BoxesStand starts (steps_of history) accounts → Took starts accounts (handed_up airs_of (steps_of history))
+took_history : (starts accounts : List Account) (history : List TextLine) → BoxesStand starts (steps_of airs_of history) accounts → Took starts accounts (handed_up airs_of (steps_of airs_of history))
 took_history starts accounts history b =
-    let P : List Account → Type 0 = λ a. Took starts a (handed_up airs_of (steps_of history)) in
-    subst P (sym b.accounts_are) (took_all starts (handed_up airs_of (steps_of history)))
+    let P : List Account → Type 0 = λ a. Took starts a (handed_up airs_of (steps_of airs_of history)) in
+    subst P (sym b.accounts_are) (took_all starts (handed_up airs_of (steps_of airs_of history)))
 
 took_as : (starts accounts : List Account) (us vs : List SinkUnit) → us ≡ vs → Took starts accounts us → Took starts accounts vs
 took_as starts accounts us vs e t = let P : List SinkUnit → Type 0 = λ u. Took starts accounts u in subst P e t
@@ -174,7 +180,7 @@ pub record Running {A : Type 0} (olds news : List A) (starts accounts : List Acc
   pub whole : lines ≡ reverse history ++ map plain left
   pub number_is : number ≡ length history
   pub run : RunTo starts history counts machine accounts
-  pub untaken : UntakenSame (steps_of history) olds news
+  pub untaken : UntakenSame (steps_of airs_of history) olds news
 
 pub running_none : {A : Type 0} (olds : List A) (starts : List Account) (lines : List TextLine) (left all : List (List ℕ)) (machine : Machine) (counts : Counts) → lines ≡ map plain all → left ≡ all
     → ((start : List Account) → LinesStand start [] machine start) → counts ≡ none_counted → Running olds olds starts starts lines left 0 machine counts
@@ -188,11 +194,11 @@ running_none olds starts lines left all machine counts are is stands none = reco
 
 module _ {A : Type 0} (olds news : List A) (starts accounts : List Account) (lines : List TextLine) (left : List (List ℕ)) (number : ℕ) (machine : Machine) (counts : Counts)
     (r : Running olds news starts accounts lines left number machine counts) where
-  took : Took starts accounts (handed_up airs_of (steps_of r.history))
+  took : Took starts accounts (handed_up airs_of (steps_of airs_of r.history))
   took = took_history starts accounts r.history r.run.stands.boxes
 
   -- the boxes took a front of the units of all lines
-  units_begin : Begins (handed_up airs_of (steps_of r.history)) (units_of airs_of starts lines)
+  units_begin : Begins (handed_up airs_of (steps_of airs_of r.history)) (units_of airs_of starts lines)
   units_begin =
       let b = units_rest starts r.history (map plain left) in
       record { rest = b.rest; split = ap (units_of airs_of starts) r.whole ∙ units_then starts r.history r.run.accepted (map plain left) ∙ b.split }
@@ -201,7 +207,7 @@ module _ {A : Type 0} (olds news : List A) (starts accounts : List Account) (lin
   pub untaken_here : UntakenRun starts lines olds news
   untaken_here = record { earlier = r.history; later = map plain left; split = r.whole; accepted = r.run.accepted; same = r.untaken }
 
-  pub untaken_out : (after : List A) → ((history : List TextLine) → RunTo starts history counts machine accounts → UntakenSame (steps_of history) news after)
+  pub untaken_out : (after : List A) → ((history : List TextLine) → RunTo starts history counts machine accounts → UntakenSame (steps_of airs_of history) news after)
       → UntakenRun starts lines olds after
   untaken_out after untaken = record {
     earlier = r.history;
@@ -212,7 +218,7 @@ module _ {A : Type 0} (olds news : List A) (starts accounts : List Account) (lin
   }
 
   pub stops_here : FrontTaken starts accounts lines
-  stops_here = front_taken starts accounts lines (handed_up airs_of (steps_of r.history)) units_begin took
+  stops_here = front_taken starts accounts lines (handed_up airs_of (steps_of airs_of r.history)) units_begin took
 
   -- no line is left
   pub runs_through : left ≡ [] → has_end lines ≡ true → Told starts accounts lines counts through
@@ -229,7 +235,7 @@ module _ {A : Type 0} (olds news : List A) (starts accounts : List Account) (lin
     split_at : lines ≡ reverse r.history ++ plain line ∷ map plain later
     split_at = r.whole ∙ ap (λ ls. reverse r.history ++ map plain ls) next
 
-    goes_on : (after : List A) (ends : List Account) (new : Machine) (counts' : Counts) (number' : ℕ) → number' ≡ number + 1 → UntakenSame (steps_of r.history) news after
+    goes_on : (after : List A) (ends : List Account) (new : Machine) (counts' : Counts) (number' : ℕ) → number' ≡ number + 1 → UntakenSame (steps_of airs_of r.history) news after
         → LineRuns starts r.history (plain line) counts' new accounts ends None → Running olds after starts ends lines later number' new counts'
     goes_on after ends new counts' number' more untaken run = record {
       history = plain line ∷ r.history;
@@ -249,7 +255,7 @@ module _ {A : Type 0} (olds news : List A) (starts accounts : List Account) (lin
               ∙ ap (λ n. counts_of (brought (rules_of airs_of starts) r.history ++ refusal_line n reason)) number_is
               ∙ ap counts_of (sym (writes_refused starts r.history r.run.accepted lines (plain line) (map plain later) reason split_at f.because));
           boxes = took_as starts ends _ _ (sym (units_refused starts r.history r.run.accepted lines (plain line) (map plain later) reason split_at f.because))
-              (took_at starts accounts ends (handed_up airs_of (steps_of r.history)) f.same took);
+              (took_at starts accounts ends (handed_up airs_of (steps_of airs_of r.history)) f.same took);
         }
 
     failed_here : (ends : List Account) (told : List ℕ) → refusal_at starts r.history (plain line) ≡ None
@@ -268,7 +274,7 @@ module _ {A : Type 0} (olds news : List A) (starts accounts : List Account) (lin
 
     cut_here : (ends : List Account) → refusal_at starts r.history (plain line) ≡ None → CutShort (handed_on airs_of r.history (plain line)) accounts ends → FrontTaken starts ends lines
     cut_here ends none cut =
-        let before = handed_up airs_of (steps_of r.history) in
+        let before = handed_up airs_of (steps_of airs_of r.history) in
         let after : ends ≡ accounts_after starts (before ++ cut.done) =
         cut.boxes ∙ ap (λ a. accounts_after a cut.done) r.run.stands.boxes.accounts_are ∙ sym (accounts_append before cut.done starts) in
         let begins = begins_as (before ++ handed_on airs_of r.history (plain line)) ((before ++ cut.done) ++ cut.rest) (units_of airs_of starts lines)
@@ -283,12 +289,12 @@ module _ {A : Type 0} (olds news : List A) (starts accounts : List Account) (lin
     ends_here ends new counts' (endings.Refused at reason) f = refused_here ends counts' at reason f
     ends_here ends new counts' endings.OutletFault f = failed_here ends f.1.0 f.0 f.1.1
     ends_here ends new counts' endings.Memory (inl same) =
-        front_taken starts ends lines (handed_up airs_of (steps_of r.history)) units_begin (took_at starts accounts ends (handed_up airs_of (steps_of r.history)) same took)
+        front_taken starts ends lines (handed_up airs_of (steps_of airs_of r.history)) units_begin (took_at starts accounts ends (handed_up airs_of (steps_of airs_of r.history)) same took)
     ends_here ends new counts' endings.Memory (inr cut) = cut_here ends cut.0 cut.1
 
     -- the line was run
     pub runs_on : (after : List A) (ends : List Account) (new : Machine) (counts' : Counts) (number' : ℕ) (result : Option Ending) → number' ≡ number + 1 → result ≡ None
-        → ((history : List TextLine) → RunTo starts history counts machine accounts → UntakenSame (steps_of history) news after)
+        → ((history : List TextLine) → RunTo starts history counts machine accounts → UntakenSame (steps_of airs_of history) news after)
         → ((history : List TextLine) → number' ≡ length history + 1 → RunTo starts history counts machine accounts
         → LineRuns starts history (plain line) counts' new accounts ends result)
         → Running olds after starts ends lines later number' new counts'
@@ -329,7 +335,7 @@ module _ (starts : List Account) (history : List TextLine) (line : TextLine) (ma
       let now = brought (rules_of airs_of starts) history in
       record {
         accepted = (run.accepted, m.0);
-        whole = whole_append now output run.whole (said_whole starts (steps_of history) (said_after history line));
+        whole = whole_append now output run.whole (said_whole starts (steps_of airs_of history) (said_after history line));
         counted = c ∙ ap (λ t. with_lines counts (lines_of t)) m.2 ∙ ap (λ k. with_lines k (lines_of output)) run.counted ∙ counts_append now output run.whole;
         stands = m.1;
       }
@@ -358,7 +364,9 @@ module _ (starts : List Account) (history : List TextLine) (line : TextLine) (ma
   line_refused reason number counts' endings.OutletFault next is f = absurd f
 
   pub line_failed : (counts' : Counts) → result ≡ Err stops.OutletFault → LineRuns starts history line counts' new before after (Some endings.OutletFault)
-  line_failed counts' is = let m = met (Err stops.OutletFault) is in (m.0, (told, m.1))
+  line_failed counts' is =
+      let m = met (Err stops.OutletFault) is in
+      (m.0, box_fails (handed_on airs_of history line) (answered_on airs_of history line) (output_at starts history line) [] told before after m.1)
 
   pub line_memory : (counts' : Counts) → result ≡ Err stops.Memory → LineRuns starts history line counts' new before after (Some endings.Memory)
   line_memory counts' is = met (Err stops.Memory) is

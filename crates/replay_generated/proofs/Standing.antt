@@ -6,7 +6,7 @@ use Rattle.big_info.specs.declared.info.BigInfo.{BigInfo}
 use Rattle.source_machine.specs.Airs.{airs_of}
 use Rattle.source_machine.specs.Calls.{Setup, Call, events}
 use Rattle.source_machine.specs.Faults.{give_fault, event_fault}
-use Rattle.transcript_text.specs.declared.refusal.Refusal.TheVariants.{AfterEnd, Order, NotBuilt, NoSuchSink, NotOnAir}
+use Rattle.transcript_text.specs.declared.refusal.Refusal.TheVariants.{AfterEnd, Order, NoSuchSink, NotOnAir}
 use Rattle.scenario_text.specs.declared.step.Step.{Step}
 use Rattle.scenario_text.specs.declared.step.Step.TheVariants as kinds
 use Rattle.scenario_history.specs.Steps.{Stage, running, chosen_given, chosen_of, chosen_steps, is_common, is_of_source, is_over, is_over_at, is_source_line, last_given, stage_after, stage_of}
@@ -14,7 +14,7 @@ use Rattle.scenario_history.specs.Steps.{steps_of_source, version_at, version_of
 use Rattle.scenario_history.specs.Source.{GroupLine, absent, sending, cipher_given, group_given, info_with, is_heard, is_sending_at, no_group, performed, phase_given, setup_from, setup_of}
 use Rattle.scenario_history.specs.Source.{source_calls, start_given, start_of, takes_units, was_started_at, with_source_call, is_ahead_in}
 use Rattle.scenario_history.specs.Boxes.{box_after, box_of}
-use Rattle.scenario_history.specs.Refusals.{counter_ends, give_refusal, is_misplaced, is_out_of_order, is_out_of_phase, is_unbuilt, own_refusal, phase_refusal, refusal_of, refuse_if, source_refusal}
+use Rattle.scenario_history.specs.Refusals.{counter_ends, give_refusal, is_misplaced, is_out_of_order, is_out_of_phase, own_refusal, phase_refusal, refusal_of, refuse_if, source_refusal}
 
 -- the group that the lines say, and what fixes its source
 abbrev pub group_said : GroupLine
@@ -151,15 +151,13 @@ module _ (boxes : ℕ) (steps : List Step) (calls : List Call) (a : At steps cal
   not_over : is_over steps ≡ false
   not_over = ap is_over_at a.stage
 
-  -- a step that is in order, built and not refused by itself
-  fine : (next : Step) → is_misplaced (running 1) next ≡ false → is_out_of_phase (chosen_steps steps) next ≡ false → is_unbuilt next ≡ false
-      → own_refusal airs_of boxes steps next ≡ None → refusal_of airs_of boxes steps next ≡ None
-  fine next placed phase built own =
+  -- a step that is in order and not refused by itself
+  fine : (next : Step) → is_misplaced (running 1) next ≡ false → is_out_of_phase (chosen_steps steps) next ≡ false → own_refusal airs_of boxes steps next ≡ None → refusal_of airs_of boxes steps next ≡ None
+  fine next placed phase own =
       let ordered : is_out_of_order steps next ≡ false =
       ap (λ s. is_misplaced s next || is_out_of_phase (chosen_steps steps) next) a.stage ∙ ap (λ b. b || is_out_of_phase (chosen_steps steps) next) placed ∙ phase in
       ap (λ b. option_or (refuse_if b AfterEnd) (phase_refusal airs_of boxes steps next)) not_over
-      ∙ ap (λ b. option_or (refuse_if b Order) (option_or (refuse_if (is_unbuilt next) NotBuilt) (own_refusal airs_of boxes steps next))) ordered
-      ∙ ap (λ b. option_or (refuse_if b NotBuilt) (own_refusal airs_of boxes steps next)) built
+      ∙ ap (λ b. option_or (refuse_if b Order) (own_refusal airs_of boxes steps next)) ordered
       ∙ own
 
   -- a unit of a stream on which fewer than 16 wait
@@ -172,14 +170,14 @@ module _ (boxes : ℕ) (steps : List Step) (calls : List Call) (a : At steps cal
       ap (λ (s : Setup). option_map give_refusal (give_fault s (source_calls own) (airs_of s (source_calls own)) bis None octets)) setup_is
       ∙ ap (λ (c : List Call). option_map give_refusal (give_fault setup_said c (airs_of setup_said c) bis None octets)) calls_are
       ∙ none in
-      fine (kinds.Unit bis None octets) refl (ap not takes) refl (ap (λ o. option_or o None) given_fault)
+      fine (kinds.Unit bis None octets) refl (ap not takes) (ap (λ o. option_or o None) given_fault)
 
   pub event_fine : counter_ends (event_fault setup_said calls) ≡ None → refusal_of airs_of boxes steps kinds.Event ≡ None
   event_fine none =
       let own = chosen_steps steps in
       let fault : source_refusal airs_of (version_of steps) own kinds.Event ≡ None =
       ap (λ (s : Setup). counter_ends (event_fault s (source_calls own))) setup_is ∙ ap (λ (c : List Call). counter_ends (event_fault setup_said c)) calls_are ∙ none in
-      fine kinds.Event refl (ap not takes) refl (ap (λ o. option_or o None) fault)
+      fine kinds.Event refl (ap not takes) (ap (λ o. option_or o None) fault)
 
   pub air_fine : (sink lose : ℕ) → is_some (box_of sink steps) ≡ true → nat_eq (events calls) 0 ≡ false → refusal_of airs_of boxes steps (kinds.Air sink lose) ≡ None
   air_fine sink lose lives some =
@@ -188,7 +186,7 @@ module _ (boxes : ℕ) (steps : List Step) (calls : List Call) (a : At steps cal
       ap (λ b. option_or (refuse_if (not b) NoSuchSink) (option_or (refuse_if (nat_eq (performed own) 0) NotOnAir) None)) lives
       ∙ ap (λ (c : List Call). option_or (refuse_if (nat_eq (events c) 0) NotOnAir) None) calls_are
       ∙ ap (λ b. option_or (refuse_if b NotOnAir) None) some in
-      fine (kinds.Air sink lose) refl (ap not heard) refl none
+      fine (kinds.Air sink lose) refl (ap not heard) none
 
   pub end_fine : refusal_of airs_of boxes steps kinds.End ≡ None
-  end_fine = fine kinds.End refl refl refl refl
+  end_fine = fine kinds.End refl refl refl

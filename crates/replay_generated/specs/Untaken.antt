@@ -9,4 +9,4 @@ use Rattle.replay_steps.specs.Untaken.{UntakenSame}
 
 -- each box behind those that the accepted `sink` lines among these take, the first ones of the list, is the same
 abbrev pub UntakenBy : {A : Type 0} → Airs → List Account → List TextLine → List A → List A → Type 0
-UntakenBy airs starts lines old new = UntakenSame (steps_of (accepted_of (rules_of airs starts) [] lines)) old new
+UntakenBy airs starts lines old new = UntakenSame (steps_of airs (accepted_of (rules_of airs starts) [] lines)) old new

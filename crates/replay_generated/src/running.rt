@@ -5,6 +5,7 @@ ghost use Rattle.unit_outlets.specs.Account.{Account};
 ghost use Rattle.transcript_summary.specs.Summary.{none_counted};
 ghost use Rattle.replay_generated.specs.Generated.{lines_made};
 ghost use Rattle.scenario_history.specs.Lines.{steps_of};
+ghost use Rattle.source_machine.specs.Airs.{airs_of};
 ghost use Rattle.replay_steps.specs.Untaken.{UntakenSame};
 ghost use Rattle.replay_generated.specs.State.Between.{Counted, Ran, Refuses, RunTo, LineRuns, UntakenRun};
 
@@ -85,7 +86,7 @@ fn run_line(
         → RunTo starts lines counts.old machine.old (map account outlets.old.items)
         → LineRuns starts lines (plain line.now) counts.new machine.new (map account outlets.old.items) (map account outlets.new.items) result }
     ensures untaken { (starts : List Account) (lines : List TextLine) → RunTo starts lines counts.old machine.old (map account outlets.old.items)
-        → UntakenSame (steps_of lines) outlets.old.items outlets.new.items }
+        → UntakenSame (steps_of airs_of lines) outlets.old.items outlets.new.items }
 {
     text.clear();
     match machine.line(line, outlets, text) {

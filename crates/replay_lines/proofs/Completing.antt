@@ -1,5 +1,5 @@
 -- Which endings come, and what the boxes took of a text that its source tells.
-use Rattle.std.proofs.Common.{◌≡◌, ◌≢◌, ℕ, Bool, true, List, ◌∷◌, ◌++◌, reverse, refl, sym, ap, subst, ◌∙◌, append_assoc, Option, None, Some}
+use Rattle.std.proofs.Common.{◌≡◌, ◌≢◌, ℕ, Bool, true, List, [], ◌∷◌, ◌++◌, reverse, refl, sym, ap, subst, ◌∙◌, append_assoc, Option, None, Some}
 use Rattle.std.proofs.lemmas.List.{append-nil}
 use Rattle.std.specs.Io.KnownBytes.{Consumes, IsAtEnd}
 use Rattle.bcast_io.specs.State.Reading.{MayFollow}
@@ -17,7 +17,7 @@ use Rattle.replay_lines.specs.Replayed.{TextRead, OutletFaulted}
 use Rattle.replay_lines.specs.Ended.{Ended, IsDoneOrMemory, IsNoFault, IsWhole, AheadOf, NoneFailed, RoomForText, Complete}
 use Rattle.replay_generated.proofs.Citable.{Failure, failure, no_room_for}
 use Rattle.replay_lines.proofs.Endings.{units_all}
-use Rattle.replay_lines.proofs.LineUnits.{units_line}
+use Rattle.replay_lines.proofs.LineUnits.{box_stops, units_line}
 
 -- ---- a source that tells its text
 
@@ -76,13 +76,14 @@ ended_at ending other starts ends left left' kept kept' e is = let P : Ending �
 failed_in : (text : List ℕ) (starts ends : List Account) (left' kept kept' : Option (List ℕ)) → OutletFaulted airs_of starts ends (Some text) left' kept kept'
     → Failure starts ends (units_of airs_of starts (lines_of true text))
 failed_in text starts ends left' kept kept' o =
-    let f = o.fails in
+    let stops = box_stops starts o.accounts ends o.earlier o.line (out_of airs_of starts (reverse o.earlier)) o.told o.fails in
+    let f = stops.1 in
     let us : List SinkUnit = units_of airs_of starts (reverse o.earlier) in
     let r = rest_of text left' o.comes.text o.comes.over o.comes.read in
     let at = o.comes.lines true r.0 r.2 in
     let more = units_line starts o.earlier o.line at.0 o.accepted.0 o.accepted.1 in
     failure starts ends o.accounts us (handed_on airs_of o.earlier o.line) (f.rest ++ more.0) (units_of airs_of starts (lines_of true text))
-    (out_of airs_of starts (reverse o.earlier)) o.told o.before f (
+    [] stops.0 o.before f (
     ap (λ t. units_of airs_of starts (lines_of true t)) r.1
     ∙ ap (units_of airs_of starts) at.1
     ∙ more.1

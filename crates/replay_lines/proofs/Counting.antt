@@ -1,6 +1,6 @@
 -- The counts of the boxes, by how a run ended.
 use Rattle.std.proofs.Common.{◌≢◌, ℕ, true, false, List, [], reverse, refl, Option, inl, inr, ◌⊎◌}
-use Rattle.bcast_io.specs.TextLines.{lines_of}
+use Rattle.bcast_io.specs.TextLines.{TextLine, lines_of}
 use Rattle.unit_outlets.specs.Account.{Account}
 use Rattle.source_machine.specs.Airs.{airs_of}
 use Rattle.scenario_history.specs.Lines.{handed_on}
@@ -10,7 +10,8 @@ use Rattle.scenario_sinks.proofs.Citable.{failed_one, none_counts, one_then, too
 use Rattle.replay_lines.specs.declared.ending.Ending.{Ending}
 use Rattle.replay_lines.specs.declared.ending.Ending.TheVariants as endings
 use Rattle.replay_lines.specs.Ended.{Ended, IsCut}
-use Rattle.replay_lines.specs.Replayed.{Broken, FaultCut}
+use Rattle.replay_lines.specs.Replayed.{Broken, FaultCut, LineFails}
+use Rattle.replay_lines.proofs.LineUnits.{box_stops}
 
 broken_counts : (starts ends : List Account) (left left' kept kept' : Option (List ℕ)) → Broken airs_of starts ends left left' kept kept'
     → CountsStay starts ends ⊎ FaultCut airs_of starts ends left left' kept kept'
@@ -30,12 +31,19 @@ ended_counts endings.OutletFault starts ends left left' kept kept' e other = abs
 ended_counts endings.Memory starts ends left left' kept kept' e other =
     elim (broken_counts starts ends left left' kept kept' e) [ inl stay ↦ inl stay | inr failed ↦ inr (tt, failed) ]
 
+-- the box of a unit of a line failed
+stopped_one : (starts before after : List Account) (history : List TextLine) (line : TextLine) (text told : List ℕ)
+    → LineFails airs_of starts history line text told before after → OneCounts before after
+stopped_one starts before after history line text told f =
+    let stops = box_stops starts before after history line text told f in
+    failed_one (handed_on airs_of history line) [] stops.0 before after stops.1
+
 broken_one : (starts ends : List Account) (left left' kept kept' : Option (List ℕ)) → Broken airs_of starts ends left left' kept kept' → OneCounts starts ends
 broken_one starts ends left left' kept kept' e = elim (broken_counts starts ends left left' kept kept' e) [
   | inl stay ↦ none_counts starts ends stay
   | inr failed ↦
       one_then starts failed.accounts ends (took_stay starts failed.accounts (units_of airs_of starts (reverse failed.earlier)) failed.before)
-      (failed_one (handed_on airs_of failed.earlier failed.line) [] failed.told failed.accounts ends failed.fails)
+      (stopped_one starts failed.accounts ends failed.earlier failed.line [] failed.told failed.fails)
 ]
 
 pub ended_one : (ending : Ending) (starts ends : List Account) (left left' kept kept' : Option (List ℕ)) → Ended airs_of ending starts ends left left' kept kept' → OneCounts starts ends
@@ -45,5 +53,5 @@ ended_one endings.ReadFault starts ends left left' kept kept' e = none_counts st
 ended_one endings.WriteFault starts ends left left' kept kept' e = broken_one starts ends left left' kept kept' e.0
 ended_one endings.OutletFault starts ends left left' kept kept' e =
     one_then starts e.accounts ends (took_stay starts e.accounts (units_of airs_of starts (reverse e.earlier)) e.before)
-    (failed_one (handed_on airs_of e.earlier e.line) (out_of airs_of starts (reverse e.earlier)) e.told e.accounts ends e.fails)
+    (stopped_one starts e.accounts ends e.earlier e.line (out_of airs_of starts (reverse e.earlier)) e.told e.fails)
 ended_one endings.Memory starts ends left left' kept kept' e = broken_one starts ends left left' kept kept' e

@@ -15,10 +15,12 @@ use Rattle.transcript_text.specs.Lines.{refusal_line}
 use Rattle.line_runs.specs.Runs.{through, refused, out, out_unless, end_of, end_unless, accepted_of, accepted_unless, brought, Accepted}
 use Rattle.line_runs.proofs.Citable.{out_accepted, end_accepted, accepted_accepted}
 use Rattle.scenario_text.specs.declared.step.Step.{Step}
-use Rattle.scenario_history.specs.Steps.{is_over}
+use Rattle.scenario_history.specs.Steps.{is_over, is_over_at}
 use Rattle.scenario_history.specs.Boxes.{SinkUnit, handed_up, Took}
-use Rattle.scenario_history.specs.Lines.{Said, a_step, nothing, unsaid, rules_of, steps_of, said_after, handed_on, handed_said, with_said}
+use Rattle.scenario_history.specs.Gifts.{happened}
 use Rattle.scenario_history.specs.Source.{Airs}
+use Rattle.gift_laws.proofs.Citable.{handed_happened, stage_happened}
+use Rattle.scenario_history.specs.Lines.{Said, a_step, nothing, unsaid, rules_of, said_of, steps_of, said_after, handed_on, handed_said, with_said}
 use Rattle.scenario_history.specs.Transcript.{out_of, end_after, last_line_after, last_end_after, has_end, transcript_of, transcript_end, units_of}
 use Rattle.scenario_history.proofs.Citable.{took_all}
 use Rattle.replay_lines.specs.declared.ending.Ending.{Ending}
@@ -41,8 +43,8 @@ module _ (starts : List Account) (history : List TextLine) (accepted : Accepted 
   end_then lines = end_accepted (rules_of airs_of starts) history lines accepted
 
   pub units_then : (lines : List TextLine) → units_of airs_of starts (reverse history ++ lines)
-      ≡ handed_up airs_of (steps_of (accepted_of (rules_of airs_of starts) history lines))
-  units_then lines = ap (λ all. handed_up airs_of (steps_of all)) (accepted_accepted (rules_of airs_of starts) history lines accepted)
+      ≡ handed_up airs_of (steps_of airs_of (accepted_of (rules_of airs_of starts) history lines))
+  units_then lines = ap (λ all. handed_up airs_of (steps_of airs_of all)) (accepted_accepted (rules_of airs_of starts) history lines accepted)
 
   pub out_all : out_of airs_of starts (reverse history) ≡ brought (rules_of airs_of starts) history
   out_all = ap (out_of airs_of starts) (sym (append-nil (reverse history))) ∙ out_then [] ∙ append-nil (brought (rules_of airs_of starts) history)
@@ -50,23 +52,24 @@ module _ (starts : List Account) (history : List TextLine) (accepted : Accepted 
   pub end_all : end_after airs_of starts (reverse history) ≡ through
   end_all = ap (end_after airs_of starts) (sym (append-nil (reverse history))) ∙ end_then []
 
-  pub units_all : units_of airs_of starts (reverse history) ≡ handed_up airs_of (steps_of history)
+  pub units_all : units_of airs_of starts (reverse history) ≡ handed_up airs_of (steps_of airs_of history)
   units_all = ap (units_of airs_of starts) (sym (append-nil (reverse history))) ∙ units_then []
 
-  over_all : (b : Bool) → is_over (steps_of history) ≡ b → has_end (reverse history) ≡ b
-  over_all b over = ap (λ lines. is_over (steps_of lines)) (reverse-reverse history) ∙ over
+  over_all : (b : Bool) → is_over (steps_of airs_of history) ≡ b → has_end (reverse history) ≡ b
+  over_all b over =
+      ap (λ lines. is_over (said_of lines)) (reverse-reverse history) ∙ ap is_over_at (sym (stage_happened airs_of (said_of history))) ∙ over
 
   number_all : length (reverse history) + 1 ≡ length history + 1
   number_all = ap (λ n. n + 1) (length-reverse history)
 
   -- the whole transcript, where the history is all
-  pub ends_through : (b : Bool) → is_over (steps_of history) ≡ b → transcript_end airs_of starts (reverse history) ≡ last_end_after through b (length history + 1)
+  pub ends_through : (b : Bool) → is_over (steps_of airs_of history) ≡ b → transcript_end airs_of starts (reverse history) ≡ last_end_after through b (length history + 1)
   ends_through b over =
       ap (λ e. last_end_after e (has_end (reverse history)) (length (reverse history) + 1)) end_all
       ∙ ap (λ x. last_end_after through x (length (reverse history) + 1)) (over_all b over)
       ∙ ap (λ n. last_end_after through b n) number_all
 
-  pub writes_through : (b : Bool) → is_over (steps_of history) ≡ b
+  pub writes_through : (b : Bool) → is_over (steps_of airs_of history) ≡ b
       → transcript_of airs_of starts (reverse history) ≡ brought (rules_of airs_of starts) history ++ last_line_after through b (length history + 1)
   writes_through b over =
       ap (λ front. front ++ last_line_after (end_after airs_of starts (reverse history)) (has_end (reverse history)) (length (reverse history) + 1)) out_all
@@ -92,10 +95,10 @@ module _ (starts : List Account) (history : List TextLine) (accepted : Accepted 
         ∙ out_then (line ∷ later)
         ∙ ap (λ last. brought (rules_of airs_of starts) history ++ last) out_refused
 
-    pub units_refused : units_of airs_of starts (reverse history ++ line ∷ later) ≡ handed_up airs_of (steps_of history)
+    pub units_refused : units_of airs_of starts (reverse history ++ line ∷ later) ≡ handed_up airs_of (steps_of airs_of history)
     units_refused =
         units_then (line ∷ later)
-        ∙ ap (λ why. handed_up airs_of (steps_of (accepted_unless history why (accepted_of (rules_of airs_of starts) (line ∷ history) later)))) because
+        ∙ ap (λ why. handed_up airs_of (steps_of airs_of (accepted_unless history why (accepted_of (rules_of airs_of starts) (line ∷ history) later)))) because
 
   -- a line is accepted
   pub out_line : (line : TextLine) → refusal_at starts history line ≡ None → (later : List TextLine)
@@ -105,44 +108,45 @@ module _ (starts : List Account) (history : List TextLine) (accepted : Accepted 
 
 -- ---- the units of further lines
 
-handed_with : (airs : Airs) (steps : List Step) (said : Said) → handed_up airs (with_said said steps) ≡ handed_up airs steps ++ handed_said airs steps said
-handed_with airs steps (a_step next) = refl
-handed_with airs steps nothing = sym (append-nil (handed_up airs steps))
-handed_with airs steps (unsaid reason) = sym (append-nil (handed_up airs steps))
+handed_with : (airs : Airs) (earlier : List Step) (said : Said)
+    → handed_up airs (happened airs (with_said said earlier)) ≡ handed_up airs (happened airs earlier) ++ handed_said airs (happened airs earlier) said
+handed_with airs earlier (a_step next) = handed_happened airs earlier next
+handed_with airs earlier nothing = sym (append-nil (handed_up airs (happened airs earlier)))
+handed_with airs earlier (unsaid reason) = sym (append-nil (handed_up airs (happened airs earlier)))
 
 -- the units of a line come behind those of the lines before it
-pub handed_line : (airs : Airs) (history : List TextLine) (line : TextLine) → handed_up airs (steps_of (line ∷ history)) ≡ handed_up airs (steps_of history) ++ handed_on airs history line
-handed_line airs history line = handed_with airs (steps_of history) (said_after history line)
+pub handed_line : (airs : Airs) (history : List TextLine) (line : TextLine) → handed_up airs (steps_of airs (line ∷ history)) ≡ handed_up airs (steps_of airs history) ++ handed_on airs history line
+handed_line airs history line = handed_with airs (said_of history) (said_after history line)
 
 -- what further lines hand up, where they are accepted after a history
 pub units_rest : (airs : Airs) (starts : List Account) (history lines : List TextLine)
-    → (rest : List SinkUnit) × (handed_up airs (steps_of (accepted_of (rules_of airs starts) history lines)) ≡ handed_up airs (steps_of history) ++ rest)
-units_rest airs starts history [] = ([], sym (append-nil (handed_up airs (steps_of history))))
+    → (rest : List SinkUnit) × (handed_up airs (steps_of airs (accepted_of (rules_of airs starts) history lines)) ≡ handed_up airs (steps_of airs history) ++ rest)
+units_rest airs starts history [] = ([], sym (append-nil (handed_up airs (steps_of airs history))))
 units_rest airs starts history (line ∷ lines) = by_refusal (units_rest airs starts (line ∷ history) lines) ((rules_of airs starts).refusal history line) refl
   where
-    by_refusal : (rest : List SinkUnit) × (handed_up airs (steps_of (accepted_of (rules_of airs starts) (line ∷ history) lines)) ≡ handed_up airs (steps_of (line ∷ history)) ++ rest)
+    by_refusal : (rest : List SinkUnit) × (handed_up airs (steps_of airs (accepted_of (rules_of airs starts) (line ∷ history) lines)) ≡ handed_up airs (steps_of airs (line ∷ history)) ++ rest)
         → (why : Option Refusal) → (rules_of airs starts).refusal history line ≡ why
-        → (rest : List SinkUnit) × (handed_up airs (steps_of (accepted_of (rules_of airs starts) history (line ∷ lines))) ≡ handed_up airs (steps_of history) ++ rest)
+        → (rest : List SinkUnit) × (handed_up airs (steps_of airs (accepted_of (rules_of airs starts) history (line ∷ lines))) ≡ handed_up airs (steps_of airs history) ++ rest)
     by_refusal more (Some reason) is = (
       [],
-      ap (λ w. handed_up airs (steps_of (accepted_unless history w (accepted_of (rules_of airs starts) (line ∷ history) lines)))) is
-          ∙ sym (append-nil (handed_up airs (steps_of history))),
+      ap (λ w. handed_up airs (steps_of airs (accepted_unless history w (accepted_of (rules_of airs starts) (line ∷ history) lines)))) is
+          ∙ sym (append-nil (handed_up airs (steps_of airs history))),
     )
     by_refusal more None is = (
       handed_on airs history line ++ more.0,
-      ap (λ w. handed_up airs (steps_of (accepted_unless history w (accepted_of (rules_of airs starts) (line ∷ history) lines)))) is
+      ap (λ w. handed_up airs (steps_of airs (accepted_unless history w (accepted_of (rules_of airs starts) (line ∷ history) lines)))) is
           ∙ more.1
           ∙ ap (λ front. front ++ more.0) (handed_line airs history line)
-          ∙ append_assoc (handed_up airs (steps_of history)) (handed_on airs history line) more.0,
+          ∙ append_assoc (handed_up airs (steps_of airs history)) (handed_on airs history line) more.0,
     )
 
 -- ---- what was run before the line
 
 -- the boxes took the units of the history
-pub took_history : (starts accounts : List Account) (history : List TextLine) → BoxesStand starts (steps_of history) accounts → Took starts accounts (handed_up airs_of (steps_of history))
+pub took_history : (starts accounts : List Account) (history : List TextLine) → BoxesStand starts (steps_of airs_of history) accounts → Took starts accounts (handed_up airs_of (steps_of airs_of history))
 took_history starts accounts history b =
-    let P : List Account → Type 0 = λ a. Took starts a (handed_up airs_of (steps_of history)) in
-    subst P (sym b.accounts_are) (took_all starts (handed_up airs_of (steps_of history)))
+    let P : List Account → Type 0 = λ a. Took starts a (handed_up airs_of (steps_of airs_of history)) in
+    subst P (sym b.accounts_are) (took_all starts (handed_up airs_of (steps_of airs_of history)))
 
 took_same : (starts accounts : List Account) (us vs : List SinkUnit) → us ≡ vs → Took starts accounts us → Took starts accounts vs
 took_same starts accounts us vs e t = let P : List SinkUnit → Type 0 = λ u. Took starts accounts u in subst P e t
@@ -166,7 +170,7 @@ front_none kept xs = AppendsFront-nothing kept kept xs (keeps_same kept)
 -- ---- the end of the text, and a fault of the source
 
 pub ends_done : (starts : List Account) (history : List TextLine) (left left' kept kept' : Option (List ℕ)) (machine : Machine) (accounts : List Account)
-    → TextIs left left' history true → RunTo starts history kept kept' machine accounts → is_over (steps_of history) ≡ true → Done airs_of starts accounts left left' kept kept'
+    → TextIs left left' history true → RunTo starts history kept kept' machine accounts → is_over (steps_of airs_of history) ≡ true → Done airs_of starts accounts left left' kept kept'
 ends_done starts history left left' kept kept' machine accounts t r over = record {
   text = t.text;
   read = t.read;
@@ -199,7 +203,7 @@ ends_at_once starts left kept = record {
 -- NoEnd
 module _ (starts : List Account) (history : List TextLine) (left left' kept mid kept' : Option (List ℕ)) (machine : Machine) (accounts : List Account) (number : ℕ)
     (is_next : number ≡ length history + 1) (t : TextIs left left' history true) (r : RunTo starts history kept mid machine accounts)
-    (not_over : is_over (steps_of history) ≡ false) where
+    (not_over : is_over (steps_of airs_of history) ≡ false) where
   no_end_line : transcript_of airs_of starts (lines_of true t.text) ≡ brought (rules_of airs_of starts) history ++ refusal_line number NoEnd
   no_end_line =
       ap (transcript_of airs_of starts) t.whole ∙ writes_through starts history r.accepted false not_over
@@ -209,7 +213,7 @@ module _ (starts : List Account) (history : List TextLine) (left left' kept mid 
   no_end_end =
       ap (transcript_end airs_of starts) t.whole ∙ ends_through starts history r.accepted false not_over ∙ ap (λ n. refused n NoEnd) (sym is_next)
 
-  no_end_units : units_of airs_of starts (lines_of true t.text) ≡ handed_up airs_of (steps_of history)
+  no_end_units : units_of airs_of starts (lines_of true t.text) ≡ handed_up airs_of (steps_of airs_of history)
   no_end_units = ap (units_of airs_of starts) t.whole ∙ units_all starts history r.accepted
 
   same_lines : (at_end : Bool) (more : List ℕ) → MayFollow true at_end more → lines_of at_end (t.text ++ more) ≡ lines_of true t.text
@@ -224,9 +228,9 @@ module _ (starts : List Account) (history : List TextLine) (left left' kept mid 
     read = t.read;
     written = front_same kept kept' _ _ (sym no_end_line) (AppendsFront-then kept mid kept' (brought (rules_of airs_of starts) history) (refusal_line number NoEnd) r.written f);
     boxes = inl (record {
-      done = handed_up airs_of (steps_of history);
+      done = handed_up airs_of (steps_of airs_of history);
       rest = [];
-      split = no_end_units ∙ sym (append-nil (handed_up airs_of (steps_of history)));
+      split = no_end_units ∙ sym (append-nil (handed_up airs_of (steps_of airs_of history)));
       boxes = took_history starts accounts history r.stands.boxes;
     });
   }
@@ -260,7 +264,7 @@ module _ (starts : List Account) (history : List TextLine) (left left' kept mid 
           octets = brought (rules_of airs_of starts) history ++ refusal_line number NoEnd;
           transcript = λ at_end more follows. ap (transcript_of airs_of starts) (same_lines at_end more follows) ∙ no_end_line;
           written = Appends-then kept mid kept' (brought (rules_of airs_of starts) history) (refusal_line number NoEnd) r.written f.2;
-          units = handed_up airs_of (steps_of history);
+          units = handed_up airs_of (steps_of airs_of history);
           handed = λ at_end more follows. ap (units_of airs_of starts) (same_lines at_end more follows) ∙ no_end_units;
           boxes = took_history starts accounts history r.stands.boxes;
         },

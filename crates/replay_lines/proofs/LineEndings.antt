@@ -12,21 +12,21 @@ use Rattle.transcript_text.specs.declared.refusal.Refusal.{Refusal}
 use Rattle.transcript_text.specs.Lines.{refusal_line}
 use Rattle.line_runs.specs.Runs.{refused, brought, Accepted}
 use Rattle.scenario_history.specs.Boxes.{handed_up}
-use Rattle.scenario_history.specs.Output.{unit_lines}
 use Rattle.scenario_history.specs.Lines.{rules_of, steps_of, handed_on}
 use Rattle.scenario_history.specs.Transcript.{out_of, last_line_after, end_after, has_end, transcript_of, transcript_end, units_of}
 use Rattle.replay_lines.specs.declared.ending.Ending.{Ending}
 use Rattle.replay_lines.specs.declared.ending.Ending.TheVariants as endings
 use Rattle.replay_steps.specs.declared.machine.Machine.{Machine}
-use Rattle.scenario_sinks.specs.Handing.{BoxFails, CutShort}
+use Rattle.scenario_sinks.specs.Handing.{CutShort}
+use Rattle.replay_steps.specs.Failing.{printed_before}
 use Rattle.replay_steps.specs.Meets.{BoxesStand}
-use Rattle.replay_steps.specs.LineMeets.{LinesStand, refusal_at, output_at}
-use Rattle.replay_lines.specs.Replayed.{Comes, brought_by, BoxesCut, Broken, FaultCut, OutletFaulted, ReadsAhead, CutAt, BoxesAt}
+use Rattle.replay_steps.specs.LineMeets.{LinesStand, answered_on, refusal_at, output_at}
+use Rattle.replay_lines.specs.Replayed.{Comes, brought_by, BoxesCut, Broken, FaultCut, LineFails, OutletFaulted, ReadsAhead, CutAt, BoxesAt}
 use Rattle.replay_lines.specs.Ended.{Ended}
 use Rattle.replay_lines.specs.State.Between.{Refuses, Puts, StepRuns}
 use Rattle.replay_lines.proofs.Endings.{out_then, out_all, ends_refused, writes_refused, units_refused, took_history, front_of_short, front_none}
 use Rattle.replay_lines.proofs.RefusalLaws.{never_no_end}
-use Rattle.replay_lines.proofs.LineUnits.{Brings, CutFor, brings_nothing, brings_refused, brings_output, brings_units, cut_before}
+use Rattle.replay_lines.proofs.LineUnits.{Brings, CutFor, box_stops, brings_before, brings_nothing, brings_refused, brings_output, cut_before}
 use Rattle.replay_lines.proofs.LineUnits.{cut_after, cut_within, at_refused, at_front, at_after, took_before}
 
 -- ---- a write that was cut short
@@ -118,7 +118,7 @@ ends_write starts history line left left' kept mid kept' accounts octets number 
 
 pub ends_refusal : (starts : List Account) (history : List TextLine) (line : TextLine) (left left' kept mid kept' : Option (List ℕ)) (accounts : List Account) (number : ℕ) (reason : Refusal)
     → number ≡ length history + 1 → Comes left left' history line → ReadsAhead left left' number
-    → Accepted (rules_of airs_of starts) history → Appends kept mid (brought (rules_of airs_of starts) history) → BoxesStand starts (steps_of history) accounts
+    → Accepted (rules_of airs_of starts) history → Appends kept mid (brought (rules_of airs_of starts) history) → BoxesStand starts (steps_of airs_of history) accounts
     → refusal_at starts history line ≡ Some reason
     → (ending : Ending) → Refuses number reason mid kept' ending → Ended airs_of ending starts accounts left left' kept kept'
 ends_refusal starts history line left left' kept mid kept' accounts number reason is_next c ahead accepted written b because endings.Done f = absurd f
@@ -150,7 +150,7 @@ ends_refusal starts history line left left' kept mid kept' accounts number reaso
             ∙ writes_refused starts history accepted line reason because (c.lines at_end more follows).0
             ∙ ap (λ n. so_far ++ refusal_line n reason) (sym is_next);
         written = Appends-then kept mid kept' so_far (refusal_line number reason) written f.2;
-        units = handed_up airs_of (steps_of history);
+        units = handed_up airs_of (steps_of airs_of history);
         handed = λ at_end more follows.
             ap (units_of airs_of starts) (c.lines at_end more follows).1
             ∙ units_refused starts history accepted line reason because (c.lines at_end more follows).0;
@@ -194,12 +194,10 @@ step_put starts history line left left' kept mid kept' machine accounts number o
 module _ (starts : List Account) (history : List TextLine) (line : TextLine) (left left' kept mid kept' : Option (List ℕ)) (before after : List Account) (number : ℕ) (told : List ℕ)
     (is_next : number ≡ length history + 1) (c : Comes left left' history line) (ahead : ReadsAhead left left' number)
     (accepted : Accepted (rules_of airs_of starts) history) (written : Appends kept mid (brought (rules_of airs_of starts) history))
-    (b : BoxesStand starts (steps_of history) before) (none : refusal_at starts history line ≡ None)
-    (f : BoxFails (handed_on airs_of history line) [] told before after) where
+    (b : BoxesStand starts (steps_of airs_of history) before) (none : refusal_at starts history line ≡ None)
+    (f : LineFails airs_of starts history line [] told before after) where
   brings_told : Brings starts history line told
-  brings_told =
-      let P : List ℕ → Type 0 = λ xs. Brings starts history line xs in
-      subst P (sym f.lines) (brings_units starts history line f.done (f.unit ∷ f.rest) accepted none f.split)
+  brings_told = brings_before starts before after history line told accepted none f
 
   -- writing what comes before the unit was cut short
   fault_cut : AppendsShort mid kept' told → FaultCut airs_of starts after left left' kept kept'
@@ -247,7 +245,9 @@ module _ (starts : List Account) (history : List TextLine) (line : TextLine) (le
           octets = f.octets;
           is_valid = f.is_valid;
           lines = ap (λ front. brought (rules_of airs_of starts) history ++ front) f.lines
-              ∙ ap (λ front. front ++ unit_lines f.done) (sym (out_all starts history accepted));
+              ∙ ap (λ front. front ++ printed_before (answered_on airs_of history line) f.done f.unit) (sym (out_all starts history accepted));
+          behind = f.behind;
+          front = f.front;
           box = f.box;
         };
         written = Appends-then kept mid kept' (brought (rules_of airs_of starts) history) told written p;
@@ -257,7 +257,7 @@ module _ (starts : List Account) (history : List TextLine) (line : TextLine) (le
       stopped endings.WriteFault p =
           ends_write starts history line left left' kept mid kept' after told number is_next c ahead accepted written
           brings_told (inr (fault_cut p))
-          (at_front starts before after history line accepted none b (inr (told, f))) p
+          (at_front starts before after history line accepted none b (inr (box_stops starts before after history line [] told f))) p
       stopped endings.Memory p =
           ends_broken starts history line left left' kept mid kept' after told c accepted written
           brings_told (inr (fault_cut p)) (front_of_short mid kept' told p)
@@ -269,7 +269,7 @@ module _ (starts : List Account) (history : List TextLine) (line : TextLine) (le
 -- memory ran out in the step
 pub step_memory : (starts : List Account) (history : List TextLine) (line : TextLine) (left left' kept mid : Option (List ℕ)) (before after : List Account)
     → Comes left left' history line → Accepted (rules_of airs_of starts) history → Appends kept mid (brought (rules_of airs_of starts) history)
-    → BoxesStand starts (steps_of history) before
+    → BoxesStand starts (steps_of airs_of history) before
     → (after ≡ before) ⊎ ((refusal_at starts history line ≡ None) × CutShort (handed_on airs_of history line) before after)
     → Broken airs_of starts after left left' kept mid
 step_memory starts history line left left' kept mid before after c accepted written b how =

@@ -120,7 +120,7 @@ pub record Running {A : Type 0} (olds news : List A) (starts accounts : List Acc
   pub is_next : number ≡ length lines + 1
   pub read : ReadTo left left' lines reader
   pub run : RunTo starts lines kept kept' machine accounts
-  pub untaken : UntakenSame (steps_of lines) olds news
+  pub untaken : UntakenSame (steps_of airs_of lines) olds news
 
 pub running_none : {A : Type 0} (olds : List A) (starts : List Account) (left kept : Option (List ℕ)) (reader : Reading) (machine : Machine)
     → reader ≡ record { ahead = []; part = []; taken = 0; over = false; line = None } → ((start : List Account) → LinesStand start [] machine start)
@@ -138,7 +138,7 @@ bound_none reader new = let P : Reading → Type 0 = λ r. 1 + lines_left r ≤ 
 
 pub running_more : {A : Type 0} (olds mids news : List A) (starts before after : List Account) (left mid left' kept put kept' : Option (List ℕ)) (number next : ℕ) (old new : Reading) (machine machine' : Machine) (result : Option Ending)
     → Running olds mids starts before left mid kept put number old machine → next ≡ number + 1 → result ≡ None
-    → ((lines : List TextLine) → LinesStand starts lines machine before → UntakenSame (steps_of lines) mids news)
+    → ((lines : List TextLine) → LinesStand starts lines machine before → UntakenSame (steps_of airs_of lines) mids news)
     → ((lines : List TextLine) → number ≡ length lines + 1 → ReadTo left mid lines old → RunTo starts lines kept put machine before
     → LineRuns starts lines left left' kept kept' new machine' after result)
     → Running olds news starts after left left' kept kept' next new machine'

@@ -7,18 +7,16 @@ use Rattle.source_machine.specs.Airs.{airs_of}
 use Rattle.transcript_text.specs.declared.refusal.Refusal.{Refusal}
 use Rattle.transcript_text.specs.Lines.{refusal_line}
 use Rattle.line_runs.specs.Runs.{out, accepted_of, accepted_unless, Accepted}
-use Rattle.scenario_history.specs.Boxes.{SinkUnit, accounts_after, handed_up, handed_by, Took}
-use Rattle.scenario_history.specs.Output.{unit_lines, output_of}
-use Rattle.scenario_history.specs.Lines.{Said, a_step, nothing, unsaid, rules_of, steps_of, said_after, handed_on, handed_said, output_said}
+use Rattle.scenario_history.specs.Boxes.{SinkUnit, accounts_after, handed_up, Took}
+use Rattle.scenario_history.specs.Lines.{rules_of, steps_of, handed_on}
 use Rattle.scenario_history.specs.Transcript.{units_of}
 use Rattle.scenario_history.proofs.Citable.{took_all}
-use Rattle.scenario_text.specs.declared.step.Step.{Step}
-use Rattle.scenario_text.specs.declared.step.Step.TheVariants as kinds
-use Rattle.scenario_sinks.specs.Handing.{CutShort}
+use Rattle.scenario_sinks.specs.Handing.{BoxFails, CutShort}
 use Rattle.replay_steps.specs.Meets.{BoxesStand}
-use Rattle.replay_steps.specs.LineMeets.{refusal_at, output_at}
-use Rattle.replay_lines.specs.Replayed.{BoxesCut, BoxesAt, TookFront}
-use Rattle.replay_steps.proofs.Citable.{accounts_append, lines_append}
+use Rattle.replay_steps.specs.LineMeets.{refusal_at, output_at, answered_on}
+use Rattle.replay_lines.specs.Replayed.{BoxesCut, BoxesAt, LineFails, TookFront}
+use Rattle.replay_steps.proofs.Citable.{accounts_append}
+use Rattle.replay_generated.proofs.Citable.{box_fails}
 use Rattle.replay_lines.proofs.Endings.{out_line, out_refused, units_then, units_all, units_refused, units_rest, handed_line, took_history}
 
 -- whatever comes after it, the line begins with these octets
@@ -47,80 +45,68 @@ pub brings_output : (starts : List Account) (history : List TextLine) (line : Te
 brings_output starts history line accepted none later =
     (out (rules_of airs_of starts) (line ∷ history) later, out_line starts history accepted line none later)
 
--- the lines of the units come first
-step_begins : (starts : List Account) (earlier : List Step) (step : Step)
-    → (rest : List ℕ) × (output_of airs_of starts earlier step ≡ unit_lines (handed_by airs_of earlier step) ++ rest)
-step_begins starts earlier kinds.Event = (_, refl)
-step_begins starts earlier kinds.Stop = ([], sym (append-nil (unit_lines (handed_by airs_of earlier kinds.Stop))))
-step_begins starts earlier (kinds.Terminate reason) = (_, refl)
-step_begins starts earlier kinds.End = (_, refl)
-step_begins starts earlier step = (output_of airs_of starts earlier step, refl)
-
-said_begins : (starts : List Account) (earlier : List Step) (said : Said)
-    → (rest : List ℕ) × (output_said airs_of starts earlier said ≡ unit_lines (handed_said airs_of earlier said) ++ rest)
-said_begins starts earlier (a_step step) = step_begins starts earlier step
-said_begins starts earlier nothing = ([], refl)
-said_begins starts earlier (unsaid reason) = ([], refl)
-
--- the lines of the first units of a line
-pub brings_units : (starts : List Account) (history : List TextLine) (line : TextLine) (done rest : List SinkUnit)
-    → Accepted (rules_of airs_of starts) history → refusal_at starts history line ≡ None → handed_on airs_of history line ≡ done ++ rest
-    → Brings starts history line (unit_lines done)
-brings_units starts history line done rest accepted none split later =
-    let said = said_begins starts (steps_of history) (said_after history line) in (
-      unit_lines rest ++ (said.0 ++ out (rules_of airs_of starts) (line ∷ history) later),
-      out_line starts history accepted line none later
-          ∙ ap (λ front. front ++ out (rules_of airs_of starts) (line ∷ history) later)
-          (said.1 ∙ ap (λ units. unit_lines units ++ said.0) split ∙ ap (λ front. front ++ said.0) (lines_append done rest) ∙ append_assoc (unit_lines done) (unit_lines rest) said.0)
-          ∙ append_assoc (unit_lines done) (unit_lines rest ++ said.0) (out (rules_of airs_of starts) (line ∷ history) later)
-          ∙ ap (λ more. unit_lines done ++ more) (append_assoc (unit_lines rest) said.0 (out (rules_of airs_of starts) (line ∷ history) later)),
-    )
+-- what a line prints before a unit whose box fails
+pub brings_before : (starts before after : List Account) (history : List TextLine) (line : TextLine) (told : List ℕ)
+    → Accepted (rules_of airs_of starts) history → refusal_at starts history line ≡ None → LineFails airs_of starts history line [] told before after
+    → Brings starts history line told
+brings_before starts before after history line told accepted none f later = (
+  f.behind ++ out (rules_of airs_of starts) (line ∷ history) later,
+  out_line starts history accepted line none later
+      ∙ ap (λ front. front ++ out (rules_of airs_of starts) (line ∷ history) later) (f.front ∙ ap (λ printed. printed ++ f.behind) (sym f.lines))
+      ∙ append_assoc told f.behind (out (rules_of airs_of starts) (line ∷ history) later),
+)
 
 -- ---- what the boxes took
+
+-- the units before one went to their boxes, and the box of that one failed
+pub box_stops : (starts before after : List Account) (history : List TextLine) (line : TextLine) (text told : List ℕ)
+    → LineFails airs_of starts history line text told before after → (lines : List ℕ) × BoxFails (handed_on airs_of history line) [] lines before after
+box_stops starts before after history line text told f =
+    box_fails (handed_on airs_of history line) (answered_on airs_of history line) (output_at starts history line) text told before after f
 
 -- the units of an accepted line come behind those of the history
 pub units_line : (starts : List Account) (history : List TextLine) (line : TextLine) (later : List TextLine)
     → Accepted (rules_of airs_of starts) history → refusal_at starts history line ≡ None
-    → (rest : List SinkUnit) × (units_of airs_of starts (reverse history ++ line ∷ later) ≡ handed_up airs_of (steps_of history) ++ (handed_on airs_of history line ++ rest))
+    → (rest : List SinkUnit) × (units_of airs_of starts (reverse history ++ line ∷ later) ≡ handed_up airs_of (steps_of airs_of history) ++ (handed_on airs_of history line ++ rest))
 units_line starts history line later accepted none =
     let more = units_rest airs_of starts (line ∷ history) later in (
       more.0,
       units_then starts history accepted (line ∷ later)
-          ∙ ap (λ why. handed_up airs_of (steps_of (accepted_unless history why (accepted_of (rules_of airs_of starts) (line ∷ history) later)))) none
+          ∙ ap (λ why. handed_up airs_of (steps_of airs_of (accepted_unless history why (accepted_of (rules_of airs_of starts) (line ∷ history) later)))) none
           ∙ more.1
           ∙ ap (λ front. front ++ more.0) (handed_line airs_of history line)
-          ∙ append_assoc (handed_up airs_of (steps_of history)) (handed_on airs_of history line) more.0,
+          ∙ append_assoc (handed_up airs_of (steps_of airs_of history)) (handed_on airs_of history line) more.0,
     )
 
 pub cut_before : (starts accounts : List Account) (history : List TextLine) (line : TextLine) → Accepted (rules_of airs_of starts) history
-    → BoxesStand starts (steps_of history) accounts → CutFor starts history line accounts
+    → BoxesStand starts (steps_of airs_of history) accounts → CutFor starts history line accounts
 cut_before starts accounts history line accepted b later =
     let more = units_rest airs_of starts history (line ∷ later) in
     record {
-      done = handed_up airs_of (steps_of history);
+      done = handed_up airs_of (steps_of airs_of history);
       rest = more.0;
       split = units_then starts history accepted (line ∷ later) ∙ more.1;
       boxes = took_history starts accounts history b;
     }
 
 pub cut_after : (starts accounts : List Account) (history : List TextLine) (line : TextLine) → Accepted (rules_of airs_of starts) history
-    → refusal_at starts history line ≡ None → BoxesStand starts (steps_of (line ∷ history)) accounts → CutFor starts history line accounts
+    → refusal_at starts history line ≡ None → BoxesStand starts (steps_of airs_of (line ∷ history)) accounts → CutFor starts history line accounts
 cut_after starts accounts history line accepted none b later =
     let more = units_line starts history line later accepted none in
     record {
-      done = handed_up airs_of (steps_of (line ∷ history));
+      done = handed_up airs_of (steps_of airs_of (line ∷ history));
       rest = more.0;
-      split = more.1 ∙ sym (append_assoc (handed_up airs_of (steps_of history)) (handed_on airs_of history line) more.0)
+      split = more.1 ∙ sym (append_assoc (handed_up airs_of (steps_of airs_of history)) (handed_on airs_of history line) more.0)
           ∙ ap (λ front. front ++ more.0) (sym (handed_line airs_of history line));
       boxes = took_history starts accounts (line ∷ history) b;
     }
 
 pub cut_within : (starts before after : List Account) (history : List TextLine) (line : TextLine) → Accepted (rules_of airs_of starts) history
-    → refusal_at starts history line ≡ None → BoxesStand starts (steps_of history) before → CutShort (handed_on airs_of history line) before after
+    → refusal_at starts history line ≡ None → BoxesStand starts (steps_of airs_of history) before → CutShort (handed_on airs_of history line) before after
     → CutFor starts history line after
 cut_within starts before after history line accepted none b c later =
     let more = units_line starts history line later accepted none in
-    let all = handed_up airs_of (steps_of history) in
+    let all = handed_up airs_of (steps_of airs_of history) in
     let P : List Account → Type 0 = λ a. Took starts a (all ++ c.done) in
     record {
       done = all ++ c.done;
@@ -140,13 +126,13 @@ units_added starts history line accepted none =
     ∙ handed_line airs_of history line
     ∙ ap (λ front. front ++ handed_on airs_of history line) (sym (units_all starts history accepted))
 
-pub took_before : (starts accounts : List Account) (history : List TextLine) → Accepted (rules_of airs_of starts) history → BoxesStand starts (steps_of history) accounts
+pub took_before : (starts accounts : List Account) (history : List TextLine) → Accepted (rules_of airs_of starts) history → BoxesStand starts (steps_of airs_of history) accounts
     → Took starts accounts (units_of airs_of starts (reverse history))
 took_before starts accounts history accepted b =
     let P : List SinkUnit → Type 0 = λ u. Took starts accounts u in subst P (sym (units_all starts history accepted)) (took_history starts accounts history b)
 
 pub at_refused : (starts accounts : List Account) (history : List TextLine) (line : TextLine) (reason : Refusal) → Accepted (rules_of airs_of starts) history
-    → refusal_at starts history line ≡ Some reason → BoxesStand starts (steps_of history) accounts → BoxesAt airs_of starts accounts history line
+    → refusal_at starts history line ≡ Some reason → BoxesStand starts (steps_of airs_of history) accounts → BoxesAt airs_of starts accounts history line
 at_refused starts accounts history line reason accepted because b = record {
   accounts = accounts;
   before = took_before starts accounts history accepted b;
@@ -159,7 +145,7 @@ at_refused starts accounts history line reason accepted because b = record {
 }
 
 pub at_front : (starts before after : List Account) (history : List TextLine) (line : TextLine) → Accepted (rules_of airs_of starts) history
-    → refusal_at starts history line ≡ None → BoxesStand starts (steps_of history) before → TookFront (handed_on airs_of history line) before after
+    → refusal_at starts history line ≡ None → BoxesStand starts (steps_of airs_of history) before → TookFront (handed_on airs_of history line) before after
     → BoxesAt airs_of starts after history line
 at_front starts before after history line accepted none b front = record {
   accounts = before;
@@ -171,9 +157,9 @@ at_front starts before after history line accepted none b front = record {
 
 -- all units of the line were taken
 pub at_after : (starts accounts : List Account) (history : List TextLine) (line : TextLine) → Accepted (rules_of airs_of starts) history
-    → refusal_at starts history line ≡ None → BoxesStand starts (steps_of (line ∷ history)) accounts → BoxesAt airs_of starts accounts history line
+    → refusal_at starts history line ≡ None → BoxesStand starts (steps_of airs_of (line ∷ history)) accounts → BoxesAt airs_of starts accounts history line
 at_after starts accounts history line accepted none b =
-    let all = handed_up airs_of (steps_of history) in
+    let all = handed_up airs_of (steps_of airs_of history) in
     let here = handed_on airs_of history line in
     record {
       accounts = accounts_after starts all;

@@ -1,25 +1,38 @@
 -- What a run did over one air it did over any other that gives the same transcripts.
-use Rattle.std.proofs.Common.{◌≡◌, ◌≤◌, ◌<◌, ℕ, Bool, true, false, List, [], ◌∷◌, ◌++◌, length, reverse, sym, ap, subst, ◌∙◌, Option, inl, inr, ◌⊎◌}
+use Rattle.std.proofs.Common.{◌≡◌, ◌≤◌, ◌<◌, ℕ, Bool, true, false, List, [], ◌∷◌, ◌++◌, length, reverse, refl, sym, ap, subst, ◌∙◌, Option, None, inl, inr, ◌⊎◌}
 use Rattle.std.specs.Io.KnownBytes.{Appends}
 use Rattle.bcast_io.specs.TextLines.{TextLine, lines_of}
 use Rattle.bcast_io.specs.Writing.{AppendsFront}
 use Rattle.unit_outlets.specs.Account.{Account}
+use Rattle.scenario_text.specs.declared.step.Step.{Step}
 use Rattle.transcript_text.specs.declared.refusal.Refusal.{Refusal}
-use Rattle.scenario_sinks.specs.Handing.{BoxFails}
+use Rattle.line_runs.specs.Runs.{Accepted}
 use Rattle.scenario_history.specs.Boxes.{SinkUnit, Took}
-use Rattle.scenario_history.specs.Lines.{handed_on}
+use Rattle.scenario_history.specs.Gifts.{Answered, answered_by}
+use Rattle.scenario_history.specs.Lines.{Said, a_step, nothing, unsaid, handed_on, refusal_said, rules_of}
+use Rattle.scenario_history.specs.Refusals.{line_refusal}
 use Rattle.scenario_history.specs.Source.{Airs}
 use Rattle.scenario_history.specs.Transcript.{out_of, units_of}
+use Rattle.replay_steps.specs.Failing.{CloseFails}
+use Rattle.replay_steps.specs.LineMeets.{answered_on, answered_said}
 use Rattle.replay_lines.specs.declared.ending.Ending.{Ending}
 use Rattle.replay_lines.specs.declared.ending.Ending.TheVariants as endings
 use Rattle.scenario_sinks.specs.Faults.{CountsStay}
 use Rattle.replay_lines.specs.Ended.{AheadOf, Complete, Ended, IsCut, RoomForText}
 use Rattle.replay_generated.specs.Generated.{RoomFor}
 use Rattle.replay_lines.specs.State.Laws.{Same}
-use Rattle.replay_lines.specs.Replayed.{BoxesAt, BoxesCut, Broken, CutAt, Done, FaultCut, NoEndCut, OutletFaulted, ReadFaulted, RefusedAt, WriteCut, brought_by}
+use Rattle.replay_lines.specs.Replayed.{BoxesAt, BoxesCut, Broken, CutAt, Done, FaultCut, LineFails, NoEndCut, OutletFaulted, ReadFaulted, RefusedAt, WriteCut, brought_by}
 
 took_as : (starts ends : List Account) (us vs : List SinkUnit) → us ≡ vs → Took starts ends us → Took starts ends vs
 took_as starts ends us vs same took = subst (λ units. Took starts ends units) same took
+
+-- the same becomes of the units that relays offer before a line, where it does before each step that isn't refused
+pub answered_alike : (airs others : Airs) (boxes : ℕ) (made more : List Step) (said : Said)
+    → ((step : Step) → line_refusal airs boxes made step ≡ None → answered_by airs made step ≡ answered_by others more step)
+    → refusal_said airs boxes made said ≡ None → answered_said airs made said ≡ answered_said others more said
+answered_alike airs others boxes made more (a_step step) alike none = alike step none
+answered_alike airs others boxes made more nothing alike none = refl
+answered_alike airs others boxes made more (unsaid reason) alike none = refl
 
 module _ (airs others : Airs) (same : Same airs others) (starts ends : List Account) (left left' kept kept' : Option (List ℕ)) where
   done_as : Done airs starts ends left left' kept kept' → Done others starts ends left left' kept kept'
@@ -62,6 +75,19 @@ module _ (airs others : Airs) (same : Same airs others) (starts ends : List Acco
   cut_as : (lines : List TextLine) → BoxesCut airs starts ends lines → BoxesCut others starts ends lines
   cut_as lines d = record { done = d.done; rest = d.rest; split = sym (same.units starts lines) ∙ d.split; boxes = d.boxes }
 
+  -- the box of a unit of a line fails, and the same was printed before it
+  fails_as : (earlier : List TextLine) (line : TextLine) (text told : List ℕ) (before after : List Account)
+      → Accepted (rules_of airs starts) (line ∷ earlier) → LineFails airs starts earlier line text told before after
+      → LineFails others starts earlier line text told before after
+  fails_as earlier line text told before after accepted f =
+      let units = handed_on airs earlier line in
+      let output = (rules_of others starts).output earlier line in
+      let P : List SinkUnit → Type 0 = λ us. CloseFails us (answered_on others earlier line) output text told before after in
+      let Q : List Answered → Type 0 = λ answers. CloseFails units answers output text told before after in
+      let R : List ℕ → Type 0 = λ octets. CloseFails units (answered_on airs earlier line) octets text told before after in
+      subst P (same.handed starts earlier line accepted.0)
+      (subst Q (same.answered starts earlier line accepted) (subst R (same.output starts earlier line accepted) f))
+
   failed_as : FaultCut airs starts ends left left' kept kept' → FaultCut others starts ends left left' kept kept'
   failed_as d = record {
     earlier = d.earlier;
@@ -71,7 +97,7 @@ module _ (airs others : Airs) (same : Same airs others) (starts ends : List Acco
     accounts = d.accounts;
     before = took_as starts d.accounts _ _ (same.units starts (reverse d.earlier)) d.before;
     told = d.told;
-    fails = subst (λ units. BoxFails units [] d.told d.accounts ends) (same.handed starts d.earlier d.line d.accepted.0) d.fails;
+    fails = fails_as d.earlier d.line [] d.told d.accounts ends d.accepted d.fails;
     between = d.between;
     written = subst (λ octets. Appends kept d.between octets) (same.out starts (reverse d.earlier)) d.written;
     cut = d.cut;
@@ -99,8 +125,8 @@ module _ (airs others : Airs) (same : Same airs others) (starts ends : List Acco
     accounts = d.accounts;
     before = took_as starts d.accounts _ _ (same.units starts (reverse d.earlier)) d.before;
     told = d.told;
-    fails = subst (λ units. BoxFails units (out_of others starts (reverse d.earlier)) d.told d.accounts ends) (same.handed starts d.earlier d.line d.accepted.0)
-        (subst (λ text. BoxFails (handed_on airs d.earlier d.line) text d.told d.accounts ends) (same.out starts (reverse d.earlier)) d.fails);
+    fails = fails_as d.earlier d.line (out_of others starts (reverse d.earlier)) d.told d.accounts ends d.accepted
+        (subst (λ text. LineFails airs starts d.earlier d.line text d.told d.accounts ends) (same.out starts (reverse d.earlier)) d.fails);
     written = d.written;
   }
 

@@ -67,6 +67,8 @@ module _ (old new : World) (ending : Ending) where
     links_law = laws.links;
     isolation_law = laws.isolation;
     migration_law = laws.migration;
+    relay_law = laws.relay;
+    relayed_units_law = laws.relayed_units;
   }
 
 -- memory ran out before anything was read

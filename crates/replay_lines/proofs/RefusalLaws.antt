@@ -16,8 +16,9 @@ use Rattle.source_machine.specs.declared.fault.EventFault.{EventFault}
 use Rattle.source_machine.specs.Airs.{airs_of}
 use Rattle.source_machine.specs.Faults.{event_fault, announce_fault, air_fault}
 use Rattle.transcript_text.specs.declared.refusal.Refusal.{Refusal}
-use Rattle.transcript_text.specs.declared.refusal.Refusal.TheVariants.{AfterEnd, Order, BaseTooLong, IdentTwice, NoSuchSink, SinkTwice, NoOutlet, NoSuchBis, NotBuilt, NotOnAir, NoEnd}
-use Rattle.transcript_text.specs.declared.refusal.Refusal.TheVariants.{NoSuchLink, LinkTwice, NothingWaiting, RecordsTooLong}
+use Rattle.transcript_text.specs.declared.refusal.Refusal.TheVariants.{AfterEnd, Order, BaseTooLong, IdentTwice, NoSuchSink, SinkTwice, NoOutlet, NoSuchBis, NotOnAir, NoEnd}
+use Rattle.transcript_text.specs.declared.refusal.Refusal.TheVariants.{NoSuchLink, LinkTwice, NothingWaiting, RecordsTooLong, RelayTaken}
+use Rattle.transcript_text.specs.declared.refusal.Refusal.TheVariants as refusals
 use Rattle.link_histories.specs.Calls.{Call}
 use Rattle.sink_histories.specs.Lives.{Made, World, life_of, made_of, named_by}
 use Rattle.sink_histories.specs.Refusals.{link_named, link_twice, no_link, no_record_room, nothing_waits, refused_at, refused_by, refused_where}
@@ -32,9 +33,10 @@ use Rattle.scenario_history.specs.Steps.{chosen_steps, version_of, is_over, sink
 use Rattle.scenario_history.specs.Bases.{has_bis, is_base_too_long}
 use Rattle.scenario_history.specs.Source.{checked_info, group_of, no_group, performed, setup_of, source_calls}
 use Rattle.scenario_history.specs.Boxes.{box_of}
-use Rattle.scenario_history.specs.Refusals.{group_refusal, horizon_in, refuse_if, no_sink, no_place, has_beyond, is_ident_twice, is_out_of_order, is_unbuilt}
+use Rattle.scenario_history.specs.Refusals.{group_refusal, horizon_in, refuse_if, no_sink, no_place, has_beyond, is_ident_twice, is_out_of_order}
+use Rattle.scenario_history.specs.Refusals.{is_relay_beyond, is_relay_taken, is_relayed, may_relay, relayed_or}
 use Rattle.scenario_history.specs.Refusals.{give_refusal, air_refusal, counter_ends, train_ends, sink_refusal, source_refusal, twin_refusal, own_refusal, phase_refusal, refusal_of}
-use Rattle.scenario_history.specs.Lines.{said_by, said_in, steps_of, refusal_said}
+use Rattle.scenario_history.specs.Lines.{said_by, said_in, said_of, steps_of, refusal_said}
 use Rattle.replay_steps.specs.LineMeets.{refusal_at}
 
 abbrev OtherThan : Option Refusal → Type 0
@@ -155,6 +157,7 @@ other_of_sinks boxes steps (kinds.Tuned sink which) = other_no_sink sink steps
 other_of_sinks boxes steps (kinds.Hear sink back bis subevent) = other_no_sink sink steps
 other_of_sinks boxes steps (kinds.Air sink lose) = other_no_sink sink steps
 other_of_sinks boxes steps (kinds.Inject sink back bis subevent octets) = other_no_sink sink steps
+other_of_sinks boxes steps (kinds.Relay sink bis to) = tt
 other_of_sinks boxes steps step = other_named the_world steps step
 
 other_of_source : (version : ℕ) (own : List Step) (step : Step) → OtherThan (source_refusal airs_of version own step)
@@ -179,6 +182,11 @@ other_of_source version own _ = tt
 
 other_of_twin : (steps : List Step) (step : Step) → OtherThan (twin_refusal steps step)
 other_of_twin steps (kinds.Start first) = other_if (is_ident_twice steps) IdentTwice (λ e. cc)
+other_of_twin steps (kinds.Relay sink bis to) =
+    other_or (refuse_if (not (may_relay steps)) Order) _ (other_if (not (may_relay steps)) Order (λ e. cc))
+    (other_or (no_sink sink steps) _ (other_no_sink sink steps)
+    (other_or (refuse_if (is_relay_beyond steps bis to) NoSuchBis) (refuse_if (is_relay_taken steps sink to) RelayTaken)
+    (other_if (is_relay_beyond steps bis to) NoSuchBis (λ e. cc)) (other_if (is_relay_taken steps sink to) RelayTaken (λ e. cc))))
 other_of_twin steps _ = tt
 
 other_own : (boxes : ℕ) (steps : List Step) (step : Step) → OtherThan (own_refusal airs_of boxes steps step)
@@ -192,14 +200,19 @@ other_step : (boxes : ℕ) (steps : List Step) (step : Step) → OtherThan (refu
 other_step boxes steps step =
     other_or (refuse_if (is_over steps) AfterEnd) (phase_refusal airs_of boxes steps step)
     (other_if (is_over steps) AfterEnd (λ e. cc))
-    (other_or (refuse_if (is_out_of_order steps step) Order) (option_or (refuse_if (is_unbuilt step) NotBuilt) (own_refusal airs_of boxes steps step))
-    (other_if (is_out_of_order steps step) Order (λ e. cc))
-    (other_or (refuse_if (is_unbuilt step) NotBuilt) (own_refusal airs_of boxes steps step)
-    (other_if (is_unbuilt step) NotBuilt (λ e. cc)) (other_own boxes steps step)))
+    (other_or (refuse_if (is_out_of_order steps step) Order) (own_refusal airs_of boxes steps step)
+    (other_if (is_out_of_order steps step) Order (λ e. cc)) (other_own boxes steps step))
+
+other_relayed : (test : Bool) (refusal : Option Refusal) → OtherThan refusal → OtherThan (relayed_or test refusal)
+other_relayed true None other = λ e. cc
+other_relayed true (Some refusals.Backlog) other = λ e. cc
+other_relayed true (Some reason) other = other
+other_relayed false refusal other = other
 
 other_read : (boxes : ℕ) (steps : List Step) (read : Result (Option Step) LineFault) → OtherThan (refusal_said airs_of boxes steps (said_by read))
 other_read boxes steps (Ok None) = tt
-other_read boxes steps (Ok (Some step)) = other_step boxes steps step
+other_read boxes steps (Ok (Some step)) =
+    other_relayed (is_relayed steps step) (refusal_of airs_of boxes steps step) (other_step boxes steps step)
 other_read boxes steps (Err (misread.BadLine word)) = λ e. cc
 other_read boxes steps (Err misread.Memory) = tt
 
@@ -210,5 +223,5 @@ other_line boxes version steps past = λ e. cc
 
 pub never_no_end : (starts : List Account) (history : List TextLine) (line : TextLine) → refusal_at starts history line ≡ Some NoEnd → ⊥
 never_no_end starts history line e =
-    let other = other_line (length starts) (version_of (steps_of history)) (steps_of history) line in
+    let other = other_line (length starts) (version_of (said_of history)) (steps_of airs_of history) line in
     subst OtherThan e other refl

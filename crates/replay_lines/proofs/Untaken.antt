@@ -5,6 +5,7 @@ use Rattle.bcast_io.specs.State.Reading.{MayFollow, Reading, lines_after}
 use Rattle.bcast_io.specs.TextLines.{TextLine, lines_of}
 use Rattle.unit_outlets.specs.Account.{Account}
 use Rattle.scenario_history.specs.Lines.{steps_of}
+use Rattle.source_machine.specs.Airs.{airs_of}
 use Rattle.replay_steps.specs.LineMeets.{LinesStand}
 use Rattle.replay_steps.specs.Untaken.{UntakenSame}
 use Rattle.replay_steps.specs.declared.machine.Machine.{Machine}
@@ -29,7 +30,7 @@ lines_told text left left' lines reader is read =
 -- the last line was run
 pub untaken_at : {A : Type 0} (olds mids news : List A) (starts accounts : List Account) (left mid kept kept' : Option (List ℕ)) (number : ℕ) (reader : Reading) (machine : Machine)
     → Running olds mids starts accounts left mid kept kept' number reader machine
-    → ((lines : List TextLine) → LinesStand starts lines machine accounts → UntakenSame (steps_of lines) mids news)
+    → ((lines : List TextLine) → LinesStand starts lines machine accounts → UntakenSame (steps_of airs_of lines) mids news)
     → (text : List ℕ) → left ≡ Some text → UntakenRun starts (lines_of true text) olds news
 untaken_at olds mids news starts accounts left mid kept kept' number reader machine r same text is =
     let at = lines_told text left mid r.lines reader is r.read in

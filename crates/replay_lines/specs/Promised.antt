@@ -16,6 +16,7 @@ use Rattle.isolation_laws.specs.Isolation.{IsolationLaw}
 use Rattle.scenario_laws.specs.Laws.{UnitsLaw, OrderLaw}
 use Rattle.scenario_laws.specs.Links.{AgreementLaw, LinksLaw}
 use Rattle.migration_laws.specs.Laws.{MigrationLaw}
+use Rattle.relay_laws.specs.Relayed.{RelayLinesLaw, RelayedUnitsLaw}
 use Rattle.replay_lines.specs.World.{World}
 
 -- between these worlds a run read, wrote and handed to the boxes what this ending says
@@ -81,3 +82,11 @@ pub record Promised (old new : World) (ending : Ending) : Type 0 where
   -- answers and is asked, and all that its assistants know, is what it would be without the other sinks and without the lines of the
   -- other source.
   pub isolation_law : IsolationLaw old.boxes
+  -- Where a line is `relay N B B2`, what source 1 accepted on B2 is what sink N handed up of B, valid, at closes of source 0 behind this
+  -- line and before its `drop`, without exactly the units that have a `dropped` line, in order and with octets and times.
+  pub relay_law : RelayLinesLaw old.boxes
+  -- Where a line is `relay N B B2`, no PDU was injected into sink N and no train given to it by its octets, nor into a sink M since it
+  -- was made, what M handed up of B2 of source 1 is, in order, of units that source 0 accepted on B and that N handed up, at most one of
+  -- each; a valid one has the unit's octets, and each is rendered later than N handed the unit up by the group's delay, SDU_Interval,
+  -- ISO_Interval and Presentation_Delay of source 1 (Core 5.2, volume 6 part G, section 3.2).
+  pub relayed_units_law : RelayedUnitsLaw old.boxes

@@ -15,6 +15,8 @@ use Rattle.scenario_history.specs.Boxes.{SinkUnit, Took}
 use Rattle.scenario_history.specs.Lines.{rules_of, handed_on}
 use Rattle.scenario_history.specs.Transcript.{out_of, end_after, transcript_of, transcript_end, units_of}
 use Rattle.scenario_sinks.specs.Handing.{BoxFails, CutShort}
+use Rattle.replay_steps.specs.Failing.{CloseFails}
+use Rattle.replay_steps.specs.LineMeets.{answered_on}
 
 -- the octets that a run took from its source; `over` says that it met the end of the input
 pub record TextRead (left left' : Option (List ℕ)) (text : List ℕ) (over : Bool) : Type 0 where
@@ -72,8 +74,14 @@ pub record BoxesCut (airs : Airs) (starts ends : List Account) (lines : List Tex
   pub split : units_of airs starts lines ≡ done ++ rest
   pub boxes : Took starts ends done
 
+-- The units that the line after these hands up went to their boxes up to one, and the box of that one failed and counted it. What the
+-- line prints before the line of that unit, the `dropped` lines of relays of lower sinks among it, stands behind `text` in `told`.
+abbrev pub LineFails : Airs → (starts : List Account) → (earlier : List TextLine) → TextLine → (text told : List ℕ) → (before after : List Account) → Type 0
+LineFails airs starts earlier line text told before after =
+    CloseFails (handed_on airs earlier line) (answered_on airs earlier line) ((rules_of airs starts).output earlier line) text told before after
+
 -- The lines before one were run, and none is refused; the box of a unit that this line hands up failed and counted it. What
--- those lines bring was written, and then a front of what this one brings before the unit, and not all of that.
+-- those lines bring was written, and then a front of what this one prints before the line of the unit, and not all of that.
 pub record FaultCut (airs : Airs) (starts ends : List Account) (left left' kept kept' : Option (List ℕ)) : Type 0 where
   pub earlier : List TextLine
   pub line : TextLine
@@ -82,7 +90,7 @@ pub record FaultCut (airs : Airs) (starts ends : List Account) (left left' kept 
   pub accounts : List Account
   pub before : Took starts accounts (units_of airs starts (reverse earlier))
   pub told : List ℕ
-  pub fails : BoxFails (handed_on airs earlier line) [] told accounts ends
+  pub fails : LineFails airs starts earlier line [] told accounts ends
   pub between : Option (List ℕ)
   pub written : Appends kept between (out_of airs starts (reverse earlier))
   pub cut : AppendsShort between kept' told
@@ -115,8 +123,9 @@ pub record ReadsAtMost (left left' : Option (List ℕ)) (most : ℕ) : Type 0 wh
 abbrev pub read_limit : ℕ
 read_limit = text_limit + 65536
 
--- OutletFault: the lines before one were run, and none is refused; the box of a unit that this line hands up failed, and
--- what was brought before that unit was written. No octet was read but for those that follow the line in one read ahead.
+-- OutletFault: the lines before one were run, and none is refused; the box of a unit that this line hands up failed. What those
+-- lines bring was written, and then what this one prints before the line of the unit. No octet was read but for those that follow
+-- the line in one read ahead.
 pub record OutletFaulted (airs : Airs) (starts ends : List Account) (left left' kept kept' : Option (List ℕ)) : Type 0 where
   pub earlier : List TextLine
   pub line : TextLine
@@ -126,10 +135,11 @@ pub record OutletFaulted (airs : Airs) (starts ends : List Account) (left left' 
   pub accounts : List Account
   pub before : Took starts accounts (units_of airs starts (reverse earlier))
   pub told : List ℕ
-  pub fails : BoxFails (handed_on airs earlier line) (out_of airs starts (reverse earlier)) told accounts ends
+  pub fails : LineFails airs starts earlier line (out_of airs starts (reverse earlier)) told accounts ends
   pub written : Appends kept kept' told
 
--- the boxes took a front of these units, and then one of them may have failed at the next unit and counted it
+-- The boxes took a front of these units, and then one of them may have failed at the next unit and counted it. Nothing is said of what
+-- was printed.
 abbrev pub TookFront : List SinkUnit → List Account → List Account → Type 0
 TookFront units before after = CutShort units before after ⊎ ((told : List ℕ) × BoxFails units [] told before after)
 

@@ -75,7 +75,7 @@ fn run_line<S: ByteSource, K: ByteSink>(
         → ReadTo left (S.left source.old) lines reader.old → RunTo starts lines kept (K.contents sink.old) machine.old (map account outlets.old.items)
         → LineRuns starts lines left (S.left source.new) kept (K.contents sink.new) reader.new machine.new (map account outlets.new.items) result }
     ensures untaken { (starts : List Account) (lines : List TextLine) (accounts : List Account) → LinesStand starts lines machine.old accounts
-        → UntakenSame (steps_of lines) outlets.old.items outlets.new.items }
+        → UntakenSame (steps_of airs_of lines) outlets.old.items outlets.new.items }
     ensures within { (left : Option (List ℕ)) (lines : List TextLine) → ReadTo left (S.left source.old) lines reader.old
         → ReadsAtMost left (S.left source.new) read_limit }
     ensures nearer { IfNone result (lines_left reader.new < lines_left reader.old) }
@@ -156,7 +156,7 @@ fn run_step<K: ByteSink>(
         → RunTo starts lines kept (K.contents sink.old) machine.old (map account outlets.old.items)
         → StepRuns starts (plain line.now ∷ lines) left left' kept (K.contents sink.new) machine.new (map account outlets.new.items) result }
     ensures untaken { (starts : List Account) (lines : List TextLine) (accounts : List Account) → LinesStand starts lines machine.old accounts
-        → UntakenSame (steps_of lines) outlets.old.items outlets.new.items }
+        → UntakenSame (steps_of airs_of lines) outlets.old.items outlets.new.items }
     ensures never_read_fault { result ≢ Some Ending.ReadFault }
     ensures write_fault { result ≡ Some Ending.WriteFault → Rose (K.faults sink.old) (K.faults sink.new) }
     ensures no_write_fault { result ≢ Some Ending.WriteFault → K.faults sink.new ≡ K.faults sink.old }

@@ -14,6 +14,7 @@ use crate::lines::run_lines;
 use bcast_io::{ByteSink, ByteSource};
 use isolation_laws::isolation_law;
 use migration_laws::migration_law;
+use relay_laws::{relay_lines_law, relayed_units_law};
 use scenario_laws::{
     agreement_law, links_law, one_transcript, order_law, some_airs_meet, units_law,
 };
@@ -64,4 +65,6 @@ fn laws_hold()
     links_law();
     isolation_law();
     migration_law();
+    relay_lines_law();
+    relayed_units_law();
 }

@@ -28,9 +28,7 @@ use Rattle.scenario_history.specs.Worlds.{life}
 use Rattle.sink_histories.specs.Lives.{made_of}
 use Rattle.scenario_history.specs.Refusals.{air_refusal, no_place, no_sink, phase_refusal, refuse_if, source_refusal}
 use Rattle.scenario_sources.specs.Answers.{NoPlace}
-use Rattle.scenario_sources.specs.declared.sources.Sources.{Sources}
-use Rattle.scenario_sources.specs.State.Standing.{SourcesStand}
-use Rattle.scenario_sources.proofs.Citable.{SaysNothing, air_says, hear_says, inject_says, sniff_says, sources_stay}
+use Rattle.scenario_sources.proofs.Citable.{air_says, hear_says, inject_says, sniff_says, sources_stay}
 use Rattle.scenario_sinks.specs.declared.sinks.Sinks.{Sinks}
 use Rattle.scenario_sinks.specs.Hearing.{Hears, hearing_by}
 use Rattle.scenario_sinks.specs.Pasts.{Past, with_hearing}
@@ -40,8 +38,8 @@ use Rattle.replay_steps.specs.declared.machine.Machine.{Machine}
 use Rattle.replay_steps.specs.Airing.{OnAir, Reaches, past_on_air}
 use Rattle.replay_steps.specs.Machines.{Stands, past_of}
 use Rattle.replay_steps.specs.Meets.{Quiet, Tells}
-use Rattle.replay_steps.specs.Versions.{stage_in}
-use Rattle.replay_steps.proofs.Stepping.{brought, or_none}
+use Rattle.replay_steps.proofs.RelaysStay.{minds_relays, relays_stay}
+use Rattle.replay_steps.proofs.Stepping.{as_step, brought, or_none}
 
 -- ---- whether a PDU may be handed to a sink
 
@@ -52,23 +50,24 @@ or_front (Some x) b rest reason e = e
 
 -- the refusals of a step that brings something to a sink in the place of a PDU
 pub record Brings (n : ℕ) (made : Step) : Type 0 where
+  pub minds : minds_relays made ≡ false
   pub refusal : (boxes version : ℕ) (steps : List Step) → stage_of steps ≡ running version
       → phase_refusal airs_of boxes steps made
       ≡ option_or (refuse_if (not (is_heard (chosen_steps steps))) Order) (option_or (no_sink n steps) (option_or (source_refusal airs_of version (chosen_steps steps) made) None))
 
 pub hear_brings : (n back bis subevent : ℕ) → Brings n (Hear n back bis subevent)
-hear_brings n back bis subevent = record { refusal = λ boxes version steps e. rw e refl }
+hear_brings n back bis subevent = record { minds = refl; refusal = λ boxes version steps e. rw e refl }
 
 pub air_brings : (n lose : ℕ) → Brings n (Air n lose)
-air_brings n lose = record { refusal = λ boxes version steps e. rw e refl }
+air_brings n lose = record { minds = refl; refusal = λ boxes version steps e. rw e refl }
 
 pub inject_brings : (n back bis subevent : ℕ) (octets : List ℕ) → Brings n (Inject n back bis subevent octets)
-inject_brings n back bis subevent octets = record { refusal = λ boxes version steps e. rw e refl }
+inject_brings n back bis subevent octets = record { minds = refl; refusal = λ boxes version steps e. rw e refl }
 
 pub reach_fails : (boxes version n : ℕ) (steps : List Step) (made : Step) (new : Machine) (stop : Stop) → Stands steps new → Brings n made → stage_of steps ≡ running version
     → Reaches steps n (Err stop) → Quiet boxes steps made new (Err stop)
 reach_fails boxes version n steps made new (Refused reason) stands brings e r = (
-  brings.refusal boxes version steps e
+  as_step boxes steps made brings.minds ∙ brings.refusal boxes version steps e
       ∙ or_front (refuse_if (not (is_heard (chosen_steps steps))) Order) (no_sink n steps) (option_or (source_refusal airs_of version (chosen_steps steps) made) None) reason r,
   stands,
 )
@@ -115,11 +114,11 @@ pub hear_meets : (boxes version n source event back bis subevent : ℕ) (pdu : L
     → Stands steps old → stage_of steps ≡ running version → Reaches steps n (Ok group)
     → (no_place (chosen_steps steps) back bis subevent ≡ None) × (pdu ≡ pdu_in airs_of (chosen_steps steps) (event_back (chosen_steps steps) back) bis subevent)
     → source ≡ chosen_of steps → event ≡ event_back (chosen_steps steps) back
-    → new.stage ≡ old.stage → new.sources ≡ old.sources → Hears (past_of steps) n source event bis subevent pdu new.sinks o
+    → new.stage ≡ old.stage → new.sources ≡ old.sources → new.relays ≡ old.relays → Hears (past_of steps) n source event bis subevent pdu new.sinks o
     → Quiet boxes steps (Hear n back bis subevent) new (Ok tt)
-hear_meets boxes version n source event back bis subevent pdu steps old new o group stands e r place chosen is stage same h = (
+hear_meets boxes version n source event back bis subevent pdu steps old new o group stands e r place chosen is stage same held h = (
   own_fault boxes version n steps (Hear n back bis subevent) (hear_brings n back bis subevent) e r.0 r.2 ∙ place.0,
-  brought steps (Hear n back bis subevent) old new stands (hear_says n back bis subevent) refl stage same
+  brought steps (Hear n back bis subevent) old new stands (hear_says n back bis subevent) refl stage same refl held
       (hearing_stays steps (Hear n back bis subevent) n (event_back (chosen_steps steps) back) bis subevent
       (pdu_in airs_of (chosen_steps steps) (event_back (chosen_steps steps) back) bis subevent) new.sinks
       (λ m. refl) (λ m. refl) (λ m. refl) (λ m. if_same (n == m) (life m steps)) (λ m. refl) refl
@@ -131,30 +130,31 @@ hear_meets boxes version n source event back bis subevent pdu steps old new o gr
 pub place_fails : (boxes version n back bis subevent : ℕ) (steps : List Step) (made : Step) (new : Machine) (group : Group) (stop : Stop) → Stands steps new → Brings n made
     → source_refusal airs_of version (chosen_steps steps) made ≡ no_place (chosen_steps steps) back bis subevent → stage_of steps ≡ running version
     → Reaches steps n (Ok group) → NoPlace (chosen_steps steps) back bis subevent stop → Quiet boxes steps made new (Err stop)
-place_fails boxes version n back bis subevent steps made new group (Refused reason) stands brings own e r p = (own_fault boxes version n steps made brings e r.0 r.2 ∙ own ∙ p, stands)
+place_fails boxes version n back bis subevent steps made new group (Refused reason) stands brings own e r p =
+    (as_step boxes steps made brings.minds ∙ own_fault boxes version n steps made brings e r.0 r.2 ∙ own ∙ p, stands)
 place_fails boxes version n back bis subevent steps made new group OutletFault stands brings own e r p = p
 place_fails boxes version n back bis subevent steps made new group Memory stands brings own e r p = tt
 
 -- ---- inject
 
-pub quiet_tells : (starts : List Account) (steps : List Step) (made : Step) (new : Machine) (text : List ℕ) (stop : Stop) → Quiet (length starts) steps made new (Err stop)
-    → Tells starts steps made new text text (Err stop)
-quiet_tells starts steps made new text (Refused reason) q = (q.0, q.1, refl)
-quiet_tells starts steps made new text OutletFault q = q
-quiet_tells starts steps made new text Memory q = tt
+pub quiet_tells : (starts : List Account) (steps : List Step) (made : Step) (new : Machine) (text : List ℕ) (stop : Stop) → minds_relays made ≡ false
+    → Quiet (length starts) steps made new (Err stop) → Tells starts steps made new text text (Err stop)
+quiet_tells starts steps made new text (Refused reason) minds q = (sym (as_step (length starts) steps made minds) ∙ q.0, q.1, refl)
+quiet_tells starts steps made new text OutletFault minds q = q
+quiet_tells starts steps made new text Memory minds q = tt
 
 pub inject_meets : (starts : List Account) (version n source event back bis subevent : ℕ) (octets : List ℕ) (steps : List Step) (old new : Machine) (hearing : Hearing) (group : Group)
     (text told : List ℕ) → Stands steps old → stage_of steps ≡ running version → Reaches steps n (Ok group)
     → no_place (chosen_steps steps) back bis subevent ≡ None → source ≡ chosen_of steps → event ≡ event_back (chosen_steps steps) back
-    → new.stage ≡ old.stage → new.sources ≡ old.sources → Hears (past_of steps) n source event bis subevent octets new.sinks (Some hearing)
+    → new.stage ≡ old.stage → new.sources ≡ old.sources → new.relays ≡ old.relays → Hears (past_of steps) n source event bis subevent octets new.sinks (Some hearing)
     → told ≡ text ++ heard_line n hearing → Tells starts steps (Inject n back bis subevent octets) new text told (Ok tt)
-inject_meets starts version n source event back bis subevent octets steps old new hearing group text told stands e r place chosen is stage same h t =
+inject_meets starts version n source event back bis subevent octets steps old new hearing group text told stands e r place chosen is stage same held h t =
     let made : Step = Inject n back bis subevent octets in
     let answer : hearing ≡ injected_hearing airs_of steps n back bis subevent octets =
     h.1 ∙ ap (λ s. hearing_by (source_of n steps) (sink_calls airs_of n steps) s event bis subevent octets) chosen
     ∙ ap (λ d. hearing_by (source_of n steps) (sink_calls airs_of n steps) (chosen_of steps) d bis subevent octets) is in (
       own_fault (length starts) version n steps made (inject_brings n back bis subevent octets) e r.0 r.2 ∙ place,
-      brought steps made old new stands (inject_says n back bis subevent octets) refl stage same
+      brought steps made old new stands (inject_says n back bis subevent octets) refl stage same refl held
           (hearing_stays steps made n (event_back (chosen_steps steps) back) bis subevent octets new.sinks
           (λ m. refl) (λ m. refl) (λ m. refl) (λ m. if_same (n == m) (life m steps)) (λ m. refl) refl
           (heard_as (past_of steps) n source (chosen_of steps) event (event_back (chosen_steps steps) back) bis subevent octets octets new.sinks chosen is refl h.2)),
@@ -188,11 +188,11 @@ on_air : (n : ℕ) → 0 < n → refuse_if (n == 0) NotOnAir ≡ None
 on_air n h = ap (λ (b : Bool). refuse_if b NotOnAir) (ne_eqb n 0 (λ e. omega arith))
 
 pub air_meets : (boxes version n lose event : ℕ) (steps : List Step) (old new : Machine) (group : Group) → Stands steps old → stage_of steps ≡ running version
-    → OnAir steps n event group → new.stage ≡ old.stage → new.sources ≡ old.sources → SinksStand (past_of (Air n lose ∷ steps)) new.sinks
+    → OnAir steps n event group → new.stage ≡ old.stage → new.sources ≡ old.sources → new.relays ≡ old.relays → SinksStand (past_of (Air n lose ∷ steps)) new.sinks
     → Quiet boxes steps (Air n lose) new (Ok tt)
-air_meets boxes version n lose event steps old new group stands e on stage same heard = (
+air_meets boxes version n lose event steps old new group stands e on stage same held heard = (
   own_fault boxes version n steps (Air n lose) (air_brings n lose) e on.started on.lives ∙ on_air (performed (chosen_steps steps)) on.some,
-  brought steps (Air n lose) old new stands (air_says n lose) refl stage same heard,
+  brought steps (Air n lose) old new stands (air_says n lose) refl stage same refl held heard,
 )
 
 pub air_fails : (boxes version n lose : ℕ) (steps : List Step) (group : Group) → stage_of steps ≡ running version → Reaches steps n (Ok group)
@@ -329,6 +329,7 @@ sniff_meets starts version event back bis subevent pdu steps machine text told s
     stage = stands.stage;
     sources = sources_stay (Sniff back bis subevent) steps machine.sources (sniff_says back bis subevent) stands.sources;
     sinks = stands.sinks;
+    relays = relays_stay steps (Sniff back bis subevent) machine.relays refl stands.relays;
   },
   t ∙ ap (λ d. text ++ pdu_line d bis subevent pdu) is ∙ ap (λ o. text ++ pdu_line (event_back (chosen_steps steps) back) bis subevent o) place.1,
 )

@@ -1,45 +1,46 @@
--- The steps that close an event.
-use Rattle.std.proofs.Common.{◌≡◌, ℕ, List, [], ◌∷◌, ◌++◌, length, false, inr, inl, refl, sym, ◌∙◌, ap, append_assoc, append-nil, subst, Option, None, Some, Result, Ok, Err}
+-- The steps that close the open event of the chosen source.
+use Rattle.std.proofs.Common.{◌≡◌, ◌==◌, ◌<◌, ℕ, zero, suc, cond, false, List, [], ◌∷◌, ◌++◌, length, inr, inl, refl, sym, ◌∙◌, ap, append_assoc, append-nil, subst, arith, Option, None}
+use Rattle.std.proofs.Common.{Some, Result, Ok, Err}
 use Rattle.unit_outlets.specs.Account.{Account}
 use Rattle.source_machine.specs.Airs.{airs_of}
-use Rattle.source_machine.specs.declared.sent.Stale.{Stale}
 use Rattle.transcript_text.specs.declared.stop.Stop.{Stop}
 use Rattle.transcript_text.specs.declared.stop.Stop.TheVariants.{Refused, OutletFault, Memory}
 use Rattle.transcript_text.specs.Lines.{control_line}
 use Rattle.scenario_text.specs.declared.step.Step.{Step}
-use Rattle.scenario_text.specs.declared.step.Step.TheVariants as steps
+use Rattle.scenario_text.specs.declared.step.Step.TheVariants as variants
 use Rattle.scenario_history.specs.Steps.{chosen_of, chosen_steps, is_over, is_over_at, running, stage_of, steps_of_source}
 use Rattle.scenario_history.specs.Source.{end_pdu, open_event, stale_in}
-use Rattle.scenario_history.specs.Boxes.{SinkUnit, accounts_after, closing, closing_at, handed_by}
-use Rattle.scenario_history.specs.Output.{output_of, stale_lines, unit_lines}
-use Rattle.scenario_history.specs.Refusals.{phase_refusal}
+use Rattle.scenario_history.specs.Boxes.{SinkUnit, accounts_after, closing, closing_at, handed_by, sink_numbers}
+use Rattle.scenario_history.specs.Gifts.{Answered, answered, answered_by, closes_first, offers_at, with_gifts}
+use Rattle.scenario_history.specs.Output.{close_lines, first_lines, output_of, stale_lines, unit_lines}
 use Rattle.scenario_history.proofs.Citable.{stage_same}
 use Rattle.scenario_sources.specs.Answers as sources
 use Rattle.scenario_sources.specs.Faults.{fault_of}
 use Rattle.scenario_sources.specs.State.Standing.{SourcesStand}
-use Rattle.scenario_sinks.specs.Closing as sinks
 use Rattle.scenario_sinks.specs.Closing.{closings_at}
-use Rattle.scenario_sinks.specs.Handing.{Hands}
-use Rattle.scenario_sinks.specs.Pasts.{Past, with_close}
+use Rattle.scenario_sinks.specs.Handing.{CutShort}
+use Rattle.scenario_sinks.specs.Pasts.{with_close}
 use Rattle.scenario_sinks.specs.State.Standing.{SinksStand}
-use Rattle.scenario_sinks.specs.declared.sinks.Sinks.{Sinks}
+use Rattle.scenario_relays.specs.State.Standing.{RelaysStand}
 use Rattle.replay_steps.specs.declared.machine.Machine.{Machine}
-use Rattle.replay_steps.specs.Machines.{Stands, past_of}
-use Rattle.replay_steps.specs.Meets.{Meets}
+use Rattle.replay_steps.specs.Failing.{CloseFails}
+use Rattle.replay_steps.specs.Machines.{Stands, past_of, relays_past}
+use Rattle.replay_steps.specs.Meets.{Meets, phase_line}
+use Rattle.replay_steps.specs.Relaying.{Closes, RoomsStand}
 use Rattle.replay_steps.specs.Versions.{stage_in}
-use Rattle.replay_steps.proofs.Stepping.{GoesOn, source_fault, sources_stand}
+use Rattle.replay_steps.proofs.Closed.{first_closed, first_cut, first_fails_at, never_refused, second_closed, second_cut, second_fails_at}
+use Rattle.replay_steps.proofs.CloseLines.{units_closed}
+use Rattle.replay_steps.proofs.ClosesFirst.{CloseSays, ClosesOpen, first_says, first_stands}
+use Rattle.replay_steps.proofs.RelaysStay.{relays_stay}
+use Rattle.replay_steps.proofs.StepLaws.{no_gifts}
+use Rattle.replay_steps.proofs.Stepping.{as_step, source_fault, sources_stand}
 
 -- ---- the scenario goes on for each source
 
 pub not_over : (s version : ℕ) (steps : List Step) → stage_of steps ≡ running version → is_over (steps_of_source s steps) ≡ false
 not_over s version steps e = ap is_over_at (stage_same s steps ∙ e)
 
--- ---- event, stop
-
--- the step closes the open event of the chosen source
-pub record ClosesChosen (made : Step) : Type 0 where
-  pub past : (steps : List Step) → past_of (made ∷ steps) ≡ with_close (chosen_of steps) (open_event (chosen_steps steps)) (past_of steps)
-  pub handed : (steps : List Step) → handed_by airs_of steps made ≡ closing airs_of (chosen_of steps) steps
+-- ---- what is handed up
 
 closing_same : (s : ℕ) (steps : List Step) (o : Option ℕ) → closings_at s o (past_of steps) ≡ closing_at airs_of s steps o
 closing_same s steps None = refl
@@ -50,124 +51,234 @@ pub closing_is : (s source : ℕ) (closed : Option ℕ) (steps : List Step) → 
 closing_is s source closed steps same is =
     ap (λ k. closings_at k closed (past_of steps)) same ∙ ap (λ o. closings_at s o (past_of steps)) is ∙ closing_same s steps (open_event (steps_of_source s steps))
 
--- the sinks closed the event
-pub record Closed (starts : List Account) (steps : List Step) (made : Step) (new : Machine) (text told : List ℕ) (before after : List Account) : Type 0 where
-  pub passes : phase_refusal airs_of (length starts) steps made ≡ None
-  pub stands : Stands (made ∷ steps) new
-  pub told_is : told ≡ text ++ unit_lines (closing airs_of (chosen_of steps) steps)
-  pub boxes : after ≡ accounts_after before (handed_by airs_of steps made)
-
-pub closes_all : (starts : List Account) (version source : ℕ) (steps : List Step) (made : Step) (closed : Option ℕ) (old new : Machine) (text told : List ℕ) (before after : List Account)
-    → GoesOn made → ClosesChosen made → Stands steps old → stage_of steps ≡ running version → fault_of version steps made ≡ None
-    → SourcesStand (made ∷ steps) new.sources → (is_over (chosen_steps steps) ≡ false → closed ≡ open_event (chosen_steps steps)) → source ≡ chosen_of steps
-    → new.stage ≡ old.stage → sinks.Closes (past_of steps) source closed new.sinks text told before after (Ok tt)
-    → Closed starts steps made new text told before after
-closes_all starts version source steps made closed old new text told before after on closes stands e passes s is chosen stage c =
-    let open_is = is (not_over (chosen_of steps) version steps e) in
-    let units = closing_is (chosen_of steps) source closed steps chosen open_is in
-    let P : Past → Type 0 = λ p. SinksStand p new.sinks in
+second_says : (made : Step) (tail : List Step → List ℕ) (steps : List Step) (closed : Option ℕ) → ClosesOpen made tail → chosen_of steps ≡ 1
+    → closed ≡ open_event (chosen_steps steps)
+    → CloseSays steps made (closings_at 1 closed (past_of steps)) [] (unit_lines (closings_at 1 closed (past_of steps)))
+second_says made tail steps closed closes is open_is =
+    let units : closings_at 1 closed (past_of steps) ≡ closing airs_of (chosen_of steps) steps = closing_is (chosen_of steps) 1 closed steps (sym is) open_is in
     record {
-      passes = source_fault (length starts) version steps made on e ∙ passes;
-      stands = record {
-        stage = ap stage_in stage ∙ stands.stage ∙ sym (on.stage (stage_of steps));
-        sources = s;
-        sinks = subst P (ap (λ k. with_close k closed (past_of steps)) chosen ∙ ap (λ o. with_close (chosen_of steps) o (past_of steps)) open_is ∙ sym (closes.past steps)) c.stands;
-      };
-      told_is = c.hands.0 ∙ ap (λ us. text ++ unit_lines us) units;
-      boxes = c.hands.1 ∙ ap (accounts_after before) (units ∙ sym (closes.handed steps));
+      units_are = closes.handed steps ∙ sym units;
+      answers_are = ap (λ hit. answered airs_of (cond hit (offers_at airs_of steps) []) steps) (closes.first steps ∙ ap (λ c. c == 0) is);
+      lines_are = ap (λ hit. cond hit (first_lines (closing airs_of 0 steps) (answered_by airs_of steps made)) (unit_lines (closing airs_of (chosen_of steps) steps)))
+          (ap (λ c. c == 0) is)
+          ∙ ap unit_lines (sym units);
     }
 
--- the sinks stopped as they closed it
-pub close_stops : (starts : List Account) (version source : ℕ) (steps : List Step) (made : Step) (closed : Option ℕ) (sinks_then : Sinks) (new : Machine) (text told : List ℕ)
-    (before after : List Account)
-    (stop : Stop) → GoesOn made → ClosesChosen made → stage_of steps ≡ running version → fault_of version steps made ≡ None
-    → (is_over (chosen_steps steps) ≡ false → closed ≡ open_event (chosen_steps steps)) → source ≡ chosen_of steps
-    → sinks.Closes (past_of steps) source closed sinks_then text told before after (Err stop) → Meets starts steps made new text told before after (Err stop)
-close_stops starts version source steps made closed sinks_then new text told before after (Refused reason) on closes e passes is chosen c = absurd c.hands
-close_stops starts version source steps made closed sinks_then new text told before after OutletFault on closes e passes is chosen c =
-    let units = closing_is (chosen_of steps) source closed steps chosen (is (not_over (chosen_of steps) version steps e)) ∙ sym (closes.handed steps) in
-    let P : List SinkUnit → Type 0 = λ us. Hands us text told before after (Err OutletFault) in
-    (source_fault (length starts) version steps made on e ∙ passes, subst P units c.hands)
-close_stops starts version source steps made closed sinks_then new text told before after Memory on closes e passes is chosen c =
-    let units = closing_is (chosen_of steps) source closed steps chosen (is (not_over (chosen_of steps) version steps e)) ∙ sym (closes.handed steps) in
-    let P : List SinkUnit → Type 0 = λ us. Hands us text told before after (Err Memory) in
-    inr (source_fault (length starts) version steps made on e ∙ passes, subst P units c.hands)
+-- nothing is printed of no units
+pub nothing_printed : (let none : List SinkUnit = [] in let unasked : List Answered = [] in first_lines none unasked ≡ [])
+unfolding sink_numbers
+nothing_printed = refl
 
-pub closes_meet : (starts : List Account) (version source : ℕ) (steps : List Step) (made : Step) (closed : Option ℕ) (old new : Machine) (text told : List ℕ) (before after : List Account)
-    (r : Result (Unit {0}) Stop) → GoesOn made → ClosesChosen made → output_of airs_of starts steps made ≡ unit_lines (closing airs_of (chosen_of steps) steps)
-    → Stands steps old → stage_of steps ≡ running version → fault_of version steps made ≡ None
-    → SourcesStand (made ∷ steps) new.sources → (is_over (chosen_steps steps) ≡ false → closed ≡ open_event (chosen_steps steps)) → source ≡ chosen_of steps
-    → new.stage ≡ old.stage → sinks.Closes (past_of steps) source closed new.sinks text told before after r
-    → Meets starts steps made new text told before after r
-closes_meet starts version source steps made closed old new text told before after (Ok x) on closes prints stands e passes s is chosen stage c =
-    let all = closes_all starts version source steps made closed old new text told before after on closes stands e passes s is chosen stage c in
-    (all.passes, all.stands, all.told_is ∙ ap (λ l. text ++ l) (sym prints), all.boxes)
-closes_meet starts version source steps made closed old new text told before after (Err stop) on closes prints stands e passes s is chosen stage c =
-    close_stops starts version source steps made closed new.sinks new text told before after stop on closes e passes is chosen c
+-- ---- the sinks closed the event, and relays offered what they handed up
 
--- ---- event
+pub record Closed (starts : List Account) (steps : List Step) (made : Step) (new : Machine) (text told : List ℕ) (before after : List Account) : Type 0 where
+  pub passes : phase_line airs_of (length starts) steps made ≡ None
+  pub stands : Stands (made ∷ with_gifts airs_of steps made) new
+  pub told_is : told ≡ text ++ close_lines airs_of steps made
+  pub boxes : after ≡ accounts_after before (handed_by airs_of steps made)
 
-pub event_meets : (starts : List Account) (made : List Step) (stale : List Stale) (new : Machine) (text told last : List ℕ) (before after : List Account)
-    → Closed starts made steps.Event new text told before after → stale ≡ stale_in airs_of (chosen_steps made) → last ≡ told ++ stale_lines stale
-    → Meets starts made steps.Event new text last before after (Ok tt)
-event_meets starts made stale new text told last before after all is lines = (
+-- the rooms once the sources took the step
+pub rooms_then : (made : Step) (tail : List Step → List ℕ) (steps : List Step) (old mid : Machine) → ClosesOpen made tail → Stands steps old
+    → SourcesStand (made ∷ steps) mid.sources → mid.sinks ≡ old.sinks → mid.relays ≡ old.relays → RoomsStand (made ∷ steps) (past_of steps) mid
+rooms_then made tail steps old mid closes stands sources sinks held = record {
+  sources = sources;
+  sinks = subst (λ k. SinksStand (past_of steps) k) (sym sinks) stands.sinks;
+  relays = subst (λ r. RelaysStand (relays_past (made ∷ steps)) r) (sym held) (relays_stay steps made old.relays closes.minds stands.relays);
+}
+
+fault_line : (made : Step) (tail : List Step → List ℕ) (boxes version : ℕ) (steps : List Step) → ClosesOpen made tail → stage_of steps ≡ running version
+    → phase_line airs_of boxes steps made ≡ fault_of version steps made
+fault_line made tail boxes version steps closes e = as_step boxes steps made closes.minds ∙ source_fault boxes version steps made closes.on e
+
+second_stands : (made : Step) (tail : List Step → List ℕ) (steps : List Step) (closed : Option ℕ) (old new : Machine) → ClosesOpen made tail → Stands steps old
+    → chosen_of steps ≡ 1 → closed ≡ open_event (chosen_steps steps) → new.stage ≡ old.stage → RoomsStand (made ∷ steps) (with_close 1 closed (past_of steps)) new
+    → Stands (made ∷ with_gifts airs_of steps made) new
+second_stands made tail steps closed old new closes stands is open_is stage rooms =
+    let alone : closes_first steps made ≡ false = closes.first steps ∙ ap (λ c. c == 0) is in
+    subst (λ before_it. Stands (made ∷ before_it) new) (sym (no_gifts steps made alone))
+    (record {
+      stage = ap stage_in stage ∙ stands.stage ∙ sym (closes.on.stage (stage_of steps));
+      sources = rooms.sources;
+      sinks = subst (λ p. SinksStand p new.sinks)
+          (ap (λ k. with_close k closed (past_of steps)) (sym is) ∙ ap (λ o. with_close (chosen_of steps) o (past_of steps)) open_is ∙ sym (closes.past steps)) rooms.sinks;
+      relays = rooms.relays;
+    })
+
+-- what became of a close of the open event of the chosen source
+pub closes_all : (made : Step) (tail : List Step → List ℕ) (starts : List Account) (version source : ℕ) (steps : List Step) (closed : Option ℕ) (old new : Machine)
+    (text told : List ℕ) (before after : List Account) → ClosesOpen made tail → Stands steps old → stage_of steps ≡ running version → fault_of version steps made ≡ None
+    → closed ≡ open_event (chosen_steps steps) → source ≡ chosen_of steps → source < 2 → new.stage ≡ old.stage
+    → Closes (made ∷ steps) (past_of steps) source closed new text told before after (Ok tt) → Closed starts steps made new text told before after
+closes_all made tail starts version zero steps closed old new text told before after closes stands e passes is chosen within stage m =
+    let all = first_closed (made ∷ steps) (past_of steps) closed new text told before after m in
+    let says = first_says made tail steps closed closes (sym chosen) is in
+    record {
+      passes = fault_line made tail (length starts) version steps closes e ∙ passes;
+      stands = first_stands made tail steps closed old new text told before after closes stands (sym chosen) is stage all;
+      told_is = all.lines ∙ ap (λ l. text ++ l) (sym says.lines_are);
+      boxes = all.boxes ∙ ap (accounts_after before) (sym says.units_are);
+    }
+closes_all made tail starts version (suc zero) steps closed old new text told before after closes stands e passes is chosen within stage m =
+    let all = second_closed (made ∷ steps) (past_of steps) 0 closed new text told before after m in
+    let says = second_says made tail steps closed closes (sym chosen) is in
+    record {
+      passes = fault_line made tail (length starts) version steps closes e ∙ passes;
+      stands = second_stands made tail steps closed old new closes stands (sym chosen) is stage all.rooms;
+      told_is = all.lines ∙ ap (λ l. text ++ l) (sym says.lines_are);
+      boxes = all.boxes ∙ ap (accounts_after before) (sym says.units_are);
+    }
+closes_all made tail starts version (suc (suc s)) steps closed old new text told before after closes stands e passes is chosen within stage m = absurd (omega (arith, within))
+
+-- a box stopped it
+close_fails : (made : Step) (tail : List Step → List ℕ) (starts : List Account) (source : ℕ) (steps : List Step) (closed : Option ℕ) (new : Machine)
+    (text told : List ℕ) (before after : List Account) → ClosesOpen made tail
+    → closed ≡ open_event (chosen_steps steps) → source ≡ chosen_of steps → source < 2
+    → Closes (made ∷ steps) (past_of steps) source closed new text told before after (Err OutletFault)
+    → CloseFails (handed_by airs_of steps made) (answered_by airs_of steps made) (output_of airs_of starts steps made) text told before after
+close_fails made tail starts zero steps closed new text told before after closes is chosen within m =
+    let says = first_says made tail steps closed closes (sym chosen) is in
+    first_fails_at (made ∷ steps) (past_of steps) closed (handed_by airs_of steps made) [] (answered_by airs_of steps made) (output_of airs_of starts steps made) (tail steps)
+    text told before after new (says.units_are ∙ sym (append-nil (units_closed (past_of steps) closed))) says.answers_are
+    (closes.output starts steps ∙ ap (λ l. l ++ tail steps) says.lines_are) m
+close_fails made tail starts (suc zero) steps closed new text told before after closes is chosen within m =
+    let says = second_says made tail steps closed closes (sym chosen) is in
+    let units : List SinkUnit = closings_at 1 closed (past_of steps) in
+    subst (λ us. CloseFails us (answered_by airs_of steps made) (output_of airs_of starts steps made) text told before after) (sym says.units_are)
+    (subst (λ asked. CloseFails units asked (output_of airs_of starts steps made) text told before after) (sym says.answers_are)
+    (second_fails_at (made ∷ steps) (past_of steps) closed [] [] (output_of airs_of starts steps made) (tail steps) text text told before before after new tt
+    (sym (append-nil text) ∙ ap (λ l. text ++ l) (sym nothing_printed)) refl
+    (closes.output starts steps ∙ ap (λ l. l ++ tail steps) says.lines_are ∙ ap (λ l. l ++ (unit_lines units ++ tail steps)) (sym nothing_printed)) m))
+close_fails made tail starts (suc (suc s)) steps closed new text told before after closes is chosen within m = absurd (omega (arith, within))
+
+-- memory ran out
+close_cut : (made : Step) (tail : List Step → List ℕ) (source : ℕ) (steps : List Step) (closed : Option ℕ) (new : Machine) (text told : List ℕ) (before after : List Account)
+    → ClosesOpen made tail → closed ≡ open_event (chosen_steps steps) → source ≡ chosen_of steps → source < 2
+    → Closes (made ∷ steps) (past_of steps) source closed new text told before after (Err Memory) → CutShort (handed_by airs_of steps made) before after
+close_cut made tail zero steps closed new text told before after closes is chosen within m =
+    let says = first_says made tail steps closed closes (sym chosen) is in
+    first_cut (made ∷ steps) (past_of steps) closed (handed_by airs_of steps made) [] text told before after new
+    (says.units_are ∙ sym (append-nil (units_closed (past_of steps) closed))) m
+close_cut made tail (suc zero) steps closed new text told before after closes is chosen within m =
+    let says = second_says made tail steps closed closes (sym chosen) is in
+    subst (λ us. CutShort us before after) (sym says.units_are) (second_cut (made ∷ steps) (past_of steps) closed text told before after new m)
+close_cut made tail (suc (suc s)) steps closed new text told before after closes is chosen within m = absurd (omega (arith, within))
+
+pub close_stops : (made : Step) (tail : List Step → List ℕ) (starts : List Account) (version source : ℕ) (steps : List Step) (closed : Option ℕ) (new there : Machine)
+    (text told : List ℕ) (before after : List Account) (stop : Stop) → ClosesOpen made tail → stage_of steps ≡ running version → fault_of version steps made ≡ None
+    → closed ≡ open_event (chosen_steps steps) → source ≡ chosen_of steps → source < 2
+    → Closes (made ∷ steps) (past_of steps) source closed new text told before after (Err stop) → Meets starts steps made there text told before after (Err stop)
+close_stops made tail starts version source steps closed new there text told before after (Refused reason) closes e passes is chosen within m =
+    absurd (never_refused (made ∷ steps) (past_of steps) source closed reason new text told before after m)
+close_stops made tail starts version source steps closed new there text told before after OutletFault closes e passes is chosen within m =
+    (fault_line made tail (length starts) version steps closes e ∙ passes, close_fails made tail starts source steps closed new text told before after closes is chosen within m)
+close_stops made tail starts version source steps closed new there text told before after Memory closes e passes is chosen within m =
+    inr (fault_line made tail (length starts) version steps closes e ∙ passes, close_cut made tail source steps closed new text told before after closes is chosen within m)
+
+-- ---- what the step prints behind its lines
+
+pub closed_meets : (made : Step) (tail : List Step → List ℕ) (starts : List Account) (steps : List Step) (new : Machine) (text told last : List ℕ) (before after : List Account)
+    → ClosesOpen made tail → Closed starts steps made new text told before after → last ≡ told ++ tail steps → Meets starts steps made new text last before after (Ok tt)
+closed_meets made tail starts steps new text told last before after closes all lines = (
   all.passes,
   all.stands,
-  lines ∙ ap (λ us. told ++ stale_lines us) is ∙ ap (λ l. l ++ stale_lines (stale_in airs_of (chosen_steps made))) all.told_is
-      ∙ append_assoc text (unit_lines (closing airs_of (chosen_of made) made)) (stale_lines (stale_in airs_of (chosen_steps made))),
+  lines ∙ ap (λ l. l ++ tail steps) all.told_is ∙ append_assoc text (close_lines airs_of steps made) (tail steps)
+      ∙ ap (λ l. text ++ l) (sym (closes.output starts steps)),
   all.boxes,
 )
 
--- all units went to their boxes, and memory ran out as those left out were printed
-pub event_wants : (starts : List Account) (made : List Step) (new there : Machine) (text told last : List ℕ) (before after : List Account)
-    → Closed starts made steps.Event new text told before after → Meets starts made steps.Event there text last before after (Err Memory)
-event_wants starts made new there text told last before after all =
-    inr (all.passes, record { done = handed_by airs_of made steps.Event; rest = []; split = sym (append-nil (handed_by airs_of made steps.Event)); boxes = all.boxes })
+-- all units went to their boxes, and memory ran out as more was printed
+pub closed_wants : (made : Step) (starts : List Account) (steps : List Step) (new there : Machine) (text told last : List ℕ) (before after : List Account)
+    → Closed starts steps made new text told before after → Meets starts steps made there text last before after (Err Memory)
+closed_wants made starts steps new there text told last before after all =
+    inr (all.passes, record { done = handed_by airs_of steps made; rest = []; split = sym (append-nil (handed_by airs_of steps made)); boxes = all.boxes })
 
--- ---- terminate
+-- a step that prints nothing behind them
+pub closes_meet : (made : Step) (starts : List Account) (version source : ℕ) (steps : List Step) (closed : Option ℕ) (old new : Machine)
+    (text told : List ℕ) (before after : List Account) (r : Result (Unit {0}) Stop) → ClosesOpen made (λ own. []) → Stands steps old → stage_of steps ≡ running version
+    → fault_of version steps made ≡ None → closed ≡ open_event (chosen_steps steps) → source ≡ chosen_of steps → source < 2 → new.stage ≡ old.stage
+    → Closes (made ∷ steps) (past_of steps) source closed new text told before after r → Meets starts steps made new text told before after r
+closes_meet made starts version source steps closed old new text told before after (Ok x) closes stands e passes is chosen within stage m =
+    closed_meets made (λ own. []) starts steps new text told told before after closes
+    (closes_all made (λ own. []) starts version source steps closed old new text told before after closes stands e passes is chosen within stage m) (sym (append-nil told))
+closes_meet made starts version source steps closed old new text told before after (Err stop) closes stands e passes is chosen within stage m =
+    close_stops made (λ own. []) starts version source steps closed new new text told before after stop closes e passes is chosen within m
 
-pub terminate_meets : (starts : List Account) (made : List Step) (reason : ℕ) (octets : List ℕ) (new : Machine) (text told last : List ℕ) (before after : List Account)
-    → Closed starts made (steps.Terminate reason) new text told before after → octets ≡ end_pdu (chosen_steps made) reason → last ≡ told ++ control_line octets
-    → Meets starts made (steps.Terminate reason) new text last before after (Ok tt)
-terminate_meets starts made reason octets new text told last before after all is lines = (
-  all.passes,
-  all.stands,
-  lines ∙ ap (λ o. told ++ control_line o) is ∙ ap (λ l. l ++ control_line (end_pdu (chosen_steps made) reason)) all.told_is
-      ∙ append_assoc text (unit_lines (closing airs_of (chosen_of made) made)) (control_line (end_pdu (chosen_steps made) reason)),
-  all.boxes,
-)
+-- ---- event, stop, terminate
 
--- all units went to their boxes, and memory ran out as the PDU was printed
-pub terminate_wants : (starts : List Account) (made : List Step) (reason : ℕ) (new there : Machine) (text told last : List ℕ) (before after : List Account)
-    → Closed starts made (steps.Terminate reason) new text told before after → Meets starts made (steps.Terminate reason) there text last before after (Err Memory)
-terminate_wants starts made reason new there text told last before after all = inr (
-  all.passes,
-  record {
-    done = handed_by airs_of made (steps.Terminate reason);
-    rest = [];
-    split = sym (append-nil (handed_by airs_of made (steps.Terminate reason)));
-    boxes = all.boxes;
-  },
-)
+-- `event` prints the units that it left out, and `terminate` the PDU that ends the group
+abbrev pub event_tail : List Step → List ℕ
+event_tail own = stale_lines (stale_in airs_of (chosen_steps own))
 
-pub terminate_refused : (starts : List Account) (version reason : ℕ) (made : List Step) (old new : Machine) (text : List ℕ) (accounts : List Account) (stop : Stop)
-    → Stands made old → new.stage ≡ old.stage → new.sinks ≡ old.sinks → GoesOn (steps.Terminate reason) → stage_of made ≡ running version → sources.Terminates version made reason new.sources (Err stop)
-    → Meets starts made (steps.Terminate reason) new text text accounts accounts (Err stop)
-terminate_refused starts version reason made old new text accounts (Refused cause) stands stage same on e c =
-    (source_fault (length starts) version made (steps.Terminate reason) on e ∙ c.0, sources_stand made old new stands stage same c.1, refl, refl)
-terminate_refused starts version reason made old new text accounts OutletFault stands stage same on e c = absurd c
-terminate_refused starts version reason made old new text accounts Memory stands stage same on e c = inl refl
+abbrev pub terminate_tail : (reason : ℕ) → List Step → List ℕ
+terminate_tail reason own = control_line (end_pdu (chosen_steps own) reason)
 
-pub close_refused : (starts : List Account) (version : ℕ) (steps : List Step) (made : Step) (old new : Machine) (text : List ℕ) (accounts : List Account) (stop : Stop)
-    → Stands steps old → new.stage ≡ old.stage → new.sinks ≡ old.sinks → GoesOn made → stage_of steps ≡ running version → sources.Closes version steps made new.sources (Err stop) → Meets starts steps made new text text accounts accounts (Err stop)
-close_refused starts version steps made old new text accounts (Refused reason) stands stage same on e c =
-    (source_fault (length starts) version steps made on e ∙ c.0, sources_stand steps old new stands stage same c.1, refl, refl)
-close_refused starts version steps made old new text accounts OutletFault stands stage same on e c = absurd c
-close_refused starts version steps made old new text accounts Memory stands stage same on e c = inl refl
+pub event_closes : ClosesOpen variants.Event event_tail
+event_closes = record {
+  means = record { line = λ s own. refl; chooses = refl; goes_on = λ own. refl; gives = λ n. refl; relays = λ bis. refl };
+  on = record { stage = λ stage. refl; placed = λ v. refl; refusal = λ boxes own. refl };
+  minds = refl;
+  first = λ own. refl;
+  past = λ own. refl;
+  handed = λ own. refl;
+  output = λ starts own. refl;
+}
+
+pub stop_closes : ClosesOpen variants.Stop (λ own. [])
+stop_closes = record {
+  means = record { line = λ s own. refl; chooses = refl; goes_on = λ own. refl; gives = λ n. refl; relays = λ bis. refl };
+  on = record { stage = λ stage. refl; placed = λ v. refl; refusal = λ boxes own. refl };
+  minds = refl;
+  first = λ own. refl;
+  past = λ own. refl;
+  handed = λ own. refl;
+  output = λ starts own. sym (append-nil (close_lines airs_of own variants.Stop));
+}
+
+pub terminate_closes : (reason : ℕ) → ClosesOpen (variants.Terminate reason) (terminate_tail reason)
+terminate_closes reason = record {
+  means = record { line = λ s own. refl; chooses = refl; goes_on = λ own. refl; gives = λ n. refl; relays = λ bis. refl };
+  on = record { stage = λ stage. refl; placed = λ v. refl; refusal = λ boxes own. refl };
+  minds = refl;
+  first = λ own. refl;
+  past = λ own. refl;
+  handed = λ own. refl;
+  output = λ starts own. refl;
+}
+
+-- the sources refused it
 
 pub event_refused : (starts : List Account) (version : ℕ) (made : List Step) (old new : Machine) (text : List ℕ) (accounts : List Account) (stop : Stop)
-    → Stands made old → new.stage ≡ old.stage → new.sinks ≡ old.sinks → GoesOn steps.Event → stage_of made ≡ running version → sources.Performs version made new.sources (Err stop) → Meets starts made steps.Event new text text accounts accounts (Err stop)
-event_refused starts version made old new text accounts (Refused reason) stands stage same on e c =
-    (source_fault (length starts) version made steps.Event on e ∙ c.0, sources_stand made old new stands stage same c.1, refl, refl)
-event_refused starts version made old new text accounts OutletFault stands stage same on e c = absurd c
-event_refused starts version made old new text accounts Memory stands stage same on e c = inl refl
+    → Stands made old → new.stage ≡ old.stage → new.sinks ≡ old.sinks → new.relays ≡ old.relays → stage_of made ≡ running version
+    → sources.Performs version made new.sources (Err stop) → Meets starts made variants.Event new text text accounts accounts (Err stop)
+event_refused starts version made old new text accounts (Refused reason) stands stage same held e c = (
+  fault_line variants.Event event_tail (length starts) version made event_closes e ∙ c.0,
+  sources_stand made old new stands stage same held c.1,
+  refl,
+  refl,
+)
+event_refused starts version made old new text accounts OutletFault stands stage same held e c = absurd c
+event_refused starts version made old new text accounts Memory stands stage same held e c = inl refl
+
+pub stop_refused : (starts : List Account) (version : ℕ) (made : List Step) (old new : Machine) (text : List ℕ) (accounts : List Account) (stop : Stop)
+    → Stands made old → new.stage ≡ old.stage → new.sinks ≡ old.sinks → new.relays ≡ old.relays → stage_of made ≡ running version
+    → sources.Closes version made variants.Stop new.sources (Err stop) → Meets starts made variants.Stop new text text accounts accounts (Err stop)
+stop_refused starts version made old new text accounts (Refused reason) stands stage same held e c = (
+  fault_line variants.Stop (λ own. []) (length starts) version made stop_closes e ∙ c.0,
+  sources_stand made old new stands stage same held c.1,
+  refl,
+  refl,
+)
+stop_refused starts version made old new text accounts OutletFault stands stage same held e c = absurd c
+stop_refused starts version made old new text accounts Memory stands stage same held e c = inl refl
+
+pub terminate_refused : (starts : List Account) (version reason : ℕ) (made : List Step) (old new : Machine) (text : List ℕ) (accounts : List Account) (stop : Stop)
+    → Stands made old → new.stage ≡ old.stage → new.sinks ≡ old.sinks → new.relays ≡ old.relays → stage_of made ≡ running version
+    → sources.Terminates version made reason new.sources (Err stop) → Meets starts made (variants.Terminate reason) new text text accounts accounts (Err stop)
+terminate_refused starts version reason made old new text accounts (Refused cause) stands stage same held e c = (
+  fault_line (variants.Terminate reason) (terminate_tail reason) (length starts) version made (terminate_closes reason) e ∙ c.0,
+  sources_stand made old new stands stage same held c.1,
+  refl,
+  refl,
+)
+terminate_refused starts version reason made old new text accounts OutletFault stands stage same held e c = absurd c
+terminate_refused starts version reason made old new text accounts Memory stands stage same held e c = inl refl

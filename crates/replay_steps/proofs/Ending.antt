@@ -1,7 +1,7 @@
 -- The sums of the boxes, and the end of a scenario.
-use Rattle.std.proofs.Common.{◌≡◌, ℕ, zero, suc, ◌+◌, ◌<◌, ◌≤◌, List, [], ◌∷◌, ◌++◌, length, inr, ne_eqb, refl, sym, ◌∙◌, ap, subst, append-nil}
-use Rattle.std.proofs.Common.{append_assoc, arith, Option, None, Some, Result, Ok, Err}
-use Rattle.std.specs.List.{flat_map}
+use Rattle.std.proofs.Common.{◌≡◌, ℕ, zero, suc, ◌+◌, ◌<◌, ◌≤◌, List, [], ◌∷◌, ◌++◌, length, inr, ne_eqb, refl, sym, ◌∙◌, ap, ap₂, subst, append-nil}
+use Rattle.std.proofs.Common.{append_assoc, arith, Option, None, Some, Ok, Err}
+use Rattle.std.specs.List.{flat_map, range_with_len}
 use Rattle.unit_outlets.specs.Account.{Account}
 use Rattle.source_machine.specs.Airs.{airs_of}
 use Rattle.group_sink.specs.Calls.{Call}
@@ -10,32 +10,41 @@ use Rattle.transcript_text.specs.declared.stop.Stop.{Stop}
 use Rattle.transcript_text.specs.declared.stop.Stop.TheVariants.{Refused, OutletFault, Memory}
 use Rattle.scenario_text.specs.declared.step.Step.{Step}
 use Rattle.scenario_text.specs.declared.step.Step.TheVariants.{Drop, End}
-use Rattle.scenario_history.specs.Steps.{over, running, sinks_made, stage_of, steps_of_source}
+use Rattle.scenario_history.specs.Steps.{over, running, sinks_made, stage_after, stage_of, steps_of_source}
 use Rattle.scenario_history.specs.Source.{open_event}
 use Rattle.scenario_history.specs.Sinks.{is_of, sink_calls, source_of, ticked_if}
 use Rattle.scenario_history.specs.Boxes.{SinkUnit, account_at, accounts_after, box_of, closing, closing_both, closing_by, handed_up, sink_numbers, valid_for}
-use Rattle.scenario_history.specs.Output.{sum_if, sum_of, unit_lines}
+use Rattle.scenario_history.specs.Gifts.{Answered, Offer, after_offers, answered, answered_by, with_gifts}
+use Rattle.scenario_history.specs.Output.{first_lines, output_of, sum_if, sum_of, sums_of, unit_lines}
 use Rattle.scenario_history.specs.Refusals.{no_sink, phase_refusal}
 use Rattle.scenario_history.proofs.Citable.{box_was_made, octets_add_up, units_add_up}
+use Rattle.gift_laws.specs.Laws.{IsLeft}
+use Rattle.gift_laws.proofs.Citable.{left_by_offers}
 use Rattle.scenario_sources.specs.declared.sources.Sources.{Sources}
 use Rattle.scenario_sources.specs.State.Standing.{SourcesStand}
 use Rattle.scenario_sources.proofs.Citable.{drop_says, end_says, sources_stay}
 use Rattle.scenario_sinks.specs.declared.sinks.Sinks.{Sinks}
-use Rattle.scenario_sinks.specs.Closing.{Closes, closings_at}
-use Rattle.scenario_sinks.specs.Handing.{Hands}
-use Rattle.scenario_sinks.specs.Pasts.{Past, with_close, without}
+use Rattle.scenario_sinks.specs.Closing.{closings_at}
+use Rattle.scenario_sinks.specs.Handing.{CutShort}
+use Rattle.scenario_sinks.specs.Pasts.{with_close, without}
 use Rattle.scenario_sinks.specs.Refusals as sinks
 use Rattle.scenario_sinks.specs.Refusals.{not_living}
 use Rattle.scenario_sinks.specs.State.Standing.{SinksStand}
 use Rattle.scenario_sinks.specs.Sums.{Puts, sum_at, sum_where, sums_where}
-use Rattle.scenario_sinks.proofs.Citable.{accounts_append, hands_then, lines_append}
-use Rattle.scenario_sinks.proofs.Citable as laws
+use Rattle.scenario_sinks.proofs.Citable.{accounts_append, hands_then, stands_same}
 use Rattle.replay_steps.specs.declared.machine.Machine.{Machine}
-use Rattle.replay_steps.specs.Machines.{Stands, past_of}
-use Rattle.replay_steps.specs.Meets.{BoxesStand, Meets, Tells}
+use Rattle.scenario_relays.specs.State.Standing.{RelaysStand}
+use Rattle.replay_steps.specs.Failing.{CloseFails}
+use Rattle.replay_steps.specs.Machines.{Stands, past_of, relays_past}
+use Rattle.replay_steps.specs.Meets.{BoxesStand, Meets, Tells, phase_line}
+use Rattle.replay_steps.specs.Relaying.{Closes, RoomsStand}
 use Rattle.replay_steps.specs.Versions.{stage_in}
-use Rattle.replay_steps.proofs.Stepping.{or_none, sinks_meet, sinks_stand}
+use Rattle.replay_steps.proofs.BoxStops.{AreFrom, from_closings}
+use Rattle.replay_steps.proofs.Closed.{FirstClosed, first_cut, first_fails_at, never_refused, second_closed, second_cut, second_fails_at}
+use Rattle.replay_steps.proofs.CloseLines.{first_printed, flat_same, lines_closed, offers_closed, offers_same, units_are, units_closed}
 use Rattle.replay_steps.proofs.Closing.{closing_is}
+use Rattle.replay_steps.proofs.RelaysStay.{relays_stay}
+use Rattle.replay_steps.proofs.Stepping.{or_none, sinks_stand}
 
 -- ---- the sums of a box as they stand are those at the start and what was handed to it
 
@@ -64,22 +73,31 @@ sums_same starts steps units (n ∷ numbers) room =
 drop_fault : (boxes version n : ℕ) (steps : List Step) → stage_of steps ≡ running version → phase_refusal airs_of boxes steps (Drop n) ≡ not_living (box_of n steps)
 drop_fault boxes version n steps e = rw e (or_none (no_sink n steps))
 
-pub drop_meets : (starts accounts : List Account) (version n : ℕ) (steps : List Step) (old new : Machine) (text told : List ℕ) (r : Result (Unit {0}) Stop) → Stands steps old
+pub drop_ends : (starts accounts : List Account) (version n : ℕ) (steps : List Step) (old new : Machine) (text told : List ℕ) → Stands steps old
     → stage_of steps ≡ running version → BoxesStand starts steps accounts → new.stage ≡ old.stage → new.sources ≡ old.sources
-    → sinks.Answers (not_living (box_of n steps)) (past_of steps) (without n (past_of steps)) new.sinks r → Puts (sum_where accounts n (box_of n steps)) text told r
-    → Tells starts steps (Drop n) new text told r
-drop_meets starts accounts version n steps old new text told (Ok x) stands e boxes stage same a p =
-    let q = sinks_meet (length starts) steps (Drop n) (not_living (box_of n steps)) (without n (past_of steps)) old new (Ok tt) stands (drop_fault (length starts) version n steps e)
-    (drop_says n) refl refl stage same a in (
-      q.0,
-      q.1,
-      p ∙ ap (λ line. text ++ line)
-          (ap (λ k. sum_where k n (box_of n steps)) boxes.accounts_are ∙ sum_same starts steps (handed_up airs_of steps) n (box_of n steps) refl boxes.room),
-    )
-drop_meets starts accounts version n steps old new text told (Err (Refused reason)) stands e boxes stage same a p =
-    (drop_fault (length starts) version n steps e ∙ a.0, sinks_stand steps old new stands stage same a.1, p)
-drop_meets starts accounts version n steps old new text told (Err OutletFault) stands e boxes stage same a p = a
-drop_meets starts accounts version n steps old new text told (Err Memory) stands e boxes stage same a p = tt
+    → RelaysStand (relays_past (Drop n ∷ steps)) new.relays
+    → sinks.Answers (not_living (box_of n steps)) (past_of steps) (without n (past_of steps)) new.sinks (Ok tt) → Puts (sum_where accounts n (box_of n steps)) text told (Ok tt)
+    → Tells starts steps (Drop n) new text told (Ok tt)
+drop_ends starts accounts version n steps old new text told stands e boxes stage same held a p = (
+  drop_fault (length starts) version n steps e ∙ a.0,
+  record {
+    stage = ap stage_in stage ∙ stands.stage;
+    sources = let S : Sources → Type 0 = λ s. SourcesStand (Drop n ∷ steps) s in subst S (sym same) (sources_stay (Drop n) steps old.sources (drop_says n) stands.sources);
+    sinks = a.1;
+    relays = held;
+  },
+  p ∙ ap (λ line. text ++ line)
+      (ap (λ k. sum_where k n (box_of n steps)) boxes.accounts_are ∙ sum_same starts steps (handed_up airs_of steps) n (box_of n steps) refl boxes.room),
+)
+
+pub drop_fails : (starts accounts : List Account) (version n : ℕ) (steps : List Step) (old new : Machine) (text told : List ℕ) (stop : Stop) → Stands steps old
+    → stage_of steps ≡ running version → new.stage ≡ old.stage → new.sources ≡ old.sources → new.relays ≡ old.relays
+    → sinks.Answers (not_living (box_of n steps)) (past_of steps) (without n (past_of steps)) new.sinks (Err stop) → Puts (sum_where accounts n (box_of n steps)) text told (Err stop)
+    → Tells starts steps (Drop n) new text told (Err stop)
+drop_fails starts accounts version n steps old new text told (Refused reason) stands e stage same held a p =
+    (drop_fault (length starts) version n steps e ∙ a.0, sinks_stand steps old new stands stage same held a.1, p)
+drop_fails starts accounts version n steps old new text told OutletFault stands e stage same held a p = a
+drop_fails starts accounts version n steps old new text told Memory stands e stage same held a p = tt
 
 -- ---- end: a close of source 0 leaves the sinks of source 1
 
@@ -89,10 +107,6 @@ no_other None event n first calls box = refl
 no_other (Some zero) event n first calls box = refl
 no_other (Some (suc k)) event n first calls box = rw (ne_eqb (suc k) 0 (λ e. omega arith)) refl
 
-flat_same : {A : Type 0} (f g : ℕ → List A) (xs : List ℕ) → ((n : ℕ) → f n ≡ g n) → flat_map f xs ≡ flat_map g xs
-flat_same f g [] same = refl
-flat_same f g (x ∷ xs) same = ap (λ front. front ++ flat_map f xs) (same x) ∙ ap (λ rest. g x ++ rest) (flat_same f g xs same)
-
 second_alone : (steps : List Step) (first second : Option ℕ) → closings_at 1 second (with_close 0 first (past_of steps)) ≡ closings_at 1 second (past_of steps)
 second_alone steps first None = refl
 second_alone steps first (Some event) =
@@ -100,87 +114,178 @@ second_alone steps first (Some event) =
     (λ n. closing_by 1 event n (sink_calls airs_of n steps) (source_of n steps) (box_of n steps)) sink_numbers
     (λ n. no_other (source_of n steps) event n first (sink_calls airs_of n steps) (box_of n steps))
 
--- what was handed up before a fault of the first close
-pub hands_front : (us vs : List SinkUnit) (text told : List ℕ) (old new : List Account) (stop : Stop) → Hands us text told old new (Err stop) → Hands (us ++ vs) text told old new (Err stop)
-hands_front us vs text told old new stop h = laws.hands_stop us vs text told old new stop h
+-- the events that are open as the scenario ends
+pub record Opens (steps : List Step) (first second : Option ℕ) : Type 0 where
+  pub one : first ≡ open_event (steps_of_source 0 steps)
+  pub two : second ≡ open_event (steps_of_source 1 steps)
 
-units_are : (steps : List Step) (first second : Option ℕ) → first ≡ open_event (steps_of_source 0 steps) → second ≡ open_event (steps_of_source 1 steps)
-    → closings_at 0 first (past_of steps) ++ closings_at 1 second (with_close 0 first (past_of steps)) ≡ closing_both airs_of steps
-units_are steps first second f s =
-    ap (λ us. us ++ closings_at 1 second (with_close 0 first (past_of steps))) (closing_is 0 0 first steps refl f)
-    ∙ ap (λ us. closing airs_of 0 steps ++ us) (second_alone steps first second ∙ closing_is 1 1 second steps refl s)
+-- the steps with the gifts of the close of source 0
+abbrev pub gifted : List Step → Option ℕ → List Step
+gifted steps first = after_offers airs_of (offers_closed steps (past_of steps) first) steps
 
-end_passes : (boxes version : ℕ) (steps : List Step) → stage_of steps ≡ running version → phase_refusal airs_of boxes steps End ≡ None
+second_units : (steps : List Step) (first second : Option ℕ) → Opens steps first second
+    → closings_at 1 second (with_close 0 first (past_of steps)) ≡ closing airs_of 1 steps
+second_units steps first second opens = second_alone steps first second ∙ closing_is 1 1 second steps refl opens.two
+
+end_offers : (steps : List Step) (first second : Option ℕ) → Opens steps first second → answered_by airs_of steps End ≡ answered airs_of (offers_closed steps (past_of steps) first) steps
+end_offers steps first second opens = ap (λ offers. answered airs_of offers steps) (offers_same steps first opens.one)
+
+end_lines : (steps : List Step) (first second : Option ℕ) → Opens steps first second
+    → first_lines (closing airs_of 0 steps) (answered_by airs_of steps End) ≡ lines_closed steps (past_of steps) first
+end_lines steps first second opens = first_printed steps first opens.one
+
+from_closed : (steps : List Step) (first : Option ℕ) → AreFrom 0 (units_closed (past_of steps) first)
+from_closed steps None = tt
+from_closed steps (Some event) = from_closings 0 event (past_of steps) (range_with_len 0 8)
+
+from_first : (steps : List Step) (first second : Option ℕ) → Opens steps first second → AreFrom 0 (closing airs_of 0 steps)
+from_first steps first second opens = subst (AreFrom 0) (sym (units_are steps first opens.one)) (from_closed steps first)
+
+end_passes : (boxes version : ℕ) (steps : List Step) → stage_of steps ≡ running version → phase_line airs_of boxes steps End ≡ None
 end_passes boxes version steps e = rw e refl
 
-stopped_meets : (starts : List Account) (version : ℕ) (steps : List Step) (new : Machine) (text told : List ℕ) (before after : List Account) (stop : Stop)
-    → stage_of steps ≡ running version → Hands (closing_both airs_of steps) text told before after (Err stop) → Meets starts steps End new text told before after (Err stop)
-stopped_meets starts version steps new text told before after (Refused reason) e h = absurd h
-stopped_meets starts version steps new text told before after OutletFault e h = (end_passes (length starts) version steps e, h)
-stopped_meets starts version steps new text told before after Memory e h = inr (end_passes (length starts) version steps e, h)
+-- the sums, behind all lines
+abbrev end_sums : List Account → List Step → List ℕ
+end_sums starts steps = sums_of starts (handed_up airs_of steps ++ closing_both airs_of steps) steps
 
--- a box failed at the close of source 0, or memory ran out
-pub first_stops : (starts : List Account) (version : ℕ) (steps : List Step) (first second : Option ℕ) (sinks : Sinks) (new : Machine) (text told : List ℕ) (before after : List Account) (stop : Stop)
-    → stage_of steps ≡ running version → first ≡ open_event (steps_of_source 0 steps) → second ≡ open_event (steps_of_source 1 steps)
-    → Closes (past_of steps) 0 first sinks text told before after (Err stop) → Meets starts steps End new text told before after (Err stop)
-first_stops starts version steps first second sinks new text told before after stop e f s c =
-    let P : List SinkUnit → Type 0 = λ us. Hands us text told before after (Err stop) in
-    stopped_meets starts version steps new text told before after stop e
-    (subst P (units_are steps first second f s)
-    (hands_front (closings_at 0 first (past_of steps)) (closings_at 1 second (with_close 0 first (past_of steps))) text told before after stop c.hands))
+-- a box stopped the close of source 0, or memory ran out
+pub first_stops : (starts : List Account) (version : ℕ) (steps : List Step) (first second : Option ℕ) (new there : Machine) (text told : List ℕ) (before after : List Account) (stop : Stop)
+    → stage_of steps ≡ running version → Opens steps first second → Closes steps (past_of steps) 0 first new text told before after (Err stop)
+    → Meets starts steps End there text told before after (Err stop)
+first_stops starts version steps first second new there text told before after (Refused reason) e opens c =
+    absurd (never_refused steps (past_of steps) 0 first reason new text told before after c)
+first_stops starts version steps first second new there text told before after OutletFault e opens c = (
+  end_passes (length starts) version steps e,
+  first_fails_at steps (past_of steps) first (closing_both airs_of steps) (closing airs_of 1 steps) (answered_by airs_of steps End) (output_of airs_of starts steps End)
+      (unit_lines (closing airs_of 1 steps) ++ end_sums starts steps) text told before after new
+      (ap (λ us. us ++ closing airs_of 1 steps) (units_are steps first opens.one)) (end_offers steps first second opens)
+      (ap (λ l. l ++ (unit_lines (closing airs_of 1 steps) ++ end_sums starts steps)) (end_lines steps first second opens)) c,
+)
+first_stops starts version steps first second new there text told before after Memory e opens c = inr (
+  end_passes (length starts) version steps e,
+  first_cut steps (past_of steps) first (closing_both airs_of steps) (closing airs_of 1 steps) text told before after new
+      (ap (λ us. us ++ closing airs_of 1 steps) (units_are steps first opens.one)) c,
+)
+
+-- source 0 was closed: its lines are those of the end, and its units went to their boxes
+first_told : (steps : List Step) (first second : Option ℕ) (mid : Machine) (text told : List ℕ) (before between : List Account) → Opens steps first second
+    → FirstClosed steps (past_of steps) first mid text told before between → told ≡ text ++ first_lines (closing airs_of 0 steps) (answered_by airs_of steps End)
+first_told steps first second mid text told before between opens c = c.lines ∙ ap (λ l. text ++ l) (sym (end_lines steps first second opens))
+
+first_boxes : (steps : List Step) (first second : Option ℕ) (mid : Machine) (text told : List ℕ) (before between : List Account) → Opens steps first second
+    → FirstClosed steps (past_of steps) first mid text told before between → between ≡ accounts_after before (closing airs_of 0 steps)
+first_boxes steps first second mid text told before between opens c = c.boxes ∙ ap (accounts_after before) (sym (units_are steps first opens.one))
 
 -- the same at the close of source 1
-pub second_stops : (starts : List Account) (version : ℕ) (steps : List Step) (first second : Option ℕ) (one two : Sinks) (new : Machine) (text mid told : List ℕ) (before between after
-    : List Account) (stop : Stop)
-    → stage_of steps ≡ running version → first ≡ open_event (steps_of_source 0 steps) → second ≡ open_event (steps_of_source 1 steps)
-    → Closes (past_of steps) 0 first one text mid before between (Ok tt)
-    → Closes (with_close 0 first (past_of steps)) 1 second two mid told between after (Err stop) → Meets starts steps End new text told before after (Err stop)
-second_stops starts version steps first second one two new text mid told before between after stop e f s c d =
-    let P : List SinkUnit → Type 0 = λ us. Hands us text told before after (Err stop) in
-    stopped_meets starts version steps new text told before after stop e
-    (subst P (units_are steps first second f s)
-    (hands_then (closings_at 0 first (past_of steps)) (closings_at 1 second (with_close 0 first (past_of steps))) text mid told before between after (Err stop) c.hands.0 c.hands.1 d.hands))
-
--- memory ran out as the sums were put
-pub sums_stop : (starts : List Account) (version : ℕ) (steps : List Step) (first second : Option ℕ) (one two : Sinks) (new : Machine) (text mid told more : List ℕ) (before between
-    after : List Account)
-    → stage_of steps ≡ running version → first ≡ open_event (steps_of_source 0 steps) → second ≡ open_event (steps_of_source 1 steps)
-    → Closes (past_of steps) 0 first one text mid before between (Ok tt)
-    → Closes (with_close 0 first (past_of steps)) 1 second two mid told between after (Ok tt) → Meets starts steps End new text more before after (Err Memory)
-sums_stop starts version steps first second one two new text mid told more before between after e f s c d =
-    let us : List SinkUnit = closings_at 0 first (past_of steps) in
-    let vs : List SinkUnit = closings_at 1 second (with_close 0 first (past_of steps)) in
-    let all = hands_then us vs text mid told before between after (Ok tt) c.hands.0 c.hands.1 d.hands in
+pub second_stops : (starts : List Account) (version : ℕ) (steps : List Step) (first second : Option ℕ) (mid new there : Machine) (text told last : List ℕ)
+    (before between after : List Account) (stop : Stop) → stage_of steps ≡ running version → Opens steps first second
+    → FirstClosed steps (past_of steps) first mid text told before between
+    → Closes (gifted steps first) (with_close 0 first (past_of steps)) 1 second new told last between after (Err stop)
+    → Meets starts steps End there text last before after (Err stop)
+second_stops starts version steps first second mid new there text told last before between after (Refused reason) e opens c d =
+    absurd (never_refused (gifted steps first) (with_close 0 first (past_of steps)) 1 second reason new told last between after d)
+second_stops starts version steps first second mid new there text told last before between after OutletFault e opens c d =
+    let answers : List Answered = answered_by airs_of steps End in
+    let output : List ℕ = output_of airs_of starts steps End in
+    let ones : List SinkUnit = closing airs_of 0 steps in (
+      end_passes (length starts) version steps e,
+      subst (λ us. CloseFails (ones ++ us) answers output text last before after) (second_units steps first second opens)
+          (second_fails_at (gifted steps first) (with_close 0 first (past_of steps)) second ones answers output (end_sums starts steps) text told last before between after new
+          (from_first steps first second opens) (first_told steps first second mid text told before between opens c) (first_boxes steps first second mid text told before between opens c)
+          (ap (λ us. first_lines ones answers ++ (unit_lines us ++ end_sums starts steps)) (sym (second_units steps first second opens))) d),
+    )
+second_stops starts version steps first second mid new there text told last before between after Memory e opens c d =
+    let ones : List SinkUnit = closing airs_of 0 steps in
     inr (
       end_passes (length starts) version steps e,
-      record { done = closing_both airs_of steps; rest = []; split = sym (append-nil (closing_both airs_of steps)); boxes = all.1 ∙ ap (accounts_after before) (units_are steps first second f s) },
+      subst (λ us. CutShort (ones ++ us) before after) (second_units steps first second opens)
+          (hands_then ones (closings_at 1 second (with_close 0 first (past_of steps))) [] (unit_lines ones) [] before between after (Err Memory) refl
+          (first_boxes steps first second mid text told before between opens c)
+          (second_cut (gifted steps first) (with_close 0 first (past_of steps)) second told last between after new d)),
     )
 
-pub end_meets : (starts : List Account) (version : ℕ) (steps : List Step) (first second : Option ℕ) (one : Sinks) (old new : Machine) (text mid told all : List ℕ) (before between after : List Account)
-    → Stands steps old → stage_of steps ≡ running version → BoxesStand starts steps before → first ≡ open_event (steps_of_source 0 steps) → second ≡ open_event (steps_of_source 1 steps)
-    → stage_in new.stage ≡ over version → new.sources ≡ old.sources
-    → Closes (past_of steps) 0 first one text mid before between (Ok tt)
-    → Closes (with_close 0 first (past_of steps)) 1 second new.sinks mid told between after (Ok tt)
-    → all ≡ told ++ sums_where after (λ n. box_of n steps) sink_numbers → Meets starts steps End new text all before after (Ok tt)
-end_meets starts version steps first second one old new text mid told all before between after stands e boxes f s stage same c d sums =
-    let us : List SinkUnit = closings_at 0 first (past_of steps) in
-    let vs : List SinkUnit = closings_at 1 second (with_close 0 first (past_of steps)) in
-    let h = hands_then us vs text mid told before between after (Ok tt) c.hands.0 c.hands.1 d.hands in
-    let is = units_are steps first second f s in
-    let handed = h.1 ∙ ap (accounts_after before) is in
+-- ---- both sources were closed
+
+pub record BothClosed (steps : List Step) (first second : Option ℕ) (new : Machine) (text told : List ℕ) (before after : List Account) : Type 0 where
+  pub rooms : RoomsStand (gifted steps first) (with_close 1 second (with_close 0 first (past_of steps))) new
+  pub lines : told ≡ text ++ (first_lines (closing airs_of 0 steps) (answered_by airs_of steps End) ++ unit_lines (closing airs_of 1 steps))
+  pub boxes : after ≡ accounts_after before (closing_both airs_of steps)
+
+pub both_closed : (steps : List Step) (first second : Option ℕ) (mid new : Machine) (text told last : List ℕ) (before between after : List Account) → Opens steps first second
+    → FirstClosed steps (past_of steps) first mid text told before between
+    → Closes (gifted steps first) (with_close 0 first (past_of steps)) 1 second new told last between after (Ok tt)
+    → BothClosed steps first second new text last before after
+both_closed steps first second mid new text told last before between after opens c d =
+    let two = second_closed (gifted steps first) (with_close 0 first (past_of steps)) 0 second new told last between after d in
+    let ones : List SinkUnit = closing airs_of 0 steps in
+    let lines : List ℕ = first_lines ones (answered_by airs_of steps End) in
+    let is : closings_at 1 second (with_close 0 first (past_of steps)) ≡ closing airs_of 1 steps = second_units steps first second opens in
+    record {
+      rooms = two.rooms;
+      lines = two.lines ∙ ap (λ us. told ++ unit_lines us) is
+          ∙ ap (λ front. front ++ unit_lines (closing airs_of 1 steps)) (first_told steps first second mid text told before between opens c)
+          ∙ append_assoc text lines (unit_lines (closing airs_of 1 steps));
+      boxes = two.boxes ∙ ap (accounts_after between) is
+          ∙ ap (λ accounts. accounts_after accounts (closing airs_of 1 steps)) (first_boxes steps first second mid text told before between opens c)
+          ∙ sym (accounts_append ones (closing airs_of 1 steps) before);
+    }
+
+-- memory ran out as the sums were put
+pub sums_stop : (starts : List Account) (version : ℕ) (steps : List Step) (first second : Option ℕ) (new there : Machine) (text told last : List ℕ) (before after : List Account)
+    → stage_of steps ≡ running version → BothClosed steps first second new text told before after → Meets starts steps End there text last before after (Err Memory)
+sums_stop starts version steps first second new there text told last before after e c = inr (
+  end_passes (length starts) version steps e,
+  record { done = closing_both airs_of steps; rest = []; split = sym (append-nil (closing_both airs_of steps)); boxes = c.boxes },
+)
+
+end_sinks : (steps late : List Step) (first second : Option ℕ) (offers : List Offer) (sinks : Sinks) → late ≡ after_offers airs_of offers steps → Opens steps first second
+    → SinksStand (with_close 1 second (with_close 0 first (past_of steps))) sinks → SinksStand (past_of (End ∷ late)) sinks
+end_sinks steps late first second offers sinks is opens stands =
+    let left = subst (λ made. IsLeft airs_of made steps) (sym is) (left_by_offers airs_of offers steps) in
+    let one : first ≡ open_event (steps_of_source 0 late) = opens.one ∙ sym (ap open_event left.first) in
+    let two : second ≡ open_event (steps_of_source 1 late) = opens.two ∙ sym left.open_second in
+    stands_same (with_close 1 second (with_close 0 first (past_of steps))) (past_of (End ∷ late)) sinks
+    (record {
+      boxes = λ n. sym (left.box n);
+      mades = λ n. sym (left.made n);
+      sources = λ n. sym (left.source n);
+      lives = λ n. sym (left.lives n);
+      received = λ n.
+          ap₂ (λ own calls. ticked_if (is_of 1 own) second (ticked_if (is_of 0 own) first calls)) (sym (left.source n)) (sym (left.calls n))
+          ∙ ap₂ (λ first_open second_open. ticked_if (is_of 1 (source_of n late)) second_open (ticked_if (is_of 0 (source_of n late)) first_open (sink_calls airs_of n late))) one two;
+      made = sym left.sinks;
+    }) stands
+
+end_stands : (version : ℕ) (steps : List Step) (first second : Option ℕ) (new : Machine) → stage_of steps ≡ running version → Opens steps first second
+    → stage_in new.stage ≡ over version → RoomsStand (gifted steps first) (with_close 1 second (with_close 0 first (past_of steps))) new
+    → Stands (End ∷ with_gifts airs_of steps End) new
+end_stands version steps first second new e opens stage rooms =
+    let offers : List Offer = offers_closed steps (past_of steps) first in
+    let late : List Step = gifted steps first in
+    let same : with_gifts airs_of steps End ≡ late = ap (λ all. after_offers airs_of all steps) (offers_same steps first opens.one) in
+    subst (λ made. Stands (End ∷ made) new) (sym same)
+    (record {
+      stage = stage ∙ sym (ap (stage_after End) ((left_by_offers airs_of offers steps).stage ∙ e));
+      sources = sources_stay End late new.sources end_says rooms.sources;
+      sinks = end_sinks steps late first second offers new.sinks refl opens rooms.sinks;
+      relays = relays_stay late End new.relays refl rooms.relays;
+    })
+
+pub end_meets : (starts : List Account) (version : ℕ) (steps : List Step) (first second : Option ℕ) (new : Machine) (text told last : List ℕ) (before after : List Account)
+    → stage_of steps ≡ running version → BoxesStand starts steps before → Opens steps first second → stage_in new.stage ≡ over version
+    → BothClosed steps first second new text told before after → last ≡ told ++ sums_where after (λ n. box_of n steps) sink_numbers
+    → Meets starts steps End new text last before after (Ok tt)
+end_meets starts version steps first second new text told last before after e boxes opens stage c sums =
+    let lines : List ℕ = first_lines (closing airs_of 0 steps) (answered_by airs_of steps End) in
+    let more : List ℕ = unit_lines (closing airs_of 1 steps) in
     let accounts : after ≡ accounts_after starts (handed_up airs_of steps ++ closing_both airs_of steps) =
-    handed ∙ ap (λ a. accounts_after a (closing_both airs_of steps)) boxes.accounts_are ∙ sym (accounts_append (handed_up airs_of steps) (closing_both airs_of steps) starts) in
-    let P : Past → Type 0 = λ p. SinksStand p new.sinks in
-    let S : Sources → Type 0 = λ k. SourcesStand (End ∷ steps) k in (
+    c.boxes ∙ ap (λ a. accounts_after a (closing_both airs_of steps)) boxes.accounts_are ∙ sym (accounts_append (handed_up airs_of steps) (closing_both airs_of steps) starts) in
+    let puts : sums_where after (λ n. box_of n steps) sink_numbers ≡ end_sums starts steps =
+    ap (λ a. sums_where a (λ n. box_of n steps) sink_numbers) accounts
+    ∙ sums_same starts steps (handed_up airs_of steps ++ closing_both airs_of steps) sink_numbers boxes.room in (
       end_passes (length starts) version steps e,
-      record {
-        stage = stage ∙ sym (rw e refl);
-        sources = subst S (sym same) (sources_stay End steps old.sources end_says stands.sources);
-        sinks = subst P (ap (λ o. with_close 1 second (with_close 0 o (past_of steps))) f ∙ ap (λ o. with_close 1 o (with_close 0 (open_event (steps_of_source 0 steps)) (past_of steps))) s) d.stands;
-      },
-      sums ∙ ap (λ front. front ++ sums_where after (λ n. box_of n steps) sink_numbers) (h.0 ∙ ap (λ k. text ++ unit_lines k) is)
-          ∙ append_assoc text (unit_lines (closing_both airs_of steps)) (sums_where after (λ n. box_of n steps) sink_numbers)
-          ∙ ap (λ a. text ++ (unit_lines (closing_both airs_of steps) ++ sums_where a (λ n. box_of n steps) sink_numbers)) accounts
-          ∙ ap (λ l. text ++ (unit_lines (closing_both airs_of steps) ++ l)) (sums_same starts steps (handed_up airs_of steps ++ closing_both airs_of steps) sink_numbers boxes.room),
-      handed,
+      end_stands version steps first second new e opens stage c.rooms,
+      sums ∙ ap₂ (λ front back. front ++ back) c.lines puts ∙ append_assoc text (lines ++ more) (end_sums starts steps)
+          ∙ ap (λ l. text ++ l) (append_assoc lines more (end_sums starts steps)),
+      c.boxes,
     )

@@ -7,3 +7,13 @@ pub mod Ending
 pub mod StepLaws
 pub mod LineLaws
 pub mod Untaken
+pub mod Offering
+pub mod Gifted
+pub mod CloseLines
+pub mod RelaysStay
+pub mod RelayLaws
+pub mod Relaying
+pub mod ClosesFirst
+pub mod Between
+pub mod BoxStops
+pub mod Closed

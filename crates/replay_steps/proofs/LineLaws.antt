@@ -1,26 +1,32 @@
 -- A line by its step.
-use Rattle.std.proofs.Common.{◌≡◌, ℕ, ◌+◌, ◌<◌, ◌≤◌, nat_le, List, [], ◌∷◌, ◌++◌, length, true, false, Bool, inl, inr, Option, None, Some, Result, Ok, Err, refl, sym, ◌∙◌, ap, subst, is_some, arith}
+use Rattle.std.proofs.Common.{◌≡◌, ℕ, ◌+◌, ◌<◌, ◌≤◌, nat_le, List, [], ◌∷◌, ◌++◌, length, true, false, Bool, inl, inr, Option, None, Some, Result, Ok, Err, refl, sym, ◌∙◌, ap, ap₂, subst, is_some, arith}
 use Rattle.std.specs.Option.{option_or}
 use Rattle.std.proofs.lemmas.Bool.{leb-false}
+use Rattle.std.proofs.lemmas.Option.{none-some}
 use Rattle.bcast_io.specs.TextLines.{TextLine, plain}
 use Rattle.unit_outlets.specs.Account.{Account}
 use Rattle.source_machine.specs.Airs.{airs_of}
 use Rattle.transcript_text.specs.declared.refusal.Refusal.{Refusal}
-use Rattle.transcript_text.specs.declared.refusal.Refusal.TheVariants.{AfterEnd, Order, SinkTwice, NoOutlet}
+use Rattle.transcript_text.specs.declared.refusal.Refusal.TheVariants.{AfterEnd, BadLine, Backlog, Order, Relayed, SinkTwice, NoOutlet}
+use Rattle.scenario_words.specs.declared.fault.LineFault.TheVariants.{BadLine as Misfit}
+use Rattle.scenario_history.specs.Gifts.{happened, with_gifts}
+use Rattle.std.proofs.lemmas.List.{append-nil}
 use Rattle.scenario_text.specs.Steps.{read_of}
 use Rattle.scenario_text.specs.declared.step.Step.{Step}
 use Rattle.scenario_text.specs.declared.step.Step.TheVariants as steps
-use Rattle.scenario_history.specs.Steps.{sinks_made, version_of, is_over}
+use Rattle.scenario_history.specs.Steps.{sinks_made, sinks_made_by, version_at, version_of, is_over}
+use Rattle.gift_laws.proofs.Citable.{hands_alike, left_by_gifts, stage_happened}
 use Rattle.scenario_history.specs.Boxes.{accounts_after, box_of, handed_by, handed_up}
-use Rattle.scenario_history.specs.Refusals.{refusal_of, refuse_if, is_out_of_order, sink_refusal}
-use Rattle.scenario_history.specs.Lines.{Said, a_step, steps_of, said_by, said_after, with_said, refusal_said, output_said, handed_said}
+use Rattle.scenario_history.specs.Refusals.{is_relayed, refusal_of, refuse_if, is_out_of_order, relayed_or, sink_refusal}
+use Rattle.scenario_history.specs.Lines.{Said, a_step, nothing, unsaid, said_of, steps_of, said_by, said_after, with_said, refusal_said, output_said, handed_said}
 use Rattle.replay_steps.specs.declared.machine.Machine.{Machine}
 use Rattle.transcript_text.specs.declared.stop.Stop.{Stop}
 use Rattle.transcript_text.specs.declared.stop.Stop.TheVariants.{Refused, OutletFault, Memory}
 use Rattle.replay_steps.specs.Machines.{Stands}
 use Rattle.replay_steps.specs.Meets.{BoxesStand, StepMeets}
-use Rattle.scenario_sinks.specs.Handing.{BoxFails, CutShort}
-use Rattle.replay_steps.specs.LineMeets.{LineMeets}
+use Rattle.scenario_sinks.specs.Handing.{CutShort}
+use Rattle.replay_steps.specs.Failing.{CloseFails}
+use Rattle.replay_steps.specs.LineMeets.{LineMeets, LinesStand, answered_said}
 use Rattle.replay_steps.proofs.Citable.{accounts_append}
 
 last_none : {A : Type 0} (a b : Option A) → option_or a b ≡ None → b ≡ None
@@ -50,52 +56,110 @@ room_stays boxes earlier (steps.Sink n streams slots mtu) e room = sink_fits box
 room_stays boxes earlier _ e room = room
 
 boxes_go_on : (starts before after : List Account) (earlier : List Step) (made : Step) → BoxesStand starts earlier before → refusal_of airs_of (length starts) earlier made ≡ None
-    → after ≡ accounts_after before (handed_by airs_of earlier made) → BoxesStand starts (made ∷ earlier) after
-boxes_go_on starts before after earlier made boxes e a = record {
-  accounts_are = a ∙ ap (λ accounts. accounts_after accounts (handed_by airs_of earlier made)) boxes.accounts_are
-      ∙ sym (accounts_append (handed_up airs_of earlier) (handed_by airs_of earlier made) starts);
-  room = room_stays (length starts) earlier made e boxes.room;
-}
+    → after ≡ accounts_after before (handed_by airs_of earlier made) → BoxesStand starts (made ∷ with_gifts airs_of earlier made) after
+boxes_go_on starts before after earlier made boxes e a =
+    let left = left_by_gifts airs_of earlier made in
+    record {
+      accounts_are = a ∙ ap (λ accounts. accounts_after accounts (handed_by airs_of earlier made)) boxes.accounts_are
+          ∙ sym (accounts_append (handed_up airs_of earlier) (handed_by airs_of earlier made) starts)
+          ∙ ap (accounts_after starts) (sym (ap₂ (λ one two. one ++ two) left.handed (hands_alike airs_of earlier made)));
+      room = subst (λ count. sinks_made_by made count ≤ length starts) (sym left.sinks) (room_stays (length starts) earlier made e boxes.room);
+    }
+
+-- ---- lines that say a step
+
+-- what happens by one line more
+one_more : (lines : List TextLine) (line : TextLine) (made : Step) → said_after lines line ≡ a_step made
+    → steps_of airs_of (line ∷ lines) ≡ made ∷ with_gifts airs_of (steps_of airs_of lines) made
+one_more lines line made is = ap (λ said. happened airs_of (with_said said (said_of lines))) is
+
+-- a reason stays one
+some_stays : (reason : Refusal) → relayed_or true (Some reason) ≡ None → ⊥
+some_stays Backlog none = none-some Relayed (sym none)
+some_stays reason none = none-some reason (sym none)
+
+-- a line is refused for nothing only where its step is
+line_refused : (relayed : Bool) (refusal : Option Refusal) → relayed_or relayed refusal ≡ None → refusal ≡ None
+line_refused true None none = absurd (none-some Relayed (sym none))
+line_refused true (Some reason) none = absurd (some_stays reason none)
+line_refused false refusal none = none
 
 -- what a line that says a step does, by what the step does
 said_meets : (starts : List Account) (lines : List TextLine) (line : TextLine) (made : Step) (new : Machine) (text told : List ℕ) (before after : List Account)
-    (r : Result (Unit {0}) Stop) → BoxesStand starts (steps_of lines) before → said_after lines line ≡ a_step made
-    → StepMeets starts (steps_of lines) made new text told before after r → LineMeets starts lines line new text told before after r
-said_meets starts lines line made new text told before after (Ok x) boxes is m = (
-  ap (refusal_said airs_of (length starts) (steps_of lines)) is ∙ m.0,
-  record {
-    stands = (let P : List Step → Type 0 = λ s. Stands s new in subst P (sym (ap (λ s. with_said s (steps_of lines)) is)) m.1);
-    boxes = (let P : List Step → Type 0 = λ s. BoxesStand starts s after in subst P (sym (ap (λ s. with_said s (steps_of lines)) is))
-        (boxes_go_on starts before after (steps_of lines) made boxes m.0 m.3));
-  },
-  m.2 ∙ ap (λ s. text ++ output_said airs_of starts (steps_of lines) s) (sym is),
-  m.3 ∙ ap (λ s. accounts_after before (handed_said airs_of (steps_of lines) s)) (sym is),
-)
+    (r : Result (Unit {0}) Stop) → BoxesStand starts (steps_of airs_of lines) before → said_after lines line ≡ a_step made
+    → StepMeets starts (steps_of airs_of lines) made new text told before after r → LineMeets starts lines line new text told before after r
+said_meets starts lines line made new text told before after (Ok x) boxes is m =
+    let made_before : List Step = steps_of airs_of lines in
+    let more = one_more lines line made is in
+    let passes = line_refused (is_relayed made_before made) (refusal_of airs_of (length starts) made_before made) m.0 in (
+      ap (refusal_said airs_of (length starts) made_before) is ∙ m.0,
+      record {
+        stands = (let P : List Step → Type 0 = λ s. Stands s new in subst P (sym more) m.1);
+        boxes = (let P : List Step → Type 0 = λ s. BoxesStand starts s after in subst P (sym more)
+            (boxes_go_on starts before after made_before made boxes passes m.3));
+      },
+      m.2 ∙ ap (λ s. text ++ output_said airs_of starts made_before s) (sym is),
+      m.3 ∙ ap (λ s. accounts_after before (handed_said airs_of made_before s)) (sym is),
+    )
 said_meets starts lines line made new text told before after (Err (Refused reason)) boxes is m = (
-  ap (refusal_said airs_of (length starts) (steps_of lines)) is ∙ m.0,
+  ap (refusal_said airs_of (length starts) (steps_of airs_of lines)) is ∙ m.0,
   record {
     stands = m.1;
-    boxes = (let P : List Account → Type 0 = λ accounts. BoxesStand starts (steps_of lines) accounts in subst P (sym m.3) boxes);
+    boxes = (let P : List Account → Type 0 = λ accounts. BoxesStand starts (steps_of airs_of lines) accounts in subst P (sym m.3) boxes);
   },
   m.2,
   m.3,
 )
 said_meets starts lines line made new text told before after (Err OutletFault) boxes is m = (
-  ap (refusal_said airs_of (length starts) (steps_of lines)) is ∙ m.0,
-  (let P : Said → Type 0 = λ s. BoxFails (handed_said airs_of (steps_of lines) s) text told before after in subst P (sym is) m.1),
+  ap (refusal_said airs_of (length starts) (steps_of airs_of lines)) is ∙ m.0,
+  (let P : Said → Type 0 = λ s. CloseFails (handed_said airs_of (steps_of airs_of lines) s) (answered_said airs_of (steps_of airs_of lines) s)
+      (output_said airs_of starts (steps_of airs_of lines) s) text told before after in
+      subst P (sym is) m.1),
 )
 said_meets starts lines line made new text told before after (Err Memory) boxes is (inl same) = inl same
 said_meets starts lines line made new text told before after (Err Memory) boxes is (inr m) =
     inr (
-      ap (refusal_said airs_of (length starts) (steps_of lines)) is ∙ m.0,
-      (let P : Said → Type 0 = λ s. CutShort (handed_said airs_of (steps_of lines) s) before after in subst P (sym is) m.1),
+      ap (refusal_said airs_of (length starts) (steps_of airs_of lines)) is ∙ m.0,
+      (let P : Said → Type 0 = λ s. CutShort (handed_said airs_of (steps_of airs_of lines) s) before after in subst P (sym is) m.1),
     )
 
+-- the version of what happens is that of what the lines say
+pub version_said : (lines : List TextLine) → version_of (steps_of airs_of lines) ≡ version_of (said_of lines)
+version_said lines = ap version_at (stage_happened airs_of (said_of lines))
+
 pub line_meets : (starts : List Account) (lines : List TextLine) (line : List ℕ) (version : ℕ) (made : Step) (new : Machine) (text told : List ℕ) (before after : List Account)
-    (r : Result (Unit {0}) Stop) → BoxesStand starts (steps_of lines) before → version ≡ version_of (steps_of lines) → read_of version line ≡ Ok (Some made)
-    → StepMeets starts (steps_of lines) made new text told before after r → LineMeets starts lines (plain line) new text told before after r
+    (r : Result (Unit {0}) Stop) → BoxesStand starts (steps_of airs_of lines) before → version ≡ version_of (said_of lines)
+    → read_of version line ≡ Ok (Some made)
+    → StepMeets starts (steps_of airs_of lines) made new text told before after r → LineMeets starts lines (plain line) new text told before after r
 line_meets starts lines line version made new text told before after r boxes is reads m =
     said_meets starts lines (plain line) made new text told before after r boxes (ap (λ v. said_by (read_of v line)) (sym is) ∙ ap said_by reads) m
+
+-- ---- lines that say no step
+
+-- an empty line, or a comment
+pub none_meets : (starts : List Account) (lines : List TextLine) (line : List ℕ) (version : ℕ) (machine : Machine) (text : List ℕ) (accounts : List Account)
+    → LinesStand starts lines machine accounts → version ≡ version_of (said_of lines) → read_of version line ≡ Ok None
+    → LineMeets starts lines (plain line) machine text text accounts accounts (Ok tt)
+none_meets starts lines line version machine text accounts st is reads =
+    let says : said_after lines (plain line) ≡ nothing = ap (λ v. said_by (read_of v line)) (sym is) ∙ ap said_by reads in
+    let same : said_of (plain line ∷ lines) ≡ said_of lines = ap (λ s. with_said s (said_of lines)) says in
+    let before = steps_of airs_of lines in (
+      ap (refusal_said airs_of (length starts) before) says,
+      record {
+        stands = (let P : List Step → Type 0 = λ s. Stands (happened airs_of s) machine in subst P (sym same) st.stands);
+        boxes = (let P : List Step → Type 0 = λ s. BoxesStand starts (happened airs_of s) accounts in subst P (sym same) st.boxes);
+      },
+      sym (append-nil text) ∙ ap (λ s. text ++ output_said airs_of starts before s) (sym says),
+      ap (λ s. accounts_after accounts (handed_said airs_of before s)) (sym says),
+    )
+
+-- a line that isn't of the grammar
+pub misfit_meets : (starts : List Account) (lines : List TextLine) (line : List ℕ) (version word : ℕ) (machine : Machine) (text : List ℕ) (accounts : List Account)
+    → LinesStand starts lines machine accounts → version ≡ version_of (said_of lines) → read_of version line ≡ Err (Misfit word)
+    → LineMeets starts lines (plain line) machine text text accounts accounts (Err (Refused (BadLine word)))
+misfit_meets starts lines line version word machine text accounts st is reads =
+    let says : said_after lines (plain line) ≡ unsaid (BadLine word) = ap (λ v. said_by (read_of v line)) (sym is) ∙ ap said_by reads in
+    (ap (refusal_said airs_of (length starts) (steps_of airs_of lines)) says, st, refl, refl)
 
 pub nothing_handed : (starts : List Account) → BoxesStand starts [] starts
 nothing_handed starts = record { accounts_are = refl; room = omega arith }

@@ -7,7 +7,6 @@ use Rattle.announcement_train.specs.declared.train.Train.{Train as Announced}
 use Rattle.link_histories.specs.Calls.{Call}
 use Rattle.source_machine.specs.Airs.{airs_of}
 use Rattle.source_machine.specs.Faults.{announce_fault}
-use Rattle.transcript_text.specs.declared.refusal.Refusal.{Refusal}
 use Rattle.transcript_text.specs.declared.refusal.Refusal.TheVariants.{NoSuchSink, Order}
 use Rattle.transcript_text.specs.declared.stop.Stop.{Stop}
 use Rattle.transcript_text.specs.declared.stop.Stop.TheVariants.{Refused, OutletFault, Memory}
@@ -19,8 +18,8 @@ use Rattle.scenario_history.specs.Steps.{Stage, chosen_steps, running, stage_aft
 use Rattle.scenario_history.specs.Source.{is_sending, setup_of, source_calls}
 use Rattle.scenario_history.specs.Boxes.{box_of, handed_by}
 use Rattle.scenario_history.specs.Output.{output_of, sink_lines}
-use Rattle.scenario_history.specs.Refusals.{is_misplaced, phase_refusal, train_ends}
-use Rattle.scenario_history.specs.Worlds.{announced_of, life, source_at, the_world}
+use Rattle.scenario_history.specs.Refusals.{phase_refusal, train_ends}
+use Rattle.scenario_history.specs.Worlds.{life, source_at, the_world}
 use Rattle.sink_histories.specs.Lives.{Made, Source, made_of, named_by}
 use Rattle.sink_histories.specs.Output.{printed_at, printed_of, printed_where}
 use Rattle.sink_histories.specs.Refusals.{refused_at, refused_where, refusal_of}
@@ -33,6 +32,9 @@ use Rattle.scenario_sinks.specs.State.Standing.{SinksStand}
 use Rattle.replay_steps.specs.declared.machine.Machine.{Machine}
 use Rattle.replay_steps.specs.Machines.{Stands, past_of}
 use Rattle.replay_steps.specs.Meets.{Tells}
+use Rattle.scenario_history.specs.Gifts.{closes_first}
+use Rattle.scenario_history.specs.Refusals.{is_relayed}
+use Rattle.replay_steps.proofs.RelaysStay.{beside, minds_relays}
 use Rattle.replay_steps.proofs.Stepping.{brought, or_none, sinks_stand}
 
 -- ---- what such a line says
@@ -108,6 +110,23 @@ line_runs made line = record {
   handed = λ steps. refl;
 }
 
+line_minds : (made : Step) → IsSinkLine made → minds_relays made ≡ false
+line_minds (Relay sink bis to) line = absurd line
+line_minds (Drop sink) line = absurd line
+line_minds (UnitLine bis time octets) line = absurd line
+line_minds made line = refl
+
+-- it closes no event, and gives no unit
+pub closes_none_by : (steps : List Step) (made : Step) → IsSinkLine made → closes_first steps made ≡ false
+closes_none_by steps Event line = absurd line
+closes_none_by steps StopLine line = absurd line
+closes_none_by steps (Terminate reason) line = absurd line
+closes_none_by steps End line = absurd line
+closes_none_by steps made line = refl
+
+pub gives_none_by : (steps : List Step) (made : Step) → IsSinkLine made → is_relayed steps made ≡ false
+gives_none_by steps made line = (beside made (line_minds made line)).none steps
+
 pub nothing_handed_by : (steps : List Step) (made : Step) → IsSinkLine made → handed_by airs_of steps made ≡ []
 nothing_handed_by steps made line = (line_runs made line).handed steps
 
@@ -165,27 +184,27 @@ named_meets : (starts : List Account) (n : ℕ) (steps : List Step) (made : Step
     → Stands steps old → phase_refusal airs_of (length starts) steps made ≡ refused_where made (made_of n steps) (life n steps) → SaysNothing made
     → stage_of (made ∷ steps) ≡ stage_of steps → past_of (made ∷ steps) ≡ with_line n (source_at steps) made (past_of steps)
     → output_of airs_of starts steps made ≡ concat (printed_where (source_at steps) made (made_of n steps) (life n steps))
-    → new.stage ≡ old.stage → new.sources ≡ old.sources
+    → new.stage ≡ old.stage → new.sources ≡ old.sources → minds_relays made ≡ false → new.relays ≡ old.relays
     → SinkLineMakes (past_of steps) n (source_at steps) made new.sinks text told r → Tells starts steps made new text told r
-named_meets starts n steps made old new text told (Ok x) stands is nothing on past output stage same m = (
+named_meets starts n steps made old new text told (Ok x) stands is nothing on past output stage same minds held m = (
   is ∙ m.0,
-  brought steps made old new stands nothing on stage same (let P : Past → Type 0 = λ p. SinksStand p new.sinks in subst P (sym past) m.1),
+  brought steps made old new stands nothing on stage same minds held (let P : Past → Type 0 = λ p. SinksStand p new.sinks in subst P (sym past) m.1),
   m.2 ∙ ap (λ l. text ++ l) (sym output),
 )
-named_meets starts n steps made old new text told (Err (Refused reason)) stands is nothing on past output stage same m =
-    (is ∙ m.0, sinks_stand steps old new stands stage same m.1, m.2)
-named_meets starts n steps made old new text told (Err OutletFault) stands is nothing on past output stage same m = m
-named_meets starts n steps made old new text told (Err Memory) stands is nothing on past output stage same m = tt
+named_meets starts n steps made old new text told (Err (Refused reason)) stands is nothing on past output stage same minds held m =
+    (is ∙ m.0, sinks_stand steps old new stands stage same held m.1, m.2)
+named_meets starts n steps made old new text told (Err OutletFault) stands is nothing on past output stage same minds held m = m
+named_meets starts n steps made old new text told (Err Memory) stands is nothing on past output stage same minds held m = tt
 
 pub line_meets : (starts : List Account) (version n : ℕ) (steps : List Step) (made : Step) (old new : Machine) (text told : List ℕ) (r : Result (Unit {0}) Stop)
     → Stands steps old → stage_of steps ≡ running version → IsSinkLine made → named_by made ≡ Some n → new.stage ≡ old.stage → new.sources ≡ old.sources
-    → SinkLineMakes (past_of steps) n (source_at steps) made new.sinks text told r → Tells starts steps made new text told r
-line_meets starts version n steps made old new text told r stands e line named stage same m =
+    → new.relays ≡ old.relays → SinkLineMakes (past_of steps) n (source_at steps) made new.sinks text told r → Tells starts steps made new text told r
+line_meets starts version n steps made old new text told r stands e line named stage same held m =
     let runs = line_runs made line in
     named_meets starts n steps made old new text told r stands
     (runs.refusal (length starts) version steps e ∙ ap (refused_at the_world steps made) named) (line_says made line) (runs.stage (stage_of steps))
     (runs.past steps ∙ ap (λ o. with_named o made steps) named)
-    (line_prints starts steps made line ∙ ap (λ o. concat (printed_at the_world steps made o)) named) stage same m
+    (line_prints starts steps made line ∙ ap (λ o. concat (printed_at the_world steps made o)) named) stage same (line_minds made line) held m
 
 -- ---- announce
 
@@ -259,8 +278,8 @@ announce_fails starts version n steps new text Memory stands e going lives a = t
 
 pub announce_meets : (starts : List Account) (version n : ℕ) (steps : List Step) (train : Announced) (old new : Machine) (text told : List ℕ) (r : Result (Unit {0}) Stop)
     → Stands steps old → stage_of steps ≡ running version → AnnouncesAs (chosen_steps steps) (Ok train) → new.stage ≡ old.stage → new.sources ≡ old.sources
-    → SinkLineMakes (past_of steps) n (source_at steps) (Announce n) new.sinks text told r → Tells starts steps (Announce n) new text told r
-announce_meets starts version n steps train old new text told r stands e a stage same m =
+    → new.relays ≡ old.relays → SinkLineMakes (past_of steps) n (source_at steps) (Announce n) new.sinks text told r → Tells starts steps (Announce n) new text told r
+announce_meets starts version n steps train old new text told r stands e a stage same held m =
     named_meets starts n steps (Announce n) old new text told r stands
     (announce_fault_is (length starts) version n steps e a.0 ∙ ap (λ f. option_or (refused_where (Announce n) (made_of n steps) (life n steps)) (train_ends f)) a.1
-    ∙ or_none (refused_where (Announce n) (made_of n steps) (life n steps))) (announce_says n) refl refl refl stage same m
+    ∙ or_none (refused_where (Announce n) (made_of n steps) (life n steps))) (announce_says n) refl refl refl stage same refl held m

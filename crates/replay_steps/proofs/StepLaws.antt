@@ -1,22 +1,22 @@
 -- Each step by its own clause.
-use Rattle.std.proofs.Common.{◌≡◌, ℕ, List, [], ◌++◌, length, map, false, inl, inr, None, Some, Result, Ok, Err, refl, sym, ◌∙◌, ap, subst, append-nil}
-use Rattle.std.specs.Option.{option_or}
+use Rattle.std.proofs.Common.{◌≡◌, ℕ, Bool, cond, true, List, [], ◌∷◌, ◌++◌, length, map, false, inl, inr, None, Some, Result, Ok, Err, refl, sym, ◌∙◌, ap, subst, append-nil}
 use Rattle.std.proofs.lemmas.List.{length-map}
 use Rattle.unit_outlets.specs.Account.{Account}
 use Rattle.source_machine.specs.Airs.{airs_of}
-use Rattle.transcript_text.specs.declared.refusal.Refusal.TheVariants.{AfterEnd}
+use Rattle.transcript_text.specs.declared.refusal.Refusal.TheVariants.{AfterEnd, Order}
 use Rattle.scenario_text.specs.declared.step.Step.{Step}
 use Rattle.scenario_text.specs.declared.step.Step.TheVariants.{Scenario}
 use Rattle.scenario_history.specs.Steps.{is_over, over, running, stage_of, unbegun}
 use Rattle.scenario_history.specs.Boxes.{accounts_after, handed_by, handed_up}
+use Rattle.scenario_history.specs.Gifts.{after_offers, closes_first, offers_at, with_gifts}
 use Rattle.scenario_history.specs.Output.{output_of}
-use Rattle.scenario_history.specs.Refusals.{phase_refusal, refusal_of, refuse_if}
+use Rattle.scenario_history.specs.Refusals.{is_relayed, line_refusal, phase_refusal, relayed_or}
 use Rattle.scenario_history.proofs.Citable.{boxes_stay}
 use Rattle.replay_steps.specs.declared.machine.Machine.{Machine}
 use Rattle.transcript_text.specs.declared.stop.Stop.{Stop}
 use Rattle.transcript_text.specs.declared.stop.Stop.TheVariants.{Refused, OutletFault, Memory}
 use Rattle.replay_steps.specs.Machines.{Stands}
-use Rattle.replay_steps.specs.Meets.{BoxesStand, First, Quiet, Tells, Meets, StepMeets}
+use Rattle.replay_steps.specs.Meets.{BoxesStand, First, Quiet, Tells, Meets, StepMeets, phase_line}
 
 -- there are as many boxes as at the start
 pub boxes_count : (starts accounts : List Account) (steps : List Step) → BoxesStand starts steps accounts → length accounts ≡ length starts
@@ -26,25 +26,44 @@ pub boxes_counted : {A : Type 0} (f : A → Account) (items : List A) (starts : 
     → BoxesStand starts steps (map f items) → n ≡ length starts
 boxes_counted f items starts steps n is boxes = is ∙ sym (length-map items f) ∙ boxes_count starts (map f items) steps boxes
 
+-- before a step that closes no event of source 0 there are no gifts
+pub no_gifts : (steps : List Step) (made : Step) → closes_first steps made ≡ false → with_gifts airs_of steps made ≡ steps
+no_gifts steps made alone = ap (λ hit. after_offers airs_of (cond hit (offers_at airs_of steps) []) steps) alone
+
+-- a step that gives no unit isn't Relayed
+not_relayed : (boxes : ℕ) (steps : List Step) (made : Step) → is_relayed steps made ≡ false → phase_line airs_of boxes steps made ≡ phase_refusal airs_of boxes steps made
+not_relayed boxes steps made gives_none = ap (λ relayed. relayed_or relayed (phase_refusal airs_of boxes steps made)) gives_none
+
 pub quiet_meets : (starts : List Account) (boxes : ℕ) (steps : List Step) (made : Step) (new : Machine) (text : List ℕ) (accounts : List Account) (r : Result (Unit {0}) Stop)
-    → boxes ≡ length starts → output_of airs_of starts steps made ≡ [] → handed_by airs_of steps made ≡ []
+    → boxes ≡ length starts → output_of airs_of starts steps made ≡ [] → handed_by airs_of steps made ≡ [] → closes_first steps made ≡ false
     → Quiet boxes steps made new r → Meets starts steps made new text text accounts accounts r
-quiet_meets starts boxes steps made new text accounts (Ok x) count output handed q =
-    (subst (λ n. phase_refusal airs_of n steps made ≡ None) count q.0, q.1, sym (ap (λ l. text ++ l) output ∙ append-nil text), sym (ap (accounts_after accounts) handed))
-quiet_meets starts boxes steps made new text accounts (Err (Refused reason)) count output handed q =
-    (subst (λ n. phase_refusal airs_of n steps made ≡ Some reason) count q.0, q.1, refl, refl)
-quiet_meets starts boxes steps made new text accounts (Err OutletFault) count output handed q = absurd q
-quiet_meets starts boxes steps made new text accounts (Err Memory) count output handed q = inl refl
+quiet_meets starts boxes steps made new text accounts (Ok x) count output handed alone q = (
+  subst (λ n. phase_line airs_of n steps made ≡ None) count q.0,
+  subst (λ before. Stands (made ∷ before) new) (sym (no_gifts steps made alone)) q.1,
+  sym (ap (λ l. text ++ l) output ∙ append-nil text),
+  sym (ap (accounts_after accounts) handed),
+)
+quiet_meets starts boxes steps made new text accounts (Err (Refused reason)) count output handed alone q =
+    (subst (λ n. phase_line airs_of n steps made ≡ Some reason) count q.0, q.1, refl, refl)
+quiet_meets starts boxes steps made new text accounts (Err OutletFault) count output handed alone q = absurd q
+quiet_meets starts boxes steps made new text accounts (Err Memory) count output handed alone q = inl refl
 
 pub tells_meets : (starts : List Account) (steps : List Step) (made : Step) (new : Machine) (text told : List ℕ) (accounts : List Account) (r : Result (Unit {0}) Stop)
-    → handed_by airs_of steps made ≡ [] → Tells starts steps made new text told r → Meets starts steps made new text told accounts accounts r
-tells_meets starts steps made new text told accounts (Ok x) handed t = (t.0, t.1, t.2, sym (ap (accounts_after accounts) handed))
-tells_meets starts steps made new text told accounts (Err (Refused reason)) handed t = (t.0, t.1, t.2, refl)
-tells_meets starts steps made new text told accounts (Err OutletFault) handed t = absurd t
-tells_meets starts steps made new text told accounts (Err Memory) handed t = inl refl
+    → handed_by airs_of steps made ≡ [] → closes_first steps made ≡ false → is_relayed steps made ≡ false
+    → Tells starts steps made new text told r → Meets starts steps made new text told accounts accounts r
+tells_meets starts steps made new text told accounts (Ok x) handed alone gives_none t = (
+  not_relayed (length starts) steps made gives_none ∙ t.0,
+  subst (λ before. Stands (made ∷ before) new) (sym (no_gifts steps made alone)) t.1,
+  t.2,
+  sym (ap (accounts_after accounts) handed),
+)
+tells_meets starts steps made new text told accounts (Err (Refused reason)) handed alone gives_none t =
+    (not_relayed (length starts) steps made gives_none ∙ t.0, t.1, t.2, refl)
+tells_meets starts steps made new text told accounts (Err OutletFault) handed alone gives_none t = absurd t
+tells_meets starts steps made new text told accounts (Err Memory) handed alone gives_none t = inl refl
 
 -- a step that follows no `end`
-pub goes_on : (boxes : ℕ) (steps : List Step) (made : Step) → is_over steps ≡ false → phase_refusal airs_of boxes steps made ≡ refusal_of airs_of boxes steps made
+pub goes_on : (boxes : ℕ) (steps : List Step) (made : Step) → is_over steps ≡ false → phase_line airs_of boxes steps made ≡ line_refusal airs_of boxes steps made
 goes_on boxes steps made not_over = rw not_over refl
 
 pub meets_step : (starts : List Account) (steps : List Step) (made : Step) (new : Machine) (text told : List ℕ) (before after : List Account) (r : Result (Unit {0}) Stop)
@@ -58,17 +77,18 @@ meets_step starts steps made new text told before after (Err Memory) not_over (i
 -- ---- a step as it was read
 
 pub quiet_as : (starts : List Account) (boxes : ℕ) (steps : List Step) (made other : Step) (new : Machine) (text : List ℕ) (accounts : List Account) (r : Result (Unit {0}) Stop)
-    → made ≡ other → boxes ≡ length starts → output_of airs_of starts steps other ≡ [] → handed_by airs_of steps other ≡ []
+    → made ≡ other → boxes ≡ length starts → output_of airs_of starts steps other ≡ [] → handed_by airs_of steps other ≡ [] → closes_first steps other ≡ false
     → Quiet boxes steps other new r → Meets starts steps made new text text accounts accounts r
-quiet_as starts boxes steps made other new text accounts r is count output handed q =
+quiet_as starts boxes steps made other new text accounts r is count output handed alone q =
     let P : Step → Type 0 = λ s. Meets starts steps s new text text accounts accounts r in
-    subst P (sym is) (quiet_meets starts boxes steps other new text accounts r count output handed q)
+    subst P (sym is) (quiet_meets starts boxes steps other new text accounts r count output handed alone q)
 
 pub tells_as : (starts : List Account) (steps : List Step) (made other : Step) (new : Machine) (text told : List ℕ) (accounts : List Account) (r : Result (Unit {0}) Stop)
-    → made ≡ other → handed_by airs_of steps other ≡ [] → Tells starts steps other new text told r → Meets starts steps made new text told accounts accounts r
-tells_as starts steps made other new text told accounts r is handed t =
+    → made ≡ other → handed_by airs_of steps other ≡ [] → closes_first steps other ≡ false → is_relayed steps other ≡ false
+    → Tells starts steps other new text told r → Meets starts steps made new text told accounts accounts r
+tells_as starts steps made other new text told accounts r is handed alone gives_none t =
     let P : Step → Type 0 = λ s. Meets starts steps s new text told accounts accounts r in
-    subst P (sym is) (tells_meets starts steps other new text told accounts r handed t)
+    subst P (sym is) (tells_meets starts steps other new text told accounts r handed alone gives_none t)
 
 pub meets_as : (starts : List Account) (steps : List Step) (made other : Step) (new : Machine) (text told : List ℕ) (before after : List Account) (r : Result (Unit {0}) Stop)
     → made ≡ other → Meets starts steps other new text told before after r → Meets starts steps made new text told before after r
@@ -83,9 +103,18 @@ goes_on_in version steps e = rw e refl
 pub not_begun : (steps : List Step) → stage_of steps ≡ unbegun → is_over steps ≡ false
 not_begun steps e = rw e refl
 
+-- a reason before that of a relay stays
+after_end_stays : (relayed : Bool) → relayed_or relayed (Some AfterEnd) ≡ Some AfterEnd
+after_end_stays true = refl
+after_end_stays false = refl
+
+order_stays : (relayed : Bool) → relayed_or relayed (Some Order) ≡ Some Order
+order_stays true = refl
+order_stays false = refl
+
 pub refused_after_end : (starts : List Account) (version : ℕ) (steps : List Step) (made : Step) (new : Machine) (text : List ℕ) (accounts : List Account)
     → Stands steps new → stage_of steps ≡ over version → StepMeets starts steps made new text text accounts accounts (Err (Refused AfterEnd))
-refused_after_end starts version steps made new text accounts stands e = (rw e refl, stands, refl, refl)
+refused_after_end starts version steps made new text accounts stands e = (rw e (after_end_stays (is_relayed steps made)), stands, refl, refl)
 
 -- the first step: only `scenario` is made
 pub first_meets : (starts : List Account) (steps : List Step) (made : Step) (new : Machine) (text : List ℕ) (accounts : List Account) (r : Result (Unit {0}) Stop)
@@ -93,9 +122,8 @@ pub first_meets : (starts : List Account) (steps : List Step) (made : Step) (new
 first_meets starts steps (Scenario version) new text accounts (Ok x) e f = (rw e refl, f.1, sym (append-nil text), refl)
 first_meets starts steps made new text accounts (Ok x) e f = absurd f.0
 first_meets starts steps made new text accounts (Err (Refused reason)) e f = (
-  ap (λ b. option_or (refuse_if b AfterEnd) (phase_refusal airs_of (length starts) steps made)) (not_begun
-      steps e) ∙ f.0,
-  f.1,
+  sym (goes_on (length starts) steps made (not_begun steps e)) ∙ ap (relayed_or (is_relayed steps made)) f.1 ∙ order_stays (is_relayed steps made) ∙ ap Some (sym f.0),
+  f.2,
   refl,
   refl,
 )

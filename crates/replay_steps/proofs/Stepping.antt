@@ -8,7 +8,7 @@ use Rattle.delegator_states.specs.LastGiven.{last_given}
 use Rattle.delegator_states.specs.Trains.{Joining}
 use Rattle.group_sink.specs.Calls.{Tuning, tune}
 use Rattle.transcript_text.specs.declared.refusal.Refusal.{Refusal}
-use Rattle.transcript_text.specs.declared.refusal.Refusal.TheVariants.{NoSuchBis, NotBuilt, Order}
+use Rattle.transcript_text.specs.declared.refusal.Refusal.TheVariants.{NoSuchBis, Order}
 use Rattle.transcript_text.specs.declared.stop.Stop.{Stop}
 use Rattle.transcript_text.specs.declared.stop.Stop.TheVariants.{Refused, OutletFault, Memory}
 use Rattle.scenario_text.specs.declared.step.Step.{Step}
@@ -20,7 +20,7 @@ use Rattle.scenario_history.specs.Boxes.{box_of}
 use Rattle.scenario_history.specs.Worlds.{joining_on}
 use Rattle.sink_histories.specs.Lives.{Made, horizon_of, version_given}
 use Rattle.scenario_history.specs.Steps.{sinks_made}
-use Rattle.scenario_history.specs.Refusals.{has_beyond, horizon_in, is_misplaced, is_out_of_phase, is_unbuilt, no_sink, phase_refusal, refuse_if, sink_refusal, source_refusal, twin_refusal}
+use Rattle.scenario_history.specs.Refusals.{has_beyond, horizon_in, is_misplaced, is_out_of_phase, no_sink, phase_refusal, refuse_if, relayed_or, sink_refusal, source_refusal, twin_refusal}
 use Rattle.scenario_sources.specs.declared.sources.Sources.{Sources}
 use Rattle.scenario_sources.specs.Answers as sources
 use Rattle.scenario_sources.specs.Faults.{fault_of}
@@ -32,18 +32,20 @@ use Rattle.scenario_sinks.specs.Refusals as sinks
 use Rattle.scenario_sinks.specs.Refusals.{not_made, not_tuned}
 use Rattle.scenario_sinks.specs.State.Standing.{SinksStand}
 use Rattle.replay_steps.specs.declared.machine.Machine.{Machine}
-use Rattle.replay_steps.specs.Machines.{Stands, past_of}
-use Rattle.replay_steps.specs.Meets.{Quiet}
+use Rattle.scenario_relays.specs.declared.relays.Relays.{Relays}
+use Rattle.scenario_relays.specs.State.Standing.{RelaysStand}
+use Rattle.replay_steps.specs.Machines.{Stands, past_of, relays_past}
+use Rattle.replay_steps.specs.Meets.{Quiet, phase_line}
 use Rattle.replay_steps.specs.Versions.{stage_in}
+use Rattle.replay_steps.proofs.RelaysStay.{beside, minds_relays, relays_stay}
 
 pub or_none : (a : Option Refusal) → option_or a None ≡ a
 or_none None = refl
 or_none (Some reason) = refl
 
-or_assoc : (a b c d : Option Refusal) → option_or a (option_or b (option_or c d)) ≡ option_or (option_or a (option_or b c)) d
-or_assoc None None c d = refl
-or_assoc None (Some reason) c d = refl
-or_assoc (Some reason) b c d = refl
+or_assoc : (a b c : Option Refusal) → option_or a (option_or b c) ≡ option_or (option_or a b) c
+or_assoc None b c = refl
+or_assoc (Some reason) b c = refl
 
 -- the step may follow the first one and goes on, and the sinks refuse nothing of it
 pub record GoesOn (made : Step) : Type 0 where
@@ -55,63 +57,81 @@ pub source_fault : (boxes version : ℕ) (steps : List Step) (made : Step) → G
     → phase_refusal airs_of boxes steps made ≡ fault_of version steps made
 source_fault boxes version steps made on e =
     rw (e, on.placed version, on.refusal boxes steps)
-    (or_assoc (refuse_if (is_out_of_phase (chosen_steps steps) made) Order) (refuse_if (is_unbuilt made) NotBuilt)
-    (source_refusal airs_of version (chosen_steps steps) made) (twin_refusal steps made))
+    (or_assoc (refuse_if (is_out_of_phase (chosen_steps steps) made) Order) (source_refusal airs_of version (chosen_steps steps) made) (twin_refusal steps made))
 
 stage_stays : (steps : List Step) (made : Step) (old new : Machine) → GoesOn made → Stands steps old → new.stage ≡ old.stage → stage_in new.stage ≡ stage_of (made ∷ steps)
 stage_stays steps made old new on stands same = ap stage_in same ∙ stands.stage ∙ sym (on.stage (stage_of steps))
 
+-- a line is refused for what its step is refused for, where it gives no unit
+pub as_step : (boxes : ℕ) (steps : List Step) (made : Step) → minds_relays made ≡ false → phase_line airs_of boxes steps made ≡ phase_refusal airs_of boxes steps made
+as_step boxes steps made minds = ap (λ relayed. relayed_or relayed (phase_refusal airs_of boxes steps made)) ((beside made minds).none steps)
+
+-- the relays that stood stand by the step too
+pub relays_kept : (steps : List Step) (made : Step) (old new : Machine) → minds_relays made ≡ false → Stands steps old → new.relays ≡ old.relays
+    → RelaysStand (relays_past (made ∷ steps)) new.relays
+relays_kept steps made old new minds stands held =
+    subst (λ r. RelaysStand (relays_past (made ∷ steps)) r) (sym held) (relays_stay steps made old.relays minds stands.relays)
+
 -- the machine after a refused step of the sources, or of the sinks
-pub sources_stand : (steps : List Step) (old new : Machine) → Stands steps old → new.stage ≡ old.stage → new.sinks ≡ old.sinks → SourcesStand steps new.sources → Stands steps new
-sources_stand steps old new stands stage same sources = record {
+pub sources_stand : (steps : List Step) (old new : Machine) → Stands steps old → new.stage ≡ old.stage → new.sinks ≡ old.sinks → new.relays ≡ old.relays
+    → SourcesStand steps new.sources → Stands steps new
+sources_stand steps old new stands stage same held sources = record {
   stage = ap stage_in stage ∙ stands.stage;
   sources = sources;
   sinks = let S : Sinks → Type 0 = λ k. SinksStand (past_of steps) k in subst S (sym same) stands.sinks;
+  relays = let R : Relays → Type 0 = λ r. RelaysStand (relays_past steps) r in subst R (sym held) stands.relays;
 }
 
-pub sinks_stand : (steps : List Step) (old new : Machine) → Stands steps old → new.stage ≡ old.stage → new.sources ≡ old.sources → SinksStand (past_of steps) new.sinks → Stands steps new
-sinks_stand steps old new stands stage same sinks = record {
+pub sinks_stand : (steps : List Step) (old new : Machine) → Stands steps old → new.stage ≡ old.stage → new.sources ≡ old.sources → new.relays ≡ old.relays
+    → SinksStand (past_of steps) new.sinks → Stands steps new
+sinks_stand steps old new stands stage same held sinks = record {
   stage = ap stage_in stage ∙ stands.stage;
   sources = let S : Sources → Type 0 = λ s. SourcesStand steps s in subst S (sym same) stands.sources;
   sinks = sinks;
+  relays = let R : Relays → Type 0 = λ r. RelaysStand (relays_past steps) r in subst R (sym held) stands.relays;
 }
 
 -- a step that says nothing of a source, by what it made of the sinks
 pub brought : (steps : List Step) (made : Step) (old new : Machine) → Stands steps old → SaysNothing made → stage_of (made ∷ steps) ≡ stage_of steps
-    → new.stage ≡ old.stage → new.sources ≡ old.sources → SinksStand (past_of (made ∷ steps)) new.sinks → Stands (made ∷ steps) new
-brought steps made old new stands nothing on stage same heard = record {
+    → new.stage ≡ old.stage → new.sources ≡ old.sources → minds_relays made ≡ false → new.relays ≡ old.relays
+    → SinksStand (past_of (made ∷ steps)) new.sinks → Stands (made ∷ steps) new
+brought steps made old new stands nothing on stage same minds held heard = record {
   stage = ap stage_in stage ∙ stands.stage ∙ sym on;
   sources = let S : Sources → Type 0 = λ s. SourcesStand (made ∷ steps) s in subst S (sym same) (sources_stay made steps old.sources nothing stands.sources);
   sinks = heard;
+  relays = relays_kept steps made old new minds stands held;
 }
 
 -- ---- a step of the sources alone
 
 pub sources_meet : (boxes version : ℕ) (steps : List Step) (made : Step) (old new : Machine) (r : Result (Unit {0}) Stop) → GoesOn made
     → past_of (made ∷ steps) ≡ past_of steps → Stands steps old → stage_of steps ≡ running version → new.stage ≡ old.stage → new.sinks ≡ old.sinks
-    → sources.Answers version steps made new.sources r → Quiet boxes steps made new r
-sources_meet boxes version steps made old new (Ok x) on past stands e stage same a = (
-  source_fault boxes version steps made on e ∙ a.0,
+    → minds_relays made ≡ false → new.relays ≡ old.relays → sources.Answers version steps made new.sources r → Quiet boxes steps made new r
+sources_meet boxes version steps made old new (Ok x) on past stands e stage same minds held a = (
+  as_step boxes steps made minds ∙ source_fault boxes version steps made on e ∙ a.0,
   record {
     stage = stage_stays steps made old new on stands stage;
     sources = a.1;
     sinks = let P : Past → Type 0 = λ p. SinksStand p new.sinks in let S : Sinks → Type 0 = λ s. SinksStand (past_of steps) s in
         subst P (sym past) (subst S (sym same) stands.sinks);
+    relays = relays_kept steps made old new minds stands held;
   },
 )
-sources_meet boxes version steps made old new (Err (Refused reason)) on past stands e stage same a =
-    (source_fault boxes version steps made on e ∙ a.0, sources_stand steps old new stands stage same a.1)
-sources_meet boxes version steps made old new (Err OutletFault) on past stands e stage same a = a
-sources_meet boxes version steps made old new (Err Memory) on past stands e stage same a = tt
+sources_meet boxes version steps made old new (Err (Refused reason)) on past stands e stage same minds held a =
+    (as_step boxes steps made minds ∙ source_fault boxes version steps made on e ∙ a.0, sources_stand steps old new stands stage same held a.1)
+sources_meet boxes version steps made old new (Err OutletFault) on past stands e stage same minds held a = a
+sources_meet boxes version steps made old new (Err Memory) on past stands e stage same minds held a = tt
 
 pub choose_meets : (boxes version source : ℕ) (steps : List Step) (old new : Machine) → Stands steps old → stage_of steps ≡ running version
-    → new.stage ≡ old.stage → new.sinks ≡ old.sinks → SourcesStand (Source source ∷ steps) new.sources → Quiet boxes steps (Source source) new (Ok tt)
-choose_meets boxes version source steps old new stands e stage same s = (
+    → new.stage ≡ old.stage → new.sinks ≡ old.sinks → new.relays ≡ old.relays → SourcesStand (Source source ∷ steps) new.sources
+    → Quiet boxes steps (Source source) new (Ok tt)
+choose_meets boxes version source steps old new stands e stage same held s = (
   rw e refl,
   record {
     stage = ap stage_in stage ∙ stands.stage;
     sources = s;
     sinks = let S : Sinks → Type 0 = λ k. SinksStand (past_of steps) k in subst S (sym same) stands.sinks;
+    relays = relays_kept steps (Source source) old new refl stands held;
   },
 )
 
@@ -126,18 +146,21 @@ less_said fault past next new (Err Memory) a = tt
 
 pub sinks_meet : (boxes : ℕ) (steps : List Step) (made : Step) (fault : Option Refusal) (next : Past) (old new : Machine) (r : Result (Unit {0}) Stop) → Stands steps old
     → phase_refusal airs_of boxes steps made ≡ fault → SaysNothing made → stage_of (made ∷ steps) ≡ stage_of steps → past_of (made ∷ steps) ≡ next
-    → new.stage ≡ old.stage → new.sources ≡ old.sources → sinks.Tunes fault (past_of steps) next new.sinks r → Quiet boxes steps made new r
-sinks_meet boxes steps made fault next old new (Ok x) stands is nothing on past stage same a = (
-  is ∙ a.0,
+    → new.stage ≡ old.stage → new.sources ≡ old.sources → minds_relays made ≡ false → new.relays ≡ old.relays
+    → sinks.Tunes fault (past_of steps) next new.sinks r → Quiet boxes steps made new r
+sinks_meet boxes steps made fault next old new (Ok x) stands is nothing on past stage same minds held a = (
+  as_step boxes steps made minds ∙ is ∙ a.0,
   record {
     stage = ap stage_in stage ∙ stands.stage ∙ sym on;
     sources = let S : Sources → Type 0 = λ s. SourcesStand (made ∷ steps) s in subst S (sym same) (sources_stay made steps old.sources nothing stands.sources);
     sinks = let P : Past → Type 0 = λ p. SinksStand p new.sinks in subst P (sym past) a.1;
+    relays = relays_kept steps made old new minds stands held;
   },
 )
-sinks_meet boxes steps made fault next old new (Err (Refused reason)) stands is nothing on past stage same a = (is ∙ a.0, sinks_stand steps old new stands stage same a.1)
-sinks_meet boxes steps made fault next old new (Err OutletFault) stands is nothing on past stage same a = a
-sinks_meet boxes steps made fault next old new (Err Memory) stands is nothing on past stage same a = tt
+sinks_meet boxes steps made fault next old new (Err (Refused reason)) stands is nothing on past stage same minds held a =
+    (as_step boxes steps made minds ∙ is ∙ a.0, sinks_stand steps old new stands stage same held a.1)
+sinks_meet boxes steps made fault next old new (Err OutletFault) stands is nothing on past stage same minds held a = a
+sinks_meet boxes steps made fault next old new (Err Memory) stands is nothing on past stage same minds held a = tt
 
 -- ---- sink
 
@@ -160,14 +183,14 @@ abbrev made_with : (streams slots horizon : ℕ) → Option ℕ → Made
 made_with streams slots horizon mtu = record { setup = record { streams = streams; slots = slots; horizon = horizon }; mtu = mtu }
 
 pub make_meets : (boxes version n streams slots horizon : ℕ) (mtu : Option ℕ) (steps : List Step) (old new : Machine) (r : Result (Unit {0}) Stop) → Stands steps old
-    → stage_of steps ≡ running version → horizon ≡ horizon_in version → new.stage ≡ old.stage → new.sources ≡ old.sources
+    → stage_of steps ≡ running version → horizon ≡ horizon_in version → new.stage ≡ old.stage → new.sources ≡ old.sources → new.relays ≡ old.relays
     → sinks.Answers (not_made (box_of n steps) (sinks_made steps) boxes) (past_of steps) (with_sink n (made_with streams slots horizon mtu) (past_of steps)) new.sinks r
     → Quiet boxes steps (Sink n streams slots mtu) new r
-make_meets boxes version n streams slots horizon mtu steps old new r stands e is stage same a =
+make_meets boxes version n streams slots horizon mtu steps old new r stands e is stage same held a =
     let fault : Option Refusal = not_made (box_of n steps) (sinks_made steps) boxes in
     let next : Past = with_sink n (made_with streams slots horizon mtu) (past_of steps) in
     sinks_meet boxes steps (Sink n streams slots mtu) fault next old new r stands (rw e (or_none fault)) (sink_says n streams slots mtu) refl
-    (ap (λ h. with_sink n (made_with streams slots h mtu) (past_of steps)) (sym (horizon_said version horizon steps e is))) stage same
+    (ap (λ h. with_sink n (made_with streams slots h mtu) (past_of steps)) (sym (horizon_said version horizon steps e is))) stage same refl held
     (less_said fault (past_of steps) next new.sinks r a)
 
 -- ---- tuned
@@ -201,10 +224,10 @@ with_both n source joining tuning past =
 
 pub tuned_meets : (boxes version n source which : ℕ) (steps : List Step) (tuning : Tuning) (old new : Machine) (r : Result (Unit {0}) Stop) → Stands steps old
     → stage_of steps ≡ running version → takes_units (chosen_steps steps) ≡ true → source ≡ chosen_of steps → tuning ≡ tuning_of (chosen_steps steps) which
-    → new.stage ≡ old.stage → new.sources ≡ old.sources
+    → new.stage ≡ old.stage → new.sources ≡ old.sources → new.relays ≡ old.relays
     → sinks.Tunes (not_tuned (box_of n steps) tuning.info.num_bis tuning.which) (past_of steps) (with_tuning n source (joined_by tuning) (past_of steps)) new.sinks r
     → Quiet boxes steps (Tuned n which) new r
-tuned_meets boxes version n source which steps tuning old new r stands e going chosen is stage same a =
+tuned_meets boxes version n source which steps tuning old new r stands e going chosen is stage same held a =
     let own : List Step = chosen_steps steps in
     let fault : phase_refusal airs_of boxes steps (Tuned n which) ≡ not_tuned (box_of n steps) tuning.info.num_bis tuning.which =
     rw (e, going) (ap (option_or (no_sink n steps)) (or_none (refuse_if (has_beyond (setup_of own).info.num_bis which) NoSuchBis))
@@ -213,4 +236,4 @@ tuned_meets boxes version n source which steps tuning old new r stands e going c
     (tuned_says n which) refl
     (ap (λ (t : Tuning). with_both n (chosen_of steps) (joining_on own which) t (past_of steps)) (tuned_to own which)
     ∙ ap (λ s. with_tuning n s (joining_on own which) (past_of steps)) (sym chosen)
-    ∙ ap (λ (t : Tuning). with_tuning n source (joined_by t) (past_of steps)) (sym is)) stage same a
+    ∙ ap (λ (t : Tuning). with_tuning n source (joined_by t) (past_of steps)) (sym is)) stage same refl held a

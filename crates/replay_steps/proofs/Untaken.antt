@@ -1,5 +1,5 @@
 -- The boxes that no sink took, as events are closed.
-use Rattle.std.proofs.Common.{ℕ, ◌<◌, List, ◌∙◌, arith}
+use Rattle.std.proofs.Common.{◌<◌, List, ◌∙◌, arith}
 use Rattle.scenario_text.specs.declared.step.Step.{Step}
 use Rattle.scenario_history.specs.Steps.{sinks_made}
 use Rattle.scenario_history.proofs.Citable.{box_was_made}

@@ -1,6 +1,9 @@
 pub mod Versions
 pub mod Machines
+pub mod Failing
 pub mod Meets
 pub mod LineMeets
 pub mod Airing
 pub mod Untaken
+pub mod Relaying
+pub mod Between

@@ -31,10 +31,8 @@ impl Machine {
             Ok(performed) => performed,
             Err(stop) => return Err(stop),
         };
-        match self
-            .sinks
-            .close(self.sources.chosen(), performed.closed, outlets, text)
-        {
+        let chosen = self.sources.chosen();
+        match self.close(chosen, performed.closed, outlets, text) {
             Ok(()) => {}
             Err(stop) => return Err(stop),
         }
@@ -59,8 +57,8 @@ impl Machine {
             Ok(closed) => closed,
             Err(stop) => return Err(stop),
         };
-        self.sinks
-            .close(self.sources.chosen(), closed, outlets, text)
+        let chosen = self.sources.chosen();
+        self.close(chosen, closed, outlets, text)
     }
 
     /// `terminate`: closes the open event of the chosen source, ends its group for this reason, and prints the PDU that says
@@ -80,10 +78,8 @@ impl Machine {
             Ok(terminated) => terminated,
             Err(stop) => return Err(stop),
         };
-        match self
-            .sinks
-            .close(self.sources.chosen(), terminated.closed, outlets, text)
-        {
+        let chosen = self.sources.chosen();
+        match self.close(chosen, terminated.closed, outlets, text) {
             Ok(()) => {}
             Err(stop) => return Err(stop),
         }
@@ -110,11 +106,11 @@ impl Machine {
         let first = self.sources.open(0);
         let second = self.sources.open(1);
         self.stage = Stage::Over(version);
-        match self.sinks.close(0, first, outlets, text) {
+        match self.close(0, first, outlets, text) {
             Ok(()) => {}
             Err(stop) => return Err(stop),
         }
-        match self.sinks.close(1, second, outlets, text) {
+        match self.close(1, second, outlets, text) {
             Ok(()) => {}
             Err(stop) => return Err(stop),
         }

@@ -6,6 +6,7 @@ mod close_steps;
 mod life_steps;
 mod line_steps;
 mod machine;
+mod relay_steps;
 mod source_steps;
 mod stale;
 mod step;

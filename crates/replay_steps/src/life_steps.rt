@@ -63,7 +63,7 @@ impl Machine {
         self.sinks.tune(sink, self.sources.chosen(), &joining)
     }
 
-    /// `drop`: prints the sums of a sink's box, and ends the sink.
+    /// `drop`: prints the sums of a sink's box, and ends the sink, and its relay with it.
     #[inline(never)]
     pub(crate) fn drop_sink(
         &mut self,
@@ -75,6 +75,11 @@ impl Machine {
         ensures { (starts : List Account) (version : ℕ) (steps : List Step) → Stands steps self.old → stage_of steps ≡ running version
             → BoxesStand starts steps (map account outlets.now.items) → Tells starts steps (DropStep sink) self.new text.old text.new result }
     {
-        self.sinks.end(sink, outlets, text)
+        match self.sinks.end(sink, outlets, text) {
+            Ok(()) => {}
+            Err(stop) => return Err(stop),
+        }
+        self.relays.end(sink);
+        Ok(())
     }
 }

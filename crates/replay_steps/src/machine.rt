@@ -5,6 +5,7 @@ ghost use Rattle.unit_outlets.specs.Account.{Account};
 use crate::version::Stage;
 use bcast_base::{Memory, Octets};
 use scenario_reading::{LineFault, read_line_in};
+use scenario_relays::Relays;
 use scenario_sinks::Sinks;
 use scenario_sources::Sources;
 use std::alloc::Global;
@@ -18,11 +19,13 @@ pub struct Machine {
     pub(crate) stage: Stage,
     pub(crate) sources: Sources,
     pub(crate) sinks: Sinks,
+    pub(crate) relays: Relays,
 }
 
 impl Machine {
     ghost use Rattle.scenario_history.specs.Steps.{is_over};
     ghost use Rattle.scenario_history.specs.Lines.{steps_of};
+    ghost use Rattle.source_machine.specs.Airs.{airs_of};
     ghost use Rattle.replay_steps.specs.LineMeets.{LinesStand, LineMeets};
     ghost use Rattle.replay_steps.specs.Untaken.{UntakenSame};
 
@@ -35,12 +38,13 @@ impl Machine {
             stage: Stage::Unbegun,
             sources: Sources::new(alloc)?,
             sinks: Sinks::new(alloc)?,
+            relays: Relays::new(),
         })
     }
 
     /// Whether the scenario ended.
     pub fn is_over(&self) -> bool
-        ensures { (starts : List Account) (lines : List TextLine) (accounts : List Account) → LinesStand starts lines self.now accounts → result ≡ is_over (steps_of lines) }
+        ensures { (starts : List Account) (lines : List TextLine) (accounts : List Account) → LinesStand starts lines self.now accounts → result ≡ is_over (steps_of airs_of lines) }
     {
         matches!(self.stage, Stage::Over(_))
     }
@@ -57,7 +61,7 @@ impl Machine {
         ensures meets { (starts : List Account) (lines : List TextLine) → LinesStand starts lines self.old (map account outlets.old.items)
             → LineMeets starts lines (plain line.now) self.new text.old text.new (map account outlets.old.items) (map account outlets.new.items) result }
         ensures untaken { (starts : List Account) (lines : List TextLine) (accounts : List Account) → LinesStand starts lines self.old accounts
-            → UntakenSame (steps_of lines) outlets.old.items outlets.new.items }
+            → UntakenSame (steps_of airs_of lines) outlets.old.items outlets.new.items }
     {
         let version = self.stage.version().number();
         match read_line_in(self.alloc, version, line) {

@@ -1,11 +1,12 @@
 //! The steps of the sources alone.
-ghost use Rattle.std.specs.Prelude.{◌≡◌, ◌≤◌, ◌<◌, ◌^◌, ℕ, List, None};
+ghost use Rattle.std.specs.Prelude.{◌≡◌, ◌≤◌, ◌<◌, ◌^◌, ◌==◌, ◌&&◌, ℕ, List, None};
 ghost use Rattle.ltv_codec.specs.Reading.{bad_of};
 ghost use Rattle.big_info.specs.Widths.{FitsWidths};
 ghost use Rattle.scenario_text.specs.declared.step.Step.{Step};
 ghost use Rattle.scenario_text.specs.declared.step.Step.TheVariants.{Ident as IdentStep, Subgroup as SubgroupStep, Meta as MetaStep, Bis as BisStep, Cipher as CipherStep};
 ghost use Rattle.scenario_text.specs.declared.step.Step.TheVariants.{Start as StartStep, Unit as UnitStep, Source as SourceStep};
-ghost use Rattle.scenario_history.specs.Steps.{running, stage_of};
+ghost use Rattle.scenario_history.specs.Relays.{had_relay};
+ghost use Rattle.scenario_history.specs.Steps.{chosen_of, running, stage_of};
 ghost use Rattle.scenario_sources.specs.Described.{IsPlain, group_step};
 ghost use Rattle.replay_steps.specs.Machines.{Stands};
 ghost use Rattle.replay_steps.specs.Meets.{Quiet};
@@ -90,12 +91,34 @@ impl Machine {
         self.sources.start(version.limits(), first)
     }
 
-    /// `unit`: gives the chosen source a unit of a stream.
+    /// `unit`: gives the chosen source a unit of a stream. A stream of source 1 that has had a relay takes none.
     pub(crate) fn unit(&mut self, bis: Bis, time: Option<u64>, octets: &[u8]) -> Result<(), Stop>
         ensures { (boxes version : ℕ) (steps : List Step) → Stands steps self.old → stage_of steps ≡ running version
             → Quiet boxes steps (UnitStep bis time octets.now) self.new result }
     {
-        self.sources.give(bis, time, octets)
+        let chosen = self.sources.chosen();
+        if self.is_relayed(bis) {
+            return Err(Stop::Refused(self.sources.relayed(bis, time, octets)));
+        }
+        match self.sources.give(bis, time, octets) {
+            Ok(()) => {}
+            Err(stop) => return Err(stop),
+        }
+        if chosen != 1 {
+            return Ok(());
+        }
+        self.relays.give(bis);
+        Ok(())
+    }
+
+    /// Whether source 1 is chosen and this stream of it has had a relay.
+    fn is_relayed(&self, bis: Bis) -> bool
+        ensures { (steps : List Step) → Stands steps self.now → result ≡ ((chosen_of steps == 1) && had_relay bis steps) }
+    {
+        if self.sources.chosen() != 1 {
+            return false;
+        }
+        self.relays.had_relay(bis)
     }
 
     /// `source`: chooses the source that later lines mean.

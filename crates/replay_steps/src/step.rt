@@ -174,7 +174,7 @@ impl Machine {
             | Step::ARead { sink, .. }
             | Step::ADrain { sink, .. }
             | Step::AShow { sink, .. } => self.sink_line(sink, step, text),
-            Step::Relay { .. } => Err(Stop::Refused(Refusal::NotBuilt)),
+            Step::Relay { sink, bis, to } => self.relay(sink, bis, to),
         }
     }
 

@@ -63,12 +63,12 @@ out_more rules history (line ∷ lines) later = by_refusal (rules.refusal histor
 
 -- the steps of the lines that are accepted of these after a history
 abbrev steps_after : Airs → List Account → List TextLine → List TextLine → List Step
-steps_after airs starts history lines = steps_of (accepted_of (rules_of airs starts) history lines)
+steps_after airs starts history lines = steps_of airs (accepted_of (rules_of airs starts) history lines)
 
 -- the same where a line comes first that is refused so
 abbrev steps_unless : Airs → List Account → List TextLine → TextLine → Option Refusal → List TextLine → List Step
 steps_unless airs starts history line why lines =
-    steps_of (accepted_unless history why (accepted_of (rules_of airs starts) (line ∷ history) lines))
+    steps_of airs (accepted_unless history why (accepted_of (rules_of airs starts) (line ∷ history) lines))
 
 module _ (airs : Airs) (starts : List Account) where
   units_more : (history lines later : List TextLine)
@@ -85,7 +85,7 @@ module _ (airs : Airs) (starts : List Account) where
           → (rest : List SinkUnit)
           × (handed_up airs (steps_unless airs starts history line why (lines ++ later))
           ≡ handed_up airs (steps_unless airs starts history line why lines) ++ rest)
-      by_refusal (Some reason) more = ([], sym (append-nil (handed_up airs (steps_of history))))
+      by_refusal (Some reason) more = ([], sym (append-nil (handed_up airs (steps_of airs history))))
       by_refusal None more = more
 
   -- ---- a text of which this much was read

@@ -27,6 +27,8 @@ laws_of old new ending p = record {
   links_law = p.links_law;
   migration_law = p.migration_law;
   isolation_law = p.isolation_law;
+  relay_law = p.relay_law;
+  relayed_units_law = p.relayed_units_law;
 }
   where
     one_over : (airs others : Airs) → MeetAirs airs → MeetAirs others → (standing : Standing)

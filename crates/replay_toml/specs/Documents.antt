@@ -7,12 +7,11 @@ use Rattle.bcast_io.specs.TextLines.{TextLine}
 use Rattle.bcast_io.specs.Writing.{AppendsFront, AppendsShort}
 use Rattle.document_reading.specs.Reading.{ReadWhole, ReadPast, ReadFront}
 use Rattle.line_runs.specs.Runs.{End, Accepted}
-use Rattle.replay_lines.specs.Replayed.{BoxesCut}
+use Rattle.replay_lines.specs.Replayed.{BoxesCut, LineFails}
 use Rattle.scenario_history.specs.Boxes.{Took}
-use Rattle.scenario_history.specs.Lines.{rules_of, handed_on}
+use Rattle.scenario_history.specs.Lines.{rules_of}
 use Rattle.scenario_history.specs.Source.{Airs}
 use Rattle.scenario_history.specs.Transcript.{out_of, units_of}
-use Rattle.scenario_sinks.specs.Handing.{BoxFails}
 use Rattle.transcript_text.specs.declared.refusal.Refusal.{Refusal}
 use Rattle.unit_outlets.specs.Account.{Account}
 use Rattle.replay_toml.specs.declared.cause.Cause.{Cause}
@@ -40,7 +39,7 @@ pub record TomlWritten (airs : Airs) (starts ends : List Account) (left left' ke
   pub boxes : Took starts ends (units_over airs starts standing)
 
 -- These lines before one were run, and none is refused; the box of a unit that this line hands up failed and counted it. What
--- those lines bring was written, and then a front of what this one brings before the unit, and not all of that.
+-- those lines bring was written, and then a front of what this one prints before the line of the unit, and not all of that.
 pub record FaultCutIn (airs : Airs) (starts ends : List Account) (kept kept' : Option (List ℕ)) (lines : List TextLine) : Type 0 where
   pub earlier : List TextLine
   pub line : TextLine
@@ -50,7 +49,7 @@ pub record FaultCutIn (airs : Airs) (starts ends : List Account) (kept kept' : O
   pub accounts : List Account
   pub before : Took starts accounts (units_of airs starts (reverse earlier))
   pub told : List ℕ
-  pub fails : BoxFails (handed_on airs earlier line) [] told accounts ends
+  pub fails : LineFails airs starts earlier line [] told accounts ends
   pub between : Option (List ℕ)
   pub written : Appends kept between (out_of airs starts (reverse earlier))
   pub cut : AppendsShort between kept' told
@@ -75,8 +74,8 @@ pub record TomlUnread (most : ℕ) (starts ends : List Account) (left left' kept
   pub written : Keeps kept kept'
   pub boxes : ends ≡ starts
 
--- OutletFault: the lines before one were run, and none is refused; the box of a unit that this line hands up failed, and what was
--- brought before that unit was written
+-- OutletFault: the lines before one were run, and none is refused; the box of a unit that this line hands up failed. What those lines
+-- bring was written, and then what this one prints before the line of the unit.
 pub record TomlOutlet (airs : Airs) (starts ends : List Account) (left left' kept kept' : Option (List ℕ)) : Type 0 where
   pub standing : Standing
   pub document : DocumentIs left left' standing
@@ -88,5 +87,5 @@ pub record TomlOutlet (airs : Airs) (starts ends : List Account) (left left' kep
   pub accounts : List Account
   pub before : Took starts accounts (units_of airs starts (reverse earlier))
   pub told : List ℕ
-  pub fails : BoxFails (handed_on airs earlier line) (out_of airs starts (reverse earlier)) told accounts ends
+  pub fails : LineFails airs starts earlier line (out_of airs starts (reverse earlier)) told accounts ends
   pub written : Appends kept kept' told

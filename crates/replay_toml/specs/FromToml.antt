@@ -5,6 +5,7 @@ use Rattle.document_reading.specs.Reading.{ReadFront, document_limit}
 use Rattle.isolation_laws.specs.Isolation.{IsolationLaw}
 use Rattle.line_runs.specs.Runs.{End, through, refused}
 use Rattle.migration_laws.specs.Laws.{MigrationLaw}
+use Rattle.relay_laws.specs.Relayed.{RelayLinesLaw, RelayedUnitsLaw}
 use Rattle.replay_generated.specs.Generated.{RoomFor}
 use Rattle.replay_lines.specs.Ended.{IsCut, IsDoneOrMemory, IsNoFault, IsWhole, NoneFailed}
 use Rattle.replay_lines.specs.World.{World}
@@ -77,6 +78,8 @@ pub record DocumentLaws (boxes : List Account) : Type 0 where
   pub links_law : LinksLaw
   pub migration_law : MigrationLaw boxes
   pub isolation_law : IsolationLaw boxes
+  pub relay_law : RelayLinesLaw boxes
+  pub relayed_units_law : RelayedUnitsLaw boxes
 
 pub record FromToml (old new : World) (result : TomlEnding) : Type 0 where
   -- Done: the input was read to its end and is the document, no line that it stands for is refused, and its transcript was written.

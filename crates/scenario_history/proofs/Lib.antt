@@ -1,4 +1,5 @@
 mod BoxLaws
 pub mod Citable
+mod Permitted
 mod Stages
 mod Sums

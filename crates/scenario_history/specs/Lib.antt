@@ -1,9 +1,11 @@
 pub mod Airs
 pub mod Bases
 pub mod Boxes
+pub mod Gifts
 pub mod Lines
 pub mod Output
 pub mod Refusals
+pub mod Relays
 pub mod Sinks
 pub mod Source
 pub mod Steps

@@ -13,7 +13,8 @@ use Rattle.line_runs.specs.Runs.{Rules}
 use Rattle.scenario_history.specs.Steps.{version_of}
 use Rattle.scenario_history.specs.Source.{Airs}
 use Rattle.scenario_history.specs.Boxes.{SinkUnit, handed_by}
-use Rattle.scenario_history.specs.Refusals.{refusal_of}
+use Rattle.scenario_history.specs.Gifts.{happened}
+use Rattle.scenario_history.specs.Refusals.{line_refusal}
 use Rattle.scenario_history.specs.Output.{output_of}
 
 -- what a line is: a step, an empty line or a comment, or refused by itself
@@ -38,17 +39,21 @@ with_said (a_step step) steps = step ∷ steps
 with_said nothing steps = steps
 with_said (unsaid reason) steps = steps
 
--- the steps of the lines, each read in the version of those before it
-abbrev pub steps_of : List TextLine → List Step
-steps_of [] = []
-steps_of (line ∷ earlier) = with_said (said_in (version_of (steps_of earlier)) line) (steps_of earlier)
+-- what the lines say: their steps, each read in the version of those before it
+abbrev pub said_of : List TextLine → List Step
+said_of [] = []
+said_of (line ∷ earlier) = with_said (said_in (version_of (said_of earlier)) line) (said_of earlier)
+
+-- what happens by the lines: their steps, and the gifts of relays among them
+abbrev pub steps_of : Airs → List TextLine → List Step
+steps_of airs lines = happened airs (said_of lines)
 
 -- what the line after these says
 abbrev pub said_after : List TextLine → TextLine → Said
-said_after lines line = said_in (version_of (steps_of lines)) line
+said_after lines line = said_in (version_of (said_of lines)) line
 
 abbrev pub refusal_said : Airs → ℕ → List Step → Said → Option Refusal
-refusal_said airs boxes steps (a_step step) = refusal_of airs boxes steps step
+refusal_said airs boxes steps (a_step step) = line_refusal airs boxes steps step
 refusal_said airs boxes steps nothing = None
 refusal_said airs boxes steps (unsaid reason) = Some reason
 
@@ -60,8 +65,8 @@ output_said airs starts steps (unsaid reason) = []
 -- the rules of a scenario with these boxes
 abbrev pub rules_of : Airs → List Account → Rules TextLine Refusal
 rules_of airs starts = record {
-  refusal = λ lines line. refusal_said airs (length starts) (steps_of lines) (said_after lines line);
-  output = λ lines line. output_said airs starts (steps_of lines) (said_after lines line);
+  refusal = λ lines line. refusal_said airs (length starts) (steps_of airs lines) (said_after lines line);
+  output = λ lines line. output_said airs starts (steps_of airs lines) (said_after lines line);
   refused_line = refusal_line;
 }
 
@@ -72,4 +77,4 @@ handed_said airs steps (unsaid reason) = []
 
 -- what the line after these hands up
 abbrev pub handed_on : Airs → List TextLine → TextLine → List SinkUnit
-handed_on airs lines line = handed_said airs (steps_of lines) (said_after lines line)
+handed_on airs lines line = handed_said airs (steps_of airs lines) (said_after lines line)

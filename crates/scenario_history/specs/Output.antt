@@ -1,13 +1,15 @@
 -- What each step prints. The lines are the scenario language's own; the units and times in them are after Core 5.2,
--- volume 6 part G, sections 2.1 and 3.2.
-use Rattle.std.specs.Prelude.{ℕ, ◌+◌, List, [], ◌++◌, map, length, Option, None, Some, if◌then◌else◌}
-use Rattle.std.specs.List.{concat, flat_map, sum}
+-- volume 6 part G, sections 2.1 and 3.2. As an event of source 0 is closed, each sink has the lines of its units and then a line
+-- for each unit that its relay offers and that source 1 doesn't take.
+use Rattle.std.specs.Prelude.{ℕ, ◌+◌, ◌==◌, List, [], ◌++◌, map, length, Option, None, Some, if◌then◌else◌}
+use Rattle.std.specs.List.{concat, filter, flat_map, sum}
 use Rattle.unit_outlets.specs.Account.{Account}
 use Rattle.isoal_base.specs.declared.hearing.Hearing.{Hearing}
 use Rattle.isoal_base.specs.declared.hearing.Hearing.TheVariants.{NotOnGroup}
 use Rattle.source_machine.specs.declared.sent.Stale.{Stale}
 use Rattle.group_sink.specs.Hearings.{hearing_of}
-use Rattle.transcript_text.specs.Lines.{handed_line, pdu_line, heard_line, stale_line, control_line, sum_line}
+use Rattle.transcript_text.specs.declared.refusal.Refusal.{Refusal}
+use Rattle.transcript_text.specs.Lines.{dropped_line, handed_line, pdu_line, heard_line, stale_line, control_line, sum_line}
 use Rattle.scenario_text.specs.declared.step.Step.{Step}
 use Rattle.scenario_text.specs.declared.step.Step.TheVariants.{Event, Inject, Sniff, Announce, Train, Serve, Tell, Read, Drain, Show, Lose, Control, Forge}
 use Rattle.scenario_text.specs.declared.step.Step.TheVariants.{AServe, ATell, ARead, ADrain, AShow, Drop, Stop, Terminate, End}
@@ -16,6 +18,7 @@ use Rattle.scenario_history.specs.Steps.{chosen_of, chosen_steps}
 use Rattle.scenario_history.specs.Source.{Airs, event_back, end_pdu, pdu_in, stale_in}
 use Rattle.scenario_history.specs.Sinks.{is_of, sink_calls, source_of}
 use Rattle.scenario_history.specs.Worlds.{the_world}
+use Rattle.scenario_history.specs.Gifts.{Answered, Offer, answered_by, handed_of}
 use Rattle.scenario_history.specs.Boxes.{SinkUnit, sink_numbers, account_at, box_of, closing, closing_both, valid_for, handed_up}
 
 abbrev pub unit_line : SinkUnit → List ℕ
@@ -23,6 +26,26 @@ unit_line unit = handed_line unit.sink unit.unit
 
 abbrev pub unit_lines : List SinkUnit → List ℕ
 unit_lines units = flat_map unit_line units
+
+-- the line of a unit that was offered, where source 1 didn't take it
+abbrev pub answer_line : Offer → Option Refusal → List ℕ
+answer_line offer None = []
+answer_line offer (Some reason) = dropped_line offer.sink offer.route.bis reason
+
+-- the lines of the units that a sink offered and that source 1 didn't take
+abbrev pub dropped_lines : ℕ → List Answered → List ℕ
+dropped_lines n answers = flat_map (λ answer. answer_line answer.offer answer.reason) (filter (λ answer. answer.offer.sink == n) answers)
+
+-- what sinks hand up of source 0, and what becomes of the units that relays offer of it: by rising sink, its units and then those that
+-- source 1 didn't take
+abbrev pub first_lines : List SinkUnit → List Answered → List ℕ
+first_lines units answers = flat_map (λ n. flat_map (handed_line n) (handed_of 0 n units) ++ dropped_lines n answers) sink_numbers
+
+-- what is printed as the step after these closes the open event of the chosen source
+abbrev pub close_lines : Airs → List Step → Step → List ℕ
+close_lines airs steps step =
+    if chosen_of steps == 0 then first_lines (closing airs 0 steps) (answered_by airs steps step)
+    else unit_lines (closing airs (chosen_of steps) steps)
 
 abbrev pub stale_lines : List Stale → List ℕ
 stale_lines units = flat_map (λ unit. stale_line unit.bis unit.time) units
@@ -51,14 +74,15 @@ injected_hearing airs steps sink back bis subevent octets =
 abbrev pub sink_lines : List Step → Step → List ℕ
 sink_lines steps step = concat (printed the_world steps step)
 
--- what a step after these prints, with these accounts at the start
+-- what the step of a line after these prints, with these accounts at the start
 abbrev pub output_of : Airs → List Account → List Step → Step → List ℕ
-output_of airs starts steps Event = unit_lines (closing airs (chosen_of steps) steps) ++ stale_lines (stale_in airs (chosen_steps steps))
-output_of airs starts steps Stop = unit_lines (closing airs (chosen_of steps) steps)
+output_of airs starts steps Event = close_lines airs steps Event ++ stale_lines (stale_in airs (chosen_steps steps))
+output_of airs starts steps Stop = close_lines airs steps Stop
 output_of airs starts steps (Terminate reason) =
-    unit_lines (closing airs (chosen_of steps) steps) ++ control_line (end_pdu (chosen_steps steps) reason)
+    close_lines airs steps (Terminate reason) ++ control_line (end_pdu (chosen_steps steps) reason)
 output_of airs starts steps End =
-    unit_lines (closing_both airs steps) ++ sums_of starts (handed_up airs steps ++ closing_both airs steps) steps
+    first_lines (closing airs 0 steps) (answered_by airs steps End)
+    ++ (unit_lines (closing airs 1 steps) ++ sums_of starts (handed_up airs steps ++ closing_both airs steps) steps)
 output_of airs starts steps (Drop sink) = sum_if starts (handed_up airs steps) sink (box_of sink steps)
 output_of airs starts steps (Inject sink back bis subevent octets) =
     heard_line sink (injected_hearing airs steps sink back bis subevent octets)

@@ -17,8 +17,9 @@ use Rattle.source_machine.specs.Faults.{give_fault, event_fault, announce_fault,
 use Rattle.source_machine.specs.Setups.{are_twins}
 use Rattle.group_sink.specs.Streams.{streams_of}
 use Rattle.transcript_text.specs.declared.refusal.Refusal.{Refusal}
-use Rattle.transcript_text.specs.declared.refusal.Refusal.TheVariants.{NotBuilt, AfterEnd, Order, BadGroup, BaseTooLong, IdentTwice, NoSuchSink, SinkTwice}
-use Rattle.transcript_text.specs.declared.refusal.Refusal.TheVariants.{NoOutlet, NoSuchBis, UnitTooLong, TimeOrder, Backlog, NoSuchSubevent, NotOnAir, CounterEnds}
+use Rattle.transcript_text.specs.declared.refusal.Refusal.TheVariants.{AfterEnd, Order, BadGroup, BaseTooLong, IdentTwice, NoSuchSink, SinkTwice}
+use Rattle.transcript_text.specs.declared.refusal.Refusal.TheVariants.{NoOutlet, NoSuchBis, UnitTooLong, TimeOrder, RelayTaken, Relayed, Backlog}
+use Rattle.transcript_text.specs.declared.refusal.Refusal.TheVariants.{NoSuchSubevent, NotOnAir, CounterEnds}
 use Rattle.scenario_text.specs.declared.step.Step.{Step}
 use Rattle.scenario_text.specs.declared.step.Step.TheVariants.{Scenario, Group, Ident, Subgroup, Meta, Bis, Cipher, Start, Sink, Tuned, Unit, Event, Hear, Air}
 use Rattle.scenario_text.specs.declared.step.Step.TheVariants.{Inject, Sniff, Announce, Drop, Relay, Stop, Terminate}
@@ -28,6 +29,7 @@ use Rattle.scenario_history.specs.Source.{is_heard, is_sending, is_started, no_g
 use Rattle.scenario_history.specs.Bases.{has_subgroup, has_bis, is_last_bare, is_base_too_long}
 use Rattle.sink_histories.specs.Refusals.{refusal_of as refusal_of_sink}
 use Rattle.scenario_history.specs.Boxes.{box_of}
+use Rattle.scenario_history.specs.Relays.{had_relay, relay_of}
 use Rattle.scenario_history.specs.Worlds.{the_world}
 
 abbrev pub refuse_if : Bool → Refusal → Option Refusal
@@ -70,11 +72,6 @@ is_out_of_phase own _ = false
 -- the step stands in the wrong phase of the scenario, or of the source that it means
 abbrev pub is_out_of_order : List Step → Step → Bool
 is_out_of_order steps step = is_misplaced (stage_of steps) step || is_out_of_phase (chosen_steps steps) step
-
--- the step is of the language and not built yet
-abbrev pub is_unbuilt : Step → Bool
-is_unbuilt (Relay sink bis to) = true
-is_unbuilt _ = false
 
 -- how many events ahead a group may reach in a version
 abbrev pub horizon_in : ℕ → ℕ
@@ -126,6 +123,38 @@ is_ident_twice steps =
     is_started (steps_of_source (other_of (chosen_of steps)) steps)
     && are_twins (identity_of (chosen_steps steps)) (identity_of (steps_of_source (other_of (chosen_of steps)) steps))
 
+-- ---- a `relay` line
+
+-- both sources were started, neither was stopped or terminated or is encrypted, and source 1 is framed
+abbrev pub may_relay : List Step → Bool
+may_relay steps =
+    takes_units (steps_of_source 0 steps)
+    && (takes_units (steps_of_source 1 steps) && ((setup_of (steps_of_source 1 steps)).info.framing == 1))
+
+-- source 0 has no stream `bis`, or source 1 no stream `to`
+abbrev pub is_relay_beyond : List Step → (bis to : ℕ) → Bool
+is_relay_beyond steps bis to =
+    nat_lt (setup_of (steps_of_source 0 steps)).info.num_bis bis || nat_lt (setup_of (steps_of_source 1 steps)).info.num_bis to
+
+-- the step of a source gives it a unit of this stream
+abbrev pub gives_on : ℕ → Step → Bool
+gives_on bis (Unit stream time octets) = stream == bis
+gives_on bis _ = false
+
+-- the sink has a relay, or the stream of source 1 has had a relay or a unit
+abbrev pub is_relay_taken : List Step → (sink to : ℕ) → Bool
+is_relay_taken steps sink to =
+    is_some (relay_of sink steps) || (had_relay to steps || list_any (gives_on to) (steps_of_source 1 steps))
+
+-- the first reason that holds of a `relay` line, whichever source is chosen
+abbrev pub relay_refusal : List Step → (sink bis to : ℕ) → Option Refusal
+relay_refusal steps sink bis to =
+    option_or (refuse_if (not (may_relay steps)) Order)
+    (option_or (no_sink sink steps)
+    (option_or (refuse_if (is_relay_beyond steps bis to) NoSuchBis) (refuse_if (is_relay_taken steps sink to) RelayTaken)))
+
+-- ---- the rows of all steps
+
 -- what is refused of a step in the right phase by what the sinks are, where there are so many boxes
 abbrev pub sink_refusal : ℕ → List Step → Step → Option Refusal
 sink_refusal boxes steps (Sink sink streams slots mtu) =
@@ -135,6 +164,7 @@ sink_refusal boxes steps (Tuned sink which) = no_sink sink steps
 sink_refusal boxes steps (Hear sink back bis subevent) = no_sink sink steps
 sink_refusal boxes steps (Air sink lose) = no_sink sink steps
 sink_refusal boxes steps (Inject sink back bis subevent octets) = no_sink sink steps
+sink_refusal boxes steps (Relay sink bis to) = None
 sink_refusal boxes steps step = refusal_of_sink the_world steps step
 
 -- what is refused of a step in the right phase by what its source is, in a scenario of this version: the steps here are
@@ -155,9 +185,10 @@ source_refusal airs version own (Sniff back bis subevent) = no_place own back bi
 source_refusal airs version own (Announce sink) = train_ends (announce_fault (setup_of own) (source_calls own))
 source_refusal airs version own _ = None
 
--- what is refused of a step in the right phase by what both sources are
+-- what is refused of a step in the right phase by what both sources are, and of a `relay` line by all that it names
 abbrev pub twin_refusal : List Step → Step → Option Refusal
 twin_refusal steps (Start first) = refuse_if (is_ident_twice steps) IdentTwice
+twin_refusal steps (Relay sink bis to) = relay_refusal steps sink bis to
 twin_refusal steps _ = None
 
 -- what is refused of a step that stands in the right phase, where there are so many boxes
@@ -169,9 +200,26 @@ own_refusal airs boxes steps step =
 -- the first reason that holds of a step that doesn't follow `end`
 abbrev pub phase_refusal : Airs → ℕ → List Step → Step → Option Refusal
 phase_refusal airs boxes steps step =
-    option_or (refuse_if (is_out_of_order steps step) Order)
-    (option_or (refuse_if (is_unbuilt step) NotBuilt) (own_refusal airs boxes steps step))
+    option_or (refuse_if (is_out_of_order steps step) Order) (own_refusal airs boxes steps step)
 
--- the first reason that holds
+-- the first reason that holds of a step, be it that of a line or of a gift to source 1
 abbrev pub refusal_of : Airs → ℕ → List Step → Step → Option Refusal
 refusal_of airs boxes steps step = option_or (refuse_if (is_over steps) AfterEnd) (phase_refusal airs boxes steps step)
+
+-- ---- the steps of lines
+
+-- a step gives source 1 a unit of a stream that has had a relay
+abbrev pub is_relayed : List Step → Step → Bool
+is_relayed steps (Unit bis time octets) = (chosen_of steps == 1) && had_relay bis steps
+is_relayed steps _ = false
+
+-- that a stream has had a relay is tested right before Backlog
+abbrev pub relayed_or : Bool → Option Refusal → Option Refusal
+relayed_or true None = Some Relayed
+relayed_or true (Some Backlog) = Some Relayed
+relayed_or true (Some reason) = Some reason
+relayed_or false refusal = refusal
+
+-- the first reason that holds of the step of a line: gifts are no lines, and none of them is Relayed
+abbrev pub line_refusal : Airs → ℕ → List Step → Step → Option Refusal
+line_refusal airs boxes steps step = relayed_or (is_relayed steps step) (refusal_of airs boxes steps step)

@@ -10,7 +10,7 @@ use Rattle.line_runs.specs.Runs.{End, through, refused, out, end_of, accepted_of
 use Rattle.scenario_history.specs.Steps.{is_over}
 use Rattle.scenario_history.specs.Source.{Airs}
 use Rattle.scenario_history.specs.Boxes.{SinkUnit, handed_up}
-use Rattle.scenario_history.specs.Lines.{rules_of, steps_of}
+use Rattle.scenario_history.specs.Lines.{rules_of, said_of, steps_of}
 
 abbrev pub out_of : Airs → List Account → List TextLine → List ℕ
 out_of airs starts lines = out (rules_of airs starts) [] lines
@@ -29,7 +29,7 @@ last_end_after through over number = if over then through else refused number No
 
 -- the lines have `end`
 abbrev pub has_end : List TextLine → Bool
-has_end lines = is_over (steps_of (reverse lines))
+has_end lines = is_over (said_of (reverse lines))
 
 abbrev pub transcript_of : Airs → List Account → List TextLine → List ℕ
 transcript_of airs starts lines =
@@ -40,4 +40,4 @@ transcript_end airs starts lines = last_end_after (end_after airs starts lines) 
 
 -- what the lines hand up before the first refusal, in order
 abbrev pub units_of : Airs → List Account → List TextLine → List SinkUnit
-units_of airs starts lines = handed_up airs (steps_of (accepted_of (rules_of airs starts) [] lines))
+units_of airs starts lines = handed_up airs (steps_of airs (accepted_of (rules_of airs starts) [] lines))

@@ -25,6 +25,8 @@ mod UnitsLaw
 mod Shown
 mod Numbers
 mod InOrder
+mod TwoAirs
+mod OneHappening
 mod OneTranscript
 mod Entries
 mod StaysInTurn

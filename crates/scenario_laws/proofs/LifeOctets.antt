@@ -15,7 +15,7 @@ use Rattle.scenario_text.specs.declared.step.Step.{Step}
 use Rattle.scenario_text.specs.declared.step.Step.TheVariants as steps
 use Rattle.scenario_text.specs.Ranges.{IsInRange}
 use Rattle.sink_histories.specs.Lives.{Made, Source, World, horizon_of, life_of, lived, lived_at, lived_by, made_by, made_of, named_by, with_drain}
-use Rattle.scenario_history.specs.Lines.{Said, a_step, nothing, unsaid, said_after, steps_of, with_said}
+use Rattle.scenario_history.specs.Lines.{Said, a_step, nothing, unsaid, said_after, said_of, with_said}
 use Rattle.scenario_history.specs.Steps.{version_of}
 use Rattle.scenario_laws.proofs.Legals.{InRange, LinesInRange, in_range}
 
@@ -29,10 +29,10 @@ ranged_said earlier (a_step step) before ranged = (ranged, before)
 ranged_said earlier nothing before ranged = before
 ranged_said earlier (unsaid reason) before ranged = before
 
-pub ranged_lines : LinesInRange → (lines : List TextLine) → Ranged (steps_of lines)
+pub ranged_lines : LinesInRange → (lines : List TextLine) → Ranged (said_of lines)
 ranged_lines ranged [] = tt
 ranged_lines ranged (line ∷ earlier) =
-    ranged_said (steps_of earlier) (said_after earlier line) (ranged_lines ranged earlier) (in_range ranged (version_of (steps_of earlier)) line)
+    ranged_said (said_of earlier) (said_after earlier line) (ranged_lines ranged earlier) (in_range ranged (version_of (said_of earlier)) line)
 
 -- ---- its slots
 

@@ -1,5 +1,5 @@
 -- No notice is forged over a link other than 0, and every sink of any lines agrees with its assistants.
-use Rattle.std.proofs.Common.{ℕ, ◌≡◌, ◌≢◌, ◌<◌, ◌==◌, cond, Bool, true, false, List, [], ◌∷◌, Option, None, Some, refl, ◌∙◌, ap}
+use Rattle.std.proofs.Common.{ℕ, ◌≡◌, ◌≢◌, ◌<◌, ◌==◌, cond, Bool, true, false, List, [], ◌∷◌, Option, None, Some, refl, sym, ◌∙◌, ap, subst}
 use Rattle.std.specs.Prelude.{unwrap_or}
 use Rattle.std.specs.Option.{option_or}
 use Rattle.std.proofs.lemmas.Bool.{ne_eqb}
@@ -12,7 +12,9 @@ use Rattle.link_histories.specs.Drains.{NoneTells, told_and_read}
 use Rattle.link_histories.specs.Links.{forging_by, is_forged, read_waits, state, view}
 use Rattle.link_histories.specs.Octets.{AreOctets}
 use Rattle.sink_histories.specs.Lives.{Made, made_of}
-use Rattle.scenario_history.specs.Lines.{steps_of}
+use Rattle.scenario_history.specs.Lines.{said_of, steps_of}
+use Rattle.scenario_history.specs.Source.{Airs}
+use Rattle.gift_laws.proofs.Citable.{life_happened, made_happened}
 use Rattle.scenario_history.specs.Worlds.{life, the_world}
 use Rattle.scenario_laws.specs.Links.{AgreementLaw, Agrees}
 use Rattle.scenario_laws.proofs.Legals.{LinesInRange}
@@ -26,15 +28,24 @@ pub record OfLinks : Type 0 where
   pub drained : (setup : Setup) (mtu : Option ℕ) (link slot : ℕ) (calls : List Call) → setup.slots < 256 → slot < setup.slots → AreOctets calls
       → is_forged link calls ≡ false → view setup mtu link slot (told_and_read setup mtu link calls) ≡ state setup slot calls
 
-pub links_agree : LinesInRange → OfLinks → AgreementLaw
-links_agree in_range laws lines n link slot made is below plain =
+said_agree : LinesInRange → OfLinks → (lines : List TextLine) (n link slot : ℕ) (made : Made) → made_of n (said_of lines) ≡ Some made
+    → slot < made.setup.slots → is_forged link (life n (said_of lines)) ≡ false → Agrees made link slot (life n (said_of lines))
+said_agree in_range laws lines n link slot made is below plain =
     let ranged = ranged_lines in_range lines in
-    let few = few_slots n (steps_of lines) ranged made is in
-    let octets : AreOctets (life n (steps_of lines)) = life_octets the_world n (steps_of lines) ranged in
+    let few = few_slots n (said_of lines) ranged made is in
+    let octets : AreOctets (life n (said_of lines)) = life_octets the_world n (said_of lines) ranged in
     record {
-      at_rest = laws.agrees made.setup made.mtu link slot (life n (steps_of lines)) few below octets plain;
-      drained = laws.drained made.setup made.mtu link slot (life n (steps_of lines)) few below octets plain;
+      at_rest = laws.agrees made.setup made.mtu link slot (life n (said_of lines)) few below octets plain;
+      drained = laws.drained made.setup made.mtu link slot (life n (said_of lines)) few below octets plain;
     }
+
+-- gifts are no part of a life
+pub links_agree : LinesInRange → OfLinks → AgreementLaw
+links_agree in_range laws airs lines n link slot made is below plain =
+    let same : life n (steps_of airs lines) ≡ life n (said_of lines) = life_happened airs n (said_of lines) in
+    subst (Agrees made link slot) (sym same)
+    (said_agree in_range laws lines n link slot made (sym (made_happened airs n (said_of lines)) ∙ is) below
+    (ap (is_forged link) (sym same) ∙ plain))
 
 -- ---- links other than 0
 
@@ -50,7 +61,8 @@ not_forged link (links.forged slot octets ∷ earlier) other =
     ∙ not_forged link earlier other
 not_forged link (call ∷ earlier) other = not_forged link earlier other
 
-pub apart_agree : LinesInRange → OfLinks → (lines : List TextLine) (n link slot : ℕ) (made : Made) → made_of n (steps_of lines) ≡ Some made → slot < made.setup.slots
-    → link ≢ 0 → Agrees made link slot (life n (steps_of lines))
-apart_agree in_range laws lines n link slot made is below other =
-    links_agree in_range laws lines n link slot made is below (not_forged link (life n (steps_of lines)) other)
+pub apart_agree : LinesInRange → OfLinks → (airs : Airs) (lines : List TextLine) (n link slot : ℕ) (made : Made)
+    → made_of n (steps_of airs lines) ≡ Some made → slot < made.setup.slots
+    → link ≢ 0 → Agrees made link slot (life n (steps_of airs lines))
+apart_agree in_range laws airs lines n link slot made is below other =
+    links_agree in_range laws airs lines n link slot made is below (not_forged link (life n (steps_of airs lines)) other)

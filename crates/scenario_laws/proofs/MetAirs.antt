@@ -3,7 +3,7 @@ use Rattle.std.proofs.Common.{sym, subst}
 use Rattle.scenario_history.specs.Airs.{MeetAirs}
 use Rattle.source_machine.specs.Airs.{airs_of}
 use Rattle.source_machine.specs.Setups.{IsChecked}
-use Rattle.scenario_laws.proofs.OneTranscript.{SomeAirs}
+use Rattle.scenario_laws.proofs.TwoAirs.{SomeAirs}
 use Rattle.scenario_laws.proofs.Sources.{checked}
 
 pub airs_meet : SomeAirs → MeetAirs airs_of

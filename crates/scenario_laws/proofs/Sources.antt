@@ -23,7 +23,7 @@ use Rattle.scenario_history.specs.Source.{Airs, Phase, absent, checked_info, cip
 use Rattle.scenario_history.specs.Source.{is_described_at, is_heard, is_sending, is_sending_at, is_started, no_group, takes_units, phase_of, setup_of, source_calls, start_of, was_started_at}
 use Rattle.scenario_history.specs.Airs.{AreAccepted}
 use Rattle.scenario_history.specs.Bases.{is_base_too_long, is_last_bare}
-use Rattle.scenario_history.specs.Refusals.{counter_ends, give_refusal, group_refusal, horizon_in, is_misplaced, is_out_of_phase, is_unbuilt, refuse_if, source_refusal}
+use Rattle.scenario_history.specs.Refusals.{counter_ends, give_refusal, group_refusal, horizon_in, is_misplaced, is_out_of_phase, refuse_if, source_refusal}
 use Rattle.scenario_laws.proofs.Legals.{Legal, Permitted, maps_none, neither, permitted}
 use Rattle.scenario_laws.proofs.StartGroups.{may_be_sent}
 
@@ -86,7 +86,6 @@ pub record Allowed (airs : Airs) (own : List Step) (step : Step) : Type 0 where
   pub version : ℕ
   pub in_place : is_misplaced (stage_of own) step ≡ false
   pub in_phase : is_out_of_phase own step ≡ false
-  pub built : is_unbuilt step ≡ false
   pub by_source : source_refusal airs version own step ≡ None
   pub ranged : IsInRange step
 
@@ -96,8 +95,8 @@ Lawful airs (step ∷ own) = Lawful airs own × Allowed airs own step
 
 common_allowed : (airs : Airs) (own : List Step) (step : Step) → is_common step ≡ true → is_misplaced (stage_of own) step ≡ false → IsInRange step → Allowed airs own step
 common_allowed airs own (steps.Scenario number) common placed ranged =
-    record { version = 1; in_place = placed; in_phase = refl; built = refl; by_source = refl; ranged = ranged }
-common_allowed airs own steps.End common placed ranged = record { version = 1; in_place = placed; in_phase = refl; built = refl; by_source = refl; ranged = ranged }
+    record { version = 1; in_place = placed; in_phase = refl; by_source = refl; ranged = ranged }
+common_allowed airs own steps.End common placed ranged = record { version = 1; in_place = placed; in_phase = refl; by_source = refl; ranged = ranged }
 common_allowed airs own _ common placed ranged = absurd (false≢true common)
 
 of_source_parts : (a b c : Bool) → (a || (b && c)) ≡ true → (a ≡ true) ⊎ (c ≡ true)
@@ -113,7 +112,7 @@ its_step airs boxes s earlier step permits ranged is =
       | inl common ↦ common_allowed airs (steps_of_source s earlier) step common (placed s) ranged
       | inr chosen ↦
           subst (λ t. Allowed airs (steps_of_source t earlier) step) (eqb-true (chosen_of earlier) s chosen)
-          (record { version = version_of earlier; in_place = placed (chosen_of earlier); in_phase = permits.in_phase; built = permits.built; by_source = permits.by_source; ranged = ranged })
+          (record { version = version_of earlier; in_place = placed (chosen_of earlier); in_phase = permits.in_phase; by_source = permits.by_source; ranged = ranged })
     ]
 
 lawful_if : (airs : Airs) (own : List Step) (step : Step) (is_its : Bool) → Lawful airs own → (is_its ≡ true → Allowed airs own step) → Lawful airs (cond is_its (step ∷ own) own)

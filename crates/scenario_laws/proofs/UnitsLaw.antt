@@ -307,26 +307,26 @@ numbers airs boxes s n (step ∷ earlier) tuning legal is = elim (on_before airs
 
 pub units_law_holds : Below → (starts : List Account) → UnitsLaw starts
 units_law_holds below starts airs meets lines accepted s n bis tuning there of_source taken clean =
-    let lawful_steps : Legal airs (length starts) (steps_of lines) = legal below.in_range airs starts lines accepted in
-    let is : IsOn airs s n (steps_of lines) tuning = record { place_is = there; source_is = of_source; ungiven = none_given (is_tuned n) n (steps_of lines) clean } in
-    let are : Numbers s n = numbers airs (length starts) s n (steps_of lines) tuning lawful_steps is in
-    let ticks : of_stream bis (of_sink s n (handed_since (is_tuned n) airs (steps_of lines))) ≡ of_stream bis (ticked_since (sink_calls airs n (steps_of lines))) =
-    ap (of_stream bis) (since airs (length starts) s n (steps_of lines) tuning lawful_steps are.source_within are.sink_within is) in
-    let on : OnSource (steps_of_source s (steps_of lines)) tuning = on_source below.announcing airs (length starts) s n (steps_of lines) tuning lawful_steps is in
-    let tuned_framing : tuning.info.framing ≡ (setup_of (steps_of_source s (steps_of lines))).info.framing = ap (λ (i : BigInfo). i.framing) on.tuned.info in
+    let lawful_steps : Legal airs (length starts) (steps_of airs lines) = legal below.in_range airs starts lines accepted in
+    let is : IsOn airs s n (steps_of airs lines) tuning = record { place_is = there; source_is = of_source; ungiven = none_given (is_tuned n) n (steps_of airs lines) clean } in
+    let are : Numbers s n = numbers airs (length starts) s n (steps_of airs lines) tuning lawful_steps is in
+    let ticks : of_stream bis (of_sink s n (handed_since (is_tuned n) airs (steps_of airs lines))) ≡ of_stream bis (ticked_since (sink_calls airs n (steps_of airs lines))) =
+    ap (of_stream bis) (since airs (length starts) s n (steps_of airs lines) tuning lawful_steps are.source_within are.sink_within is) in
+    let on : OnSource (steps_of_source s (steps_of airs lines)) tuning = on_source below.announcing airs (length starts) s n (steps_of airs lines) tuning lawful_steps is in
+    let tuned_framing : tuning.info.framing ≡ (setup_of (steps_of_source s (steps_of airs lines))).info.framing = ap (λ (i : BigInfo). i.framing) on.tuned.info in
     record {
       of_source = record {
         info = on.tuned.info;
         delay = on.tuned.delay;
-        streams = λ stream has. taken_within (setup_of (steps_of_source s (steps_of lines))).info.num_bis tuning.which stream on.streams has;
-        first_is = first_next below.announcing airs (length starts) s n (steps_of lines) tuning lawful_steps is;
+        streams = λ stream has. taken_within (setup_of (steps_of_source s (steps_of airs lines))).info.num_bis tuning.which stream on.streams has;
+        first_is = first_next below.announcing airs (length starts) s n (steps_of airs lines) tuning lawful_steps is;
         anchor = on.tuned.anchor;
-        open_is = stay_within below.announcing airs (length starts) s n (steps_of lines) tuning lawful_steps are.source_within is;
+        open_is = stay_within below.announcing airs (length starts) s n (steps_of airs lines) tuning lawful_steps are.source_within is;
       };
       unframed = λ plain.
-          subst (λ units. Struck (stay_on tuning bis) (slots_of (setup_of (steps_of_source s (steps_of lines))) (source_calls (steps_of_source s (steps_of lines))) bis)
-          (calls_on airs (steps_of lines) n tuning bis) units)
-          (sym (ticks ∙ below.hands tuning (sink_calls airs n (steps_of lines)) bis (tuned_framing ∙ plain) there taken))
-          (stay_struck below airs meets (length starts) s n bis (steps_of lines) tuning lawful_steps is (member_is tuning.which bis taken).1 plain clean);
-      framed = λ is_framed. framed_law below airs meets (length starts) s n bis (steps_of lines) tuning lawful_steps are.source_within is is_framed taken clean ticks;
+          subst (λ units. Struck (stay_on tuning bis) (slots_of (setup_of (steps_of_source s (steps_of airs lines))) (source_calls (steps_of_source s (steps_of airs lines))) bis)
+          (calls_on airs (steps_of airs lines) n tuning bis) units)
+          (sym (ticks ∙ below.hands tuning (sink_calls airs n (steps_of airs lines)) bis (tuned_framing ∙ plain) there taken))
+          (stay_struck below airs meets (length starts) s n bis (steps_of airs lines) tuning lawful_steps is (member_is tuning.which bis taken).1 plain clean);
+      framed = λ is_framed. framed_law below airs meets (length starts) s n bis (steps_of airs lines) tuning lawful_steps are.source_within is is_framed taken clean ticks;
     }

@@ -32,6 +32,7 @@ use Rattle.scenario_history.specs.Airs.{MeetAirs}
 use Rattle.scenario_history.specs.Sinks.{is_of, sink_calls, source_of}
 use Rattle.scenario_history.specs.Boxes.{SinkUnit, handed_by}
 use Rattle.scenario_history.specs.Lines.{rules_of, steps_of}
+use Rattle.gift_laws.specs.Legal.{AreLegal}
 use Rattle.scenario_laws.specs.SourceUnits.{AreSent, InSourceOrder, InUnitOrder, IsOfSlot, anchor_in, time_in, valid_in, whole_stay}
 
 -- ---- what comes to a sink that its source did not send
@@ -144,9 +145,9 @@ pub record IsStayStruck (airs : Airs) (steps : List Step) (s n : ℕ) (tuning : 
 -- after each step, so at the end of each stay too.
 abbrev pub UnitsLaw : List Account → Type 0
 UnitsLaw starts = (airs : Airs) → MeetAirs airs → (lines : List TextLine) → Accepted (rules_of airs starts) lines
-    → (s : ℕ) → (n : ℕ) → (bis : ℕ) → (tuning : Tuning) → place (sink_calls airs n (steps_of lines)) ≡ Some tuning
-    → source_of n (steps_of lines) ≡ Some s → Contains (streams_of tuning.which) bis
-    → injected_since (is_tuned n) n (steps_of lines) ≡ false → IsStayStruck airs (steps_of lines) s n tuning bis
+    → (s : ℕ) → (n : ℕ) → (bis : ℕ) → (tuning : Tuning) → place (sink_calls airs n (steps_of airs lines)) ≡ Some tuning
+    → source_of n (steps_of airs lines) ≡ Some s → Contains (streams_of tuning.which) bis
+    → injected_since (is_tuned n) n (steps_of airs lines) ≡ false → IsStayStruck airs (steps_of airs lines) s n tuning bis
 
 -- ---- the stays of a sink with a source
 
@@ -277,8 +278,14 @@ pub record StaysInOrder (airs : Airs) (steps : List Step) (s n : ℕ) : Type 0 w
       → InUnitOrder (setup_of (steps_of_source s steps)) (source_calls (steps_of_source s steps)) bis
       (shown_since (is_made n) airs s n bis steps)
 
+-- over steps of which none was refused, be they those of lines or gifts of relays, the stays of each sink with each source are in
+-- order, where no train was given to the sink by its octets since it was made
+abbrev pub StepsInOrder : Type 0
+StepsInOrder = (airs : Airs) → MeetAirs airs → (boxes : ℕ) → (steps : List Step) → AreLegal airs boxes steps
+    → (s : ℕ) → (n : ℕ) → s ≤ 1 → given_since_made n steps ≡ false → StaysInOrder airs steps s n
+
 -- The order law: of a scenario of which no line was refused, the stays of each sink with each source are in order, where no train
 -- was given to the sink by its octets since it was made.
 abbrev pub OrderLaw : List Account → Type 0
 OrderLaw starts = (airs : Airs) → MeetAirs airs → (lines : List TextLine) → Accepted (rules_of airs starts) lines
-    → (s : ℕ) → (n : ℕ) → s ≤ 1 → given_since_made n (steps_of lines) ≡ false → StaysInOrder airs (steps_of lines) s n
+    → (s : ℕ) → (n : ℕ) → s ≤ 1 → given_since_made n (steps_of airs lines) ≡ false → StaysInOrder airs (steps_of airs lines) s n

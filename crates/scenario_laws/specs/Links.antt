@@ -6,6 +6,7 @@ use Rattle.link_histories.specs.Drains.{IsAnew, IsApart, LeavesLink, NoneTells, 
 use Rattle.link_histories.specs.Links.{is_forged, read_waits, state, view}
 use Rattle.sink_histories.specs.Lives.{Made, made_of}
 use Rattle.scenario_history.specs.Lines.{steps_of}
+use Rattle.scenario_history.specs.Source.{Airs}
 use Rattle.scenario_history.specs.Worlds.{life}
 
 -- a slot of a sink with this life, and what the assistant on a link knows of it: where neither a notice nor a read of the slot
@@ -19,14 +20,14 @@ pub record Agrees (made : Made) (link slot : ℕ) (calls : List Call) : Type 0 w
 -- The agreement law: after the lines of any text, on each link of each living sink over which no notice was forged since it was
 -- joined, the views of the slots agree with their states so.
 abbrev pub AgreementLaw : Type 0
-AgreementLaw = (lines : List TextLine) (n link slot : ℕ) (made : Made) → made_of n (steps_of lines) ≡ Some made → slot < made.setup.slots
-    → is_forged link (life n (steps_of lines)) ≡ false → Agrees made link slot (life n (steps_of lines))
+AgreementLaw = (airs : Airs) (lines : List TextLine) (n link slot : ℕ) (made : Made) → made_of n (steps_of airs lines) ≡ Some made → slot < made.setup.slots
+    → is_forged link (life n (steps_of airs lines)) ≡ false → Agrees made link slot (life n (steps_of airs lines))
 
 -- The links law: the same holds of each link that came after link 0, whatever comes over link 0. What happens on another link
 -- changes nothing of this one but through the states of the slots, and a link that is joined, however often it parted, begins
 -- anew.
 pub record LinksLaw : Type 0 where
-  pub agrees : (lines : List TextLine) (n link slot : ℕ) (made : Made) → made_of n (steps_of lines) ≡ Some made → slot < made.setup.slots
-      → link ≢ 0 → Agrees made link slot (life n (steps_of lines))
+  pub agrees : (airs : Airs) (lines : List TextLine) (n link slot : ℕ) (made : Made) → made_of n (steps_of airs lines) ≡ Some made → slot < made.setup.slots
+      → link ≢ 0 → Agrees made link slot (life n (steps_of airs lines))
   pub apart : (made : Made) (link : ℕ) (call : Call) (calls : List Call) → IsApart link call → LeavesLink made.setup made.mtu link call calls
   pub anew : (made : Made) (link : ℕ) (calls : List Call) → IsAnew made.setup made.mtu link calls

@@ -1,14 +1,17 @@
 //! What holds of every scenario of which no line was refused.
-ghost use Rattle.std.specs.Prelude.{◌≡◌, List};
+ghost use Rattle.std.specs.Prelude.{◌≡◌, List, ◌∷◌, None, length};
 ghost use Rattle.bcast_io.specs.TextLines.{TextLine};
 ghost use Rattle.unit_outlets.specs.Account.{Account};
 ghost use Rattle.source_machine.specs.Airs.{airs_of};
 ghost use Rattle.scenario_history.specs.Airs.{MeetAirs};
+ghost use Rattle.scenario_history.specs.Gifts.{answered_by};
+ghost use Rattle.scenario_history.specs.Refusals.{line_refusal};
 ghost use Rattle.scenario_history.specs.Source.{Airs};
 ghost use Rattle.line_runs.specs.Runs.{Accepted};
-ghost use Rattle.scenario_history.specs.Lines.{handed_on, rules_of};
+ghost use Rattle.scenario_text.specs.declared.step.Step.{Step};
+ghost use Rattle.scenario_history.specs.Lines.{handed_on, rules_of, steps_of};
 ghost use Rattle.scenario_history.specs.Transcript.{end_after, out_of, transcript_end, transcript_of, units_of};
-ghost use Rattle.scenario_laws.specs.Laws.{OrderLaw, UnitsLaw};
+ghost use Rattle.scenario_laws.specs.Laws.{OrderLaw, StepsInOrder, UnitsLaw};
 
 use announced_groups::{a_sink_is_put_where_its_source_is, a_source_has_one_train};
 use announcement_train::an_announcement_is_read;
@@ -28,7 +31,8 @@ pub fn some_airs_meet()
 
 /// At most one list of octets is the transcript of a text: any two airs that meet the relation of their framing give the
 /// same, and the same end, the same units and the same output of its lines; none of its lines is refused over one and not
-/// over the other, and a line hands up the same units.
+/// over the other, a line hands up the same units and prints the same, and the same happens by its lines, what relays pass among it:
+/// the same becomes of each unit that relays offer.
 pub fn one_transcript()
     ensures octets { (airs others : Airs) (starts : List Account) (lines : List TextLine) → MeetAirs airs → MeetAirs others
         → transcript_of airs starts lines ≡ transcript_of others starts lines }
@@ -44,6 +48,13 @@ pub fn one_transcript()
         → Accepted (rules_of airs starts) lines → Accepted (rules_of others starts) lines }
     ensures handed { (airs others : Airs) (starts : List Account) (lines : List TextLine) (line : TextLine) → MeetAirs airs → MeetAirs others
         → Accepted (rules_of airs starts) lines → handed_on airs lines line ≡ handed_on others lines line }
+    ensures steps { (airs others : Airs) (starts : List Account) (lines : List TextLine) → MeetAirs airs → MeetAirs others
+        → Accepted (rules_of airs starts) lines → steps_of airs lines ≡ steps_of others lines }
+    ensures output { (airs others : Airs) (starts : List Account) (lines : List TextLine) (line : TextLine) → MeetAirs airs → MeetAirs others
+        → Accepted (rules_of airs starts) (line ∷ lines) → (rules_of airs starts).output lines line ≡ (rules_of others starts).output lines line }
+    ensures answers { (airs others : Airs) (starts : List Account) (lines : List TextLine) (step : Step) → MeetAirs airs → MeetAirs others
+        → Accepted (rules_of airs starts) lines → line_refusal airs (length starts) (steps_of airs lines) step ≡ None
+        → answered_by airs (steps_of airs lines) step ≡ answered_by others (steps_of others lines) step }
 {
     a_line_says_one_step();
     one_air();
@@ -84,6 +95,25 @@ pub fn units_law()
 /// and accepted before the event of its start was laid.
 pub fn order_law()
     ensures { (starts : List Account) → OrderLaw starts }
+{
+    a_line_says_one_step();
+    one_air();
+    air_is_by_division();
+    what_was_sent_stays();
+    units_are_struck();
+    framed_units_are_struck();
+    a_framed_air_sends_units();
+    one_event_is_open();
+    each_stream_hands_its_units();
+    a_source_has_one_train();
+    an_announcement_is_read();
+    a_sink_is_put_where_its_source_is();
+}
+
+/// The order of units over any steps of which none was refused, the gifts of relays among them: what the order law says of the
+/// steps of lines (Core 5.2, volume 6 part G, sections 2.1, 2.2 and 3.2).
+pub fn steps_keep_order()
+    ensures { StepsInOrder }
 {
     a_line_says_one_step();
     one_air();

@@ -4,5 +4,5 @@
 mod history_laws;
 mod link_laws;
 
-pub use history_laws::{one_transcript, order_law, some_airs_meet, units_law};
+pub use history_laws::{one_transcript, order_law, some_airs_meet, steps_keep_order, units_law};
 pub use link_laws::{agreement_law, links_law};

@@ -1,5 +1,5 @@
 -- Closing an event for one sink after the other.
-use Rattle.std.proofs.Common.{◌≡◌, ◌≢◌, ℕ, ◌+◌, ◌<◌, ◌≤◌, List, [], ◌∷◌, ◌++◌, length, map, OnOk, refl, sym, ◌∙◌, ap, subst, slice_get, slice_set, get_or, arith, Bool, true, false, Option}
+use Rattle.std.proofs.Common.{◌≡◌, ◌≢◌, ℕ, ◌+◌, ◌<◌, ◌≤◌, List, [], ◌∷◌, ◌++◌, length, map, OnOk, refl, sym, ◌∙◌, ap, subst, slice_get, slice_set, get_or, eq-eqb, arith, Bool, true, false, Option}
 use Rattle.std.proofs.Common.{Result, Ok, Err, None, Some, ◌⊎◌, inl, inr}
 use Rattle.std.specs.List.{flat_map, range_with_len}
 use Rattle.std.proofs.lemmas.Grind.{flat_map-append}
@@ -19,16 +19,16 @@ use Rattle.scenario_sinks.specs.declared.gathered.HandedUnit.{HandedUnit}
 use Rattle.scenario_sinks.specs.declared.sink.Owner.{Owner}
 use Rattle.scenario_sinks.specs.declared.sink.Sink.{Sink}
 use Rattle.transcript_text.specs.declared.stop.Stop.{Stop}
-use Rattle.scenario_sinks.specs.Pasts.{Past, with_close}
+use Rattle.scenario_sinks.specs.Pasts.{Past, with_close, with_close_at}
 use Rattle.scenario_sinks.specs.Handing.{Hands}
 use Rattle.scenario_sinks.specs.declared.sinks.Sinks.{Sinks}
-use Rattle.scenario_sinks.specs.Closing.{Closes, closings}
-use Rattle.scenario_sinks.specs.State.Gathering.{handed_of, units_for}
+use Rattle.scenario_sinks.specs.Closing.{Closes, ClosesAt, closings, handed_all}
+use Rattle.scenario_sinks.specs.State.Gathering.{calls_of, handed_of, units_for}
 use Rattle.scenario_sinks.specs.State.Standing.{EntryIs, EntryAt, EntriesAre, SinksStand}
-use Rattle.scenario_sinks.specs.State.Between.{SinkCloses, AllClose, Between}
+use Rattle.scenario_sinks.specs.State.Between.{SinkCloses, SinkHands, AllClose, Between}
 use Rattle.sink_histories.specs.Lives.{Made}
 use Rattle.sink_steps.specs.State.Living.{Lives}
-use Rattle.scenario_sinks.proofs.Entries.{SinkIs, entry_of}
+use Rattle.scenario_sinks.proofs.Entries.{OthersStay, SinkIs, entry_of, one_entry}
 use Rattle.scenario_sinks.proofs.Citable.{hands_stop, hands_then}
 use Rattle.scenario_sinks.proofs.Ranges.{range_append, get_set_here, get_set_other, nat_same}
 
@@ -179,14 +179,19 @@ lent_entries past sinks lent is are = let E : List (Option Sink) → Type 0 = λ
 pub gathered_are : (old new slice : List HandedUnit) (units : List Handed) → old ≡ [] → map handed_of new ≡ map handed_of old ++ units → slice ≡ new → map handed_of slice ≡ units
 gathered_are old new slice units empty e is = ap (map handed_of) is ∙ e ∙ ap (λ xs. map handed_of xs ++ units) empty
 
-pub sink_closes : (box : Option ℕ) (made : Option Made) (own : Option ℕ) (life : List links.Call) (received : List Call) (n source event : ℕ) (sink new : Sink)
+-- what was handed up of a sink's units is these units
+handed_back : (owner : Owner) (units : List Handed) → handed_all (units_for owner units) ≡ units
+handed_back owner [] = refl
+handed_back owner (unit ∷ units) = ap (λ rest. unit ∷ rest) (handed_back owner units)
+
+pub sink_hands : (box : Option ℕ) (made : Option Made) (own : Option ℕ) (life : List links.Call) (received : List Call) (n source event : ℕ) (sink new : Sink)
     (from : Option ℕ) (of : Bool) (units : List Handed) (gathered : Gathered) (text told : List ℕ) (before after : List Account) (r : Result (Unit {0}) Stop)
     → (is : SinkIs box made own life received sink) → from ≡ own → of ≡ is_of source from → of ≡ true
     → units ≡ handed_at received event
     → (let owner : Owner = record { source = source; sink = n; outlet = sink.outlet } in Hands (units_for owner units) text told before after r)
-    → new.outlet ≡ sink.outlet → Lives is.how own life (tick event ∷ received) new.living → OnOk r (gathered.units.items ≡ [])
-    → SinkCloses box made own life received n source event (Some new) gathered text told before after r
-sink_closes box made own life received n source event sink new from of units gathered text told before after r is f o t e hands outlet lives empty =
+    → new.outlet ≡ sink.outlet → Lives is.how own life (tick event ∷ received) new.living → OnOk r (calls_of gathered ≡ units)
+    → SinkHands box made own life received n source event (Some new) gathered text told before after r
+sink_hands box made own life received n source event sink new from of units gathered text told before after r is f o t e hands outlet lives held =
     let owner : Owner = record { source = source; sink = n; outlet = sink.outlet } in
     let mine : is_of source own ≡ true = ap (is_of source) (sym f) ∙ sym o ∙ t in
     let own_units : closing_by source event n received own box ≡ units_for owner (handed_at received event) = rw (mine, is.box_is) refl in
@@ -196,19 +201,60 @@ sink_closes box made own life received n source event sink new from of units gat
     let P : List SinkUnit → Type 0 = λ us. Hands us text told before after r in
     record {
       hands = subst P (ap (units_for owner) e ∙ sym own_units) hands;
-      is_ticked = on_ok_weaker r (λ none. record { entry_is = here; empty = none }) empty;
+      is_held = on_ok_weaker r (λ are. record {
+        entry_is = here;
+        held = are ∙ e ∙ sym (handed_back owner (handed_at received event)) ∙ ap handed_all (sym own_units);
+      }) held;
     }
 
 -- a sink of another source
 pub sink_left : (box : Option ℕ) (made : Option Made) (own : Option ℕ) (life : List links.Call) (received : List Call) (n source event : ℕ) (sink : Sink)
     (from : Option ℕ) (of : Bool) (gathered : Gathered) (text : List ℕ) (before : List Account) → SinkIs box made own life received sink
     → from ≡ own → of ≡ is_of source from → of ≡ false → gathered.units.items ≡ []
-    → SinkCloses box made own life received n source event (Some sink) gathered text text before before (Ok tt)
+    → SinkHands box made own life received n source event (Some sink) gathered text text before before (Ok tt)
 sink_left box made own life received n source event sink from of gathered text before is f o t empty =
     let other : is_of source own ≡ false = ap (is_of source) (sym f) ∙ sym o ∙ t in
     let here : EntryIs box made own life (ticked_if (is_of source own) (Some event) received) (Some (Some sink)) =
     rw other (entry_of box made own life received sink is) in
     record {
       hands = rw other (sym (append-nil text), refl);
-      is_ticked = record { entry_is = here; empty = empty };
+      is_held = record { entry_is = here; held = rw other (ap (map handed_of) empty) };
+    }
+
+-- its units are gathered no more
+pub sink_closes : (box : Option ℕ) (made : Option Made) (own : Option ℕ) (life : List links.Call) (received : List Call) (n source event : ℕ) (entry : Option Sink)
+    (held gathered : Gathered) (text told : List ℕ) (before after : List Account) (r : Result (Unit {0}) Stop)
+    → SinkHands box made own life received n source event entry held text told before after r → OnOk r (gathered.units.items ≡ [])
+    → SinkCloses box made own life received n source event entry gathered text told before after r
+sink_closes box made own life received n source event entry held gathered text told before after (Ok x) h empty =
+    record { hands = h.hands; is_ticked = record { entry_is = h.is_held.entry_is; empty = empty } }
+sink_closes box made own life received n source event entry held gathered text told before after (Err stop) h empty =
+    record { hands = h.hands; is_ticked = tt }
+
+-- ---- one sink among all, which lends its units
+
+close_stays : (n source event : ℕ) (past : Past) → OthersStay n past (with_close_at n source event past)
+close_stays n source event past = record {
+  boxes = λ m apart. refl;
+  mades = λ m apart. refl;
+  sources = λ m apart. refl;
+  lives = λ m apart. refl;
+  received = λ m apart. rw apart refl;
+}
+
+pub closed_at : (n at source event : ℕ) (past : Past) (old new : Sinks) (entry : Option Sink) (text told : List ℕ) (before after : List Account) (r : Result (Unit {0}) Stop)
+    → SinksStand past old → at ≡ n → n < most_sinks → length old.entries.items ≡ most_sinks
+    → SinkHands (past.boxes n) (past.mades n) (past.sources n) (past.lives n) (past.received n) n source event entry new.gathered text told before after r
+    → new.entries.items ≡ slice_set old.entries.items at entry → new.outlets ≡ old.outlets → ClosesAt past n source event new text told before after r
+closed_at n at source event past old new entry text told before after r stands same within eight h set more =
+    let next : Past = with_close_at n source event past in
+    let E : List (Option Sink) → Type 0 = λ sinks. EntriesAre next sinks in
+    record {
+      hands = h.hands;
+      lends = on_ok_weaker r (λ is. record {
+        entries = subst E (sym set) (one_entry n at past next old.entries.items entry same within eight (close_stays n source event past) stands.entries
+            (rw (eq-eqb n n refl) is.entry_is));
+        made = more ∙ stands.made;
+        held = is.held;
+      }) h.is_held;
     }

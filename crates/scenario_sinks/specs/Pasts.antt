@@ -80,6 +80,17 @@ with_close source closed past = record {
   made = past.made;
 }
 
+-- the sink of this number closes an event of a source, where it is of it
+abbrev pub with_close_at : (n source event : ℕ) → Past → Past
+with_close_at n source event past = record {
+  boxes = past.boxes;
+  mades = past.mades;
+  sources = past.sources;
+  lives = past.lives;
+  received = λ m. if n == m then ticked_if (is_of source (past.sources m)) (Some event) (past.received m) else past.received m;
+  made = past.made;
+}
+
 -- ---- a line of the control or of the links of the sink of this number, which means this source
 
 -- only a train may bring the sink to another source

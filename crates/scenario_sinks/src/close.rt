@@ -5,7 +5,7 @@ ghost use Rattle.link_histories.specs.Calls as links;
 ghost use Rattle.sink_histories.specs.Lives.{Made};
 ghost use Rattle.scenario_sinks.specs.Pasts.{Past};
 ghost use Rattle.scenario_sinks.specs.State.Standing.{EntryIs, EntriesAre};
-ghost use Rattle.scenario_sinks.specs.State.Between.{SinkCloses, AllClose};
+ghost use Rattle.scenario_sinks.specs.State.Between.{SinkCloses, SinkHands, AllClose};
 ghost use Rattle.scenario_sinks.specs.Untaken.{AllButSame, UntakenSame};
 
 use crate::gathered::Gathered;
@@ -16,8 +16,8 @@ use transcript_text::Stop;
 use unit_outlets::Outlet;
 
 /// Closes an event of a source for the sink of a number, where one lives that is of this source: its units go to its
-/// box, and then to the text.
-fn close_sink(
+/// box, and then to the text. They stay gathered.
+pub(crate) fn hand_sink(
     entry: &mut Option<Sink>,
     number: u8,
     source: u8,
@@ -27,9 +27,9 @@ fn close_sink(
     text: &mut Octets,
 ) -> Result<(), Stop>
     requires { event < 2 ^ 39 }
-    ensures closes { (box : Option ℕ) (made : Option Made) (own : Option ℕ) (life : List links.Call) (received : List Call)
+    ensures hands { (box : Option ℕ) (made : Option Made) (own : Option ℕ) (life : List links.Call) (received : List Call)
         → EntryIs box made own life received (Some entry.old) → gathered.old.units.items ≡ []
-        → SinkCloses box made own life received number source event entry.new gathered.new text.old text.new (map account outlets.old.items) (map account outlets.new.items) result }
+        → SinkHands box made own life received number source event entry.new gathered.new text.old text.new (map account outlets.old.items) (map account outlets.new.items) result }
     ensures others { (box : Option ℕ) (made : Option Made) (own : Option ℕ) (life : List links.Call) (received : List Call)
         → EntryIs box made own life received (Some entry.old) → AllButSame box outlets.old.items outlets.new.items }
 {
@@ -49,6 +49,31 @@ fn close_sink(
         outlet: sink.outlet,
     };
     match hand_units(gathered.units.as_slice(), owner, outlets, text) {
+        Ok(()) => {}
+        Err(stop) => return Err(stop),
+    }
+    Ok(())
+}
+
+/// Closes an event of a source for the sink of a number, where one lives that is of this source: its units go to its
+/// box, and then to the text.
+fn close_sink(
+    entry: &mut Option<Sink>,
+    number: u8,
+    source: u8,
+    event: u64,
+    gathered: &mut Gathered,
+    outlets: &mut Vec<Box<dyn Outlet>>,
+    text: &mut Octets,
+) -> Result<(), Stop>
+    requires { event < 2 ^ 39 }
+    ensures closes { (box : Option ℕ) (made : Option Made) (own : Option ℕ) (life : List links.Call) (received : List Call)
+        → EntryIs box made own life received (Some entry.old) → gathered.old.units.items ≡ []
+        → SinkCloses box made own life received number source event entry.new gathered.new text.old text.new (map account outlets.old.items) (map account outlets.new.items) result }
+    ensures others { (box : Option ℕ) (made : Option Made) (own : Option ℕ) (life : List links.Call) (received : List Call)
+        → EntryIs box made own life received (Some entry.old) → AllButSame box outlets.old.items outlets.new.items }
+{
+    match hand_sink(entry, number, source, event, gathered, outlets, text) {
         Ok(()) => {}
         Err(stop) => return Err(stop),
     }

@@ -12,5 +12,6 @@ mod sink;
 mod sinks;
 mod sums;
 
+pub use gathered::HandedUnit;
 pub use joining::Joining;
 pub use sinks::Sinks;

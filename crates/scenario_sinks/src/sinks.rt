@@ -1,9 +1,9 @@
-ghost use Rattle.std.specs.Prelude.{◌≡◌, ◌≤◌, ◌<◌, ◌^◌, ◌++◌, vec_len, IfOk, OnOk, map, replicate, is_some, None, Option};
+ghost use Rattle.std.specs.Prelude.{◌≡◌, ◌≤◌, ◌<◌, ◌^◌, ◌++◌, vec_len, IfOk, OnOk, List, map, replicate, is_some, None, Option};
 ghost use Rattle.std.specs.Option.{ForSome};
 
-use crate::close::close_sinks;
+use crate::close::{close_sinks, hand_sink};
 use crate::entry::{hear_entry, tune_entry};
-use crate::gathered::Gathered;
+use crate::gathered::{Gathered, HandedUnit};
 use crate::joining::Joining;
 use crate::sink::Sink;
 use crate::sums::{put_sum_at, put_sums};
@@ -30,13 +30,15 @@ pub struct Sinks {
 
 impl Sinks {
     ghost use Rattle.multi_assist.specs.Mtus.{IsMtu};
+    ghost use Rattle.unit_outlets.specs.Handed.{Handed};
     ghost use Rattle.scenario_history.specs.Boxes.{sink_numbers};
-    ghost use Rattle.scenario_sinks.specs.Closing.{Closes};
+    ghost use Rattle.scenario_sinks.specs.Closing.{Closes, ClosesAt};
     ghost use Rattle.scenario_sinks.specs.Hearing.{Hears};
     ghost use Rattle.scenario_sinks.specs.Joinings.{joining_in};
     ghost use Rattle.scenario_sinks.specs.Pasts.{Past, nothing, with_sink, with_tuning, without};
     ghost use Rattle.scenario_sinks.specs.Refusals.{Answers, Tunes, not_living, not_made, not_tuned};
-    ghost use Rattle.scenario_sinks.specs.State.Standing.{SinksStand};
+    ghost use Rattle.scenario_sinks.specs.State.Gathering.{handed_of};
+    ghost use Rattle.scenario_sinks.specs.State.Standing.{SinksLend, SinksStand};
     ghost use Rattle.scenario_sinks.specs.Sums.{Puts, sum_where, sums_where};
     ghost use Rattle.scenario_sinks.specs.Untaken.{UntakenSame};
 
@@ -185,6 +187,46 @@ impl Sinks {
             outlets,
             text,
         )
+    }
+
+    /// Closes an event of a source for the sink of a number, as `close` does for all of them, and lends its units until `forget`.
+    pub fn close_at(
+        &mut self,
+        sink: u8,
+        source: u8,
+        event: u64,
+        outlets: &mut Vec<Box<dyn Outlet>>,
+        text: &mut Octets,
+    ) -> Result<(), Stop>
+        requires sink { sink ≤ 7 }
+        requires event { event < 2 ^ 39 }
+        ensures closes { (past : Past) → SinksStand past self.old
+            → ClosesAt past sink source event self.new text.old text.new (map account outlets.old.items) (map account outlets.new.items) result }
+        ensures others { (past : Past) → SinksStand past self.old → UntakenSame past outlets.old.items outlets.new.items }
+    {
+        hand_sink(
+            &mut self.entries[usize::from(sink)],
+            sink,
+            source,
+            event,
+            &mut self.gathered,
+            outlets,
+            text,
+        )
+    }
+
+    /// The units that the sink handed up which was closed last, until `forget`: in order.
+    pub fn lent(&self) -> &[HandedUnit]
+        ensures { (past : Past) (units : List Handed) → SinksLend past units self.now → map handed_of result.now ≡ units }
+    {
+        self.gathered.units.as_slice()
+    }
+
+    /// Lends no units any more.
+    pub fn forget(&mut self)
+        ensures { (past : Past) (units : List Handed) → SinksLend past units self.old → SinksStand past self.new }
+    {
+        self.gathered.units.clear();
     }
 
     /// Puts the sums of the boxes of the living sinks at the end of the text, by rising number.

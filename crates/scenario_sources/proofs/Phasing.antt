@@ -1,5 +1,7 @@
 -- One source after a step that means it.
-use Rattle.std.proofs.Common.{◌≡◌, ◌-◌, ℕ, ◌==◌, true, false, List, [], ◌∷◌, refl, sym}
+use Rattle.std.proofs.Common.{◌≡◌, ◌-◌, ℕ, ◌==◌, Bool, true, false, not, nat_le, nat_lt, List, [], ◌∷◌, length, refl, sym}
+use Rattle.std.specs.Option.{option_or}
+use Rattle.isoal_base.specs.Air.{Air}
 use Rattle.std.proofs.Common.{◌∙◌, ap, subst, is_some, unwrap_or, option_map, if◌then◌else◌, arith, Option, None, Some, Result, Ok, Err}
 use Rattle.base_grammar.specs.Layout.{endpoint}
 use Rattle.big_info.specs.declared.info.BigInfo.{BigInfo}
@@ -7,12 +9,14 @@ use Rattle.big_info.specs.declared.info.Cipher.{Cipher}
 use Rattle.scenario_bases.specs.Lines.{subgroups_in}
 use Rattle.source_machine.specs.Ciphers.{with_cipher, without_cipher}
 use Rattle.iso_pdu.specs.Spelling.{pdu}
-use Rattle.source_machine.specs.Airs.{airs_of, pdu_of, stale_of}
+use Rattle.source_machine.specs.Airs.{airs_of, pdu_of, stale_of, waiting_of}
 use Rattle.source_machine.specs.Calls.{Call, Setup, event as perform, last_of, next_of}
 use Rattle.source_machine.specs.declared.sent.Stale.{Stale}
 use Rattle.source_machine.specs.declared.fault.GiveFault.{GiveFault}
-use Rattle.source_machine.specs.Faults.{air_fault, give_fault, refused_unit}
+use Rattle.source_machine.specs.declared.fault.GiveFault.TheVariants as faults
+use Rattle.source_machine.specs.Faults.{air_fault, give_fault, has_its_time, misfit_of, refused_unit}
 use Rattle.multi_source.specs.State.Broadcasts.{Broadcasting, StandsFor}
+use Rattle.transcript_text.specs.declared.refusal.Refusal.{Refusal}
 use Rattle.transcript_text.specs.declared.refusal.Refusal.TheVariants.{Order}
 use Rattle.transcript_text.specs.declared.stop.Stop.{Stop}
 use Rattle.transcript_text.specs.declared.stop.Stop.TheVariants.{Refused, OutletFault, Memory}
@@ -22,11 +26,12 @@ use Rattle.scenario_history.specs.Bases.{subgroups_of}
 use Rattle.scenario_history.specs.Source.{GroupLine, cipher_of, event_back, pdu_in, absent, described, sending}
 use Rattle.scenario_history.specs.Source.{phase_of, ident_of, is_ciphered, open_event, performed, setup_of, source_calls, stale_in, takes_units}
 use Rattle.scenario_history.specs.Steps.{is_over}
-use Rattle.scenario_history.specs.Refusals.{air_refusal, give_refusal, no_place}
+use Rattle.scenario_history.specs.Refusals.{air_refusal, give_refusal, no_place, relayed_or}
 use Rattle.source_machine.specs.declared.setup.Identity.{Identity}
 use Rattle.scenario_sources.specs.declared.phase.Described.{Described}
 use Rattle.scenario_sources.specs.declared.phase.Phase.TheVariants as phases
 use Rattle.scenario_sources.specs.Described.{IsPlain, group_step}
+use Rattle.scenario_sources.specs.Faults.{fault_in, misfit_refusal_of}
 use Rattle.scenario_sources.specs.State.Phases.{AbsentIs, Becomes, DescribedIs, StartedIs}
 use Rattle.scenario_sources.specs.State.Stops.{GivesTo, GiveStops}
 
@@ -160,12 +165,43 @@ gives version own old new bis time octets (Err (Refused reason)) is plain identi
 gives version own old new bis time octets (Err OutletFault) is plain identity said g = g
 gives version own old new bis time octets (Err Memory) is plain identity said g = tt
 
+-- a unit that doesn't fit is refused for that, also where its stream has had a relay, and any other is Relayed
+relayed_by : (a b c d : Bool)
+    → relayed_or true (option_map give_refusal
+    (if a then Some faults.NoSuchBis else (if b then Some faults.UnitTooLong else (if c then Some faults.TimeOrder else (if d then Some faults.Backlog else None)))))
+    ≡ Some (misfit_refusal_of (if a then Some faults.NoSuchBis else (if b then Some faults.UnitTooLong else (if c then Some faults.TimeOrder else None))))
+relayed_by true b c d = refl
+relayed_by false true c d = refl
+relayed_by false false true d = refl
+relayed_by false false false true = refl
+relayed_by false false false false = refl
+
+relayed_is : (setup : Setup) (calls : List Call) (airs : List Air) (bis : ℕ) (time : Option ℕ) (octets : List ℕ)
+    → relayed_or true (option_map give_refusal (give_fault setup calls airs bis time octets)) ≡ Some (misfit_refusal_of (misfit_of setup calls bis time octets))
+relayed_is setup calls airs bis time octets =
+    relayed_by (nat_lt setup.info.num_bis bis) (nat_lt setup.info.max_sdu (length octets)) (not (has_its_time setup calls bis time)) (nat_le 16 (waiting_of calls airs bis))
+
 -- the group is encrypted
 pub coded : (own : List Step) (started : Broadcasting) → (phase_of own ≡ sending) × StartedIs own started → is_some started.source.cipher ≡ true → takes_units own ≡ false
 coded own started is some = let stands : is_ciphered own ≡ true = ap is_some (sym is.1.cipher) ∙ some in rw (is.0, stands) refl
 
 pub uncoded : (own : List Step) (started : Broadcasting) → (phase_of own ≡ sending) × StartedIs own started → is_some started.source.cipher ≡ false → takes_units own ≡ true
 uncoded own started is none = let plain : is_ciphered own ≡ false = ap is_some (sym is.1.cipher) ∙ none in rw (is.0, plain) refl
+
+pub relays_not : (version : ℕ) (own : List Step) (started : Broadcasting) (bis : ℕ) (time : Option ℕ) (octets : List ℕ) (fault : Option GiveFault) (reason : Refusal)
+    → (phase_of own ≡ sending) × StartedIs own started → is_some started.source.cipher ≡ false
+    → fault ≡ misfit_of started.source.setup (source_calls own) bis time octets → reason ≡ misfit_refusal_of fault
+    → relayed_or true (fault_in version own (UnitStep bis time octets)) ≡ Some reason
+relays_not version own started bis time octets fault reason is plain fits named =
+    rw (uncoded own started is plain)
+    (relayed_is (setup_of own) (source_calls own) (airs_of (setup_of own) (source_calls own)) bis time octets
+    ∙ ap (λ (s : Setup). Some (misfit_refusal_of (misfit_of s (source_calls own) bis time octets))) (sym is.1.setup)
+    ∙ ap (λ f. Some (misfit_refusal_of f)) (sym fits) ∙ ap Some (sym named))
+
+-- both sources refuse nothing of a unit
+pub lone_relayed : (refusal : Option Refusal) (reason : Refusal) → relayed_or true refusal ≡ Some reason → relayed_or true (option_or refusal None) ≡ Some reason
+lone_relayed None reason is = is
+lone_relayed (Some other) reason is = is
 
 -- ---- event
 

@@ -72,6 +72,11 @@ abbrev pub StandsAt : List Step → Option Standpoint → Type 0
 StandsAt own None = takes_units own ≡ false
 StandsAt own (Some at) = (takes_units own ≡ true) × ((which : ℕ) → tuning_at at which ≡ tuning_of own which)
 
+-- the group of a source that takes units
+abbrev pub TakesAs : List Step → Option Group → Type 0
+TakesAs own None = takes_units own ≡ false
+TakesAs own (Some group) = (takes_units own ≡ true) × (group.info ≡ (setup_of own).info)
+
 -- the group of a source that may be heard
 abbrev pub GroupIs : List Step → Option Group → Type 0
 GroupIs own None = is_heard own ≡ false

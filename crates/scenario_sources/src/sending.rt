@@ -1,12 +1,14 @@
 //! A source between its start and its end.
-ghost use Rattle.std.specs.Prelude.{◌≡◌, ◌≤◌, ◌<◌, ◌^◌, ℕ, List, Option, None, false, IfOk};
+ghost use Rattle.std.specs.Prelude.{◌≡◌, ◌≤◌, ◌<◌, ◌^◌, ℕ, List, Option, None, Some, false, true, IfOk};
 ghost use Rattle.std.specs.Option.{ForSome};
 ghost use Rattle.scenario_text.specs.declared.step.Step.{Step};
 ghost use Rattle.scenario_text.specs.declared.step.Step.TheVariants.{Unit as UnitStep, Stop as StopStep};
 ghost use Rattle.scenario_history.specs.Steps.{is_over};
+ghost use Rattle.scenario_history.specs.Refusals.{relayed_or};
 ghost use Rattle.scenario_history.specs.Source.{is_sending, open_event};
 ghost use Rattle.scenario_sources.specs.State.Phases.{Becomes, Closes, Performs, PhaseIs, Terminates};
-ghost use Rattle.scenario_sources.specs.Answers.{StandsAt};
+ghost use Rattle.scenario_sources.specs.Answers.{StandsAt, TakesAs};
+ghost use Rattle.scenario_sources.specs.Faults.{fault_in, misfit_refusal_of};
 ghost use Rattle.scenario_sources.specs.State.Stops.{GiveStops, GivesTo};
 
 use crate::performed::Performed;
@@ -14,6 +16,7 @@ use crate::phase::Phase;
 use crate::standpoint::Standpoint;
 use crate::terminated::Terminated;
 use bcast_base::Bis;
+use big_info::Group;
 use multi_source::Broadcast;
 use source_machine::{EventFault, GiveFault};
 use std::mem::replace;
@@ -60,6 +63,32 @@ fn give_stop(fault: GiveFault) -> Stop
         GiveFault::TimeOrder => Stop::Refused(Refusal::TimeOrder),
         GiveFault::Backlog => Stop::Refused(Refusal::Backlog),
         GiveFault::Memory => Stop::Memory,
+    }
+}
+
+/// Why a source refuses a unit of a stream that has had a relay: the first reason that holds, where Backlog is none, and Relayed
+/// where no other does.
+pub(crate) fn relayed_in(phase: &Phase, bis: Bis, time: Option<u64>, octets: &[u8]) -> Refusal
+    ensures { (version : ℕ) (own : List Step) → PhaseIs own phase.now → relayed_or true (fault_in version own (UnitStep bis time octets.now)) ≡ Some result }
+{
+    let Phase::Sending(started) = phase else {
+        return Refusal::Order;
+    };
+    if started.is_ciphered() {
+        return Refusal::Order;
+    }
+    misfit_refusal(started.misfit(bis, time, octets))
+}
+
+/// What a unit is refused for that doesn't fit a source, and Relayed where it fits.
+fn misfit_refusal(fault: Option<GiveFault>) -> Refusal
+    ensures { result ≡ misfit_refusal_of fault }
+{
+    match fault {
+        Some(GiveFault::NoSuchBis) => Refusal::NoSuchBis,
+        Some(GiveFault::UnitTooLong) => Refusal::UnitTooLong,
+        Some(GiveFault::TimeOrder) => Refusal::TimeOrder,
+        _ => Refusal::Relayed,
     }
 }
 
@@ -135,6 +164,19 @@ pub(crate) fn open(phase: &Phase) -> Option<u64>
         Phase::Sending(started) => started.last_event(),
         _ => None,
     }
+}
+
+/// The group of a source that takes units.
+pub(crate) fn taking_in(phase: &Phase) -> Option<Group>
+    ensures { (own : List Step) → PhaseIs own phase.now → TakesAs own result }
+{
+    let Phase::Sending(started) = phase else {
+        return None;
+    };
+    if started.is_ciphered() {
+        return None;
+    }
+    Some(*started.group())
 }
 
 /// Where a source stands that takes units.

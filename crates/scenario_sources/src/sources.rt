@@ -1,4 +1,4 @@
-ghost use Rattle.std.specs.Prelude.{◌≡◌, ◌≤◌, ◌<◌, ◌^◌, ◌∷◌, ℕ, vec_len, IfOk, IfErr, List, [], None, true, false};
+ghost use Rattle.std.specs.Prelude.{◌≡◌, ◌≤◌, ◌<◌, ◌^◌, ◌∷◌, ℕ, vec_len, IfOk, IfErr, List, [], None, Some, true, false};
 ghost use Rattle.std.specs.Option.{ForSome};
 ghost use Rattle.big_info.specs.Widths.{FitsWidths};
 
@@ -9,7 +9,9 @@ use crate::identity::identity_in;
 use crate::performed::Performed;
 use crate::phase::Phase;
 use crate::place::{Place, event_in, group_in, heard_in, last_in};
-use crate::sending::{give, is_sending_in, open, perform, standpoint_in, stop, terminate};
+use crate::sending::{
+    give, is_sending_in, open, perform, relayed_in, standpoint_in, stop, taking_in, terminate,
+};
 use crate::standpoint::Standpoint;
 use crate::starting::{begin, check_start, is_twice};
 use crate::terminated::Terminated;
@@ -36,11 +38,12 @@ impl Sources {
     ghost use Rattle.scenario_text.specs.declared.step.Step.{Step};
     ghost use Rattle.scenario_text.specs.declared.step.Step.TheVariants.{Ident as IdentStep, Subgroup as SubgroupStep, Meta as MetaStep, Bis as BisStep, Cipher as CipherStep};
     ghost use Rattle.scenario_text.specs.declared.step.Step.TheVariants.{Start as StartStep, Unit as UnitStep, Stop as StopStep, Source as SourceStep};
-    ghost use Rattle.scenario_history.specs.Refusals.{horizon_in, no_place};
+    ghost use Rattle.scenario_history.specs.Refusals.{horizon_in, no_place, relayed_or};
     ghost use Rattle.scenario_history.specs.Source.{event_back, identity_of, is_ahead_in, is_heard, is_sending, open_event, pdu_in};
     ghost use Rattle.scenario_history.specs.Steps.{chosen_of, chosen_steps, is_over, running, stage_of, steps_of_source};
-    ghost use Rattle.scenario_sources.specs.Answers.{AnnouncesAs, Answers, Closes, GroupIs, LastIs, NoPlace, Performs, StandsAt, Terminates};
+    ghost use Rattle.scenario_sources.specs.Answers.{AnnouncesAs, Answers, Closes, GroupIs, LastIs, NoPlace, Performs, StandsAt, TakesAs, Terminates};
     ghost use Rattle.scenario_sources.specs.Described.{IsPlain, group_step};
+    ghost use Rattle.scenario_sources.specs.Faults.{fault_of};
     ghost use Rattle.scenario_sources.specs.State.Standing.{SourcesStand};
 
     /// Two sources of which nothing was said; 0 is chosen.
@@ -175,6 +178,14 @@ impl Sources {
         )
     }
 
+    /// Why the chosen source refuses a unit of a stream that has had a relay: the first reason that holds of Order, NoSuchBis,
+    /// UnitTooLong, TimeOrder and Relayed.
+    pub fn relayed(&self, bis: Bis, time: Option<u64>, octets: &[u8]) -> Refusal
+        ensures { (version : ℕ) (steps : List Step) → SourcesStand steps self.now → relayed_or true (fault_of version steps (UnitStep bis time octets.now)) ≡ Some result }
+    {
+        relayed_in(&self.phases[usize::from(self.chosen)], bis, time, octets)
+    }
+
     /// `event`: performs the next event of the chosen source, and answers the one that it closes, and the units that its
     /// streams left out. The first refusal that holds is answered: Order outside its start and its stop, CounterEnds. After
     /// want of memory the source has failed.
@@ -235,6 +246,14 @@ impl Sources {
         ensures within { ForSome result (λ event. event < 2 ^ 39) }
     {
         open(&self.phases[usize::from(source)])
+    }
+
+    /// The group of a source, be it chosen or not; `None` exactly outside its start and its end, and where its group is encrypted.
+    pub fn taking(&self, source: u8) -> Option<Group>
+        requires { source < 2 }
+        ensures { (steps : List Step) → SourcesStand steps self.now → TakesAs (steps_of_source source steps) result }
+    {
+        taking_in(&self.phases[usize::from(source)])
     }
 
     /// Where the chosen source stands before its next event; `None` exactly outside its start and its end, and where its

@@ -11,7 +11,7 @@ use Rattle.isoal_base.specs.declared.laid.PutFault.TheVariants.{Backlog as Full,
 use Rattle.isoal_framed.specs.State.Senders.{Above, NotPast}
 use Rattle.source_machine.specs.Airs.{AreAirs, waiting_of}
 use Rattle.source_machine.specs.Calls.{Setup, Call, framed_calls, last_time_of, next_anchor_of, stream_calls}
-use Rattle.source_machine.specs.Faults.{give_fault, has_its_time, is_above, of_sender, refused_unit}
+use Rattle.source_machine.specs.Faults.{give_fault, has_its_time, is_above, misfit_of, of_sender, refused_unit}
 use Rattle.source_machine.specs.Setups.{IsChecked}
 use Rattle.source_machine.specs.State.Senders.{HasTime, PutStops, SenderStands, info_of, waiting_in}
 use Rattle.source_machine.specs.State.Sources.{Source, StandsFor, Stream, StreamIs}
@@ -135,3 +135,35 @@ pub put_refused : (source : Source) (calls : List Call) (airs : List Air) (bis :
     → give_fault source.setup calls airs bis time octets ≡ refused_unit (of_sender fault)
 put_refused source calls airs bis time octets stream fault stands are source_is checked fit least is stops =
     refused source calls airs bis time octets stream fault (here source calls airs bis octets stream stands are source_is checked fit least is) stops
+
+-- ---- why it would refuse the unit however few wait
+
+limit_same : (source : Source) (calls : List Call) → StandsFor calls source
+    → limit_of source ≡ (if source.setup.ahead then None else Some (next_anchor_of source.setup calls))
+limit_same source calls stands =
+    ap (λ next. if source.setup.ahead then None else Some (anchor_of source.setup.origin source.setup.first next (iso_us_of source.setup.info))) stands.next
+
+fit_misfit : (setup : Setup) (calls : List Call) (bis : ℕ) (time : Option ℕ) (octets : List ℕ) → IsFit setup bis octets
+    → misfit_of setup calls bis time octets ≡ (if not (has_its_time setup calls bis time) then Some give_faults.TimeOrder else None)
+fit_misfit setup calls bis time octets fit = rw (le-ltb setup.info.num_bis bis fit.has_stream, le-ltb setup.info.max_sdu (length octets) fit.short) refl
+
+own_stream : (source : Source) (calls : List Call) (bis : ℕ) (octets : List ℕ) (stream : Stream) → StandsFor calls source → IsSource source
+    → IsFit source.setup bis octets → 1 ≤ bis → stream ≡ get_or source.streams (bis - 1) stream → StreamIs source.setup calls bis stream
+own_stream source calls bis octets stream stands source_is fit least is =
+    stream_is source calls bis stream stands least (omega (arith, fit.has_stream, source_is.streams)) is
+
+pub fits_then : (source : Source) (calls : List Call) (bis : ℕ) (time : Option ℕ) (octets : List ℕ) (stream : Stream) → StandsFor calls source → IsSource source
+    → IsFit source.setup bis octets → 1 ≤ bis → stream ≡ get_or source.streams (bis - 1) stream
+    → HasTime stream.sender time (limit_of source) → misfit_of source.setup calls bis time octets ≡ None
+fits_then source calls bis time octets stream stands source_is fit least is has =
+    let own = own_stream source calls bis octets stream stands source_is fit least is in
+    fit_misfit source.setup calls bis time octets fit
+    ∙ rw (time_taken source.setup calls bis stream.sender time own.sender (subst (HasTime stream.sender time) (limit_same source calls stands) has)) refl
+
+pub late_then : (source : Source) (calls : List Call) (bis : ℕ) (time : Option ℕ) (octets : List ℕ) (stream : Stream) → StandsFor calls source → IsSource source
+    → IsFit source.setup bis octets → 1 ≤ bis → stream ≡ get_or source.streams (bis - 1) stream
+    → (¬ HasTime stream.sender time (limit_of source)) → misfit_of source.setup calls bis time octets ≡ Some give_faults.TimeOrder
+late_then source calls bis time octets stream stands source_is fit least is lacks =
+    let own = own_stream source calls bis octets stream stands source_is fit least is in
+    fit_misfit source.setup calls bis time octets fit
+    ∙ rw (time_refused source.setup calls bis stream.sender time own.sender (λ has. lacks (subst (HasTime stream.sender time) (sym (limit_same source calls stands)) has))) refl

@@ -51,6 +51,13 @@ give_fault setup calls airs bis time octets =
     else (if not (has_its_time setup calls bis time) then Some give_faults.TimeOrder
     else (if nat_le 16 (waiting_of calls airs bis) then Some give_faults.Backlog else None)))
 
+-- why a unit is refused however few wait
+abbrev pub misfit_of : Setup → List Call → ℕ → Option ℕ → List ℕ → Option GiveFault
+misfit_of setup calls bis time octets =
+    if nat_lt setup.info.num_bis bis then Some give_faults.NoSuchBis
+    else (if nat_lt setup.info.max_sdu (length octets) then Some give_faults.UnitTooLong
+    else (if not (has_its_time setup calls bis time) then Some give_faults.TimeOrder else None))
+
 -- why the next event is refused: payload numbers of it or of the H events behind it would pass 2^39
 abbrev pub event_fault : Setup → List Call → Option EventFault
 event_fault setup calls =

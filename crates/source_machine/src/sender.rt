@@ -1,4 +1,4 @@
-ghost use Rattle.std.specs.Prelude.{◌≡◌, ◌<◌, ◌∷◌, [], ℕ, List, length, None, unwrap_or, IfOk, IfErr, OnOk, OnErr};
+ghost use Rattle.std.specs.Prelude.{◌≡◌, ◌<◌, ◌∷◌, ◌↔◌, [], ℕ, List, length, None, unwrap_or, IfOk, IfErr, IsTrue, OnOk, OnErr};
 ghost use Rattle.big_info.specs.declared.info.BigInfo.{BigInfo};
 ghost use Rattle.isoal_base.specs.Air.{Air, laid_in};
 ghost use Rattle.isoal_unframed.specs.Calls.{Call as PlainCall, accept, lay};
@@ -53,6 +53,20 @@ impl Sender {
         match self {
             Sender::Unframed(out) => put_unframed(out, time, octets),
             Sender::Framed(out) => put_framed(out, time, limit, octets),
+        }
+    }
+
+    /// Whether a unit with this time would have the one that the framing wants: none in an unframed group, and one in order in a
+    /// framed one, which doesn't pass the limit where there is one.
+    pub(crate) fn has_time(&self, time: Option<u64>, limit: Option<u64>) -> bool
+        ensures { IsTrue result ↔ HasTime self.now time limit }
+    {
+        match self {
+            Sender::Unframed(_) => time.is_none(),
+            Sender::Framed(out) => match time {
+                Some(time) => out.is_in_order(time, limit),
+                None => false,
+            },
         }
     }
 

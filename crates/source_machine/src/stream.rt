@@ -1,7 +1,7 @@
-ghost use Rattle.std.specs.Prelude.{◌≡◌, ◌<◌, ◌+◌, ◌*◌, ◌++◌, ℕ, [], length, map, get_or, All, Some, IfOk, IfErr, OnOk, OnErr};
+ghost use Rattle.std.specs.Prelude.{◌≡◌, ◌<◌, ◌+◌, ◌*◌, ◌++◌, ◌↔◌, ℕ, [], length, map, get_or, All, Some, IfOk, IfErr, IsTrue, OnOk, OnErr};
 ghost use Rattle.std.specs.List.{AllZip, range_with_len};
 ghost use Rattle.source_machine.specs.Airs.{stale_on};
-ghost use Rattle.source_machine.specs.State.Senders.{PutStops};
+ghost use Rattle.source_machine.specs.State.Senders.{HasTime, PutStops};
 ghost use Rattle.source_machine.specs.State.Sources.{Stream as StreamState, StreamStands};
 ghost use Rattle.source_machine.specs.State.Streams.{Accepts, AllTell, Grows, IsLaid, Lays, LaysOne, Tells, sent_at, sent_of};
 
@@ -82,6 +82,13 @@ impl Stream {
         ensures fault { IfErr result (λ fault. PutStops self.old.sender time limit octets.now fault) }
     {
         self.sender.put(time, limit, octets)
+    }
+
+    /// Whether a unit with this time would have the one that the framing wants, where there is a limit that it may not pass or none.
+    pub(crate) fn has_time(&self, time: Option<u64>, limit: Option<u64>) -> bool
+        ensures { IsTrue result ↔ HasTime self.now.sender time limit }
+    {
+        self.sender.has_time(time, limit)
     }
 
     /// The PDU that a subevent, from 0, carries in the oldest event that is kept.

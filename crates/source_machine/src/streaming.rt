@@ -11,7 +11,7 @@ ghost use Rattle.sync_reference.specs.Reference.{anchor_of};
 ghost use Rattle.isoal_base.specs.Air.{Air};
 ghost use Rattle.source_machine.specs.Airs.{AreAirs, Sends, stale_of};
 ghost use Rattle.source_machine.specs.Calls.{Call, give as gives, event as performs, next_anchor_of, next_of};
-ghost use Rattle.source_machine.specs.Faults.{announce_fault, event_fault, give_fault, refused_event, refused_train, refused_unit};
+ghost use Rattle.source_machine.specs.Faults.{announce_fault, event_fault, give_fault, misfit_of, refused_event, refused_train, refused_unit};
 ghost use Rattle.source_machine.specs.Setups.{IsChecked};
 ghost use Rattle.source_machine.specs.State.Sources.{AfterFault, StandsFor, anchor_in, configured_in, group_in};
 ghost use Rattle.source_machine.specs.State.Streams.{IsFit, LaysNext, Performs, limit_of};
@@ -109,6 +109,21 @@ impl SourceStreaming {
         let limit = self.limit();
         self.streams[usize::from(bis.get() - 1)].give(time, limit, octets)?;
         Ok(())
+    }
+
+    /// Why a unit would be refused however few wait: the first of NoSuchBis, UnitTooLong and TimeOrder that holds, as `give` has them.
+    pub fn misfit(&self, bis: Bis, time: Option<u64>, octets: &[u8]) -> Option<GiveFault>
+        ensures { (calls : List Call) → StandsFor calls self.now → result ≡ misfit_of self.now.setup calls bis time octets.now }
+    {
+        match self.check_unit(bis, octets) {
+            Ok(()) => {}
+            Err(fault) => return Some(fault),
+        }
+        let limit = self.limit();
+        if !self.streams[usize::from(bis.get() - 1)].has_time(time, limit) {
+            return Some(GiveFault::TimeOrder);
+        }
+        None
     }
 
     /// Performs the next event: lays it and the H events behind it, as far as they aren't laid, and answers what it
@@ -292,6 +307,7 @@ impl SourceStreaming {
         ensures ok { OnOk result (IsFit self.now.setup bis octets.now) }
         ensures err { IfErr result (λ fault. (calls : List Call) (airs : List Air) (time : Option ℕ)
             → (give_fault self.now.setup calls airs bis time octets.now ≡ Some fault) × (refused_unit fault ≡ Some fault)) }
+        ensures misfit { IfErr result (λ fault. (calls : List Call) (time : Option ℕ) → misfit_of self.now.setup calls bis time octets.now ≡ Some fault) }
     {
         if bis.get() > self.plan.group.info.num_bis {
             return Err(GiveFault::NoSuchBis);

@@ -10,9 +10,10 @@ use Rattle.printed_words.specs.Digits.{digits}
 use Rattle.printed_words.specs.Lines.{joined}
 use Rattle.unit_outlets.specs.Handed.{Handed, valid, lost}
 use Rattle.transcript_text.specs.declared.refusal.Refusal.{Refusal}
-use Rattle.transcript_text.specs.declared.refusal.Refusal.TheVariants.{TextTooLong, LineTooLong, BadLine, NotBuilt, AfterEnd, Order, BadGroup, BaseTooLong}
+use Rattle.transcript_text.specs.declared.refusal.Refusal.TheVariants.{TextTooLong, LineTooLong, BadLine, AfterEnd, Order, BadGroup, BaseTooLong}
 use Rattle.transcript_text.specs.declared.refusal.Refusal.TheVariants.{IdentTwice, NoSuchSink, NoSuchLink, LinkTwice, SinkTwice, NoOutlet, NoSuchBis, UnitTooLong}
-use Rattle.transcript_text.specs.declared.refusal.Refusal.TheVariants.{TimeOrder, Backlog, NoSuchSubevent, NotOnAir, CounterEnds, NothingWaiting, RecordsTooLong, NoEnd, BadToml, BadDocument}
+use Rattle.transcript_text.specs.declared.refusal.Refusal.TheVariants.{TimeOrder, RelayTaken, Relayed, Backlog, NoSuchSubevent, NotOnAir}
+use Rattle.transcript_text.specs.declared.refusal.Refusal.TheVariants.{CounterEnds, NothingWaiting, RecordsTooLong, NoEnd, BadToml, BadDocument}
 
 -- the octet that ends a line
 abbrev pub newline : ℕ
@@ -85,7 +86,6 @@ abbrev pub refusal_name : Refusal → List ℕ
 refusal_name TextTooLong = codes "TextTooLong"
 refusal_name LineTooLong = codes "LineTooLong"
 refusal_name (BadLine word) = codes "BadLine"
-refusal_name NotBuilt = codes "NotBuilt"
 refusal_name AfterEnd = codes "AfterEnd"
 refusal_name Order = codes "Order"
 refusal_name (BadGroup fault) = codes "BadGroup"
@@ -99,6 +99,8 @@ refusal_name NoOutlet = codes "NoOutlet"
 refusal_name NoSuchBis = codes "NoSuchBis"
 refusal_name UnitTooLong = codes "UnitTooLong"
 refusal_name TimeOrder = codes "TimeOrder"
+refusal_name RelayTaken = codes "RelayTaken"
+refusal_name Relayed = codes "Relayed"
 refusal_name Backlog = codes "Backlog"
 refusal_name NoSuchSubevent = codes "NoSuchSubevent"
 refusal_name NotOnAir = codes "NotOnAir"
@@ -118,3 +120,16 @@ refusal_number _ = None
 abbrev pub refusal_line : ℕ → Refusal → List ℕ
 refusal_line line reason =
     named_line (codes "line") (decimal line ++ codes ":") (refusal_name reason) (refusal_number reason)
+
+-- ---- units that a relay offers
+
+-- why a unit that a relay offers isn't taken, by why a `unit` line of it would be refused: a source that doesn't stream refuses the
+-- line as Order, and drops the unit as NotStreaming
+abbrev pub dropped_name : Refusal → List ℕ
+dropped_name Order = codes "NotStreaming"
+dropped_name reason = refusal_name reason
+
+-- the line of a unit that the relay of a sink offers of a stream and that isn't taken
+abbrev pub dropped_line : (sink bis : ℕ) → Refusal → List ℕ
+dropped_line sink bis reason =
+    line_of (codes "relay") (decimal sink ∷ decimal bis ∷ codes "dropped" ∷ dropped_name reason ∷ [])

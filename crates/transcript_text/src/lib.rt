@@ -8,7 +8,7 @@ mod stop;
 mod word;
 
 pub use hearing::put_heard;
-pub use line::{put_control, put_lost, put_pdu, put_stale, put_sum, put_valid};
+pub use line::{put_control, put_dropped, put_lost, put_pdu, put_stale, put_sum, put_valid};
 pub use refusal::{Refusal, put_refusal};
 pub use stop::Stop;
 pub use word::{put_line, put_named};

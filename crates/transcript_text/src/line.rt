@@ -1,7 +1,8 @@
 ghost use Rattle.std.specs.Prelude.{◌≡◌, ◌++◌, OnOk, OnErr};
 ghost use Rattle.printed_words.specs.Fronts.{AFront};
-ghost use Rattle.transcript_text.specs.Lines.{valid_line, lost_line, pdu_line, stale_line, control_line, sum_line};
+ghost use Rattle.transcript_text.specs.Lines.{valid_line, lost_line, dropped_line, dropped_name, pdu_line, stale_line, control_line, sum_line};
 
+use crate::refusal::{Refusal, name_of};
 use crate::word::put_line;
 use bcast_base::{Memory, Octets};
 use printed_words::Word;
@@ -50,6 +51,36 @@ pub fn put_lost(text: &mut Octets, sink: u8, bis: u8, time: u64) -> Result<(), M
             Word::Text(b"at"),
             Word::Number(time),
             Word::Text(b"lost"),
+        ],
+    )
+}
+
+/// The name under which a unit is dropped that a relay offers, where a `unit` line of it would be refused for this reason.
+fn dropped_name_of(reason: Refusal) -> &'static [u8]
+    ensures { result.now ≡ dropped_name reason }
+{
+    match reason {
+        Refusal::Order => b"NotStreaming",
+        _ => name_of(reason),
+    }
+}
+
+/// Puts the line of a unit of a stream that the relay of a sink offers and that isn't taken, where a `unit` line of it would be
+/// refused for this reason: NotStreaming stands for Order.
+///
+/// After Memory a front of the line stands at the end of the text.
+pub fn put_dropped(text: &mut Octets, sink: u8, bis: u8, reason: Refusal) -> Result<(), Memory>
+    ensures ok { OnOk result (text.new ≡ text.old ++ dropped_line sink bis reason) }
+    ensures err { OnErr result (AFront text.old text.new (dropped_line sink bis reason)) }
+{
+    put_line(
+        text,
+        b"relay",
+        &[
+            Word::Number(u64::from(sink)),
+            Word::Number(u64::from(bis)),
+            Word::Text(b"dropped"),
+            Word::Text(dropped_name_of(reason)),
         ],
     )
 }

@@ -16,8 +16,6 @@ pub enum Refusal {
     LineTooLong,
     /// The line is not of the grammar: the number of the first word that doesn't fit, from 0.
     BadLine { word: u64 },
-    /// The line, or what it describes, is of the language and not built yet.
-    NotBuilt,
     /// A step follows `end`.
     AfterEnd,
     /// The step stands in the wrong phase.
@@ -44,6 +42,10 @@ pub enum Refusal {
     UnitTooLong,
     /// The time of the unit doesn't fit the framing or the times before.
     TimeOrder,
+    /// The sink has a relay, or the stream has had a relay or a unit.
+    RelayTaken,
+    /// The stream of the unit has had a relay.
+    Relayed,
     /// 16 units of the stream wait.
     Backlog,
     /// The group has no such subevent.
@@ -65,14 +67,13 @@ pub enum Refusal {
 }
 
 /// The name of a refusal in the scenario language.
-fn name_of(reason: Refusal) -> &'static [u8]
+pub(crate) fn name_of(reason: Refusal) -> &'static [u8]
     ensures { result.now ≡ refusal_name reason }
 {
     match reason {
         Refusal::TextTooLong => b"TextTooLong",
         Refusal::LineTooLong => b"LineTooLong",
         Refusal::BadLine { .. } => b"BadLine",
-        Refusal::NotBuilt => b"NotBuilt",
         Refusal::AfterEnd => b"AfterEnd",
         Refusal::Order => b"Order",
         Refusal::BadGroup { .. } => b"BadGroup",
@@ -86,6 +87,8 @@ fn name_of(reason: Refusal) -> &'static [u8]
         Refusal::NoSuchBis => b"NoSuchBis",
         Refusal::UnitTooLong => b"UnitTooLong",
         Refusal::TimeOrder => b"TimeOrder",
+        Refusal::RelayTaken => b"RelayTaken",
+        Refusal::Relayed => b"Relayed",
         Refusal::Backlog => b"Backlog",
         Refusal::NoSuchSubevent => b"NoSuchSubevent",
         Refusal::NotOnAir => b"NotOnAir",

@@ -1,15 +1,22 @@
 //! Each call of the outside fails in turn, in a whole life of a sink.
 
 use crate::status::Status;
-use crate::tests::run_with;
 use crate::tests::sink_rows::WHOLE_LIFE;
+use crate::tests::{run_with, text_source};
 use bcast_base::{Calls, Octets};
-use bcast_io::{MemorySink, MemorySource};
+use bcast_io::{FaithfulSink, MemorySink, MemorySource};
 use replay_words::Words;
 use std::alloc::Global;
 use std::process::Abort;
 use std::test::*;
-use unit_outlets::{FailingTally, Outlet};
+use unit_outlets::{FailingTally, Outlet, Tally};
+
+/// Sink 0 relays a stream of source 0 to one of source 1 that takes no unit of more than two octets, and sink 1 hears the stream too.
+const DROPPED: &str =
+    "scenario 2\ngroup unframed 20000 40000 8 10000 4 4 1 1 1 1 0 0 0 1\nsource 1\ngroup framed 70000 40000 8 10884 2 10 1 2 2 1 0 400 0 1\nident 0 000000000000 1 000000\nstart 0\nsource 0\nstart 0\nsink 0 1 1\nsink 1 1 1\ntuned 0 1\ntuned 1 1\nrelay 0 1 1\nunit 1 - aabbcc\nevent\nair 0 0\nair 1 0\nevent\nevent\nend\n";
+
+/// What comes before the unit that sink 1 hands up.
+const BEFORE_ITS_UNIT: &str = "unit 0 1 at 60060 valid 3 aabbcc\nrelay 0 1 dropped UnitTooLong\n";
 
 /// More calls than a whole life makes.
 const MANY: u64 = 100;
@@ -83,4 +90,19 @@ fn each_write_that_fails_is_a_write_fault(rt: HostRuntime) -> Result<(), Fail> {
 #[test]
 fn each_take_that_fails_is_an_outlet_fault(rt: HostRuntime) -> Result<(), Fail> {
     each_ends_with(&rt, Failing::Takes, Status::OutletFault)
+}
+
+#[test]
+fn what_a_relay_drops_comes_before_a_refused_unit(rt: HostRuntime) -> Result<(), Fail> {
+    let takes = calls_failing(rt.alloc(), true, 1)?;
+    let mut outlets: Vec<Box<dyn Outlet>> = Vec::new(rt.alloc());
+    outlets.push(Box::new(rt.alloc(), Tally::new())?)?;
+    outlets.push(Box::new(rt.alloc(), FailingTally::new(takes))?)?;
+    let mut source = text_source(rt.alloc(), DROPPED, 64)?;
+    let mut sink = FaithfulSink::new(rt.alloc());
+    let words = Words::new(rt.alloc());
+    let status = run_with(rt.alloc(), &words, &mut source, &mut sink, &mut outlets);
+    assert!(rt; status == Status::OutletFault);
+    assert!(rt; sink.taken() == BEFORE_ITS_UNIT.as_bytes());
+    Ok(())
 }

@@ -10,7 +10,7 @@ pub struct Row {
     pub exit_code: u8,
 }
 
-pub const ROWS: [Row; 50] = [
+pub const ROWS: [Row; 52] = [
     Row {
         name: "least-path",
         boxes: 2,
@@ -233,6 +233,20 @@ pub const ROWS: [Row; 50] = [
         boxes: 2,
         text: "scenario 2\ngroup unframed 20000 40000 8 10000 4 4 1 1 1 1 0 0 0 1\nsource 1\ngroup unframed 25000 40000 8 10000 4 4 1 1 1 1 0 0 0 1\nsource 0\nsink 0 1 1\nsink 1 1 1\nstart 0\ntuned 0 1\nunit 1 - aa\nevent\nsource 1\nstart 0\ntuned 1 1\nunit 1 - bb\nevent\nhear 0 0 1 0\nhear 1 0 1 0\nsource 0\nair 0 0\nend\n",
         transcript: "line 13: IdentTwice\n",
+        exit_code: 1,
+    },
+    Row {
+        name: "relay",
+        boxes: 2,
+        text: "scenario 2\ngroup unframed 20000 40000 8 10000 4 4 1 1 1 1 0 0 0 1\nsource 1\ngroup framed 70000 40000 8 10884 8 10 1 2 2 1 0 400 0 1\nident 0 000000000000 1 000000\nstart 0\nsource 0\nstart 0\nsink 0 1 1\ntuned 0 1\nrelay 0 1 1\nunit 1 - aa\nevent\nair 0 0\nunit 1 - bb\nevent\nsource 1\nsink 1 1 1\ntuned 1 1\nevent\nsniff 0 1 0\nair 1 0\nend\n",
+        transcript: "unit 0 1 at 60060 valid 1 aa\npdu 0 1 0 02060204d42600aa\nunit 0 1 at 70060 lost\nunit 1 1 at 121428 valid 1 aa\nsum 0 1 1\nsum 1 1 1\n",
+        exit_code: 0,
+    },
+    Row {
+        name: "relay-drops",
+        boxes: 2,
+        text: "scenario 2\ngroup unframed 20000 40000 8 10000 4 4 1 1 1 1 0 0 0 1\nsource 1\ngroup framed 70000 40000 8 10884 2 10 1 2 2 1 0 400 0 1\nident 0 000000000000 1 000000\nstart 0\nsource 0\nstart 0\nsink 0 1 1\ntuned 0 1\nrelay 0 1 1\nunit 1 - aabbcc\nevent\nair 0 0\nunit 1 - bb\nevent\nsource 1\nunit 1 5 dd\n",
+        transcript: "unit 0 1 at 60060 valid 3 aabbcc\nrelay 0 1 dropped UnitTooLong\nline 18: Relayed\n",
         exit_code: 1,
     },
     Row {

@@ -93,7 +93,7 @@ pub record UntakenRun {A : Type 0} (starts : List Account) (lines : List TextLin
   pub later : List TextLine
   pub split : lines ≡ reverse earlier ++ later
   pub accepted : Accepted (rules_of airs_of starts) earlier
-  pub same : UntakenSame (steps_of earlier) old new
+  pub same : UntakenSame (steps_of airs_of earlier) old new
 
 -- ---- the summary
 

@@ -1,5 +1,5 @@
 -- What holds of every scenario, whatever is run of it. Scenarios are this project's own.
-use Rattle.std.specs.Prelude.{◌≡◌, List}
+use Rattle.std.specs.Prelude.{◌≡◌, List, ◌∷◌}
 use Rattle.bcast_io.specs.TextLines.{TextLine}
 use Rattle.unit_outlets.specs.Account.{Account}
 use Rattle.source_machine.specs.Airs.{airs_of}
@@ -10,6 +10,8 @@ use Rattle.scenario_history.specs.Source.{Airs}
 use Rattle.scenario_history.specs.Transcript.{end_after, out_of, transcript_end, transcript_of, units_of}
 use Rattle.isolation_laws.specs.Isolation.{IsolationLaw}
 use Rattle.migration_laws.specs.Laws.{MigrationLaw}
+use Rattle.relay_laws.specs.Relayed.{RelayLinesLaw, RelayedUnitsLaw}
+use Rattle.replay_steps.specs.LineMeets.{answered_on}
 use Rattle.scenario_laws.specs.Laws.{UnitsLaw, OrderLaw}
 use Rattle.scenario_laws.specs.Links.{AgreementLaw, LinksLaw}
 
@@ -24,6 +26,10 @@ pub record Same (airs others : Airs) : Type 0 where
       → Accepted (rules_of others starts) lines
   pub handed : (starts : List Account) → (lines : List TextLine) → (line : TextLine) → Accepted (rules_of airs starts) lines
       → handed_on airs lines line ≡ handed_on others lines line
+  pub output : (starts : List Account) → (lines : List TextLine) → (line : TextLine) → Accepted (rules_of airs starts) (line ∷ lines)
+      → (rules_of airs starts).output lines line ≡ (rules_of others starts).output lines line
+  pub answered : (starts : List Account) → (lines : List TextLine) → (line : TextLine) → Accepted (rules_of airs starts) (line ∷ lines)
+      → answered_on airs lines line ≡ answered_on others lines line
 
 -- any airs that meet their relation give the same transcripts
 abbrev pub AllSame : Type 0
@@ -39,3 +45,5 @@ pub record Laws (boxes : List Account) : Type 0 where
   pub links : LinksLaw
   pub isolation : IsolationLaw boxes
   pub migration : MigrationLaw boxes
+  pub relay : RelayLinesLaw boxes
+  pub relayed_units : RelayedUnitsLaw boxes

@@ -1,11 +1,13 @@
 -- What the sinks of a scenario keep, and the past that it stands for.
 use Rattle.std.specs.Prelude.{ℕ, ◌≡◌, ◌<◌, List, [], Option, None, Some, slice_get}
+use Rattle.unit_outlets.specs.Handed.{Handed}
 use Rattle.group_sink.specs.Calls.{Call}
 use Rattle.link_histories.specs.Calls as links
 use Rattle.scenario_history.specs.Boxes.{most_sinks}
 use Rattle.scenario_sinks.specs.declared.sink.Sink.{Sink}
 use Rattle.scenario_sinks.specs.declared.sinks.Sinks.{Sinks}
 use Rattle.scenario_sinks.specs.Pasts.{Past}
+use Rattle.scenario_sinks.specs.State.Gathering.{calls_of}
 use Rattle.sink_histories.specs.Lives.{Made}
 use Rattle.sink_steps.specs.State.Living.{Lives}
 
@@ -22,6 +24,12 @@ EntryAt past n entry = EntryIs (past.boxes n) (past.mades n) (past.sources n) (p
 
 abbrev pub EntriesAre : Past → List (Option Sink) → Type 0
 EntriesAre past sinks = (n : ℕ) → n < most_sinks → EntryAt past n (slice_get sinks n)
+
+-- the sinks are as their past left them, and lend these units
+pub record SinksLend (past : Past) (units : List Handed) (sinks : Sinks) : Type 0 where
+  pub entries : EntriesAre past sinks.entries.items
+  pub made : sinks.outlets ≡ past.made
+  pub held : calls_of sinks.gathered ≡ units
 
 -- the sinks are as their past left them
 pub record SinksStand (past : Past) (sinks : Sinks) : Type 0 where

@@ -11,4 +11,5 @@ returns c =
       end = c.one_transcript.ensures.end;
       units = c.one_transcript.ensures.units;
       accepted = c.one_transcript.ensures.accepted;
+      steps = c.one_transcript.ensures.steps;
     }) c.some_airs_meet.ensures

@@ -1,4 +1,4 @@
-use Rattle.std.proofs.Common.{◌≡◌, ◌∷◌, [], ◌∙◌, ◌++◌, append_assoc, append-nil, ap, sym, subst}
+use Rattle.std.proofs.Common.{◌∷◌, [], ◌∙◌, ◌++◌, append_assoc, append-nil, ap, sym, subst}
 use Rattle.std.proofs.lemmas.List.{nil_from_length}
 use Rattle.std.specs.Vec.Iter.{into_iter_items, into_iter_steps}
 use Rattle.replay_command.proofs.CommandLines.{behind_first}

@@ -1,4 +1,7 @@
+use Rattle.std.proofs.Common.{length}
 use Rattle.source_machine.specs.Airs.{airs_of}
+use Rattle.scenario_history.specs.Lines.{said_after, steps_of}
+use Rattle.replay_lines.proofs.OtherAirs.{answered_alike}
 use Rattle.replay_lines.proofs.text.laws_hold.Goals as goal
 
 pub returns : goal.returns
@@ -11,6 +14,10 @@ returns c boxes = record {
     lines_end = λ starts lines. c.one_transcript.ensures.lines_end airs_of airs starts lines c.some_airs_meet.ensures meets;
     accepted = λ starts lines. c.one_transcript.ensures.accepted airs_of airs starts lines c.some_airs_meet.ensures meets;
     handed = λ starts lines line. c.one_transcript.ensures.handed airs_of airs starts lines line c.some_airs_meet.ensures meets;
+    output = λ starts lines line. c.one_transcript.ensures.output airs_of airs starts lines line c.some_airs_meet.ensures meets;
+    answered = λ starts lines line accepted.
+        answered_alike airs_of airs (length starts) (steps_of airs_of lines) (steps_of airs lines) (said_after lines line)
+        (λ step. c.one_transcript.ensures.answers airs_of airs starts lines step c.some_airs_meet.ensures meets accepted.0) accepted.1;
   };
   meet = c.some_airs_meet.ensures;
   units = c.units_law.ensures boxes;
@@ -19,4 +26,6 @@ returns c boxes = record {
   links = c.links_law.ensures;
   isolation = c.isolation_law.ensures boxes;
   migration = c.migration_law.ensures boxes;
+  relay = c.relay_lines_law.ensures boxes;
+  relayed_units = c.relayed_units_law.ensures boxes;
 }

@@ -1,4 +1,4 @@
-use Rattle.scenario_laws.proofs.OneTranscript.{accepted_same, end_after_same, handed_on_same, out_of_same, transcript_end_same, transcript_same, units_same}
+use Rattle.scenario_laws.proofs.OneTranscript.{accepted_same, answered_same, brought_same, end_after_same, handed_on_same, out_of_same, steps_same, transcript_end_same, transcript_same, units_same}
 use Rattle.scenario_laws.proofs.history_laws.one_transcript.Goals as goal
 
 pub returns-clause-octets : goal.returns-clause-octets
@@ -28,3 +28,15 @@ returns-clause-accepted c = λ airs others starts lines meets meet_too.
 pub returns-clause-handed : goal.returns-clause-handed
 returns-clause-handed c = λ airs others starts lines line meets meet_too.
     handed_on_same airs others (record { both = record { one = c.one_air.ensures.same; meets = meets; meet_too = meet_too }; ranged = c.a_line_says_one_step.ensures.in_range }) starts lines line
+
+pub returns-clause-steps : goal.returns-clause-steps
+returns-clause-steps c = λ airs others starts lines meets meet_too.
+    steps_same airs others (record { both = record { one = c.one_air.ensures.same; meets = meets; meet_too = meet_too }; ranged = c.a_line_says_one_step.ensures.in_range }) starts lines
+
+pub returns-clause-output : goal.returns-clause-output
+returns-clause-output c = λ airs others starts lines line meets meet_too accepted.
+    brought_same airs others (record { both = record { one = c.one_air.ensures.same; meets = meets; meet_too = meet_too }; ranged = c.a_line_says_one_step.ensures.in_range }) starts lines line accepted.0 accepted.1
+
+pub returns-clause-answers : goal.returns-clause-answers
+returns-clause-answers c = λ airs others starts lines step meets meet_too.
+    answered_same airs others (record { both = record { one = c.one_air.ensures.same; meets = meets; meet_too = meet_too }; ranged = c.a_line_says_one_step.ensures.in_range }) starts lines step

@@ -1,42 +1,12 @@
-use Rattle.std.proofs.Common.{refl, map}
-use Rattle.scenario_sinks.specs.State.Gathering.{handed_of}
-use Rattle.scenario_sinks.proofs.Closings.{gathered_are, sink_closes, sink_left}
-use Rattle.scenario_sinks.proofs.Entries.{sink_in}
-use Rattle.scenario_sinks.proofs.Untaken.{all_but}
+use Rattle.scenario_sinks.proofs.Closings.{sink_closes}
 use Rattle.scenario_sinks.proofs.close.close_sink.Goals as goal
 
-pub returns-then-not-is_of-clause-closes : goal.returns-then-not-is_of-clause-closes
-returns-then-not-is_of-clause-closes g c box made own life received entry empty =
-    let was = sink_in box made own life received c.args.entry.now c.in-Some.sink entry c.in-Some.is in
-    sink_left box made own life received c.args.number c.args.source c.args.event c.in-Some.sink c.source.result c.is_of.result c.args.gathered.now c.args.text.now _
-    was (c.source.ensures was.how own life received was.lives) c.is_of.ensures c.if-not-is_of.true empty
-
-pub returns-in-Err-hand_units-clause-closes : goal.returns-in-Err-hand_units-clause-closes
-returns-in-Err-hand_units-clause-closes g c box made own life received entry empty =
-    let was = sink_in box made own life received c.args.entry.now c.in-Some.sink entry c.in-Some.is in
-    sink_closes box made own life received c.args.number c.args.source c.args.event c.in-Some.sink _ c.source.result c.is_of.result
-    (map handed_of c.as_slice.result.now) _ c.args.text.now c.hand_units.new.text _ _ _
-    was (c.source.ensures was.how own life received was.lives) c.is_of.ensures c.if-not-is_of.false
-    (gathered_are c.args.gathered.now.units.items c.tick.new.taker.units.items c.as_slice.result.now _ empty
-    (c.in-Ok.ensures.hands was.how own life received was.lives) c.as_slice.ensures.value)
-    c.in-Err-hand_units.ensures.hands refl (c.in-Ok.ensures.lives was.how own life received was.lives) tt
+pub returns-in-Err-clause-closes : goal.returns-in-Err-clause-closes
+returns-in-Err-clause-closes g c box made own life received entry empty =
+    sink_closes box made own life received c.args.number c.args.source c.args.event c.hand_sink.new.entry c.hand_sink.new.gathered c.hand_sink.new.gathered
+    c.args.text.now c.hand_sink.new.text _ _ _ (c.in-Err.ensures.hands box made own life received entry empty) tt
 
 pub returns-clause-closes : goal.returns-clause-closes
 returns-clause-closes g c box made own life received entry empty =
-    let was = sink_in box made own life received c.args.entry.now c.in-Some.sink entry c.in-Some.is in
-    sink_closes box made own life received c.args.number c.args.source c.args.event c.in-Some.sink _ c.source.result c.is_of.result
-    (map handed_of c.as_slice.result.now) _ c.args.text.now c.hand_units.new.text _ _ _
-    was (c.source.ensures was.how own life received was.lives) c.is_of.ensures c.if-not-is_of.false
-    (gathered_are c.args.gathered.now.units.items c.tick.new.taker.units.items c.as_slice.result.now _ empty
-    (c.in-Ok.ensures.hands was.how own life received was.lives) c.as_slice.ensures.value)
-    c.in-Ok-hand_units.ensures.hands refl (c.in-Ok.ensures.lives was.how own life received was.lives) c.clear.ensures.items
-
-pub returns-in-Err-hand_units-clause-others : goal.returns-in-Err-hand_units-clause-others
-returns-in-Err-hand_units-clause-others g c box made own life received entry =
-    let was = sink_in box made own life received c.args.entry.now c.in-Some.sink entry c.in-Some.is in
-    all_but box c.in-Some.sink.outlet _ _ was.box_is c.hand_units.ensures.others
-
-pub returns-clause-others : goal.returns-clause-others
-returns-clause-others g c box made own life received entry =
-    let was = sink_in box made own life received c.args.entry.now c.in-Some.sink entry c.in-Some.is in
-    all_but box c.in-Some.sink.outlet _ _ was.box_is c.hand_units.ensures.others
+    sink_closes box made own life received c.args.number c.args.source c.args.event c.hand_sink.new.entry c.hand_sink.new.gathered _
+    c.args.text.now c.hand_sink.new.text _ _ _ (c.in-Ok.ensures.hands box made own life received entry empty) c.clear.ensures.items

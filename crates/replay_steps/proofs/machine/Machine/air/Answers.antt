@@ -18,4 +18,4 @@ returns c boxes version steps stands e =
     let reach = c.in-Ok.ensures steps stands in
     let last = c.in-Some.ensures.last steps stands.sources reach.0 in
     let on : OnAir steps c.args.sink c.in-Some.event c.in-Ok.group = record { started = reach.0; info = reach.1; lives = reach.2; some = last.0; event_is = last.1 } in
-    air_meets boxes version c.args.sink c.args.lose c.in-Some.event steps c.args.self.now _ c.in-Ok.group stands e on refl refl (c.hear_all.ensures steps on stands.sources stands.sinks)
+    air_meets boxes version c.args.sink c.args.lose c.in-Some.event steps c.args.self.now _ c.in-Ok.group stands e on refl refl refl (c.hear_all.ensures steps on stands.sources stands.sinks)

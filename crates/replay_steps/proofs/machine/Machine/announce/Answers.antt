@@ -1,6 +1,5 @@
 use Rattle.std.proofs.Common.{length, refl, sym, ◌∙◌}
 use Rattle.scenario_history.specs.Worlds.{source_at}
-use Rattle.scenario_text.specs.declared.step.Step.TheVariants.{Announce}
 use Rattle.replay_steps.specs.Machines.{past_of}
 use Rattle.replay_steps.proofs.SinkLines.{announce_early, announce_fails, announce_meets, announce_nowhere}
 use Rattle.replay_steps.proofs.machine.Machine.announce.Goals as goal
@@ -26,5 +25,5 @@ returns-in-Err c starts version steps stands e =
 pub returns : goal.returns
 returns c starts version steps stands e =
     let train = c.in-Ok.ensures.announces steps stands.sources in
-    announce_meets starts version c.args.sink steps c.in-Ok.train c.args.self.now _ c.args.text.now c.announce-2.new.text c.announce-2.result stands e train refl refl
+    announce_meets starts version c.args.sink steps c.in-Ok.train c.args.self.now _ c.args.text.now c.announce-2.new.text c.announce-2.result stands e train refl refl refl
     (c.announce-2.ensures (past_of steps) (source_at steps) (c.origin-origin.ensures steps stands) (sym train.2) stands.sinks)

@@ -1,6 +1,8 @@
-use Rattle.std.proofs.Common.{ap}
+use Rattle.std.proofs.Common.{ap, refl}
 use Rattle.scenario_history.specs.Steps.{running}
+use Rattle.scenario_text.specs.declared.step.Step.TheVariants.{Scenario}
 use Rattle.scenario_sources.proofs.Citable.{scenario_begins}
+use Rattle.replay_steps.proofs.RelaysStay.{relays_stay}
 use Rattle.replay_steps.proofs.machine.Machine.first_step.Goals as goal
 
 pub returns : goal.returns
@@ -11,5 +13,6 @@ returns c boxes steps stands e =
         stage = ap running c.of.ensures;
         sources = scenario_begins c.in-Scenario.version steps c.args.self.now.sources e stands.sources;
         sinks = stands.sinks;
+        relays = relays_stay steps (Scenario c.in-Scenario.version) c.args.self.now.relays refl stands.relays;
       },
     )

@@ -9,5 +9,5 @@ returns c boxes version steps plain stands e =
       stage = λ stage. refl;
       placed = λ v. refl;
       refusal = λ boxes steps. refl;
-    }) refl stands e refl refl
+    }) refl stands e refl refl refl refl
     (c.describe.ensures version steps plain stands.sources)

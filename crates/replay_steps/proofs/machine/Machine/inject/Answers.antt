@@ -7,14 +7,14 @@ use Rattle.replay_steps.proofs.machine.Machine.inject.Goals as goal
 pub returns-in-Err : goal.returns-in-Err
 returns-in-Err c starts version steps stands e =
     let made = InjectStep c.args.sink c.args.place.back c.args.place.bis c.args.place.subevent c.args.octets.now in
-    quiet_tells starts steps made c.args.self.now c.args.text.now c.in-Err.stop (reach_fails (length starts) version c.args.sink steps made c.args.self.now c.in-Err.stop stands
+    quiet_tells starts steps made c.args.self.now c.args.text.now c.in-Err.stop refl (reach_fails (length starts) version c.args.sink steps made c.args.self.now c.in-Err.stop stands
     (inject_brings c.args.sink c.args.place.back c.args.place.bis c.args.place.subevent c.args.octets.now) e (c.in-Err.ensures steps stands))
 
 pub returns-in-Err-heard_at : goal.returns-in-Err-heard_at
 returns-in-Err-heard_at c starts version steps stands e =
     let made = InjectStep c.args.sink c.args.place.back c.args.place.bis c.args.place.subevent c.args.octets.now in
     let reach = c.in-Ok.ensures steps stands in
-    quiet_tells starts steps made c.args.self.now c.args.text.now c.in-Err-heard_at.stop
+    quiet_tells starts steps made c.args.self.now c.args.text.now c.in-Err-heard_at.stop refl
     (place_fails (length starts) version c.args.sink c.args.place.back c.args.place.bis c.args.place.subevent steps made c.args.self.now c.in-Ok.field-0 c.in-Err-heard_at.stop stands
     (inject_brings c.args.sink c.args.place.back c.args.place.bis c.args.place.subevent c.args.octets.now) refl e reach (c.in-Err-heard_at.ensures.err steps stands.sources reach.0))
 
@@ -30,4 +30,4 @@ returns-in-Ok-put_heard c starts version steps stands e =
     inject_meets starts version c.args.sink c.chosen-source.result c.event_back-event.result c.args.place.back c.args.place.bis c.args.place.subevent c.args.octets.now steps
     c.args.self.now _ c.in-Some.hearing c.in-Ok.field-0
     c.args.text.now c.put_heard.new.text stands e reach (c.in-Ok-heard_at.ensures.ok steps stands.sources).0 (c.chosen-source.ensures.source steps stands.sources)
-    (c.event_back-event.ensures.event steps stands.sources reach.0) refl refl (c.in-Some.ensures (past_of steps) stands.sinks) c.in-Ok-put_heard.ensures.ok
+    (c.event_back-event.ensures.event steps stands.sources reach.0) refl refl refl (c.in-Some.ensures (past_of steps) stands.sinks) c.in-Ok-put_heard.ensures.ok

@@ -7,4 +7,4 @@ use Rattle.replay_steps.proofs.machine.Machine.sink.Goals as goal
 pub returns : goal.returns
 returns c steps stands e =
     make_meets c.args.boxes (number_of c.args.version) c.args.sink c.args.streams c.args.slots _ c.args.mtu steps c.args.self.now _ c.make.result stands e
-    c.limits-horizon.ensures.horizon refl refl (c.make.ensures (past_of steps) stands.sinks)
+    c.limits-horizon.ensures.horizon refl refl refl (c.make.ensures (past_of steps) stands.sinks)

@@ -11,5 +11,5 @@ returns c boxes steps stands e =
       placed = λ v. refl;
       refusal = λ boxes
           steps. refl;
-    }) refl stands e refl refl
+    }) refl stands e refl refl refl refl
     (c.start.ensures (number_of c.args.version) steps c.limits.ensures.horizon c.limits.ensures.ahead e stands.sources)

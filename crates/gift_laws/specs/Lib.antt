@@ -1,0 +1,3 @@
+pub mod Dropped
+pub mod Laws
+pub mod Legal

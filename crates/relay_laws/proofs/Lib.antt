@@ -1,0 +1,5 @@
+mod Both
+mod Ending
+mod Numbered
+mod Offering
+mod Order

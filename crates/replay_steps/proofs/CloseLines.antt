@@ -1,0 +1,278 @@
+-- What a close of source 0 prints, sink by sink, is what its definition says: the units of each sink, and then those that its relay
+-- offered and that source 1 didn't take.
+use Rattle.std.proofs.Common.{ℕ, zero, suc, ◌≡◌, ◌≢◌, ◌<◌, ◌≤◌, ◌+◌, ◌-◌, ◌==◌, ◌&&◌, Bool, true, false, cond, List, [], ◌∷◌, ◌++◌, map, refl, sym, ◌∙◌, ap, ap₂, subst, inl, inr}
+use Rattle.std.proofs.Common.{append-nil, arith, eq-eqb, ne_eqb, Option, None, Some}
+use Rattle.std.specs.List.{filter, flat_map, range_with_len}
+use Rattle.std.proofs.lemmas.Bool.{cases_eq}
+use Rattle.std.proofs.lemmas.List.{map-append}
+use Rattle.std.proofs.lemmas.List.Elements.{filter-append}
+use Rattle.bcast_base.specs.declared.unit.Unit.{Unit as AudioUnit}
+use Rattle.group_sink.specs.Calls.{Call}
+use Rattle.group_sink.specs.Handing.{handed_at}
+use Rattle.unit_outlets.specs.Handed.{Handed}
+use Rattle.source_machine.specs.Airs.{airs_of}
+use Rattle.transcript_text.specs.Lines.{handed_line}
+use Rattle.scenario_text.specs.declared.step.Step.{Step}
+use Rattle.scenario_history.specs.Boxes.{SinkUnit, closing, closing_at, closing_in, sink_numbers}
+use Rattle.scenario_history.specs.Gifts.{Answered, Offer, after_offer, after_offers, answered, dropped_for, handed_of, offered_of, offers_at, units_on}
+use Rattle.scenario_history.specs.Output.{dropped_lines, first_lines, unit_lines}
+use Rattle.scenario_history.specs.Relays.{Route, relay_of}
+use Rattle.scenario_history.specs.Sinks.{is_of}
+use Rattle.scenario_history.specs.Source.{open_event}
+use Rattle.scenario_history.specs.Steps.{steps_of_source}
+use Rattle.scenario_sinks.specs.Closing.{closing_of, handed_all}
+use Rattle.scenario_sinks.specs.Pasts.{Past}
+use Rattle.replay_steps.specs.Machines.{past_of}
+use Rattle.replay_steps.specs.Relaying.{answer_lines, lines_at, lines_below, offers_below, offers_of, units_below}
+use Rattle.replay_steps.proofs.Offering.{after_append, answered_append}
+
+-- ---- lists
+
+pub flat_same : {A : Type 0} (f g : ℕ → List A) (xs : List ℕ) → ((n : ℕ) → f n ≡ g n) → flat_map f xs ≡ flat_map g xs
+flat_same f g [] same = refl
+flat_same f g (x ∷ xs) same = ap (λ front. front ++ flat_map f xs) (same x) ∙ ap (λ rest. g x ++ rest) (flat_same f g xs same)
+
+pub flat_within : {B : Type 0} (f g : ℕ → List B) (start count : ℕ) → ((m : ℕ) → start ≤ m → m < start + count → f m ≡ g m)
+    → flat_map f (range_with_len start count) ≡ flat_map g (range_with_len start count)
+flat_within f g start zero same = refl
+flat_within f g start (suc count) same =
+    ap (λ l. l ++ flat_map f (range_with_len (start + 1) count)) (same start (omega arith) (omega arith))
+    ∙ ap (λ l. g start ++ l) (flat_within f g (start + 1) count (λ m least below. same m (omega (arith, least)) (omega (arith, below))))
+
+pub flat_nothing : {B : Type 0} (f : ℕ → List B) (start count : ℕ) → ((m : ℕ) → start ≤ m → m < start + count → f m ≡ []) → flat_map f (range_with_len start count) ≡ []
+flat_nothing f start zero none = refl
+flat_nothing f start (suc count) none =
+    ap (λ l. l ++ flat_map f (range_with_len (start + 1) count)) (none start (omega arith) (omega arith))
+    ∙ flat_nothing f (start + 1) count (λ m least below. none m (omega (arith, least)) (omega (arith, below)))
+
+-- of a range only one number gives something
+flat_one : {B : Type 0} (f : ℕ → List B) (n start count : ℕ) → start ≤ n → n < start + count → ((m : ℕ) → m ≢ n → f m ≡ []) → flat_map f (range_with_len start count) ≡ f n
+flat_one f n start zero least below others = absurd (omega (arith, least, below))
+flat_one f n start (suc count) least below others = elim (cases_eq start n) [
+  | inl same ↦
+      ap (λ l. f start ++ l) (flat_nothing f (start + 1) count (λ m more under. others m (λ e. omega (arith, same, more, e))))
+      ∙ append-nil (f start) ∙ ap f same
+  | inr other ↦
+      ap (λ l. l ++ flat_map f (range_with_len (start + 1) count)) (others start other)
+      ∙ flat_one f n (start + 1) count (omega (arith, least, other)) (omega (arith, below)) others
+]
+
+-- ---- what one sink hands up, among all
+
+abbrev mine : ℕ → ℕ → SinkUnit → Bool
+mine s n unit = (unit.source == s) && (unit.sink == n)
+
+pub handed_append : (s n : ℕ) (one other : List SinkUnit) → handed_of s n (one ++ other) ≡ handed_of s n one ++ handed_of s n other
+handed_append s n one other =
+    ap (map (λ (unit : SinkUnit). unit.unit)) (filter-append (mine s n) one other)
+    ∙ map-append (λ (unit : SinkUnit). unit.unit) (filter (mine s n) one) (filter (mine s n) other)
+
+own_units : (n box : ℕ) (units : List Handed)
+    → handed_of 0 n (map (λ unit. record { source = 0; sink = n; box = box; unit = unit }) units) ≡ units
+own_units n box [] = refl
+own_units n box (unit ∷ units) = rw (eq-eqb n n refl) (ap (λ l. unit ∷ l) (own_units n box units))
+
+back_units : (n box : ℕ) (units : List Handed)
+    → handed_all (map (λ unit. record { source = 0; sink = n; box = box; unit = unit }) units) ≡ units
+back_units n box [] = refl
+back_units n box (unit ∷ units) = ap (λ l. unit ∷ l) (back_units n box units)
+
+other_units : (n m box : ℕ) (units : List Handed) → (m == n) ≡ false
+    → handed_of 0 n (map (λ unit. record { source = 0; sink = m; box = box; unit = unit }) units) ≡ []
+other_units n m box [] other = refl
+other_units n m box (unit ∷ units) other = rw other (other_units n m box units other)
+
+own_in : (its : Bool) (event n : ℕ) (calls : List Call) (box : Option ℕ)
+    → handed_of 0 n (cond its (closing_in 0 event n calls box) []) ≡ handed_all (cond its (closing_in 0 event n calls box) [])
+own_in true event n calls None = refl
+own_in true event n calls (Some box) = own_units n box (handed_at calls event) ∙ sym (back_units n box (handed_at calls event))
+own_in false event n calls box = refl
+
+other_in : (its : Bool) (event n m : ℕ) (calls : List Call) (box : Option ℕ) → (m == n) ≡ false
+    → handed_of 0 n (cond its (closing_in 0 event m calls box) []) ≡ []
+other_in true event n m calls None other = refl
+other_in true event n m calls (Some box) other = other_units n m box (handed_at calls event) other
+other_in false event n m calls box other = refl
+
+handed_flat : (n : ℕ) (f : ℕ → List SinkUnit) (ms : List ℕ) → handed_of 0 n (flat_map f ms) ≡ flat_map (λ m. handed_of 0 n (f m)) ms
+handed_flat n f [] = refl
+handed_flat n f (m ∷ ms) = handed_append 0 n (f m) (flat_map f ms) ∙ ap (λ l. handed_of 0 n (f m) ++ l) (handed_flat n f ms)
+
+-- of what the first sinks hand up the part of one of them is what it hands up
+pub own_handed : (past : Past) (event n number : ℕ) → n < number → handed_of 0 n (units_below past event number) ≡ handed_all (closing_of n 0 event past)
+own_handed past event n number below =
+    handed_flat n (λ m. closing_of m 0 event past) (range_with_len 0 number)
+    ∙ flat_one (λ m. handed_of 0 n (closing_of m 0 event past)) n 0 number (omega arith) (omega (arith, below))
+    (λ m other. other_in (is_of 0 (past.sources m)) event n m (past.received m) (past.boxes m) (ne_eqb m n other))
+    ∙ own_in (is_of 0 (past.sources n)) event n (past.received n) (past.boxes n)
+
+-- another sink has no part of it
+pub none_handed : (past : Past) (event n number : ℕ) → number ≤ n → handed_of 0 n (units_below past event number) ≡ []
+none_handed past event n number beyond =
+    handed_flat n (λ m. closing_of m 0 event past) (range_with_len 0 number)
+    ∙ flat_nothing (λ m. handed_of 0 n (closing_of m 0 event past)) 0 number
+    (λ m least below. other_in (is_of 0 (past.sources m)) event n m (past.received m) (past.boxes m) (ne_eqb m n (λ same. omega (arith, same, below, beyond))))
+
+-- its lines are those of its units
+lines_map : (n box : ℕ) (units : List Handed)
+    → flat_map (handed_line n) units ≡ unit_lines (map (λ unit. record { source = 0; sink = n; box = box; unit = unit }) units)
+lines_map n box [] = refl
+lines_map n box (unit ∷ units) = ap (λ l. handed_line n unit ++ l) (lines_map n box units)
+
+own_lines_in : (its : Bool) (event n : ℕ) (calls : List Call) (box : Option ℕ)
+    → flat_map (handed_line n) (handed_all (cond its (closing_in 0 event n calls box) [])) ≡ unit_lines (cond its (closing_in 0 event n calls box) [])
+own_lines_in true event n calls None = refl
+own_lines_in true event n calls (Some box) =
+    ap (flat_map (handed_line n)) (back_units n box (handed_at calls event)) ∙ lines_map n box (handed_at calls event)
+own_lines_in false event n calls box = refl
+
+pub own_lines : (past : Past) (event n : ℕ) → flat_map (handed_line n) (handed_all (closing_of n 0 event past)) ≡ unit_lines (closing_of n 0 event past)
+own_lines past event n = own_lines_in (is_of 0 (past.sources n)) event n (past.received n) (past.boxes n)
+
+-- ---- what is offered
+
+-- an event of source 0 is closed, or none is open: what its sinks hand up then, what their relays offer, and what is printed
+abbrev pub units_closed : Past → Option ℕ → List SinkUnit
+units_closed past None = []
+units_closed past (Some event) = units_below past event 8
+
+abbrev pub offers_closed : List Step → Past → Option ℕ → List Offer
+offers_closed steps past None = []
+offers_closed steps past (Some event) = offers_below steps past event 8
+
+abbrev pub lines_closed : List Step → Past → Option ℕ → List ℕ
+lines_closed steps past None = []
+lines_closed steps past (Some event) = lines_below steps past event 8
+
+units_at : (steps : List Step) (closed : Option ℕ) → closing_at airs_of 0 steps closed ≡ units_closed (past_of steps) closed
+unfolding sink_numbers
+units_at steps None = refl
+units_at steps (Some event) = refl
+
+pub units_are : (steps : List Step) (closed : Option ℕ) → closed ≡ open_event (steps_of_source 0 steps) → closing airs_of 0 steps ≡ units_closed (past_of steps) closed
+units_are steps closed is = ap (closing_at airs_of 0 steps) (sym is) ∙ units_at steps closed
+
+none_asked : (n : ℕ) (relay : Option Route) → offered_of n relay [] ≡ []
+none_asked n None = refl
+none_asked n (Some route) = refl
+
+offers_in : (steps : List Step) (closed : Option ℕ) → closing airs_of 0 steps ≡ units_closed (past_of steps) closed
+    → offers_at airs_of steps ≡ offers_closed steps (past_of steps) closed
+unfolding sink_numbers
+offers_in steps None is =
+    flat_nothing (λ n. offered_of n (relay_of n steps) (handed_of 0 n (closing airs_of 0 steps))) 0 8
+    (λ n least below. ap (λ units. offered_of n (relay_of n steps) (handed_of 0 n units)) is ∙ none_asked n (relay_of n steps))
+offers_in steps (Some event) is =
+    flat_within (λ n. offered_of n (relay_of n steps) (handed_of 0 n (closing airs_of 0 steps))) (λ n. offers_of steps (past_of steps) n event) 0 8
+    (λ n least below. ap (offered_of n (relay_of n steps)) (ap (handed_of 0 n) is ∙ own_handed (past_of steps) event n 8 (omega (arith, below))))
+
+pub offers_same : (steps : List Step) (closed : Option ℕ) → closed ≡ open_event (steps_of_source 0 steps)
+    → offers_at airs_of steps ≡ offers_closed steps (past_of steps) closed
+offers_same steps closed is = offers_in steps closed (units_are steps closed is)
+
+-- ---- what becomes of it, sink by sink
+
+abbrev pub of_sink : ℕ → Answered → Bool
+of_sink n answer = answer.offer.sink == n
+
+abbrev each_offer : ℕ → Route → AudioUnit → Offer
+each_offer m route unit = record { sink = m; route = route; unit = unit }
+
+no_answers : (hit : Bool) → (let none : List Answered = [] in none ≡ cond hit none none)
+no_answers true = refl
+no_answers false = refl
+
+route_answers : (n m : ℕ) (route : Route) (units : List AudioUnit) (steps : List Step)
+    → filter (of_sink n) (answered airs_of (map (each_offer m route) units) steps) ≡ cond (m == n) (answered airs_of (map (each_offer m route) units) steps) []
+route_answers n m route [] steps = no_answers (m == n)
+route_answers n m route (unit ∷ units) steps =
+    let now : List Step = after_offer airs_of (each_offer m route unit) steps in
+    let rest : List Answered = answered airs_of (map (each_offer m route) units) now in
+    let here : Answered = record { offer = each_offer m route unit; reason = dropped_for airs_of (each_offer m route unit) steps } in
+    let more : filter (of_sink n) rest ≡ cond (m == n) rest [] = route_answers n m route units now in
+    ap (λ l. cond (m == n) (here ∷ l) l) more
+    ∙ (elim (m == n) as (λ b. cond b (here ∷ cond b rest []) (cond b rest []) ≡ cond b (here ∷ rest) []) [ true ↦ refl | false ↦ refl ])
+
+sink_answers : (n m : ℕ) (relay : Option Route) (units : List Handed) (steps : List Step)
+    → filter (of_sink n) (answered airs_of (offered_of m relay units) steps) ≡ cond (m == n) (answered airs_of (offered_of m relay units) steps) []
+sink_answers n m None units steps = no_answers (m == n)
+sink_answers n m (Some route) units steps = route_answers n m route (units_on route.bis units) steps
+
+abbrev asks : List Step → Past → ℕ → ℕ → List Offer
+asks steps past event m = offers_of steps past m event
+
+-- sinks behind this one answer for themselves
+answers_past : (steps : List Step) (past : Past) (event n start count : ℕ) (now : List Step) → n < start
+    → filter (of_sink n) (answered airs_of (flat_map (asks steps past event) (range_with_len start count)) now) ≡ []
+answers_past steps past event n start zero now beyond = refl
+answers_past steps past event n start (suc count) now beyond =
+    let here : List Offer = asks steps past event start in
+    let rest : List Offer = flat_map (asks steps past event) (range_with_len (start + 1) count) in
+    let then : List Step = after_offers airs_of here now in
+    ap (filter (of_sink n)) (answered_append here rest now)
+    ∙ filter-append (of_sink n) (answered airs_of here now) (answered airs_of rest then)
+    ∙ ap₂ (λ one two. one ++ two)
+    (sink_answers n start (relay_of start steps) (handed_all (closing_of start 0 event past)) now
+    ∙ ap (λ b. cond b (answered airs_of here now) []) (ne_eqb start n (λ same. omega (arith, same, beyond))))
+    (answers_past steps past event n (start + 1) count then (omega (arith, beyond)))
+
+pub own_answers : (steps : List Step) (past : Past) (event n start count : ℕ) (now : List Step) → start ≤ n → n < start + count
+    → filter (of_sink n) (answered airs_of (flat_map (asks steps past event) (range_with_len start count)) now)
+    ≡ answered airs_of (asks steps past event n) (after_offers airs_of (flat_map (asks steps past event) (range_with_len start (n - start))) now)
+own_answers steps past event n start zero now least below = absurd (omega (arith, least, below))
+own_answers steps past event n start (suc count) now least below =
+    let here : List Offer = asks steps past event start in
+    let rest : List Offer = flat_map (asks steps past event) (range_with_len (start + 1) count) in
+    let then : List Step = after_offers airs_of here now in
+    let P : ℕ → Type 0 = λ m. answered airs_of (asks steps past event start) now ≡ answered airs_of (asks steps past event m)
+    (after_offers airs_of (flat_map (asks steps past event) (range_with_len start (m - start))) now) in
+    ap (filter (of_sink n)) (answered_append here rest now)
+    ∙ filter-append (of_sink n) (answered airs_of here now) (answered airs_of rest then)
+    ∙ (elim (cases_eq start n) [
+      | inl same ↦
+          ap₂ (λ one two. one ++ two)
+          (sink_answers n start (relay_of start steps) (handed_all (closing_of start 0 event past)) now
+          ∙ ap (λ b. cond b (answered airs_of here now) []) (eq-eqb start n same))
+          (answers_past steps past event n (start + 1) count then (omega (arith, same)))
+          ∙ append-nil (answered airs_of here now)
+          ∙ (let none : start - start ≡ 0 = omega arith in
+          subst P same (ap (λ k. answered airs_of here (after_offers airs_of (flat_map (asks steps past event) (range_with_len start k)) now)) (sym none)))
+      | inr other ↦
+          let left : n - start ≡ suc (n - (start + 1)) = omega (arith, least, other) in
+          ap₂ (λ one two. one ++ two)
+          (sink_answers n start (relay_of start steps) (handed_all (closing_of start 0 event past)) now
+          ∙ ap (λ b. cond b (answered airs_of here now) []) (ne_eqb start n other))
+          (own_answers steps past event n (start + 1) count then (omega (arith, least, other)) (omega (arith, below)))
+          ∙ ap (answered airs_of (asks steps past event n))
+          (sym (after_append here (flat_map (asks steps past event) (range_with_len (start + 1) (n - (start + 1)))) now)
+          ∙ ap (λ k. after_offers airs_of (flat_map (asks steps past event) (range_with_len start k)) now) (sym left))
+    ])
+
+-- of what becomes of all that the sinks' relays offer the part of one
+pub answers_of : (steps : List Step) (past : Past) (event n : ℕ) → n < 8
+    → filter (of_sink n) (answered airs_of (offers_below steps past event 8) steps)
+    ≡ answered airs_of (offers_of steps past n event) (after_offers airs_of (offers_below steps past event n) steps)
+answers_of steps past event n below =
+    let same : n - 0 ≡ n = omega arith in
+    own_answers steps past event n 0 8 steps (omega arith) (omega (arith, below))
+    ∙ ap (λ k. answered airs_of (offers_of steps past n event) (after_offers airs_of (offers_below steps past event k) steps)) same
+
+-- ---- the lines of a close of source 0
+
+lines_in : (steps : List Step) (closed : Option ℕ) → closing airs_of 0 steps ≡ units_closed (past_of steps) closed
+    → offers_at airs_of steps ≡ offers_closed steps (past_of steps) closed
+    → first_lines (closing airs_of 0 steps) (answered airs_of (offers_at airs_of steps) steps) ≡ lines_closed steps (past_of steps) closed
+unfolding sink_numbers
+lines_in steps None is asked = ap₂ (λ units offers. first_lines units (answered airs_of offers steps)) is asked
+lines_in steps (Some event) is asked =
+    let past : Past = past_of steps in
+    let answers : List Answered = answered airs_of (offers_at airs_of steps) steps in
+    flat_within (λ n. flat_map (handed_line n) (handed_of 0 n (closing airs_of 0 steps)) ++ dropped_lines n answers) (λ n. lines_at steps past n event) 0 8
+    (λ n least below.
+    ap₂ (λ one two. one ++ two)
+    (ap (flat_map (handed_line n)) (ap (handed_of 0 n) is ∙ own_handed past event n 8 (omega (arith, below))) ∙ own_lines past event n)
+    (ap (λ all. answer_lines (filter (of_sink n) (answered airs_of all steps))) asked ∙ ap answer_lines (answers_of steps past event n (omega (arith, below)))))
+
+pub first_printed : (steps : List Step) (closed : Option ℕ) → closed ≡ open_event (steps_of_source 0 steps)
+    → first_lines (closing airs_of 0 steps) (answered airs_of (offers_at airs_of steps) steps) ≡ lines_closed steps (past_of steps) closed
+first_printed steps closed is = lines_in steps closed (units_are steps closed is) (offers_same steps closed is)

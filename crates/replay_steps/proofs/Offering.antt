@@ -1,0 +1,243 @@
+-- Units that relays offer to source 1, by what they make of the sources, of the relays and of the text.
+use Rattle.std.proofs.Common.{ℕ, zero, suc, ◌≡◌, ◌≢◌, ◌<◌, ◌≤◌, ◌+◌, ◌==◌, ◌||◌, List, [], ◌∷◌, ◌++◌, length, map, take, get_or, not, refl, sym, ◌∙◌, ap, ap₂, subst}
+use Rattle.std.proofs.Common.{append_assoc, append-nil, arith, eq-eqb, ne_eqb, option_map, slice_get, Option, None, Some, Result, Ok, Err}
+use Rattle.std.specs.List.{list_any}
+use Rattle.std.specs.Option.{option_or}
+use Rattle.std.proofs.lemmas.List.{map-append, take_all, take_more}
+use Rattle.std.proofs.lemmas.List.Concat.{flat_map-append}
+use Rattle.bcast_base.specs.declared.unit.Unit.{Unit as AudioUnit}
+use Rattle.unit_outlets.specs.Handed.{Handed}
+use Rattle.source_machine.specs.Airs.{airs_of}
+use Rattle.transcript_text.specs.Lines.{dropped_line}
+use Rattle.transcript_text.specs.declared.refusal.Refusal.{Refusal}
+use Rattle.transcript_text.specs.declared.refusal.Refusal.TheVariants.{Order}
+use Rattle.transcript_text.specs.declared.stop.Stop.{Stop}
+use Rattle.transcript_text.specs.declared.stop.Stop.TheVariants.{Refused, OutletFault, Memory}
+use Rattle.scenario_text.specs.declared.step.Step.{Step}
+use Rattle.scenario_text.specs.declared.step.Step.TheVariants.{Source, Unit as UnitLine}
+use Rattle.scenario_history.specs.Gifts.{Answered, Offer, after_offer, after_offers, answered, dropped_for, offered_of, units_on, valid_on, with_gift}
+use Rattle.scenario_history.specs.Output.{answer_line}
+use Rattle.scenario_history.specs.Refusals.{gives_on, refuse_if, source_refusal}
+use Rattle.scenario_history.specs.Relays.{Route}
+use Rattle.scenario_history.specs.Source.{takes_units}
+use Rattle.scenario_history.specs.Steps.{chosen_of, steps_of_source, version_of}
+use Rattle.scenario_relays.specs.declared.relays.Relays.{Relays}
+use Rattle.scenario_relays.specs.declared.route.Route.{Route as LentRoute}
+use Rattle.scenario_relays.specs.Pasts as pasts
+use Rattle.scenario_relays.specs.State.Standing.{RelaysStand}
+use Rattle.scenario_sinks.specs.State.Gathering.{handed_as, handed_of}
+use Rattle.scenario_sinks.specs.declared.gathered.HandedUnit.{HandedUnit}
+use Rattle.scenario_sources.specs.Answers.{Answers}
+use Rattle.scenario_sources.specs.declared.sources.Sources.{Sources}
+use Rattle.scenario_sources.specs.State.Phases.{PhaseAt}
+use Rattle.scenario_sources.specs.State.Standing.{SourcesStand}
+use Rattle.replay_steps.specs.Machines.{lent, relays_past}
+use Rattle.replay_steps.specs.Relaying.{Drops, GivesSecond, OffersMeet, answer_lines}
+use Rattle.replay_steps.proofs.RelaysStay.{relays_as}
+use Rattle.replay_steps.proofs.Stepping.{or_none}
+
+-- ---- the sources by other steps
+
+-- the same source is chosen, and the same is said of each source
+pub record SaySame (one other : List Step) : Type 0 where
+  pub chosen : chosen_of one ≡ chosen_of other
+  pub first : steps_of_source 0 one ≡ steps_of_source 0 other
+  pub second : steps_of_source 1 one ≡ steps_of_source 1 other
+
+phase_as : (one other : List Step) (sources : Sources) → SaySame one other → SourcesStand one sources → (s : ℕ) → s < 2
+    → PhaseAt (steps_of_source s other) (slice_get sources.phases.items s)
+phase_as one other sources same stands zero below =
+    subst (λ own. PhaseAt own (slice_get sources.phases.items 0)) same.first (stands.phases 0 below)
+phase_as one other sources same stands (suc zero) below =
+    subst (λ own. PhaseAt own (slice_get sources.phases.items 1)) same.second (stands.phases 1 below)
+phase_as one other sources same stands (suc (suc s)) below = absurd (omega (arith, below))
+
+pub sources_as : (one other : List Step) (sources : Sources) → SaySame one other → SourcesStand one sources → SourcesStand other sources
+sources_as one other sources same stands =
+    record { chosen = stands.chosen ∙ same.chosen; phases = λ s below. phase_as one other sources same stands s below }
+
+-- ---- one unit
+
+abbrev unit_line_of : ℕ → AudioUnit → Step
+unit_line_of to unit = UnitLine to (Some unit.time) unit.octets
+
+-- source 1 was chosen, a unit was given, and the source was chosen again that was
+pub gives_second : (steps : List Step) (offer : Offer) (to time : ℕ) (octets : List ℕ) (chosen : ℕ) (mid new : Sources) (r : Result (Unit {0}) Stop)
+    → offer.route.to ≡ to → offer.unit ≡ record { time = time; octets = octets } → chosen ≡ chosen_of steps
+    → Answers (version_of steps) (Source 1 ∷ steps) (UnitLine to (Some time) octets) mid r
+    → ((made : List Step) → SourcesStand made mid → SourcesStand (Source chosen ∷ made) new)
+    → GivesSecond steps offer new r
+gives_second steps offer to time octets chosen mid new (Ok x) route unit is a back =
+    let given : AudioUnit = record { time = time; octets = octets } in
+    let S : List Step → Type 0 = λ made. SourcesStand made new in (
+      ap₂ (λ t u. option_or (refuse_if (not (takes_units (steps_of_source 1 steps))) Order)
+          (source_refusal airs_of (version_of steps) (steps_of_source 1 steps) (unit_line_of t u))) route unit
+          ∙ sym (or_none (option_or (refuse_if (not (takes_units (steps_of_source 1 steps))) Order)
+          (source_refusal airs_of (version_of steps) (steps_of_source 1 steps) (unit_line_of to given)))) ∙ a.0,
+      subst S (ap (λ c. Source c ∷ unit_line_of to given ∷ Source 1 ∷ steps) is
+          ∙ ap₂ (λ t u. Source (chosen_of steps) ∷ unit_line_of t u ∷ Source 1 ∷ steps) (sym route) (sym unit))
+          (back (unit_line_of to given ∷ Source 1 ∷ steps) a.1),
+    )
+gives_second steps offer to time octets chosen mid new (Err (Refused reason)) route unit is a back =
+    let given : AudioUnit = record { time = time; octets = octets } in (
+      ap₂ (λ t u. option_or (refuse_if (not (takes_units (steps_of_source 1 steps))) Order)
+          (source_refusal airs_of (version_of steps) (steps_of_source 1 steps) (unit_line_of t u))) route unit
+          ∙ sym (or_none (option_or (refuse_if (not (takes_units (steps_of_source 1 steps))) Order)
+          (source_refusal airs_of (version_of steps) (steps_of_source 1 steps) (unit_line_of to given)))) ∙ a.0,
+      sources_as (Source chosen ∷ Source 1 ∷ steps) steps new (record { chosen = is; first = refl; second = refl }) (back (Source 1 ∷ steps) a.1),
+    )
+gives_second steps offer to time octets chosen mid new (Err OutletFault) route unit is a back = a
+gives_second steps offer to time octets chosen mid new (Err Memory) route unit is a back = tt
+
+-- nothing is offered
+pub none_offered : (steps : List Step) (offers : List Offer) (sources : Sources) (relays : Relays) (text : List ℕ) → offers ≡ []
+    → SourcesStand steps sources → RelaysStand (relays_past steps) relays → OffersMeet steps offers sources relays text text (Ok tt)
+none_offered steps offers sources relays text none s r =
+    subst (λ all. OffersMeet steps all sources relays text text (Ok tt)) (sym none) (s, r, sym (append-nil text))
+
+lost_unit : (n : ℕ) (route : Route) (bis time : ℕ) (octets : Option (List ℕ)) → octets ≡ None → offered_of n (Some route) (handed_as bis time octets ∷ []) ≡ []
+lost_unit n route bis time octets none = ap (λ o. offered_of n (Some route) (handed_as bis time o ∷ [])) none
+
+other_unit : (n : ℕ) (route : Route) (bis time : ℕ) (octets : List ℕ) → bis ≢ route.bis → offered_of n (Some route) (handed_as bis time (Some octets) ∷ []) ≡ []
+other_unit n route bis time octets other = rw (ne_eqb bis route.bis other) refl
+
+-- the unit of a relay's stream
+abbrev pub offer_of : ℕ → Route → ℕ → List ℕ → Offer
+offer_of n route time octets = record { sink = n; route = route; unit = record { time = time; octets = octets } }
+
+own_unit : (n : ℕ) (route : Route) (bis time : ℕ) (octets : List ℕ) → bis ≡ route.bis
+    → offered_of n (Some route) (handed_as bis time (Some octets) ∷ []) ≡ offer_of n route time octets ∷ []
+own_unit n route bis time octets same = rw (eq-eqb bis route.bis same) refl
+
+-- a unit that is lost isn't offered
+pub offers_lost : (steps : List Step) (n : ℕ) (own : Route) (unit : HandedUnit) (sources : Sources) (relays : Relays) (text : List ℕ) → unit.octets ≡ None
+    → SourcesStand steps sources → RelaysStand (relays_past steps) relays
+    → OffersMeet steps (offered_of n (Some own) (handed_of unit ∷ [])) sources relays text text (Ok tt)
+offers_lost steps n own unit sources relays text none s r =
+    none_offered steps (offered_of n (Some own) (handed_of unit ∷ [])) sources relays text (lost_unit n own unit.bis unit.time unit.octets none) s r
+
+valid_as : (n : ℕ) (own : Route) (unit : HandedUnit) (octets : List ℕ) → unit.octets ≡ Some octets
+    → offered_of n (Some own) (handed_of unit ∷ []) ≡ offered_of n (Some own) (handed_as unit.bis unit.time (Some octets) ∷ [])
+valid_as n own unit octets is = ap (λ o. offered_of n (Some own) (handed_as unit.bis unit.time o ∷ [])) is
+
+-- nor is one of another stream
+pub offers_other : (steps : List Step) (n : ℕ) (own : Route) (unit : HandedUnit) (octets : List ℕ) (sources : Sources) (relays : Relays) (text : List ℕ)
+    → unit.octets ≡ Some octets → unit.bis ≢ own.bis → SourcesStand steps sources → RelaysStand (relays_past steps) relays
+    → OffersMeet steps (offered_of n (Some own) (handed_of unit ∷ [])) sources relays text text (Ok tt)
+offers_other steps n own unit octets sources relays text is other s r =
+    none_offered steps (offered_of n (Some own) (handed_of unit ∷ [])) sources relays text
+    (valid_as n own unit octets is ∙ other_unit n own unit.bis unit.time octets other) s r
+
+-- the relays once source 1 was given the unit
+pub gifted_relays : (offer : Offer) (to : ℕ) (steps : List Step) (held : Relays) → offer.route.to ≡ to
+    → RelaysStand (pasts.with_gift to (relays_past steps)) held → RelaysStand (relays_past (with_gift offer steps)) held
+gifted_relays offer to steps held is stands =
+    relays_as (pasts.with_gift to (relays_past steps)) (relays_past (with_gift offer steps)) held (λ n. refl) (λ bis. refl)
+    (λ bis. ap (λ bound. (bound == bis) || list_any (gives_on bis) (steps_of_source 1 steps)) (sym is)) stands
+
+-- source 1 takes the unit
+pub offers_taken : (steps : List Step) (n : ℕ) (own : Route) (unit : HandedUnit) (octets : List ℕ) (sources : Sources) (relays : Relays) (text : List ℕ)
+    → unit.octets ≡ Some octets → unit.bis ≡ own.bis → GivesSecond steps (offer_of n own unit.time octets) sources (Ok tt)
+    → RelaysStand (relays_past (with_gift (offer_of n own unit.time octets) steps)) relays
+    → OffersMeet steps (offered_of n (Some own) (handed_of unit ∷ [])) sources relays text text (Ok tt)
+offers_taken steps n own unit octets sources relays text is same g r =
+    subst (λ all. OffersMeet steps all sources relays text text (Ok tt)) (sym (valid_as n own unit octets is ∙ own_unit n own unit.bis unit.time octets same))
+    (rw g.0 (g.1, r, sym (append-nil text)))
+
+-- source 1 doesn't take it, which is told
+pub offers_dropped : (steps : List Step) (n bis : ℕ) (own : Route) (unit : HandedUnit) (octets : List ℕ) (reason : Refusal) (sources : Sources) (relays : Relays) (text told : List ℕ)
+    (r : Result (Unit {0}) Stop) → unit.octets ≡ Some octets → unit.bis ≡ own.bis → bis ≡ own.bis
+    → GivesSecond steps (offer_of n own unit.time octets) sources (Err (Refused reason))
+    → RelaysStand (relays_past steps) relays → Drops n bis reason text told r
+    → OffersMeet steps (offered_of n (Some own) (handed_of unit ∷ [])) sources relays text told r
+offers_dropped steps n bis own unit octets reason sources relays text told (Ok x) is same stream g r line =
+    subst (λ all. OffersMeet steps all sources relays text told (Ok tt)) (sym (valid_as n own unit octets is ∙ own_unit n own unit.bis unit.time octets same))
+    (rw g.0 (
+      g.1,
+      r,
+      line ∙ ap (λ b. text ++ dropped_line n b reason) stream ∙ ap (λ l. text ++ l) (sym (append-nil (dropped_line n own.bis reason))),
+    ))
+offers_dropped steps n bis own unit octets reason sources relays text told (Err (Refused other)) is same stream g r line = line
+offers_dropped steps n bis own unit octets reason sources relays text told (Err OutletFault) is same stream g r line = line
+offers_dropped steps n bis own unit octets reason sources relays text told (Err Memory) is same stream g r line = tt
+
+-- ---- units one behind the other
+
+pub after_append : (xs ys : List Offer) (steps : List Step) → after_offers airs_of (xs ++ ys) steps ≡ after_offers airs_of ys (after_offers airs_of xs steps)
+after_append [] ys steps = refl
+after_append (x ∷ xs) ys steps = after_append xs ys (after_offer airs_of x steps)
+
+pub answered_append : (xs ys : List Offer) (steps : List Step)
+    → answered airs_of (xs ++ ys) steps ≡ answered airs_of xs steps ++ answered airs_of ys (after_offers airs_of xs steps)
+answered_append [] ys steps = refl
+answered_append (x ∷ xs) ys steps =
+    ap (λ (rest : List Answered). record { offer = x; reason = dropped_for airs_of x steps } ∷ rest) (answered_append xs ys (after_offer airs_of x steps))
+
+pub lines_append : (xs ys : List Answered) → answer_lines (xs ++ ys) ≡ answer_lines xs ++ answer_lines ys
+lines_append xs ys = flat_map-append (λ (answer : Answered). answer_line answer.offer answer.reason) xs ys
+
+pub offered_append : (n : ℕ) (own : Route) (us vs : List Handed)
+    → offered_of n (Some own) (us ++ vs) ≡ offered_of n (Some own) us ++ offered_of n (Some own) vs
+offered_append n own us vs =
+    ap (map (λ (unit : AudioUnit). record { sink = n; route = own; unit = unit })) (flat_map-append (valid_on own.bis) us vs)
+    ∙ map-append (λ (unit : AudioUnit). record { sink = n; route = own; unit = unit }) (units_on own.bis us) (units_on own.bis vs)
+
+pub offers_then : (steps : List Step) (xs ys : List Offer) (mid new : Sources) (between relays : Relays) (text told told2 : List ℕ) (r : Result (Unit {0}) Stop)
+    → OffersMeet steps xs mid between text told (Ok tt) → OffersMeet (after_offers airs_of xs steps) ys new relays told told2 r
+    → OffersMeet steps (xs ++ ys) new relays text told2 r
+offers_then steps xs ys mid new between relays text told told2 (Ok x) one two =
+    let now : List Step = after_offers airs_of xs steps in (
+      subst (λ made. SourcesStand made new) (sym (after_append xs ys steps)) two.0,
+      subst (λ made. RelaysStand (relays_past made) relays) (sym (after_append xs ys steps)) two.1,
+      two.2 ∙ ap (λ front. front ++ answer_lines (answered airs_of ys now)) one.2
+          ∙ append_assoc text (answer_lines (answered airs_of xs steps)) (answer_lines (answered airs_of ys now))
+          ∙ ap (λ l. text ++ l) (sym (lines_append (answered airs_of xs steps) (answered airs_of ys now)) ∙ ap answer_lines (sym (answered_append xs ys steps))),
+    )
+offers_then steps xs ys mid new between relays text told told2 (Err (Refused reason)) one two = two
+offers_then steps xs ys mid new between relays text told told2 (Err OutletFault) one two = two
+offers_then steps xs ys mid new between relays text told told2 (Err Memory) one two = tt
+
+-- one unit more of a sink
+pub offers_more : (steps : List Step) (n : ℕ) (own : Route) (units : List HandedUnit) (i : ℕ) (unit : HandedUnit) (mid new : Sources) (between relays : Relays)
+    (text told told2 : List ℕ) → i < length units → unit ≡ get_or units i unit
+    → OffersMeet steps (offered_of n (Some own) (map handed_of (take i units))) mid between text told (Ok tt)
+    → OffersMeet (after_offers airs_of (offered_of n (Some own) (map handed_of (take i units))) steps) (offered_of n (Some own) (handed_of unit ∷ [])) new relays told told2 (Ok tt)
+    → OffersMeet steps (offered_of n (Some own) (map handed_of (take (i + 1) units))) new relays text told2 (Ok tt)
+offers_more steps n own units i unit mid new between relays text told told2 within is one two =
+    let front : List Handed = map handed_of (take i units) in
+    let same : offered_of n (Some own) (map handed_of (take (i + 1) units))
+    ≡ offered_of n (Some own) front ++ offered_of n (Some own) (handed_of unit ∷ []) =
+    ap (λ us. offered_of n (Some own) (map handed_of us)) (take_more units i unit within ∙ ap (λ last. take i units ++ last ∷ []) (sym is))
+    ∙ ap (offered_of n (Some own)) (map-append handed_of (take i units) (unit ∷ []))
+    ∙ offered_append n own front (handed_of unit ∷ []) in
+    subst (λ all. OffersMeet steps all new relays text told2 (Ok tt)) (sym same)
+    (offers_then steps (offered_of n (Some own) front) (offered_of n (Some own) (handed_of unit ∷ [])) mid new between relays text told told2 (Ok tt) one two)
+
+-- all units of a sink
+pub offers_all : (steps : List Step) (n : ℕ) (own : Route) (units : List HandedUnit) (i : ℕ) (sources : Sources) (relays : Relays) (text told : List ℕ) → length units ≤ i
+    → OffersMeet steps (offered_of n (Some own) (map handed_of (take i units))) sources relays text told (Ok tt)
+    → OffersMeet steps (offered_of n (Some own) (map handed_of units)) sources relays text told (Ok tt)
+offers_all steps n own units i sources relays text told all m =
+    subst (λ us. OffersMeet steps (offered_of n (Some own) (map handed_of us)) sources relays text told (Ok tt)) (take_all i units all) m
+
+-- want of memory stays so
+pub offers_stopped : (steps now : List Step) (offers one : List Offer) (sources : Sources) (relays : Relays) (text between told : List ℕ) (stop : Stop)
+    → OffersMeet now one sources relays between told (Err stop) → OffersMeet steps offers sources relays text told (Err stop)
+offers_stopped steps now offers one sources relays text between told (Refused reason) m = m
+offers_stopped steps now offers one sources relays text between told OutletFault m = m
+offers_stopped steps now offers one sources relays text between told Memory m = tt
+
+-- ---- a sink with a relay or none
+
+pub offers_where : (steps : List Step) (n : ℕ) (own : Option Route) (route : LentRoute) (units : List Handed) (sources : Sources) (relays : Relays) (text told : List ℕ)
+    (r : Result (Unit {0}) Stop) → Some route ≡ option_map lent own
+    → ((one : Route) → route ≡ lent one → OffersMeet steps (offered_of n (Some one) units) sources relays text told r)
+    → OffersMeet steps (offered_of n own units) sources relays text told r
+offers_where steps n None route units sources relays text told r is each = absurd (cc is)
+offers_where steps n (Some one) route units sources relays text told r is each = let same : route ≡ lent one = cc is in each one same
+
+pub offers_nowhere : (steps : List Step) (n : ℕ) (own : Option Route) (units : List Handed) (sources : Sources) (relays : Relays) (text : List ℕ)
+    → None ≡ option_map lent own → SourcesStand steps sources → RelaysStand (relays_past steps) relays
+    → OffersMeet steps (offered_of n own units) sources relays text text (Ok tt)
+offers_nowhere steps n None units sources relays text is s r = (s, r, sym (append-nil text))
+offers_nowhere steps n (Some one) units sources relays text is s r = absurd (cc is)

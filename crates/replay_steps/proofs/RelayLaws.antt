@@ -1,0 +1,279 @@
+-- The steps that say something of relays: `relay`, `drop`, and a `unit` line.
+use Rattle.std.proofs.Common.{ℕ, ◌≡◌, ◌≢◌, ◌==◌, ◌&&◌, ◌||◌, Bool, true, false, cond, not, nat_lt, is_some, List, ◌∷◌, refl, sym, ◌∙◌, ap, ap₂, subst, unwrap_or, option_map}
+use Rattle.std.proofs.Common.{eq-eqb, ne_eqb, Option, None, Some, Ok, Err}
+use Rattle.std.specs.List.{list_any}
+use Rattle.std.specs.Option.{option_or}
+use Rattle.big_info.specs.declared.info.BigInfo.{BigInfo}
+use Rattle.source_machine.specs.Airs.{airs_of}
+use Rattle.delegator_machine.specs.Groups.{with_leave}
+use Rattle.group_sink.specs.Calls.{Call}
+use Rattle.link_histories.specs.Calls as links
+use Rattle.sink_histories.specs.Lives.{Made, Source, made_of}
+use Rattle.sink_histories.specs.Moves.{received_by}
+use Rattle.transcript_text.specs.declared.refusal.Refusal.{Refusal}
+use Rattle.transcript_text.specs.declared.refusal.Refusal.TheVariants.{NoSuchBis, NoSuchSink, Order, RelayTaken}
+use Rattle.transcript_text.specs.declared.stop.Stop.{Stop}
+use Rattle.transcript_text.specs.declared.stop.Stop.TheVariants.{Refused, OutletFault, Memory}
+use Rattle.scenario_text.specs.declared.step.Step.{Step}
+use Rattle.scenario_text.specs.declared.step.Step.TheVariants.{Drop, Relay, Unit as UnitLine}
+use Rattle.scenario_history.specs.Boxes.{box_of}
+use Rattle.scenario_history.specs.Refusals.{gives_on, is_relay_beyond, is_relay_taken, may_relay, phase_refusal, refuse_if, relay_refusal, relayed_or}
+use Rattle.scenario_history.specs.Relays.{Route, had_relay, relay_given, relay_of}
+use Rattle.scenario_history.specs.Sinks.{sink_calls}
+use Rattle.scenario_history.specs.Source.{setup_of, takes_units}
+use Rattle.scenario_history.specs.Steps.{chosen_of, last_given, running, stage_of, steps_of_source}
+use Rattle.scenario_history.specs.Worlds.{life, source_at}
+use Rattle.scenario_relays.specs.declared.relays.Relays.{Relays}
+use Rattle.scenario_relays.specs.Pasts.{with_gift, with_relay, without}
+use Rattle.scenario_relays.specs.State.Standing.{RelaysStand}
+use Rattle.scenario_sources.specs.Answers.{Answers}
+use Rattle.scenario_sources.specs.Faults.{fault_of}
+use Rattle.scenario_sources.specs.State.Standing.{SourcesStand}
+use Rattle.scenario_sources.proofs.Citable.{named_says, sources_stay}
+use Rattle.scenario_sinks.specs.State.Standing.{SinksStand}
+use Rattle.scenario_sinks.specs.declared.sinks.Sinks.{Sinks}
+use Rattle.scenario_sinks.proofs.Citable.{stands_same}
+use Rattle.replay_steps.specs.declared.machine.Machine.{Machine}
+use Rattle.replay_steps.specs.Machines.{Stands, lent, past_of, relays_past}
+use Rattle.replay_steps.specs.Meets.{Quiet, phase_line}
+use Rattle.replay_steps.specs.Versions.{stage_in}
+use Rattle.replay_steps.proofs.RelaysStay.{relays_as}
+use Rattle.replay_steps.proofs.Stepping.{GoesOn, source_fault, sources_stand}
+
+-- ---- what the relays are then
+
+drop_routes : (n m : ℕ) (steps : List Step)
+    → cond (n == m) None (option_map lent (relay_of m steps)) ≡ option_map lent (relay_of m (Drop n ∷ steps))
+drop_routes n m steps =
+    elim (n == m) as (λ b. cond b None (option_map lent (relay_of m steps))
+    ≡ option_map lent (unwrap_or (option_or (cond b (Some None) None) (last_given (relay_given m) steps)) None)) [ true ↦ refl | false ↦ refl ]
+
+pub dropped_relays : (n : ℕ) (steps : List Step) (held : Relays) → RelaysStand (without n (relays_past steps)) held → RelaysStand (relays_past (Drop n ∷ steps)) held
+dropped_relays n steps held stands =
+    relays_as (without n (relays_past steps)) (relays_past (Drop n ∷ steps)) held (λ m. drop_routes n m steps) (λ bis. refl) (λ bis. refl) stands
+
+relay_routes : (n bis to m : ℕ) (steps : List Step)
+    → cond (n == m) (Some (lent (record { bis = bis; to = to }))) (option_map lent (relay_of m steps)) ≡ option_map lent (relay_of m (Relay n bis to ∷ steps))
+relay_routes n bis to m steps =
+    elim (n == m) as (λ b. cond b (Some (lent (record { bis = bis; to = to }))) (option_map lent (relay_of m steps))
+    ≡ option_map lent (unwrap_or (option_or (cond b (Some (Some (record { bis = bis; to = to }))) None) (last_given (relay_given m) steps)) None)) [
+      | true ↦ refl
+      | false ↦ refl
+    ]
+
+pub made_relays : (n bis to : ℕ) (steps : List Step) (held : Relays) → RelaysStand (with_relay n bis to (relays_past steps)) held
+    → RelaysStand (relays_past (Relay n bis to ∷ steps)) held
+made_relays n bis to steps held stands =
+    relays_as (with_relay n bis to (relays_past steps)) (relays_past (Relay n bis to ∷ steps)) held (λ m. relay_routes n bis to m steps) (λ b. refl) (λ b. refl) stands
+
+-- a `unit` line to source 1, and one to source 0
+given_second : (b bis : ℕ) (time : Option ℕ) (octets : List ℕ) (steps : List Step) (second : Bool) → (chosen_of steps == 1) ≡ second
+    → cond second ((bis == b) || list_any (gives_on b) (steps_of_source 1 steps)) (list_any (gives_on b) (steps_of_source 1 steps))
+    ≡ list_any (gives_on b) (steps_of_source 1 (UnitLine bis time octets ∷ steps))
+given_second b bis time octets steps second is =
+    let own : List Step = steps_of_source 1 steps in
+    sym (ap (λ hit. list_any (gives_on b) (cond hit (UnitLine bis time octets ∷ own) own)) is
+    ∙ (elim second as (λ hit. list_any (gives_on b) (cond hit (UnitLine bis time octets ∷ own) own)
+    ≡ cond hit ((bis == b) || list_any (gives_on b) own) (list_any (gives_on b) own)) [ true ↦ refl | false ↦ refl ]))
+
+pub given_relays : (bis : ℕ) (time : Option ℕ) (octets : List ℕ) (steps : List Step) (held : Relays) → (chosen_of steps == 1) ≡ true
+    → RelaysStand (with_gift bis (relays_past steps)) held → RelaysStand (relays_past (UnitLine bis time octets ∷ steps)) held
+given_relays bis time octets steps held second stands =
+    relays_as (with_gift bis (relays_past steps)) (relays_past (UnitLine bis time octets ∷ steps)) held (λ m. refl) (λ b. refl)
+    (λ b. given_second b bis time octets steps true second) stands
+
+pub beside_relays : (bis : ℕ) (time : Option ℕ) (octets : List ℕ) (steps : List Step) (held : Relays) → (chosen_of steps == 1) ≡ false
+    → RelaysStand (relays_past steps) held → RelaysStand (relays_past (UnitLine bis time octets ∷ steps)) held
+beside_relays bis time octets steps held first stands =
+    relays_as (relays_past steps) (relays_past (UnitLine bis time octets ∷ steps)) held (λ m. refl) (λ b. refl)
+    (λ b. given_second b bis time octets steps false first) stands
+
+-- ---- a `unit` line
+
+on_unit : (bis : ℕ) (time : Option ℕ) (octets : List ℕ) → GoesOn (UnitLine bis time octets)
+on_unit bis time octets = record { stage = λ stage. refl; placed = λ v. refl; refusal = λ boxes steps. refl }
+
+-- a stream of source 1 that has had a relay
+pub unit_relayed : (boxes version bis : ℕ) (time : Option ℕ) (octets : List ℕ) (reason : Refusal) (steps : List Step) (machine : Machine) → Stands steps machine
+    → stage_of steps ≡ running version → ((chosen_of steps == 1) && had_relay bis steps) ≡ true
+    → relayed_or true (fault_of version steps (UnitLine bis time octets)) ≡ Some reason
+    → Quiet boxes steps (UnitLine bis time octets) machine (Err (Refused reason))
+unit_relayed boxes version bis time octets reason steps machine stands e relayed is = (
+  ap (λ b. relayed_or b (phase_refusal airs_of boxes steps (UnitLine bis time octets))) relayed
+      ∙ ap (relayed_or true) (source_fault boxes version steps (UnitLine bis time octets) (on_unit bis time octets) e) ∙ is,
+  stands,
+)
+
+-- any other: why the line is refused
+unit_fault : (boxes version bis : ℕ) (time : Option ℕ) (octets : List ℕ) (steps : List Step) → stage_of steps ≡ running version
+    → ((chosen_of steps == 1) && had_relay bis steps) ≡ false
+    → phase_line airs_of boxes steps (UnitLine bis time octets) ≡ fault_of version steps (UnitLine bis time octets)
+unit_fault boxes version bis time octets steps e free =
+    ap (λ b. relayed_or b (phase_refusal airs_of boxes steps (UnitLine bis time octets))) free
+    ∙ source_fault boxes version steps (UnitLine bis time octets) (on_unit bis time octets) e
+
+-- what becomes of it
+pub unit_given : (boxes version bis : ℕ) (time : Option ℕ) (octets : List ℕ) (steps : List Step) (old new : Machine) → Stands steps old
+    → stage_of steps ≡ running version → ((chosen_of steps == 1) && had_relay bis steps) ≡ false
+    → new.stage ≡ old.stage → new.sinks ≡ old.sinks → Answers version steps (UnitLine bis time octets) new.sources (Ok tt)
+    → RelaysStand (relays_past (UnitLine bis time octets ∷ steps)) new.relays → Quiet boxes steps (UnitLine bis time octets) new (Ok tt)
+unit_given boxes version bis time octets steps old new stands e free stage same a held = (
+  unit_fault boxes version bis time octets steps e free ∙ a.0,
+  record {
+    stage = ap stage_in stage ∙ stands.stage;
+    sources = a.1;
+    sinks = subst (λ s. SinksStand (past_of steps) s) (sym same) stands.sinks;
+    relays = held;
+  },
+)
+
+pub unit_refused : (boxes version bis : ℕ) (time : Option ℕ) (octets : List ℕ) (steps : List Step) (old new : Machine) (stop : Stop) → Stands steps old
+    → stage_of steps ≡ running version → ((chosen_of steps == 1) && had_relay bis steps) ≡ false
+    → new.stage ≡ old.stage → new.sinks ≡ old.sinks → new.relays ≡ old.relays → Answers version steps (UnitLine bis time octets) new.sources (Err stop)
+    → Quiet boxes steps (UnitLine bis time octets) new (Err stop)
+unit_refused boxes version bis time octets steps old new (Refused reason) stands e free stage same held a =
+    (unit_fault boxes version bis time octets steps e free ∙ a.0, sources_stand steps old new stands stage same held a.1)
+unit_refused boxes version bis time octets steps old new OutletFault stands e free stage same held a = a
+unit_refused boxes version bis time octets steps old new Memory stands e free stage same held a = tt
+
+-- source 1 is chosen, or another
+pub is_first : (steps : List Step) (chosen : ℕ) → chosen ≡ chosen_of steps → chosen ≢ 1 → (chosen_of steps == 1) ≡ false
+is_first steps chosen is other = sym (ap (λ n. n == 1) is) ∙ ne_eqb chosen 1 other
+
+pub is_second : (steps : List Step) (chosen : ℕ) → chosen ≡ chosen_of steps → chosen ≡ 1 → (chosen_of steps == 1) ≡ true
+is_second steps chosen is second = sym (ap (λ n. n == 1) is) ∙ eq-eqb chosen 1 second
+
+pub first_free : (steps : List Step) (bis : ℕ) → (chosen_of steps == 1) ≡ false → false ≡ ((chosen_of steps == 1) && had_relay bis steps)
+first_free steps bis first = sym (ap (λ hit. hit && had_relay bis steps) first)
+
+pub second_had : (steps : List Step) (bis : ℕ) (had : Bool) → (chosen_of steps == 1) ≡ true → had ≡ had_relay bis steps
+    → had ≡ ((chosen_of steps == 1) && had_relay bis steps)
+second_had steps bis had second is = is ∙ sym (ap (λ hit. hit && had_relay bis steps) second)
+
+-- ---- why a `relay` line is refused
+
+pub relay_fault : (boxes version n bis to : ℕ) (steps : List Step) → stage_of steps ≡ running version
+    → phase_line airs_of boxes steps (Relay n bis to) ≡ relay_refusal steps n bis to
+relay_fault boxes version n bis to steps e = rw e refl
+
+pub may_not_first : (steps : List Step) → takes_units (steps_of_source 0 steps) ≡ false → may_relay steps ≡ false
+may_not_first steps none =
+    ap (λ first. first && (takes_units (steps_of_source 1 steps) && ((setup_of (steps_of_source 1 steps)).info.framing == 1))) none
+
+pub may_not_second : (steps : List Step) → takes_units (steps_of_source 0 steps) ≡ true → takes_units (steps_of_source 1 steps) ≡ false → may_relay steps ≡ false
+may_not_second steps first none =
+    ap (λ one. one && (takes_units (steps_of_source 1 steps) && ((setup_of (steps_of_source 1 steps)).info.framing == 1))) first
+    ∙ ap (λ two. two && ((setup_of (steps_of_source 1 steps)).info.framing == 1)) none
+
+may_by_framing : (steps : List Step) (framed : Bool) → takes_units (steps_of_source 0 steps) ≡ true → takes_units (steps_of_source 1 steps) ≡ true
+    → ((setup_of (steps_of_source 1 steps)).info.framing == 1) ≡ framed → may_relay steps ≡ framed
+may_by_framing steps framed first second is =
+    ap (λ one. one && (takes_units (steps_of_source 1 steps) && ((setup_of (steps_of_source 1 steps)).info.framing == 1))) first
+    ∙ ap (λ two. two && ((setup_of (steps_of_source 1 steps)).info.framing == 1)) second ∙ is
+
+-- both sources stream, and the second has this group
+pub may_not_unframed : (steps : List Step) (second : BigInfo) → takes_units (steps_of_source 0 steps) ≡ true → takes_units (steps_of_source 1 steps) ≡ true
+    → second ≡ (setup_of (steps_of_source 1 steps)).info → second.framing ≢ 1 → may_relay steps ≡ false
+may_not_unframed steps second one two is other =
+    may_by_framing steps false one two (sym (ap (λ (info : BigInfo). info.framing == 1) is) ∙ ne_eqb second.framing 1 other)
+
+pub may_framed : (steps : List Step) (second : BigInfo) → takes_units (steps_of_source 0 steps) ≡ true → takes_units (steps_of_source 1 steps) ≡ true
+    → second ≡ (setup_of (steps_of_source 1 steps)).info → second.framing ≡ 1 → may_relay steps ≡ true
+may_framed steps second one two is same =
+    may_by_framing steps true one two (sym (ap (λ (info : BigInfo). info.framing == 1) is) ∙ eq-eqb second.framing 1 same)
+
+-- the rows of the line, by what each tests
+abbrev rows : (may lives beyond taken : Bool) → Option Refusal
+rows may lives beyond taken =
+    option_or (refuse_if (not may) Order) (option_or (refuse_if (not lives) NoSuchSink) (option_or (refuse_if beyond NoSuchBis) (refuse_if taken RelayTaken)))
+
+pub relay_early : (steps : List Step) (n bis to : ℕ) → may_relay steps ≡ false → relay_refusal steps n bis to ≡ Some Order
+relay_early steps n bis to may =
+    ap (λ m. rows m (is_some (box_of n steps)) (is_relay_beyond steps bis to) (is_relay_taken steps n to)) may
+
+pub relay_nowhere : (steps : List Step) (n bis to : ℕ) → may_relay steps ≡ true → is_some (box_of n steps) ≡ false → relay_refusal steps n bis to ≡ Some NoSuchSink
+relay_nowhere steps n bis to may lives =
+    ap (λ m. rows m (is_some (box_of n steps)) (is_relay_beyond steps bis to) (is_relay_taken steps n to)) may
+    ∙ ap (λ l. rows true l (is_relay_beyond steps bis to) (is_relay_taken steps n to)) lives
+
+-- both sources stream, and the sink lives
+pub relay_by : (steps : List Step) (n bis to : ℕ) (beyond taken : Bool) → may_relay steps ≡ true → is_some (box_of n steps) ≡ true
+    → is_relay_beyond steps bis to ≡ beyond → is_relay_taken steps n to ≡ taken
+    → relay_refusal steps n bis to ≡ option_or (refuse_if beyond NoSuchBis) (refuse_if taken RelayTaken)
+relay_by steps n bis to beyond taken may lives is has =
+    ap (λ m. rows m (is_some (box_of n steps)) (is_relay_beyond steps bis to) (is_relay_taken steps n to)) may
+    ∙ ap (λ l. rows true l (is_relay_beyond steps bis to) (is_relay_taken steps n to)) lives
+    ∙ ap₂ (λ b t. rows true true b t) is has
+
+pub relay_beyond : (steps : List Step) (n bis to : ℕ) → may_relay steps ≡ true → is_some (box_of n steps) ≡ true → is_relay_beyond steps bis to ≡ true
+    → relay_refusal steps n bis to ≡ Some NoSuchBis
+relay_beyond steps n bis to may lives is = relay_by steps n bis to true (is_relay_taken steps n to) may lives is refl
+
+-- the streams of a `relay` line, by the groups of the sources
+pub beyond_by : (steps : List Step) (bis to : ℕ) (first second : BigInfo) → first ≡ (setup_of (steps_of_source 0 steps)).info
+    → second ≡ (setup_of (steps_of_source 1 steps)).info → is_relay_beyond steps bis to ≡ (nat_lt first.num_bis bis || nat_lt second.num_bis to)
+beyond_by steps bis to first second one two =
+    sym (ap₂ (λ (f : BigInfo) (s : BigInfo). nat_lt f.num_bis bis || nat_lt s.num_bis to) one two)
+
+some_lent : (relay : Option Route) → is_some (option_map lent relay) ≡ is_some relay
+some_lent None = refl
+some_lent (Some route) = refl
+
+-- the room's answer is that of the steps
+pub taken_is : (steps : List Step) (n to : ℕ) (taken : Bool)
+    → taken ≡ (is_some ((relays_past steps).routes n) || ((relays_past steps).relayed to || (relays_past steps).given to))
+    → is_relay_taken steps n to ≡ taken
+taken_is steps n to taken is =
+    sym (is ∙ ap (λ b. b || (had_relay to steps || list_any (gives_on to) (steps_of_source 1 steps))) (some_lent (relay_of n steps)))
+
+-- ---- the relay is made
+
+-- the line leaves the sinks
+if_same : {A : Type 0} (hit : Bool) (x : A) → x ≡ cond hit x x
+if_same true x = refl
+if_same false x = refl
+
+none_leaves : (on : Bool) (calls : List Call) → with_leave on on calls ≡ calls
+none_leaves true calls = refl
+none_leaves false calls = refl
+
+moves_none : (source : Source) (n bis to : ℕ) (made : Option Made) (lives : List links.Call) (calls : List Call)
+    → received_by source (Relay n bis to) made lives lives calls ≡ calls
+moves_none source n bis to None lives calls = refl
+moves_none source n bis to (Some made) lives calls = none_leaves _ calls
+
+calls_stay : (hit : Bool) (source : Source) (n bis to : ℕ) (made : Option Made) (lives : List links.Call) (calls : List Call)
+    → calls ≡ cond hit (received_by source (Relay n bis to) made lives (cond hit lives lives) calls) calls
+calls_stay true source n bis to made lives calls = sym (moves_none source n bis to made lives calls)
+calls_stay false source n bis to made lives calls = refl
+
+sinks_kept : (n bis to : ℕ) (steps : List Step) (sinks : Sinks) → SinksStand (past_of steps) sinks → SinksStand (past_of (Relay n bis to ∷ steps)) sinks
+sinks_kept n bis to steps sinks stands =
+    stands_same (past_of steps) (past_of (Relay n bis to ∷ steps)) sinks
+    (record {
+      boxes = λ m. refl;
+      mades = λ m. refl;
+      sources = λ m. refl;
+      lives = λ m. if_same (n == m) (life m steps);
+      received = λ m. calls_stay (n == m) (source_at steps) n bis to (made_of m steps) (life m steps) (sink_calls airs_of m steps);
+      made = refl;
+    }) stands
+
+pub relay_meets : (boxes version n bis to : ℕ) (steps : List Step) (old new : Machine) → Stands steps old → stage_of steps ≡ running version
+    → relay_refusal steps n bis to ≡ None → new.stage ≡ old.stage → new.sources ≡ old.sources → new.sinks ≡ old.sinks
+    → RelaysStand (with_relay n bis to (relays_past steps)) new.relays → Quiet boxes steps (Relay n bis to) new (Ok tt)
+relay_meets boxes version n bis to steps old new stands e none stage same sinks held = (
+  relay_fault boxes version n bis to steps e ∙ none,
+  record {
+    stage = ap stage_in stage ∙ stands.stage;
+    sources = subst (λ s. SourcesStand (Relay n bis to ∷ steps) s) (sym same)
+        (sources_stay (Relay n bis to) steps old.sources (named_says n (Relay n bis to) refl) stands.sources);
+    sinks = subst (λ s. SinksStand (past_of (Relay n bis to ∷ steps)) s) (sym sinks) (sinks_kept n bis to steps old.sinks stands.sinks);
+    relays = made_relays n bis to steps new.relays held;
+  },
+)
+
+-- the line is refused
+pub relay_fails : (boxes version n bis to : ℕ) (steps : List Step) (machine : Machine) (reason : Refusal) → Stands steps machine → stage_of steps ≡ running version
+    → relay_refusal steps n bis to ≡ Some reason → Quiet boxes steps (Relay n bis to) machine (Err (Refused reason))
+relay_fails boxes version n bis to steps machine reason stands e is = (relay_fault boxes version n bis to steps e ∙ is, stands)

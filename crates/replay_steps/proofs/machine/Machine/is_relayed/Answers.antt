@@ -1,0 +1,12 @@
+use Rattle.replay_steps.specs.Machines.{relays_past}
+use Rattle.replay_steps.proofs.RelayLaws.{first_free, is_first, is_second, second_had}
+use Rattle.replay_steps.proofs.machine.Machine.is_relayed.Goals as goal
+
+pub returns-then-chosen-ne1 : goal.returns-then-chosen-ne1
+returns-then-chosen-ne1 c steps stands =
+    first_free steps c.args.bis (is_first steps c.chosen.result (c.chosen.ensures.source steps stands.sources) c.if-chosen-ne1.true)
+
+pub returns : goal.returns
+returns c steps stands =
+    second_had steps c.args.bis c.had_relay.result (is_second steps c.chosen.result (c.chosen.ensures.source steps stands.sources) c.if-chosen-ne1.false)
+    (c.had_relay.ensures (relays_past steps) stands.relays)

@@ -1,0 +1,152 @@
+-- Two airs that meet the relation of their framing: no source, no refusal, no sink and no close tells them apart.
+use Rattle.std.proofs.Common.{ℕ, zero, suc, ◌≡◌, ◌||◌, cond, Bool, true, false, List, [], ◌∷◌, ◌++◌, Option, None, Some, refl, sym, ◌∙◌, ap}
+use Rattle.std.specs.Prelude.{unwrap_or}
+use Rattle.std.specs.List.{flat_map}
+use Rattle.std.specs.Option.{option_map, option_or}
+use Rattle.std.proofs.lemmas.Bool.{or_parts}
+use Rattle.isoal_base.specs.Air.{Air}
+use Rattle.source_machine.specs.Airs.{AreAirs, airs_of, pdu_of}
+use Rattle.source_machine.specs.Calls.{Setup, Call as SourceCall}
+use Rattle.source_machine.specs.Faults.{give_fault}
+use Rattle.source_machine.specs.Setups.{IsChecked}
+use Rattle.group_sink.specs.Calls.{Call, hear}
+use Rattle.scenario_text.specs.declared.step.Step.{Step}
+use Rattle.scenario_text.specs.declared.step.Step.TheVariants as steps
+use Rattle.transcript_text.specs.declared.refusal.Refusal.{Refusal}
+use Rattle.transcript_text.specs.declared.refusal.Refusal.TheVariants.{Order, AfterEnd}
+use Rattle.scenario_history.specs.Steps.{chosen_of, chosen_steps, is_over, stage_of, steps_of_source}
+use Rattle.scenario_history.specs.Source.{Airs, event_back, is_started, open_event, pdu_in, setup_of, source_calls}
+use Rattle.scenario_history.specs.Airs.{MeetAirs}
+use Rattle.scenario_history.specs.Sinks.{Spot, hear_at, heard_on_air, is_lost, reaches, sink_calls, source_of, spot_at, spots_of, unless_lost, with_sink_call}
+use Rattle.scenario_history.specs.Boxes.{SinkUnit, box_of, closing, closing_at, closing_both, closing_by, handed_by, handed_up, sink_numbers}
+use Rattle.scenario_history.specs.Refusals.{give_refusal, is_misplaced, is_out_of_phase, refusal_of, refuse_if}
+use Rattle.scenario_laws.proofs.Legals.{Legal, permitted}
+use Rattle.scenario_laws.proofs.Sources.{Lawful, checked, group_in, hears, lawful, settled, takes}
+use Rattle.scenario_laws.proofs.Hears.{its_airs}
+
+-- the relation has at most one solution
+abbrev pub OneAir : Type 0
+OneAir = (setup : Setup) → (calls : List SourceCall) → (airs : List Air) → (others : List Air) → IsChecked setup.info
+    → AreAirs setup calls airs → AreAirs setup calls others → airs ≡ others
+
+-- and has one
+abbrev pub SomeAirs : Type 0
+SomeAirs = (setup : Setup) → (calls : List SourceCall) → IsChecked setup.info → AreAirs setup calls (airs_of setup calls)
+
+-- both airs meet the relation
+pub record Both (airs others : Airs) : Type 0 where
+  pub one : OneAir
+  pub meets : MeetAirs airs
+  pub meet_too : MeetAirs others
+
+-- ---- a source
+
+pub its_same : (airs others : Airs) → Both airs others → (own : List Step) → Lawful airs own → Lawful others own → is_started own ≡ true
+    → airs (setup_of own) (source_calls own) ≡ others (setup_of own) (source_calls own)
+its_same airs others both own legal legal_too started =
+    both.one (setup_of own) (source_calls own) (airs (setup_of own) (source_calls own)) (others (setup_of own) (source_calls own)) (checked (group_in own (settled airs own legal) started))
+    (its_airs airs both.meets own legal started) (its_airs others both.meet_too own legal_too started)
+
+pub pdu_same : (airs others : Airs) (own : List Step) → airs (setup_of own) (source_calls own) ≡ others (setup_of own) (source_calls own) → (event bis subevent : ℕ)
+    → pdu_in airs own event bis subevent ≡ pdu_in others own event bis subevent
+pdu_same airs others own same event bis subevent = ap (λ all. unwrap_or (pdu_of (setup_of own) all event bis subevent) []) same
+
+-- no step before was refused under either
+pub record Twice (airs others : Airs) (boxes : ℕ) (made : List Step) : Type 0 where
+  pub here : Legal airs boxes made
+  pub there : Legal others boxes made
+
+pub chosen_same : (airs others : Airs) → Both airs others → (boxes : ℕ) (made : List Step) → Twice airs others boxes made → is_started (chosen_steps made) ≡ true
+    → airs (setup_of (chosen_steps made)) (source_calls (chosen_steps made)) ≡ others (setup_of (chosen_steps made)) (source_calls (chosen_steps made))
+chosen_same airs others both boxes made twice started =
+    its_same airs others both (chosen_steps made) (lawful airs boxes (chosen_of made) made twice.here) (lawful others boxes (chosen_of made) made twice.there) started
+
+-- ---- what is refused
+
+pub in_order : (test : Bool) (reason : Refusal) (rest others : Option Refusal) → (test ≡ false → rest ≡ others) → option_or (refuse_if test reason) rest ≡ option_or (refuse_if test reason) others
+in_order true reason rest others same = refl
+in_order false reason rest others same = same refl
+
+pub refusal_same : (airs others : Airs) → Both airs others → (boxes : ℕ) (earlier : List Step) (step : Step) → Twice airs others boxes earlier
+    → refusal_of airs boxes earlier step ≡ refusal_of others boxes earlier step
+refusal_same airs others both boxes earlier (steps.Unit bis time octets) twice =
+    in_order (is_over earlier) AfterEnd _ _ (λ goes_on.
+    in_order (is_misplaced (stage_of earlier) (steps.Unit bis time octets) || is_out_of_phase (chosen_steps earlier) (steps.Unit bis time octets)) Order _ _ (λ placed.
+    ap (λ all. option_or (option_map give_refusal (give_fault (setup_of (chosen_steps earlier)) (source_calls (chosen_steps earlier)) all bis time octets)) None)
+    (chosen_same airs others both boxes earlier twice (takes (chosen_steps earlier)
+    (or_parts (is_misplaced (stage_of earlier) (steps.Unit bis time octets)) (is_out_of_phase (chosen_steps earlier) (steps.Unit bis time octets)) placed).1))))
+refusal_same airs others both boxes earlier _ twice = refl
+
+pub legal_too : (airs others : Airs) → Both airs others → (boxes : ℕ) (made : List Step) → Legal airs boxes made → Legal others boxes made
+legal_too airs others both boxes [] legal = tt
+legal_too airs others both boxes (step ∷ earlier) legal =
+    let before : Legal others boxes earlier = legal_too airs others both boxes earlier legal.0 in
+    (before, sym (refusal_same airs others both boxes earlier step (record { here = legal.0; there = before })) ∙ legal.1, legal.2)
+
+-- ---- a sink
+
+air_same : (airs others : Airs) (own : List Step) (lose count : ℕ) (calls : List Call) → airs (setup_of own) (source_calls own) ≡ others (setup_of own) (source_calls own)
+    → heard_on_air airs own lose count calls ≡ heard_on_air others own lose count calls
+air_same airs others own lose zero calls same = refl
+air_same airs others own lose (suc i) calls same =
+    let spot : Spot = spot_at (setup_of own).info i in
+    ap (λ octets. unless_lost (is_lost (setup_of own).info (event_back own 0) lose (spot_at (setup_of own).info i))
+    (hear (event_back own 0) (spot_at (setup_of own).info i).bis (spot_at (setup_of own).info i).subevent octets) (heard_on_air airs own lose i calls))
+    (pdu_same airs others own same (event_back own 0) (spot_at (setup_of own).info i).bis (spot_at (setup_of own).info i).subevent)
+    ∙ ap (unless_lost (is_lost (setup_of own).info (event_back own 0) lose (spot_at (setup_of own).info i)) (hear_at others own (event_back own 0) (spot_at (setup_of own).info i)))
+    (air_same airs others own lose i calls same)
+
+step_same : (airs others : Airs) → Both airs others → (boxes n : ℕ) (step : Step) (earlier : List Step) (calls : List Call) → Twice airs others boxes earlier
+    → refusal_of airs boxes earlier step ≡ None → with_sink_call airs n step earlier calls ≡ with_sink_call others n step earlier calls
+step_same airs others both boxes n (steps.Hear sink back bis subevent) earlier calls twice none =
+    ap (λ octets. cond (reaches sink n earlier) (hear (event_back (chosen_steps earlier) back) bis subevent octets ∷ calls) calls)
+    (pdu_same airs others (chosen_steps earlier)
+    (chosen_same airs others both boxes earlier twice (hears (chosen_steps earlier) (permitted airs boxes earlier (steps.Hear sink back bis subevent) none).in_phase))
+    (event_back (chosen_steps earlier) back) bis subevent)
+step_same airs others both boxes n (steps.Air sink lose) earlier calls twice none =
+    ap (λ all. cond (reaches sink n earlier) all calls)
+    (air_same airs others (chosen_steps earlier) lose (spots_of (chosen_steps earlier)) calls
+    (chosen_same airs others both boxes earlier twice (hears (chosen_steps earlier) (permitted airs boxes earlier (steps.Air sink lose) none).in_phase)))
+step_same airs others both boxes n _ earlier calls twice none = refl
+
+pub sink_same : (airs others : Airs) → Both airs others → (boxes n : ℕ) (made : List Step) → Legal airs boxes made → sink_calls airs n made ≡ sink_calls others n made
+sink_same airs others both boxes n [] legal = refl
+sink_same airs others both boxes n (step ∷ earlier) legal =
+    ap (with_sink_call airs n step earlier) (sink_same airs others both boxes n earlier legal.0)
+    ∙ step_same airs others both boxes n step earlier (sink_calls others n earlier)
+    (record { here = legal.0; there = legal_too airs others both boxes earlier legal.0 }) legal.1
+
+-- ---- what is handed up
+
+flat_same : (f g : ℕ → List SinkUnit) (ms : List ℕ) → ((m : ℕ) → f m ≡ g m) → flat_map f ms ≡ flat_map g ms
+flat_same f g [] same = refl
+flat_same f g (m ∷ ms) same = ap (λ us. us ++ flat_map f ms) (same m) ∙ ap (λ us. g m ++ us) (flat_same f g ms same)
+
+closing_at_same : (airs others : Airs) → Both airs others → (boxes s : ℕ) (made : List Step) (last_open : Option ℕ) → Legal airs boxes made
+    → closing_at airs s made last_open ≡ closing_at others s made last_open
+closing_at_same airs others both boxes s made None legal = refl
+closing_at_same airs others both boxes s made (Some event) legal =
+    flat_same (λ n. closing_by s event n (sink_calls airs n made) (source_of n made) (box_of n made))
+    (λ n. closing_by s event n (sink_calls others n made) (source_of n made) (box_of n made)) sink_numbers
+    (λ n. ap (λ calls. closing_by s event n calls (source_of n made) (box_of n made)) (sink_same airs others both boxes n made legal))
+
+pub closing_same : (airs others : Airs) → Both airs others → (boxes s : ℕ) (made : List Step) → Legal airs boxes made → closing airs s made ≡ closing others s made
+closing_same airs others both boxes s made legal = closing_at_same airs others both boxes s made (open_event (steps_of_source s made)) legal
+
+pub closing_both_same : (airs others : Airs) → Both airs others → (boxes : ℕ) (made : List Step) → Legal airs boxes made → closing_both airs made ≡ closing_both others made
+closing_both_same airs others both boxes made legal =
+    ap (λ us. us ++ closing airs 1 made) (closing_same airs others both boxes 0 made legal)
+    ∙ ap (λ us. closing others 0 made ++ us) (closing_same airs others both boxes 1 made legal)
+
+pub handed_same : (airs others : Airs) → Both airs others → (boxes : ℕ) (made : List Step) (step : Step) → Legal airs boxes made → handed_by airs made step ≡ handed_by others made step
+handed_same airs others both boxes made steps.Event legal = closing_same airs others both boxes (chosen_of made) made legal
+handed_same airs others both boxes made steps.Stop legal = closing_same airs others both boxes (chosen_of made) made legal
+handed_same airs others both boxes made (steps.Terminate reason) legal = closing_same airs others both boxes (chosen_of made) made legal
+handed_same airs others both boxes made steps.End legal = closing_both_same airs others both boxes made legal
+handed_same airs others both boxes made _ legal = refl
+
+pub handed_up_same : (airs others : Airs) → Both airs others → (boxes : ℕ) (made : List Step) → Legal airs boxes made → handed_up airs made ≡ handed_up others made
+handed_up_same airs others both boxes [] legal = refl
+handed_up_same airs others both boxes (step ∷ earlier) legal =
+    ap (λ us. us ++ handed_by airs earlier step) (handed_up_same airs others both boxes earlier legal.0)
+    ∙ ap (λ us. handed_up others earlier ++ us) (handed_same airs others both boxes earlier step legal.0)
