@@ -1,5 +1,5 @@
 -- What is wrong with octets, as it is found and as it is told.
-use Rattle.std.proofs.Common.{◌≡◌, ℕ, ◌<◌, ◌≤◌, Bool, true, false, cond, ltb, List, [], ◌∷◌, Option, Some, None, Result, Ok, Err, refl, ap, subst, ◌∙◌}
+use Rattle.std.proofs.Common.{◌≡◌, ℕ, ◌<◌, ◌≤◌, Bool, true, false, cond, ltb, List, [], ◌∷◌, length, Option, Some, None, Result, Ok, Err, refl, ap, subst, ◌∙◌}
 use Rattle.std.specs.Prelude.{IsOk, IfOk, IfErr}
 use Rattle.std.proofs.lemmas.Bool.{ltb-false, ltb-true, lt-ltb, le-ltb}
 use Rattle.octet_fields.specs.Layout.{reserved_from}
@@ -13,7 +13,7 @@ use Rattle.bass_operations.specs.declared.wishes.Wish.{Wish}
 use Rattle.std.specs.List.{AllByRecursion}
 use Rattle.bass_operations.specs.Faults.{IsFault}
 use Rattle.bass_operations.specs.Layout.{fields, wishes_of, IsLaid, OpIs, FitsWidths, MetadataFits, WishFits}
-use Rattle.bass_operations.specs.Reading.{op_in, op_of, judged, fault_of, first_fault, told}
+use Rattle.bass_operations.specs.Reading.{WantsFor, op_in, op_of, judged, fault_of, first_fault, told}
 use Rattle.octet_fields.specs.Tries.{Answers, Finds}
 use Rattle.bass_operations.specs.Twice.{twice_of}
 use Rattle.bass_operations.proofs.Judged.{op_laid, laid_read, answered_err, laid_is_judged, read_is}
@@ -105,18 +105,20 @@ pub gave_metadata : (result : Result Operation OpFault) (octets : List ℕ) → 
 gave_metadata (Ok op) octets h g = widths_metadata op (read_is op octets h g).layout.widths
 gave_metadata (Err fault) octets h g = tt
 
-an_operation : (octets : List ℕ) (read : Result Operation OpFault) → IsOctets octets → op_of octets ≡ read → IsOk read → (op : Operation) × OpIs op octets
-an_operation octets (Ok op) h e some = (op, read_is op octets h e)
-an_operation octets (Err fault) h e some = absurd cc
+an_operation : (octets : List ℕ) (read : Result Operation OpFault) → IsOctets octets → op_of octets ≡ read → IsOk read → IfOk read (λ op. 0 < length (wishes_of op))
+    → (op : Operation) × OpIs op octets × (0 < length (wishes_of op))
+an_operation octets (Ok op) h e some more = (op, read_is op octets h e, more)
+an_operation octets (Err fault) h e some more = absurd cc
 
-failed : (fault : OpFault) (octets : List ℕ) → IsOctets octets → Finds (told fault) (op_of octets) → IsFault fault octets
-failed Empty octets h g = fault_found Empty octets h g
-failed Opcode octets h g = fault_found Opcode octets h g
-failed Length octets h g = fault_found Length octets h g
-failed (Rfu place) octets h g = fault_found (Rfu place) octets h g
-failed (BisTwice bis) octets h g = fault_found (BisTwice bis) octets h g
-failed Memory octets h g = an_operation octets (op_of octets) h refl g
+failed : (fault : OpFault) (octets : List ℕ) → IsOctets octets → Finds (told fault) (op_of octets) → WantsFor fault (op_of octets) → IsFault fault octets
+failed Empty octets h g wants = fault_found Empty octets h g
+failed Opcode octets h g wants = fault_found Opcode octets h g
+failed Length octets h g wants = fault_found Length octets h g
+failed (Rfu place) octets h g wants = fault_found (Rfu place) octets h g
+failed (BisTwice bis) octets h g wants = fault_found (BisTwice bis) octets h g
+failed Memory octets h g wants = an_operation octets (op_of octets) h refl g wants
 
-pub gave_fault : (result : Result Operation OpFault) (octets : List ℕ) → IsOctets octets → Answers told result (op_of octets) → IfErr result (λ fault. IsFault fault octets)
-gave_fault (Ok op) octets h g = tt
-gave_fault (Err fault) octets h g = failed fault octets h g
+pub gave_fault : (result : Result Operation OpFault) (octets : List ℕ) → IsOctets octets → Answers told result (op_of octets) → IfErr result (λ fault. WantsFor fault (op_of octets))
+    → IfErr result (λ fault. IsFault fault octets)
+gave_fault (Ok op) octets h g wants = tt
+gave_fault (Err fault) octets h g wants = failed fault octets h g wants

@@ -1,7 +1,7 @@
 -- What an Add Source and a Modify Source are judged as, by the steps of reading.
 use Rattle.std.proofs.Common.{◌≡◌, ℕ, ◌+◌, ◌<◌, ◌≤◌, Bool, true, false, cond, ltb, List, [], ◌∷◌, length, Option, Some, None, is_some, Result, Ok, Err, refl, sym, ap, subst, ◌∙◌, arith}
 use Rattle.std.proofs.lemmas.Bool.{lt-ltb, le-ltb}
-use Rattle.std.specs.Prelude.{IsOk}
+use Rattle.std.specs.Prelude.{IfOk, IsOk}
 use Rattle.std.specs.List.{flat_map}
 use Rattle.octet_fields.specs.Layout.{reserved_from}
 use Rattle.octet_fields.specs.Reading.{place_in}
@@ -15,7 +15,7 @@ use Rattle.bass_operations.specs.declared.operation.ModifySource.{ModifySource}
 use Rattle.bass_operations.specs.declared.operation.Operation.{Operation}
 use Rattle.bass_operations.specs.declared.operation.Operation.TheVariants.{Add, Modify}
 use Rattle.bass_operations.specs.declared.wishes.Wish.{Wish}
-use Rattle.bass_operations.specs.Layout.{fields}
+use Rattle.bass_operations.specs.Layout.{fields, wishes_of}
 use Rattle.bass_operations.specs.Reading.{wishes_in, add_head_in, modify_head_in, add_in, modify_in, judged, answered, first_fault, add_reserved, told}
 use Rattle.octet_fields.specs.Tries.{Finds}
 use Rattle.bass_operations.specs.Scanning.{twice_in}
@@ -23,7 +23,7 @@ use Rattle.bass_operations.specs.Twice.{twice_of, twice_from}
 use Rattle.bass_operations.proofs.Heads.{add_head_takes, add_before-length, modify_head_takes, modify_before-length}
 use Rattle.bass_operations.proofs.Judged.{judged_by}
 use Rattle.bass_operations.proofs.Loops.{twice_found}
-use Rattle.bass_operations.proofs.Spelled.{wish_fields, fields_same, groups_of_wishes}
+use Rattle.bass_operations.proofs.Spelled.{wish_fields, fields_same, groups_of_wishes, wishes_take}
 
 -- the first place that is there
 abbrev pub or_place : Option ℕ → Option ℕ → Option ℕ
@@ -73,6 +73,14 @@ is_ok (Err fault) op e = absurd cc
 an_operation : (read : Result Operation OpFault) (op : Operation) (head others twice : Option ℕ) → read ≡ answered op (first_fault (or_place head others) twice) → head ≡ None
     → None ≡ first_fault others twice → IsOk read
 an_operation read op head others twice e h f = is_ok read op (no_fault_left read op head others twice e h f)
+
+-- it has a subgroup where the number of them says so
+has_subgroup : (read : Result Operation OpFault) (op : Operation) (count : ℕ) (tail : List ℕ) (wishes : List Wish) → read ≡ Ok op → wishes_of op ≡ wishes → IsOctets tail
+    → wishes_in count tail ≡ Some wishes → 0 < count → IfOk read (λ op. 0 < length (wishes_of op))
+has_subgroup (Ok read) op count tail wishes e of h w some =
+    let same : op ≡ read = cc in
+    subst (λ (o : Operation). 0 < length (wishes_of o)) same (omega (arith, ap length of, (wishes_take count tail wishes h w).counted))
+has_subgroup (Err fault) op count tail wishes e of h w some = tt
 
 -- the fields of the wishes are the subgroups that were looked through
 wishes_place : (from : List ℕ) (place count : ℕ) (tail : List ℕ) (wishes : List Wish) → IsOctets tail → length from ≡ place + length tail → wishes_in count tail ≡ Some wishes
@@ -162,6 +170,14 @@ add_done from rest add count tail wishes h parts e w r f =
     no_fault_left (judged (add_in rest)) (added add wishes) (add_reserved add) (reserved_in from count tail) (twice_in 31 1 count tail)
     (add_judged from rest add count tail wishes h parts e w) (sym r) f
 
+pub add_wants : (from rest : List ℕ) (add : AddSource) (count : ℕ) (tail : List ℕ) → IsOctets from → from ≡ 2 ∷ rest → add_head_in rest ≡ Some (add, count, tail)
+    → is_some (wishes_in count tail) ≡ true → None ≡ add_reserved add → None ≡ first_fault (reserved_in from count tail) (twice_in 31 1 count tail) → 0 < count
+    → IfOk (judged (add_in rest)) (λ op. 0 < length (wishes_of op))
+add_wants from rest add count tail h parts e some r f more =
+    let w = some_wishes (wishes_in count tail) some in
+    let t = add_head_takes rest (add, count, tail) (IsOctets-rest 2 rest (subst IsOctets parts h)) e in
+    has_subgroup (judged (add_in rest)) (added add w.0) count tail w.0 (add_done from rest add count tail w.0 h parts e w.1 r f) refl t.octets w.1 more
+
 pub add_tail : (from rest : List ℕ) (add : AddSource) (count : ℕ) (tail : List ℕ) → IsOctets from → from ≡ 2 ∷ rest → add_head_in rest ≡ Some (add, count, tail) → length tail ≤ length from
 add_tail from rest add count tail h parts e =
     let t = add_head_takes rest (add, count, tail) (IsOctets-rest 2 rest (subst IsOctets parts h)) e in
@@ -240,6 +256,14 @@ pub modify_done : (from rest : List ℕ) (modify : ModifySource) (count : ℕ) (
 modify_done from rest modify count tail wishes h parts e w r f =
     no_fault_left (judged (modify_in rest)) (modified modify wishes) (modify_reserved modify) (reserved_in from count tail) (twice_in 31 1 count tail)
     (modify_judged from rest modify count tail wishes h parts e w) (sym r) f
+
+pub modify_wants : (from rest : List ℕ) (modify : ModifySource) (count : ℕ) (tail : List ℕ) → IsOctets from → from ≡ 3 ∷ rest
+    → modify_head_in rest ≡ Some (modify, count, tail) → is_some (wishes_in count tail) ≡ true → None ≡ modify_reserved modify
+    → None ≡ first_fault (reserved_in from count tail) (twice_in 31 1 count tail) → 0 < count → IfOk (judged (modify_in rest)) (λ op. 0 < length (wishes_of op))
+modify_wants from rest modify count tail h parts e some r f more =
+    let w = some_wishes (wishes_in count tail) some in
+    let t = modify_head_takes rest (modify, count, tail) (IsOctets-rest 3 rest (subst IsOctets parts h)) e in
+    has_subgroup (judged (modify_in rest)) (modified modify w.0) count tail w.0 (modify_done from rest modify count tail w.0 h parts e w.1 r f) refl t.octets w.1 more
 
 pub modify_tail : (from rest : List ℕ) (modify : ModifySource) (count : ℕ) (tail : List ℕ) → IsOctets from → from ≡ 3 ∷ rest → modify_head_in rest ≡ Some (modify, count, tail)
     → length tail ≤ length from

@@ -1,5 +1,5 @@
 -- Reading an operation (Broadcast Audio Scan Service 1.0, section 3.1.1) field by field.
-use Rattle.std.specs.Prelude.{ℕ, zero, suc, List, [], ◌∷◌, map, Option, Some, None, Result, Ok, Err, nat_lt, if◌then◌else◌}
+use Rattle.std.specs.Prelude.{ℕ, zero, suc, List, [], ◌∷◌, map, Option, Some, None, Result, Ok, Err, nat_lt, if◌then◌else◌, ◌<◌, length, IfOk}
 use Rattle.octet_fields.specs.Layout.{reserved_from}
 use Rattle.octet_fields.specs.Reading.{octet_in, octets_in, number_in}
 use Rattle.octet_fields.specs.Steps.{◌>>=◌, whole}
@@ -115,3 +115,8 @@ op_of (opcode ∷ octets) = if nat_lt 5 opcode then Err Opcode else judged (op_i
 abbrev pub told : OpFault → Option OpFault
 told faults.Memory = None
 told fault = Some fault
+
+-- memory is wanted only for the subgroups of an operation
+abbrev pub WantsFor : OpFault → Result Operation OpFault → Type 0
+WantsFor faults.Memory read = IfOk read (λ op. 0 < length (wishes_of op))
+WantsFor fault read = Unit {0}

@@ -3,7 +3,7 @@ ghost use Rattle.octet_fields.specs.Reading.{Gives};
 ghost use Rattle.octet_fields.specs.Tries.{Answers};
 ghost use Rattle.bass_operations.specs.Faults.{IsFault};
 ghost use Rattle.bass_operations.specs.Layout.{MetadataFits, OpIs, wishes_of};
-ghost use Rattle.bass_operations.specs.Reading.{told, op_of, judged, add_in, add_head_in, add_reserved, modify_in, modify_head_in, code_in, remove_in};
+ghost use Rattle.bass_operations.specs.Reading.{WantsFor, told, op_of, judged, add_in, add_head_in, add_reserved, modify_in, modify_head_in, code_in, remove_in};
 ghost use Rattle.bass_operations.specs.declared.operation.Operation.{Operation};
 
 use crate::fault::OpFault;
@@ -27,7 +27,8 @@ const MODIFY_PA_SYNC_PLACE: usize = 2;
 ///
 /// Else it is the first fault in this order: Empty where there is no octet, Opcode where the first is none, Length where
 /// the octets are fewer or more than the fields, Rfu with the place of the first field that has a reserved value, BisTwice
-/// with the lowest stream index that stands in two subgroups, where 0xFFFFFFFF doesn't count, and Memory.
+/// with the lowest stream index that stands in two subgroups, where 0xFFFFFFFF doesn't count, and Memory. Memory is wanted only
+/// for an operation that has a subgroup.
 pub fn decode_operation(alloc: Global, from: &[u8]) -> Result<Operation, OpFault>
     ensures exact { Answers told result (op_of from.now) }
     ensures layout { IfOk result (λ op. OpIs op from.now) }
@@ -41,7 +42,8 @@ pub fn decode_operation(alloc: Global, from: &[u8]) -> Result<Operation, OpFault
 // By the opcode.
 #[tactic(auto, unfolding(crate::specs::Reading::op_in))]
 fn read_operation(alloc: Global, from: &[u8]) -> Result<Operation, OpFault>
-    ensures { Answers told result (op_of from.now) }
+    ensures exact { Answers told result (op_of from.now) }
+    ensures memory { IfErr result (λ fault. WantsFor fault (op_of from.now)) }
 {
     let [opcode, rest @ ..] = from else {
         return Err(OpFault::Empty);
@@ -61,7 +63,8 @@ fn read_operation(alloc: Global, from: &[u8]) -> Result<Operation, OpFault>
 // Add Source, the octets behind the opcode.
 fn read_add(alloc: Global, from: &[u8], rest: &[u8]) -> Result<Operation, OpFault>
     requires { from.now ≡ 2 ∷ rest.now }
-    ensures { Answers told result (judged (add_in rest.now)) }
+    ensures exact { Answers told result (judged (add_in rest.now)) }
+    ensures memory { IfErr result (λ fault. WantsFor fault (judged (add_in rest.now))) }
 {
     let Some((mut add, count, subgroups)) = add_head(alloc, rest) else {
         return Err(OpFault::Length);
@@ -80,7 +83,8 @@ fn read_add(alloc: Global, from: &[u8], rest: &[u8]) -> Result<Operation, OpFaul
 // Modify Source, the octets behind the opcode.
 fn read_modify(alloc: Global, from: &[u8], rest: &[u8]) -> Result<Operation, OpFault>
     requires { from.now ≡ 3 ∷ rest.now }
-    ensures { Answers told result (judged (modify_in rest.now)) }
+    ensures exact { Answers told result (judged (modify_in rest.now)) }
+    ensures memory { IfErr result (λ fault. WantsFor fault (judged (modify_in rest.now))) }
 {
     let Some((mut modify, count, subgroups)) = modify_head(alloc, rest) else {
         return Err(OpFault::Length);

@@ -1,5 +1,5 @@
 //! The subgroups of an operation, looked through where they lie before any memory is taken.
-ghost use Rattle.std.specs.Prelude.{◌≡◌, ◌≤◌, ◌<◌, length, is_some, true, IfOk, Some};
+ghost use Rattle.std.specs.Prelude.{◌≡◌, ◌≤◌, ◌<◌, length, is_some, true, IfOk, OnErr, Some};
 ghost use Rattle.std.specs.Result.{result_err};
 ghost use Rattle.octet_fields.specs.Subgroups.{reserved_in};
 ghost use Rattle.bass_operations.specs.Reading.{wishes_in, first_fault};
@@ -40,10 +40,11 @@ pub(crate) fn check_wishes(whole: &[u8], count: u8, octets: &[u8]) -> Result<(),
     Ok(())
 }
 
-// The wishes of so many subgroups.
+// The wishes of so many subgroups. Memory is wanted only where there is one.
 pub(crate) fn read_wishes(alloc: Global, count: u8, octets: &[u8]) -> Result<Wishes, Memory>
     requires { is_some (wishes_in count octets.now) ≡ true }
-    ensures { IfOk result (λ wishes. wishes_in count octets.now ≡ Some wishes) }
+    ensures gives { IfOk result (λ wishes. wishes_in count octets.now ≡ Some wishes) }
+    ensures memory { OnErr result (0 < count) }
 {
     let mut wishes = Wishes::new(alloc);
     let mut rest = octets;

@@ -1,5 +1,5 @@
 //! Which streams of a group a sink takes.
-ghost use Rattle.std.specs.Prelude.{◌≡◌, ◌≤◌, ◌<◌, ◌-◌, ◌^◌, ◌==◌, bit_or, map, is_none, IsTrue, IfOk};
+ghost use Rattle.std.specs.Prelude.{◌≡◌, ◌≤◌, ◌<◌, ◌-◌, ◌^◌, ◌==◌, bit_or, length, map, min, is_none, IsTrue, IfOk, OnErr};
 ghost use Rattle.std.specs.Int.{bit_at};
 ghost use Rattle.std.specs.List.{list_any};
 ghost use Rattle.base_grammar.specs.Layout.{bis_of, indices, stands_in};
@@ -47,7 +47,8 @@ struct Choice<'a> {
 
 /// The streams that a sink takes of a group of `num_bis` streams: the first candidates, by subgroup and then by rising
 /// index, at most `streams` of them. A candidate is a stream of the subgroup that is wanted, is one of the group, and fits
-/// a record of the capability (Basic Audio Profile 1.0, section 6.5).
+/// a record of the capability (Basic Audio Profile 1.0, section 6.5). Memory is wanted only where a subgroup is looked at:
+/// there is one, and a wish for it.
 pub fn choose(
     alloc: Global,
     capability: &Capability,
@@ -60,6 +61,7 @@ pub fn choose(
     ensures bits { IfOk result (λ chosen. chosen.bits ≡ map (set_with 0) (first_candidates capability.now base.now num_bis streams wishes.now base.now.subgroups)) }
     ensures which { IfOk result (λ chosen. chosen.which ≡ sets_with 0 (first_candidates capability.now base.now num_bis streams wishes.now base.now.subgroups)) }
     ensures within { IfOk result (λ chosen. chosen.which < 2 ^ num_bis) }
+    ensures memory { OnErr result (0 < min (length wishes.now) (length base.now.subgroups)) }
 {
     let mut bits = TakenBits::new(alloc);
     let mut which = BisSet::new();

@@ -1,5 +1,5 @@
 -- The boxes that no sink has, as units go to others.
-use Rattle.std.proofs.Common.{◌≡◌, ◌≢◌, ℕ, List, sym, ap, ◌∙◌, Option, Some}
+use Rattle.std.proofs.Common.{◌≡◌, ℕ, List, sym, ap, ◌∙◌, Option, Some}
 use Rattle.unit_outlets.specs.Took.{OthersSame}
 use Rattle.scenario_sinks.specs.Pasts.{Past}
 use Rattle.scenario_sinks.specs.Untaken.{AllButSame, UntakenSame}

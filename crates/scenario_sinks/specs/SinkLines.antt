@@ -22,4 +22,5 @@ SinkLineMakes past n source line new text told (Ok _) =
 SinkLineMakes past n source line new text told (Err (Refused reason)) =
     (refused_where line (past.mades n) (past.lives n) ≡ Some reason) × SinksStand past new × (told ≡ text)
 SinkLineMakes past n source line new text told (Err OutletFault) = ⊥
-SinkLineMakes past n source line new text told (Err Memory) = (refused_where line (past.mades n) (past.lives n) ≡ None) × Takes line
+SinkLineMakes past n source line new text told (Err Memory) =
+    (refused_where line (past.mades n) (past.lives n) ≡ None) × Takes line (printed_where source line (past.mades n) (past.lives n))

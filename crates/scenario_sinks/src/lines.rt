@@ -20,7 +20,8 @@ use transcript_text::Stop;
 impl Sinks {
     /// Runs a line that names the sink of this number, and puts what it prints at the end of the text. It is refused with
     /// NoSuchSink where no sink of this number lives, else by the first reason that holds of the sink: NoSuchLink, LinkTwice,
-    /// NothingWaiting, RecordsTooLong; a refused line changes nothing, and wants no memory, nor do `locate`, `context` and `apart`.
+    /// NothingWaiting, RecordsTooLong; a refused line changes nothing, and wants no memory, nor do `locate`, `context` and `apart`,
+    /// and a drain of a link on which nothing waits.
     /// A train may put the sink on a group of the source that the line means (Basic Audio Profile 1.0, section 6.5).
     pub fn line(
         &mut self,

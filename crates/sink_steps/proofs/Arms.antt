@@ -27,8 +27,8 @@ pub does_so : (source : Source) (given said : Step) (made : Made) (its : Option 
     → Prints source given made its life received text text new result
 does_so source given said made its life received text new result is quiet does =
     subst (λ other. Prints source other made its life received text text new result) (sym is)
-    (subst (λ lines. Makes (refused_by said made life) (Takes said) lines (Next source said made its life received) (Lives made its life received) text text new result) (sym quiet)
-    (quiet_makes (refused_by said made life) (Takes said) (Next source said made its life received) (Lives made its life received) text new result does))
+    (subst (λ lines. Makes (refused_by said made life) (Takes said lines) lines (Next source said made its life received) (Lives made its life received) text text new result) (sym quiet)
+    (quiet_makes (refused_by said made life) (Takes said []) (Next source said made its life received) (Lives made its life received) text new result does))
 
 -- the line is this one
 pub prints_so : (source : Source) (given said : Step) (made : Made) (its : Option ℕ) (life : List Call) (received : List sinks.Call) (text told : List ℕ) (new : LivingSink)

@@ -1,15 +1,17 @@
 -- Calls of one kind on a link, for as long as something waits for them.
-use Rattle.std.proofs.Common.{ℕ, zero, suc, ◌≡◌, ◌≤◌, Bool, true, false, List, [], ◌∷◌, ◌++◌, drop, length, slice_get, Option, Some, None, Ok, refl, sym, ap, ◌∙◌, append_assoc, subst, arith}
+use Rattle.std.proofs.Common.{ℕ, zero, suc, ◌≡◌, ◌+◌, ◌<◌, ◌≤◌, Bool, true, false, List, [], ◌∷◌, ◌++◌, drop, length, slice_get, Option, Some, None, Ok, refl, sym, ap, ◌∙◌, append_assoc, subst, arith}
 use Rattle.std.specs.List.{concat}
-use Rattle.std.specs.Prelude.{is_none}
+use Rattle.std.proofs.lemmas.List.{length-append}
+use Rattle.std.specs.Prelude.{is_none, option_map}
+use Rattle.delegator_states.specs.Writes.{reply_of}
 use Rattle.group_sink.specs.Calls as sinks
 use Rattle.link_histories.specs.Calls as calls
 use Rattle.link_histories.specs.Calls.{Call, is_joined, writes_waiting}
 use Rattle.link_histories.specs.Drains.{drained, repeated, served_out, told_out}
-use Rattle.link_histories.specs.Links.{notices_waiting, reads_waiting}
+use Rattle.link_histories.specs.Links.{delivered, notices_waiting, reads_waiting}
 use Rattle.sink_histories.specs.Lives.{Made}
-use Rattle.sink_histories.specs.Output.{Lines, drain_lines, read_lines, serve_lines, tell_lines}
-use Rattle.sink_lines.specs.Lines.{Label}
+use Rattle.sink_histories.specs.Output.{Lines, drain_lines, if_there, read_line, read_lines, serve_line, serve_lines, sight_in, stated, tell_line, tell_lines}
+use Rattle.sink_lines.specs.Lines.{Label, reply_line, value_line}
 use Rattle.sink_steps.specs.declared.sink.LivingSink.{LivingSink}
 use Rattle.sink_steps.specs.Making.{Goes, Stays, Turns, stayed}
 use Rattle.sink_steps.specs.State.Living.{Lives}
@@ -59,16 +61,18 @@ goes_then made its before mid after received lines others text between told firs
 
 -- ---- so many of them
 
-pub record Repeats {A : Type 0} (made : Made) (its : Option ℕ) (call : Call) (waiting : List Call → List A) (lines : ℕ → Lines) (life : List Call)
+pub record Repeats {A : Type 0} (made : Made) (its : Option ℕ) (call : Call) (waiting : List Call → List A) (lines : ℕ → Lines) (turns : ℕ) (life : List Call)
     (received : List sinks.Call) (text told : List ℕ) (living : LivingSink) : Type 0 where
   pub count : ℕ
+  pub turned : turns ≤ count
   pub within : count ≤ length (waiting life)
   pub goes : Goes made its life (repeated count call life) received (lines count) text told living
 
 pub none_yet : {A : Type 0} (made : Made) (its : Option ℕ) (call : Call) (waiting : List Call → List A) (lines : ℕ → Lines) (life : List Call) (received : List sinks.Call)
-    (text : List ℕ) (living : LivingSink) → lines 0 ≡ [] → Lives made its life received living → Repeats made its call waiting lines life received text text living
+    (text : List ℕ) (living : LivingSink) → lines 0 ≡ [] → Lives made its life received living → Repeats made its call waiting lines 0 life received text text living
 none_yet made its call waiting lines life received text living first lives = record {
   count = 0;
+  turned = omega arith;
   within = omega arith;
   goes = (
     lives_stayed made its life received living lives,
@@ -91,10 +95,11 @@ Each made its link call waiting line told next old new waited =
     → Turns (slice_get (waiting life) 0) (Goes made its life (call ∷ life) received (line life) told) (Stays made its life received told) next new (Ok waited)
 
 pub one_again : {A : Type 0} (made : Made) (its : Option ℕ) (link : ℕ) (call : Call) (waiting : List Call → List A) (lines : ℕ → Lines) (line : List Call → Lines)
-    (life : List Call) (received : List sinks.Call) (text told next : List ℕ) (old new : LivingSink) (waited : Bool) → IsKind made link call waiting
-    → ((n : ℕ) → lines (suc n) ≡ lines n ++ line (repeated n call life)) → is_joined link life ≡ true → Repeats made its call waiting lines life received text told old
-    → waited ≡ true → Each made its link call waiting line told next old new waited → Repeats made its call waiting lines life received text next new
-one_again made its link call waiting lines line life received text told next old new waited kind more on r is each =
+    (turns : ℕ) (life : List Call) (received : List sinks.Call) (text told next : List ℕ) (old new : LivingSink) (waited : Bool) → IsKind made link call waiting
+    → ((n : ℕ) → lines (suc n) ≡ lines n ++ line (repeated n call life)) → is_joined link life ≡ true
+    → Repeats made its call waiting lines turns life received text told old → waited ≡ true → Each made its link call waiting line told next old new waited
+    → Repeats made its call waiting lines (turns + 1) life received text next new
+one_again made its link call waiting lines line turns life received text told next old new waited kind more on r is each =
     let past : List Call = repeated r.count call life in
     let taken : List sinks.Call = stayed made life past received in
     let turn = one_taken (slice_get (waiting past) 0) (Goes made its past (call ∷ past) taken (line past) told) (Stays made its past taken told) next new waited is
@@ -104,21 +109,68 @@ one_again made its link call waiting lines line life received text told next old
     goes_then made its life past (call ∷ past) received (lines r.count) (line past) text told next old new (all_off made link call waiting kind r.count life) (kind.off past) r.goes turn.1 in
     record {
       count = suc r.count;
+      turned = omega (arith, r.turned);
       within = one_more call waiting kind.each r.count life there.0 there.1;
       goes = (goes.0, goes.1 ∙ ap (λ (ls : Lines). text ++ concat ls) (sym (more r.count)));
     }
 
 pub all_done : {A : Type 0} (made : Made) (its : Option ℕ) (link : ℕ) (call : Call) (waiting : List Call → List A) (lines : ℕ → Lines) (line : List Call → Lines)
-    (life : List Call) (received : List sinks.Call) (text told next : List ℕ) (old new : LivingSink) (waited : Bool) → IsKind made link call waiting → is_joined link life ≡ true
-    → Repeats made its call waiting lines life received text told old → waited ≡ false → Each made its link call waiting line told next old new waited
+    (turns : ℕ) (life : List Call) (received : List sinks.Call) (text told next : List ℕ) (old new : LivingSink) (waited : Bool) → IsKind made link call waiting
+    → is_joined link life ≡ true → Repeats made its call waiting lines turns life received text told old → waited ≡ false → Each made its link call waiting line told next old new waited
     → Goes made its life (repeated (length (waiting life)) call life) received (lines (length (waiting life))) text next new
-all_done made its link call waiting lines line life received text told next old new waited kind on r is each =
+all_done made its link call waiting lines line turns life received text told next old new waited kind on r is each =
     let past : List Call = repeated r.count call life in
     let taken : List sinks.Call = stayed made life past received in
     let turn = none_taken (slice_get (waiting past) 0) (Goes made its past (call ∷ past) taken (line past) told) (Stays made its past taken told) next new waited is
     (each past taken r.goes.0 (all_joined made link call waiting kind r.count life ∙ on)) in
     let all : r.count ≡ length (waiting life) = no_more call waiting kind.each r.count life r.within (none_is (slice_get (waiting past) 0) turn.0) in
     subst (λ n. Goes made its life (repeated n call life) received (lines n) text next new) all (turn.1.0, turn.1.1 ∙ r.goes.1)
+
+-- one of them waited still, and so of the life before them all
+pub some_waits : {A : Type 0} (made : Made) (its : Option ℕ) (link : ℕ) (call : Call) (waiting : List Call → List A) (lines : ℕ → Lines) (turns : ℕ) (life : List Call)
+    (received : List sinks.Call) (text told : List ℕ) (old : LivingSink) → IsKind made link call waiting → is_joined link life ≡ true
+    → Repeats made its call waiting lines turns life received text told old
+    → ((past : List Call) (taken : List sinks.Call) → Lives made its past taken old → is_joined link past ≡ true → is_none (slice_get (waiting past) 0) ≡ false) → 0 < length (waiting life)
+some_waits made its link call waiting lines turns life received text told old kind on r wants =
+    let past : List Call = repeated r.count call life in
+    let there = some_is (slice_get (waiting past) 0) (wants past (stayed made life past received) r.goes.0 (all_joined made link call waiting kind r.count life ∙ on)) in
+    omega (arith, one_more call waiting kind.each r.count life there.0 there.1)
+
+-- ---- lines of what waits
+
+line_there : {A B : Type 0} (line : B → List ℕ) (f : A → B) (all : List A) → 0 < length all → 0 < length (if_there line (option_map f (slice_get all 0)))
+line_there line f [] some = absurd (omega (arith, some))
+line_there line f (x ∷ all) some = omega arith
+
+lines_there : (lines line : ℕ → Lines) → ((n : ℕ) → lines (suc n) ≡ lines n ++ line n) → 0 < length (line 0) → (n : ℕ) → 0 < n → 0 < length (lines n)
+lines_there lines line each first zero some = absurd (omega (arith, some))
+lines_there lines line each first (suc zero) some = omega (arith, ap length (each 0), length-append (lines 0) (line 0), first)
+lines_there lines line each first (suc (suc n)) some =
+    omega (arith, ap length (each (suc n)), length-append (lines (suc n)) (line (suc n)), lines_there lines line each first (suc n) (omega arith))
+
+pub serves_some : (label : Label) (made : Made) (link : ℕ) (life : List Call) → 0 < length (writes_waiting link life)
+    → 0 < length (serve_lines label made link (length (writes_waiting link life)) life)
+serves_some label made link life some =
+    lines_there (λ n. serve_lines label made link n life) (λ n. serve_line label made link (repeated n (calls.served link) life)) (λ n. refl)
+    (line_there (reply_line label) (reply_of (sight_in made life)) (writes_waiting link life) some) (length (writes_waiting link life)) some
+
+pub tells_some : (label : Label) (made : Made) (link : ℕ) (life : List Call) → 0 < length (notices_waiting made.setup made.mtu link life)
+    → 0 < length (tell_lines label made link (length (notices_waiting made.setup made.mtu link life)) life)
+tells_some label made link life some =
+    lines_there (λ n. tell_lines label made link n life) (λ n. tell_line label made link (repeated n (calls.told link) life)) (λ n. refl)
+    (line_there (value_line label.notice label.numbers) (delivered made.mtu) (notices_waiting made.setup made.mtu link life) some)
+    (length (notices_waiting made.setup made.mtu link life)) some
+
+pub reads_some : (label : Label) (made : Made) (link : ℕ) (life : List Call) → 0 < length (reads_waiting made.setup made.mtu link life)
+    → 0 < length (read_lines label made link (length (reads_waiting made.setup made.mtu link life)) life)
+reads_some label made link life some =
+    lines_there (λ n. read_lines label made link n life) (λ n. read_line label made link (repeated n (calls.read link) life)) (λ n. refl)
+    (line_there (value_line label.read label.numbers) (stated made life) (reads_waiting made.setup made.mtu link life) some)
+    (length (reads_waiting made.setup made.mtu link life)) some
+
+-- a drain has each of these three
+pub drain_length : (served told was_read : Lines) → length (served ++ told ++ was_read) ≡ length served + length told + length was_read
+drain_length served told was_read = omega (arith, length-append (served ++ told) was_read, length-append served told)
 
 -- ---- a drain
 

@@ -1,12 +1,12 @@
 -- What became of a line that names a sink. The refusals are the scenario language's own.
-use Rattle.std.specs.Prelude.{ℕ, ◌≡◌, Bool, true, false, List, ◌++◌, ◌∷◌, [], Option, None, Some, Result, Ok, Err, codes, decimal, is_none}
+use Rattle.std.specs.Prelude.{ℕ, ◌≡◌, ◌<◌, Bool, true, false, List, length, ◌++◌, ◌∷◌, [], Option, None, Some, Result, Ok, Err, codes, decimal, is_none}
 use Rattle.std.specs.List.{concat}
 use Rattle.bcast_base.specs.declared.memory.Memory.{Memory as NoMemory}
 use Rattle.delegator_machine.specs.Groups.{with_step}
 use Rattle.group_sink.specs.Calls as sinks
 use Rattle.link_histories.specs.Calls.{Call}
 use Rattle.scenario_text.specs.declared.step.Step.{Step}
-use Rattle.scenario_text.specs.declared.step.Step.TheVariants.{Apart, Context, Locate}
+use Rattle.scenario_text.specs.declared.step.Step.TheVariants.{ADrain, Apart, Context, Drain, Locate}
 use Rattle.sink_histories.specs.Lives.{Made, Source, lived_by}
 use Rattle.sink_histories.specs.Moves.{received_by, source_by}
 use Rattle.sink_histories.specs.Output.{Lines, printed_of, sight_in, stated, viewed}
@@ -19,12 +19,14 @@ use Rattle.transcript_text.specs.declared.refusal.Refusal.TheVariants.{NothingWa
 use Rattle.transcript_text.specs.declared.stop.Stop.{Stop}
 use Rattle.transcript_text.specs.declared.stop.Stop.TheVariants.{Refused, OutletFault, Memory}
 
--- a line that may take memory: one that prints, keeps octets, or puts an assistant on a link
-abbrev pub Takes : Step → Type 0
-Takes (Locate sink bits) = ⊥
-Takes (Context sink sink_bits source_bits) = ⊥
-Takes (Apart sink link) = ⊥
-Takes _ = Unit {0}
+-- a line that prints these lines may take memory: it prints some, keeps octets, or puts an assistant on a link
+abbrev pub Takes : Step → Lines → Type 0
+Takes (Locate sink bits) lines = ⊥
+Takes (Context sink sink_bits source_bits) lines = ⊥
+Takes (Apart sink link) lines = ⊥
+Takes (Drain sink) lines = 0 < length lines
+Takes (ADrain sink link) lines = 0 < length lines
+Takes _ lines = Unit {0}
 
 -- it is refused for this reason, and `same` holds of the sink as before; or else it prints these lines behind a text, and `next`
 -- holds of the sink then; or memory ran out, of a line that isn't refused and `takes` some
@@ -51,10 +53,10 @@ Next source step made its life received living =
 
 abbrev pub Prints : Source → Step → Made → Option ℕ → List Call → List sinks.Call → List ℕ → List ℕ → LivingSink → Result (Unit {0}) Stop → Type 0
 Prints source step made its life received text told new result =
-    Makes (refused_by step made life) (Takes step) (printed_of source step made life) (Next source step made its life received) (Lives made its life received) text told new result
+    Makes (refused_by step made life) (Takes step (printed_of source step made life)) (printed_of source step made life) (Next source step made its life received) (Lives made its life received) text told new result
 
 abbrev pub Does : Source → Step → Made → Option ℕ → List Call → List sinks.Call → LivingSink → Result (Unit {0}) Stop → Type 0
-Does source step made its life received new result = Quietly (refused_by step made life) (Takes step) (Next source step made its life received) (Lives made its life received) new result
+Does source step made its life received new result = Quietly (refused_by step made life) (Takes step []) (Next source step made its life received) (Lives made its life received) new result
 
 -- ---- calls on a link
 

@@ -31,7 +31,7 @@ impl LivingSink {
         requires { train.now.time ≤ 2 ^ 61 }
         ensures { (source : Source) (made : Made) (its : Option ℕ) (life : List Call) (received : List sinks.Call) → IsFrom origin source
             → source.announced ≡ train.now → Lives made its life received self.old
-            → Makes (refused_by (Announce sink) made life) (Takes (Announce sink)) (printed_of source (Announce sink) made life)
+            → Makes (refused_by (Announce sink) made life) (Takes (Announce sink) (printed_of source (Announce sink) made life)) (printed_of source (Announce sink) made life)
             (Lives made (source_by source (Announce sink) (Some made) life its) (lived_by source (Announce sink) (Some made) life)
             (received_by source (Announce sink) (Some made) life (lived_by source (Announce sink) (Some made) life) received)) (Lives made its life received) text.old text.new self.new result }
     {

@@ -1,5 +1,5 @@
 //! A drain of a link: all writes that wait are served, then all notices that wait are delivered, then all reads are served.
-ghost use Rattle.std.specs.Prelude.{ℕ, ◌≡◌, true, length, List, Option, OnOk};
+ghost use Rattle.std.specs.Prelude.{ℕ, ◌≡◌, ◌<◌, true, length, List, Option, OnErr, OnOk};
 ghost use Rattle.group_sink.specs.Calls as sinks;
 ghost use Rattle.link_histories.specs.Calls.{Call, is_joined, writes_waiting};
 ghost use Rattle.link_histories.specs.Drains.{drained, read_out, served_out, told_out};
@@ -17,10 +17,13 @@ use sink_lines::Label;
 use transcript_text::{Refusal, Stop};
 
 impl LivingSink {
-    /// Serves all writes that wait on a joined link, and puts their replies behind the text.
+    /// Serves all writes that wait on a joined link, and puts their replies behind the text. Memory is wanted only where
+    /// one waits.
     fn serve_all(&mut self, link: u8, label: Label, text: &mut Octets) -> Result<(), Memory>
-        ensures { (made : Made) (its : Option ℕ) (life : List Call) (received : List sinks.Call) → Lives made its life received self.old → is_joined link life ≡ true
+        ensures goes { (made : Made) (its : Option ℕ) (life : List Call) (received : List sinks.Call) → Lives made its life received self.old → is_joined link life ≡ true
             → OnOk result (Goes made its life (served_out link life) received (serve_lines (label_of label) made link (length (writes_waiting link life)) life) text.old text.new self.new) }
+        ensures memory { (made : Made) (its : Option ℕ) (life : List Call) (received : List sinks.Call) → Lives made its life received self.old → is_joined link life ≡ true
+            → OnErr result (0 < length (writes_waiting link life)) }
     {
         'writes: for _ in 0..u64::MAX {
             let waited = self.serve_next(link, label, text)?;
@@ -31,11 +34,14 @@ impl LivingSink {
         Err(Memory)
     }
 
-    /// Delivers all notices that wait on a joined link, in order, and puts them behind the text.
+    /// Delivers all notices that wait on a joined link, in order, and puts them behind the text. Memory is wanted only
+    /// where one waits.
     fn tell_all(&mut self, link: u8, label: Label, text: &mut Octets) -> Result<(), Memory>
-        ensures { (made : Made) (its : Option ℕ) (life : List Call) (received : List sinks.Call) → Lives made its life received self.old → is_joined link life ≡ true
+        ensures goes { (made : Made) (its : Option ℕ) (life : List Call) (received : List sinks.Call) → Lives made its life received self.old → is_joined link life ≡ true
             → OnOk result (Goes made its life (told_out made.setup made.mtu link life) received
             (tell_lines (label_of label) made link (length (notices_waiting made.setup made.mtu link life)) life) text.old text.new self.new) }
+        ensures memory { (made : Made) (its : Option ℕ) (life : List Call) (received : List sinks.Call) → Lives made its life received self.old → is_joined link life ≡ true
+            → OnErr result (0 < length (notices_waiting made.setup made.mtu link life)) }
     {
         'notices: for _ in 0..u64::MAX {
             let waited = self.tell_next(link, label, text)?;
@@ -47,10 +53,13 @@ impl LivingSink {
     }
 
     /// Serves all reads that wait on a joined link, the slots by rising number, and puts what they give behind the text.
+    /// Memory is wanted only where one waits.
     fn read_all(&mut self, link: u8, label: Label, text: &mut Octets) -> Result<(), Memory>
-        ensures { (made : Made) (its : Option ℕ) (life : List Call) (received : List sinks.Call) → Lives made its life received self.old → is_joined link life ≡ true
+        ensures goes { (made : Made) (its : Option ℕ) (life : List Call) (received : List sinks.Call) → Lives made its life received self.old → is_joined link life ≡ true
             → OnOk result (Goes made its life (read_out made.setup made.mtu link life) received
             (read_lines (label_of label) made link (length (reads_waiting made.setup made.mtu link life)) life) text.old text.new self.new) }
+        ensures memory { (made : Made) (its : Option ℕ) (life : List Call) (received : List sinks.Call) → Lives made its life received self.old → is_joined link life ≡ true
+            → OnErr result (0 < length (reads_waiting made.setup made.mtu link life)) }
     {
         'reads: for _ in 0..u64::MAX {
             let waited = self.read_next(link, label, text)?;
@@ -61,10 +70,13 @@ impl LivingSink {
         Err(Memory)
     }
 
-    /// Drains a joined link, and puts what becomes of all that waited behind the text.
+    /// Drains a joined link, and puts what becomes of all that waited behind the text. Memory is wanted only
+    /// where something does.
     fn drain_link(&mut self, link: u8, label: Label, text: &mut Octets) -> Result<(), Memory>
-        ensures { (made : Made) (its : Option ℕ) (life : List Call) (received : List sinks.Call) → Lives made its life received self.old → is_joined link life ≡ true
+        ensures goes { (made : Made) (its : Option ℕ) (life : List Call) (received : List sinks.Call) → Lives made its life received self.old → is_joined link life ≡ true
             → OnOk result (Goes made its life (drained made.setup made.mtu link life) received (drain_lines (label_of label) made link life) text.old text.new self.new) }
+        ensures memory { (made : Made) (its : Option ℕ) (life : List Call) (received : List sinks.Call) → Lives made its life received self.old → is_joined link life ≡ true
+            → OnErr result (0 < length (drain_lines (label_of label) made link life)) }
     {
         self.serve_all(link, label, text)?;
         self.tell_all(link, label, text)?;

@@ -21,12 +21,12 @@ use transcript_text::{Refusal, Stop};
 impl LivingSink {
     /// Runs a line that names the sink, and puts what it prints at the end of the text. It is refused by the first reason that
     /// holds: NoSuchLink, LinkTwice, NothingWaiting, RecordsTooLong. A refused line changes nothing, and wants no memory; nor
-    /// do `locate`, `context` and `apart`.
+    /// do `locate`, `context` and `apart`, and a drain of a link on which nothing waits.
     pub fn line(&mut self, step: Step, origin: Origin, text: &mut Octets) -> Result<(), Stop>
         requires { IsInRange step }
         ensures { (source : Source) (made : Made) (its : Option ℕ) (life : List Call) (received : List sinks.Call) → IsFrom origin source → IsSinkLine step
             → Lives made its life received self.old
-            → Makes (refused_by step made life) (Takes step) (printed_of source step made life)
+            → Makes (refused_by step made life) (Takes step (printed_of source step made life)) (printed_of source step made life)
             (Lives made (source_by source step (Some made) life its) (lived_by source step (Some made) life)
             (received_by source step (Some made) life (lived_by source step (Some made) life) received)) (Lives made its life received) text.old text.new self.new result }
     {

@@ -45,7 +45,7 @@ EntryHears box made own life received source event bis subevent octets entry (So
 -- a line on a living sink that was made so, which means this source
 abbrev pub LineMakes : Made → Option ℕ → List links.Call → List Call → Source → Step → (text told : List ℕ) → LivingSink → Result (Unit {0}) Stop → Type 0
 LineMakes made own life received source step text told living result =
-    Makes (refused_by step made life) (Takes step) (printed_of source step made life)
+    Makes (refused_by step made life) (Takes step (printed_of source step made life)) (printed_of source step made life)
     (Lives made (source_by source step (Some made) life own) (lived_by source step (Some made) life)
     (received_by source step (Some made) life (lived_by source step (Some made) life) received)) (Lives made own life received) text told living result
 
@@ -60,4 +60,4 @@ EntryRuns box made own life received source line entry text told (Ok _) =
 EntryRuns box made own life received source line entry text told (Err (Refused reason)) =
     (refused_where line made life ≡ Some reason) × EntryIs box made own life received (Some entry) × (told ≡ text)
 EntryRuns box made own life received source line entry text told (Err OutletFault) = ⊥
-EntryRuns box made own life received source line entry text told (Err Memory) = (refused_where line made life ≡ None) × Takes line
+EntryRuns box made own life received source line entry text told (Err Memory) = (refused_where line made life ≡ None) × Takes line (printed_where source line made life)

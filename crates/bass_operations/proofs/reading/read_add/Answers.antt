@@ -1,34 +1,40 @@
 use Rattle.std.proofs.Common.{arith, sym, ◌∙◌}
 use Rattle.std.proofs.lemmas.Result.{err_from_is_err_and}
-use Rattle.bass_operations.proofs.Read.{add_no_head, add_no_wishes, add_head_fault, add_wishes_fault, add_is_operation, add_done, add_tail}
+use Rattle.bass_operations.proofs.Read.{add_no_head, add_no_wishes, add_head_fault, add_wishes_fault, add_is_operation, add_wants, add_done, add_tail}
 use Rattle.bass_operations.proofs.reading.read_add.Goals as goal
 
-pub returns-in_default : goal.returns-in_default
-returns-in_default c = add_no_head c.args.rest.now c.in_default.ensures
+pub returns-in_default-clause-exact : goal.returns-in_default-clause-exact
+returns-in_default-clause-exact c = add_no_head c.args.rest.now c.in_default.ensures
 
-pub returns-then-not-are_wishes : goal.returns-then-not-are_wishes
-returns-then-not-are_wishes c = add_no_wishes c.args.rest.now c.in-Some.add c.in-Some.count c.in-Some.subgroups.now c.in-Some.ensures (sym c.are_wishes.ensures ∙ c.if-not-are_wishes.true)
+pub returns-then-not-are_wishes-clause-exact : goal.returns-then-not-are_wishes-clause-exact
+returns-then-not-are_wishes-clause-exact c = add_no_wishes c.args.rest.now c.in-Some.add c.in-Some.count c.in-Some.subgroups.now c.in-Some.ensures (sym c.are_wishes.ensures ∙ c.if-not-are_wishes.true)
 
-pub returns-in-Some-reserved_in_add : goal.returns-in-Some-reserved_in_add
-returns-in-Some-reserved_in_add c =
+pub returns-in-Some-reserved_in_add-clause-exact : goal.returns-in-Some-reserved_in_add-clause-exact
+returns-in-Some-reserved_in_add-clause-exact c =
     add_head_fault c.args.from.now c.args.rest.now c.in-Some.add c.in-Some.count c.in-Some.subgroups.now c.in-Some-reserved_in_add.place (λ i. omega (arith, c.type_inv.from i)) c.requires
     c.in-Some.ensures (sym c.are_wishes.ensures ∙ c.if-not-are_wishes.false) c.in-Some-reserved_in_add.ensures
 
 pub check_wishes-requires : goal.check_wishes-requires
 check_wishes-requires c = add_tail c.args.from.now c.args.rest.now c.in-Some.add c.in-Some.count c.in-Some.subgroups.now (λ i. omega (arith, c.type_inv.from i)) c.requires c.in-Some.ensures
 
-pub returns-in_err-check_wishes : goal.returns-in_err-check_wishes
-returns-in_err-check_wishes c =
+pub returns-in_err-check_wishes-clause-exact : goal.returns-in_err-check_wishes-clause-exact
+returns-in_err-check_wishes-clause-exact c =
     let p = err_from_is_err_and c.from_residual.result c.from_residual.ensures.1 in
     rw (p.1, p.2) (add_wishes_fault c.args.from.now c.args.rest.now c.in-Some.add c.in-Some.count c.in-Some.subgroups.now c.in_err-check_wishes.field-0.0
     (λ i. omega (arith, c.type_inv.from i)) c.requires c.in-Some.ensures (sym c.are_wishes.ensures ∙ c.if-not-are_wishes.false) c.in_default-reserved_in_add.ensures c.in_err-check_wishes.ensures)
 
-pub returns-in_err-add : goal.returns-in_err-add
-returns-in_err-add c =
+pub returns-in_err-add-clause-exact : goal.returns-in_err-add-clause-exact
+returns-in_err-add-clause-exact c =
     let p = err_from_is_err_and c.from_residual-in_err-add.result c.from_residual-in_err-add.ensures.1 in
     rw (p.1, p.2) (add_is_operation c.args.from.now c.args.rest.now c.in-Some.add c.in-Some.count c.in-Some.subgroups.now (λ i. omega (arith, c.type_inv.from i)) c.requires c.in-Some.ensures
     (sym c.are_wishes.ensures ∙ c.if-not-are_wishes.false) c.in_default-reserved_in_add.ensures c.in_ok-check_wishes.ensures)
 
-pub returns : goal.returns
-returns c = add_done c.args.from.now c.args.rest.now c.in-Some.add c.in-Some.count c.in-Some.subgroups.now c.in_ok-add.field-0 (λ i. omega (arith, c.type_inv.from i)) c.requires
-    c.in-Some.ensures c.in_ok-add.ensures c.in_default-reserved_in_add.ensures c.in_ok-check_wishes.ensures
+pub returns-in_err-add-clause-memory : goal.returns-in_err-add-clause-memory
+returns-in_err-add-clause-memory c =
+    let p = err_from_is_err_and c.from_residual-in_err-add.result c.from_residual-in_err-add.ensures.1 in
+    rw (p.1, p.2) (add_wants c.args.from.now c.args.rest.now c.in-Some.add c.in-Some.count c.in-Some.subgroups.now (λ i. omega (arith, c.type_inv.from i)) c.requires c.in-Some.ensures
+    (sym c.are_wishes.ensures ∙ c.if-not-are_wishes.false) c.in_default-reserved_in_add.ensures c.in_ok-check_wishes.ensures c.in_err-add.ensures.memory)
+
+pub returns-clause-exact : goal.returns-clause-exact
+returns-clause-exact c = add_done c.args.from.now c.args.rest.now c.in-Some.add c.in-Some.count c.in-Some.subgroups.now c.in_ok-add.field-0 (λ i. omega (arith, c.type_inv.from i)) c.requires
+    c.in-Some.ensures c.in_ok-add.ensures.gives c.in_default-reserved_in_add.ensures c.in_ok-check_wishes.ensures

@@ -16,5 +16,5 @@ subgroups-preserved c =
       rw pushed (omega (arith, length-append c.subgroups.wishes (wish_of group ∷ []))),
     )
 
-pub returns : goal.returns
-returns c = read_end c.subgroups.wishes c.args.count c.subgroups.counter c.subgroups.rest.now _ c.subgroups-test.false c.subgroups.invariant.0 c.requires
+pub returns-clause-gives : goal.returns-clause-gives
+returns-clause-gives c = read_end c.subgroups.wishes c.args.count c.subgroups.counter c.subgroups.rest.now _ c.subgroups-test.false c.subgroups.invariant.0 c.requires

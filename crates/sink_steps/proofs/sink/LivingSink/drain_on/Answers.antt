@@ -13,11 +13,12 @@ pub returns : goal.returns
 returns c source made its life received lives =
     let there = c.is_joined.ensures made its life received lives in
     let joined = sym there.0 ∙ c.if-not-is_joined.false in
-    let goes = c.in_ok-drain_link.ensures made its life received there.1 joined in
+    let goes = c.in_ok-drain_link.ensures.goes made its life received there.1 joined in
     (ap (λ b. link_refusal b None) joined, goes.0, goes.1)
 
 pub returns-in_err-drain_link : goal.returns-in_err-drain_link
 returns-in_err-drain_link c source made its life received lives =
     let there = c.is_joined.ensures made its life received lives in
     let p = err_from_is_err_and c.from_residual.result c.from_residual.ensures.1 in
-    rw (p.1, p.2) (ap (λ b. link_refusal b None) (sym there.0 ∙ c.if-not-is_joined.false), tt)
+    let joined = sym there.0 ∙ c.if-not-is_joined.false in
+    rw (p.1, p.2) (ap (λ b. link_refusal b None) joined, c.in_err-drain_link.ensures.memory made its life received there.1 joined)

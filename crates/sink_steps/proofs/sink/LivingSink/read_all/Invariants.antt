@@ -11,4 +11,4 @@ use Rattle.sink_steps.proofs.sink.LivingSink.read_all.Given as goal
 
 abbrev pub invariant-reads : goal.invariant-reads
 invariant-reads l = (made : Made) (its : Option ℕ) (life : List Call) (received : List sinks.Call) → Lives made its life received l.fn.self → is_joined l.link life ≡ true
-    → Repeats made its (read l.link) (reads_waiting made.setup made.mtu l.link) (λ n. read_lines (label_of l.label) made l.link n life) life received l.fn.text l.text l.self
+    → Repeats made its (read l.link) (reads_waiting made.setup made.mtu l.link) (λ n. read_lines (label_of l.label) made l.link n life) l.counter life received l.fn.text l.text l.self

@@ -10,4 +10,4 @@ use Rattle.sink_steps.proofs.sink.LivingSink.serve_all.Given as goal
 
 abbrev pub invariant-writes : goal.invariant-writes
 invariant-writes l = (made : Made) (its : Option ℕ) (life : List Call) (received : List sinks.Call) → Lives made its life received l.fn.self → is_joined l.link life ≡ true
-    → Repeats made its (served l.link) (writes_waiting l.link) (λ n. serve_lines (label_of l.label) made l.link n life) life received l.fn.text l.text l.self
+    → Repeats made its (served l.link) (writes_waiting l.link) (λ n. serve_lines (label_of l.label) made l.link n life) l.counter life received l.fn.text l.text l.self
