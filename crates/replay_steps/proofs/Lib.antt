@@ -17,3 +17,4 @@ pub mod ClosesFirst
 pub mod Between
 pub mod BoxStops
 pub mod Closed
+pub mod Idle

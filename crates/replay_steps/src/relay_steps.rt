@@ -1,5 +1,5 @@
 //! The step that makes a relay, and what relays do as an event of source 0 is closed.
-ghost use Rattle.std.specs.Prelude.{◌≡◌, ◌≤◌, ◌<◌, ◌^◌, ◌||◌, ◌∷◌, [], nat_lt, ℕ, List, Option, None, Some, map, option_map};
+ghost use Rattle.std.specs.Prelude.{◌≡◌, ◌≤◌, ◌<◌, ◌^◌, ◌==◌, ◌||◌, ◌&&◌, not, ◌∷◌, [], nat_lt, ℕ, List, Option, None, Some, map, option_map};
 ghost use Rattle.std.specs.Option.{ForSome};
 ghost use Rattle.unit_outlets.specs.Account.{Account};
 ghost use Rattle.scenario_text.specs.declared.step.Step.{Step};
@@ -12,6 +12,7 @@ ghost use Rattle.scenario_sinks.specs.Pasts.{Past};
 ghost use Rattle.scenario_sinks.specs.State.Gathering.{handed_of};
 ghost use Rattle.scenario_sinks.specs.Untaken.{UntakenSame};
 ghost use Rattle.scenario_sources.specs.State.Standing.{SourcesStand};
+ghost use Rattle.scenario_relays.specs.Pasts.{is_idle};
 ghost use Rattle.scenario_relays.specs.State.Standing.{RelaysStand};
 ghost use Rattle.replay_steps.specs.Machines.{Stands, lent, relays_past};
 ghost use Rattle.replay_steps.specs.Meets.{Quiet};
@@ -57,7 +58,7 @@ impl Machine {
     }
 
     /// Closes the event of a source that is open, where one is: its sinks hand their units up, and as an event of source 0 is closed
-    /// their relays offer theirs to source 1.
+    /// their relays offer theirs to source 1. Where no sink has a relay, all sinks close it at once.
     pub(crate) fn close(
         &mut self,
         source: u8,
@@ -74,10 +75,17 @@ impl Machine {
         let Some(event) = closed else {
             return Ok(());
         };
-        if source == 0 {
+        if self.may_relay(source) {
             return self.close_sinks(event, outlets, text);
         }
         self.sinks.close(source, closed, outlets, text)
+    }
+
+    /// Whether units of this source may go to source 1: it is source 0, and a sink has a relay.
+    fn may_relay(&self, source: u8) -> bool
+        ensures { (steps : List Step) (past : Past) → RoomsStand steps past self.now → result ≡ ((source == 0) && not (is_idle (relays_past steps))) }
+    {
+        source == 0 && !self.relays.is_idle()
     }
 
     /// Closes an event of source 0 for all its sinks, by rising number.

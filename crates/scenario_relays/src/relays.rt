@@ -14,7 +14,7 @@ pub struct Relays {
 }
 
 impl Relays {
-    ghost use Rattle.scenario_relays.specs.Pasts.{Past, nothing, with_gift, with_relay, without};
+    ghost use Rattle.scenario_relays.specs.Pasts.{Past, is_idle, nothing, with_gift, with_relay, without};
     ghost use Rattle.scenario_relays.specs.State.Standing.{RelaysStand};
 
     /// No relay, and nothing was given to source 1.
@@ -34,6 +34,13 @@ impl Relays {
         ensures { (past : Past) → RelaysStand past self.now → result ≡ past.routes sink }
     {
         self.routes[usize::from(sink)]
+    }
+
+    /// Whether no sink has a relay.
+    pub fn is_idle(&self) -> bool
+        ensures { (past : Past) → RelaysStand past self.now → result ≡ is_idle past }
+    {
+        self.routes.iter().all(|route| route.is_none())
     }
 
     /// Whether this stream of source 1 has had a relay, also where its sink was dropped since.

@@ -1,5 +1,5 @@
 -- Closing an event for one sink after the other.
-use Rattle.std.proofs.Common.{◌≡◌, ◌≢◌, ℕ, ◌+◌, ◌<◌, ◌≤◌, List, [], ◌∷◌, ◌++◌, length, map, OnOk, refl, sym, ◌∙◌, ap, subst, slice_get, slice_set, get_or, eq-eqb, arith, Bool, true, false, Option}
+use Rattle.std.proofs.Common.{◌≡◌, ◌≢◌, ℕ, ◌+◌, ◌<◌, ◌≤◌, List, [], ◌∷◌, ◌++◌, length, map, OnOk, refl, sym, ◌∙◌, ap, subst, slice_get, slice_set, get_or, eq-eqb, arith, Bool, true, false, ◌&&◌, if◌then◌else◌, Option, is_some}
 use Rattle.std.proofs.Common.{Result, Ok, Err, None, Some, ◌⊎◌, inl, inr}
 use Rattle.std.specs.List.{flat_map, range_with_len}
 use Rattle.std.proofs.lemmas.Grind.{flat_map-append}
@@ -184,18 +184,16 @@ handed_back : (owner : Owner) (units : List Handed) → handed_all (units_for ow
 handed_back owner [] = refl
 handed_back owner (unit ∷ units) = ap (λ rest. unit ∷ rest) (handed_back owner units)
 
-pub sink_hands : (box : Option ℕ) (made : Option Made) (own : Option ℕ) (life : List links.Call) (received : List Call) (n source event : ℕ) (sink new : Sink)
-    (from : Option ℕ) (of : Bool) (units : List Handed) (gathered : Gathered) (text told : List ℕ) (before after : List Account) (r : Result (Unit {0}) Stop)
-    → (is : SinkIs box made own life received sink) → from ≡ own → of ≡ is_of source from → of ≡ true
-    → units ≡ handed_at received event
-    → (let owner : Owner = record { source = source; sink = n; outlet = sink.outlet } in Hands (units_for owner units) text told before after r)
+pub sink_hands : (box : Option ℕ) (made : Option Made) (own : Option ℕ) (life : List links.Call) (received : List Call) (owner : Owner) (event : ℕ) (sink new : Sink)
+    (units : List Handed) (gathered : Gathered) (text told : List ℕ) (before after : List Account) (r : Result (Unit {0}) Stop)
+    → (is : SinkIs box made own life received sink) → is_of owner.source own ≡ true → owner.outlet ≡ sink.outlet
+    → units ≡ handed_at received event → Hands (units_for owner units) text told before after r
     → new.outlet ≡ sink.outlet → Lives is.how own life (tick event ∷ received) new.living → OnOk r (calls_of gathered ≡ units)
-    → SinkHands box made own life received n source event (Some new) gathered text told before after r
-sink_hands box made own life received n source event sink new from of units gathered text told before after r is f o t e hands outlet lives held =
-    let owner : Owner = record { source = source; sink = n; outlet = sink.outlet } in
-    let mine : is_of source own ≡ true = ap (is_of source) (sym f) ∙ sym o ∙ t in
-    let own_units : closing_by source event n received own box ≡ units_for owner (handed_at received event) = rw (mine, is.box_is) refl in
-    let here : EntryIs box made own life (ticked_if (is_of source own) (Some event) received) (Some (Some new)) =
+    → SinkHands box made own life received owner.sink owner.source event (Some new) gathered text told before after r
+sink_hands box made own life received owner event sink new units gathered text told before after r is mine at e hands outlet lives held =
+    let box_at : box ≡ Some owner.outlet = is.box_is ∙ ap Some (sym at) in
+    let own_units : closing_by owner.source event owner.sink received own box ≡ units_for owner (handed_at received event) = rw (mine, box_at) refl in
+    let here : EntryIs box made own life (ticked_if (is_of owner.source own) (Some event) received) (Some (Some new)) =
     rw mine (entry_of box made own life (tick event ∷ received) new
     (record { box_is = is.box_is ∙ ap Some (sym outlet); how = is.how; made_is = is.made_is; lives = lives })) in
     let P : List SinkUnit → Type 0 = λ us. Hands us text told before after r in
@@ -219,6 +217,27 @@ sink_left box made own life received n source event sink from of gathered text b
     record {
       hands = rw other (sym (append-nil text), refl);
       is_held = record { entry_is = here; held = rw other (ap (map handed_of) empty) };
+    }
+
+none_handed : (of : Bool) (units : List SinkUnit) → units ≡ [] → (if of then units else []) ≡ []
+none_handed true units none = none
+none_handed false units none = refl
+
+-- no sink, or one of another source
+pub sink_rests : (box : Option ℕ) (made : Option Made) (own : Option ℕ) (life : List links.Call) (received : List Call) (n source event : ℕ) (entry : Option Sink)
+    (gathered : Gathered) (text : List ℕ) (before : List Account) → EntryIs box made own life received (Some entry) → (is_some box && is_of source own) ≡ false
+    → gathered.units.items ≡ [] → SinkCloses box made own life received n source event entry gathered text text before before (Ok tt)
+sink_rests None made own life received n source event entry gathered text before is other empty =
+    let P : List SinkUnit → Type 0 = λ units. Hands units text text before before (Ok tt) in
+    record {
+      hands = subst P (sym (none_handed (is_of source own) [] refl)) (sym (append-nil text), refl);
+      is_ticked = record { entry_is = is; empty = empty };
+    }
+sink_rests (Some box) made own life received n source event entry gathered text before is other empty =
+    let here : EntryIs (Some box) made own life (ticked_if (is_of source own) (Some event) received) (Some entry) = rw other is in
+    record {
+      hands = rw other (sym (append-nil text), refl);
+      is_ticked = record { entry_is = here; empty = empty };
     }
 
 -- its units are gathered no more

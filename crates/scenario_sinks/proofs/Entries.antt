@@ -1,5 +1,5 @@
 -- The entries of the sinks, of which one changes.
-use Rattle.std.proofs.Common.{◌≡◌, ◌≢◌, ℕ, zero, suc, ◌<◌, ◌==◌, ◌∷◌, Bool, true, false, List, length, replicate, refl, sym, ◌∙◌, ap, subst, ne_eqb, slice_get, slice_set, get_or, is_some}
+use Rattle.std.proofs.Common.{◌≡◌, ◌≢◌, ℕ, zero, suc, ◌<◌, ◌==◌, ◌∷◌, Bool, true, false, ◌&&◌, List, length, replicate, refl, sym, ◌∙◌, ap, subst, ne_eqb, slice_get, slice_set, get_or, is_some}
 use Rattle.std.proofs.Common.{arith, Option, None, Some, Result, Ok, Err, ◌⊎◌, inl, inr}
 use Rattle.std.proofs.lemmas.Option.{slice_get-get_or}
 use Rattle.delegator_machine.specs.Groups.{tuning_of}
@@ -72,6 +72,18 @@ pub lives_in : (box : Option ℕ) (made : Option Made) (own : Option ℕ) (life 
     → EntryIs box made own life received (Some entry) → is_some entry ≡ is_some box
 lives_in None made own life received entry is = let e : entry ≡ None = cc is.0 in ap is_some e
 lives_in (Some box) made own life received entry is = let e : entry ≡ Some is.0 = cc is.1 in ap is_some e
+
+-- whether the sink of an entry is of this source
+pub sink_of : (box : Option ℕ) (made : Option Made) (own : Option ℕ) (life : List links.Call) (received : List Call) (source : ℕ) (entry : Option Sink) (sink : Sink)
+    (from : Option ℕ) → EntryIs box made own life received (Some entry) → entry ≡ Some sink → from ≡ own → is_of source from ≡ (is_some box && is_of source own)
+sink_of box made own life received source entry sink from is e f =
+    let was = sink_in box made own life received entry sink is e in
+    ap (is_of source) f ∙ sym (ap (λ (b : Option ℕ). is_some b && is_of source own) was.box_is)
+
+pub no_sink_of : (box : Option ℕ) (made : Option Made) (own : Option ℕ) (life : List links.Call) (received : List Call) (source : ℕ) (entry : Option Sink)
+    → EntryIs box made own life received (Some entry) → entry ≡ None → false ≡ (is_some box && is_of source own)
+no_sink_of box made own life received source entry is e =
+    sym (ap (λ b. b && is_of source own) (sym (lives_in box made own life received entry is) ∙ ap is_some e))
 
 -- ---- one entry among all
 

@@ -1,12 +1,14 @@
 //! Closing an event of a source: each of its sinks hands its units up.
-ghost use Rattle.std.specs.Prelude.{◌≡◌, ◌<◌, ◌^◌, ℕ, List, [], Option, Some, length, map};
+ghost use Rattle.std.specs.Prelude.{◌≡◌, ◌<◌, ◌^◌, ◌&&◌, ℕ, true, List, [], Option, Some, is_some, length, map};
 ghost use Rattle.group_sink.specs.Calls.{Call};
 ghost use Rattle.link_histories.specs.Calls as links;
+ghost use Rattle.scenario_history.specs.Sinks as history;
 ghost use Rattle.sink_histories.specs.Lives.{Made};
 ghost use Rattle.scenario_sinks.specs.Pasts.{Past};
 ghost use Rattle.scenario_sinks.specs.State.Standing.{EntryIs, EntriesAre};
 ghost use Rattle.scenario_sinks.specs.State.Between.{SinkCloses, SinkHands, AllClose};
 ghost use Rattle.scenario_sinks.specs.Untaken.{AllButSame, UntakenSame};
+ghost use Rattle.unit_outlets.specs.Took.{OthersSame};
 
 use crate::gathered::Gathered;
 use crate::hand::hand_units;
@@ -14,6 +16,46 @@ use crate::sink::{Owner, Sink, is_of};
 use bcast_base::Octets;
 use transcript_text::Stop;
 use unit_outlets::Outlet;
+
+/// Whether a sink lives in an entry that is of this source.
+fn is_sink_of(entry: &Option<Sink>, source: u8) -> bool
+    ensures { (box : Option ℕ) (made : Option Made) (own : Option ℕ) (life : List links.Call) (received : List Call)
+        → EntryIs box made own life received (Some entry.now) → result ≡ (is_some box && history.is_of source own) }
+{
+    match entry {
+        Some(sink) => is_of(sink.living.source(), source),
+        None => false,
+    }
+}
+
+/// Closes an event of its source for a living sink, the owner of its units: they go to its box, and then to the text. They stay
+/// gathered.
+#[inline(never)]
+fn hand_living(
+    sink: &mut Sink,
+    owner: Owner,
+    event: u64,
+    gathered: &mut Gathered,
+    outlets: &mut Vec<Box<dyn Outlet>>,
+    text: &mut Octets,
+) -> Result<(), Stop>
+    requires { event < 2 ^ 39 }
+    ensures hands { (box : Option ℕ) (made : Option Made) (own : Option ℕ) (life : List links.Call) (received : List Call)
+        → EntryIs box made own life received (Some (Some sink.old)) → history.is_of owner.source own ≡ true
+        → owner.outlet ≡ sink.old.outlet → gathered.old.units.items ≡ []
+        → SinkHands box made own life received owner.sink owner.source event (Some sink.new) gathered.new text.old text.new (map account outlets.old.items) (map account outlets.new.items) result }
+    ensures others { OthersSame owner.outlet outlets.old.items outlets.new.items }
+{
+    match sink.living.tick(event, gathered) {
+        Ok(()) => {}
+        Err(_) => return Err(Stop::Memory),
+    }
+    match hand_units(gathered.units.as_slice(), owner, outlets, text) {
+        Ok(()) => {}
+        Err(stop) => return Err(stop),
+    }
+    Ok(())
+}
 
 /// Closes an event of a source for the sink of a number, where one lives that is of this source: its units go to its
 /// box, and then to the text. They stay gathered.
@@ -39,20 +81,12 @@ pub(crate) fn hand_sink(
     if !is_of(sink.living.source(), source) {
         return Ok(());
     }
-    match sink.living.tick(event, gathered) {
-        Ok(()) => {}
-        Err(_) => return Err(Stop::Memory),
-    }
     let owner = Owner {
         source,
         sink: number,
         outlet: sink.outlet,
     };
-    match hand_units(gathered.units.as_slice(), owner, outlets, text) {
-        Ok(()) => {}
-        Err(stop) => return Err(stop),
-    }
-    Ok(())
+    hand_living(sink, owner, event, gathered, outlets, text)
 }
 
 /// Closes an event of a source for the sink of a number, where one lives that is of this source: its units go to its
@@ -73,6 +107,9 @@ fn close_sink(
     ensures others { (box : Option ℕ) (made : Option Made) (own : Option ℕ) (life : List links.Call) (received : List Call)
         → EntryIs box made own life received (Some entry.old) → AllButSame box outlets.old.items outlets.new.items }
 {
+    if !is_sink_of(entry, source) {
+        return Ok(());
+    }
     match hand_sink(entry, number, source, event, gathered, outlets, text) {
         Ok(()) => {}
         Err(stop) => return Err(stop),
