@@ -1,4 +1,4 @@
-ghost use Rattle.std.specs.Prelude.{◌≡◌, ◌++◌, ◌∷◌, [], take, IfOk, OnOk, OnErr};
+ghost use Rattle.std.specs.Prelude.{◌≡◌, ◌<◌, ◌++◌, ◌∷◌, [], length, take, MatchResult, OnOk, OnErr};
 
 use crate::memory::Memory;
 use std::alloc::Global;
@@ -28,13 +28,13 @@ impl Octets {
         }
     }
 
-    /// The same octets in new memory.
+    /// The same octets in new memory. No octets take none.
     pub fn copy(alloc: Global, from: &[u8]) -> Result<Octets, Memory>
-        ensures { IfOk result (λ octets. octets ≡ from.now) }
+        ensures { MatchResult result (λ octets. octets ≡ from.now) (λ _. 0 < length from.now) }
     {
-        Ok(Octets {
-            octets: Vec::from_slice(alloc, from)?,
-        })
+        let mut octets = Vec::with_capacity(alloc, from.len())?;
+        octets.extend_from_slice(from)?;
+        Ok(Octets { octets })
     }
 
     /// The octets of a vector.
@@ -52,10 +52,11 @@ impl Octets {
         Ok(self.octets.push(octet)?)
     }
 
-    /// Puts octets at the end.
+    /// Puts octets at the end. No octets take no memory.
     pub fn append(&mut self, from: &[u8]) -> Result<(), Memory>
         ensures ok { OnOk result (self.new ≡ self.old ++ from.now) }
         ensures err { OnErr result (self.new ≡ self.old) }
+        ensures memory { OnErr result (0 < length from.now) }
     {
         Ok(self.octets.extend_from_slice(from)?)
     }
@@ -74,13 +75,11 @@ impl Octets {
         self.octets.clear();
     }
 
-    /// The same octets in memory of the same allocator.
+    /// The same octets in memory of the same allocator. No octets take none.
     pub fn copy_again(&self) -> Result<Octets, Memory>
-        ensures { IfOk result (λ octets. octets ≡ self.now) }
+        ensures { MatchResult result (λ octets. octets ≡ self.now) (λ _. 0 < length self.now) }
     {
-        Ok(Octets {
-            octets: self.octets.clone()?,
-        })
+        Octets::copy(*self.octets.allocator(), self.octets.as_slice())
     }
 
     /// Keeps the first `n` octets, or all where there are fewer. It takes no memory.

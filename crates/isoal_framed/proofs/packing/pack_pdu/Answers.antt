@@ -1,5 +1,5 @@
-use Rattle.std.proofs.Common.{◌≡◌, ◌∙◌, ◌++◌, ◌∷◌, [], List, take, subst, true, false}
-use Rattle.std.proofs.lemmas.Result.{IfOk-weaker}
+use Rattle.std.proofs.Common.{◌≡◌, ◌∙◌, ◌++◌, ◌∷◌, [], List, subst, true, false}
+use Rattle.std.proofs.lemmas.Result.{MatchResult-weaker}
 use Rattle.isoal_framed.specs.Air.{pdus_ended}
 use Rattle.isoal_framed.specs.Places.{Act, ends}
 use Rattle.isoal_framed.specs.State.Packings.{Placed}
@@ -29,12 +29,13 @@ returns-clause-packed c units earlier acts pdus queue_is start =
     subst (Placed c.args.anchor c.args.queue.now.items c.acts.packing c.put_next.new.packing) c.if-branch.false c.in_ok-put_next.ensures.placed in
     let was : (own : List Act) × (pdus_ended own ≡ pdus_ended acts) × At c.args.max_pdu units c.args.anchor earlier own pdus c.acts.packing =
     c.acts.invariant.going units earlier acts pdus queue_is start in
-    IfOk-weaker c.copy.result (λ octets. octets ≡ take c.write-count.result c.write-count.new.into)
-    (λ octets. (own : List Act) × (pdus_ended own ≡ pdus_ended acts) × Going c.args.max_pdu units c.args.anchor earlier (ends ∷ own)
-    c.put_next.new.packing.past c.put_next.new.packing.sent c.args.max_pdu [] (pdus ++ octets ∷ []) c.put_next.new.packing.stale)
+    MatchResult-weaker c.copy.result
+    {P' = λ octets. (own : List Act) × (pdus_ended own ≡ pdus_ended acts) × Going c.args.max_pdu units c.args.anchor earlier (ends ∷ own)
+      c.put_next.new.packing.past c.put_next.new.packing.sent c.args.max_pdu [] (pdus ++ octets ∷ []) c.put_next.new.packing.stale}
+    c.copy.ensures
     (λ octets is. (
       was.0,
       was.1,
       ended_is c.args.max_pdu units c.args.queue.now.items c.args.anchor earlier was.0 pdus octets c.acts.packing c.put_next.new.packing
           queue_is c.acts.invariant.partly was.2 placed (is ∙ c.write-count.ensures.spelled),
-    )) c.copy.ensures
+    )) (λ memory some. tt)
