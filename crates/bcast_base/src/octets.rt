@@ -32,9 +32,12 @@ impl Octets {
     pub fn copy(alloc: Global, from: &[u8]) -> Result<Octets, Memory>
         ensures { MatchResult result (λ octets. octets ≡ from.now) (λ _. 0 < length from.now) }
     {
-        let mut octets = Vec::with_capacity(alloc, from.len())?;
-        octets.extend_from_slice(from)?;
-        Ok(Octets { octets })
+        if from.is_empty() {
+            return Ok(Octets::new(alloc));
+        }
+        Ok(Octets {
+            octets: Vec::from_slice(alloc, from)?,
+        })
     }
 
     /// The octets of a vector.
