@@ -6,6 +6,7 @@ use Rattle.scenario_words.specs.Places.{WordPlace, between, framing_word, time_u
 use Rattle.scenario_words.specs.Places.{perhaps, rising, wishes, WordValue, PlaceValue}
 use Rattle.scenario_words.specs.Spelling.{Spells, SpellsWord}
 use Rattle.ltv_codec.specs.Reading.{bad_of}
+use Rattle.scenario_values.specs.Lines.{◌▸◌}
 use Rattle.octet_fields.specs.Spelling.{IsOctets}
 use Rattle.bass_operations.specs.Layout.{MetadataFits}
 use Rattle.scenario_text.specs.declared.step.Step.{Step}
@@ -94,84 +95,12 @@ group_within framing f origin o delay d iso i sdu s max_sdu ms max_pdu mp num_bi
       phy_is = omega (arith, y.1);
     }
 
-scenario_within : RowWithin rows.scenario_row
-scenario_within v0 h0 = h0
-
-start_within : RowWithin rows.start_row
-start_within v0 h0 = omega (arith, h0.1)
-
 few_slots : (later : Bool) (slots : ℕ) → slots ≤ cond later 8 4 → slots ≤ 8
 few_slots true slots few = few
 few_slots false slots few = omega (arith, few)
 
 sink_within : (version : ℕ) → RowWithin (rows.sink_row version)
 sink_within version v0 h0 v1 h1 v2 h2 v3 h3 = (h0.1, h1.0, h1.1, h2.0, few_slots (nat_eq version 2) v2 h2.1, h3)
-
-tuned_within : RowWithin rows.tuned_row
-tuned_within v0 h0 v1 h1 = h0.1
-
-unit_within : RowWithin rows.unit_row
-unit_within v0 h0 v1 h1 v2 h2 = h2.0
-
-event_within : RowWithin rows.event_row
-event_within = tt
-
-hear_within : RowWithin rows.hear_row
-hear_within v0 h0 v1 h1 v2 h2 v3 h3 = (h0.1, h1.1, h3.1)
-
-air_within : RowWithin rows.air_row
-air_within v0 h0 v1 h1 = h0.1
-
-inject_within : RowWithin rows.inject_row
-inject_within v0 h0 v1 h1 v2 h2 v3 h3 v4 h4 = (h0.1, h1.1, h3.1, h4.0)
-
-sniff_within : RowWithin rows.sniff_row
-sniff_within v0 h0 v1 h1 v2 h2 = (h0.1, h2.1)
-
-drop_within : RowWithin rows.drop_row
-drop_within v0 h0 = h0.1
-
-stop_within : RowWithin rows.stop_row
-stop_within = tt
-
-end_within : RowWithin rows.end_row
-end_within = tt
-
-ident_within : RowWithin rows.ident_row
-ident_within v0 h0 v1 h1 v2 h2 v3 h3 = (h0.1, h1.0, h2.1, h3.0, h1.1, h3.1)
-
-subgroup_within : RowWithin rows.subgroup_row
-subgroup_within v0 h0 v1 h1 = (h0.0, h1.0, h1.1, h0.1, h1.2)
-
-meta_within : RowWithin rows.meta_row
-meta_within v0 h0 = h0
-
-bis_within : RowWithin rows.bis_row
-bis_within v0 h0 v1 h1 = (h1.0, h1.1, h1.2, h0.0, h0.1)
-
-cipher_within : RowWithin rows.cipher_row
-cipher_within v0 h0 v1 h1 = (h0.0, h1.0, h0.1, h1.1)
-
-announce_within : RowWithin rows.announce_row
-announce_within v0 h0 = h0.1
-
-train_within : RowWithin rows.train_row
-train_within v0 h0 v1 h1 v2 h2 v3 h3 v4 h4 = (h0.1, h1.1, h2.0, h3.0, h4.0, h2.1, h3.1, h4.1)
-
-terminate_within : RowWithin rows.terminate_row
-terminate_within v0 h0 = tt
-
-pac_within : RowWithin rows.pac_row
-pac_within v0 h0 v1 h1 v2 h2 v3 h3 = (h0.1, h1.0, h2.0, h3.0, h2.1, h3.1)
-
-locate_within : RowWithin rows.locate_row
-locate_within v0 h0 v1 h1 = h0.1
-
-context_within : RowWithin rows.context_row
-context_within v0 h0 v1 h1 v2 h2 = h0.1
-
-write_within : RowWithin rows.write_row
-write_within v0 h0 v1 h1 = (h0.1, h1.0, h1.1)
 
 add_within : RowWithin rows.add_row
 add_within v0 h0 v1 h1 v2 h2 v3 h3 v4 h4 v5 h5 v6 h6 v7 h7 = (
@@ -193,75 +122,77 @@ modify_within : RowWithin rows.modify_row
 modify_within v0 h0 v1 h1 v2 h2 v3 h3 v4 h4 =
     (h0.1, h4.1, modify_octets _ (omega (arith, h1.1)) (omega (arith, h2.1)) h4.0 h4.1 h4.2)
 
-remove_within : RowWithin rows.remove_row
-remove_within v0 h0 v1 h1 = (h0.1, omega (arith, h1.1))
-
-code_within : RowWithin rows.code_row
-code_within v0 h0 v1 h1 v2 h2 = (h0.1, h2.0, omega (arith, h1.1), h2.1)
-
-serve_within : RowWithin rows.serve_row
-serve_within v0 h0 = h0.1
-
-tell_within : RowWithin rows.tell_row
-tell_within v0 h0 = h0.1
-
-read_within : RowWithin rows.read_row
-read_within v0 h0 = h0.1
-
-drain_within : RowWithin rows.drain_row
-drain_within v0 h0 = h0.1
-
-show_within : RowWithin rows.show_row
-show_within v0 h0 = h0.1
-
-lose_within : RowWithin rows.lose_row
-lose_within v0 h0 = h0.1
-
-control_within : RowWithin rows.control_row
-control_within v0 h0 v1 h1 = (h0.1, h1.0)
-
-forge_within : RowWithin rows.forge_row
-forge_within v0 h0 v1 h1 v2 h2 = (h0.1, h2.0)
-
-assist_within : RowWithin rows.assist_row
-assist_within v0 h0 v1 h1 = (h0.1, h1.1)
-
-apart_within : RowWithin rows.apart_row
-apart_within v0 h0 v1 h1 = (h0.1, h1.0, h1.1)
-
-awrite_within : RowWithin rows.awrite_row
-awrite_within v0 h0 v1 h1 v2 h2 = (h0.1, h1.1, h2.0, h2.1)
-
-aserve_within : RowWithin rows.aserve_row
-aserve_within v0 h0 v1 h1 = (h0.1, h1.1)
-
-atell_within : RowWithin rows.atell_row
-atell_within v0 h0 v1 h1 = (h0.1, h1.1)
-
-aread_within : RowWithin rows.aread_row
-aread_within v0 h0 v1 h1 = (h0.1, h1.1)
-
-adrain_within : RowWithin rows.adrain_row
-adrain_within v0 h0 v1 h1 = (h0.1, h1.1)
-
-ashow_within : RowWithin rows.ashow_row
-ashow_within v0 h0 v1 h1 = (h0.1, h1.1)
-
-source_within : RowWithin rows.source_row
-source_within v0 h0 = h0.1
-
-relay_within : RowWithin rows.relay_row
-relay_within v0 h0 v1 h1 v2 h2 = h0.1
-
 all_within : (version : ℕ) → EachRow RowWithin version
 all_within version = record {
-  of_events = (unit_within, (event_within, (hear_within, (air_within, (inject_within, (sniff_within, tt))))));
-  first = (scenario_within, (group_within, (start_within, (sink_within version, (tuned_within, (drop_within, (stop_within, (end_within, tt))))))));
-  of_sources = (ident_within, (subgroup_within, (meta_within, (bis_within, (cipher_within, (announce_within, (train_within, (terminate_within, tt))))))));
-  of_sinks = (pac_within, (locate_within, (context_within, (write_within, (add_within, (modify_within, (remove_within, (code_within, tt))))))));
-  of_links = (serve_within, (tell_within, (read_within, (drain_within, (show_within, (lose_within, (control_within, (forge_within, tt))))))));
-  later = (assist_within, (apart_within, (awrite_within, (source_within, (relay_within, tt)))));
-  of_later_links = (aserve_within, (atell_within, (aread_within, (adrain_within, (ashow_within, tt)))));
+  -- unit, event, hear, air, inject, sniff
+  of_events =
+      (λ v0 h0 v1 h1 v2 h2. h2.0)
+      ▸ tt
+      ▸ (λ v0 h0 v1 h1 v2 h2 v3 h3. (h0.1, h1.1, h3.1))
+      ▸ (λ v0 h0 v1 h1. h0.1)
+      ▸ (λ v0 h0 v1 h1 v2 h2 v3 h3 v4 h4. (h0.1, h1.1, h3.1, h4.0))
+      ▸ (λ v0 h0 v1 h1 v2 h2. (h0.1, h2.1))
+      ▸ tt;
+  -- scenario, group, start, sink, tuned, drop, stop, end
+  first =
+      (λ v0 h0. h0)
+      ▸ group_within
+      ▸ (λ v0 h0. omega (arith, h0.1))
+      ▸ (sink_within version)
+      ▸ (λ v0 h0 v1 h1. h0.1)
+      ▸ (λ v0 h0. h0.1)
+      ▸ tt
+      ▸ tt
+      ▸ tt;
+  -- ident, subgroup, meta, bis, cipher, announce, train, terminate
+  of_sources =
+      (λ v0 h0 v1 h1 v2 h2 v3 h3. (h0.1, h1.0, h2.1, h3.0, h1.1, h3.1))
+      ▸ (λ v0 h0 v1 h1. (h0.0, h1.0, h1.1, h0.1, h1.2))
+      ▸ (λ v0 h0. h0)
+      ▸ (λ v0 h0 v1 h1. (h1.0, h1.1, h1.2, h0.0, h0.1))
+      ▸ (λ v0 h0 v1 h1. (h0.0, h1.0, h0.1, h1.1))
+      ▸ (λ v0 h0. h0.1)
+      ▸ (λ v0 h0 v1 h1 v2 h2 v3 h3 v4 h4. (h0.1, h1.1, h2.0, h3.0, h4.0, h2.1, h3.1, h4.1))
+      ▸ (λ v0 h0. tt)
+      ▸ tt;
+  -- pac, locate, context, write, add, modify, remove, code
+  of_sinks =
+      (λ v0 h0 v1 h1 v2 h2 v3 h3. (h0.1, h1.0, h2.0, h3.0, h2.1, h3.1))
+      ▸ (λ v0 h0 v1 h1. h0.1)
+      ▸ (λ v0 h0 v1 h1 v2 h2. h0.1)
+      ▸ (λ v0 h0 v1 h1. (h0.1, h1.0, h1.1))
+      ▸ add_within
+      ▸ modify_within
+      ▸ (λ v0 h0 v1 h1. (h0.1, omega (arith, h1.1)))
+      ▸ (λ v0 h0 v1 h1 v2 h2. (h0.1, h2.0, omega (arith, h1.1), h2.1))
+      ▸ tt;
+  -- serve, tell, read, drain, show, lose, control, forge
+  of_links =
+      (λ v0 h0. h0.1)
+      ▸ (λ v0 h0. h0.1)
+      ▸ (λ v0 h0. h0.1)
+      ▸ (λ v0 h0. h0.1)
+      ▸ (λ v0 h0. h0.1)
+      ▸ (λ v0 h0. h0.1)
+      ▸ (λ v0 h0 v1 h1. (h0.1, h1.0))
+      ▸ (λ v0 h0 v1 h1 v2 h2. (h0.1, h2.0))
+      ▸ tt;
+  -- assist, apart, awrite, source, relay
+  later =
+      (λ v0 h0 v1 h1. (h0.1, h1.1))
+      ▸ (λ v0 h0 v1 h1. (h0.1, h1.0, h1.1))
+      ▸ (λ v0 h0 v1 h1 v2 h2. (h0.1, h1.1, h2.0, h2.1))
+      ▸ (λ v0 h0. h0.1)
+      ▸ (λ v0 h0 v1 h1 v2 h2. h0.1)
+      ▸ tt;
+  -- aserve, atell, aread, adrain, ashow
+  of_later_links =
+      (λ v0 h0 v1 h1. (h0.1, h1.1))
+      ▸ (λ v0 h0 v1 h1. (h0.1, h1.1))
+      ▸ (λ v0 h0 v1 h1. (h0.1, h1.1))
+      ▸ (λ v0 h0 v1 h1. (h0.1, h1.1))
+      ▸ (λ v0 h0 v1 h1. (h0.1, h1.1))
+      ▸ tt;
 }
 
 pub row_within : (version : ℕ) (first : List ℕ) (row : Row) → row_of version first ≡ Some row → Within row.places row.build

@@ -21,6 +21,10 @@ pub enum Value<'a> {
     Framing(u8),
     /// A number, from a least to a greatest.
     Number(u64, u64, u64),
+    /// A sink, from 0 to 7.
+    Sink(u8),
+    /// A link of a sink, from 0 to 3.
+    Link(u8),
     /// The index of a stream.
     Stream(Bis),
     /// A time, which may be missing, of at most so much.
@@ -162,6 +166,8 @@ fn has_words(value: &Value<'_>) -> bool
     match value {
         Value::Framing(n) => is_framing(*n),
         Value::Number(n, least, greatest) => lies_between(*n, *least, *greatest),
+        Value::Sink(sink) => lies_between(*sink as u64, 0, 7),
+        Value::Link(link) => lies_between(*link as u64, 0, 3),
         Value::Stream(bis) => lies_between(bis.get() as u64, 1, 31),
         Value::Time(time, greatest) => perhaps_between(*time, 0, *greatest),
         Value::Perhaps(n, least, greatest) => perhaps_short_between(*n, *least, *greatest),

@@ -1,21 +1,20 @@
--- Words behind words, and the streams of a set one after the other.
-use Rattle.std.proofs.Common.{◌≡◌, ◌≤◌, ◌<◌, ◌+◌, ◌-◌, ℕ, zero, suc, Bool, true, false, cond, nat_eq, List, [], ◌∷◌, ◌++◌, map, drop, length, Some, decimal, refl, ap, sym, ◌∙◌, append_assoc, arith}
+-- Words behind words, and the streams of a set, the pairs and the values one after the other.
+use Rattle.std.proofs.Common.{◌≡◌, ◌≤◌, ◌<◌, ◌+◌, ◌-◌, ℕ, zero, suc, Bool, true, false, cond, nat_eq, List, [], ◌∷◌, ◌++◌, map, drop, get_or, length, Some, decimal, refl, ap, sym, ◌∙◌, append_assoc, arith}
 use Rattle.std.specs.Prelude.{slice_get}
 use Rattle.std.specs.Int.{bit_at}
-use Rattle.std.proofs.lemmas.List.{append-nil}
-use Rattle.printed_words.specs.Lines.{behind, joined}
+use Rattle.std.proofs.lemmas.List.{append-nil, drop_all}
+use Rattle.printed_words.specs.Lines.{behind}
 use Rattle.bass_operations.specs.declared.wishes.Wish.{Wish}
 use Rattle.scenario_values.specs.Words.{streams_from, wish_words}
+use Rattle.scenario_values.specs.declared.value.Value.{Value}
+use Rattle.scenario_values.specs.Given.{at_place, given_words, placed, words_at}
+use Rattle.scenario_values.proofs.Citable.{all_words_given, next_item}
+use Rattle.scenario_text.specs.Written.{placed_line}
 
 pub behind_more : (words more : List (List ℕ)) → behind (words ++ more) ≡ behind words ++ behind more
 behind_more [] more = refl
 behind_more (word ∷ words) more =
     ap (λ (l : List ℕ). 32 ∷ (word ++ l)) (behind_more words more) ∙ ap (λ (l : List ℕ). 32 ∷ l) (sym (append_assoc word (behind words) (behind more)))
-
--- words that are put behind a line, the last ones of all
-pub put_last : (first line : List ℕ) (words more : List (List ℕ)) → line ≡ joined first words ++ behind more → line ≡ joined first (words ++ (more ++ []))
-put_last first line words more e =
-    e ∙ (append_assoc first (behind words) (behind more) ∙ ap (λ (l : List ℕ). first ++ l) (sym (rw (append-nil more) (behind_more words more))))
 
 abbrev pub streams_words : ℕ → ℕ → ℕ → List ℕ
 streams_words set index more = behind (map decimal (streams_from set index more))
@@ -52,38 +51,60 @@ streams_put set initial now index past left =
     let none : 32 - index ≡ 0 = omega arith in
     sym (append-nil now) ∙ (ap (λ (n : ℕ). now ++ streams_words set index n) (sym none) ∙ left.so_far)
 
--- ---- pairs
+-- ---- one item after the other
 
-wishes_next : (all : List Wish) (i : ℕ) (wish : Wish) → slice_get all i ≡ Some wish → drop i all ≡ wish ∷ drop (suc i) all
-wishes_next [] i wish e = absurd cc
-wishes_next (first ∷ others) zero wish e = ap (λ (w : Wish). w ∷ others) cc
-wishes_next (first ∷ others) (suc i) wish e = wishes_next others i wish e
+pub got_item : {A : Type 0} (all : List A) (i : ℕ) (item : A) → i < length all → item ≡ get_or all i item → slice_get all i ≡ Some item
+got_item [] i item inside e = absurd (omega arith)
+got_item (first ∷ others) zero item inside e = ap Some (sym e)
+got_item (first ∷ others) (suc i) item inside e = got_item others i item (omega arith) e
 
-wish_first : (wish : Wish) (others : List Wish) → behind (wish_words (wish ∷ others)) ≡ behind (wish_words (wish ∷ [])) ++ behind (wish_words others)
-wish_first wish others = behind_more (wish_words (wish ∷ [])) (wish_words others)
+-- what is written of items is written of one after the other
+pub record InTurn {A : Type 0} (written : List A → List ℕ) : Type 0 where
+  pub none : written [] ≡ []
+  pub first : (item : A) (others : List A) → written (item ∷ others) ≡ written (item ∷ []) ++ written others
 
--- the pairs from a place on are still to be put
-pub record WishesLeft (all : List Wish) (initial now : List ℕ) (i : ℕ) : Type 0 where
-  pub so_far : now ++ behind (wish_words (drop i all)) ≡ initial ++ behind (wish_words all)
+-- the items from a place on are still to be put
+pub record Left {A : Type 0} (written : List A → List ℕ) (all : List A) (initial now : List ℕ) (i : ℕ) : Type 0 where
+  pub so_far : now ++ written (drop i all) ≡ initial ++ written all
 
-pub wish_put : (all : List Wish) (initial now next : List ℕ) (i : ℕ) (wish : Wish) → slice_get all i ≡ Some wish → WishesLeft all initial now i
-    → next ≡ now ++ behind (wish_words (wish ∷ [])) → WishesLeft all initial next (i + 1)
-wish_put all initial now next i wish at left put =
-    let split : behind (wish_words (drop i all)) ≡ behind (wish_words (wish ∷ [])) ++ behind (wish_words (drop (suc i) all)) =
-    ap (λ (ws : List Wish). behind (wish_words ws)) (wishes_next all i wish at) ∙ wish_first wish (drop (suc i) all) in
+pub item_put : {A : Type 0} (written : List A → List ℕ) → InTurn written → (all : List A) (initial now next : List ℕ) (i : ℕ) (item : A)
+    → slice_get all i ≡ Some item → Left written all initial now i → next ≡ now ++ written (item ∷ []) → Left written all initial next (i + 1)
+item_put written turn all initial now next i item at left put =
+    let others = drop (suc i) all in
+    let split : written (drop i all) ≡ written (item ∷ []) ++ written others = ap written (next_item all i item at) ∙ turn.first item others in
     let plus : i + 1 ≡ suc i = omega arith in
     record {
-      so_far = ap (λ (n : ℕ). next ++ behind (wish_words (drop n all))) plus
-          ∙ (ap (λ (l : List ℕ). l ++ behind (wish_words (drop (suc i) all))) put
-          ∙ (append_assoc now (behind (wish_words (wish ∷ []))) (behind (wish_words (drop (suc i) all))) ∙ (ap (λ (l : List ℕ). now ++ l) (sym split) ∙ left.so_far)));
+      so_far = ap (λ (n : ℕ). next ++ written (drop n all)) plus
+          ∙ (ap (λ (l : List ℕ). l ++ written others) put
+          ∙ (append_assoc now (written (item ∷ [])) (written others) ∙ (ap (λ (l : List ℕ). now ++ l) (sym split) ∙ left.so_far)));
     }
 
-drop_past : {A : Type 0} (xs : List A) (i : ℕ) → length xs ≤ i → drop i xs ≡ []
-drop_past [] zero h = refl
-drop_past [] (suc i) h = refl
-drop_past (x ∷ xs) zero h = absurd (omega arith)
-drop_past (x ∷ xs) (suc i) h = drop_past xs i (omega arith)
+pub items_put : {A : Type 0} (written : List A → List ℕ) → InTurn written → (all : List A) (initial now : List ℕ) (i : ℕ)
+    → length all ≤ i → Left written all initial now i → now ≡ initial ++ written all
+items_put written turn all initial now i past left =
+    sym (append-nil now) ∙ (ap (λ (l : List ℕ). now ++ l) (sym (ap written (drop_all i all past) ∙ turn.none)) ∙ left.so_far)
 
-pub wishes_put : (all : List Wish) (initial now : List ℕ) (i : ℕ) → length all ≤ i → WishesLeft all initial now i → now ≡ initial ++ behind (wish_words all)
-wishes_put all initial now i past left =
-    sym (append-nil now) ∙ (ap (λ (ws : List Wish). now ++ behind (wish_words ws)) (sym (drop_past all i past)) ∙ left.so_far)
+-- ---- pairs, and values
+
+abbrev pub written_wishes : List Wish → List ℕ
+written_wishes wishes = behind (wish_words wishes)
+
+pub wishes_in_turn : InTurn written_wishes
+wishes_in_turn = record { none = refl; first = λ wish others. behind_more (wish_words (wish ∷ [])) (wish_words others) }
+
+abbrev pub written_values : List Value → List ℕ
+written_values values = behind (given_words values)
+
+pub value_alone : (value : Value) → written_values (value ∷ []) ≡ behind (words_at (at_place value))
+value_alone value = ap behind (append-nil (words_at (at_place value)))
+
+pub values_in_turn : InTurn written_values
+values_in_turn = record {
+  none = refl;
+  first = λ value others.
+      behind_more (words_at (at_place value)) (given_words others) ∙ ap (λ (l : List ℕ). l ++ written_values others) (sym (value_alone value));
+}
+
+-- values that are put behind a first word
+pub line_put : (first line : List ℕ) (values : List Value) → line ≡ first ++ behind (given_words values) → line ≡ placed_line (placed first values)
+line_put first line values e = e ∙ ap (λ (words : List (List ℕ)). first ++ behind words) (all_words_given values)

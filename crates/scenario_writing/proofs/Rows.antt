@@ -5,19 +5,22 @@ use Rattle.scenario_text.specs.declared.step.Step.TheVariants.{Scenario, Group, 
 use Rattle.scenario_text.specs.declared.step.Step.TheVariants.{Unit, Event, Hear, Air, Inject, Sniff, Announce, Train, Write, Add, Modify, Remove, Code, Serve}
 use Rattle.scenario_text.specs.declared.step.Step.TheVariants.{Tell, Read, Drain, Show, Lose, Drop, Terminate, Control, Forge, Stop, End, Assist, Apart, AWrite}
 use Rattle.scenario_text.specs.declared.step.Step.TheVariants.{AServe, ATell, ARead, ADrain, AShow, Source, Relay}
-use Rattle.scenario_text.specs.Table.{row_of, first_row_of, source_row_of, sink_row_of, link_row_of, row_of_2, link_row_of_2}
-use Rattle.scenario_text.specs.Written.{Parts, parts_of}
+use Rattle.scenario_text.specs.Table.{Row, row_of, first_row_of, source_row_of, sink_row_of, link_row_of, row_of_2, link_row_of_2}
+use Rattle.scenario_text.specs.Written.{Parts, in_row, parts_of}
 use Rattle.scenario_values.proofs.Citable.{is_unspaced}
 use Rattle.scenario_writing.proofs.Lines.{made}
 
-abbrev made_of : Parts → Step
-made_of parts = made parts.row.places parts.row.build parts.values
+abbrev pub made_of : Parts → Step
+made_of (in_row row values) = made row.places row.build values
+
+abbrev pub row_at : Parts → Row
+row_at (in_row row values) = row
 
 -- the row and the values of a step
 pub record HasRow (step : Step) : Type 0 where
   pub made : made_of (parts_of step) ≡ step
-  pub unspaced : is_unspaced (parts_of step).row.first ≡ true
-  pub known : row_of 2 (parts_of step).row.first ≡ Some (parts_of step).row
+  pub unspaced : is_unspaced (row_at (parts_of step)).first ≡ true
+  pub known : row_of 2 (row_at (parts_of step)).first ≡ Some (row_at (parts_of step))
 
 pub has_row : (step : Step) → HasRow step
 unfolding row_of first_row_of source_row_of sink_row_of link_row_of row_of_2 link_row_of_2

@@ -4,8 +4,9 @@
 mod laws;
 mod line;
 mod numbers;
-mod operations;
 mod streams;
+mod values;
+mod wishes;
 
 pub use laws::a_step_has_a_line_where_it_fits;
 pub use line::write_line;

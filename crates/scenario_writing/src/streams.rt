@@ -1,12 +1,9 @@
-ghost use Rattle.std.specs.Prelude.{◌≡◌, ◌≤◌, ◌++◌, OnOk, IfOk, map, decimal};
+ghost use Rattle.std.specs.Prelude.{◌≡◌, ◌≤◌, ◌++◌, OnOk, map, decimal};
 ghost use Rattle.printed_words.specs.Lines.{behind};
 ghost use Rattle.scenario_values.specs.Words.{streams_from, streams_in};
-ghost use Rattle.scenario_text.specs.declared.step.Step.TheVariants.{Tuned};
-ghost use Rattle.scenario_text.specs.Written.{line_of};
 
 use bcast_base::{Bis, BisSet, Memory, Octets};
 use printed_words::{Word, put_words};
-use std::alloc::Global;
 
 /// Puts an index behind a line where its stream is in the set.
 fn put_stream(line: &mut Octets, which: BisSet, bis: Bis) -> Result<(), Memory>
@@ -32,22 +29,11 @@ fn put_index(line: &mut Octets, which: BisSet, index: u8) -> Result<(), Memory>
 }
 
 /// Puts the indices of all streams of the set behind a line, rising.
-fn put_streams(line: &mut Octets, which: BisSet) -> Result<(), Memory>
+pub fn put_streams(line: &mut Octets, which: BisSet) -> Result<(), Memory>
     ensures { OnOk result (line.new ≡ line.old ++ behind (map decimal (streams_in which))) }
 {
     'indices: for index in 1u8..32 {
         put_index(line, which, index)?;
     }
     Ok(())
-}
-
-/// The line that puts a sink on these streams.
-#[tactic(auto, using(crate::proofs::Putting::put_last))]
-pub fn tuned_line(alloc: Global, sink: u8, which: BisSet) -> Result<Octets, Memory>
-    ensures { IfOk result (λ line. line ≡ line_of (Tuned sink which)) }
-{
-    let mut line = Octets::new(alloc);
-    put_words(&mut line, b"tuned", &[Word::Number(sink as u64)])?;
-    put_streams(&mut line, which)?;
-    Ok(line)
 }

@@ -1,0 +1,291 @@
+//! The line of each step, as its first word and the values at its places.
+ghost use Rattle.scenario_text.specs.declared.step.Step.TheVariants.{Add, Modify};
+ghost use Rattle.scenario_text.specs.Written.{placed_step};
+
+use crate::limits::{BEFORE_ADD, BEFORE_MODIFY, MOST_OF_OPERATION};
+use crate::step::Step;
+use crate::taker::LineTaker;
+use bass_operations::{AddSource, ModifySource};
+use scenario_values::Value::{
+    Exactly, FourOctets, Framing, Link, List, Number, Octets, Perhaps, Sink, Stream, Streams, Time,
+    TwoOctets, Wishes,
+};
+
+/// The line of an Add Source.
+fn give_add<T: LineTaker>(taker: &T, sink: u8, op: &AddSource) -> T::Made
+    ensures { T.makes taker.now (placed_step (Add sink op.now)) result }
+{
+    taker.take(
+        b"add",
+        &[
+            Sink(sink),
+            Number(op.address_type as u64, 0, 1),
+            Exactly(&op.address, 6),
+            Number(op.sid as u64, 0, 15),
+            Exactly(&op.broadcast_id, 3),
+            Number(op.pa_sync as u64, 0, 2),
+            Number(op.pa_interval as u64, 0, 65_535),
+            Wishes(&op.wishes, MOST_OF_OPERATION - BEFORE_ADD),
+        ],
+    )
+}
+
+/// The line of a Modify Source.
+fn give_modify<T: LineTaker>(taker: &T, sink: u8, op: &ModifySource) -> T::Made
+    ensures { T.makes taker.now (placed_step (Modify sink op.now)) result }
+{
+    taker.take(
+        b"modify",
+        &[
+            Sink(sink),
+            Number(op.source_id as u64, 0, 255),
+            Number(op.pa_sync as u64, 0, 2),
+            Number(op.pa_interval as u64, 0, 65_535),
+            Wishes(&op.wishes, MOST_OF_OPERATION - BEFORE_MODIFY),
+        ],
+    )
+}
+
+impl Step {
+    /// Hands on the first word of the line of the step, and the values at its places, whether they have words there or not.
+    pub fn give_line<T: LineTaker>(&self, taker: &T) -> T::Made
+        ensures { T.makes taker.now (placed_step self.now) result }
+    {
+        match self {
+            Step::Scenario { version } => taker.take(b"scenario", &[Number(*version as u64, 1, 2)]),
+            Step::Group {
+                framing,
+                origin,
+                delay,
+                iso,
+                sdu,
+                max_sdu,
+                max_pdu,
+                num_bis,
+                bn,
+                nse,
+                irc,
+                pto,
+                sub,
+                spacing,
+                phy,
+            } => taker.take(
+                b"group",
+                &[
+                    Framing(*framing),
+                    Number(*origin, 3_000, 1 << 48),
+                    Number(*delay as u64, 0, 16_777_215),
+                    Number(*iso as u64, 0, 4_095),
+                    Number(*sdu as u64, 0, 1_048_575),
+                    Number(*max_sdu as u64, 0, 4_095),
+                    Number(*max_pdu as u64, 0, 255),
+                    Number(*num_bis as u64, 0, 31),
+                    Number(*bn as u64, 0, 7),
+                    Number(*nse as u64, 0, 31),
+                    Number(*irc as u64, 0, 15),
+                    Number(*pto as u64, 0, 15),
+                    Number(*sub as u64, 0, 1_048_575),
+                    Number(*spacing as u64, 0, 1_048_575),
+                    Number(*phy as u64, 0, 7),
+                ],
+            ),
+            Step::Ident {
+                address_type,
+                address,
+                sid,
+                broadcast_id,
+            } => taker.take(
+                b"ident",
+                &[
+                    Number(*address_type as u64, 0, 1),
+                    Exactly(address, 6),
+                    Number(*sid as u64, 0, 15),
+                    Exactly(broadcast_id, 3),
+                ],
+            ),
+            Step::Subgroup { codec, config } => taker.take(
+                b"subgroup",
+                &[Exactly(codec, 5), List(config, 255)],
+            ),
+            Step::Meta { metadata } => taker.take(b"meta", &[List(metadata, 255)]),
+            Step::Bis { bis, config } => taker.take(b"bis", &[Stream(*bis), List(config, 255)]),
+            Step::Cipher { giv, gskd } => taker.take(
+                b"cipher",
+                &[Exactly(giv, 8), Exactly(gskd, 16)],
+            ),
+            Step::Start { first } => taker.take(b"start", &[Number(*first, 0, 549_755_813_887)]),
+            Step::Sink {
+                sink,
+                streams,
+                slots,
+                mtu,
+            } => taker.take(
+                b"sink",
+                &[
+                    Sink(*sink),
+                    Number(*streams as u64, 1, 31),
+                    Number(*slots as u64, 1, 8),
+                    Perhaps(*mtu, 23, 517),
+                ],
+            ),
+            Step::Pac {
+                sink,
+                codec,
+                caps,
+                metadata,
+            } => taker.take(
+                b"pac",
+                &[
+                    Sink(*sink),
+                    Exactly(codec, 5),
+                    List(caps, 255),
+                    List(metadata, 255),
+                ],
+            ),
+            Step::Locate { sink, bits } => taker.take(b"locate", &[Sink(*sink), FourOctets(*bits)]),
+            Step::Context {
+                sink,
+                sink_bits,
+                source_bits,
+            } => taker.take(
+                b"context",
+                &[Sink(*sink), TwoOctets(*sink_bits), TwoOctets(*source_bits)],
+            ),
+            Step::Tuned { sink, which } => taker.take(b"tuned", &[Sink(*sink), Streams(*which)]),
+            Step::Unit { bis, time, octets } => taker.take(
+                b"unit",
+                &[Stream(*bis), Time(*time, 1 << 62), Octets(octets, 4_095)],
+            ),
+            Step::Event => taker.take(b"event", &[]),
+            Step::Hear {
+                sink,
+                back,
+                bis,
+                subevent,
+            } => taker.take(
+                b"hear",
+                &[
+                    Sink(*sink),
+                    Number(*back as u64, 0, 31),
+                    Stream(*bis),
+                    Number(*subevent as u64, 0, 30),
+                ],
+            ),
+            Step::Air { sink, lose } => taker.take(
+                b"air",
+                &[Sink(*sink), Number(*lose as u64, 0, 255)],
+            ),
+            Step::Inject {
+                sink,
+                back,
+                bis,
+                subevent,
+                octets,
+            } => taker.take(
+                b"inject",
+                &[
+                    Sink(*sink),
+                    Number(*back as u64, 0, 31),
+                    Stream(*bis),
+                    Number(*subevent as u64, 0, 30),
+                    Octets(octets, 300),
+                ],
+            ),
+            Step::Sniff {
+                back,
+                bis,
+                subevent,
+            } => taker.take(
+                b"sniff",
+                &[
+                    Number(*back as u64, 0, 31),
+                    Stream(*bis),
+                    Number(*subevent as u64, 0, 30),
+                ],
+            ),
+            Step::Announce { sink } => taker.take(b"announce", &[Sink(*sink)]),
+            Step::Train {
+                sink,
+                time,
+                ext,
+                adv,
+                acad,
+            } => taker.take(
+                b"train",
+                &[
+                    Sink(*sink),
+                    Number(*time, 0, 1 << 48),
+                    Octets(ext, 255),
+                    Octets(adv, 1_650),
+                    Octets(acad, 255),
+                ],
+            ),
+            Step::Write { sink, octets } => taker.take(
+                b"write",
+                &[Sink(*sink), Octets(octets, 512)],
+            ),
+            Step::Add { sink, op } => give_add(taker, *sink, op),
+            Step::Modify { sink, op } => give_modify(taker, *sink, op),
+            Step::Remove { sink, source_id } => taker.take(
+                b"remove",
+                &[Sink(*sink), Number(*source_id as u64, 0, 255)],
+            ),
+            Step::Code {
+                sink,
+                source_id,
+                code,
+            } => taker.take(
+                b"code",
+                &[
+                    Sink(*sink),
+                    Number(*source_id as u64, 0, 255),
+                    Exactly(code, 16),
+                ],
+            ),
+            Step::Serve { sink } => taker.take(b"serve", &[Sink(*sink)]),
+            Step::Tell { sink } => taker.take(b"tell", &[Sink(*sink)]),
+            Step::Read { sink } => taker.take(b"read", &[Sink(*sink)]),
+            Step::Drain { sink } => taker.take(b"drain", &[Sink(*sink)]),
+            Step::Show { sink } => taker.take(b"show", &[Sink(*sink)]),
+            Step::Lose { sink } => taker.take(b"lose", &[Sink(*sink)]),
+            Step::Drop { sink } => taker.take(b"drop", &[Sink(*sink)]),
+            Step::Terminate { reason } => taker.take(
+                b"terminate",
+                &[Number(*reason as u64, 0, 255)],
+            ),
+            Step::Control { sink, octets } => taker.take(
+                b"control",
+                &[Sink(*sink), Octets(octets, 300)],
+            ),
+            Step::Forge { sink, slot, octets } => taker.take(
+                b"forge",
+                &[
+                    Sink(*sink),
+                    Number(*slot as u64, 0, 255),
+                    Octets(octets, 1_024),
+                ],
+            ),
+            Step::Stop => taker.take(b"stop", &[]),
+            Step::End => taker.take(b"end", &[]),
+            Step::Assist { sink, link } => taker.take(b"assist", &[Sink(*sink), Link(*link)]),
+            Step::Apart { sink, link } => taker.take(
+                b"apart",
+                &[Sink(*sink), Number(*link as u64, 1, 3)],
+            ),
+            Step::AWrite { sink, link, octets } => taker.take(
+                b"awrite",
+                &[Sink(*sink), Link(*link), Octets(octets, 512)],
+            ),
+            Step::AServe { sink, link } => taker.take(b"aserve", &[Sink(*sink), Link(*link)]),
+            Step::ATell { sink, link } => taker.take(b"atell", &[Sink(*sink), Link(*link)]),
+            Step::ARead { sink, link } => taker.take(b"aread", &[Sink(*sink), Link(*link)]),
+            Step::ADrain { sink, link } => taker.take(b"adrain", &[Sink(*sink), Link(*link)]),
+            Step::AShow { sink, link } => taker.take(b"ashow", &[Sink(*sink), Link(*link)]),
+            Step::Source { source } => taker.take(b"source", &[Number(*source as u64, 0, 1)]),
+            Step::Relay { sink, bis, to } => taker.take(
+                b"relay",
+                &[Sink(*sink), Stream(*bis), Stream(*to)],
+            ),
+        }
+    }
+}
