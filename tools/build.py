@@ -203,16 +203,17 @@ def prove_program(rt, crate, jobs):
     return status
 
 
-def give_way():
-    """Lets what this thread starts come behind what others start."""
+def give_way(steps):
+    """Lets what this thread starts come so far behind what others start."""
     with contextlib.suppress(OSError):
-        os.setpriority(os.PRIO_PROCESS, threading.get_native_id(), 5)
+        os.setpriority(os.PRIO_PROCESS, threading.get_native_id(), steps)
 
 
 class Lanes:
     """Proves crates side by side, each once those below it are proved: as many as there are processors and as memory holds, and
     of those that could begin first the one with the longest chain of others above it. That one begins at once, gets all
-    processors and comes first on each, since the others wait for it in the end; another gets those that are idle."""
+    processors and comes first on each, since the others wait for it in the end; another gets those that are idle. One with a
+    much shorter chain comes last on each, so that something is left to do beside the last crates, which wait for each other."""
 
     def __init__(self, rt, crates, kept):
         self.rt, self.kept = rt, kept
@@ -231,32 +232,36 @@ class Lanes:
         """About what a crate takes to prove. The libraries below it are read first, most of a small crate's time."""
         return 17 + crate.count(rb'\n') / 10
 
-    def is_longest(self, crate):
-        """Whether no crate that is left or running has a longer chain above it."""
-        return all(self.behind[crate] >= self.behind[it] for it in [*self.left, *[it for it, _ in self.running.values()]])
+    def longest(self):
+        """The longest chain above a crate that is left or running."""
+        return max(self.behind[it] for it in [*self.left, *[it for it, _ in self.running.values()]])
+
+    def is_late(self, crate):
+        """Whether the crate can wait for others."""
+        return self.behind[crate] < 0.7 * self.longest()
 
     def jobs_of(self, crate, ready):
         """How many processors the crate gets if it begins now, or none if it has to wait."""
-        needs = self.needs[crate] + sum(self.needs[it] for it, _ in self.running.values())
-        if self.running and needs > self.memory:
+        running = [it for it, _ in self.running.values()]
+        if running and self.needs[crate] + sum(self.needs[it] for it in running) > self.memory:
             return 0
-        idle = self.lanes - len(self.running)
-        if self.is_longest(crate):
+        idle = self.lanes - sum(self.is_late(crate) or not self.is_late(it) for it in running)
+        if self.behind[crate] == self.longest():
             # each more reads the libraries anew, which a small crate doesn't gain back
             return min(4, self.lanes) if self.seconds(crate) > 50 or idle >= self.lanes else 1
         return min(4, max(1, idle // len(ready))) if idle > 0 else 0
 
-    def begin(self, first, others):
+    def begin(self, first, others, last):
         """Begins what can begin now, the longest chain by the pool that comes first, and passes over what was proved before."""
         ready = [it for it in self.left if all(below in self.proved for below in self.below[it])]
         for crate in list(ready):
             if self.kept.has(crate):
                 self.left.remove(crate)
                 self.proved.add(crate)
-                return self.begin(first, others)
+                return self.begin(first, others, last)
             jobs = self.jobs_of(crate, ready)
             if jobs:
-                pool = first if self.is_longest(crate) else others
+                pool = first if self.behind[crate] == self.longest() else last if self.is_late(crate) else others
                 ready.remove(crate)
                 self.left.remove(crate)
                 self.running[pool.submit(prove, self.rt, crate, jobs)] = crate, time.monotonic()
@@ -264,8 +269,9 @@ class Lanes:
 
     def run(self):
         """Whether all are proved; it stops at the first that isn't."""
-        with ThreadPoolExecutor(self.lanes + 1) as first, ThreadPoolExecutor(self.lanes + 1, initializer=give_way) as others:
-            self.begin(first, others)
+        pools = [ThreadPoolExecutor(2 * self.lanes, initializer=give_way, initargs=(steps,)) for steps in (0, 5, 12)]
+        with pools[0], pools[1], pools[2]:
+            self.begin(*pools)
             while self.running:
                 for it in wait(self.running, return_when=FIRST_COMPLETED).done:
                     crate, since = self.running.pop(it)
@@ -277,7 +283,7 @@ class Lanes:
                     self.proved.add(crate)
                     self.kept.keep(crate)
                     say(f'{len(self.proved)} of {len(self.behind)} proved: {crate.name}, in {time.monotonic() - since:.0f} s')
-                self.begin(first, others)
+                self.begin(*pools)
         return True
 
 

@@ -79,7 +79,8 @@ fn service_list(alloc: Global, uuid: u16, content: &[u8]) -> Result<Octets, Memo
 fn info_list(alloc: Global, info: &BigInfo, event: u64) -> Result<Octets, Memory>
     requires widths { FitsWidths info.now }
     requires count { event * info.now.bn < 2 ^ 39 }
-    ensures { IfOk result (λ octets. (spelled : List ℕ) × Spells (announced info.now event) 0 spelled × (octets ≡ structure (info_ad spelled))) }
+    ensures { IfOk result (λ octets. (spelled : List ℕ) × Spells (announced info.now event) 0 spelled
+        × (octets ≡ structure (info_ad spelled))) }
 {
     let mut octets = [0u8; 57];
     let count = encode_big_info(&announced_info(info, event), &mut octets);

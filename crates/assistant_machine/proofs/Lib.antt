@@ -1,2 +1,4 @@
-mod Standing
+mod Agreement
 pub mod Citable
+mod Draining
+mod Standing

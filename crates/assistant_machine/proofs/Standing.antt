@@ -7,7 +7,7 @@ use Rattle.std.proofs.lemmas.List.{length-set}
 use Rattle.std.proofs.lemmas.Option.{slice_get_within}
 use Rattle.receive_state.specs.declared.state.ReceiveState.{ReceiveState}
 use Rattle.assistant_machine.specs.Calls.{Call, limited, put, sent, told, all_asked, asked, read, mtu_of, sent_of, writes_of}
-use Rattle.notice_links.specs.Cuts.{asks}
+use Rattle.assistant_machine.specs.Cuts.{asks}
 use Rattle.assistant_machine.specs.Views.{if_slot, reading_of, view_of, waits_of}
 use Rattle.assistant_machine.specs.State.Assistants.{Assistant, IsLowest, StandsFor, after_notice, after_read, joined, with_read, with_reading, with_write}
 

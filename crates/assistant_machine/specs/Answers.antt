@@ -5,7 +5,7 @@ use Rattle.std.specs.Prelude.{ℕ, nat_le, List, Option, Result, Ok, Err, if◌t
 use Rattle.receive_state.specs.Reading.{state_of}
 use Rattle.receive_state.specs.declared.fault.StateFault.{StateFault}
 use Rattle.receive_state.specs.declared.state.ReceiveState.{ReceiveState}
-use Rattle.notice_links.specs.Cuts.{asks}
+use Rattle.assistant_machine.specs.Cuts.{asks}
 use Rattle.assistant_machine.specs.declared.fault.NoticeFault.{NoticeFault}
 use Rattle.assistant_machine.specs.declared.fault.NoticeFault.TheVariants.{NoSuchSlot, BadNotice, Memory}
 use Rattle.assistant_machine.specs.declared.fault.NoticeTaken.{NoticeTaken}

@@ -1,4 +1,6 @@
-pub mod Calls
-pub mod Views
 pub mod Answers
+pub mod Calls
+pub mod Cuts
+pub mod Links
 pub mod State
+pub mod Views

@@ -1,7 +1,7 @@
 -- What an assistant knows of the slots of a server (Broadcast Audio Scan Service 1.0, section 3.2; a notice is cut to MTU - 3
 -- octets by Core 5.2, volume 3 part F, section 3.4.7.1, and a longer value has to be read). Lists of calls have the newest first.
 use Rattle.std.specs.Prelude.{ℕ, ◌==◌, ◌&&◌, not, Bool, true, false, List, [], ◌∷◌, Option, Some, None, Result, Ok, Err, unwrap_or}
-use Rattle.notice_links.specs.Cuts.{asks}
+use Rattle.assistant_machine.specs.Cuts.{asks}
 use Rattle.receive_state.specs.Reading.{state_of}
 use Rattle.receive_state.specs.declared.fault.StateFault.{StateFault}
 use Rattle.receive_state.specs.declared.state.ReceiveState.{ReceiveState}

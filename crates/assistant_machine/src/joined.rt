@@ -5,7 +5,7 @@ ghost use Rattle.receive_state.specs.Reading.{state_of};
 ghost use Rattle.bass_operations.specs.declared.operation.Operation.TheVariants as operations;
 ghost use Rattle.assistant_machine.specs.Answers.{IsCause, answer_of, by_reading};
 ghost use Rattle.assistant_machine.specs.Calls.{Call, limited, put, sent, told, all_asked, asked, read as gives};
-ghost use Rattle.notice_links.specs.Cuts.{asks};
+ghost use Rattle.assistant_machine.specs.Cuts.{asks};
 ghost use Rattle.assistant_machine.specs.Views.{reading_of, view_of};
 ghost use Rattle.assistant_machine.specs.State.Assistants.{IsLowest, NoneWaits, StandsFor, after_notice, after_read, joined, with_reading, with_write};
 ghost use Rattle.assistant_machine.specs.declared.fault.NoticeTaken.TheVariants.{View};
@@ -198,7 +198,8 @@ impl AssistJoined {
     /// The view of a slot; `None` exactly where it is empty or there is no such slot.
     pub fn view(&self, slot: u8) -> Option<&ReceiveState>
         ensures view { option_copied result ≡ slice_index_or self.now.views slot None }
-        ensures calls { (slots : ℕ) (calls : List Call) → StandsFor slots calls self.now → slot < slots → option_copied result ≡ view_of slot calls }
+        ensures calls { (slots : ℕ) (calls : List Call) → StandsFor slots calls self.now → slot < slots
+            → option_copied result ≡ view_of slot calls }
     {
         self.views.get(usize::from(slot))?.as_ref()
     }

@@ -26,7 +26,8 @@ pub struct AdShort {
 /// The contents of the first structure of this type in an AD list, lent from it (Core 5.2, volume 3 part C, section 11).
 /// AdShort comes where the octets are no AD list.
 pub fn structure(ads: &[u8], kind: u8) -> Result<Option<&[u8]>, AdShort>
-    ensures exact { MatchResult result (λ found. Gives (λ contents. contents.now) found (first_of kind (ads_in ads.now))) (λ short. ads_of ads.now ≡ Err short.place) }
+    ensures exact { MatchResult result (λ found. Gives (λ contents. contents.now) found (first_of kind (ads_in ads.now)))
+        (λ short. ads_of ads.now ≡ Err short.place) }
     ensures read { OnOk result (ads_of ads.now ≡ Ok (ads_in ads.now)) }
     ensures list { OnOk result (IsAdList (ads_in ads.now) ads.now) }
     ensures short { IfErr result (λ short. IsAdShort short.place ads.now) }
@@ -38,7 +39,8 @@ pub fn structure(ads: &[u8], kind: u8) -> Result<Option<&[u8]>, AdShort>
 /// What follows the UUID in the first Service Data of this 16-bit UUID in an AD list, lent from it.
 /// AdShort comes where the octets are no AD list.
 pub fn service_data(ads: &[u8], uuid: u16) -> Result<Option<&[u8]>, AdShort>
-    ensures exact { MatchResult result (λ found. Gives (λ content. content.now) found (first_service uuid (ads_in ads.now))) (λ short. ads_of ads.now ≡ Err short.place) }
+    ensures exact { MatchResult result (λ found. Gives (λ content. content.now) found (first_service uuid (ads_in ads.now)))
+        (λ short. ads_of ads.now ≡ Err short.place) }
     ensures read { OnOk result (ads_of ads.now ≡ Ok (ads_in ads.now)) }
     ensures list { OnOk result (IsAdList (ads_in ads.now) ads.now) }
     ensures short { IfErr result (λ short. IsAdShort short.place ads.now) }

@@ -48,7 +48,8 @@ fn subgroups_end<'a>(whole: &[u8], from: &'a [u8], count: u8) -> Result<&'a [u8]
 // The octets behind a subgroup.
 fn subgroup_end<'a>(whole: &[u8], rest: &'a [u8], seen: &mut BisSet) -> Result<&'a [u8], BaseFault>
     requires { length rest.now ≤ length whole.now }
-    ensures exact { (before : List ℕ) → Seen seen.old before → Passes subgroup_bis before seen.new (λ left. left.now) result (subgroup_at whole.now before rest.now) }
+    ensures exact { (before : List ℕ) → Seen seen.old before
+        → Passes subgroup_bis before seen.new (λ left. left.now) result (subgroup_at whole.now before rest.now) }
     ensures shorter { IfOk result (λ left. length left.now ≤ length rest.now) }
 {
     let (count, rest) = streams_field(whole, rest)?;
@@ -68,7 +69,8 @@ fn entries_end<'a>(
     is_lc3: bool,
 ) -> Result<&'a [u8], BaseFault>
     requires { length from.now ≤ length whole.now }
-    ensures exact { (before : List ℕ) → Seen seen.old before → Passes entries_bis before seen.new (λ left. left.now) result (entries_at whole.now is_lc3 before count from.now) }
+    ensures exact { (before : List ℕ) → Seen seen.old before
+        → Passes entries_bis before seen.new (λ left. left.now) result (entries_at whole.now is_lc3 before count from.now) }
     ensures shorter { IfOk result (λ left. length left.now ≤ length from.now) }
 {
     let mut rest = from;
@@ -86,7 +88,8 @@ fn entry_end<'a>(
     is_lc3: bool,
 ) -> Result<&'a [u8], BaseFault>
     requires { length rest.now ≤ length whole.now }
-    ensures exact { (before : List ℕ) → Seen seen.old before → Passes entry_bis before seen.new (λ left. left.now) result (entry_at whole.now is_lc3 before rest.now) }
+    ensures exact { (before : List ℕ) → Seen seen.old before
+        → Passes entry_bis before seen.new (λ left. left.now) result (entry_at whole.now is_lc3 before rest.now) }
     ensures shorter { IfOk result (λ left. length left.now ≤ length rest.now) }
 {
     let rest = index_end(whole, rest, seen)?;
@@ -97,7 +100,8 @@ fn entry_end<'a>(
 // The octets behind an index that was not met, which is then in the set.
 fn index_end<'a>(whole: &[u8], rest: &'a [u8], seen: &mut BisSet) -> Result<&'a [u8], BaseFault>
     requires { length rest.now ≤ length whole.now }
-    ensures exact { (before : List ℕ) → Seen seen.old before → Passes same_bis before seen.new (λ left. left.now) result (index_at whole.now before rest.now) }
+    ensures exact { (before : List ℕ) → Seen seen.old before
+        → Passes same_bis before seen.new (λ left. left.now) result (index_at whole.now before rest.now) }
     ensures shorter { IfOk result (λ left. length left.now ≤ length rest.now) }
 {
     let place = place_of(whole, rest);

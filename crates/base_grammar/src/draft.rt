@@ -89,7 +89,8 @@ impl BaseDraft {
     pub fn finish(self) -> Result<Base, Kept<BaseDraft, DraftFault>>
         ensures ok { IfOk result (λ base. base ≡ self) }
         ensures base { IfOk result IsBase }
-        ensures refuses { MatchResult result (λ _. finish_fault self ≡ None) (λ kept. (finish_fault self ≡ Some kept.fault) × (kept.state ≡ self)) }
+        ensures refuses { MatchResult result (λ _. finish_fault self ≡ None)
+            (λ kept. (finish_fault self ≡ Some kept.fault) × (kept.state ≡ self)) }
     {
         if let Some(fault) = self.check() {
             return Err(Kept { state: self, fault });

@@ -74,7 +74,8 @@ pub(crate) fn put_entry(
     bis: Bis,
     config: &[u8],
 ) -> Result<(), DraftFault>
-    ensures ok { OnOk result (subgroups.new.items ≡ with_last (λ s. record s { entries = s.entries ++ record { bis = bis; config = config.now } ∷ [] }) subgroups.old.items) }
+    ensures ok { OnOk result (subgroups.new.items ≡ with_last
+        (λ s. record s { entries = s.entries ++ record { bis = bis; config = config.now } ∷ [] }) subgroups.old.items) }
     ensures err { OnErr result (subgroups.new.items ≡ subgroups.old.items) }
     ensures refuses { Refuses (entry_fault subgroups.old.items bis) result }
     ensures range { OnOk result ((1 ≤ bis) × (bis ≤ 31)) }

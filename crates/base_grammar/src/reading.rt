@@ -27,7 +27,8 @@ fn entry_of<'a>(
     is_lc3: bool,
 ) -> Result<(BaseEntry, &'a [u8]), BaseFault>
     requires { length rest.now ≤ length whole.now }
-    ensures gives { GivesOrWants told (λ x. (x.0, x.1.now)) result (entry_at whole.now is_lc3 (indices subgroups.now ++ map bis_of entries.now) rest.now) }
+    ensures gives { GivesOrWants told (λ x. (x.0, x.1.now)) result
+        (entry_at whole.now is_lc3 (indices subgroups.now ++ map bis_of entries.now) rest.now) }
     ensures shorter { IfOk result (λ x. length x.1.now ≤ length rest.now) }
 {
     let (bis, rest) = match index_field(whole, rest, subgroups, entries.as_slice()) {

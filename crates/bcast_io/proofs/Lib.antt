@@ -1,6 +1,7 @@
-mod Transfers
-pub mod Slices
-mod LineLaws
-mod CutTexts
-pub mod ReadingLaws
 pub mod Citable
+mod CutTexts
+mod LineLaws
+pub mod ReadingLaws
+mod Readings
+pub mod Slices
+mod Transfers

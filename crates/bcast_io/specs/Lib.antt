@@ -1,6 +1,7 @@
 pub mod Causes
+pub mod Documents
 pub mod Scripts
-pub mod Stores
-pub mod Writing
-pub mod TextLines
 pub mod State
+pub mod Stores
+pub mod TextLines
+pub mod Writing

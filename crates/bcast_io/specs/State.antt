@@ -1,2 +1,3 @@
-pub mod Reading
 pub mod Answering
+pub mod Pieces
+pub mod Reading

@@ -10,7 +10,7 @@ use Rattle.base_grammar.specs.declared.subgroup.Subgroup.{Subgroup}
 use Rattle.base_grammar.specs.Layout.{Endpoint, bis_of, indices, stands_in}
 use Rattle.bass_operations.specs.declared.wishes.Wish.{Wish}
 use Rattle.pacs_records.specs.declared.capability.Capability.{Capability}
-use Rattle.delegator_states.specs.Trains.{candidates, first_candidates, is_candidate, set_with, sets_with}
+use Rattle.delegator_history.specs.Trains.{candidates, first_candidates, is_candidate, set_with, sets_with}
 use Rattle.delegator_choices.proofs.Taken.{below_all, below_each, chooses_last, Chooses, filter_below, first_below, first_of_all, sets_below}
 use Rattle.delegator_choices.proofs.Streams.{drop_get}
 

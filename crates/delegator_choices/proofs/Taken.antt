@@ -8,7 +8,7 @@ use Rattle.std.proofs.lemmas.Bool.{cases_eq, cond-true, cond-false, ne_eqb}
 use Rattle.std.proofs.lemmas.Nat.{or_lt, pow_below}
 use Rattle.std.proofs.lemmas.Nat.Bits.{bit_at-lt, bit_at_or, bit_at-pow_same, bit_at-pow_other, same_from_bits}
 use Rattle.bcast_base.specs.Bis.{Has}
-use Rattle.delegator_states.specs.Trains.{set_with, sets_with}
+use Rattle.delegator_history.specs.Trains.{set_with, sets_with}
 use Rattle.delegator_choices.specs.declared.choosing.Taking.{Taking}
 use Rattle.delegator_choices.specs.State.Choices.{Leads, Takes, with_one}
 

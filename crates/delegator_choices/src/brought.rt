@@ -4,7 +4,7 @@ ghost use Rattle.std.specs.Prelude.{◌≡◌, ◌≤◌, ◌<◌, ◌+◌, ◌^
 use crate::taken_bits::TakenBits;
 use bcast_base::BisSet;
 use big_info::Group;
-use delegator_states::TrainHeard;
+use delegator_history::TrainHeard;
 
 /// How a train puts the sink on the group of its source.
 #[derive(Clone, Copy)]

@@ -3,7 +3,7 @@ ghost use Rattle.std.specs.Prelude.{◌≡◌, ◌≤◌, ◌<◌, ◌-◌, ◌^
 ghost use Rattle.std.specs.Int.{bit_at};
 ghost use Rattle.std.specs.List.{list_any};
 ghost use Rattle.base_grammar.specs.Layout.{bis_of, indices, stands_in};
-ghost use Rattle.delegator_states.specs.Trains.{first_candidates, set_with, sets_with};
+ghost use Rattle.delegator_history.specs.Trains.{first_candidates, set_with, sets_with};
 ghost use Rattle.pacs_records.specs.Reasons.{stream_not_taken};
 ghost use Rattle.delegator_choices.specs.State.Choices.{GoesOn, IsPart, Takes, chosen_of, is_chosen, with_one};
 
@@ -58,8 +58,10 @@ pub fn choose(
     streams: u8,
 ) -> Result<Chosen, Memory>
     requires { num_bis ≤ 31 }
-    ensures bits { IfOk result (λ chosen. chosen.bits ≡ map (set_with 0) (first_candidates capability.now base.now num_bis streams wishes.now base.now.subgroups)) }
-    ensures which { IfOk result (λ chosen. chosen.which ≡ sets_with 0 (first_candidates capability.now base.now num_bis streams wishes.now base.now.subgroups)) }
+    ensures bits { IfOk result (λ chosen. chosen.bits ≡ map (set_with 0)
+        (first_candidates capability.now base.now num_bis streams wishes.now base.now.subgroups)) }
+    ensures which { IfOk result (λ chosen. chosen.which ≡ sets_with 0
+        (first_candidates capability.now base.now num_bis streams wishes.now base.now.subgroups)) }
     ensures within { IfOk result (λ chosen. chosen.which < 2 ^ num_bis) }
     ensures memory { OnErr result (0 < min (length wishes.now) (length base.now.subgroups)) }
 {

@@ -1,7 +1,7 @@
 //! When a sink joins a group.
 ghost use Rattle.std.specs.Prelude.{◌≡◌, ◌≤◌, ◌<◌, ◌+◌, ◌/◌, ◌^◌};
 ghost use Rattle.big_info.specs.Widths.{FitsWidths};
-ghost use Rattle.delegator_states.specs.Trains.{offset_of};
+ghost use Rattle.delegator_history.specs.Trains.{offset_of};
 ghost use Rattle.delegator_choices.specs.State.Brings.{joining_by};
 
 use crate::brought::Joining;

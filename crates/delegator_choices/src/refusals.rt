@@ -1,9 +1,9 @@
 //! How writes are refused.
 ghost use Rattle.std.specs.Prelude.{◌≡◌, Some};
-ghost use Rattle.delegator_states.specs.Writes.{cause_of_fault, reply_by};
+ghost use Rattle.delegator_history.specs.Writes.{cause_of_fault, reply_by};
 
 use bass_operations::OpFault;
-use delegator_states::{Cause, Reply};
+use delegator_history::{Cause, Reply};
 
 /// Opcode Not Supported.
 const NOT_SUPPORTED: u8 = 0x80;

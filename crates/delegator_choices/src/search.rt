@@ -1,11 +1,11 @@
 //! Looking for a slot, and for an unused Source_ID.
 ghost use Rattle.std.specs.Prelude.{◌≡◌, ◌≤◌, ◌<◌, ◌==◌, ◌&&◌, is_some, length, vec_len, IfSome};
 ghost use Rattle.std.specs.Str.{bytes_eq};
-ghost use Rattle.delegator_states.specs.Writes.{least_unused, slot_where, slot_with};
+ghost use Rattle.delegator_history.specs.Writes.{least_unused, slot_where, slot_with};
 ghost use Rattle.delegator_choices.specs.State.Slots.{meets};
 
 use crate::slot::Slot;
-use delegator_states::Source;
+use delegator_history::Source;
 
 /// What a slot is looked for by.
 #[derive(Clone, Copy)]
@@ -77,7 +77,8 @@ fn is_sought(slot: &Option<Slot>, sought: &Sought) -> bool
 
 /// Whether it is the source of this identity.
 fn is_source(source: &Source, address_type: u8, sid: u8, broadcast_id: &[u8; 3]) -> bool
-    ensures { result ≡ ((source.now.address_type == address_type) && ((source.now.sid == sid) && bytes_eq source.now.broadcast_id broadcast_id.now)) }
+    ensures { result ≡ ((source.now.address_type == address_type)
+        && ((source.now.sid == sid) && bytes_eq source.now.broadcast_id broadcast_id.now)) }
 {
     source.address_type == address_type
         && source.sid == sid

@@ -2,7 +2,7 @@ ghost use Rattle.std.specs.Prelude.{◌≡◌};
 ghost use Rattle.delegator_choices.specs.State.Slots.{EntryFits};
 
 use bass_operations::Wishes;
-use delegator_states::Source;
+use delegator_history::Source;
 use std::marker::Model;
 
 /// A slot that is filled: its source, and what is wanted of it.
@@ -14,7 +14,7 @@ pub struct Slot {
 }
 
 impl Model for Slot {
-    ghost use Rattle.delegator_states.specs.Sights.{Entry};
+    ghost use Rattle.delegator_history.specs.Sights.{Entry};
     ghost use Rattle.delegator_choices.specs.State.Slots.{EntryFits, entry};
 
     ghost Value = { Entry };

@@ -5,16 +5,16 @@ use Rattle.bass_operations.specs.declared.fault.OpFault.{OpFault}
 use Rattle.bass_operations.specs.declared.operation.Operation.{Operation}
 use Rattle.bass_operations.specs.declared.operation.Operation.TheVariants.{ScanStopped, ScanStarted, Add, Modify, Code, Remove}
 use Rattle.bass_operations.specs.Reading.{op_of}
-use Rattle.delegator_states.specs.declared.replies.Cause.{Cause}
-use Rattle.delegator_states.specs.declared.train_heard.ControlHeard.{ControlHeard}
-use Rattle.delegator_states.specs.declared.train_heard.ControlHeard.TheVariants as controls
-use Rattle.delegator_states.specs.Controls.{control_heard as answer_to, done_heard}
-use Rattle.delegator_states.specs.Sights.{Place, idle, on_train, on_group, Sight, entry_at, is_on, is_on_group}
-use Rattle.delegator_states.specs.States.{Step, record_added, locations_set, contexts_set, mtu_set, put_on, written, train_heard, train_lost, control_heard, told, done_by}
-use Rattle.delegator_states.specs.Steps.{Done, after, capability_after, encryption_given, place_given, place_left, placed, same_streams, slots_after, taken_given, wishes_at}
-use Rattle.delegator_states.specs.Trains.{Brought, Joining, Setup, ignored, heard, taken, brought_by, done_brought}
-use Rattle.delegator_states.specs.Writes.{cause_of, done_read, operated, slot_with}
-use Rattle.scan_delegator.specs.Groups.{has_group}
+use Rattle.delegator_history.specs.declared.replies.Cause.{Cause}
+use Rattle.delegator_history.specs.declared.train_heard.ControlHeard.{ControlHeard}
+use Rattle.delegator_history.specs.declared.train_heard.ControlHeard.TheVariants as controls
+use Rattle.delegator_history.specs.Controls.{control_heard as answer_to, done_heard}
+use Rattle.delegator_history.specs.Sights.{Place, idle, on_train, on_group, Sight, entry_at, is_on, is_on_group}
+use Rattle.delegator_history.specs.States.{Step, record_added, locations_set, contexts_set, mtu_set, put_on, written, train_heard, train_lost, control_heard, told, done_by}
+use Rattle.delegator_history.specs.Steps.{Done, after, capability_after, encryption_given, place_given, place_left, placed, same_streams, slots_after, taken_given, wishes_at}
+use Rattle.delegator_history.specs.Trains.{Brought, Joining, Setup, ignored, heard, taken, brought_by, done_brought}
+use Rattle.delegator_history.specs.Writes.{cause_of, done_read, operated, slot_with}
+use Rattle.delegator_control.specs.Groups.{has_group}
 use Rattle.delegator_machine.specs.Groups.{joining_brought, joining_given}
 use Rattle.delegator_machine.proofs.Trains.{brings_none}
 

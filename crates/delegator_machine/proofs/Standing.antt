@@ -1,13 +1,13 @@
 -- A Scan Delegator that stands for its calls stands for them and one more.
 use Rattle.std.proofs.Common.{ℕ, ◌≡◌, Bool, true, false, List, ◌∷◌, Option, Some, None, refl, sym, ◌∙◌, ap, subst}
-use Rattle.delegator_states.specs.Notices.{waiting}
-use Rattle.delegator_states.specs.Sights.{Sight}
-use Rattle.delegator_states.specs.States.{Step, sight_of}
-use Rattle.delegator_states.specs.Trains.{Joining, Setup}
+use Rattle.delegator_history.specs.Notices.{waiting}
+use Rattle.delegator_history.specs.Sights.{Sight}
+use Rattle.delegator_history.specs.States.{Step, sight_of}
+use Rattle.delegator_history.specs.Trains.{Joining, Setup}
 use Rattle.group_sink.specs.Calls as sinks
 use Rattle.group_sink.specs.State.Sinks.{OnGroup, StandsFor as SinkStands}
-use Rattle.scan_delegator.specs.Groups.{has_group}
-use Rattle.scan_delegator.specs.State.Machines.{Machine, StandsFor as ScanStands}
+use Rattle.delegator_control.specs.Groups.{has_group}
+use Rattle.delegator_control.specs.State.Machines.{Machine, StandsFor as ScanStands}
 use Rattle.delegator_machine.specs.Calls.{Call, control, hear, tick, steps_of}
 use Rattle.delegator_machine.specs.Groups.{joining_given, tuning_of, with_leave, with_step, group_calls}
 use Rattle.delegator_machine.specs.State.Halves.{Halves, StandsFor}

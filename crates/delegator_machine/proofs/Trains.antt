@@ -2,23 +2,23 @@
 use Rattle.std.proofs.Common.{ℕ, ◌≡◌, Bool, true, false, List, ◌∷◌, Option, Some, None, option_map, refl, sym, ◌∙◌, ap}
 use Rattle.std.specs.Prelude.{not, is_some, if◌then◌else◌}
 use Rattle.base_grammar.specs.AdReading.{broadcast_id_of}
-use Rattle.delegator_states.specs.declared.train_heard.TrainHeard.{TrainHeard}
-use Rattle.delegator_states.specs.declared.train_heard.TrainHeard.TheVariants as answers
-use Rattle.delegator_states.specs.Sights.{Place, idle, on_train, on_group, Sight, entry_at, is_on_group}
-use Rattle.delegator_states.specs.States.{train_heard, sight_of}
-use Rattle.delegator_states.specs.Steps.{nothing, after, wishes_at}
-use Rattle.delegator_states.specs.Trains as trains
-use Rattle.delegator_states.specs.Trains.{Brought, Setup, Train, ignored, heard, taken, base_in, brought_by, by_base, by_broadcast_id, by_slot, done_brought, is_elsewhere, is_wanted}
-use Rattle.delegator_states.specs.Writes.{slot_where}
+use Rattle.delegator_history.specs.declared.train_heard.TrainHeard.{TrainHeard}
+use Rattle.delegator_history.specs.declared.train_heard.TrainHeard.TheVariants as answers
+use Rattle.delegator_history.specs.Sights.{Place, idle, on_train, on_group, Sight, entry_at, is_on_group}
+use Rattle.delegator_history.specs.States.{train_heard, sight_of}
+use Rattle.delegator_history.specs.Steps.{nothing, after, wishes_at}
+use Rattle.delegator_history.specs.Trains as trains
+use Rattle.delegator_history.specs.Trains.{Brought, Setup, Train, ignored, heard, taken, base_in, brought_by, by_base, by_broadcast_id, by_slot, done_brought, is_elsewhere, is_wanted}
+use Rattle.delegator_history.specs.Writes.{slot_where}
 use Rattle.group_sink.specs.Calls as sinks
 use Rattle.group_sink.specs.Calls.{Tuning}
 use Rattle.group_sink.specs.State.Sinks.{OnGroup, StandsFor as SinkStands}
 use Rattle.group_sink.specs.State.Steps.{fresh_on}
 use Rattle.delegator_choices.specs.declared.brought.Joining.{Joining}
 use Rattle.delegator_choices.specs.State.Brings.{joining_by, joining_in}
-use Rattle.scan_delegator.specs.Following.{has_base, is_followed}
-use Rattle.scan_delegator.specs.Groups.{has_group}
-use Rattle.scan_delegator.specs.State.Machines.{Machine, moved, StandsFor as ScanStands}
+use Rattle.delegator_control.specs.Following.{has_base, is_followed}
+use Rattle.delegator_control.specs.Groups.{has_group}
+use Rattle.delegator_control.specs.State.Machines.{Machine, moved, StandsFor as ScanStands}
 use Rattle.delegator_machine.specs.Calls.{Call, control, steps_of}
 use Rattle.delegator_machine.specs.Groups.{group_calls, joining_brought, tuning_of}
 use Rattle.delegator_machine.specs.State.Halves.{Halves, StandsFor}

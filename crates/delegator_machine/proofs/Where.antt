@@ -2,14 +2,14 @@
 use Rattle.std.proofs.Common.{◌≡◌, Bool, true, false, List, [], ◌∷◌, Option, Some, None, option_map, refl, sym, ◌∙◌, ap}
 use Rattle.std.specs.Option.{option_or}
 use Rattle.std.specs.Prelude.{is_some, if◌then◌else◌}
-use Rattle.delegator_states.specs.Sights.{Sight}
-use Rattle.delegator_states.specs.States.{Step, answered, sight_of}
-use Rattle.delegator_states.specs.Steps.{after}
-use Rattle.delegator_states.specs.Trains.{Joining, Setup}
-use Rattle.delegator_states.proofs.Citable.{sight_goes_on}
+use Rattle.delegator_history.specs.Sights.{Sight}
+use Rattle.delegator_history.specs.States.{Step, answered, sight_of}
+use Rattle.delegator_history.specs.Steps.{after}
+use Rattle.delegator_history.specs.Trains.{Joining, Setup}
+use Rattle.delegator_history.proofs.Citable.{sight_goes_on}
 use Rattle.group_sink.specs.Calls as sinks
 use Rattle.group_sink.specs.Calls.{Tuning, place}
-use Rattle.scan_delegator.specs.Groups.{has_group}
+use Rattle.delegator_control.specs.Groups.{has_group}
 use Rattle.delegator_machine.specs.Calls.{Call, control, hear, tick, steps_of}
 use Rattle.delegator_machine.specs.Groups.{joining_given, last_joining, tuning_of, with_leave, with_step, group_calls}
 use Rattle.delegator_machine.proofs.Places.{comes_on, stays_off}

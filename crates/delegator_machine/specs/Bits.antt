@@ -1,7 +1,7 @@
 -- Where set bits of streams stand (Broadcast Audio Scan Service 1.0, section 3.2).
 use Rattle.std.specs.Prelude.{ℕ, ◌≡◌, Some}
-use Rattle.delegator_states.specs.Sights.{Sight, on_group}
-use Rattle.delegator_states.specs.Values.{state_at, HasBit}
+use Rattle.delegator_history.specs.Sights.{Sight, on_group}
+use Rattle.delegator_history.specs.Values.{state_at, HasBit}
 use Rattle.receive_state.specs.declared.state.ReceiveState.{ReceiveState}
 
 -- a set bit stands only in the slot whose group the sink is on

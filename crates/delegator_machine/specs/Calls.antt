@@ -1,7 +1,7 @@
 -- The calls that a Scan Delegator took, the newest first: steps of its control half (Broadcast Audio Scan Service 1.0, section 3),
 -- and what its receivers hear (Core 5.2, volume 6 part B, section 4.4.6).
 use Rattle.std.specs.Prelude.{ℕ, List, [], ◌∷◌}
-use Rattle.delegator_states.specs.States.{Step}
+use Rattle.delegator_history.specs.States.{Step}
 
 pub data Call : Type 0 where
   control : (step : Step) → Call

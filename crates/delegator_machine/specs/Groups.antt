@@ -3,12 +3,12 @@
 use Rattle.std.specs.Prelude.{◌&&◌, not, Bool, List, [], ◌∷◌, Option, Some, None, if◌then◌else◌}
 use Rattle.std.specs.Option.{option_or}
 use Rattle.big_info.specs.declared.info.BigInfo.{BigInfo}
-use Rattle.delegator_states.specs.Sights.{Sight}
-use Rattle.delegator_states.specs.States.{Step, put_on, train_heard, sight_of}
-use Rattle.delegator_states.specs.Trains.{Brought, taken, Joining, Setup, brought_by}
+use Rattle.delegator_history.specs.Sights.{Sight}
+use Rattle.delegator_history.specs.States.{Step, put_on, train_heard, sight_of}
+use Rattle.delegator_history.specs.Trains.{Brought, taken, Joining, Setup, brought_by}
 use Rattle.group_sink.specs.Calls as sinks
 use Rattle.group_sink.specs.Calls.{Tuning}
-use Rattle.scan_delegator.specs.Groups.{has_group}
+use Rattle.delegator_control.specs.Groups.{has_group}
 use Rattle.delegator_machine.specs.Calls.{Call, control, hear, tick, steps_of}
 
 -- the group that a train brings that is taken

@@ -1,19 +1,19 @@
 ghost use Rattle.std.specs.Prelude.{◌≡◌, ◌+◌, ◌≤◌, ◌<◌, ◌^◌, ◌&&◌, ◌∷◌, not, ℕ, List, [], option_map, slice_get, IfOk, IsOk, IsSome, OnOk, OnErr};
 ghost use Rattle.bass_operations.specs.Reading.{op_of};
-ghost use Rattle.delegator_states.specs.Controls.{control_heard};
-ghost use Rattle.delegator_states.specs.Notices.{handed_out, mtu_in, waiting};
-ghost use Rattle.delegator_states.specs.Sights.{entry_at, slot_of};
-ghost use Rattle.delegator_states.specs.States.{control_heard as controlled, put_on, sight_of, told, train_lost, written};
-ghost use Rattle.delegator_states.specs.Trains.{Setup};
-ghost use Rattle.delegator_states.specs.Values.{value_at};
-ghost use Rattle.delegator_states.specs.Writes.{reply_of};
+ghost use Rattle.delegator_history.specs.Controls.{control_heard};
+ghost use Rattle.delegator_history.specs.Notices.{handed_out, mtu_in, waiting};
+ghost use Rattle.delegator_history.specs.Sights.{entry_at, slot_of};
+ghost use Rattle.delegator_history.specs.States.{control_heard as controlled, put_on, sight_of, told, train_lost, written};
+ghost use Rattle.delegator_history.specs.Trains.{Setup};
+ghost use Rattle.delegator_history.specs.Values.{value_at};
+ghost use Rattle.delegator_history.specs.Writes.{reply_of};
 ghost use Rattle.group_sink.specs.Calls as sinks;
 ghost use Rattle.group_sink.specs.Handing.{handed_at};
 ghost use Rattle.group_sink.specs.Hearings.{hearing_of};
 ghost use Rattle.group_sink.specs.State.Sinks.{StandsFor as SinkStands};
 ghost use Rattle.isoal_unframed.specs.State.Windows.{HandsOver};
-ghost use Rattle.scan_delegator.specs.Groups.{has_group};
-ghost use Rattle.scan_delegator.specs.State.Machines.{step_on};
+ghost use Rattle.delegator_control.specs.Groups.{has_group};
+ghost use Rattle.delegator_control.specs.State.Machines.{step_on};
 ghost use Rattle.unit_outlets.specs.Handed.{Caused};
 ghost use Rattle.delegator_machine.specs.Calls.{Call, control, hear, steps_of, tick};
 ghost use Rattle.delegator_machine.specs.Groups.{group_calls, with_leave};
@@ -22,10 +22,10 @@ ghost use Rattle.delegator_machine.specs.State.Halves.{StandsFor, settings_of};
 use crate::numbers::by_numbers;
 use bcast_base::{Bis, BisSet, Memory, Octets};
 use big_info::{Group, Limits};
-use delegator_states::{ControlHeard, Notice, Reply};
+use delegator_control::ScanDelegator;
+use delegator_history::{ControlHeard, Notice, Reply};
 use group_sink::GroupSink;
 use isoal_base::Hearing;
-use scan_delegator::ScanDelegator;
 use std::alloc::Global;
 use std::marker::Model;
 use unit_outlets::{TakerFault, UnitTaker};
@@ -39,7 +39,7 @@ pub struct Delegator {
 }
 
 impl Model for Delegator {
-    ghost use Rattle.scan_delegator.specs.State.Machines.{machine};
+    ghost use Rattle.delegator_control.specs.State.Machines.{machine};
     ghost use Rattle.delegator_machine.specs.Bits.{BitsStand};
     ghost use Rattle.delegator_machine.specs.State.Halves.{Halves};
 
@@ -97,7 +97,14 @@ impl Delegator {
         requires anchor { anchor ≤ 2 ^ 61 + 2 ^ 23 }
         requires delay { delay < 2 ^ 24 }
         ensures stands { (setup : Setup) (calls : List Call) (source : ℕ) → StandsFor setup calls self.old
-            → OnOk result (StandsFor setup (control (put_on source (record { info = group.now.info; which = which; first = event; anchor = anchor; delay = delay })) ∷ calls) self.new) }
+            → OnOk result (StandsFor setup
+            (control (put_on source (record {
+              info = group.now.info;
+              which = which;
+              first = event;
+              anchor = anchor;
+              delay = delay;
+            })) ∷ calls) self.new) }
         ensures settings { settings_of self.new ≡ settings_of self.old }
         ensures err { OnErr result (self.new ≡ self.old) }
     {
@@ -113,8 +120,10 @@ impl Delegator {
     /// holds, or that it is accepted; a refused write changes nothing. Memory is wanted only for octets that are an operation;
     /// all is then as before.
     pub fn serve(&mut self, write: &[u8]) -> Result<Reply, Memory>
-        ensures answer { (setup : Setup) (calls : List Call) → StandsFor setup calls self.old → IfOk result (λ reply. reply ≡ reply_of (sight_of setup (steps_of calls)) write.now) }
-        ensures stands { (setup : Setup) (calls : List Call) (link : ℕ) → StandsFor setup calls self.old → OnOk result (StandsFor setup (control (written link write.now) ∷ calls) self.new) }
+        ensures answer { (setup : Setup) (calls : List Call) → StandsFor setup calls self.old
+            → IfOk result (λ reply. reply ≡ reply_of (sight_of setup (steps_of calls)) write.now) }
+        ensures stands { (setup : Setup) (calls : List Call) (link : ℕ) → StandsFor setup calls self.old
+            → OnOk result (StandsFor setup (control (written link write.now) ∷ calls) self.new) }
         ensures settings { settings_of self.new ≡ settings_of self.old }
         ensures err { OnErr result (self.new ≡ self.old) }
         ensures memory { OnErr result (IsOk (op_of write.now)) }
@@ -128,10 +137,12 @@ impl Delegator {
     /// The train is lost: the sink is idle. Memory is wanted only where it was on the train or the group of a slot; all is then
     /// as before.
     pub fn lost(&mut self) -> Result<(), Memory>
-        ensures stands { (setup : Setup) (calls : List Call) → StandsFor setup calls self.old → OnOk result (StandsFor setup (control train_lost ∷ calls) self.new) }
+        ensures stands { (setup : Setup) (calls : List Call) → StandsFor setup calls self.old
+            → OnOk result (StandsFor setup (control train_lost ∷ calls) self.new) }
         ensures settings { settings_of self.new ≡ settings_of self.old }
         ensures err { OnErr result (self.new ≡ self.old) }
-        ensures memory { (setup : Setup) (calls : List Call) → StandsFor setup calls self.old → OnErr result (IsSome (slot_of (sight_of setup (steps_of calls)).place)) }
+        ensures memory { (setup : Setup) (calls : List Call) → StandsFor setup calls self.old
+            → OnErr result (IsSome (slot_of (sight_of setup (steps_of calls)).place)) }
     {
         let was_on_group = self.scan.is_on_group();
         self.scan.lost()?;
@@ -143,12 +154,16 @@ impl Delegator {
     /// terminate takes the sink off its group; it stays on the train of its slot. Memory is wanted only for Left, on the group
     /// of a slot; all is then as before.
     pub fn control(&mut self, pdu: &[u8]) -> Result<ControlHeard, Memory>
-        ensures answer { (setup : Setup) (calls : List Call) → StandsFor setup calls self.old → IfOk result (λ heard. heard ≡ control_heard (sight_of setup (steps_of calls)).place pdu.now) }
-        ensures stands { (setup : Setup) (calls : List Call) → StandsFor setup calls self.old → OnOk result (StandsFor setup (control (controlled pdu.now) ∷ calls) self.new) }
+        ensures answer { (setup : Setup) (calls : List Call) → StandsFor setup calls self.old
+            → IfOk result (λ heard. heard ≡ control_heard (sight_of setup (steps_of calls)).place pdu.now) }
+        ensures stands { (setup : Setup) (calls : List Call) → StandsFor setup calls self.old
+            → OnOk result (StandsFor setup (control (controlled pdu.now) ∷ calls) self.new) }
         ensures settings { settings_of self.new ≡ settings_of self.old }
         ensures err { OnErr result (self.new ≡ self.old) }
-        ensures memory { (setup : Setup) (calls : List Call) → StandsFor setup calls self.old → OnErr result (control_heard (sight_of setup (steps_of calls)).place pdu.now ≡ ControlHeard.Left) }
-        ensures slot { (setup : Setup) (calls : List Call) → StandsFor setup calls self.old → OnErr result (IsSome (slot_of (sight_of setup (steps_of calls)).place)) }
+        ensures memory { (setup : Setup) (calls : List Call) → StandsFor setup calls self.old
+            → OnErr result (control_heard (sight_of setup (steps_of calls)).place pdu.now ≡ ControlHeard.Left) }
+        ensures slot { (setup : Setup) (calls : List Call) → StandsFor setup calls self.old
+            → OnErr result (IsSome (slot_of (sight_of setup (steps_of calls)).place)) }
     {
         let was_on_group = self.scan.is_on_group();
         let heard = self.scan.control(pdu)?;
@@ -161,8 +176,10 @@ impl Delegator {
     /// stream's receiver makes of it. It takes no memory.
     pub fn hear(&mut self, event: u64, bis: Bis, subevent: u8, pdu: &[u8]) -> Hearing
         requires { event ≤ 2 ^ 39 }
-        ensures answer { (setup : Setup) (calls : List Call) → StandsFor setup calls self.old → result ≡ hearing_of (group_calls setup calls) event bis subevent pdu.now }
-        ensures stands { (setup : Setup) (calls : List Call) → StandsFor setup calls self.old → StandsFor setup (hear event bis subevent pdu.now ∷ calls) self.new }
+        ensures answer { (setup : Setup) (calls : List Call) → StandsFor setup calls self.old
+            → result ≡ hearing_of (group_calls setup calls) event bis subevent pdu.now }
+        ensures stands { (setup : Setup) (calls : List Call) → StandsFor setup calls self.old
+            → StandsFor setup (hear event bis subevent pdu.now ∷ calls) self.new }
         ensures settings { settings_of self.new ≡ settings_of self.old }
     {
         self.sink.hear(event, bis, subevent, pdu)
@@ -173,8 +190,10 @@ impl Delegator {
     /// stream. It takes no memory.
     pub fn tick<T: UnitTaker>(&mut self, event: u64, taker: &mut T) -> Result<(), TakerFault>
         requires { event < 2 ^ 39 }
-        ensures hands { (setup : Setup) (calls : List Call) → StandsFor setup calls self.old → HandsOver (handed_at (group_calls setup calls) event) (T.calls taker.old) (T.calls taker.new) result }
-        ensures stands { (setup : Setup) (calls : List Call) → StandsFor setup calls self.old → StandsFor setup (tick event ∷ calls) self.new }
+        ensures hands { (setup : Setup) (calls : List Call) → StandsFor setup calls self.old
+            → HandsOver (handed_at (group_calls setup calls) event) (T.calls taker.old) (T.calls taker.new) result }
+        ensures stands { (setup : Setup) (calls : List Call) → StandsFor setup calls self.old
+            → StandsFor setup (tick event ∷ calls) self.new }
         ensures settings { settings_of self.new ≡ settings_of self.old }
         ensures cause { Caused (T.counts taker.old) (T.counts taker.new) result }
     {
@@ -185,8 +204,10 @@ impl Delegator {
     pub fn next_notice(&mut self) -> Option<Notice>
         ensures notice { result ≡ option_map (handed_out self.old.scan.mtu) (slice_get self.old.scan.waiting 0) }
         ensures step { self.new ≡ record self.old { scan = step_on told self.old.scan } }
-        ensures answer { (setup : Setup) (calls : List Call) → StandsFor setup calls self.old → result ≡ option_map (handed_out (mtu_in (steps_of calls))) (slice_get (waiting setup (steps_of calls)) 0) }
-        ensures stands { (setup : Setup) (calls : List Call) → StandsFor setup calls self.old → StandsFor setup (control told ∷ calls) self.new }
+        ensures answer { (setup : Setup) (calls : List Call) → StandsFor setup calls self.old
+            → result ≡ option_map (handed_out (mtu_in (steps_of calls))) (slice_get (waiting setup (steps_of calls)) 0) }
+        ensures stands { (setup : Setup) (calls : List Call) → StandsFor setup calls self.old
+            → StandsFor setup (control told ∷ calls) self.new }
         ensures settings { settings_of self.new ≡ settings_of self.old }
     {
         self.scan.next_notice()
@@ -196,8 +217,10 @@ impl Delegator {
     /// filled.
     pub fn read_state(&self, slot: u8) -> Result<Octets, Memory>
         requires { slot < self.now.scan.setup.slots }
-        ensures value { (setup : Setup) (calls : List Call) → StandsFor setup calls self.now → IfOk result (λ octets. octets ≡ value_at (sight_of setup (steps_of calls)) slot) }
-        ensures memory { (setup : Setup) (calls : List Call) → StandsFor setup calls self.now → OnErr result (IsSome (entry_at (sight_of setup (steps_of calls)).slots slot)) }
+        ensures value { (setup : Setup) (calls : List Call) → StandsFor setup calls self.now
+            → IfOk result (λ octets. octets ≡ value_at (sight_of setup (steps_of calls)) slot) }
+        ensures memory { (setup : Setup) (calls : List Call) → StandsFor setup calls self.now
+            → OnErr result (IsSome (entry_at (sight_of setup (steps_of calls)).slots slot)) }
     {
         self.scan.read_state(slot)
     }
@@ -205,7 +228,8 @@ impl Delegator {
     // The receivers are dropped where the control half was on a group and is on none now.
     pub(crate) fn settle(&mut self, was_on_group: bool)
         ensures scan { self.new.scan ≡ self.old.scan }
-        ensures sink { (calls : List sinks.Call) → SinkStands calls self.old.sink → SinkStands (with_leave was_on_group (has_group self.old.scan.sight.place) calls) self.new.sink }
+        ensures sink { (calls : List sinks.Call) → SinkStands calls self.old.sink
+            → SinkStands (with_leave was_on_group (has_group self.old.scan.sight.place) calls) self.new.sink }
     {
         if has_left(was_on_group, self.scan.is_on_group()) {
             self.sink.leave();

@@ -1,8 +1,8 @@
 //! What is set of a Scan Delegator: its capability, and the MTU.
 ghost use Rattle.std.specs.Prelude.{◌≡◌, ◌≤◌, ◌<◌, ◌∷◌, ◌++◌, [], List, Some, length, OnOk, OnErr, IfErr};
 ghost use Rattle.base_grammar.specs.Layout.{lc3};
-ghost use Rattle.delegator_states.specs.States.{contexts_set, locations_set, mtu_set, record_added, sight_of};
-ghost use Rattle.delegator_states.specs.Trains.{Setup};
+ghost use Rattle.delegator_history.specs.States.{contexts_set, locations_set, mtu_set, record_added, sight_of};
+ghost use Rattle.delegator_history.specs.Trains.{Setup};
 ghost use Rattle.ltv_codec.specs.Layout.{AreLtvs};
 ghost use Rattle.pacs_records.specs.Layout.{greatest_value, value};
 ghost use Rattle.pacs_records.specs.Pushes.{RefusesPush};
@@ -20,10 +20,12 @@ impl Delegator {
         requires metadata_count { length entry.metadata < 256 }
         requires caps { entry.codec ≡ lc3 → AreLtvs entry.caps }
         requires metadata { AreLtvs entry.metadata }
-        ensures refused { (setup : Setup) (calls : List Call) → StandsFor setup calls self.old → IfErr result (λ fault. RefusesPush fault (sight_of setup (steps_of calls)).capability.entries entry) }
+        ensures refused { (setup : Setup) (calls : List Call) → StandsFor setup calls self.old
+            → IfErr result (λ fault. RefusesPush fault (sight_of setup (steps_of calls)).capability.entries entry) }
         ensures fits { (setup : Setup) (calls : List Call) → StandsFor setup calls self.old
             → OnOk result (length (value ((sight_of setup (steps_of calls)).capability.entries ++ entry ∷ [])) ≤ greatest_value) }
-        ensures stands { (setup : Setup) (calls : List Call) → StandsFor setup calls self.old → OnOk result (StandsFor setup (control (record_added entry) ∷ calls) self.new) }
+        ensures stands { (setup : Setup) (calls : List Call) → StandsFor setup calls self.old
+            → OnOk result (StandsFor setup (control (record_added entry) ∷ calls) self.new) }
         ensures settings { settings_of self.new ≡ settings_of self.old }
         ensures err { OnErr result (self.new ≡ self.old) }
     {
@@ -32,7 +34,8 @@ impl Delegator {
 
     /// Sets the Sink Audio Locations. It takes no memory.
     pub fn set_locations(&mut self, bits: u32)
-        ensures stands { (setup : Setup) (calls : List Call) → StandsFor setup calls self.old → StandsFor setup (control (locations_set bits) ∷ calls) self.new }
+        ensures stands { (setup : Setup) (calls : List Call) → StandsFor setup calls self.old
+            → StandsFor setup (control (locations_set bits) ∷ calls) self.new }
         ensures settings { settings_of self.new ≡ settings_of self.old }
     {
         self.scan.set_locations(bits);
@@ -40,7 +43,8 @@ impl Delegator {
 
     /// Sets the Available Sink Contexts. It takes no memory.
     pub fn set_contexts(&mut self, bits: u16)
-        ensures stands { (setup : Setup) (calls : List Call) → StandsFor setup calls self.old → StandsFor setup (control (contexts_set bits) ∷ calls) self.new }
+        ensures stands { (setup : Setup) (calls : List Call) → StandsFor setup calls self.old
+            → StandsFor setup (control (contexts_set bits) ∷ calls) self.new }
         ensures settings { settings_of self.new ≡ settings_of self.old }
     {
         self.scan.set_contexts(bits);
@@ -50,7 +54,8 @@ impl Delegator {
     pub fn set_mtu(&mut self, mtu: u16)
         requires least { 23 ≤ mtu }
         requires most { mtu ≤ 517 }
-        ensures stands { (setup : Setup) (calls : List Call) → StandsFor setup calls self.old → StandsFor setup (control (mtu_set mtu) ∷ calls) self.new }
+        ensures stands { (setup : Setup) (calls : List Call) → StandsFor setup calls self.old
+            → StandsFor setup (control (mtu_set mtu) ∷ calls) self.new }
         ensures settings { settings_of self.new ≡ record (settings_of self.old) { mtu = Some mtu } }
     {
         self.scan.set_mtu(mtu);

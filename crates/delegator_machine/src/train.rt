@@ -1,12 +1,12 @@
 //! A train that is heard.
 ghost use Rattle.std.specs.Prelude.{◌≡◌, ◌≤◌, ◌^◌, ◌∷◌, ℕ, List, option_map, true, None, Some, IfOk, IsSome, OnOk, OnErr};
-ghost use Rattle.delegator_states.specs.States.{sight_of, train_heard};
-ghost use Rattle.delegator_states.specs.Trains.{Setup, Train, answer_of, brought_by};
+ghost use Rattle.delegator_history.specs.States.{sight_of, train_heard};
+ghost use Rattle.delegator_history.specs.Trains.{Setup, Train, answer_of, brought_by};
 ghost use Rattle.group_sink.specs.Calls as sinks;
 ghost use Rattle.group_sink.specs.Calls.{Tuning};
 ghost use Rattle.group_sink.specs.State.Sinks.{StandsFor as SinkStands};
 ghost use Rattle.group_sink.specs.State.Steps.{fresh_on};
-ghost use Rattle.scan_delegator.specs.Following.{is_followed};
+ghost use Rattle.delegator_control.specs.Following.{is_followed};
 ghost use Rattle.delegator_machine.specs.Calls.{Call, control, steps_of};
 ghost use Rattle.delegator_machine.specs.State.Halves.{StandsFor, settings_of};
 ghost use Rattle.delegator_machine.specs.State.Joined.{made_for};
@@ -15,7 +15,7 @@ use crate::delegator::Delegator;
 use crate::numbers::by_numbers;
 use bcast_base::Memory;
 use delegator_choices::Joining;
-use delegator_states::TrainHeard;
+use delegator_history::TrainHeard;
 use group_sink::{GroupReceivers, GroupSink};
 
 impl Delegator {
@@ -34,13 +34,23 @@ impl Delegator {
     ) -> Result<TrainHeard, Memory>
         requires { now ≤ 2 ^ 61 }
         ensures answer { (setup : Setup) (calls : List Call) → StandsFor setup calls self.old
-            → IfOk result (λ heard. heard ≡ answer_of (brought_by setup (sight_of setup (steps_of calls)) (record { address_type = address_type; sid = sid; ext = ext.now; adv = adv.now; acad = acad.now; now = now }))) }
+            → IfOk result (λ heard. heard ≡ answer_of (brought_by setup (sight_of setup (steps_of calls))
+            (record { address_type = address_type; sid = sid; ext = ext.now; adv = adv.now; acad = acad.now; now = now }))) }
         ensures stands { (setup : Setup) (calls : List Call) (source : ℕ) → StandsFor setup calls self.old
-            → OnOk result (StandsFor setup (control (train_heard source (record { address_type = address_type; sid = sid; ext = ext.now; adv = adv.now; acad = acad.now; now = now })) ∷ calls) self.new) }
+            → OnOk result (StandsFor setup
+            (control (train_heard source (record {
+              address_type = address_type;
+              sid = sid;
+              ext = ext.now;
+              adv = adv.now;
+              acad = acad.now;
+              now = now;
+            })) ∷ calls) self.new) }
         ensures settings { settings_of self.new ≡ settings_of self.old }
         ensures err { OnErr result (self.new ≡ self.old) }
         ensures memory { (setup : Setup) (calls : List Call) → StandsFor setup calls self.old
-            → OnErr result (is_followed (brought_by setup (sight_of setup (steps_of calls)) (record { address_type = address_type; sid = sid; ext = ext.now; adv = adv.now; acad = acad.now; now = now })) ≡ true) }
+            → OnErr result (is_followed (brought_by setup (sight_of setup (steps_of calls))
+            (record { address_type = address_type; sid = sid; ext = ext.now; adv = adv.now; acad = acad.now; now = now })) ≡ true) }
     {
         let brought = self.scan.bring(address_type, sid, ext, adv, acad, now)?;
         let joining = brought.joining();
@@ -75,7 +85,8 @@ fn receivers_of(
 /// Puts the sink on the group of these receivers, where there are any.
 fn join(sink: &mut GroupSink, made: Option<GroupReceivers>)
     ensures none { made ≡ None → sink.new ≡ sink.old }
-    ensures some { (tuning : Tuning) (calls : List sinks.Call) → made ≡ Some (fresh_on tuning) → SinkStands (sinks.tune tuning ∷ calls) sink.new }
+    ensures some { (tuning : Tuning) (calls : List sinks.Call) → made ≡ Some (fresh_on tuning)
+        → SinkStands (sinks.tune tuning ∷ calls) sink.new }
 {
     if let Some(receivers) = made {
         sink.put_on(receivers);

@@ -3,14 +3,14 @@
 use Rattle.std.proofs.Common.{ℕ, suc, ◌≡◌, ◌+◌, ◌==◌, ◌||◌, ◌&&◌, ◌∙◌, cond, Bool, true, false, List, [], ◌∷◌, Option, None, Some, refl, sym, ap, ap₂}
 use Rattle.std.specs.Prelude.{unwrap_or}
 use Rattle.std.specs.Option.{option_or}
-use Rattle.announced_groups.specs.Octets.{train_of}
+use Rattle.delegator_history.specs.Octets.{train_of}
 use Rattle.big_info.specs.Time.{iso_us_of}
 use Rattle.big_info.specs.declared.info.Cipher.{Cipher}
-use Rattle.link_histories.specs.Calls.{Call}
+use Rattle.link_history.specs.Calls.{Call}
 use Rattle.scenario_bases.specs.Lines.{BaseLine, subgroups_in}
 use Rattle.scenario_text.specs.declared.step.Step.{Step}
 use Rattle.scenario_text.specs.declared.step.Step.TheVariants as steps
-use Rattle.sink_histories.specs.Lives.{Made, Source, horizon_of, lived, lived_at, lived_by, made_by, made_of, named_by}
+use Rattle.sink_history.specs.Lives.{Made, Source, horizon_of, lived, lived_at, lived_by, made_by, made_of, named_by}
 use Rattle.source_machine.specs.Calls.{events}
 use Rattle.sync_reference.specs.Reference.{anchor_of}
 use Rattle.source_machine.specs.Ciphers.{with_cipher}

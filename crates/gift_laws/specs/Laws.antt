@@ -8,7 +8,7 @@ use Rattle.isoal_framed.specs.Calls.{accepted}
 use Rattle.source_machine.specs.Calls.{framed_calls}
 use Rattle.scenario_text.specs.declared.step.Step.{Step}
 use Rattle.scenario_text.specs.declared.step.Step.TheVariants.{Relay}
-use Rattle.sink_histories.specs.Lives.{made_of}
+use Rattle.sink_history.specs.Lives.{made_of}
 use Rattle.scenario_history.specs.Steps.{chosen_of, sinks_made, stage_of, steps_of_source, version_of}
 use Rattle.scenario_history.specs.Source.{Airs, open_event, setup_of, source_calls}
 use Rattle.scenario_history.specs.Sinks.{sink_calls, source_of}

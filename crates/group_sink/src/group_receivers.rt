@@ -45,7 +45,8 @@ impl GroupReceivers {
         requires event { event ≤ 2 ^ 39 }
         requires anchor { anchor ≤ 2 ^ 61 + 2 ^ 23 }
         requires delay { delay < 2 ^ 24 }
-        ensures { IfOk result (λ on. on ≡ fresh_on (record { info = group.now.info; which = which; first = event; anchor = anchor; delay = delay })) }
+        ensures { IfOk result (λ on. on
+            ≡ fresh_on (record { info = group.now.info; which = which; first = event; anchor = anchor; delay = delay })) }
     {
         let mut streams = Vec::with_capacity(alloc, 31)?;
         'indices: for index in 1..32u8 {

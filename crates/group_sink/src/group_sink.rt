@@ -52,7 +52,13 @@ impl GroupSink {
         requires event { event ≤ 2 ^ 39 }
         requires anchor { anchor ≤ 2 ^ 61 + 2 ^ 23 }
         requires delay { delay < 2 ^ 24 }
-        ensures { IfOk result (λ receivers. AreFor (record { info = group.now.info; which = which; first = event; anchor = anchor; delay = delay }) receivers) }
+        ensures { IfOk result (λ receivers. AreFor (record {
+          info = group.now.info;
+          which = which;
+          first = event;
+          anchor = anchor;
+          delay = delay;
+        }) receivers) }
     {
         GroupReceivers::new(self.alloc, group, which, event, anchor, delay)
     }
@@ -87,7 +93,9 @@ impl GroupSink {
         requires event { event ≤ 2 ^ 39 }
         requires anchor { anchor ≤ 2 ^ 61 + 2 ^ 23 }
         requires delay { delay < 2 ^ 24 }
-        ensures stands { (calls : List Call) → OnOk result (StandsFor (tune (record { info = group.now.info; which = which; first = event; anchor = anchor; delay = delay }) ∷ calls) self.new) }
+        ensures stands { (calls : List Call) → OnOk result
+            (StandsFor (tune (record { info = group.now.info; which = which; first = event; anchor = anchor; delay = delay }) ∷ calls)
+            self.new) }
         ensures err { OnErr result (self.new ≡ self.old) }
     {
         let receivers = self.receivers(group, which, event, anchor, delay)?;
@@ -114,7 +122,8 @@ impl GroupSink {
     /// for each stream. It takes no memory.
     pub fn tick<T: UnitTaker>(&mut self, event: u64, taker: &mut T) -> Result<(), TakerFault>
         requires { event < 2 ^ 39 }
-        ensures hands { (calls : List Call) → StandsFor calls self.old → HandsOver (handed_at calls event) (T.calls taker.old) (T.calls taker.new) result }
+        ensures hands { (calls : List Call) → StandsFor calls self.old
+            → HandsOver (handed_at calls event) (T.calls taker.old) (T.calls taker.new) result }
         ensures stands { (calls : List Call) → StandsFor calls self.old → StandsFor (tick event ∷ calls) self.new }
         ensures cause { Caused (T.counts taker.old) (T.counts taker.new) result }
     {

@@ -18,16 +18,20 @@ pub fn streams_rise()
 
 /// All streams of a group have the same open event: the first one and the number of ticks that closed one.
 pub fn one_event_is_open()
-    ensures { (tuning : Tuning) (calls : List Call) (bis : ℕ) → opened (stay_on tuning bis) (stream_calls (stay_on tuning bis) calls) ≡ tuning.first + closes tuning calls }
+    ensures { (tuning : Tuning) (calls : List Call) (bis : ℕ)
+        → opened (stay_on tuning bis) (stream_calls (stay_on tuning bis) calls) ≡ tuning.first + closes tuning calls }
 {}
 
 /// Since a sink was put on its group, its ticks handed of each stream that it takes what the closes of the stream's stay
 /// hand, in order: of an unframed stream the units of its closed events, of a framed one those that its closed events
 /// decide. Of any other stream they handed nothing.
 pub fn each_stream_hands_its_units()
-    ensures unframed { (tuning : Tuning) (calls : List Call) (bis : ℕ) → tuning.info.framing ≡ 0 → place calls ≡ Some tuning → Contains (streams_of tuning.which) bis
+    ensures unframed { (tuning : Tuning) (calls : List Call) (bis : ℕ) → tuning.info.framing ≡ 0 → place calls ≡ Some tuning
+        → Contains (streams_of tuning.which) bis
         → of_stream bis (handed_since calls) ≡ handed (stay_on tuning bis) (stream_calls (stay_on tuning bis) calls) }
-    ensures framed { (tuning : Tuning) (calls : List Call) (bis : ℕ) → tuning.info.framing ≡ 1 → place calls ≡ Some tuning → Contains (streams_of tuning.which) bis
+    ensures framed { (tuning : Tuning) (calls : List Call) (bis : ℕ) → tuning.info.framing ≡ 1 → place calls ≡ Some tuning
+        → Contains (streams_of tuning.which) bis
         → of_stream bis (handed_since calls) ≡ decided (stay_on tuning bis) (stream_calls (stay_on tuning bis) calls) }
-    ensures others { (tuning : Tuning) (calls : List Call) (bis : ℕ) → place calls ≡ Some tuning → ¬ Contains (streams_of tuning.which) bis → of_stream bis (handed_since calls) ≡ [] }
+    ensures others { (tuning : Tuning) (calls : List Call) (bis : ℕ) → place calls ≡ Some tuning → ¬ Contains (streams_of tuning.which) bis
+        → of_stream bis (handed_since calls) ≡ [] }
 {}

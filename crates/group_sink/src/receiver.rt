@@ -32,7 +32,8 @@ impl Receiver {
         requires event { event ≤ 2 ^ 39 }
         requires anchor { anchor ≤ 2 ^ 61 + 2 ^ 23 }
         requires delay { delay < 2 ^ 24 }
-        ensures { IfOk result (λ receiver. receiver ≡ fresh (record { info = group.now.info; bis = bis; first = event; origin = anchor; delay = delay })) }
+        ensures { IfOk result (λ receiver. receiver ≡ fresh
+            (record { info = group.now.info; bis = bis; first = event; origin = anchor; delay = delay })) }
     {
         if group.info.framing == 0 {
             let unframed = UnframedIn::new(alloc, group, bis, event, anchor, delay)?;

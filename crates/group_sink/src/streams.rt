@@ -27,7 +27,8 @@ pub(crate) fn stream_of(
     requires event { event ≤ 2 ^ 39 }
     requires anchor { anchor ≤ 2 ^ 61 + 2 ^ 23 }
     requires delay { delay < 2 ^ 24 }
-    ensures { IfOk result (λ stream. stream ≡ fresh_at (record { info = group.now.info; which = which; first = event; anchor = anchor; delay = delay }) bis) }
+    ensures { IfOk result (λ stream. stream
+        ≡ fresh_at (record { info = group.now.info; which = which; first = event; anchor = anchor; delay = delay }) bis) }
 {
     if !which.has(bis) {
         return Ok(None);

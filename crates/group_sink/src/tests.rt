@@ -53,7 +53,8 @@ struct Taken {
 
 impl Taken {
     fn put(&mut self, bis: Bis, time: u64, octets: Option<Octets>) -> Result<(), TakerFault>
-        ensures ok { OnOk result (map (λ u. handed_of u.bis u.time u.octets) self.new.units.items ≡ map (λ u. handed_of u.bis u.time u.octets) self.old.units.items ++ handed_of bis time octets ∷ []) }
+        ensures ok { OnOk result (map (λ u. handed_of u.bis u.time u.octets) self.new.units.items
+            ≡ map (λ u. handed_of u.bis u.time u.octets) self.old.units.items ++ handed_of bis time octets ∷ []) }
         ensures err { OnErr result (self.new.units.items ≡ self.old.units.items) }
         ensures cause { Caused (record { faults = 0; wants = 2 ^ 64 - 1 }) (record { faults = 0; wants = 2 ^ 64 - 1 }) result }
     {

@@ -102,7 +102,8 @@ fn spell_offset(time_offset: u32) -> [u8; 3]
 fn put_segment(octets: &mut [u8; 251], len: usize, header: u8, offset: &[u8], part: &[u8]) -> usize
     requires { len + 2 + length offset.now + length part.now ≤ 251 }
     ensures count { result ≡ len + 2 + length offset.now + length part.now }
-    ensures put { take result octets.new ≡ take len octets.old ++ header ∷ (length offset.now + length part.now) ∷ (offset.now ++ part.now) }
+    ensures put { take result octets.new
+        ≡ take len octets.old ++ header ∷ (length offset.now + length part.now) ∷ (offset.now ++ part.now) }
 {
     let body = len + 2;
     let behind = body + offset.len();

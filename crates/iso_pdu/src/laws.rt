@@ -8,7 +8,8 @@ ghost use Rattle.iso_pdu.specs.declared.fault.PduFault.{PduFault};
 
 /// Exactly the octets of the layout are read, each as what it is the layout of.
 pub fn read_is_layout()
-    ensures { (max_pdu : ℕ) (content : Content) (octets : List ℕ) → (read_of max_pdu octets ≡ Ok content) ↔ (PduIs content octets × (length octets ≤ max_pdu + 2)) }
+    ensures { (max_pdu : ℕ) (content : Content) (octets : List ℕ)
+        → (read_of max_pdu octets ≡ Ok content) ↔ (PduIs content octets × (length octets ≤ max_pdu + 2)) }
 {}
 
 /// The fault that is answered is the one that stands at the cut.

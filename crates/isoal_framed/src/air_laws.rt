@@ -14,7 +14,8 @@ ghost use Rattle.isoal_framed.specs.Worked.{LeftOut, OverTwoEvents, OverTwoPdus}
 
 /// The conditions on the places of its PDUs fix what is laid: a list of calls lays at most one air.
 pub fn one_framed_air()
-    ensures { (info : BigInfo) (calls : List Call) (one other : Air) → IsFramedAir info calls one → IsFramedAir info calls other → one ≡ other }
+    ensures { (info : BigInfo) (calls : List Call) (one other : Air) → IsFramedAir info calls one → IsFramedAir info calls other
+        → one ≡ other }
 {}
 
 /// They lay one: that which is laid act by act, where a group has a PDU in an event and PDUs have room for a start.
@@ -24,7 +25,8 @@ pub fn a_framed_air_is_there()
 
 /// What a sender laid in its calls meets these conditions.
 pub fn a_sender_lays_a_framed_air()
-    ensures { (info : BigInfo) (calls : List Call) (air : Air) (sender : Sender) → StandsFor info calls air sender → IsFramedAir info calls air }
+    ensures { (info : BigInfo) (calls : List Call) (air : Air) (sender : Sender) → StandsFor info calls air sender
+        → IsFramedAir info calls air }
 {}
 
 /// A framed air sends some of the accepted units, in order, each carried by numbers one behind the other, of which the last

@@ -34,7 +34,8 @@ pub(crate) fn take_places<T: UnitTaker>(
     ensures kept { kept_of store.new.places ≡ drop count (kept_of store.old.places) ++ replicate count None }
     ensures run { run_in store.new.joining
         ≡ run_after (vec_len store.old.joining.octets) (run_in store.old.joining) (flat_map (tokens_of (stay_of stream.now) event) (take count (kept_of store.old.places))) }
-    ensures hands { HandsOn (hands (vec_len store.old.joining.octets) stream.now.bis (run_in store.old.joining) (flat_map (tokens_of (stay_of stream.now) event) (take count (kept_of store.old.places))))
+    ensures hands { HandsOn (hands (vec_len store.old.joining.octets) stream.now.bis (run_in store.old.joining)
+        (flat_map (tokens_of (stay_of stream.now) event) (take count (kept_of store.old.places))))
         (Ok tt) (T.calls taker.old) (T.calls taker.new) result }
     ensures cause { CausedOn (Ok tt) (T.counts taker.old) (T.counts taker.new) result }
 {
@@ -67,8 +68,10 @@ fn take_pdu<T: UnitTaker>(
     requires first { stream.now.first ≤ event }
     requires event { event < 2 ^ 39 }
     ensures room { vec_len joining.new.octets ≡ vec_len joining.old.octets }
-    ensures run { run_in joining.new ≡ run_after (vec_len joining.old.octets) (run_in joining.old) (tokens_of (stay_of stream.now) event (read_as segmented max_pdu pdu.now)) }
-    ensures hands { HandsOn (hands (vec_len joining.old.octets) stream.now.bis (run_in joining.old) (tokens_of (stay_of stream.now) event (read_as segmented max_pdu pdu.now)))
+    ensures run { run_in joining.new ≡ run_after (vec_len joining.old.octets) (run_in joining.old)
+        (tokens_of (stay_of stream.now) event (read_as segmented max_pdu pdu.now)) }
+    ensures hands { HandsOn (hands (vec_len joining.old.octets) stream.now.bis (run_in joining.old)
+        (tokens_of (stay_of stream.now) event (read_as segmented max_pdu pdu.now)))
         so_far (T.calls taker.old) (T.calls taker.new) result }
     ensures cause { CausedOn so_far (T.counts taker.old) (T.counts taker.new) result }
 {
@@ -90,8 +93,10 @@ fn take_segments<T: UnitTaker>(
     requires first { stream.now.first ≤ event }
     requires event { event < 2 ^ 39 }
     ensures room { vec_len joining.new.octets ≡ vec_len joining.old.octets }
-    ensures run { run_in joining.new ≡ run_after (vec_len joining.old.octets) (run_in joining.old) (map (token_of (stay_of stream.now) event) segments.entry) }
-    ensures hands { HandsOn (hands (vec_len joining.old.octets) stream.now.bis (run_in joining.old) (map (token_of (stay_of stream.now) event) segments.entry))
+    ensures run { run_in joining.new ≡ run_after (vec_len joining.old.octets) (run_in joining.old)
+        (map (token_of (stay_of stream.now) event) segments.entry) }
+    ensures hands { HandsOn (hands (vec_len joining.old.octets) stream.now.bis (run_in joining.old)
+        (map (token_of (stay_of stream.now) event) segments.entry))
         so_far (T.calls taker.old) (T.calls taker.new) result }
     ensures cause { CausedOn so_far (T.counts taker.old) (T.counts taker.new) result }
 {

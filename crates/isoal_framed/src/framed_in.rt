@@ -117,8 +117,10 @@ impl FramedIn {
         ensures hands { HandsOver (owed self.old) (T.calls taker.old) (T.calls taker.new) result }
         ensures cause { Caused (T.counts taker.old) (T.counts taker.new) result }
         ensures stands { (calls : List Call) → Stands calls self.old → Stands (close ∷ calls) self.new }
-        ensures units { (calls : List Call) → Stands calls self.old → HandsOver (gained self.old.stay calls) (T.calls taker.old) (T.calls taker.new) result }
-        ensures gains { (calls : List Call) → Stands calls self.old → decided self.old.stay (close ∷ calls) ≡ decided self.old.stay calls ++ gained self.old.stay calls }
+        ensures units { (calls : List Call) → Stands calls self.old
+            → HandsOver (gained self.old.stay calls) (T.calls taker.old) (T.calls taker.new) result }
+        ensures gains { (calls : List Call) → Stands calls self.old
+            → decided self.old.stay (close ∷ calls) ≡ decided self.old.stay calls ++ gained self.old.stay calls }
     {
         self.hand_units(taker)
     }

@@ -65,7 +65,8 @@ impl FramedOut {
         ensures ok { OnOk result (self.new ≡ with_unit self.old time octets.now) }
         ensures fault { IfErr result (λ fault. PutFaultIs self.old (Some next_anchor) time octets.now fault) }
         ensures err { OnErr result (self.new ≡ self.old) }
-        ensures stands { OnOk result ((info : BigInfo) (calls : List Call) (air : Air) → StandsFor info calls air self.old → StandsFor info (accept time octets.now ∷ calls) air self.new) }
+        ensures stands { OnOk result ((info : BigInfo) (calls : List Call) (air : Air) → StandsFor info calls air self.old
+            → StandsFor info (accept time octets.now ∷ calls) air self.new) }
     {
         self.accept(time, Some(next_anchor), octets)
     }
@@ -76,7 +77,8 @@ impl FramedOut {
         ensures ok { OnOk result (self.new ≡ with_unit self.old time octets.now) }
         ensures fault { IfErr result (λ fault. PutFaultIs self.old None time octets.now fault) }
         ensures err { OnErr result (self.new ≡ self.old) }
-        ensures stands { OnOk result ((info : BigInfo) (calls : List Call) (air : Air) → StandsFor info calls air self.old → StandsFor info (accept time octets.now ∷ calls) air self.new) }
+        ensures stands { OnOk result ((info : BigInfo) (calls : List Call) (air : Air) → StandsFor info calls air self.old
+            → StandsFor info (accept time octets.now ∷ calls) air self.new) }
     {
         self.accept(time, None, octets)
     }
@@ -132,7 +134,8 @@ impl FramedOut {
         ensures err { OnErr result (self.new ≡ self.old) }
         ensures count { IfOk result (λ event. length event.pdus ≡ self.old.info.bn) }
         ensures laid { (info : BigInfo) (calls : List Call) (air : Air) → StandsFor info calls air self.old
-            → IfOk result (λ event. (begun : ℕ) × StandsFor info (lay anchor ∷ calls) (record { event = laid_in event; begun = begun } ∷ air) self.new) }
+            → IfOk result (λ event. (begun : ℕ) × StandsFor info (lay anchor ∷ calls)
+            (record { event = laid_in event; begun = begun } ∷ air) self.new) }
     {
         self.pack_next(anchor)
     }
@@ -141,9 +144,11 @@ impl FramedOut {
         ensures info { self.new.info ≡ self.old.info }
         ensures err { OnErr result (self.new ≡ self.old) }
         ensures count { IfOk result (λ event. length event.pdus ≡ self.old.info.bn) }
-        ensures laid { (units : List Timed) (earlier : List Act) → self.old.units ≡ drop (done earlier) units → self.old.sent ≡ sent_by earlier
+        ensures laid { (units : List Timed) (earlier : List Act) → self.old.units ≡ drop (done earlier) units
+            → self.old.sent ≡ sent_by earlier
             → room self.old.info.max_pdu earlier ≡ self.old.info.max_pdu
-            → IfOk result (λ event. (own : List Act) × IsEvent self.old.info units anchor earlier own × (laid_in event ≡ event_of units anchor earlier (ends ∷ own))
+            → IfOk result (λ event. (own : List Act) × IsEvent self.old.info units anchor earlier own
+            × (laid_in event ≡ event_of units anchor earlier (ends ∷ own))
             × (self.new ≡ record self.old { units = drop (done (own ++ earlier)) units; sent = sent_by (own ++ earlier) })) }
     {
         let mut packing = Packing {

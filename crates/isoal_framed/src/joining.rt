@@ -53,7 +53,8 @@ impl Joining {
     ) -> Result<(), TakerFault>
         ensures room { vec_len self.new.octets ≡ vec_len self.old.octets }
         ensures run { run_in self.new ≡ None }
-        ensures hands { HandsOn (hands_at (vec_len self.old.octets) bis (run_in self.old) missing) so_far (T.calls taker.old) (T.calls taker.new) result }
+        ensures hands { HandsOn (hands_at (vec_len self.old.octets) bis (run_in self.old) missing) so_far (T.calls taker.old)
+            (T.calls taker.new) result }
         ensures cause { CausedOn so_far (T.counts taker.old) (T.counts taker.new) result }
     {
         match self.started {
@@ -76,7 +77,8 @@ impl Joining {
     ) -> Result<(), TakerFault>
         ensures room { vec_len self.new.octets ≡ vec_len self.old.octets }
         ensures run { run_in self.new ≡ run_at (vec_len self.old.octets) (run_in self.old) (goes_on complete part.now) }
-        ensures hands { HandsOn (hands_at (vec_len self.old.octets) bis (run_in self.old) (goes_on complete part.now)) so_far (T.calls taker.old) (T.calls taker.new) result }
+        ensures hands { HandsOn (hands_at (vec_len self.old.octets) bis (run_in self.old) (goes_on complete part.now)) so_far
+            (T.calls taker.old) (T.calls taker.new) result }
         ensures cause { CausedOn so_far (T.counts taker.old) (T.counts taker.new) result }
     {
         let Some(started) = self.started else {
@@ -128,7 +130,8 @@ impl Joining {
     ) -> Result<(), TakerFault>
         ensures room { vec_len self.new.octets ≡ vec_len self.old.octets }
         ensures run { run_in self.new ≡ run_at (vec_len self.old.octets) (run_in self.old) (starts time complete part.now) }
-        ensures hands { HandsOn (hands_at (vec_len self.old.octets) bis (run_in self.old) (starts time complete part.now)) so_far (T.calls taker.old) (T.calls taker.new) result }
+        ensures hands { HandsOn (hands_at (vec_len self.old.octets) bis (run_in self.old) (starts time complete part.now)) so_far
+            (T.calls taker.old) (T.calls taker.new) result }
         ensures cause { CausedOn so_far (T.counts taker.old) (T.counts taker.new) result }
     {
         let missed = self.miss(bis, so_far, taker);
@@ -147,7 +150,8 @@ impl Joining {
     ) -> Result<(), TakerFault>
         ensures room { vec_len self.new.octets ≡ vec_len self.old.octets }
         ensures run { run_in self.new ≡ run_joined (vec_len self.old.octets) time complete part.now }
-        ensures hands { HandsOn (hands_joined (vec_len self.old.octets) bis time complete part.now) so_far (T.calls taker.old) (T.calls taker.new) result }
+        ensures hands { HandsOn (hands_joined (vec_len self.old.octets) bis time complete part.now) so_far (T.calls taker.old)
+            (T.calls taker.new) result }
         ensures cause { CausedOn so_far (T.counts taker.old) (T.counts taker.new) result }
     {
         self.started = Some(Started { time, count: 0 });
@@ -166,8 +170,10 @@ impl Joining {
         requires first { stream.now.first ≤ event }
         requires event { event < 2 ^ 39 }
         ensures room { vec_len self.new.octets ≡ vec_len self.old.octets }
-        ensures run { run_in self.new ≡ run_at (vec_len self.old.octets) (run_in self.old) (token_of (stay_of stream.now) event (part_of segment.entry)) }
-        ensures hands { HandsOn (hands_at (vec_len self.old.octets) stream.now.bis (run_in self.old) (token_of (stay_of stream.now) event (part_of segment.entry)))
+        ensures run { run_in self.new ≡ run_at (vec_len self.old.octets) (run_in self.old)
+            (token_of (stay_of stream.now) event (part_of segment.entry)) }
+        ensures hands { HandsOn (hands_at (vec_len self.old.octets) stream.now.bis (run_in self.old)
+            (token_of (stay_of stream.now) event (part_of segment.entry)))
             so_far (T.calls taker.old) (T.calls taker.new) result }
         ensures cause { CausedOn so_far (T.counts taker.old) (T.counts taker.new) result }
     {

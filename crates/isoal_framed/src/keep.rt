@@ -22,7 +22,8 @@ pub(crate) fn keep(
     ensures places { length places.new.ring.items ≡ length places.old.ring.items }
     ensures max_pdu { places.new.max_pdu ≡ places.old.max_pdu }
     ensures answer { result ≡ placing stream.now.group.info event (kept_of places.old) number }
-    ensures step { kept_of places.new ≡ kept_by result (kept_of places.old) (number - event * stream.now.group.info.bn) (read_as segmented places.old.max_pdu pdu.now) }
+    ensures step { kept_of places.new ≡ kept_by result (kept_of places.old) (number - event * stream.now.group.info.bn)
+        (read_as segmented places.old.max_pdu pdu.now) }
 {
     let first = event * u64::from(stream.group.info.bn);
     if number < first {

@@ -32,7 +32,8 @@ fn put_next(queue: &VecDeque<Unit>, anchor: u64, packing: &mut Packing) -> Resul
     ensures partly { IsPartly packing.new.sent (drop packing.new.past queue.now.items) }
     ensures placed { IfOk result (λ goes_on. Placed anchor queue.now.items packing.old packing.new goes_on) }
     ensures nearer { IfOk result (λ goes_on. goes_on ≡ true
-        → length queue.now.items - packing.new.past + room_in packing.new.pdu < length queue.now.items - packing.old.past + room_in packing.old.pdu) }
+        → length queue.now.items - packing.new.past + room_in packing.new.pdu < length queue.now.items - packing.old.past + room_in
+        packing.old.pdu) }
 {
     let Some(unit) = due(queue, packing.past) else {
         return Ok(false);
@@ -99,7 +100,8 @@ pub(crate) fn pack_pdu(
     ensures packed { (units : List Timed) (earlier acts : List Act) (pdus : List (List ℕ)) → queue.now.items ≡ drop (done earlier) units
         → Going max_pdu units anchor earlier acts packing.old.past packing.old.sent max_pdu [] pdus packing.old.stale
         → IfOk result (λ pdu. (own : List Act) × (pdus_ended own ≡ pdus_ended acts)
-        × Going max_pdu units anchor earlier (ends ∷ own) packing.new.past packing.new.sent max_pdu [] (pdus ++ pdu ∷ []) packing.new.stale) }
+        × Going max_pdu units anchor earlier (ends ∷ own) packing.new.past packing.new.sent max_pdu []
+        (pdus ++ pdu ∷ []) packing.new.stale) }
 {
     packing.pdu = FramedPdu::new(max_pdu);
     'acts: while put_next(queue, anchor, packing)? {}
@@ -122,9 +124,11 @@ pub(crate) fn pack_pdus(
     ensures partly { IsPartly packing.new.sent (drop packing.new.past queue.now.items) }
     ensures count { IfOk result (λ pdus. length pdus ≡ group.now.info.bn) }
     ensures packed { (units : List Timed) (earlier : List Act) → queue.now.items ≡ drop (done earlier) units
-        → Going group.now.info.max_pdu units anchor earlier [] packing.old.past packing.old.sent group.now.info.max_pdu [] [] packing.old.stale
+        → Going group.now.info.max_pdu units anchor earlier [] packing.old.past packing.old.sent group.now.info.max_pdu [] []
+        packing.old.stale
         → IfOk result (λ pdus. (own : List Act) × (pdus_ended (ends ∷ own) ≡ group.now.info.bn)
-        × Going group.now.info.max_pdu units anchor earlier (ends ∷ own) packing.new.past packing.new.sent group.now.info.max_pdu [] pdus packing.new.stale) }
+        × Going group.now.info.max_pdu units anchor earlier
+        (ends ∷ own) packing.new.past packing.new.sent group.now.info.max_pdu [] pdus packing.new.stale) }
 {
     let mut pdus = EventPdus::new(alloc);
     'pdus: for _ in 0..group.info.bn {

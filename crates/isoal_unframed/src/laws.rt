@@ -10,8 +10,10 @@ ghost use Rattle.isoal_unframed.specs.Units.{IsHeld, IsUnit, held_in, unit_of};
 /// A slot's unit from left to right is the unit whose fragments and end the slot keeps, and there is none where the slot
 /// keeps no unit.
 pub fn unit_is_assembled()
-    ensures some { (max_sdu : ℕ) (slot : List (Option Content)) (octets : List ℕ) → (unit_of max_sdu slot ≡ Some octets) ↔ IsUnit max_sdu slot octets }
-    ensures none { (max_sdu : ℕ) (slot : List (Option Content)) → (unit_of max_sdu slot ≡ None) ↔ ((octets : List ℕ) → ¬ IsUnit max_sdu slot octets) }
+    ensures some { (max_sdu : ℕ) (slot : List (Option Content)) (octets : List ℕ)
+        → (unit_of max_sdu slot ≡ Some octets) ↔ IsUnit max_sdu slot octets }
+    ensures none { (max_sdu : ℕ) (slot : List (Option Content))
+        → (unit_of max_sdu slot ≡ None) ↔ ((octets : List ℕ) → ¬ IsUnit max_sdu slot octets) }
 {}
 
 /// What is held of a slot, from left to right, are the octets of the longest front of its numbers that are kept, with an

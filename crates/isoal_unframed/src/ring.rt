@@ -77,8 +77,10 @@ impl Ring {
         ensures places { vec_len self.new.cells ≡ vec_len self.old.cells }
         ensures max_pdu { self.new.max_pdu ≡ self.old.max_pdu }
         ensures front { take first (kept_of self.new) ≡ take first (kept_of self.old) }
-        ensures behind { drop (first + per_unit_of stream.now.group.info) (kept_of self.new) ≡ drop (first + per_unit_of stream.now.group.info) (kept_of self.old) }
-        ensures hands { HandsOver (handed_of stream.now.bis time (unit_of stream.now.group.info.max_sdu (take (per_unit_of stream.now.group.info) (drop first (kept_of self.old)))) ∷ [])
+        ensures behind { drop (first + per_unit_of stream.now.group.info) (kept_of self.new)
+            ≡ drop (first + per_unit_of stream.now.group.info) (kept_of self.old) }
+        ensures hands { HandsOver (handed_of stream.now.bis time
+            (unit_of stream.now.group.info.max_sdu (take (per_unit_of stream.now.group.info) (drop first (kept_of self.old)))) ∷ [])
             (T.calls taker.old) (T.calls taker.new) result }
         ensures cause { Caused (T.counts taker.old) (T.counts taker.new) result }
     {
@@ -120,7 +122,8 @@ impl Ring {
         requires { first + places ≤ vec_len self.old.cells }
         ensures places { vec_len self.new.cells ≡ vec_len self.old.cells }
         ensures max_pdu { self.new.max_pdu ≡ self.old.max_pdu }
-        ensures kept { kept_of self.new ≡ take first (kept_of self.old) ++ (replicate places None ++ drop (first + places) (kept_of self.old)) }
+        ensures kept { kept_of self.new ≡ take first (kept_of self.old) ++ (replicate places None ++ drop (first + places)
+            (kept_of self.old)) }
     {
         empty(&mut self.cells[first..first + places]);
     }

@@ -47,8 +47,10 @@ fn step<T: UnitTaker>(
     ensures handed { (past : List Call) → (before : List Handed) → Stands past receiver.old
         → T.calls taker.old ≡ before ++ handed receiver.old.stay past
         → OnOk result (T.calls taker.new ≡ before ++ handed receiver.old.stay (call_of call.entry ∷ past)) }
-    ensures front { (past : List Call) → (before : List Handed) → Stands past receiver.old → T.calls taker.old ≡ before ++ handed receiver.old.stay past
-        → OnErr result ((n : ℕ) × (T.calls taker.new ≡ before ++ (handed receiver.old.stay past ++ take n (units_of receiver.old.stay past (opened receiver.old.stay past))))) }
+    ensures front { (past : List Call) → (before : List Handed) → Stands past receiver.old
+        → T.calls taker.old ≡ before ++ handed receiver.old.stay past
+        → OnErr result ((n : ℕ) × (T.calls taker.new ≡ before ++ (handed receiver.old.stay past ++ take n
+        (units_of receiver.old.stay past (opened receiver.old.stay past))))) }
     ensures closes { OnErr result (call.entry ≡ Close) }
     ensures cause { Caused (T.counts taker.old) (T.counts taker.new) result }
 {

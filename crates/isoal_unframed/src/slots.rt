@@ -40,7 +40,8 @@ fn lay_slot(
     unit: Option<&[u8]>,
     pdus: &mut EventPdus,
 ) -> Result<(), Memory>
-    ensures { OnOk result (pdus.new ≡ pdus.old ++ slot_pdus group.now.info.max_pdu (per_unit_of group.now.info) (option_copied unit.entry)) }
+    ensures { OnOk result (pdus.new ≡ pdus.old ++ slot_pdus group.now.info.max_pdu (per_unit_of group.now.info)
+        (option_copied unit.entry)) }
 {
     let mut left = unit;
     'places: for _ in 0..group.per_unit() {

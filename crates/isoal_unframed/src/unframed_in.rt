@@ -108,7 +108,8 @@ impl UnframedIn {
         ensures hands { HandsOver (owed self.old) (T.calls taker.old) (T.calls taker.new) result }
         ensures cause { Caused (T.counts taker.old) (T.counts taker.new) result }
         ensures stands { (calls : List Call) → Stands calls self.old → Stands (close ∷ calls) self.new }
-        ensures units { (calls : List Call) → Stands calls self.old → HandsOver (units_of self.old.stay calls (opened self.old.stay calls)) (T.calls taker.old) (T.calls taker.new) result }
+        ensures units { (calls : List Call) → Stands calls self.old
+            → HandsOver (units_of self.old.stay calls (opened self.old.stay calls)) (T.calls taker.old) (T.calls taker.new) result }
     {
         self.hand_units(taker)
     }

@@ -59,7 +59,8 @@ impl UnframedOut {
         ensures ok { OnOk result (self.new ≡ with_unit self.old octets.now) }
         ensures fault { IfErr result (λ fault. PutFaultIs self.old octets.now fault) }
         ensures err { OnErr result (self.new ≡ self.old) }
-        ensures stands { OnOk result ((info : BigInfo) (calls : List Call) → StandsFor info calls self.old → StandsFor info (accept octets.now ∷ calls) self.new) }
+        ensures stands { OnOk result ((info : BigInfo) (calls : List Call) → StandsFor info calls self.old
+            → StandsFor info (accept octets.now ∷ calls) self.new) }
     {
         self.put_unit(octets)
     }
@@ -82,19 +83,23 @@ impl UnframedOut {
     /// Lays the next event: its slots take the units that wait, in order, and no unit is left out of it as stale. Want of
     /// memory changes nothing.
     pub fn lay_event(&mut self) -> Result<EventLaid, Memory>
-        ensures ok { IfOk result (λ event. (laid_in event ≡ record { pdus = event_pdus self.old.info self.old.waiting; stale = [] }) × (self.new ≡ after_event self.old)) }
+        ensures ok { IfOk result (λ event. (laid_in event ≡ record { pdus = event_pdus self.old.info self.old.waiting; stale = [] })
+            × (self.new ≡ after_event self.old)) }
         ensures err { OnErr result (self.new ≡ self.old) }
         ensures count { IfOk result (λ event. length event.pdus ≡ self.old.info.bn) }
-        ensures stands { OnOk result ((info : BigInfo) (calls : List Call) → StandsFor info calls self.old → StandsFor info (lay ∷ calls) self.new) }
+        ensures stands { OnOk result ((info : BigInfo) (calls : List Call) → StandsFor info calls self.old
+            → StandsFor info (lay ∷ calls) self.new) }
         ensures laid { IfOk result (λ event. (info : BigInfo) (calls : List Call) → StandsFor info calls self.old
-            → unframed_air info (lay ∷ calls) ≡ record { event = laid_in event; begun = begun info (lay ∷ calls) } ∷ unframed_air info calls) }
+            → unframed_air info (lay ∷ calls) ≡ record { event = laid_in event; begun = begun info (lay ∷ calls) } ∷ unframed_air
+            info calls) }
     {
         self.lay_next()
     }
 
     fn lay_next(&mut self) -> Result<EventLaid, Memory>
         ensures whole { self.old.info.bn ≡ per_event_of self.old.info * per_unit_of self.old.info }
-        ensures ok { IfOk result (λ event. (laid_in event ≡ record { pdus = event_pdus self.old.info self.old.waiting; stale = [] }) × (self.new ≡ after_event self.old)) }
+        ensures ok { IfOk result (λ event. (laid_in event ≡ record { pdus = event_pdus self.old.info self.old.waiting; stale = [] })
+            × (self.new ≡ after_event self.old)) }
         ensures err { OnErr result (self.new ≡ self.old) }
     {
         let pdus = self.next_pdus()?;

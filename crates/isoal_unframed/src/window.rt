@@ -28,7 +28,8 @@ pub(crate) fn keep(
     requires part { length part.now ≤ ring.old.max_pdu }
     ensures places { vec_len ring.new.cells ≡ vec_len ring.old.cells }
     ensures max_pdu { ring.new.max_pdu ≡ ring.old.max_pdu }
-    ensures answer { result ≡ placing stream.now.group.info event (turned (place_of stream.now.group.info event) (kept_of ring.old)) number }
+    ensures answer { result ≡ placing stream.now.group.info event
+        (turned (place_of stream.now.group.info event) (kept_of ring.old)) number }
     ensures step { turned (place_of stream.now.group.info event) (kept_of ring.new)
         ≡ kept_by result (turned (place_of stream.now.group.info event) (kept_of ring.old)) (number - event * stream.now.group.info.bn) (Some (part_of is_end part.now)) }
 {
@@ -59,10 +60,12 @@ pub(crate) fn hand_event<T: UnitTaker>(
     requires event { event < 2 ^ 39 }
     ensures places { vec_len ring.new.cells ≡ vec_len ring.old.cells }
     ensures max_pdu { ring.new.max_pdu ≡ ring.old.max_pdu }
-    ensures front { take (place_of stream.now.group.info event) (kept_of ring.new) ≡ take (place_of stream.now.group.info event) (kept_of ring.old) }
+    ensures front { take (place_of stream.now.group.info event) (kept_of ring.new)
+        ≡ take (place_of stream.now.group.info event) (kept_of ring.old) }
     ensures behind { drop (place_of stream.now.group.info event + stream.now.group.info.bn) (kept_of ring.new)
         ≡ drop (place_of stream.now.group.info event + stream.now.group.info.bn) (kept_of ring.old) }
-    ensures hands { HandsOver (owed_of (stay_of stream.now) event (drop (place_of stream.now.group.info event) (kept_of ring.old))) (T.calls taker.old) (T.calls taker.new) result }
+    ensures hands { HandsOver (owed_of (stay_of stream.now) event (drop (place_of stream.now.group.info event) (kept_of ring.old)))
+        (T.calls taker.old) (T.calls taker.new) result }
     ensures cause { Caused (T.counts taker.old) (T.counts taker.new) result }
 {
     let places = stream.places();

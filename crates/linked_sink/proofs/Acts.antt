@@ -5,16 +5,16 @@ use Rattle.std.specs.Prelude.{◌==◌, if◌then◌else◌, unwrap_or}
 use Rattle.std.specs.List.{filter, range_with_len}
 use Rattle.std.specs.Option.{option_or}
 use Rattle.std.proofs.lemmas.Bool.{cases_eq, eq-eqb, ne_eqb}
-use Rattle.notice_links.specs.Links as links
-use Rattle.notice_links.specs.Links.{reads_of, waiting_of}
+use Rattle.assistant_machine.specs.Links as links
+use Rattle.assistant_machine.specs.Links.{reads_of, waiting_of}
 use Rattle.assistant_machine.specs.State.Assistants.{IsLowest, NoneWaits}
 use Rattle.assistant_machine.proofs.Citable.{drop_more}
-use Rattle.delegator_states.specs.LastGiven.{last_given}
-use Rattle.delegator_states.specs.Trains.{Setup}
-use Rattle.link_histories.specs.Calls.{Call, stepped, joined, parted, asked, served, told, read, is_joined, joining_by, served_of, writes, writes_waiting}
-use Rattle.link_histories.specs.Drains.{IsApart}
-use Rattle.link_histories.specs.Links.{Acts, Told, acts_of, language, notices_waiting, read_first, reads_waiting, told_first}
-use Rattle.link_histories.specs.Steps.{IsStep}
+use Rattle.delegator_history.specs.LastGiven.{last_given}
+use Rattle.delegator_history.specs.Trains.{Setup}
+use Rattle.link_history.specs.Calls.{Call, stepped, joined, parted, asked, served, told, read, is_joined, joining_by, served_of, writes, writes_waiting}
+use Rattle.link_history.specs.Drains.{IsApart}
+use Rattle.link_history.specs.Links.{Acts, Told, acts_of, language, notices_waiting, read_first, reads_waiting, told_first}
+use Rattle.link_history.specs.Steps.{IsStep}
 
 pub first_and_rest : {A : Type 0} (xs : List A) (x : A) → slice_get xs 0 ≡ Some x → xs ≡ x ∷ drop 1 xs
 first_and_rest [] x is = absurd cc

@@ -8,11 +8,11 @@ use Rattle.assistant_machine.specs.Calls as assistants
 use Rattle.assistant_machine.specs.State.Assistants.{Assistant, StandsFor}
 use Rattle.assistant_machine.specs.Views as known
 use Rattle.assistant_machine.specs.Views.{if_slot, reading_of}
-use Rattle.delegator_states.specs.declared.notice.Notice.{Notice}
-use Rattle.notice_links.specs.Cuts.{asks}
-use Rattle.notice_links.specs.Links as links
-use Rattle.notice_links.specs.Links.{delivered_of, if_its, notices_of, told_by, view_of, value_of, waiting_of, waits_of}
-use Rattle.link_histories.specs.Links.{Acts, Told, delivered, language}
+use Rattle.delegator_history.specs.declared.notice.Notice.{Notice}
+use Rattle.assistant_machine.specs.Cuts.{asks}
+use Rattle.assistant_machine.specs.Links as links
+use Rattle.assistant_machine.specs.Links.{delivered_of, if_its, notices_of, told_by, view_of, value_of, waiting_of, waits_of}
+use Rattle.link_history.specs.Links.{Acts, Told, delivered, language}
 use Rattle.multi_assist.specs.State.Places.{Linked}
 use Rattle.linked_sink.specs.State.Links.{LinkHolds}
 

@@ -3,9 +3,9 @@ use Rattle.std.proofs.Common.{ℕ, zero, suc, ◌≡◌, true, false, List, [], 
 use Rattle.std.specs.Prelude.{slice_index_or}
 use Rattle.std.proofs.lemmas.Bool.{ne_eqb}
 use Rattle.delegator_machine.specs.State.Halves.{StandsFor}
-use Rattle.delegator_states.specs.States.{mtu_set}
-use Rattle.delegator_states.specs.Trains.{Setup}
-use Rattle.link_histories.specs.Calls.{stepped, is_joined, born}
+use Rattle.delegator_history.specs.States.{mtu_set}
+use Rattle.delegator_history.specs.Trains.{Setup}
+use Rattle.link_history.specs.Calls.{stepped, is_joined, born}
 use Rattle.multi_assist.specs.State.Links.{link_at, linked, mtu_of, slots_of}
 use Rattle.multi_assist.specs.State.Places.{Linked}
 use Rattle.multi_assist.specs.State.Terms.{joining}

@@ -8,24 +8,24 @@ use Rattle.assistant_machine.specs.Calls as assistants
 use Rattle.assistant_machine.specs.State.Assistants.{Assistant, IsLowest, NoneWaits}
 use Rattle.delegator_machine.specs.Calls as machine
 use Rattle.delegator_machine.specs.State.Halves.{StandsFor, settings_of}
-use Rattle.delegator_states.specs.declared.notice.Notice.{Notice}
-use Rattle.delegator_states.specs.States.{sight_of, written}
-use Rattle.delegator_states.specs.Trains.{Setup}
-use Rattle.delegator_states.specs.Values.{value, value_at}
-use Rattle.delegator_states.specs.Writes.{reply_of}
-use Rattle.delegator_states.specs.declared.replies.Reply.{Reply}
+use Rattle.delegator_history.specs.declared.notice.Notice.{Notice}
+use Rattle.delegator_history.specs.States.{sight_of, written}
+use Rattle.delegator_history.specs.Trains.{Setup}
+use Rattle.delegator_history.specs.Values.{value, value_at}
+use Rattle.delegator_history.specs.Writes.{reply_of}
+use Rattle.delegator_history.specs.declared.replies.Reply.{Reply}
 use Rattle.assistant_machine.specs.Answers.{answer_of}
 use Rattle.assistant_machine.specs.Views as known
 use Rattle.linked_sink.specs.State.Untold.{untold}
 use Rattle.linked_sink.proofs.Untold.{its_sight}
-use Rattle.delegator_states.proofs.Citable.{none_change}
-use Rattle.delegator_states.specs.Notices.{changes}
-use Rattle.notice_links.specs.Links as happened
-use Rattle.notice_links.specs.Links.{value_of, waits_of}
-use Rattle.link_histories.specs.Calls.{Call, asked, forged, joined, parted, read, served, told, is_joined, steps_of, with_step, writes_waiting}
-use Rattle.link_histories.specs.Drains.{IsApart}
-use Rattle.link_histories.specs.Links.{Acts, Told, acts_of, delivered, language, notices_waiting, reads_waiting, state}
-use Rattle.link_histories.specs.Octets.{AreOctets, IsAsked}
+use Rattle.delegator_history.proofs.Citable.{none_change}
+use Rattle.delegator_history.specs.Notices.{changes}
+use Rattle.assistant_machine.specs.Links as happened
+use Rattle.assistant_machine.specs.Links.{value_of, waits_of}
+use Rattle.link_history.specs.Calls.{Call, asked, forged, joined, parted, read, served, told, is_joined, steps_of, with_step, writes_waiting}
+use Rattle.link_history.specs.Drains.{IsApart}
+use Rattle.link_history.specs.Links.{Acts, Told, acts_of, delivered, language, notices_waiting, reads_waiting, state}
+use Rattle.link_history.specs.Octets.{AreOctets, IsAsked}
 use Rattle.multi_assist.specs.State.Links.{link_at, linked, mtu_of, slots_of, with_assistant_on}
 use Rattle.multi_assist.specs.State.Places.{Linked, asking, assistant_in, first_of, without_first}
 use Rattle.multi_assist.specs.declared.links.Links.{Links}
@@ -36,7 +36,7 @@ use Rattle.linked_sink.specs.State.Taking.{Takes}
 use Rattle.linked_sink.specs.Taken.{delegator_calls, with_control}
 use Rattle.linked_sink.proofs.Acts.{acts_joined, acts_read, acts_told, acts_unread, acts_untold, apart_joined, joins, none_there, parts, step_joined}
 use Rattle.linked_sink.proofs.Acts.{lowest_read, lowest_within, none_read, writes_asked, writes_joined, writes_kept}
-use Rattle.link_histories.proofs.Citable.{writes_one}
+use Rattle.link_history.proofs.Citable.{writes_one}
 use Rattle.linked_sink.proofs.Assistants.{first_notice, forged_holds, holds_as, put_holds, read_holds, sent_holds, told_holds, waiting_writes}
 use Rattle.linked_sink.proofs.Fresh.{anew_holds}
 use Rattle.linked_sink.proofs.Places.{at_it, at_other, lent, lent_elsewhere, lent_same, lent_terms, one_of_four}

@@ -3,8 +3,8 @@ use Rattle.std.proofs.Common.{ℕ, true, false, List, [], ◌∷◌, replicate, 
 use Rattle.assistant_machine.specs.Calls.{Call, all_asked, limited}
 use Rattle.assistant_machine.specs.State.Assistants.{StandsFor, joined}
 use Rattle.assistant_machine.proofs.Citable.{all_stands, fresh, length_replicate, limited_stands}
-use Rattle.notice_links.specs.Links as links
-use Rattle.link_histories.specs.Links.{Acts}
+use Rattle.assistant_machine.specs.Links as links
+use Rattle.link_history.specs.Links.{Acts}
 use Rattle.multi_assist.specs.State.Places.{asking}
 use Rattle.multi_assist.specs.State.Terms.{joining}
 use Rattle.linked_sink.specs.State.Links.{LinkHolds}

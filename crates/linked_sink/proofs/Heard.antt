@@ -11,7 +11,7 @@ use Rattle.receive_state.specs.declared.state.GroupState.{GroupState}
 use Rattle.receive_state.specs.declared.state.ReceiveState.{ReceiveState}
 use Rattle.assistant_machine.specs.Calls.{Call, told, read, mtu_of}
 use Rattle.assistant_machine.specs.Views.{if_slot, reading_of, told_of, view_of}
-use Rattle.notice_links.specs.Cuts.{asks}
+use Rattle.assistant_machine.specs.Cuts.{asks}
 use Rattle.linked_sink.specs.State.Links.{AreHeard}
 
 abbrev pub ReadsStates : Type 0

@@ -5,19 +5,19 @@ use Rattle.std.proofs.lemmas.Bool.{cases_eq}
 use Rattle.std.proofs.lemmas.List.{append-nil}
 use Rattle.delegator_machine.specs.Calls as machine
 use Rattle.delegator_machine.specs.State.Halves.{Halves, StandsFor, settings_of}
-use Rattle.delegator_states.specs.declared.notice.Notice.{Notice}
-use Rattle.delegator_states.specs.Notices.{changes, handed_out, is_told, waiting}
-use Rattle.delegator_states.specs.Sights.{Sight}
-use Rattle.delegator_states.specs.States.{Step, done_by, sight_of}
-use Rattle.delegator_states.specs.Steps.{after}
-use Rattle.delegator_states.specs.Trains.{Setup}
-use Rattle.delegator_states.specs.Values.{value_at}
-use Rattle.delegator_states.proofs.Citable.{none_change, sight_goes_on, waiting_goes_on}
-use Rattle.link_histories.specs.Calls.{Call, stepped, is_joined, steps_of, writes_waiting}
-use Rattle.link_histories.specs.Drains.{IsApart, LeavesLink}
-use Rattle.link_histories.specs.Links.{Acts, acts_of}
-use Rattle.link_histories.specs.Octets.{AreOctets, IsAsked, IsWritten}
-use Rattle.link_histories.specs.Steps.{IsStep, TellsLink}
+use Rattle.delegator_history.specs.declared.notice.Notice.{Notice}
+use Rattle.delegator_history.specs.Notices.{changes, handed_out, is_told, waiting}
+use Rattle.delegator_history.specs.Sights.{Sight}
+use Rattle.delegator_history.specs.States.{Step, done_by, sight_of}
+use Rattle.delegator_history.specs.Steps.{after}
+use Rattle.delegator_history.specs.Trains.{Setup}
+use Rattle.delegator_history.specs.Values.{value_at}
+use Rattle.delegator_history.proofs.Citable.{none_change, sight_goes_on, waiting_goes_on}
+use Rattle.link_history.specs.Calls.{Call, stepped, is_joined, steps_of, writes_waiting}
+use Rattle.link_history.specs.Drains.{IsApart, LeavesLink}
+use Rattle.link_history.specs.Links.{Acts, acts_of}
+use Rattle.link_history.specs.Octets.{AreOctets, IsAsked, IsWritten}
+use Rattle.link_history.specs.Steps.{IsStep, TellsLink}
 use Rattle.multi_assist.specs.State.Gathering.{Gathers, StandsOn, asked}
 use Rattle.multi_assist.specs.State.Links.{link_at, linked, mtu_of, slots_of}
 use Rattle.multi_assist.specs.State.Places.{Linked, with_notices}

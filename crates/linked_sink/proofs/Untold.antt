@@ -1,18 +1,18 @@
 -- What a delegator answers is the same without the calls that asked for notices.
 use Rattle.std.proofs.Common.{ℕ, zero, suc, ◌≡◌, Bool, true, false, List, [], ◌∷◌, Option, Some, None, refl, sym, ap, ◌∙◌}
-use Rattle.delegator_states.specs.Notices.{is_told}
-use Rattle.delegator_states.specs.States.{Step, told, done_by, sight_of}
-use Rattle.delegator_states.specs.Steps.{after}
-use Rattle.delegator_states.specs.Trains.{Setup}
-use Rattle.delegator_states.proofs.Citable.{sight_goes_on}
+use Rattle.delegator_history.specs.Notices.{is_told}
+use Rattle.delegator_history.specs.States.{Step, told, done_by, sight_of}
+use Rattle.delegator_history.specs.Steps.{after}
+use Rattle.delegator_history.specs.Trains.{Setup}
+use Rattle.delegator_history.proofs.Citable.{sight_goes_on}
 use Rattle.delegator_machine.specs.Calls as machine
 use Rattle.delegator_machine.specs.Calls.{Call, control, hear, tick}
 use Rattle.delegator_machine.specs.Groups.{group_calls, joining_given, with_leave, with_step}
 use Rattle.group_sink.specs.Calls as sinks
-use Rattle.link_histories.specs.Calls as links
-use Rattle.link_histories.specs.Calls.{step_by}
+use Rattle.link_history.specs.Calls as links
+use Rattle.link_history.specs.Calls.{step_by}
 use Rattle.multi_assist.specs.State.Gathering.{asked}
-use Rattle.scan_delegator.specs.Groups.{has_group}
+use Rattle.delegator_control.specs.Groups.{has_group}
 use Rattle.linked_sink.specs.State.Untold.{unless_told, untold}
 use Rattle.linked_sink.specs.Taken.{delegator_calls, with_control}
 

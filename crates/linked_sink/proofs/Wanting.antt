@@ -7,23 +7,23 @@ use Rattle.assistant_machine.specs.State.Assistants.{Assistant}
 use Rattle.bass_operations.specs.declared.fault.OpFault.{OpFault}
 use Rattle.bass_operations.specs.declared.operation.Operation.{Operation}
 use Rattle.bass_operations.specs.Reading.{op_of}
-use Rattle.delegator_states.specs.declared.notice.Notice.{Notice}
-use Rattle.delegator_states.specs.declared.train_heard.ControlHeard.{ControlHeard}
-use Rattle.delegator_states.specs.declared.train_heard.ControlHeard.TheVariants as controls
-use Rattle.delegator_states.specs.Controls.{control_heard, done_heard}
-use Rattle.delegator_states.specs.Notices.{changes}
-use Rattle.delegator_states.specs.Sights.{Entry, Place, Sight, entry_at, idle, on_group, on_train, slot_of}
-use Rattle.delegator_states.specs.States.{Step, control_heard as controlled, done_by, sight_of, train_heard, train_lost, written}
-use Rattle.delegator_states.specs.Steps.{Done, after, left, lost, nothing, place_left, placed}
-use Rattle.delegator_states.specs.Trains.{Brought, Setup, Train, brought_by, done_brought, heard, ignored, taken}
-use Rattle.delegator_states.specs.Values.{received, state_at, status_of, value_at}
-use Rattle.delegator_states.specs.Writes.{cause_of, done_read}
-use Rattle.delegator_states.proofs.Citable.{none_change, sight_goes_on}
+use Rattle.delegator_history.specs.declared.notice.Notice.{Notice}
+use Rattle.delegator_history.specs.declared.train_heard.ControlHeard.{ControlHeard}
+use Rattle.delegator_history.specs.declared.train_heard.ControlHeard.TheVariants as controls
+use Rattle.delegator_history.specs.Controls.{control_heard, done_heard}
+use Rattle.delegator_history.specs.Notices.{changes}
+use Rattle.delegator_history.specs.Sights.{Entry, Place, Sight, entry_at, idle, on_group, on_train, slot_of}
+use Rattle.delegator_history.specs.States.{Step, control_heard as controlled, done_by, sight_of, train_heard, train_lost, written}
+use Rattle.delegator_history.specs.Steps.{Done, after, left, lost, nothing, place_left, placed}
+use Rattle.delegator_history.specs.Trains.{Brought, Setup, Train, brought_by, done_brought, heard, ignored, taken}
+use Rattle.delegator_history.specs.Values.{received, state_at, status_of, value_at}
+use Rattle.delegator_history.specs.Writes.{cause_of, done_read}
+use Rattle.delegator_history.proofs.Citable.{none_change, sight_goes_on}
 use Rattle.receive_state.specs.declared.state.ReceiveState.{ReceiveState}
-use Rattle.scan_delegator.specs.Following.{is_followed}
-use Rattle.scan_delegator.proofs.Changes.{elsewhere, no_slot}
-use Rattle.link_histories.specs.Calls.{Call, is_joined, served, steps_of, with_step, writes_waiting}
-use Rattle.link_histories.specs.Links.{delivered, notices_waiting}
+use Rattle.delegator_control.specs.Following.{is_followed}
+use Rattle.delegator_control.proofs.Changes.{elsewhere, no_slot}
+use Rattle.link_history.specs.Calls.{Call, is_joined, served, steps_of, with_step, writes_waiting}
+use Rattle.link_history.specs.Links.{delivered, notices_waiting}
 use Rattle.multi_assist.specs.State.Links.{link_at, linked}
 use Rattle.multi_assist.specs.State.Places.{assistant_in, first_of, without_first}
 use Rattle.multi_assist.specs.declared.links.Links.{Links}

@@ -1,10 +1,10 @@
 -- What a Scan Delegator takes of the calls of a sink and of its links (Basic Audio Profile 1.0, section 6.5; Broadcast Audio
 -- Scan Service 1.0, section 3). Lists of calls have the newest first.
 use Rattle.std.specs.Prelude.{List, [], ◌∷◌, Option, Some, None}
-use Rattle.delegator_states.specs.States.{Step}
+use Rattle.delegator_history.specs.States.{Step}
 use Rattle.delegator_machine.specs.Calls as machine
-use Rattle.link_histories.specs.Calls as links
-use Rattle.link_histories.specs.Calls.{Call, step_by}
+use Rattle.link_history.specs.Calls as links
+use Rattle.link_history.specs.Calls.{Call, step_by}
 
 abbrev pub with_control : Option Step → List machine.Call → List machine.Call
 with_control None calls = calls

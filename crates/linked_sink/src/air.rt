@@ -1,11 +1,11 @@
 //! What the receivers of a sink hear, and the units that they hand up.
 ghost use Rattle.std.specs.Prelude.{ℕ, ◌≡◌, ◌≤◌, ◌<◌, ◌^◌, ◌∷◌, List, Option};
 ghost use Rattle.delegator_machine.specs.Groups.{group_calls};
-ghost use Rattle.delegator_states.specs.Trains.{Setup};
+ghost use Rattle.delegator_history.specs.Trains.{Setup};
 ghost use Rattle.group_sink.specs.Handing.{handed_at};
 ghost use Rattle.group_sink.specs.Hearings.{hearing_of};
 ghost use Rattle.isoal_unframed.specs.State.Windows.{HandsOver};
-ghost use Rattle.link_histories.specs.Calls.{Call, heard, ticked};
+ghost use Rattle.link_history.specs.Calls.{Call, heard, ticked};
 ghost use Rattle.unit_outlets.specs.Handed.{Caused};
 ghost use Rattle.linked_sink.specs.State.Stands.{LinkedStands};
 ghost use Rattle.linked_sink.specs.Taken.{delegator_calls};
@@ -13,7 +13,7 @@ ghost use Rattle.linked_sink.specs.Taken.{delegator_calls};
 use crate::sink::LinkedSink;
 use bcast_base::Bis;
 use isoal_base::Hearing;
-use link_histories::links_law;
+use link_history::links_law;
 use unit_outlets::{TakerFault, UnitTaker};
 
 impl LinkedSink {

@@ -3,17 +3,17 @@ ghost use Rattle.std.specs.Prelude.{ℕ, ◌≡◌, ◌≢◌, ◌∷◌, true, 
 ghost use Rattle.assistant_machine.specs.Answers.{IsCause, answer_of};
 ghost use Rattle.assistant_machine.specs.declared.fault.NoticeFault.TheVariants.{Memory as NoMemory};
 ghost use Rattle.assistant_machine.specs.declared.fault.NoticeTaken.TheVariants.{View};
-ghost use Rattle.delegator_states.specs.Trains.{Setup};
-ghost use Rattle.link_histories.specs.Calls.{Call, forged, is_joined, told};
-ghost use Rattle.link_histories.specs.Links.{delivered, notices_waiting};
+ghost use Rattle.delegator_history.specs.Trains.{Setup};
+ghost use Rattle.link_history.specs.Calls.{Call, forged, is_joined, told};
+ghost use Rattle.link_history.specs.Links.{delivered, notices_waiting};
 ghost use Rattle.linked_sink.specs.State.Stands.{LinkedStands};
 
 use crate::on_link::{deliver, take_notice};
 use crate::sink::LinkedSink;
 use assistant_machine::{NoticeFault, NoticeTaken};
 use bcast_base::Memory;
-use delegator_states::Notice;
-use link_histories::links_law;
+use delegator_history::Notice;
+use link_history::links_law;
 
 impl LinkedSink {
     /// Delivers the first notice that waits on a joined link to its assistant, and answers it as it was delivered: its value
@@ -21,13 +21,17 @@ impl LinkedSink {
     /// exactly where no notice waits; then nothing changes. Memory is wanted only where the assistant takes the value for its
     /// view of the slot, and so for none that may have been cut.
     pub fn tell(&mut self, link: u8) -> Result<Option<Notice>, Memory>
-        ensures answer { (setup : Setup) (mtu : Option ℕ) (calls : List Call) → LinkedStands setup mtu calls self.old → is_joined link calls ≡ true
+        ensures answer { (setup : Setup) (mtu : Option ℕ) (calls : List Call) → LinkedStands setup mtu calls self.old
+            → is_joined link calls ≡ true
             → IfOk result (λ notice. notice ≡ option_map (delivered mtu) (slice_get (notices_waiting setup mtu link calls) 0)) }
-        ensures stands { (setup : Setup) (mtu : Option ℕ) (calls : List Call) → LinkedStands setup mtu calls self.old → is_joined link calls ≡ true
+        ensures stands { (setup : Setup) (mtu : Option ℕ) (calls : List Call) → LinkedStands setup mtu calls self.old
+            → is_joined link calls ≡ true
             → OnOk result (LinkedStands setup mtu (told link ∷ calls) self.new) }
-        ensures none { (setup : Setup) (mtu : Option ℕ) (calls : List Call) → LinkedStands setup mtu calls self.old → is_joined link calls ≡ true → result ≡ Ok None
+        ensures none { (setup : Setup) (mtu : Option ℕ) (calls : List Call) → LinkedStands setup mtu calls self.old
+            → is_joined link calls ≡ true → result ≡ Ok None
             → LinkedStands setup mtu calls self.new }
-        ensures memory { (setup : Setup) (mtu : Option ℕ) (calls : List Call) → LinkedStands setup mtu calls self.old → is_joined link calls ≡ true
+        ensures memory { (setup : Setup) (mtu : Option ℕ) (calls : List Call) → LinkedStands setup mtu calls self.old
+            → is_joined link calls ≡ true
             → OnErr result (IsSomeAnd (option_map (delivered mtu) (slice_get (notices_waiting setup mtu link calls) 0))
             (λ notice. answer_of setup.slots mtu notice.slot notice.value ≡ Ok View)) }
         ensures slots { self.new.slots ≡ self.old.slots }

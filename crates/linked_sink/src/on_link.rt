@@ -7,7 +7,7 @@ ghost use Rattle.assistant_machine.specs.State.Assistants.{Assistant, IsLowest, 
 ghost use Rattle.assistant_machine.specs.declared.fault.NoticeFault.TheVariants.{Memory as NoMemory};
 ghost use Rattle.assistant_machine.specs.declared.fault.NoticeTaken.TheVariants.{View};
 ghost use Rattle.multi_assist.specs.State.Links.{link_at, mtu_of, slots_of, with_assistant_on};
-ghost use Rattle.delegator_states.specs.Values.{value};
+ghost use Rattle.delegator_history.specs.Values.{value};
 ghost use Rattle.receive_state.specs.Layout.{HasSpelling};
 ghost use Rattle.receive_state.specs.declared.state.ReceiveState.{ReceiveState};
 ghost use Rattle.multi_assist.specs.State.Places.{assistant_in};
@@ -42,7 +42,8 @@ pub(crate) fn put(links: &mut Links, link: u8, octets: &[u8]) -> Result<(), Memo
 /// The first write that waits on a joined link, which waits no longer.
 pub(crate) fn take_write(links: &mut Links, link: u8) -> Option<Octets>
     ensures some { (before : Assistant) → assistant_in (link_at links.old link) ≡ Some before
-        → IfSome result (λ write. (before.writes ≡ write ∷ drop 1 before.writes) × Takes (assistants.sent ∷ []) link before links.old links.new) }
+        → IfSome result (λ write. (before.writes ≡ write ∷ drop 1 before.writes)
+        × Takes (assistants.sent ∷ []) link before links.old links.new) }
     ensures none { (before : Assistant) → assistant_in (link_at links.old link) ≡ Some before
         → IfNone result ((before.writes ≡ []) × (links.new ≡ with_assistant_on links.old link before)) }
 {

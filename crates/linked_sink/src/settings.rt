@@ -1,16 +1,16 @@
 //! What is set of a sink: its capability.
 ghost use Rattle.std.specs.Prelude.{ℕ, ◌≡◌, ◌≤◌, ◌<◌, ◌∷◌, ◌++◌, [], List, Option, length, OnOk, OnErr, IfErr};
 ghost use Rattle.base_grammar.specs.Layout.{lc3};
-ghost use Rattle.delegator_states.specs.States.{contexts_set, locations_set, record_added, sight_of};
-ghost use Rattle.delegator_states.specs.Trains.{Setup};
-ghost use Rattle.link_histories.specs.Calls.{Call, stepped, steps_of};
+ghost use Rattle.delegator_history.specs.States.{contexts_set, locations_set, record_added, sight_of};
+ghost use Rattle.delegator_history.specs.Trains.{Setup};
+ghost use Rattle.link_history.specs.Calls.{Call, stepped, steps_of};
 ghost use Rattle.ltv_codec.specs.Layout.{AreLtvs};
 ghost use Rattle.pacs_records.specs.Layout.{greatest_value, value};
 ghost use Rattle.pacs_records.specs.Pushes.{RefusesPush};
 ghost use Rattle.linked_sink.specs.State.Stands.{LinkedStands};
 
 use crate::sink::LinkedSink;
-use link_histories::a_step_tells_each_link;
+use link_history::a_step_tells_each_link;
 use pacs_records::{PacRecord, PushFault};
 
 impl LinkedSink {

@@ -1,13 +1,13 @@
 ghost use Rattle.std.specs.Prelude.{ℕ, ◌≡◌, ◌≤◌, ◌<◌, ◌≢◌, ◌∷◌, [], List, Option, IfOk, IsSome, OnOk, OnErr};
 ghost use Rattle.delegator_machine.specs.State.Halves.{StandsFor};
 ghost use Rattle.multi_assist.specs.Mtus.{IsMtu};
-ghost use Rattle.link_histories.specs.Calls.{born};
+ghost use Rattle.link_history.specs.Calls.{born};
 ghost use Rattle.linked_sink.specs.Taken.{delegator_calls};
 
 use bcast_base::{Memory, Octets};
 use big_info::Limits;
 use delegator_machine::Delegator;
-use link_histories::a_step_tells_each_link;
+use link_history::a_step_tells_each_link;
 use multi_assist::Links;
 use std::alloc::Global;
 
@@ -27,12 +27,12 @@ pub struct LinkedSink {
 }
 
 impl LinkedSink {
-    ghost use Rattle.delegator_states.specs.Notices.{changes};
-    ghost use Rattle.delegator_states.specs.States.{sight_of};
-    ghost use Rattle.delegator_states.specs.Trains.{Setup};
-    ghost use Rattle.delegator_states.specs.Values.{value};
-    ghost use Rattle.link_histories.specs.Calls.{Call, steps_of};
-    ghost use Rattle.link_histories.specs.Links.{state};
+    ghost use Rattle.delegator_history.specs.Notices.{changes};
+    ghost use Rattle.delegator_history.specs.States.{sight_of};
+    ghost use Rattle.delegator_history.specs.Trains.{Setup};
+    ghost use Rattle.delegator_history.specs.Values.{value};
+    ghost use Rattle.link_history.specs.Calls.{Call, steps_of};
+    ghost use Rattle.link_history.specs.Links.{state};
     ghost use Rattle.linked_sink.specs.State.Stands.{HasStepped, LinkedStands};
 
     /// A sink that takes so many streams at once, 1 to 31, with so many slots, 1 to 8, that are empty, on groups that send a
@@ -72,7 +72,8 @@ impl LinkedSink {
     /// How many slots it has.
     pub fn slots(&self) -> u8
         ensures slots { result ≡ self.now.slots }
-        ensures setup { (setup : Setup) (mtu : Option ℕ) (calls : List Call) → LinkedStands setup mtu calls self.now → result ≡ setup.slots }
+        ensures setup { (setup : Setup) (mtu : Option ℕ) (calls : List Call) → LinkedStands setup mtu calls self.now
+            → result ≡ setup.slots }
     {
         self.slots
     }

@@ -1,17 +1,17 @@
 //! Where a sink is put, and what takes it from there.
 ghost use Rattle.std.specs.Prelude.{ℕ, ◌≡◌, ◌+◌, ◌≤◌, ◌<◌, ◌^◌, ◌∷◌, true, List, Option, IfOk, IsSome, OnOk, OnErr};
-ghost use Rattle.delegator_states.specs.Controls.{control_heard};
-ghost use Rattle.delegator_states.specs.Sights.{slot_of};
-ghost use Rattle.delegator_states.specs.States.{control_heard as controlled, put_on, sight_of, train_heard, train_lost};
-ghost use Rattle.delegator_states.specs.Trains.{Setup, answer_of, brought_by};
-ghost use Rattle.link_histories.specs.Calls.{Call, stepped, steps_of};
-ghost use Rattle.scan_delegator.specs.Following.{is_followed};
+ghost use Rattle.delegator_history.specs.Controls.{control_heard};
+ghost use Rattle.delegator_history.specs.Sights.{slot_of};
+ghost use Rattle.delegator_history.specs.States.{control_heard as controlled, put_on, sight_of, train_heard, train_lost};
+ghost use Rattle.delegator_history.specs.Trains.{Setup, answer_of, brought_by};
+ghost use Rattle.link_history.specs.Calls.{Call, stepped, steps_of};
+ghost use Rattle.delegator_control.specs.Following.{is_followed};
 ghost use Rattle.linked_sink.specs.State.Stands.{LinkedStands};
 
 use crate::sink::LinkedSink;
 use bcast_base::{BisSet, Memory};
 use big_info::Group;
-use delegator_states::{ControlHeard, TrainHeard};
+use delegator_history::{ControlHeard, TrainHeard};
 
 impl LinkedSink {
     /// Puts the sink on a group of no slot, with these streams, this event as the first one, whose anchor is given in µs, and
@@ -28,7 +28,9 @@ impl LinkedSink {
         requires anchor { anchor ≤ 2 ^ 61 + 2 ^ 23 }
         requires delay { delay < 2 ^ 24 }
         ensures stands { (setup : Setup) (mtu : Option ℕ) (calls : List Call) (source : ℕ) → LinkedStands setup mtu calls self.old
-            → OnOk result (LinkedStands setup mtu (stepped (put_on source (record { info = group.now.info; which = which; first = event; anchor = anchor; delay = delay })) ∷ calls) self.new) }
+            → OnOk result (LinkedStands setup mtu (stepped
+            (put_on source (record { info = group.now.info; which = which; first = event; anchor = anchor; delay = delay })) ∷ calls)
+            self.new) }
         ensures slots { self.new.slots ≡ self.old.slots }
     {
         self.delegator.tune(group, which, event, anchor, delay)?;
@@ -53,7 +55,8 @@ impl LinkedSink {
             (record { address_type = address_type; sid = sid; ext = ext.now; adv = adv.now; acad = acad.now; now = now }))) }
         ensures stands { (setup : Setup) (mtu : Option ℕ) (calls : List Call) (source : ℕ) → LinkedStands setup mtu calls self.old
             → OnOk result (LinkedStands setup mtu (stepped (train_heard source
-            (record { address_type = address_type; sid = sid; ext = ext.now; adv = adv.now; acad = acad.now; now = now })) ∷ calls) self.new) }
+            (record { address_type = address_type; sid = sid; ext = ext.now; adv = adv.now; acad = acad.now; now = now })) ∷ calls)
+            self.new) }
         ensures memory { (setup : Setup) (mtu : Option ℕ) (calls : List Call) → LinkedStands setup mtu calls self.old
             → OnErr result (is_followed (brought_by setup (sight_of setup (steps_of calls))
             (record { address_type = address_type; sid = sid; ext = ext.now; adv = adv.now; acad = acad.now; now = now })) ≡ true) }

@@ -2,9 +2,9 @@
 use Rattle.std.proofs.Common.{◌≡◌, List, [], ◌∷◌, ◌++◌, map, drop, slice_get, Option, Some, None, refl, sym, ap, ◌∙◌, append_assoc}
 use Rattle.std.specs.Prelude.{option_map}
 use Rattle.std.proofs.lemmas.List.{append-nil}
-use Rattle.delegator_states.specs.declared.notice.Notice.{Notice}
-use Rattle.delegator_states.specs.Notices.{handed_out}
-use Rattle.scan_delegator.specs.State.Machines.{Machine}
+use Rattle.delegator_history.specs.declared.notice.Notice.{Notice}
+use Rattle.delegator_history.specs.Notices.{handed_out}
+use Rattle.delegator_control.specs.State.Machines.{Machine}
 use Rattle.multi_assist.specs.State.Gathering.{Gathered, Gathers, StopsShort}
 use Rattle.multi_assist.specs.State.Places.{Linked, with_notice, with_notices}
 

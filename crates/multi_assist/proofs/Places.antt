@@ -1,6 +1,6 @@
 -- A notice that is put behind those that wait on a link.
 use Rattle.std.proofs.Common.{◌≡◌, Option, Some, None, refl, ◌∙◌}
-use Rattle.delegator_states.specs.declared.notice.Notice.{Notice}
+use Rattle.delegator_history.specs.declared.notice.Notice.{Notice}
 use Rattle.multi_assist.specs.State.Places.{Linked, copy_for, with_copy, with_notice}
 
 pub copied : (notice : Notice) (link : Option Linked) → with_copy (copy_for notice link) link ≡ with_notice notice link

@@ -8,8 +8,8 @@ use crate::place::Place;
 use crate::terms::Terms;
 use assistant_machine::AssistJoined;
 use bcast_base::Memory;
+use delegator_history::Notice;
 use delegator_machine::Delegator;
-use delegator_states::Notice;
 use std::alloc::Global;
 
 /// The four links of a sink, numbered from 0, all with the MTU of the sink: on each that is joined an assistant, and the
@@ -34,7 +34,8 @@ impl Links {
     pub fn new(alloc: Global, slots: u8, mtu: Option<u16>) -> Result<Links, Memory>
         requires few { slots ≤ 8 }
         requires mtu { IsMtu mtu }
-        ensures links { IfOk result (λ links. linked links ≡ Some (record { waiting = []; assistant = joining slots mtu }) ∷ None ∷ None ∷ None ∷ []) }
+        ensures links { IfOk result (λ links. linked links
+            ≡ Some (record { waiting = []; assistant = joining slots mtu }) ∷ None ∷ None ∷ None ∷ []) }
         ensures terms { IfOk result (λ links. (slots_of links ≡ slots) × (mtu_of links ≡ mtu)) }
     {
         let terms = Terms { alloc, slots, mtu };
@@ -52,7 +53,8 @@ impl Links {
     /// waits. LinkTwice comes exactly where the link is joined. A refusal changes nothing.
     pub fn assist(&mut self, link: u8) -> Result<(), LinkFault>
         requires { link ≤ 3 }
-        ensures ok { OnOk result (linked self.new ≡ slice_set (linked self.old) link (Some (asking (slots_of self.old) (mtu_of self.old)))) }
+        ensures ok { OnOk result (linked self.new ≡ slice_set (linked self.old) link
+            (Some (asking (slots_of self.old) (mtu_of self.old)))) }
         ensures twice { (result ≡ Err Twice) ↔ (is_some (link_at self.old link) ≡ true) }
         ensures err { OnErr result (linked self.new ≡ linked self.old) }
         ensures terms { (slots_of self.new ≡ slots_of self.old) × (mtu_of self.new ≡ mtu_of self.old) }

@@ -5,7 +5,7 @@ ghost use Rattle.multi_assist.specs.State.Places.{LendsAssistant, assistant_in, 
 
 use assistant_machine::AssistJoined;
 use bcast_base::Memory;
-use delegator_states::Notice;
+use delegator_history::Notice;
 use std::alloc::Global;
 use std::collections::VecDeque;
 

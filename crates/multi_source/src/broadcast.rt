@@ -50,7 +50,8 @@ impl Broadcast {
         requires { first < 2 ^ 39 }
         ensures started { IfOk result (λ broadcast. (broadcast.source.identity ≡ configured.identity)
             × (broadcast.source.setup ≡ started configured first) × StandsFor [] broadcast) }
-        ensures announced { IfOk result (λ broadcast. (broadcast.source.base ≡ configured.base) × (broadcast.source.cipher ≡ configured.cipher)) }
+        ensures announced { IfOk result (λ broadcast. (broadcast.source.base ≡ configured.base)
+            × (broadcast.source.cipher ≡ configured.cipher)) }
     {
         match configured.start(first) {
             Ok(source) => {
@@ -68,10 +69,12 @@ impl Broadcast {
         ensures announced { (self.new.source.base ≡ self.old.source.base) × (self.new.source.cipher ≡ self.old.source.cipher) }
         ensures setup { self.new.source.setup ≡ self.old.source.setup }
         ensures ok { OnOk result ((calls : List Call) → StandsFor calls self.old → StandsFor (gives bis time octets.now ∷ calls) self.new) }
-        ensures accepted { OnOk result ((calls : List Call) (airs : List StreamAir) → StandsFor calls self.old → AreAirs self.old.source.setup calls airs
+        ensures accepted { OnOk result ((calls : List Call) (airs : List StreamAir) → StandsFor calls self.old
+            → AreAirs self.old.source.setup calls airs
             → give_fault self.old.source.setup calls airs bis time octets.now ≡ None) }
         ensures err { OnErr result (self.new ≡ self.old) }
-        ensures cause { IfErr result (λ fault. (calls : List Call) (airs : List StreamAir) → StandsFor calls self.old → AreAirs self.old.source.setup calls airs
+        ensures cause { IfErr result (λ fault. (calls : List Call) (airs : List StreamAir) → StandsFor calls self.old
+            → AreAirs self.old.source.setup calls airs
             → give_fault self.old.source.setup calls airs bis time octets.now ≡ refused_unit fault) }
         ensures checked { IsChecked self.old.source.setup.info }
     {
@@ -93,7 +96,8 @@ impl Broadcast {
         ensures setup { self.new.source.setup ≡ self.old.source.setup }
         ensures ok { OnOk result ((calls : List Call) → StandsFor calls self.old
             → (event_fault self.old.source.setup calls ≡ None) × StandsFor (performs ∷ calls) self.new) }
-        ensures stale { IfOk result (λ stale. (calls : List Call) (airs : List StreamAir) → StandsFor calls self.old → AreAirs self.old.source.setup (performs ∷ calls) airs
+        ensures stale { IfOk result (λ stale. (calls : List Call) (airs : List StreamAir) → StandsFor calls self.old
+            → AreAirs self.old.source.setup (performs ∷ calls) airs
             → stale ≡ stale_of self.old.source.setup calls airs) }
         ensures cause { IfErr result (λ fault. (calls : List Call) → StandsFor calls self.old
             → event_fault self.old.source.setup calls ≡ refused_event fault) }
@@ -113,7 +117,8 @@ impl Broadcast {
 
     /// Announces the next event, as `SourceStreaming::announce` does.
     pub fn announce(&self) -> Result<Train, AnnounceFault>
-        ensures train { IfOk result (λ train. IsTrain self.now.source.identity.broadcast_id self.now.source.base (group_in self.now.source) self.now.source.next
+        ensures train { IfOk result (λ train. IsTrain self.now.source.identity.broadcast_id self.now.source.base
+            (group_in self.now.source) self.now.source.next
             (anchor_in self.now.source) train) }
         ensures ok { OnOk result ((calls : List Call) → StandsFor calls self.now → announce_fault self.now.source.setup calls ≡ None) }
         ensures cause { IfErr result (λ fault. (calls : List Call) → StandsFor calls self.now
@@ -130,7 +135,8 @@ impl Broadcast {
     /// subevent, NotOnAir where fewer than `back` + 1 events were performed.
     pub fn heard_at(&self, back: u8, bis: Bis, subevent: u8) -> Result<&[u8], AirFault>
         requires { back ≤ 31 }
-        ensures ok { IfOk result (λ pdu. (calls : List Call) (airs : List StreamAir) → StandsFor calls self.now → AreAirs self.now.source.setup calls airs
+        ensures ok { IfOk result (λ pdu. (calls : List Call) (airs : List StreamAir) → StandsFor calls self.now
+            → AreAirs self.now.source.setup calls airs
             → (air_fault self.now.source.setup calls back bis subevent ≡ None)
             × (pdu_of self.now.source.setup airs (next_of self.now.source.setup calls - 1 - back) bis subevent ≡ Some pdu.now)) }
         ensures err { IfErr result (λ fault. (calls : List Call) → StandsFor calls self.now

@@ -150,9 +150,11 @@ impl Field {
         requires plain { IsPlain (source_of self.old s) }
         ensures ok { OnOk result ((setup : Fixed) (calls : List Call) → Sending setup calls (source_of self.old s) (begun_of self.old s)
             → (event_fault setup calls ≡ None) × Sending setup (performs ∷ calls) (source_of self.new s) (begun_of self.new s)) }
-        ensures stale { IfOk result (λ stale. (setup : Fixed) (calls : List Call) (airs : List StreamAir) → Sending setup calls (source_of self.old s) (begun_of self.old s)
+        ensures stale { IfOk result (λ stale. (setup : Fixed) (calls : List Call) (airs : List StreamAir)
+            → Sending setup calls (source_of self.old s) (begun_of self.old s)
             → AreAirs setup (performs ∷ calls) airs → stale ≡ stale_of setup calls airs) }
-        ensures cause { IfErr result (λ fault. (setup : Fixed) (calls : List Call) → Sending setup calls (source_of self.old s) (begun_of self.old s)
+        ensures cause { IfErr result (λ fault. (setup : Fixed) (calls : List Call)
+            → Sending setup calls (source_of self.old s) (begun_of self.old s)
             → event_fault setup calls ≡ refused_event fault) }
         ensures left { IfErr result (λ fault. EventLeaves fault (source_of self.old s) (source_of self.new s)) }
         ensures air { OnErr result (begun_of self.new s ≡ begun_of self.old s) }
@@ -172,7 +174,8 @@ impl Field {
         requires begun { is_some (begun_of self.now s) ≡ true }
         ensures ok { IfOk result (λ pdu. (begun : HeardSince) → begun_of self.now s ≡ Some begun
             → (fault_at begun.air back bis subevent ≡ None) × (pdu_at begun.air back bis subevent ≡ Some pdu.now)) }
-        ensures err { IfErr result (λ fault. (begun : HeardSince) → begun_of self.now s ≡ Some begun → fault_at begun.air back bis subevent ≡ Some fault) }
+        ensures err { IfErr result (λ fault. (begun : HeardSince) → begun_of self.now s ≡ Some begun
+            → fault_at begun.air back bis subevent ≡ Some fault) }
     {
         let begun = if s == 0 {
             &self.one_begun
@@ -244,7 +247,8 @@ fn perform(
     requires plain { IsPlain place.old }
     ensures ok { OnOk result ((setup : Fixed) (calls : List Call) → Sending setup calls place.old since.old
         → (event_fault setup calls ≡ None) × Sending setup (performs ∷ calls) place.new since.new) }
-    ensures stale { IfOk result (λ stale. (setup : Fixed) (calls : List Call) (airs : List StreamAir) → Sending setup calls place.old since.old
+    ensures stale { IfOk result (λ stale. (setup : Fixed) (calls : List Call) (airs : List StreamAir)
+        → Sending setup calls place.old since.old
         → AreAirs setup (performs ∷ calls) airs → stale ≡ stale_of setup calls airs) }
     ensures cause { IfErr result (λ fault. (setup : Fixed) (calls : List Call) → Sending setup calls place.old since.old
         → event_fault setup calls ≡ refused_event fault) }

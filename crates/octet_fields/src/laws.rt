@@ -10,7 +10,8 @@ ghost use Rattle.octet_fields.specs.Subgroups.{Subgroup, Fits, subgroup, subgrou
 #[tactic(auto, using(crate::proofs::Fields::octet_takes))]
 pub fn read_is_spelled()
     ensures octet { (from : List ℕ) (value : ℕ) (rest : List ℕ) → octet_in from ≡ Some (value, rest) → Takes from (octet value) rest }
-    ensures octets { (k : ℕ) (from value rest : List ℕ) → octets_in k from ≡ Some (value, rest) → Takes from value rest × (length value ≡ k) }
+    ensures octets { (k : ℕ) (from value rest : List ℕ) → octets_in k from ≡ Some (value, rest) → Takes from value rest
+        × (length value ≡ k) }
     ensures number { (k : ℕ) (from : List ℕ) (value : ℕ) (rest : List ℕ)
         → IsOctets from
         → number_in k from ≡ Some (value, rest)
@@ -44,5 +45,6 @@ pub fn subgroups_are_spelled()
         → IsOctets from
         → subgroups_in count from ≡ Some x
         → Takes from (flat_map subgroup x.0) x.1 × AllByRecursion Fits x.0 × (length x.0 ≡ count) }
-    ensures again { (groups : List Subgroup) (rest : List ℕ) → AllByRecursion Fits groups → subgroups_in (length groups) (flat_map subgroup groups ++ rest) ≡ Some (groups, rest) }
+    ensures again { (groups : List Subgroup) (rest : List ℕ) → AllByRecursion Fits groups
+        → subgroups_in (length groups) (flat_map subgroup groups ++ rest) ≡ Some (groups, rest) }
 {}

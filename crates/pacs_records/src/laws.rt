@@ -20,13 +20,15 @@ pub fn read_is_value()
 
 /// What is wrong with octets is what stands at the cut, behind the whole fields that meet their rows.
 pub fn fault_is_at_cut()
-    ensures { (fault : PacFault) (octets : List ℕ) → IsOctets octets → fault ≢ Memory → (value_in octets ≡ Err fault) ↔ IsFault fault octets }
+    ensures { (fault : PacFault) (octets : List ℕ) → IsOctets octets → fault ≢ Memory
+        → (value_in octets ≡ Err fault) ↔ IsFault fault octets }
 {}
 
 /// A stream is taken exactly where some record meets all requirements. Else the reason is the first requirement that the
 /// last record doesn't meet, or Codec where there is no record.
 pub fn match_is_some_record()
-    ensures taken { (capability : Capability) (effective : Effective) → (not_taken capability effective ≡ None) ↔ Takes capability effective }
+    ensures taken { (capability : Capability) (effective : Effective)
+        → (not_taken capability effective ≡ None) ↔ Takes capability effective }
     ensures refused { (reason : NotTaken) (capability : Capability) (effective : Effective)
         → (not_taken capability effective ≡ Some reason) ↔ ((¬ Takes capability effective) × IsToldReason reason capability effective) }
 {}

@@ -133,7 +133,8 @@ fn own_record(alloc: Global, lent: &LentRecord<'_>) -> Result<PacRecord, Memory>
 #[tactic(auto, unfolding(crate::specs::Reading::record_in))]
 fn record_at<'a>(whole: &[u8], from: &'a [u8]) -> Result<(LentRecord<'a>, &'a [u8]), PacFault>
     requires { length from.now ≤ length whole.now }
-    ensures exact { Reads (λ x. (record { codec = x.0.codec; caps = x.0.caps.now; metadata = x.0.metadata.now }, x.1.now)) result (record_in whole.now from.now) }
+    ensures exact { Reads (λ x. (record { codec = x.0.codec; caps = x.0.caps.now; metadata = x.0.metadata.now }, x.1.now)) result
+        (record_in whole.now from.now) }
     ensures within { IfOk result (λ x. length x.1.now ≤ length whole.now) }
 {
     let (codec, rest) = codec_at(whole, from)?;

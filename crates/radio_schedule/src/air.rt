@@ -64,7 +64,8 @@ impl Air {
 
     /// The PDU of a stream and a subevent, from 0, in the event `back` events before the newest.
     pub fn heard_at(&self, back: u8, bis: Bis, subevent: u8) -> Result<&[u8], AirFault>
-        ensures ok { IfOk result (λ pdu. (fault_at self.now back bis subevent ≡ None) × (pdu_at self.now back bis subevent ≡ Some pdu.now)) }
+        ensures ok { IfOk result (λ pdu. (fault_at self.now back bis subevent ≡ None)
+            × (pdu_at self.now back bis subevent ≡ Some pdu.now)) }
         ensures err { IfErr result (λ fault. fault_at self.now back bis subevent ≡ Some fault) }
     {
         if bis.get() > self.num_bis {

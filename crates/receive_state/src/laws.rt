@@ -15,7 +15,8 @@ pub fn read_is_state()
 
 /// Octets are refused by a fault exactly where it is what is wrong with them, so at most one fault is.
 pub fn fault_is_cause()
-    ensures { (fault : StateFault) (octets : List ℕ) → fault ≢ Memory → IsOctets octets → (state_of octets ≡ Err fault) ↔ IsFault fault octets }
+    ensures { (fault : StateFault) (octets : List ℕ) → fault ≢ Memory → IsOctets octets
+        → (state_of octets ≡ Err fault) ↔ IsFault fault octets }
 {}
 
 /// A state fits exactly where some octets are it.

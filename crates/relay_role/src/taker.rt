@@ -39,7 +39,8 @@ impl<T: UnitTaker> RelayTaker<T> {
     fn copy(&mut self, bis: Bis, time: u64, octets: &[u8]) -> Result<(), TakerFault>
         ensures ok { OnOk result (T.calls self.new.inner ≡ T.calls self.old.inner ++ valid bis time octets.now ∷ []) }
         ensures err { OnErr result (T.calls self.new.inner ≡ T.calls self.old.inner) }
-        ensures cause { Caused (with_own self.old.wants (T.counts self.old.inner)) (with_own self.new.wants (T.counts self.new.inner)) result }
+        ensures cause { Caused (with_own self.old.wants (T.counts self.old.inner))
+            (with_own self.new.wants (T.counts self.new.inner)) result }
         ensures copied { OnOk result (self.new.relay ≡ with_unit time octets.now self.old.relay) }
         ensures same { OnErr result (self.new.relay ≡ self.old.relay) }
     {
@@ -67,7 +68,8 @@ impl<T: UnitTaker> UnitTaker for RelayTaker<T> {
     fn valid(&mut self, bis: Bis, time: u64, octets: &[u8]) -> Result<(), TakerFault>
         ensures ok { OnOk result (T.calls self.new.inner ≡ T.calls self.old.inner ++ valid bis time octets.now ∷ []) }
         ensures err { OnErr result (T.calls self.new.inner ≡ T.calls self.old.inner) }
-        ensures cause { Caused (with_own self.old.wants (T.counts self.old.inner)) (with_own self.new.wants (T.counts self.new.inner)) result }
+        ensures cause { Caused (with_own self.old.wants (T.counts self.old.inner))
+            (with_own self.new.wants (T.counts self.new.inner)) result }
         ensures copied { OnOk result (self.new.relay ≡ copied bis time octets.now self.old.relay) }
         ensures same { OnErr result (self.new.relay ≡ self.old.relay) }
     {
@@ -81,7 +83,8 @@ impl<T: UnitTaker> UnitTaker for RelayTaker<T> {
     fn lost(&mut self, bis: Bis, time: u64) -> Result<(), TakerFault>
         ensures ok { OnOk result (T.calls self.new.inner ≡ T.calls self.old.inner ++ lost bis time ∷ []) }
         ensures err { OnErr result (T.calls self.new.inner ≡ T.calls self.old.inner) }
-        ensures cause { Caused (with_own self.old.wants (T.counts self.old.inner)) (with_own self.new.wants (T.counts self.new.inner)) result }
+        ensures cause { Caused (with_own self.old.wants (T.counts self.old.inner))
+            (with_own self.new.wants (T.counts self.new.inner)) result }
         ensures same { self.new.relay ≡ self.old.relay }
     {
         self.inner.lost(bis, time)

@@ -6,7 +6,7 @@ use Rattle.replay_lines.specs.declared.ending.Ending.TheVariants as endings
 use Rattle.replay_words.specs.declared.mode.Mode.{Mode}
 use Rattle.replay_words.specs.declared.mode.Mode.TheVariants as modes
 use Rattle.replay_command.specs.ByWords.{IsNone, PromisedIn}
-use Rattle.replay_toml.specs.FromToml.{FromToml, TomlEnding}
+use Rattle.replay_lines.specs.FromToml.{FromToml, TomlEnding}
 use Rattle.replay_command.specs.FromDocument.{FromDocument}
 use Rattle.replay_command.specs.FromText.{FromText}
 use Rattle.replay_command.specs.Generated.{Generated}

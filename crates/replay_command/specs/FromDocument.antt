@@ -2,7 +2,7 @@
 -- whole, and the lines that it stands for are run. The program is this project's own.
 use Rattle.std.specs.Prelude.{◌≡◌}
 use Rattle.replay_lines.specs.World.{World}
-use Rattle.replay_toml.specs.FromToml.{FromToml, TomlEnding}
+use Rattle.replay_lines.specs.FromToml.{FromToml, TomlEnding}
 use Rattle.replay_command.specs.Statuses.{status_in_toml}
 use Rattle.replay_command.specs.declared.status.Status.{Status}
 

@@ -7,8 +7,8 @@ use Rattle.replay_lines.specs.declared.ending.Ending.{Ending}
 use Rattle.replay_lines.specs.declared.ending.Ending.TheVariants as endings
 use Rattle.replay_migration.specs.declared.migration.Migration.{Migration}
 use Rattle.replay_migration.specs.declared.migration.Migration.TheVariants as ends
-use Rattle.replay_toml.specs.Standing.{reason_of}
-use Rattle.replay_toml.specs.declared.cause.Cause.{Cause}
+use Rattle.replay_lines.specs.Standing.{reason_of}
+use Rattle.replay_lines.specs.declared.cause.Cause.{Cause}
 use Rattle.replay_command.specs.declared.status.Status.{Status}
 use Rattle.replay_command.specs.declared.status.Status.TheVariants.{Done, Refused, Usage, ReadFault, WriteFault, OutletFault, Memory}
 

@@ -4,9 +4,9 @@ ghost use Rattle.bcast_io.specs.TextLines.{lines_of};
 ghost use Rattle.scenario_history.specs.Airs.{MeetAirs};
 ghost use Rattle.scenario_history.specs.Source.{Airs};
 ghost use Rattle.replay_generated.specs.Generated.{lines_made};
-ghost use Rattle.replay_generated.specs.Untaken.{UntakenBy};
+ghost use Rattle.replay_steps.specs.Untaken.{UntakenBy};
 ghost use Rattle.replay_lines.specs.World.{world_of};
-ghost use Rattle.replay_toml.specs.Standing.{lines_over, standing_of};
+ghost use Rattle.replay_lines.specs.Standing.{lines_over, standing_of};
 ghost use Rattle.replay_words.specs.Words.{mode_of as mode_of_words};
 ghost use Rattle.replay_words.specs.declared.mode.Mode.TheVariants as modes;
 ghost use Rattle.replay_command.specs.ByWords.{PromisedFor};
@@ -15,9 +15,8 @@ use crate::status::Status;
 use bcast_base::Memory;
 use bcast_io::{ByteSink, ByteSource};
 use replay_generated::run_generated;
-use replay_lines::{run_text, want_of_memory_at_once};
+use replay_lines::{run_text, run_toml, want_of_memory_at_once, want_of_memory_before_a_document};
 use replay_migration::run_migration;
-use replay_toml::{run_toml, want_of_memory_before_a_document};
 use replay_words::{Mode, Words, mode_of};
 use std::alloc::Global;
 use unit_outlets::Outlet;
@@ -71,9 +70,11 @@ pub fn replay<S: ByteSource, K: ByteSink>(
     ensures uncalled { result ≡ Status.Usage → outlets.new ≡ outlets.old }
 
     // A box that no accepted `sink` line of the text that is run takes stays the same.
-    ensures untaken { (text : List ℕ) (airs : Airs) → mode_of_words (map string_bytes words.now) ≡ modes.Replay → S.left source.old ≡ Some text → MeetAirs airs
+    ensures untaken { (text : List ℕ) (airs : Airs) → mode_of_words (map string_bytes words.now) ≡ modes.Replay
+        → S.left source.old ≡ Some text → MeetAirs airs
         → UntakenBy airs (map account outlets.old.items) (lines_of true text) outlets.old.items outlets.new.items }
-    ensures untaken_generated { (seed events : ℕ) (airs : Airs) → mode_of_words (map string_bytes words.now) ≡ modes.Generate seed events → MeetAirs airs
+    ensures untaken_generated { (seed events : ℕ) (airs : Airs) → mode_of_words (map string_bytes words.now) ≡ modes.Generate seed events
+        → MeetAirs airs
         → UntakenBy airs (map account outlets.old.items) (lines_made seed events) outlets.old.items outlets.new.items }
     ensures untaken_document { (document : List ℕ) (airs : Airs) → mode_of_words (map string_bytes words.now) ≡ modes.Toml
         → S.left source.old ≡ Some document → MeetAirs airs
@@ -81,8 +82,10 @@ pub fn replay<S: ByteSource, K: ByteSink>(
 
     // In migration no box is called, nor where a document couldn't be read, and in generated mode the source isn't read.
     ensures boxes_kept { mode_of_words (map string_bytes words.now) ≡ modes.Migrate → outlets.new ≡ outlets.old }
-    ensures uncalled_document { mode_of_words (map string_bytes words.now) ≡ modes.Toml → result ≡ Status.ReadFault → outlets.new ≡ outlets.old }
-    ensures source_kept { (seed events : ℕ) → mode_of_words (map string_bytes words.now) ≡ modes.Generate seed events → source.new ≡ source.old }
+    ensures uncalled_document { mode_of_words (map string_bytes words.now) ≡ modes.Toml → result ≡ Status.ReadFault
+        → outlets.new ≡ outlets.old }
+    ensures source_kept { (seed events : ℕ) → mode_of_words (map string_bytes words.now) ≡ modes.Generate seed events
+        → source.new ≡ source.old }
 {
     want_of_memory_at_once();
     want_of_memory_before_a_document();

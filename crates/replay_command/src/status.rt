@@ -2,9 +2,8 @@ ghost use Rattle.std.specs.Prelude.{◌≡◌, option_copied};
 ghost use Rattle.replay_command.specs.Statuses.{exit_number, text_of, status_of, status_after, status_at, status_in_toml};
 
 use replay_generated::Outcome;
-use replay_lines::Ending;
+use replay_lines::{Cause, Ending};
 use replay_migration::Migration;
-use replay_toml::Cause;
 use transcript_text::Refusal;
 
 /// How a call of `replay` ended.

@@ -6,7 +6,7 @@ use Rattle.unit_outlets.specs.Account.{Account}
 use Rattle.source_machine.specs.Airs.{airs_of}
 use Rattle.transcript_text.specs.declared.refusal.Refusal.{Refusal}
 use Rattle.transcript_text.specs.declared.refusal.Refusal.TheVariants.{NoOutlet}
-use Rattle.line_runs.specs.Runs.{End, through, refused, end_of, end_unless}
+use Rattle.scenario_history.specs.Runs.{End, through, refused, end_of, end_unless}
 use Rattle.scenario_text.specs.Lines.{LineIs}
 use Rattle.scenario_text.specs.Steps.{read_of}
 use Rattle.scenario_text.specs.declared.step.Step.{Step}

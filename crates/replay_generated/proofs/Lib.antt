@@ -2,8 +2,6 @@ mod GeneratedText
 mod EndLines
 mod SinkOutputs
 mod Outputs
-mod Untaken
-mod Failing
 mod Runs
 mod Standing
 mod Waiting
@@ -12,4 +10,3 @@ mod Saying
 mod Endings
 mod Rooms
 mod Promising
-pub mod Citable

@@ -18,8 +18,8 @@ use Rattle.scenario_history.specs.Lines.{Said, a_step, nothing, unsaid, output_s
 use Rattle.scenario_history.specs.Output.{answer_line, close_lines, dropped_lines, first_lines, injected_hearing, output_of, stale_lines, sum_if, sums_of, unit_line, unit_lines}
 use Rattle.scenario_history.specs.Source.{end_pdu, event_back, pdu_in, stale_in}
 use Rattle.scenario_history.specs.Steps.{chosen_of, chosen_steps}
-use Rattle.transcript_summary.specs.Lines.{IsWhole}
-use Rattle.transcript_summary.proofs.Citable.{whole_append, whole_ended, whole_none}
+use Rattle.transcript_text.specs.CountedLines.{IsWhole}
+use Rattle.transcript_text.proofs.Citable.{whole_append, whole_ended, whole_none}
 use Rattle.replay_generated.proofs.SinkOutputs.{sink_lines_whole}
 
 line_whole : (first : List ℕ) (words : List (List ℕ)) → IsWhole (line_of first words)

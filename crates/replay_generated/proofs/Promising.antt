@@ -11,18 +11,18 @@ use Rattle.unit_outlets.specs.Account.{Account}
 use Rattle.source_machine.specs.Airs.{airs_of}
 use Rattle.transcript_text.specs.declared.refusal.Refusal.{Refusal}
 use Rattle.transcript_text.specs.declared.refusal.Refusal.TheVariants.{NoOutlet}
-use Rattle.transcript_summary.specs.Summary.{summary, summary_of}
-use Rattle.transcript_summary.specs.declared.counts.Counts.{Counts}
-use Rattle.line_runs.specs.Runs.{End, through, refused, Accepted}
+use Rattle.transcript_text.specs.Summary.{summary, summary_of}
+use Rattle.transcript_text.specs.declared.counts.Counts.{Counts}
+use Rattle.scenario_history.specs.Runs.{End, through, refused, Accepted}
 use Rattle.scenario_history.specs.Airs.{MeetAirs}
-use Rattle.scenario_history.specs.Boxes.{SinkUnit, Took}
+use Rattle.scenario_history.specs.Boxes.{RoomFor, SinkUnit, Took}
 use Rattle.scenario_history.specs.Lines.{rules_of, handed_on}
 use Rattle.scenario_history.specs.Source.{Airs}
 use Rattle.scenario_history.specs.Transcript.{transcript_of, transcript_end, units_of}
 use Rattle.scenario_sinks.specs.Faults.{CountsStay, OneCounts}
 use Rattle.scenario_sinks.specs.Handing.{BoxFails}
 use Rattle.scenario_sinks.proofs.Citable.{failed_one, none_counts, one_then, took_stay}
-use Rattle.replay_generated.specs.Generated.{BoxFailed, CutShort, Did, EndedOver, GeneratedRun, IsDoneOrMemory, RoomFor, Summed, lines_made, summary_in}
+use Rattle.replay_generated.specs.Generated.{BoxFailed, CutShort, Did, EndedOver, GeneratedRun, IsDoneOrMemory, Summed, lines_made, summary_in}
 use Rattle.replay_generated.specs.State.Between.{Ends, FrontTaken, Puts, Told}
 use Rattle.replay_generated.specs.declared.outcome.Outcome.{Outcome}
 use Rattle.replay_generated.specs.declared.outcome.Outcome.TheVariants as outcomes

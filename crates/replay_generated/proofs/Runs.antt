@@ -9,12 +9,12 @@ use Rattle.transcript_text.specs.declared.refusal.Refusal.{Refusal}
 use Rattle.transcript_text.specs.declared.stop.Stop.{Stop}
 use Rattle.transcript_text.specs.declared.stop.Stop.TheVariants as stops
 use Rattle.transcript_text.specs.Lines.{refusal_line}
-use Rattle.transcript_summary.specs.Lines.{lines_of}
-use Rattle.transcript_summary.specs.Summary.{counts_of, none_counted, with_lines}
-use Rattle.transcript_summary.specs.declared.counts.Counts.{Counts}
-use Rattle.transcript_summary.proofs.Citable.{counts_append, whole_append, whole_none}
-use Rattle.line_runs.specs.Runs.{through, refused, out, out_unless, end_of, end_unless, accepted_of, accepted_unless, brought, Accepted}
-use Rattle.line_runs.proofs.Citable.{out_accepted, end_accepted, accepted_accepted, reverse_onto}
+use Rattle.transcript_text.specs.CountedLines.{lines_of}
+use Rattle.transcript_text.specs.Summary.{counts_of, none_counted, with_lines}
+use Rattle.transcript_text.specs.declared.counts.Counts.{Counts}
+use Rattle.transcript_text.proofs.Citable.{counts_append, whole_append, whole_none}
+use Rattle.scenario_history.specs.Runs.{through, refused, out, out_unless, end_of, end_unless, accepted_of, accepted_unless, brought, Accepted}
+use Rattle.scenario_history.proofs.Citable.{out_accepted, end_accepted, accepted_accepted, reverse_onto}
 use Rattle.scenario_text.specs.declared.step.Step.{Step}
 use Rattle.scenario_history.specs.Boxes.{SinkUnit, accounts_after, handed_up, Took}
 use Rattle.scenario_history.specs.Gifts.{happened}
@@ -27,15 +27,13 @@ use Rattle.scenario_sinks.specs.Handing.{BoxFails, CutShort}
 use Rattle.replay_steps.specs.LineMeets.{LinesStand, LineMeets, refusal_at, output_at, answered_on}
 use Rattle.replay_steps.specs.Meets.{BoxesStand}
 use Rattle.replay_steps.specs.declared.machine.Machine.{Machine}
-use Rattle.replay_steps.proofs.Citable.{accounts_append}
+use Rattle.replay_steps.proofs.Citable.{accounts_append, box_fails, meets_at, untaken_line}
 use Rattle.replay_generated.specs.Generated.{BoxFailed}
-use Rattle.replay_steps.specs.Untaken.{UntakenSame}
-use Rattle.replay_generated.specs.State.Between.{Counted, FrontTaken, LineRefused, LineRuns, Ran, Refuses, RunTo, Told, UntakenRun}
+use Rattle.replay_steps.specs.Untaken.{UntakenRun, UntakenSame}
+use Rattle.replay_generated.specs.State.Between.{Counted, FrontTaken, LineRefused, LineRuns, Ran, Refuses, RunTo, Told}
 use Rattle.replay_generated.specs.declared.running.Ending.{Ending}
 use Rattle.replay_generated.specs.declared.running.Ending.TheVariants as endings
-use Rattle.replay_generated.proofs.Failing.{box_fails}
 use Rattle.replay_generated.proofs.Outputs.{said_whole}
-use Rattle.replay_generated.proofs.Untaken.{untaken_line}
 
 -- ---- the transcript over an accepted history
 
@@ -312,15 +310,6 @@ module _ {A : Type 0} (olds news : List A) (starts accounts : List Account) (lin
 
 -- ---- a line
 
--- what it did from an empty text, by the result that came
-pub meets_at : (starts : List Account) (history : List TextLine) (line : TextLine) (new : Machine) (text told : List ℕ) (before after : List Account)
-    (result r : Result (Unit {0}) Stop) → text ≡ [] → result ≡ r → LineMeets starts history line new text told before after result
-    → LineMeets starts history line new [] told before after r
-meets_at starts history line new text told before after result r cleared is meets =
-    let P : Result (Unit {0}) Stop → Type 0 = λ x. LineMeets starts history line new text told before after x in
-    let Q : List ℕ → Type 0 = λ t. LineMeets starts history line new t told before after r in
-    subst Q cleared (subst P is meets)
-
 module _ (starts : List Account) (history : List TextLine) (line : TextLine) (machine new : Machine) (before after : List Account) (counts : Counts) (text told : List ℕ)
     (result : Result (Unit {0}) Stop) (run : RunTo starts history counts machine before) (cleared : text ≡ [])
     (meets : LinesStand starts history machine before → LineMeets starts history line new text told before after result) where
@@ -374,6 +363,3 @@ module _ (starts : List Account) (history : List TextLine) (line : TextLine) (ma
 -- no line was run
 pub none_taken : (starts : List Account) (lines : List TextLine) → FrontTaken starts starts lines
 none_taken starts lines = front_taken starts starts lines [] (record { rest = units_of airs_of starts lines; split = refl }) (took_all starts [])
-
-pub none_run : {A : Type 0} (starts : List Account) (lines : List TextLine) (boxes : List A) → UntakenRun starts lines boxes boxes
-none_run starts lines boxes = record { earlier = []; later = lines; split = refl; accepted = tt; same = λ box least. refl }

@@ -5,8 +5,8 @@ use Rattle.std.specs.Fmt.{digits as numerals}
 use Rattle.octet_fields.specs.Spelling.{IsOctets}
 use Rattle.printed_words.specs.Lines.{joined}
 use Rattle.scenario_words.specs.Places.{Place, one, perhaps, rising, wishes}
-use Rattle.scenario_values.specs.Lines.{Values, ◌▸◌, AllHaveWords, all_words}
-use Rattle.scenario_values.proofs.Citable.{EndsAt, words_spelled, words_unspaced, NoSpace, NoSpaces, joined_split, more_unspaced, unspaced}
+use Rattle.scenario_words.specs.Lines.{Values, ◌▸◌, AllHaveWords, all_words}
+use Rattle.scenario_words.proofs.CitableValues.{EndsAt, words_spelled, words_unspaced, NoSpace, NoSpaces, joined_split, more_unspaced, unspaced}
 use Rattle.scenario_text.specs.declared.step.Step.{Step}
 use Rattle.scenario_text.specs.declared.step.Step.TheVariants as kinds
 use Rattle.scenario_text.specs.Lines.{LineIs, Says}

@@ -9,11 +9,11 @@ use Rattle.bcast_io.specs.Writing.{AppendsFront}
 use Rattle.unit_outlets.specs.Account.{Account}
 use Rattle.transcript_text.specs.declared.refusal.Refusal.{Refusal}
 use Rattle.transcript_text.specs.declared.refusal.Refusal.TheVariants.{NoOutlet}
-use Rattle.transcript_summary.specs.Summary.{summary}
-use Rattle.line_runs.specs.Runs.{End, through, refused, Accepted}
+use Rattle.transcript_text.specs.Summary.{summary}
+use Rattle.scenario_history.specs.Runs.{End, through, refused, Accepted}
 use Rattle.scenario_generator.specs.Generated.{generated}
 use Rattle.scenario_history.specs.Airs.{MeetAirs}
-use Rattle.scenario_history.specs.Boxes.{SinkUnit, Took, valid_for, with_units}
+use Rattle.scenario_history.specs.Boxes.{RoomFor, SinkUnit, Took, valid_for, with_units}
 use Rattle.scenario_history.specs.Lines.{rules_of, handed_on}
 use Rattle.scenario_history.specs.Source.{Airs}
 use Rattle.scenario_history.specs.Transcript.{transcript_of, transcript_end, units_of}
@@ -74,16 +74,6 @@ abbrev pub IsDoneOrMemory : Outcome → Type 0
 IsDoneOrMemory outcomes.Done = Unit {0}
 IsDoneOrMemory outcomes.Memory = Unit {0}
 IsDoneOrMemory _ = ⊥
-
--- the sums of an account hold in 64 bits
-abbrev pub Holds : Account → Type 0
-Holds account = (account.units < 2 ^ 64) × (account.octets < 2 ^ 64)
-
--- each box is sound, and its sums hold what it has at the start and the valid units of its sink among these
-abbrev pub RoomFor : List Account → List SinkUnit → Type 0
-RoomFor starts units =
-    (box : ℕ) (account : Account) → slice_get starts box ≡ Some account
-    → IsTrue account.is_sound × Holds (with_units account (valid_for box units))
 
 pub record GeneratedRun (seed events : ℕ) (outcome : Outcome) (starts ends : List Account) (kept kept' : Option (List ℕ)) (faults faults' : ℕ) : Type 0 where
   -- Done: the transcript of the generated text has no refusal, and its summary was written.

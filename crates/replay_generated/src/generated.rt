@@ -1,9 +1,9 @@
 //! A generated run, from its lines to its summary.
 ghost use Rattle.std.specs.Prelude.{◌≡◌, ◌≤◌, map};
-ghost use Rattle.transcript_summary.specs.Summary.{summary_of};
+ghost use Rattle.transcript_text.specs.Summary.{summary_of};
 ghost use Rattle.replay_generated.specs.Generated.{GeneratedRun, lines_made};
-ghost use Rattle.replay_generated.specs.State.Between.{Ends, Puts, UntakenRun};
-ghost use Rattle.replay_generated.specs.Untaken.{UntakenBy};
+ghost use Rattle.replay_generated.specs.State.Between.{Ends, Puts};
+ghost use Rattle.replay_steps.specs.Untaken.{UntakenBy, UntakenRun};
 ghost use Rattle.scenario_history.specs.Airs.{MeetAirs};
 ghost use Rattle.scenario_history.specs.Source.{Airs};
 
@@ -13,7 +13,7 @@ use bcast_io::{ByteSink, SinkFault, write_whole};
 use scenario_laws::{one_transcript, some_airs_meet};
 use scenario_text::a_line_says_one_step;
 use std::alloc::Global;
-use transcript_summary::Counts;
+use transcript_text::Counts;
 use unit_outlets::Outlet;
 
 /// Runs the scenario of a seed, at most 2,147,483,647, and of 1 to 100,000 events, a line at a time, and writes the
@@ -33,9 +33,11 @@ pub fn run_generated<K: ByteSink>(
     requires seed { seed ≤ 2147483647 }
     requires least { 1 ≤ events }
     requires most { events ≤ 100000 }
-    ensures generated { GeneratedRun seed events result (map account outlets.old.items) (map account outlets.new.items) (K.contents sink.old) (K.contents sink.new)
+    ensures generated { GeneratedRun seed events result (map account outlets.old.items) (map account outlets.new.items)
+        (K.contents sink.old) (K.contents sink.new)
         (K.faults sink.old) (K.faults sink.new) }
-    ensures untaken { (airs : Airs) → MeetAirs airs → UntakenBy airs (map account outlets.old.items) (lines_made seed events) outlets.old.items outlets.new.items }
+    ensures untaken { (airs : Airs) → MeetAirs airs → UntakenBy airs (map account outlets.old.items)
+        (lines_made seed events) outlets.old.items outlets.new.items }
 {
     a_line_says_one_step();
     some_airs_meet();
@@ -54,7 +56,8 @@ fn run<K: ByteSink>(
     requires seed { seed ≤ 2147483647 }
     requires least { 1 ≤ events }
     requires most { events ≤ 100000 }
-    ensures ends { Ends (map account outlets.old.items) (map account outlets.new.items) events (lines_made seed events) (K.contents sink.old) (K.contents sink.new)
+    ensures ends { Ends (map account outlets.old.items) (map account outlets.new.items) events (lines_made seed events)
+        (K.contents sink.old) (K.contents sink.new)
         (K.faults sink.old) (K.faults sink.new) result }
     ensures untaken { UntakenRun (map account outlets.old.items) (lines_made seed events) outlets.old.items outlets.new.items }
 {
@@ -78,7 +81,8 @@ fn put_summary<K: ByteSink>(
     ended: Outcome,
     sink: &mut K,
 ) -> Outcome
-    ensures { Puts (summary_of events counts.now) ended (K.contents sink.old) (K.contents sink.new) (K.faults sink.old) (K.faults sink.new) result }
+    ensures { Puts (summary_of events counts.now) ended (K.contents sink.old) (K.contents sink.new) (K.faults sink.old)
+        (K.faults sink.new) result }
 {
     let Ok(summary) = counts.summary(alloc, events) else {
         return Outcome::Memory;

@@ -2,19 +2,19 @@
 ghost use Rattle.std.specs.Prelude.{◌≡◌, ◌≤◌, ◌<◌, ◌+◌, ◌^◌, ℕ, List, length, map};
 ghost use Rattle.bcast_io.specs.TextLines.{TextLine, plain};
 ghost use Rattle.unit_outlets.specs.Account.{Account};
-ghost use Rattle.transcript_summary.specs.Summary.{none_counted};
+ghost use Rattle.transcript_text.specs.Summary.{none_counted};
 ghost use Rattle.replay_generated.specs.Generated.{lines_made};
 ghost use Rattle.scenario_history.specs.Lines.{steps_of};
 ghost use Rattle.source_machine.specs.Airs.{airs_of};
 ghost use Rattle.replay_steps.specs.Untaken.{UntakenSame};
-ghost use Rattle.replay_generated.specs.State.Between.{Counted, Ran, Refuses, RunTo, LineRuns, UntakenRun};
+ghost use Rattle.replay_generated.specs.State.Between.{Counted, Ran, Refuses, RunTo, LineRuns};
+ghost use Rattle.replay_steps.specs.Untaken.{UntakenRun};
 
 use bcast_base::{Memory, Octets};
 use replay_steps::Machine;
 use scenario_generator::Lines;
 use std::alloc::Global;
-use transcript_summary::Counts;
-use transcript_text::{Refusal, Stop, put_refusal};
+use transcript_text::{Counts, Refusal, Stop, put_refusal};
 use unit_outlets::Outlet;
 
 /// How the run of the lines ended.
@@ -84,8 +84,10 @@ fn run_line(
     requires { length line.now < 2 ^ 64 }
     ensures runs { (starts : List Account) (lines : List TextLine) → number ≡ length lines + 1
         → RunTo starts lines counts.old machine.old (map account outlets.old.items)
-        → LineRuns starts lines (plain line.now) counts.new machine.new (map account outlets.old.items) (map account outlets.new.items) result }
-    ensures untaken { (starts : List Account) (lines : List TextLine) → RunTo starts lines counts.old machine.old (map account outlets.old.items)
+        → LineRuns starts lines (plain line.now) counts.new machine.new (map account outlets.old.items)
+        (map account outlets.new.items) result }
+    ensures untaken { (starts : List Account) (lines : List TextLine)
+        → RunTo starts lines counts.old machine.old (map account outlets.old.items)
         → UntakenSame (steps_of airs_of lines) outlets.old.items outlets.new.items }
 {
     text.clear();

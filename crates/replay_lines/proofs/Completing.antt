@@ -7,7 +7,7 @@ use Rattle.bcast_io.specs.TextLines.{lines_of}
 use Rattle.unit_outlets.specs.Account.{Account}
 use Rattle.bcast_base.specs.Counts.{Rose}
 use Rattle.source_machine.specs.Airs.{airs_of}
-use Rattle.line_runs.specs.Runs.{through, refused}
+use Rattle.scenario_history.specs.Runs.{through, refused}
 use Rattle.scenario_history.specs.Boxes.{SinkUnit, Took}
 use Rattle.scenario_history.specs.Lines.{handed_on}
 use Rattle.scenario_history.specs.Transcript.{out_of, transcript_end, units_of}
@@ -15,7 +15,7 @@ use Rattle.replay_lines.specs.declared.ending.Ending.{Ending}
 use Rattle.replay_lines.specs.declared.ending.Ending.TheVariants as endings
 use Rattle.replay_lines.specs.Replayed.{TextRead, OutletFaulted}
 use Rattle.replay_lines.specs.Ended.{Ended, IsDoneOrMemory, IsNoFault, IsWhole, AheadOf, NoneFailed, RoomForText, Complete}
-use Rattle.replay_generated.proofs.Citable.{Failure, failure, no_room_for}
+use Rattle.replay_steps.proofs.Citable.{Failure, failure, no_room_for}
 use Rattle.replay_lines.proofs.Endings.{units_all}
 use Rattle.replay_lines.proofs.LineUnits.{box_stops, units_line}
 

@@ -12,8 +12,8 @@ use Rattle.source_machine.specs.Airs.{airs_of}
 use Rattle.transcript_text.specs.declared.refusal.Refusal.{Refusal}
 use Rattle.transcript_text.specs.declared.refusal.Refusal.TheVariants.{NoEnd}
 use Rattle.transcript_text.specs.Lines.{refusal_line}
-use Rattle.line_runs.specs.Runs.{through, refused, out, out_unless, end_of, end_unless, accepted_of, accepted_unless, brought, Accepted}
-use Rattle.line_runs.proofs.Citable.{out_accepted, end_accepted, accepted_accepted}
+use Rattle.scenario_history.specs.Runs.{through, refused, out, out_unless, end_of, end_unless, accepted_of, accepted_unless, brought, Accepted}
+use Rattle.scenario_history.proofs.Citable.{out_accepted, end_accepted, accepted_accepted}
 use Rattle.scenario_text.specs.declared.step.Step.{Step}
 use Rattle.scenario_history.specs.Steps.{is_over, is_over_at}
 use Rattle.scenario_history.specs.Boxes.{SinkUnit, handed_up, Took}

@@ -1,12 +1,18 @@
-mod ReadingOn
-mod RefusalLaws
+pub mod Citable
+mod Completing
+mod Counting
+mod DocumentPromises
 mod Endings
-mod LineUnits
+mod Fronts
 mod LineEndings
 mod LineSteps
-mod Completing
+mod LineUnits
 mod OtherAirs
-mod Counting
-mod Untaken
 mod Promises
-pub mod Citable
+mod Reading
+mod ReadingOn
+mod RefusalLaws
+mod Refusing
+mod Running
+mod Unread
+mod Untaken

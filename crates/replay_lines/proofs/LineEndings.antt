@@ -10,7 +10,7 @@ use Rattle.unit_outlets.specs.Account.{Account}
 use Rattle.source_machine.specs.Airs.{airs_of}
 use Rattle.transcript_text.specs.declared.refusal.Refusal.{Refusal}
 use Rattle.transcript_text.specs.Lines.{refusal_line}
-use Rattle.line_runs.specs.Runs.{refused, brought, Accepted}
+use Rattle.scenario_history.specs.Runs.{refused, brought, Accepted}
 use Rattle.scenario_history.specs.Boxes.{handed_up}
 use Rattle.scenario_history.specs.Lines.{rules_of, steps_of, handed_on}
 use Rattle.scenario_history.specs.Transcript.{out_of, last_line_after, end_after, has_end, transcript_of, transcript_end, units_of}

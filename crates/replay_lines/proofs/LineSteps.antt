@@ -16,7 +16,7 @@ use Rattle.transcript_text.specs.declared.stop.Stop.{Stop}
 use Rattle.transcript_text.specs.declared.stop.Stop.TheVariants.{Refused, OutletFault, Memory}
 use Rattle.scenario_history.specs.Lines.{steps_of}
 use Rattle.replay_steps.specs.Untaken.{UntakenSame}
-use Rattle.replay_generated.proofs.Citable.{meets_at, untaken_line}
+use Rattle.replay_steps.proofs.Citable.{meets_at, untaken_line}
 use Rattle.replay_steps.specs.LineMeets.{LinesStand, LineMeets}
 use Rattle.replay_lines.specs.Replayed.{Comes, ReadsAhead, Broken}
 use Rattle.replay_lines.specs.Ended.{Ended}

@@ -6,7 +6,7 @@ use Rattle.unit_outlets.specs.Account.{Account}
 use Rattle.source_machine.specs.Airs.{airs_of}
 use Rattle.transcript_text.specs.declared.refusal.Refusal.{Refusal}
 use Rattle.transcript_text.specs.Lines.{refusal_line}
-use Rattle.line_runs.specs.Runs.{out, accepted_of, accepted_unless, Accepted}
+use Rattle.scenario_history.specs.Runs.{out, accepted_of, accepted_unless, Accepted}
 use Rattle.scenario_history.specs.Boxes.{SinkUnit, accounts_after, handed_up, Took}
 use Rattle.scenario_history.specs.Lines.{rules_of, steps_of, handed_on}
 use Rattle.scenario_history.specs.Transcript.{units_of}
@@ -16,7 +16,7 @@ use Rattle.replay_steps.specs.Meets.{BoxesStand}
 use Rattle.replay_steps.specs.LineMeets.{refusal_at, output_at, answered_on}
 use Rattle.replay_lines.specs.Replayed.{BoxesCut, BoxesAt, LineFails, TookFront}
 use Rattle.replay_steps.proofs.Citable.{accounts_append}
-use Rattle.replay_generated.proofs.Citable.{box_fails}
+use Rattle.replay_steps.proofs.Citable.{box_fails}
 use Rattle.replay_lines.proofs.Endings.{out_line, out_refused, units_then, units_all, units_refused, units_rest, handed_line, took_history}
 
 -- whatever comes after it, the line begins with these octets

@@ -6,7 +6,7 @@ use Rattle.bcast_io.specs.Writing.{AppendsFront}
 use Rattle.unit_outlets.specs.Account.{Account}
 use Rattle.scenario_text.specs.declared.step.Step.{Step}
 use Rattle.transcript_text.specs.declared.refusal.Refusal.{Refusal}
-use Rattle.line_runs.specs.Runs.{Accepted}
+use Rattle.scenario_history.specs.Runs.{Accepted}
 use Rattle.scenario_history.specs.Boxes.{SinkUnit, Took}
 use Rattle.scenario_history.specs.Gifts.{Answered, answered_by}
 use Rattle.scenario_history.specs.Lines.{Said, a_step, nothing, unsaid, handed_on, refusal_said, rules_of}
@@ -19,7 +19,7 @@ use Rattle.replay_lines.specs.declared.ending.Ending.{Ending}
 use Rattle.replay_lines.specs.declared.ending.Ending.TheVariants as endings
 use Rattle.scenario_sinks.specs.Faults.{CountsStay}
 use Rattle.replay_lines.specs.Ended.{AheadOf, Complete, Ended, IsCut, RoomForText}
-use Rattle.replay_generated.specs.Generated.{RoomFor}
+use Rattle.scenario_history.specs.Boxes.{RoomFor}
 use Rattle.replay_lines.specs.State.Laws.{Same}
 use Rattle.replay_lines.specs.Replayed.{BoxesAt, BoxesCut, Broken, CutAt, Done, FaultCut, LineFails, NoEndCut, OutletFaulted, ReadFaulted, RefusedAt, WriteCut, brought_by}
 

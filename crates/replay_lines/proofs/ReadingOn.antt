@@ -13,7 +13,7 @@ use Rattle.bcast_io.specs.declared.line_reader.LineRead.{LineRead}
 use Rattle.bcast_io.specs.declared.line_reader.LineRead.TheVariants.{Line, LineTooLong, TextTooLong, End}
 use Rattle.bcast_io.specs.declared.source.Failed.{Failed}
 use Rattle.bcast_io.proofs.Citable.{Consumes-nothing, Consumes-then, lines-nothing, lines-unended, lines-end, lines-past_all}
-use Rattle.line_runs.proofs.Citable.{reverse_onto}
+use Rattle.scenario_history.proofs.Citable.{reverse_onto}
 use Rattle.replay_lines.specs.Replayed.{Comes, ReadsAhead, ReadsAtMost, read_limit}
 use Rattle.replay_lines.specs.State.Between.{ReadTo, TextIs, NextIs}
 

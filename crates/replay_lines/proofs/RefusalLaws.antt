@@ -19,10 +19,10 @@ use Rattle.transcript_text.specs.declared.refusal.Refusal.{Refusal}
 use Rattle.transcript_text.specs.declared.refusal.Refusal.TheVariants.{AfterEnd, Order, BaseTooLong, IdentTwice, NoSuchSink, SinkTwice, NoOutlet, NoSuchBis, NotOnAir, NoEnd}
 use Rattle.transcript_text.specs.declared.refusal.Refusal.TheVariants.{NoSuchLink, LinkTwice, NothingWaiting, RecordsTooLong, RelayTaken}
 use Rattle.transcript_text.specs.declared.refusal.Refusal.TheVariants as refusals
-use Rattle.link_histories.specs.Calls.{Call}
-use Rattle.sink_histories.specs.Lives.{Made, World, life_of, made_of, named_by}
-use Rattle.sink_histories.specs.Refusals.{link_named, link_twice, no_link, no_record_room, nothing_waits, refused_at, refused_by, refused_where}
-use Rattle.sink_histories.specs.Refusals.{refusal_of as refusal_of_sink, refuse_if as refuse_sink_if}
+use Rattle.link_history.specs.Calls.{Call}
+use Rattle.sink_history.specs.Lives.{Made, World, life_of, made_of, named_by}
+use Rattle.sink_history.specs.Refusals.{link_named, link_twice, no_link, no_record_room, nothing_waits, refused_at, refused_by, refused_where}
+use Rattle.sink_history.specs.Refusals.{refusal_of as refusal_of_sink, refuse_if as refuse_sink_if}
 use Rattle.scenario_history.specs.Worlds.{the_world}
 use Rattle.scenario_text.specs.declared.step.Step.{Step}
 use Rattle.scenario_text.specs.declared.step.Step.TheVariants as kinds

@@ -9,7 +9,7 @@ use Rattle.source_machine.specs.Airs.{airs_of}
 use Rattle.replay_steps.specs.LineMeets.{LinesStand}
 use Rattle.replay_steps.specs.Untaken.{UntakenSame}
 use Rattle.replay_steps.specs.declared.machine.Machine.{Machine}
-use Rattle.replay_generated.specs.State.Between.{UntakenRun}
+use Rattle.replay_steps.specs.Untaken.{UntakenRun}
 use Rattle.replay_lines.specs.State.Between.{ReadTo}
 use Rattle.replay_lines.proofs.Completing.{told}
 use Rattle.replay_lines.proofs.LineSteps.{Running}

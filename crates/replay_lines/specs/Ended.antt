@@ -5,9 +5,9 @@ use Rattle.unit_outlets.specs.Account.{Account}
 use Rattle.bcast_base.specs.Counts.{Rose}
 use Rattle.transcript_text.specs.declared.refusal.Refusal.TheVariants.{NoEnd}
 use Rattle.scenario_history.specs.Source.{Airs}
-use Rattle.line_runs.specs.Runs.{through}
+use Rattle.scenario_history.specs.Runs.{through}
 use Rattle.scenario_history.specs.Transcript.{transcript_end, units_of}
-use Rattle.replay_generated.specs.Generated.{RoomFor}
+use Rattle.scenario_history.specs.Boxes.{RoomFor}
 use Rattle.replay_lines.specs.declared.ending.Ending.{Ending}
 use Rattle.replay_lines.specs.declared.ending.Ending.TheVariants as endings
 use Rattle.replay_lines.specs.Replayed.{Done, RefusedAt, ReadFaulted, Broken, OutletFaulted, ReadsAhead, WriteCut}

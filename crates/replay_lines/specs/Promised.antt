@@ -12,11 +12,11 @@ use Rattle.replay_lines.specs.declared.ending.Ending.{Ending}
 use Rattle.replay_lines.specs.declared.ending.Ending.TheVariants as endings
 use Rattle.replay_lines.specs.Ended.{AheadOf, Complete, Ended, IsCut, IsWhole}
 use Rattle.replay_lines.specs.Replayed.{FaultCut, ReadsAtMost, read_limit}
-use Rattle.isolation_laws.specs.Isolation.{IsolationLaw}
+use Rattle.scenario_laws.specs.Isolation.{IsolationLaw}
 use Rattle.scenario_laws.specs.Laws.{UnitsLaw, OrderLaw}
 use Rattle.scenario_laws.specs.Links.{AgreementLaw, LinksLaw}
-use Rattle.migration_laws.specs.Laws.{MigrationLaw}
-use Rattle.relay_laws.specs.Relayed.{RelayLinesLaw, RelayedUnitsLaw}
+use Rattle.scenario_laws.specs.Versions.{MigrationLaw}
+use Rattle.scenario_laws.specs.Relayed.{RelayLinesLaw, RelayedUnitsLaw}
 use Rattle.replay_lines.specs.World.{World}
 
 -- between these worlds a run read, wrote and handed to the boxes what this ending says

@@ -9,7 +9,7 @@ use Rattle.bcast_io.specs.Writing.{AppendsFront, AppendsShort}
 use Rattle.unit_outlets.specs.Account.{Account}
 use Rattle.transcript_text.specs.declared.refusal.Refusal.{Refusal}
 use Rattle.transcript_text.specs.declared.refusal.Refusal.TheVariants.{NoEnd}
-use Rattle.line_runs.specs.Runs.{through, refused, Accepted}
+use Rattle.scenario_history.specs.Runs.{through, refused, Accepted}
 use Rattle.scenario_history.specs.Source.{Airs}
 use Rattle.scenario_history.specs.Boxes.{SinkUnit, Took}
 use Rattle.scenario_history.specs.Lines.{rules_of, handed_on}

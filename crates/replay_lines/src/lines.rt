@@ -9,7 +9,7 @@ ghost use Rattle.source_machine.specs.Airs.{airs_of};
 ghost use Rattle.scenario_history.specs.Lines.{steps_of};
 ghost use Rattle.replay_steps.specs.LineMeets.{LinesStand};
 ghost use Rattle.replay_steps.specs.Untaken.{UntakenSame};
-ghost use Rattle.replay_generated.specs.State.Between.{UntakenRun};
+ghost use Rattle.replay_steps.specs.Untaken.{UntakenRun};
 ghost use Rattle.replay_lines.specs.Replayed.{Comes, ReadsAhead, ReadsAtMost, read_limit};
 ghost use Rattle.replay_lines.specs.Ended.{Ended};
 ghost use Rattle.replay_lines.specs.State.Between.{ReadTo, TextIs, NextIs, RunTo, Refuses, Puts, StepRuns, LineRuns};
@@ -29,8 +29,10 @@ pub(crate) fn run_lines<S: ByteSource, K: ByteSink>(
     sink: &mut K,
     outlets: &mut Vec<Box<dyn Outlet>>,
 ) -> Ending
-    ensures ended { Ended airs_of result (map account outlets.old.items) (map account outlets.new.items) (S.left source.old) (S.left source.new) (K.contents sink.old) (K.contents sink.new) }
-    ensures untaken { (text : List ℕ) → S.left source.old ≡ Some text → UntakenRun (map account outlets.old.items) (lines_of true text) outlets.old.items outlets.new.items }
+    ensures ended { Ended airs_of result (map account outlets.old.items) (map account outlets.new.items) (S.left source.old)
+        (S.left source.new) (K.contents sink.old) (K.contents sink.new) }
+    ensures untaken { (text : List ℕ) → S.left source.old ≡ Some text
+        → UntakenRun (map account outlets.old.items) (lines_of true text) outlets.old.items outlets.new.items }
     ensures within { ReadsAtMost (S.left source.old) (S.left source.new) read_limit }
     ensures read_fault { result ≡ Ending.ReadFault → Rose (S.faults source.old) (S.faults source.new) }
     ensures no_read_fault { result ≢ Ending.ReadFault → S.faults source.new ≡ S.faults source.old }
@@ -72,9 +74,12 @@ fn run_line<S: ByteSource, K: ByteSink>(
     outlets: &mut Vec<Box<dyn Outlet>>,
 ) -> Option<Ending>
     ensures runs { (starts : List Account) (lines : List TextLine) (left kept : Option (List ℕ)) → number ≡ length lines + 1
-        → ReadTo left (S.left source.old) lines reader.old → RunTo starts lines kept (K.contents sink.old) machine.old (map account outlets.old.items)
-        → LineRuns starts lines left (S.left source.new) kept (K.contents sink.new) reader.new machine.new (map account outlets.new.items) result }
-    ensures untaken { (starts : List Account) (lines : List TextLine) (accounts : List Account) → LinesStand starts lines machine.old accounts
+        → ReadTo left (S.left source.old) lines reader.old
+        → RunTo starts lines kept (K.contents sink.old) machine.old (map account outlets.old.items)
+        → LineRuns starts lines left (S.left source.new) kept (K.contents sink.new) reader.new machine.new
+        (map account outlets.new.items) result }
+    ensures untaken { (starts : List Account) (lines : List TextLine) (accounts : List Account)
+        → LinesStand starts lines machine.old accounts
         → UntakenSame (steps_of airs_of lines) outlets.old.items outlets.new.items }
     ensures within { (left : Option (List ℕ)) (lines : List TextLine) → ReadTo left (S.left source.old) lines reader.old
         → ReadsAtMost left (S.left source.new) read_limit }
@@ -109,7 +114,8 @@ fn read_next<S: ByteSource>(reader: &mut LineReader, source: &mut S) -> Result<L
 
 /// The end of the text, which may come only behind `end`.
 fn end_text<K: ByteSink>(number: u64, machine: &Machine, text: &mut Octets, sink: &mut K) -> Ending
-    ensures ends { (starts : List Account) (lines : List TextLine) (left left' kept : Option (List ℕ)) (accounts : List Account) → number ≡ length lines + 1
+    ensures ends { (starts : List Account) (lines : List TextLine) (left left' kept : Option (List ℕ)) (accounts : List Account)
+        → number ≡ length lines + 1
         → TextIs left left' lines true → RunTo starts lines kept (K.contents sink.old) machine.now accounts
         → Ended airs_of result starts accounts left left' kept (K.contents sink.new) }
     ensures never_read_fault { result ≢ Ending.ReadFault }
@@ -154,8 +160,10 @@ fn run_step<K: ByteSink>(
     ensures runs { (starts : List Account) (lines : List TextLine) (left left' kept : Option (List ℕ)) → number ≡ length lines + 1
         → Comes left left' lines (plain line.now) → ReadsAhead left left' number
         → RunTo starts lines kept (K.contents sink.old) machine.old (map account outlets.old.items)
-        → StepRuns starts (plain line.now ∷ lines) left left' kept (K.contents sink.new) machine.new (map account outlets.new.items) result }
-    ensures untaken { (starts : List Account) (lines : List TextLine) (accounts : List Account) → LinesStand starts lines machine.old accounts
+        → StepRuns starts (plain line.now ∷ lines) left left' kept (K.contents sink.new) machine.new
+        (map account outlets.new.items) result }
+    ensures untaken { (starts : List Account) (lines : List TextLine) (accounts : List Account)
+        → LinesStand starts lines machine.old accounts
         → UntakenSame (steps_of airs_of lines) outlets.old.items outlets.new.items }
     ensures never_read_fault { result ≢ Some Ending.ReadFault }
     ensures write_fault { result ≡ Some Ending.WriteFault → Rose (K.faults sink.old) (K.faults sink.new) }

@@ -4,7 +4,7 @@ ghost use Rattle.bcast_io.specs.TextLines.{lines_of};
 ghost use Rattle.unit_outlets.specs.Account.{Account};
 ghost use Rattle.scenario_history.specs.Airs.{MeetAirs};
 ghost use Rattle.scenario_history.specs.Source.{Airs};
-ghost use Rattle.replay_generated.specs.Untaken.{UntakenBy};
+ghost use Rattle.replay_steps.specs.Untaken.{UntakenBy};
 ghost use Rattle.replay_lines.specs.Promised.{Promised};
 ghost use Rattle.replay_lines.specs.State.Laws.{Laws};
 ghost use Rattle.replay_lines.specs.World.{World, world_of};
@@ -12,11 +12,9 @@ ghost use Rattle.replay_lines.specs.World.{World, world_of};
 use crate::ending::Ending;
 use crate::lines::run_lines;
 use bcast_io::{ByteSink, ByteSource};
-use isolation_laws::isolation_law;
-use migration_laws::migration_law;
-use relay_laws::{relay_lines_law, relayed_units_law};
 use scenario_laws::{
-    agreement_law, links_law, one_transcript, order_law, some_airs_meet, units_law,
+    agreement_law, isolation_law, links_law, migration_law, one_transcript, order_law,
+    relay_lines_law, relayed_units_law, some_airs_meet, units_law,
 };
 use std::alloc::Global;
 use unit_outlets::Outlet;

@@ -6,7 +6,7 @@ use Rattle.std.specs.Io.KnownBytes.{Consumes, IsAtEnd, Keeps}
 use Rattle.bcast_io.specs.TextLines.{text_limit}
 use Rattle.bcast_io.specs.Writing.{AppendsFront}
 use Rattle.bcast_io.proofs.Citable.{AppendsFront-nothing, Consumes-nothing, Consumes-then}
-use Rattle.scenario_migration.specs.Migrated.{migrated}
+use Rattle.scenario_text.specs.Migrated.{migrated}
 use Rattle.replay_migration.specs.TextRead.{ReadWhole, ReadPast, ReadPart, piece_limit}
 use Rattle.replay_migration.specs.Ended.{Ended, too_long_line}
 use Rattle.replay_migration.specs.State.Pieces.{ReadsOn, ReadsText, Took, TookPast}

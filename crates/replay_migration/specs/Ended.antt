@@ -4,7 +4,7 @@ use Rattle.std.specs.Prelude.{ℕ, ◌≡◌, ◌⊎◌, ◌+◌, List, Option}
 use Rattle.std.specs.Io.KnownBytes.{Appends, Keeps}
 use Rattle.bcast_io.specs.TextLines.{text_limit}
 use Rattle.bcast_io.specs.Writing.{AppendsFront, AppendsShort}
-use Rattle.scenario_migration.specs.Migrated.{migrated}
+use Rattle.scenario_text.specs.Migrated.{migrated}
 use Rattle.transcript_text.specs.Lines.{refusal_line}
 use Rattle.transcript_text.specs.declared.refusal.Refusal.TheVariants.{TextTooLong}
 use Rattle.replay_migration.specs.TextRead.{ReadWhole, ReadPast, ReadPart, piece_limit}

@@ -7,7 +7,7 @@ use crate::piece::Unread;
 use crate::text::{Text, read_text};
 use bcast_base::{Memory, Octets};
 use bcast_io::{ByteSink, ByteSource, SinkFault, write_whole};
-use scenario_migration::migrate;
+use scenario_text::migrate;
 use std::alloc::Global;
 use transcript_text::{Refusal, put_refusal};
 

@@ -18,3 +18,5 @@ pub mod Between
 pub mod BoxStops
 pub mod Closed
 pub mod Idle
+pub mod Rooms
+pub mod UntakenRuns

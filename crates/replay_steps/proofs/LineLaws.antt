@@ -27,7 +27,7 @@ use Rattle.replay_steps.specs.Meets.{BoxesStand, StepMeets}
 use Rattle.scenario_sinks.specs.Handing.{CutShort}
 use Rattle.replay_steps.specs.Failing.{CloseFails}
 use Rattle.replay_steps.specs.LineMeets.{LineMeets, LinesStand, answered_said}
-use Rattle.replay_steps.proofs.Citable.{accounts_append}
+use Rattle.scenario_sinks.proofs.Citable.{accounts_append}
 
 last_none : {A : Type 0} (a b : Option A) → option_or a b ≡ None → b ≡ None
 last_none None b e = e
@@ -163,3 +163,12 @@ misfit_meets starts lines line version word machine text accounts st is reads =
 
 pub nothing_handed : (starts : List Account) → BoxesStand starts [] starts
 nothing_handed starts = record { accounts_are = refl; room = omega arith }
+
+-- what it did from an empty text, by the result that came
+pub meets_at : (starts : List Account) (history : List TextLine) (line : TextLine) (new : Machine) (text told : List ℕ) (before after : List Account)
+    (result r : Result (Unit {0}) Stop) → text ≡ [] → result ≡ r → LineMeets starts history line new text told before after result
+    → LineMeets starts history line new [] told before after r
+meets_at starts history line new text told before after result r cleared is meets =
+    let P : Result (Unit {0}) Stop → Type 0 = λ x. LineMeets starts history line new text told before after x in
+    let Q : List ℕ → Type 0 = λ t. LineMeets starts history line new t told before after r in
+    subst Q cleared (subst P is meets)

@@ -7,9 +7,9 @@ use Rattle.big_info.specs.declared.info.BigInfo.{BigInfo}
 use Rattle.source_machine.specs.Airs.{airs_of}
 use Rattle.delegator_machine.specs.Groups.{with_leave}
 use Rattle.group_sink.specs.Calls.{Call}
-use Rattle.link_histories.specs.Calls as links
-use Rattle.sink_histories.specs.Lives.{Made, Source, made_of}
-use Rattle.sink_histories.specs.Moves.{received_by}
+use Rattle.link_history.specs.Calls as links
+use Rattle.sink_history.specs.Lives.{Made, Source, made_of}
+use Rattle.sink_history.specs.Moves.{received_by}
 use Rattle.transcript_text.specs.declared.refusal.Refusal.{Refusal}
 use Rattle.transcript_text.specs.declared.refusal.Refusal.TheVariants.{NoSuchBis, NoSuchSink, Order, RelayTaken}
 use Rattle.transcript_text.specs.declared.stop.Stop.{Stop}

@@ -1,6 +1,6 @@
 -- Steps that say nothing of relays leave them.
-use Rattle.std.proofs.Common.{ℕ, ◌≡◌, ◌||◌, Bool, true, false, cond, List, ◌∷◌, refl, sym, ◌∙◌, ap, unwrap_or, option_map, Option, None, Some}
-use Rattle.std.specs.List.{list_any}
+use Rattle.std.proofs.Common.{ℕ, ◌≡◌, ◌||◌, ◌&&◌, Bool, true, false, cond, List, [], ◌∷◌, refl, sym, ◌∙◌, ap, unwrap_or, option_map, is_none, Option, None, Some}
+use Rattle.std.specs.List.{list_all, list_any, range_with_len}
 use Rattle.std.specs.Option.{option_or}
 use Rattle.scenario_text.specs.declared.step.Step.{Step}
 use Rattle.scenario_text.specs.declared.step.Step.TheVariants.{Drop, Relay, Unit as UnitLine}
@@ -12,11 +12,16 @@ use Rattle.scenario_relays.specs.Pasts as relays
 use Rattle.scenario_relays.specs.State.Standing.{RelaysStand}
 use Rattle.replay_steps.specs.Machines.{lent, relays_past}
 
+all_as : (one other : ℕ → Bool) (ns : List ℕ) → ((n : ℕ) → one n ≡ other n) → list_all one ns ≡ list_all other ns
+all_as one other [] same = refl
+all_as one other (n ∷ ns) same = ap (λ b. b && list_all one ns) (same n) ∙ ap (λ b. other n && b) (all_as one other ns same)
+
 -- the relays by another past that is the same
 pub relays_as : (one other : relays.Past) (held : Relays) → ((n : ℕ) → one.routes n ≡ other.routes n) → ((bis : ℕ) → one.relayed bis ≡ other.relayed bis)
     → ((bis : ℕ) → one.given bis ≡ other.given bis) → RelaysStand one held → RelaysStand other held
 relays_as one other held routes relayed given stands = record {
   routes = λ n below. stands.routes n below ∙ ap Some (routes n);
+  idle = stands.idle ∙ all_as (λ n. is_none (one.routes n)) (λ n. is_none (other.routes n)) (range_with_len 0 8) (λ n. ap is_none (routes n));
   relayed = λ bis least. let both = stands.relayed bis least in (λ has. sym (relayed bis) ∙ both.0 has, λ said. both.1 (relayed bis ∙ said));
   given = λ bis least. let both = stands.given bis least in (λ has. sym (given bis) ∙ both.0 has, λ said. both.1 (given bis ∙ said));
 }

@@ -4,7 +4,7 @@ use Rattle.std.specs.List.{concat}
 use Rattle.std.specs.Option.{option_or}
 use Rattle.unit_outlets.specs.Account.{Account}
 use Rattle.announcement_train.specs.declared.train.Train.{Train as Announced}
-use Rattle.link_histories.specs.Calls.{Call}
+use Rattle.link_history.specs.Calls.{Call}
 use Rattle.source_machine.specs.Airs.{airs_of}
 use Rattle.source_machine.specs.Faults.{announce_fault}
 use Rattle.transcript_text.specs.declared.refusal.Refusal.TheVariants.{NoSuchSink, Order}
@@ -20,10 +20,10 @@ use Rattle.scenario_history.specs.Boxes.{box_of, handed_by}
 use Rattle.scenario_history.specs.Output.{output_of, sink_lines}
 use Rattle.scenario_history.specs.Refusals.{phase_refusal, train_ends}
 use Rattle.scenario_history.specs.Worlds.{life, source_at, the_world}
-use Rattle.sink_histories.specs.Lives.{Made, Source, made_of, named_by}
-use Rattle.sink_histories.specs.Output.{printed_at, printed_of, printed_where}
-use Rattle.sink_histories.specs.Refusals.{refused_at, refused_where, refusal_of}
-use Rattle.sink_steps.specs.SinkLines.{IsSinkLine}
+use Rattle.sink_history.specs.Lives.{Made, Source, made_of, named_by}
+use Rattle.sink_history.specs.Output.{printed_at, printed_of, printed_where}
+use Rattle.sink_history.specs.Refusals.{refused_at, refused_where, refusal_of}
+use Rattle.scenario_sink.specs.SinkLines.{IsSinkLine}
 use Rattle.scenario_sources.specs.Answers.{AnnouncesAs}
 use Rattle.scenario_sources.proofs.Citable.{SaysNothing}
 use Rattle.scenario_sinks.specs.Pasts.{Past, with_line}

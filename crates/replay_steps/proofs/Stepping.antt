@@ -4,8 +4,8 @@ use Rattle.std.specs.Option.{option_or}
 use Rattle.source_machine.specs.Airs.{airs_of}
 use Rattle.big_info.specs.declared.info.BigInfo.{BigInfo}
 use Rattle.delegator_machine.specs.Groups.{numbers_alone, tuning_of as tuning_to}
-use Rattle.delegator_states.specs.LastGiven.{last_given}
-use Rattle.delegator_states.specs.Trains.{Joining}
+use Rattle.delegator_history.specs.LastGiven.{last_given}
+use Rattle.delegator_history.specs.Trains.{Joining}
 use Rattle.group_sink.specs.Calls.{Tuning, tune}
 use Rattle.transcript_text.specs.declared.refusal.Refusal.{Refusal}
 use Rattle.transcript_text.specs.declared.refusal.Refusal.TheVariants.{NoSuchBis, Order}
@@ -18,7 +18,7 @@ use Rattle.scenario_history.specs.Source.{group_of, no_group, setup_of, takes_un
 use Rattle.scenario_history.specs.Sinks.{tuning_of}
 use Rattle.scenario_history.specs.Boxes.{box_of}
 use Rattle.scenario_history.specs.Worlds.{joining_on}
-use Rattle.sink_histories.specs.Lives.{Made, horizon_of, version_given}
+use Rattle.sink_history.specs.Lives.{Made, horizon_of, version_given}
 use Rattle.scenario_history.specs.Steps.{sinks_made}
 use Rattle.scenario_history.specs.Refusals.{has_beyond, horizon_in, is_misplaced, is_out_of_phase, no_sink, phase_refusal, refuse_if, relayed_or, sink_refusal, source_refusal, twin_refusal}
 use Rattle.scenario_sources.specs.declared.sources.Sources.{Sources}

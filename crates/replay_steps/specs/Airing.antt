@@ -12,7 +12,7 @@ use Rattle.scenario_history.specs.Source.{event_back, is_heard, performed, setup
 use Rattle.scenario_history.specs.Sinks.{heard_on_air, reaches, sink_calls, source_of}
 use Rattle.scenario_history.specs.Boxes.{box_of}
 use Rattle.scenario_history.specs.Worlds.{life}
-use Rattle.sink_histories.specs.Lives.{made_of}
+use Rattle.sink_history.specs.Lives.{made_of}
 use Rattle.scenario_history.specs.Refusals.{no_sink, refuse_if}
 use Rattle.scenario_sinks.specs.Pasts.{Past}
 

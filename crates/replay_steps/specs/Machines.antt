@@ -11,7 +11,7 @@ use Rattle.scenario_history.specs.Refusals.{gives_on}
 use Rattle.scenario_history.specs.Relays as history
 use Rattle.scenario_history.specs.Relays.{had_relay, relay_of}
 use Rattle.scenario_history.specs.Worlds.{life}
-use Rattle.sink_histories.specs.Lives.{made_of}
+use Rattle.sink_history.specs.Lives.{made_of}
 use Rattle.scenario_sources.specs.State.Standing.{SourcesStand}
 use Rattle.scenario_relays.specs.declared.route.Route.{Route}
 use Rattle.scenario_relays.specs.Pasts as relays

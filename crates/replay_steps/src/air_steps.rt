@@ -159,7 +159,8 @@ fn hear_spot(
     requires sink { sink ≤ 7 }
     requires event { event < 2 ^ 39 }
     requires spot { spot < group.now.info.num_bis * group.now.info.nse }
-    ensures { (steps : List Step) → OnAir steps sink event group.now → SourcesStand steps sources.now → SinksStand (past_on_air steps sink lose spot) sinks.old
+    ensures { (steps : List Step) → OnAir steps sink event group.now → SourcesStand steps sources.now
+        → SinksStand (past_on_air steps sink lose spot) sinks.old
         → SinksStand (past_on_air steps sink lose (spot + 1)) sinks.new }
 {
     let stream = spot / u16::from(group.info.nse);

@@ -24,7 +24,8 @@ impl Machine {
         text: &mut Octets,
     ) -> Result<(), Stop>
         ensures meets { (starts : List Account) (version : ℕ) (steps : List Step) → Stands steps self.old → stage_of steps ≡ running version
-            → Meets starts steps EventStep self.new text.old text.new (map account outlets.old.items) (map account outlets.new.items) result }
+            → Meets starts steps EventStep self.new text.old text.new (map account outlets.old.items)
+            (map account outlets.new.items) result }
         ensures untaken { (steps : List Step) → Stands steps self.old → UntakenSame steps outlets.old.items outlets.new.items }
     {
         let performed = match self.sources.perform() {
@@ -50,7 +51,8 @@ impl Machine {
         text: &mut Octets,
     ) -> Result<(), Stop>
         ensures meets { (starts : List Account) (version : ℕ) (steps : List Step) → Stands steps self.old → stage_of steps ≡ running version
-            → Meets starts steps StopStep self.new text.old text.new (map account outlets.old.items) (map account outlets.new.items) result }
+            → Meets starts steps StopStep self.new text.old text.new (map account outlets.old.items)
+            (map account outlets.new.items) result }
         ensures untaken { (steps : List Step) → Stands steps self.old → UntakenSame steps outlets.old.items outlets.new.items }
     {
         let closed = match self.sources.stop() {
@@ -71,7 +73,8 @@ impl Machine {
         text: &mut Octets,
     ) -> Result<(), Stop>
         ensures meets { (starts : List Account) (version : ℕ) (steps : List Step) → Stands steps self.old → stage_of steps ≡ running version
-            → Meets starts steps (TerminateStep reason) self.new text.old text.new (map account outlets.old.items) (map account outlets.new.items) result }
+            → Meets starts steps (TerminateStep reason) self.new text.old text.new (map account outlets.old.items)
+            (map account outlets.new.items) result }
         ensures untaken { (steps : List Step) → Stands steps self.old → UntakenSame steps outlets.old.items outlets.new.items }
     {
         let terminated = match self.sources.terminate(reason) {

@@ -73,7 +73,8 @@ impl Machine {
     ) -> Result<(), Stop>
         requires { sink ≤ 7 }
         ensures { (starts : List Account) (version : ℕ) (steps : List Step) → Stands steps self.old → stage_of steps ≡ running version
-            → BoxesStand starts steps (map account outlets.now.items) → Tells starts steps (DropStep sink) self.new text.old text.new result }
+            → BoxesStand starts steps (map account outlets.now.items)
+            → Tells starts steps (DropStep sink) self.new text.old text.new result }
     {
         match self.sinks.end(sink, outlets, text) {
             Ok(()) => {}

@@ -6,16 +6,16 @@ ghost use Rattle.scenario_text.specs.declared.step.Step.{Step as Said};
 ghost use Rattle.scenario_text.specs.declared.step.Step.TheVariants.{Announce};
 ghost use Rattle.scenario_history.specs.Steps.{running, stage_of};
 ghost use Rattle.scenario_history.specs.Worlds.{source_at};
-ghost use Rattle.sink_histories.specs.Lives.{named_by};
-ghost use Rattle.sink_steps.specs.Origins.{IsFrom};
-ghost use Rattle.sink_steps.specs.SinkLines.{IsSinkLine};
+ghost use Rattle.sink_history.specs.Lives.{named_by};
+ghost use Rattle.scenario_sink.specs.Origins.{IsFrom};
+ghost use Rattle.scenario_sink.specs.SinkLines.{IsSinkLine};
 ghost use Rattle.replay_steps.specs.Machines.{Stands};
 ghost use Rattle.replay_steps.specs.Meets.{Tells};
 
 use crate::machine::Machine;
 use bcast_base::Octets;
+use scenario_sink::Origin;
 use scenario_text::Step;
-use sink_steps::Origin;
 use transcript_text::{Refusal, Stop};
 
 impl Machine {

@@ -44,7 +44,8 @@ impl Machine {
 
     /// Whether the scenario ended.
     pub fn is_over(&self) -> bool
-        ensures { (starts : List Account) (lines : List TextLine) (accounts : List Account) → LinesStand starts lines self.now accounts → result ≡ is_over (steps_of airs_of lines) }
+        ensures { (starts : List Account) (lines : List TextLine) (accounts : List Account) → LinesStand starts lines self.now accounts
+            → result ≡ is_over (steps_of airs_of lines) }
     {
         matches!(self.stage, Stage::Over(_))
     }
@@ -59,8 +60,10 @@ impl Machine {
     ) -> Result<(), Stop>
         requires { length line.now < 2 ^ 64 }
         ensures meets { (starts : List Account) (lines : List TextLine) → LinesStand starts lines self.old (map account outlets.old.items)
-            → LineMeets starts lines (plain line.now) self.new text.old text.new (map account outlets.old.items) (map account outlets.new.items) result }
-        ensures untaken { (starts : List Account) (lines : List TextLine) (accounts : List Account) → LinesStand starts lines self.old accounts
+            → LineMeets starts lines (plain line.now) self.new text.old text.new (map account outlets.old.items)
+            (map account outlets.new.items) result }
+        ensures untaken { (starts : List Account) (lines : List TextLine) (accounts : List Account)
+            → LinesStand starts lines self.old accounts
             → UntakenSame (steps_of airs_of lines) outlets.old.items outlets.new.items }
     {
         let version = self.stage.version().number();

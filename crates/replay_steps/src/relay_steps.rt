@@ -59,6 +59,7 @@ impl Machine {
 
     /// Closes the event of a source that is open, where one is: its sinks hand their units up, and as an event of source 0 is closed
     /// their relays offer theirs to source 1. Where no sink has a relay, all sinks close it at once.
+    #[inline(always)]
     pub(crate) fn close(
         &mut self,
         source: u8,
@@ -68,8 +69,10 @@ impl Machine {
     ) -> Result<(), Stop>
         requires { ForSome closed (λ event. event < 2 ^ 39) }
         ensures closes { (steps : List Step) (past : Past) → RoomsStand steps past self.old
-            → Closes steps past source closed self.new text.old text.new (map account outlets.old.items) (map account outlets.new.items) result }
-        ensures others { (steps : List Step) (past : Past) → RoomsStand steps past self.old → UntakenSame past outlets.old.items outlets.new.items }
+            → Closes steps past source closed self.new text.old text.new (map account outlets.old.items)
+            (map account outlets.new.items) result }
+        ensures others { (steps : List Step) (past : Past) → RoomsStand steps past self.old
+            → UntakenSame past outlets.old.items outlets.new.items }
         ensures stage { self.new.stage ≡ self.old.stage }
     {
         let Some(event) = closed else {
@@ -83,12 +86,14 @@ impl Machine {
 
     /// Whether units of this source may go to source 1: it is source 0, and a sink has a relay.
     fn may_relay(&self, source: u8) -> bool
-        ensures { (steps : List Step) (past : Past) → RoomsStand steps past self.now → result ≡ ((source == 0) && not (is_idle (relays_past steps))) }
+        ensures { (steps : List Step) (past : Past) → RoomsStand steps past self.now
+            → result ≡ ((source == 0) && not (is_idle (relays_past steps))) }
     {
         source == 0 && !self.relays.is_idle()
     }
 
     /// Closes an event of source 0 for all its sinks, by rising number.
+    #[inline(never)]
     fn close_sinks(
         &mut self,
         event: u64,
@@ -97,8 +102,10 @@ impl Machine {
     ) -> Result<(), Stop>
         requires { event < 2 ^ 39 }
         ensures closes { (steps : List Step) (past : Past) → RoomsStand steps past self.old
-            → FirstMeets steps past event self.new text.old text.new (map account outlets.old.items) (map account outlets.new.items) result }
-        ensures others { (steps : List Step) (past : Past) → RoomsStand steps past self.old → UntakenSame past outlets.old.items outlets.new.items }
+            → FirstMeets steps past event self.new text.old text.new (map account outlets.old.items)
+            (map account outlets.new.items) result }
+        ensures others { (steps : List Step) (past : Past) → RoomsStand steps past self.old
+            → UntakenSame past outlets.old.items outlets.new.items }
         ensures stage { self.new.stage ≡ self.old.stage }
     {
         'sinks: for sink in 0..8u8 {
@@ -121,8 +128,10 @@ impl Machine {
         requires sink { sink ≤ 7 }
         requires event { event < 2 ^ 39 }
         ensures closes { (steps : List Step) (past : Past) → RoomsStand steps past self.old
-            → SinkMeets steps past sink event self.new text.old text.new (map account outlets.old.items) (map account outlets.new.items) result }
-        ensures others { (steps : List Step) (past : Past) → RoomsStand steps past self.old → UntakenSame past outlets.old.items outlets.new.items }
+            → SinkMeets steps past sink event self.new text.old text.new (map account outlets.old.items)
+            (map account outlets.new.items) result }
+        ensures others { (steps : List Step) (past : Past) → RoomsStand steps past self.old
+            → UntakenSame past outlets.old.items outlets.new.items }
         ensures stage { self.new.stage ≡ self.old.stage }
     {
         match self.sinks.close_at(sink, 0, event, outlets, text) {
@@ -163,7 +172,8 @@ fn offer_all(
     relays: &mut Relays,
     text: &mut Octets,
 ) -> Result<(), Stop>
-    ensures { (steps : List Step) (own : Option history.Route) → route ≡ option_map lent own → SourcesStand steps sources.old → RelaysStand (relays_past steps) relays.old
+    ensures { (steps : List Step) (own : Option history.Route) → route ≡ option_map lent own → SourcesStand steps sources.old
+        → RelaysStand (relays_past steps) relays.old
         → OffersMeet steps (offered_of sink own (map handed_of units.now)) sources.new relays.new text.old text.new result }
 {
     match route {
@@ -181,7 +191,8 @@ fn offer_units(
     relays: &mut Relays,
     text: &mut Octets,
 ) -> Result<(), Stop>
-    ensures { (steps : List Step) (own : history.Route) → route.now ≡ lent own → SourcesStand steps sources.old → RelaysStand (relays_past steps) relays.old
+    ensures { (steps : List Step) (own : history.Route) → route.now ≡ lent own → SourcesStand steps sources.old
+        → RelaysStand (relays_past steps) relays.old
         → OffersMeet steps (offered_of sink (Some own) (map handed_of units.now)) sources.new relays.new text.old text.new result }
 {
     'units: for unit in units {
@@ -202,7 +213,8 @@ fn offer_unit(
     relays: &mut Relays,
     text: &mut Octets,
 ) -> Result<(), Stop>
-    ensures { (steps : List Step) (own : history.Route) → route.now ≡ lent own → SourcesStand steps sources.old → RelaysStand (relays_past steps) relays.old
+    ensures { (steps : List Step) (own : history.Route) → route.now ≡ lent own → SourcesStand steps sources.old
+        → RelaysStand (relays_past steps) relays.old
         → OffersMeet steps (offered_of sink (Some own) (handed_of unit.now ∷ [])) sources.new relays.new text.old text.new result }
 {
     let Some(octets) = &unit.octets else {

@@ -186,8 +186,10 @@ impl Machine {
         text: &mut Octets,
     ) -> Result<(), Stop>
         requires { IsInRange step }
-        ensures meets { (starts : List Account) (steps : List Said) → Stands steps self.old → BoxesStand starts steps (map account outlets.old.items)
-            → StepMeets starts steps step self.new text.old text.new (map account outlets.old.items) (map account outlets.new.items) result }
+        ensures meets { (starts : List Account) (steps : List Said) → Stands steps self.old
+            → BoxesStand starts steps (map account outlets.old.items)
+            → StepMeets starts steps step self.new text.old text.new (map account outlets.old.items)
+            (map account outlets.new.items) result }
         ensures untaken { (steps : List Said) → Stands steps self.old → UntakenSame steps outlets.old.items outlets.new.items }
     {
         match self.stage {
@@ -200,7 +202,8 @@ impl Machine {
     /// Makes the first step.
     fn first_step(&mut self, step: Step) -> Result<(), Stop>
         requires { IsInRange step }
-        ensures { (boxes : ℕ) (steps : List Said) → Stands steps self.old → stage_of steps ≡ unbegun → First boxes steps step self.new result }
+        ensures { (boxes : ℕ) (steps : List Said) → Stands steps self.old → stage_of steps ≡ unbegun
+            → First boxes steps step self.new result }
     {
         let Step::Scenario { version } = step else {
             return Err(Stop::Refused(Refusal::Order));

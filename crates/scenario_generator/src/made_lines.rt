@@ -170,7 +170,8 @@ fn put_unit(line: &mut Octets, bis: u8, x: u32) -> Result<(), Memory>
 fn put_unit_or_end(line: &mut Octets, event: u32, left: &mut u32) -> Result<Place, Memory>
     requires empty { line.old ≡ [] }
     requires within { event + left.old ≤ 100000 }
-    ensures next { (state : ℕ) → IfOk result (λ place. left_at Place.Unit state event left.old ≡ line.new ∷ left_at place state event left.new) }
+    ensures next { (state : ℕ) → IfOk result (λ place. left_at Place.Unit state event left.old
+        ≡ line.new ∷ left_at place state event left.new) }
     ensures place { IfOk result (λ place. IsPlace place event left.new) }
     ensures err { OnErr result (left.new ≡ left.old) }
 {

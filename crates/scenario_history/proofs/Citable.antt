@@ -1,5 +1,6 @@
 -- What crates above may cite: what the boxes took of the units of a scenario, which boxes its sinks have, where the steps of a
 -- source stand, and what holds of a step that is refused by no reason.
+-- What upper crates may cite: what an accepted line leaves to the lines behind it.
 use Rattle.std.proofs.Common.{ℕ, ◌≡◌, ◌<◌, ◌+◌, List, ◌++◌, length, map, sum, Some}
 use Rattle.unit_outlets.specs.Account.{Account}
 use Rattle.scenario_text.specs.declared.step.Step.{Step}
@@ -9,6 +10,7 @@ use Rattle.scenario_history.proofs.BoxLaws as of_boxes
 use Rattle.scenario_history.proofs.Stages as of_stages
 use Rattle.scenario_history.proofs.Sums as of_sums
 pub use Rattle.scenario_history.proofs.Permitted.{Permitted, fails_not, maps_none, neither, permitted}
+pub use Rattle.scenario_history.proofs.RunLaws.{accepted_accepted, end_accepted, out_accepted, reverse_onto}
 
 -- boxes that take units one after the other took all of them
 pub took_all : (starts : List Account) (units : List SinkUnit) → Took starts (accounts_after starts units) units

@@ -1,5 +1,6 @@
 mod BoxLaws
 pub mod Citable
 mod Permitted
+mod RunLaws
 mod Stages
 mod Sums

@@ -1,6 +1,6 @@
 -- Which box a sink has, what each close hands up, and what the boxes took (the units are the SDUs of Core 5.2, volume 6
 -- part G, section 1). Boxes count from 0, in the order of their list. Lists of steps have the newest first.
-use Rattle.std.specs.Prelude.{ℕ, ◌+◌, ◌==◌, Bool, false, List, [], ◌∷◌, ◌++◌, map, length, sum, slice_get, slice_index_or, slice_set, option_map, ◌≡◌, Option, None, Some, if◌then◌else◌}
+use Rattle.std.specs.Prelude.{ℕ, ◌+◌, ◌<◌, ◌^◌, ◌==◌, Bool, IsTrue, false, List, [], ◌∷◌, ◌++◌, map, length, sum, slice_get, slice_index_or, slice_set, option_map, ◌≡◌, Option, None, Some, if◌then◌else◌}
 use Rattle.std.specs.List.{flat_map, range_with_len}
 use Rattle.circular_buffer.specs.Buffer.{keep_last}
 use Rattle.unit_outlets.specs.Account.{Account, fresh, with_unit}
@@ -123,3 +123,13 @@ with_units account units = record account {
 abbrev pub Took : List Account → List Account → List SinkUnit → Type 0
 Took starts ends units =
     (box : ℕ) → slice_get ends box ≡ option_map (λ account. with_units account (valid_for box units)) (slice_get starts box)
+
+-- the sums of an account hold in 64 bits
+abbrev pub Holds : Account → Type 0
+Holds account = (account.units < 2 ^ 64) × (account.octets < 2 ^ 64)
+
+-- each box is sound, and its sums hold what it has at the start and the valid units of its sink among these
+abbrev pub RoomFor : List Account → List SinkUnit → Type 0
+RoomFor starts units =
+    (box : ℕ) (account : Account) → slice_get starts box ≡ Some account
+    → IsTrue account.is_sound × Holds (with_units account (valid_for box units))

@@ -6,6 +6,7 @@ pub mod Lines
 pub mod Output
 pub mod Refusals
 pub mod Relays
+pub mod Runs
 pub mod Sinks
 pub mod Source
 pub mod Steps

@@ -9,7 +9,7 @@ use Rattle.scenario_text.specs.Steps.{read_of}
 use Rattle.transcript_text.specs.declared.refusal.Refusal.{Refusal}
 use Rattle.transcript_text.specs.declared.refusal.Refusal.TheVariants.{TextTooLong, LineTooLong, BadLine}
 use Rattle.transcript_text.specs.Lines.{refusal_line}
-use Rattle.line_runs.specs.Runs.{Rules}
+use Rattle.scenario_history.specs.Runs.{Rules}
 use Rattle.scenario_history.specs.Steps.{version_of}
 use Rattle.scenario_history.specs.Source.{Airs}
 use Rattle.scenario_history.specs.Boxes.{SinkUnit, handed_by}

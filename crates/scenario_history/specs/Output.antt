@@ -13,7 +13,7 @@ use Rattle.transcript_text.specs.Lines.{dropped_line, handed_line, pdu_line, hea
 use Rattle.scenario_text.specs.declared.step.Step.{Step}
 use Rattle.scenario_text.specs.declared.step.Step.TheVariants.{Event, Inject, Sniff, Announce, Train, Serve, Tell, Read, Drain, Show, Lose, Control, Forge}
 use Rattle.scenario_text.specs.declared.step.Step.TheVariants.{AServe, ATell, ARead, ADrain, AShow, Drop, Stop, Terminate, End}
-use Rattle.sink_histories.specs.Output.{printed}
+use Rattle.sink_history.specs.Output.{printed}
 use Rattle.scenario_history.specs.Steps.{chosen_of, chosen_steps}
 use Rattle.scenario_history.specs.Source.{Airs, event_back, end_pdu, pdu_in, stale_in}
 use Rattle.scenario_history.specs.Sinks.{is_of, sink_calls, source_of}

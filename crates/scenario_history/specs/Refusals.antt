@@ -27,7 +27,7 @@ use Rattle.scenario_history.specs.Steps.{Stage, chosen_of, chosen_steps, is_over
 use Rattle.scenario_history.specs.Source.{Airs, checked_info, group_of, ident_of, identity_of, is_absent_at, is_ciphered, is_described_at}
 use Rattle.scenario_history.specs.Source.{is_heard, is_sending, is_started, no_group, performed, phase_of, setup_of, source_calls, takes_units}
 use Rattle.scenario_history.specs.Bases.{has_subgroup, has_bis, is_last_bare, is_base_too_long}
-use Rattle.sink_histories.specs.Refusals.{refusal_of as refusal_of_sink}
+use Rattle.sink_history.specs.Refusals.{refusal_of as refusal_of_sink}
 use Rattle.scenario_history.specs.Boxes.{box_of}
 use Rattle.scenario_history.specs.Relays.{had_relay, relay_of}
 use Rattle.scenario_history.specs.Worlds.{the_world}

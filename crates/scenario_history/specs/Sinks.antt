@@ -9,8 +9,8 @@ use Rattle.group_sink.specs.Calls.{Tuning, Call, tune, hear, tick}
 use Rattle.scenario_text.specs.declared.step.Step.{Step}
 use Rattle.scenario_text.specs.declared.step.Step.TheVariants.{Sink, Tuned, Event, Hear, Air, Inject, Announce, Train, Drop, Stop, Terminate, End}
 use Rattle.scenario_history.specs.Steps.{chosen_of, chosen_steps, steps_of_source}
-use Rattle.sink_histories.specs.Lives.{made_of, named_by}
-use Rattle.sink_histories.specs.Moves.{received_by, source_by}
+use Rattle.sink_history.specs.Lives.{made_of, named_by}
+use Rattle.sink_history.specs.Moves.{received_by, source_by}
 use Rattle.scenario_history.specs.Worlds.{life, source_at}
 use Rattle.scenario_history.specs.Source.{Airs, setup_of, source_calls, event_back, pdu_in, open_event}
 

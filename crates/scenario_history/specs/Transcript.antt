@@ -6,7 +6,7 @@ use Rattle.unit_outlets.specs.Account.{Account}
 use Rattle.transcript_text.specs.declared.refusal.Refusal.{Refusal}
 use Rattle.transcript_text.specs.declared.refusal.Refusal.TheVariants.{NoEnd}
 use Rattle.transcript_text.specs.Lines.{refusal_line}
-use Rattle.line_runs.specs.Runs.{End, through, refused, out, end_of, accepted_of}
+use Rattle.scenario_history.specs.Runs.{End, through, refused, out, end_of, accepted_of}
 use Rattle.scenario_history.specs.Steps.{is_over}
 use Rattle.scenario_history.specs.Source.{Airs}
 use Rattle.scenario_history.specs.Boxes.{SinkUnit, handed_up}

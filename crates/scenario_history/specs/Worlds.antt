@@ -2,12 +2,12 @@
 -- part B, section 4.4.6.11), and its group from that event on. Lists of steps have the newest first; where a list is called
 -- `own` its steps are those of one source.
 use Rattle.std.specs.Prelude.{ℕ, List}
-use Rattle.announced_groups.specs.Octets.{train_of}
+use Rattle.delegator_history.specs.Octets.{train_of}
 use Rattle.announcement_train.specs.declared.train.Train.{Train}
-use Rattle.delegator_states.specs.Trains.{Joining}
-use Rattle.link_histories.specs.Calls.{Call}
+use Rattle.delegator_history.specs.Trains.{Joining}
+use Rattle.link_history.specs.Calls.{Call}
 use Rattle.scenario_text.specs.declared.step.Step.{Step}
-use Rattle.sink_histories.specs.Lives.{Source, World, life_of}
+use Rattle.sink_history.specs.Lives.{Source, World, life_of}
 use Rattle.source_machine.specs.Calls.{next_of, next_anchor_of}
 use Rattle.scenario_history.specs.Steps.{chosen_of, chosen_steps}
 use Rattle.scenario_history.specs.Source.{checked_info, identity_of, setup_of, source_calls}

@@ -9,19 +9,19 @@ use Rattle.big_info.specs.declared.info.BigInfo.{BigInfo}
 use Rattle.announcement_train.specs.declared.train.Train.{Train}
 use Rattle.announcement_train.specs.Layout.{IsTrain}
 use Rattle.announcement_train.specs.Told.{Tells}
-use Rattle.announced_groups.specs.Announced.{IsOnGroup, heard_as, numbers_alone}
-use Rattle.announced_groups.specs.Octets.{MayAnnounce, train_of}
-use Rattle.delegator_states.specs.Sights.{Sight}
-use Rattle.delegator_states.specs.Trains.{Brought, Joining, Setup as SinkSetup, brought_by, heard, ignored, taken}
+use Rattle.delegator_history.specs.Announced.{IsOnGroup, heard_as, numbers_alone}
+use Rattle.delegator_history.specs.Octets.{MayAnnounce, train_of}
+use Rattle.delegator_history.specs.Sights.{Sight}
+use Rattle.delegator_history.specs.Trains.{Brought, Joining, Setup as SinkSetup, brought_by, heard, ignored, taken}
 use Rattle.delegator_machine.specs.Groups.{joining_brought, tuning_of as tuning_joined}
 use Rattle.group_sink.specs.Calls.{Tuning}
 use Rattle.source_machine.specs.Calls.{next_anchor_of, next_of}
 use Rattle.source_machine.specs.Ciphers.{with_cipher}
 use Rattle.scenario_text.specs.declared.step.Step.{Step}
 use Rattle.scenario_text.specs.declared.step.Step.TheVariants as steps
-use Rattle.sink_histories.specs.Lives.{Made, own_train}
-use Rattle.sink_histories.specs.Moves.{joining_of}
-use Rattle.sink_histories.specs.Output.{sight_in}
+use Rattle.sink_history.specs.Lives.{Made, own_train}
+use Rattle.sink_history.specs.Moves.{joining_of}
+use Rattle.sink_history.specs.Output.{sight_in}
 use Rattle.scenario_history.specs.Bases.{base_from, base_of, subgroups_of}
 use Rattle.scenario_history.specs.Sinks.{tuning_of}
 use Rattle.scenario_history.specs.Source.{Airs, GroupLine, checked_info, group_of, identity_of, no_group, setup_of, source_calls}

@@ -16,8 +16,8 @@ use Rattle.base_grammar.specs.Draft.{IsDraft, Refuses, entry_fault, last_of, met
 use Rattle.base_grammar.specs.declared.fault.DraftFault.TheVariants as faults
 use Rattle.base_grammar.specs.Layout.{endpoint, indices, stands_in}
 use Rattle.base_grammar.proofs.Drafts.{with_entry_keeps, with_metadata_keeps, with_subgroup_keeps}
-use Rattle.announced_groups.specs.Announced.{numbers_alone}
-use Rattle.announced_groups.specs.Octets.{MayAnnounce, cipher_octets}
+use Rattle.delegator_history.specs.Announced.{numbers_alone}
+use Rattle.delegator_history.specs.Octets.{MayAnnounce, cipher_octets}
 use Rattle.scenario_bases.proofs.Citable.{adds_to_last, describes_last}
 use Rattle.source_machine.specs.declared.fault.AnnounceFault.{AnnounceFault}
 use Rattle.source_machine.specs.Calls.{next_anchor_of, next_of}

@@ -4,7 +4,7 @@ use Rattle.std.specs.List.{filter, list_any, range_with_len}
 use Rattle.std.proofs.Math.Nat.{div-eq_of_lt, pow-le-pow_right}
 use Rattle.std.proofs.lemmas.Bool.{cases_Bool, eqb-true, false≢true, ltb-true}
 use Rattle.delegator_machine.specs.Groups.{tuning_of as group_of}
-use Rattle.delegator_states.specs.Trains.{Joining}
+use Rattle.delegator_history.specs.Trains.{Joining}
 use Rattle.group_sink.specs.Streams.{is_in}
 use Rattle.scenario_text.specs.declared.step.Step.{Step}
 use Rattle.scenario_text.specs.declared.step.Step.TheVariants as steps

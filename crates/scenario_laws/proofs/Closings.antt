@@ -12,7 +12,7 @@ use Rattle.group_sink.specs.Handing.{handed_at, handed_by as ticked_by}
 use Rattle.scenario_text.specs.declared.step.Step.{Step}
 use Rattle.scenario_text.specs.declared.step.Step.TheVariants as steps
 use Rattle.transcript_text.specs.declared.refusal.Refusal.TheVariants.{NoSuchSink}
-use Rattle.sink_histories.specs.Lives.{Made, made_of, named_by}
+use Rattle.sink_history.specs.Lives.{Made, made_of, named_by}
 use Rattle.scenario_history.specs.Steps.{chosen_of, chosen_steps, sinks_made, steps_of_source}
 use Rattle.scenario_history.specs.Source.{Airs, event_back, open_event, pdu_in}
 use Rattle.scenario_history.specs.Sinks.{heard_on_air, is_of, reaches, sink_calls, source_of, spots_of, tuning_of, with_sink_call}

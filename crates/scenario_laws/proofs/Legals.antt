@@ -3,7 +3,7 @@
 use Rattle.std.proofs.Common.{ℕ, ◌≡◌, List, [], ◌∷◌, length, Option, None, Some, Result, Ok, Err, refl}
 use Rattle.bcast_io.specs.TextLines.{TextLine, plain, too_long, past}
 use Rattle.unit_outlets.specs.Account.{Account}
-use Rattle.line_runs.specs.Runs.{Accepted}
+use Rattle.scenario_history.specs.Runs.{Accepted}
 use Rattle.scenario_words.specs.declared.fault.LineFault.{LineFault}
 use Rattle.scenario_words.specs.declared.fault.LineFault.TheVariants.{BadLine as Misfit, Memory as NoMemory}
 use Rattle.scenario_text.specs.declared.step.Step.{Step}

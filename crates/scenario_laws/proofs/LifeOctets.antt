@@ -8,13 +8,13 @@ use Rattle.octet_fields.specs.Spelling.{IsOctets}
 use Rattle.bcast_io.specs.TextLines.{TextLine}
 use Rattle.bass_operations.specs.Layout.{spelling}
 use Rattle.bass_operations.specs.declared.operation.Operation.TheVariants as operations
-use Rattle.link_histories.specs.Calls.{Call, read, served, told, born}
-use Rattle.link_histories.specs.Drains.{repeated, served_out, told_out}
-use Rattle.link_histories.specs.Octets.{AreOctets, IsAsked}
+use Rattle.link_history.specs.Calls.{Call, read, served, told, born}
+use Rattle.link_history.specs.Drains.{repeated, served_out, told_out}
+use Rattle.link_history.specs.Octets.{AreOctets, IsAsked}
 use Rattle.scenario_text.specs.declared.step.Step.{Step}
 use Rattle.scenario_text.specs.declared.step.Step.TheVariants as steps
 use Rattle.scenario_text.specs.Ranges.{IsInRange}
-use Rattle.sink_histories.specs.Lives.{Made, Source, World, horizon_of, life_of, lived, lived_at, lived_by, made_by, made_of, named_by, with_drain}
+use Rattle.sink_history.specs.Lives.{Made, Source, World, horizon_of, life_of, lived, lived_at, lived_by, made_by, made_of, named_by, with_drain}
 use Rattle.scenario_history.specs.Lines.{Said, a_step, nothing, unsaid, said_after, said_of, with_said}
 use Rattle.scenario_history.specs.Steps.{version_of}
 use Rattle.scenario_laws.proofs.Legals.{InRange, LinesInRange, in_range}

@@ -2,17 +2,17 @@
 -- a group; and a sink that follows a train on no group may be of another source then.
 use Rattle.std.proofs.Common.{ℕ, ◌≡◌, ◌⊎◌, ◌==◌, ◌&&◌, not, cond, Bool, true, false, List, ◌∷◌, Option, None, Some, is_some, refl, sym, ◌∙◌, ap, subst, inl, inr}
 use Rattle.delegator_machine.specs.Groups.{joining_brought, tuning_of, with_leave, with_step}
-use Rattle.delegator_states.specs.declared.train_heard.TrainHeard.{TrainHeard}
-use Rattle.delegator_states.specs.Sights.{Place, Sight, idle, is_on_group, is_slot, on_group, on_train}
-use Rattle.delegator_states.specs.Trains.{Brought, Joining, Setup, Train, brought_by, by_broadcast_id, by_slot, heard, ignored, is_elsewhere, taken}
+use Rattle.delegator_history.specs.declared.train_heard.TrainHeard.{TrainHeard}
+use Rattle.delegator_history.specs.Sights.{Place, Sight, idle, is_on_group, is_slot, on_group, on_train}
+use Rattle.delegator_history.specs.Trains.{Brought, Joining, Setup, Train, brought_by, by_broadcast_id, by_slot, heard, ignored, is_elsewhere, taken}
 use Rattle.group_sink.specs.Calls.{Call, leave, place, tune}
-use Rattle.link_histories.specs.Calls as links
-use Rattle.scan_delegator.specs.Groups.{has_group}
+use Rattle.link_history.specs.Calls as links
+use Rattle.delegator_control.specs.Groups.{has_group}
 use Rattle.scenario_text.specs.declared.step.Step.{Step}
 use Rattle.scenario_text.specs.declared.step.Step.TheVariants as steps
-use Rattle.sink_histories.specs.Lives.{Made, Source, made_of, named_by, own_train}
-use Rattle.sink_histories.specs.Moves.{brings_by, follows, joining_of, received_by, source_by, train_by}
-use Rattle.sink_histories.specs.Output.{sight_in}
+use Rattle.sink_history.specs.Lives.{Made, Source, made_of, named_by, own_train}
+use Rattle.sink_history.specs.Moves.{brings_by, follows, joining_of, received_by, source_by, train_by}
+use Rattle.sink_history.specs.Output.{sight_in}
 use Rattle.scenario_history.specs.Source.{Airs}
 use Rattle.scenario_history.specs.Sinks.{moved, sink_calls, source_after, source_of, with_sink_call}
 use Rattle.scenario_history.specs.Steps.{chosen_of}

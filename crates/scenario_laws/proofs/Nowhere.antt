@@ -3,20 +3,20 @@ use Rattle.std.proofs.Common.{ℕ, ◌≡◌, ◌==◌, cond, Bool, true, false,
 use Rattle.std.proofs.lemmas.Bool.{false≢true}
 use Rattle.std.proofs.lemmas.Option.{none-some, same_Some}
 use Rattle.delegator_machine.specs.Groups.{joining_brought, with_leave, with_step}
-use Rattle.delegator_states.specs.Sights.{Sight}
-use Rattle.delegator_states.specs.States.{put_on, train_heard}
-use Rattle.delegator_states.specs.Steps.{after}
-use Rattle.delegator_states.specs.Trains.{Brought, Joining, Train, brought_by, done_brought, heard, ignored, taken}
-use Rattle.delegator_states.proofs.Citable.{sight_goes_on}
+use Rattle.delegator_history.specs.Sights.{Sight}
+use Rattle.delegator_history.specs.States.{put_on, train_heard}
+use Rattle.delegator_history.specs.Steps.{after}
+use Rattle.delegator_history.specs.Trains.{Brought, Joining, Train, brought_by, done_brought, heard, ignored, taken}
+use Rattle.delegator_history.proofs.Citable.{sight_goes_on}
 use Rattle.group_sink.specs.Calls.{Tuning, Call, tune, hear, place}
-use Rattle.link_histories.specs.Calls as links
-use Rattle.link_histories.specs.Calls.{stepped, steps_of}
-use Rattle.scan_delegator.specs.Groups.{has_group}
+use Rattle.link_history.specs.Calls as links
+use Rattle.link_history.specs.Calls.{stepped, steps_of}
+use Rattle.delegator_control.specs.Groups.{has_group}
 use Rattle.scenario_text.specs.declared.step.Step.{Step}
 use Rattle.scenario_text.specs.declared.step.Step.TheVariants as steps
-use Rattle.sink_histories.specs.Lives.{Made, Source, given_train, lived_at, lived_by, made_of, named_by, own_train}
-use Rattle.sink_histories.specs.Moves.{joining_of, received_by, train_by}
-use Rattle.sink_histories.specs.Output.{sight_in}
+use Rattle.sink_history.specs.Lives.{Made, Source, given_train, lived_at, lived_by, made_of, named_by, own_train}
+use Rattle.sink_history.specs.Moves.{joining_of, received_by, train_by}
+use Rattle.sink_history.specs.Output.{sight_in}
 use Rattle.scenario_history.specs.Steps.{chosen_of, chosen_steps, steps_of_source}
 use Rattle.scenario_history.specs.Source.{Airs, event_back, open_event, pdu_in}
 use Rattle.scenario_history.specs.Sinks.{heard_on_air, is_of, moved, reaches, sink_calls, source_of, spots_of, tuning_of, with_sink_call}

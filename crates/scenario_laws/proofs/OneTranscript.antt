@@ -2,7 +2,7 @@
 use Rattle.std.proofs.Common.{ℕ, ◌≡◌, ◌+◌, ◌==◌, cond, true, List, [], ◌∷◌, ◌++◌, length, Option, None, Some, refl, sym, ◌∙◌, ap, subst}
 use Rattle.bcast_io.specs.TextLines.{TextLine}
 use Rattle.unit_outlets.specs.Account.{Account}
-use Rattle.line_runs.specs.Runs.{Accepted, End, accepted_of, accepted_unless, end_of, end_unless, out, out_unless}
+use Rattle.scenario_history.specs.Runs.{Accepted, End, accepted_of, accepted_unless, end_of, end_unless, out, out_unless}
 use Rattle.source_machine.specs.Airs.{AreAirs, stale_of}
 use Rattle.source_machine.specs.Calls.{event as perform}
 use Rattle.source_machine.specs.Faults.{event_fault}

@@ -15,7 +15,7 @@ use Rattle.isoal_framed.specs.Histories.{heard_in}
 use Rattle.isoal_framed.specs.Struck.{Sent, closed_end, struck}
 use Rattle.isoal_framed.specs.Tokens.{time_of as start_time}
 use Rattle.isoal_unframed.specs.Struck.{Place, Struck}
-use Rattle.line_runs.specs.Runs.{Accepted}
+use Rattle.scenario_history.specs.Runs.{Accepted}
 use Rattle.source_machine.specs.Airs.{slots_of}
 use Rattle.source_machine.specs.Calls.{Setup, next_of}
 use Rattle.group_sink.specs.Calls.{Tuning, Call, place}
@@ -23,8 +23,8 @@ use Rattle.group_sink.specs.Handing.{bis_of, of_stream}
 use Rattle.group_sink.specs.Streams.{closes, is_in, stay_on, stream_calls, streams_of}
 use Rattle.scenario_text.specs.declared.step.Step.{Step}
 use Rattle.scenario_text.specs.declared.step.Step.TheVariants.{Sink, Tuned, Event, Inject, Announce, Train, Stop, Terminate, End}
-use Rattle.sink_histories.specs.Lives.{made_of}
-use Rattle.sink_histories.specs.Moves.{brings_by}
+use Rattle.sink_history.specs.Lives.{made_of}
+use Rattle.sink_history.specs.Moves.{brings_by}
 use Rattle.scenario_history.specs.Steps.{chosen_of, steps_of_source}
 use Rattle.scenario_history.specs.Worlds.{life, source_at}
 use Rattle.scenario_history.specs.Source.{Airs, setup_of, source_calls, open_event}

@@ -1,10 +1,10 @@
 -- What the assistants of a sink know of it, by the lines of a scenario (Broadcast Audio Scan Service 1.0, section 3.2).
 use Rattle.std.specs.Prelude.{ℕ, ◌≡◌, ◌≢◌, ◌<◌, false, List, Some}
 use Rattle.bcast_io.specs.TextLines.{TextLine}
-use Rattle.link_histories.specs.Calls.{Call}
-use Rattle.link_histories.specs.Drains.{IsAnew, IsApart, LeavesLink, NoneTells, told_and_read}
-use Rattle.link_histories.specs.Links.{is_forged, read_waits, state, view}
-use Rattle.sink_histories.specs.Lives.{Made, made_of}
+use Rattle.link_history.specs.Calls.{Call}
+use Rattle.link_history.specs.Drains.{IsAnew, IsApart, LeavesLink, NoneTells, told_and_read}
+use Rattle.link_history.specs.Links.{is_forged, read_waits, state, view}
+use Rattle.sink_history.specs.Lives.{Made, made_of}
 use Rattle.scenario_history.specs.Lines.{steps_of}
 use Rattle.scenario_history.specs.Source.{Airs}
 use Rattle.scenario_history.specs.Worlds.{life}

@@ -7,14 +7,14 @@ ghost use Rattle.scenario_history.specs.Airs.{MeetAirs};
 ghost use Rattle.scenario_history.specs.Gifts.{answered_by};
 ghost use Rattle.scenario_history.specs.Refusals.{line_refusal};
 ghost use Rattle.scenario_history.specs.Source.{Airs};
-ghost use Rattle.line_runs.specs.Runs.{Accepted};
+ghost use Rattle.scenario_history.specs.Runs.{Accepted};
 ghost use Rattle.scenario_text.specs.declared.step.Step.{Step};
 ghost use Rattle.scenario_history.specs.Lines.{handed_on, rules_of, steps_of};
 ghost use Rattle.scenario_history.specs.Transcript.{end_after, out_of, transcript_end, transcript_of, units_of};
 ghost use Rattle.scenario_laws.specs.Laws.{OrderLaw, StepsInOrder, UnitsLaw};
 
-use announced_groups::{a_sink_is_put_where_its_source_is, a_source_has_one_train};
 use announcement_train::an_announcement_is_read;
+use delegator_history::{a_sink_is_put_where_its_source_is, a_source_has_one_train};
 use group_sink::{each_stream_hands_its_units, one_event_is_open};
 use isoal_framed::{a_framed_air_sends_units, framed_units_are_struck};
 use isoal_unframed::units_are_struck;
@@ -46,12 +46,15 @@ pub fn one_transcript()
         → end_after airs starts lines ≡ end_after others starts lines }
     ensures accepted { (airs others : Airs) (starts : List Account) (lines : List TextLine) → MeetAirs airs → MeetAirs others
         → Accepted (rules_of airs starts) lines → Accepted (rules_of others starts) lines }
-    ensures handed { (airs others : Airs) (starts : List Account) (lines : List TextLine) (line : TextLine) → MeetAirs airs → MeetAirs others
+    ensures handed { (airs others : Airs) (starts : List Account) (lines : List TextLine) (line : TextLine) → MeetAirs airs
+        → MeetAirs others
         → Accepted (rules_of airs starts) lines → handed_on airs lines line ≡ handed_on others lines line }
     ensures steps { (airs others : Airs) (starts : List Account) (lines : List TextLine) → MeetAirs airs → MeetAirs others
         → Accepted (rules_of airs starts) lines → steps_of airs lines ≡ steps_of others lines }
-    ensures output { (airs others : Airs) (starts : List Account) (lines : List TextLine) (line : TextLine) → MeetAirs airs → MeetAirs others
-        → Accepted (rules_of airs starts) (line ∷ lines) → (rules_of airs starts).output lines line ≡ (rules_of others starts).output lines line }
+    ensures output { (airs others : Airs) (starts : List Account) (lines : List TextLine) (line : TextLine) → MeetAirs airs
+        → MeetAirs others
+        → Accepted (rules_of airs starts) (line ∷ lines)
+        → (rules_of airs starts).output lines line ≡ (rules_of others starts).output lines line }
     ensures answers { (airs others : Airs) (starts : List Account) (lines : List TextLine) (step : Step) → MeetAirs airs → MeetAirs others
         → Accepted (rules_of airs starts) lines → line_refusal airs (length starts) (steps_of airs lines) step ≡ None
         → answered_by airs (steps_of airs lines) step ≡ answered_by others (steps_of others lines) step }

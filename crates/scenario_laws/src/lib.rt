@@ -1,8 +1,15 @@
-//! The laws of a scenario: one transcript, what each sink hands up is its source's, and what its assistants know is its state.
+//! The laws of a scenario: one transcript; what each sink hands up is its source's, relayed units among them; what its assistants know
+//! is its state; what version 2 makes of a text of version 1; and that a sink is isolated from what it isn't of.
 #![tactic(auto)]
 
 mod history_laws;
+mod isolation_laws;
 mod link_laws;
+mod relay_laws;
+mod version_laws;
 
 pub use history_laws::{one_transcript, order_law, some_airs_meet, steps_keep_order, units_law};
+pub use isolation_laws::{a_scenario_is_left, isolation_law};
 pub use link_laws::{agreement_law, links_law};
+pub use relay_laws::{relay_lines_law, relayed_units_law};
+pub use version_laws::migration_law;

@@ -1,7 +1,7 @@
 //! What the assistants of a sink come to know of it.
 ghost use Rattle.scenario_laws.specs.Links.{AgreementLaw, LinksLaw};
 
-use link_histories::{agreement_law as links_agree, links_law as links_stand_apart};
+use link_history::{agreement_law as links_agree, links_law as links_stand_apart};
 use scenario_text::a_line_says_one_step;
 
 /// The agreement law over the lines of any text (Broadcast Audio Scan Service 1.0, section 3.2): on each link of each living sink

@@ -2,8 +2,12 @@
 #![tactic(auto)]
 
 mod first_lines;
+mod later_lines;
 mod line;
+mod names;
+mod sink_lines;
 mod source_lines;
 
 pub use line::{read_line, read_line_in};
+pub use names::named_of_sink;
 pub use scenario_words::LineFault;

@@ -8,8 +8,7 @@ ghost use Rattle.scenario_text.specs.Steps.{at_known, step_of as step_in, read_o
 ghost use Rattle.scenario_text.specs.Misfits.{IsMisfit};
 ghost use Rattle.scenario_text.specs.declared.step.Step.{Step};
 
-use crate::{first_lines, source_lines};
-use scenario_sink_lines::named_of_sink;
+use crate::{first_lines, named_of_sink, source_lines};
 use scenario_text::Step;
 use scenario_words::{Cursor, LineFault};
 use std::alloc::Global;

@@ -1,4 +1,6 @@
 ghost use Rattle.std.specs.Prelude.{◌≡◌, ◌≤◌, ◌||◌, is_some};
+ghost use Rattle.scenario_relays.specs.Pasts.{Past, is_idle};
+ghost use Rattle.scenario_relays.specs.State.Standing.{RoutesAre};
 
 use crate::route::Route;
 use bcast_base::{Bis, BisSet};
@@ -7,6 +9,8 @@ use bcast_base::{Bis, BisSet};
 #[derive(Clone, Copy)]
 pub struct Relays {
     routes: [Option<Route>; 8],
+    /// Whether no sink has one.
+    idle: bool,
     /// The streams of source 1 that have had a relay.
     relayed: BisSet,
     /// The streams of source 1 that were given a unit.
@@ -14,7 +18,7 @@ pub struct Relays {
 }
 
 impl Relays {
-    ghost use Rattle.scenario_relays.specs.Pasts.{Past, is_idle, nothing, with_gift, with_relay, without};
+    ghost use Rattle.scenario_relays.specs.Pasts.{nothing, with_gift, with_relay, without};
     ghost use Rattle.scenario_relays.specs.State.Standing.{RelaysStand};
 
     /// No relay, and nothing was given to source 1.
@@ -23,6 +27,7 @@ impl Relays {
     {
         Relays {
             routes: [None; 8],
+            idle: true,
             relayed: BisSet::new(),
             given: BisSet::new(),
         }
@@ -40,7 +45,7 @@ impl Relays {
     pub fn is_idle(&self) -> bool
         ensures { (past : Past) → RelaysStand past self.now → result ≡ is_idle past }
     {
-        self.routes.iter().all(|route| route.is_none())
+        self.idle
     }
 
     /// Whether this stream of source 1 has had a relay, also where its sink was dropped since.
@@ -66,6 +71,7 @@ impl Relays {
         ensures { (past : Past) → RelaysStand past self.old → RelaysStand (with_relay sink bis to past) self.new }
     {
         self.routes[usize::from(sink)] = Some(Route { bis, to });
+        self.idle = false;
         self.relayed = self.relayed.with(to);
     }
 
@@ -75,6 +81,7 @@ impl Relays {
         ensures { (past : Past) → RelaysStand past self.old → RelaysStand (without sink past) self.new }
     {
         self.routes[usize::from(sink)] = None;
+        self.idle = has_none(&self.routes);
     }
 
     /// Source 1 was given a unit of this stream.
@@ -83,4 +90,11 @@ impl Relays {
     {
         self.given = self.given.with(bis);
     }
+}
+
+/// Whether no sink has a relay of these.
+fn has_none(routes: &[Option<Route>; 8]) -> bool
+    ensures { (past : Past) → RoutesAre past routes.now → result ≡ is_idle past }
+{
+    routes.iter().all(|route| route.is_none())
 }

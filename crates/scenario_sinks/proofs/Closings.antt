@@ -10,7 +10,7 @@ use Rattle.unit_outlets.specs.Account.{Account}
 use Rattle.unit_outlets.specs.Handed.{Handed}
 use Rattle.group_sink.specs.Calls.{Call, tick}
 use Rattle.group_sink.specs.Handing.{handed_at}
-use Rattle.link_histories.specs.Calls as links
+use Rattle.link_history.specs.Calls as links
 use Rattle.scenario_history.specs.Sinks.{is_of, ticked_if}
 use Rattle.scenario_history.specs.Boxes.{SinkUnit, most_sinks, sink_numbers, closing_by, accounts_after}
 use Rattle.scenario_history.specs.Output.{unit_lines}
@@ -22,12 +22,12 @@ use Rattle.transcript_text.specs.declared.stop.Stop.{Stop}
 use Rattle.scenario_sinks.specs.Pasts.{Past, with_close, with_close_at}
 use Rattle.scenario_sinks.specs.Handing.{Hands}
 use Rattle.scenario_sinks.specs.declared.sinks.Sinks.{Sinks}
-use Rattle.scenario_sinks.specs.Closing.{Closes, ClosesAt, closings, handed_all}
+use Rattle.scenario_sinks.specs.Closing.{Closes, ClosesAt, closing_of, closings, handed_all}
 use Rattle.scenario_sinks.specs.State.Gathering.{calls_of, handed_of, units_for}
 use Rattle.scenario_sinks.specs.State.Standing.{EntryIs, EntryAt, EntriesAre, SinksStand}
-use Rattle.scenario_sinks.specs.State.Between.{SinkCloses, SinkHands, AllClose, Between}
-use Rattle.sink_histories.specs.Lives.{Made}
-use Rattle.sink_steps.specs.State.Living.{Lives}
+use Rattle.scenario_sinks.specs.State.Between.{SinkCloses, SinkHands, AllClose, Between, EntriesFrom, OneBetween, OneCloses, Unmoved}
+use Rattle.sink_history.specs.Lives.{Made}
+use Rattle.scenario_sink.specs.State.Living.{Lives}
 use Rattle.scenario_sinks.proofs.Entries.{OthersStay, SinkIs, entry_of, one_entry}
 use Rattle.scenario_sinks.proofs.Citable.{hands_stop, hands_then}
 use Rattle.scenario_sinks.proofs.Ranges.{range_append, get_set_here, get_set_other, nat_same}
@@ -121,14 +121,20 @@ between_over past source event number sinks gathered text told before after all 
     }
 
 -- the entry of the next sink
-pub entry_here : (past : Past) (source event number at : ℕ) (sinks : List (Option Sink)) (d : Option Sink) (gathered : Gathered)
-    (text told : List ℕ) (before after : List Account) → at ≡ number → length sinks ≡ most_sinks → number < most_sinks
-    → Between past source event number sinks gathered text told before after → EntryAt past number (Some (get_or sinks at d))
-entry_here past source event number at sinks d gathered text told before after same eight below b =
+pub entry_here : (past : Past) (number at : ℕ) (sinks : List (Option Sink)) (d : Option Sink) → at ≡ number → length sinks ≡ most_sinks → number < most_sinks
+    → EntriesFrom past number sinks → EntryAt past number (Some (get_or sinks at d))
+entry_here past number at sinks d same eight below left =
     let inside : at < length sinks = omega arith in
     let Q : Option (Option Sink) → Type 0 = λ o. EntryAt past number o in
     let here : slice_get sinks number ≡ slice_get sinks at = ap (slice_get sinks) (sym same) in
-    subst Q (here ∙ slice_get-get_or sinks at d inside) (b.left number (omega arith) below)
+    subst Q (here ∙ slice_get-get_or sinks at d inside) (left number (omega arith) below)
+
+-- the entries of those behind it
+pub entries_next : (past : Past) (number at : ℕ) (sinks : List (Option Sink)) (entry : Option Sink) → at ≡ number → EntriesFrom past number sinks
+    → EntriesFrom past (number + 1) (slice_set sinks at entry)
+entries_next past number at sinks entry same left n least below =
+    let other : n ≢ at = λ e. omega (arith, same, least, e) in
+    subst (λ o. EntryAt past n o) (sym (get_set_other sinks at n entry other)) (left n (omega (arith, least)) below)
 
 pub between_next_at : (past : Past) (source event number at : ℕ) (sinks : List (Option Sink)) (entry : Option Sink) (gathered next : Gathered)
     (text told told2 : List ℕ) (before mid after : List Account) → at ≡ number → length sinks ≡ most_sinks → number < most_sinks
@@ -240,6 +246,27 @@ sink_rests (Some box) made own life received n source event entry gathered text 
       is_ticked = record { entry_is = here; empty = empty };
     }
 
+no_units : (box : Option ℕ) (own : Option ℕ) (received : List Call) (n source event : ℕ) → (is_some box && is_of source own) ≡ false
+    → closing_by source event n received own box ≡ []
+no_units None own received n source event other = none_handed (is_of source own) [] refl
+no_units (Some box) own received n source event other = rw other refl
+
+pub sink_rests_held : (box : Option ℕ) (made : Option Made) (own : Option ℕ) (life : List links.Call) (received : List Call) (n source event : ℕ) (entry : Option Sink)
+    (gathered : Gathered) (text : List ℕ) (before : List Account) → EntryIs box made own life received (Some entry) → (is_some box && is_of source own) ≡ false
+    → gathered.units.items ≡ [] → SinkHands box made own life received n source event entry gathered text text before before (Ok tt)
+sink_rests_held box made own life received n source event entry gathered text before is other empty =
+    let rests = sink_rests box made own life received n source event entry gathered text before is other empty in
+    record {
+      hands = rests.hands;
+      is_held = record {
+        entry_is = rests.is_ticked.entry_is;
+        held = ap (map handed_of) empty ∙ ap handed_all (sym (no_units box own received n source event other));
+      };
+    }
+
+pub not_both : (b : Bool) → b ≡ true → b ≡ false → ⊥
+not_both b is other = cc (sym is ∙ other)
+
 -- its units are gathered no more
 pub sink_closes : (box : Option ℕ) (made : Option Made) (own : Option ℕ) (life : List links.Call) (received : List Call) (n source event : ℕ) (entry : Option Sink)
     (held gathered : Gathered) (text told : List ℕ) (before after : List Account) (r : Result (Unit {0}) Stop)
@@ -261,19 +288,80 @@ close_stays n source event past = record {
   received = λ m apart. rw apart refl;
 }
 
-pub closed_at : (n at source event : ℕ) (past : Past) (old new : Sinks) (entry : Option Sink) (text told : List ℕ) (before after : List Account) (r : Result (Unit {0}) Stop)
-    → SinksStand past old → at ≡ n → n < most_sinks → length old.entries.items ≡ most_sinks
-    → SinkHands (past.boxes n) (past.mades n) (past.sources n) (past.lives n) (past.received n) n source event entry new.gathered text told before after r
-    → new.entries.items ≡ slice_set old.entries.items at entry → new.outlets ≡ old.outlets → ClosesAt past n source event new text told before after r
-closed_at n at source event past old new entry text told before after r stands same within eight h set more =
-    let next : Past = with_close_at n source event past in
-    let E : List (Option Sink) → Type 0 = λ sinks. EntriesAre next sinks in
+-- ---- one sink alone
+
+one_hands : (past : Past) (n source event : ℕ) (sinks now : List (Option Sink)) (gathered : Gathered) (text told more : List ℕ) (before mid after : List Account)
+    (r : Result (Unit {0}) Stop) → Unmoved sinks now gathered text told before mid → Hands (closing_of n source event past) told more mid after r
+    → Hands (closing_of n source event past) text more before after r
+one_hands past n source event sinks now gathered text told more before mid after r u hands =
+    let units : List SinkUnit = closing_of n source event past in
+    subst (λ l. Hands units l more before after r) u.lines (subst (λ a. Hands units told more a after r) u.boxes_are hands)
+
+one_closes : (past : Past) (n at source event : ℕ) (sinks now : List (Option Sink)) (entry : Option Sink) (gathered next : Gathered) (text told more : List ℕ)
+    (before mid after : List Account) (r : Result (Unit {0}) Stop) → at ≡ n → n < most_sinks → length now ≡ most_sinks → EntriesAre past sinks
+    → Unmoved sinks now gathered text told before mid
+    → SinkHands (past.boxes n) (past.mades n) (past.sources n) (past.lives n) (past.received n) n source event entry next told more mid after r
+    → OneCloses past n source event (slice_set now at entry) next text more before after r
+one_closes past n at source event sinks now entry gathered next text told more before mid after r same within eight are u h = record {
+  hands = one_hands past n source event sinks now gathered text told more before mid after r u h.hands;
+  is_held = on_ok_weaker r (λ is. record {
+    entries = one_entry n at past (with_close_at n source event past) now entry same within eight (close_stays n source event past)
+        (subst (λ s. EntriesAre past s) (sym u.sinks_same) are) (rw (eq-eqb n n refl) is.entry_is);
+    held = is.held;
+  }) h.is_held;
+}
+
+first_now : (past : Past) (first source event number end : ℕ) (sinks now : List (Option Sink)) (gathered : Gathered) (text told : List ℕ) (before after : List Account)
+    → number < end → end ≡ first + 1 → OneBetween past first source event number sinks now gathered text told before after
+    → (number ≡ first) × Unmoved sinks now gathered text told before after
+first_now past first source event number end sinks now gathered text told before after less alone (inl both) = both
+first_now past first source event number end sinks now gathered text told before after less alone (inr both) =
+    let over : number ≡ first + 1 = both.0 in
+    absurd (omega (arith, less, alone, over))
+
+pub one_next : (past : Past) (first at source event number end : ℕ) (sinks now : List (Option Sink)) (entry : Option Sink) (gathered next : Gathered) (text told more : List ℕ)
+    (before mid after : List Account) → at ≡ number → number < most_sinks → length now ≡ most_sinks → EntriesAre past sinks → number < end → end ≡ first + 1
+    → OneBetween past first source event number sinks now gathered text told before mid
+    → (gathered.units.items ≡ []
+    → SinkHands (past.boxes number) (past.mades number) (past.sources number) (past.lives number) (past.received number) number source event entry next told more mid after (Ok tt))
+    → OneBetween past first source event (number + 1) sinks (slice_set now at entry) next text more before after
+one_next past first at source event number end sinks now entry gathered next text told more before mid after same within eight are less alone b h =
+    let f = first_now past first source event number end sinks now gathered text told before mid less alone b in
+    inr (
+      ap (λ m. m + 1) f.0,
+      subst (λ m. OneCloses past m source event (slice_set now at entry) next text more before after (Ok tt)) f.0
+          (one_closes past number at source event sinks now entry gathered next text told more before mid after (Ok tt) same within eight are f.1 (h f.1.empty)),
+    )
+
+pub one_ends : (past : Past) (first source event number end : ℕ) (sinks now last : List (Option Sink)) (entry : Option Sink) (gathered next : Gathered) (text told more : List ℕ)
+    (before mid after : List Account) (stop : Stop) → number < end → end ≡ first + 1
+    → OneBetween past first source event number sinks now gathered text told before mid
+    → (gathered.units.items ≡ []
+    → SinkHands (past.boxes number) (past.mades number) (past.sources number) (past.lives number) (past.received number) number source event entry next told more mid after (Err stop))
+    → OneCloses past first source event last next text more before after (Err stop)
+one_ends past first source event number end sinks now last entry gathered next text told more before mid after stop less alone b h =
+    let f = first_now past first source event number end sinks now gathered text told before mid less alone b in
+    subst (λ m. OneCloses past m source event last next text more before after (Err stop)) f.0
+    (record {
+      hands = one_hands past number source event sinks now gathered text told more before mid after (Err stop) f.1 (h f.1.empty).hands;
+      is_held = tt;
+    })
+
+pub one_over : (past : Past) (first source event number end : ℕ) (sinks now : List (Option Sink)) (gathered : Gathered) (text told : List ℕ) (before after : List Account)
+    → end ≤ number → end ≡ first + 1 → OneBetween past first source event number sinks now gathered text told before after
+    → OneCloses past first source event now gathered text told before after (Ok tt)
+one_over past first source event number end sinks now gathered text told before after least alone (inl both) =
+    let is : number ≡ first = both.0 in
+    absurd (omega (arith, least, alone, is))
+one_over past first source event number end sinks now gathered text told before after least alone (inr both) = both.1
+
+-- what became of the sinks by a close of one
+pub closed_one : (past : Past) (n source event : ℕ) (old new : Sinks) (sinks : List (Option Sink)) (text told : List ℕ) (before after : List Account) (r : Result (Unit {0}) Stop)
+    → SinksStand past old → new.entries.items ≡ sinks → OneCloses past n source event sinks new.gathered text told before after r → new.outlets ≡ old.outlets
+    → ClosesAt past n source event new text told before after r
+closed_one past n source event old new sinks text told before after r stands items c more =
+    let E : List (Option Sink) → Type 0 = λ s. EntriesAre (with_close_at n source event past) s in
     record {
-      hands = h.hands;
-      lends = on_ok_weaker r (λ is. record {
-        entries = subst E (sym set) (one_entry n at past next old.entries.items entry same within eight (close_stays n source event past) stands.entries
-            (rw (eq-eqb n n refl) is.entry_is));
-        made = more ∙ stands.made;
-        held = is.held;
-      }) h.is_held;
+      hands = c.hands;
+      lends = on_ok_weaker r (λ h. record { entries = subst E (sym items) h.entries; made = more ∙ stands.made; held = h.held }) c.is_held;
     }

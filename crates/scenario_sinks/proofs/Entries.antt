@@ -3,27 +3,27 @@ use Rattle.std.proofs.Common.{◌≡◌, ◌≢◌, ℕ, zero, suc, ◌<◌, ◌
 use Rattle.std.proofs.Common.{arith, Option, None, Some, Result, Ok, Err, ◌⊎◌, inl, inr}
 use Rattle.std.proofs.lemmas.Option.{slice_get-get_or}
 use Rattle.delegator_machine.specs.Groups.{tuning_of}
-use Rattle.delegator_states.specs.States.{put_on}
-use Rattle.delegator_states.specs.Trains.{Joining}
+use Rattle.delegator_history.specs.States.{put_on}
+use Rattle.delegator_history.specs.Trains.{Joining}
 use Rattle.group_sink.specs.Calls.{Call, hear, tune}
 use Rattle.group_sink.specs.Hearings.{hearing_of}
 use Rattle.isoal_base.specs.declared.hearing.Hearing.{Hearing}
 use Rattle.isoal_base.specs.declared.hearing.Hearing.TheVariants.{NotOnGroup}
 use Rattle.scenario_history.specs.Refusals.{has_beyond}
 use Rattle.scenario_history.specs.Sinks.{is_of}
-use Rattle.link_histories.specs.Calls as links
-use Rattle.link_histories.specs.Calls.{stepped}
+use Rattle.link_history.specs.Calls as links
+use Rattle.link_history.specs.Calls.{stepped}
 use Rattle.scenario_history.specs.Boxes.{most_sinks}
 use Rattle.scenario_sinks.specs.declared.sink.Sink.{Sink}
 use Rattle.scenario_sinks.specs.Pasts.{Past}
 use Rattle.scenario_sinks.specs.State.Standing.{EntryIs, EntryAt, EntriesAre}
 use Rattle.scenario_sinks.specs.State.Entries.{EntryHears, EntryRuns, EntryTunes, LineMakes}
 use Rattle.scenario_text.specs.declared.step.Step.{Step}
-use Rattle.sink_histories.specs.Lives.{Made, Source, lived_by}
-use Rattle.sink_histories.specs.Moves.{received_by, source_by}
+use Rattle.sink_history.specs.Lives.{Made, Source, lived_by}
+use Rattle.sink_history.specs.Moves.{received_by, source_by}
 use Rattle.transcript_text.specs.declared.stop.Stop.{Stop}
 use Rattle.transcript_text.specs.declared.stop.Stop.TheVariants.{Refused, OutletFault, Memory}
-use Rattle.sink_steps.specs.State.Living.{Lives}
+use Rattle.scenario_sink.specs.State.Living.{Lives}
 use Rattle.scenario_sinks.proofs.Ranges.{get_set_here, get_set_other, nat_same}
 
 -- ---- the sink of one entry

@@ -1,9 +1,9 @@
 -- The sinks after a call for one of them.
 use Rattle.std.proofs.Common.{◌≡◌, ℕ, ◌+◌, ◌<◌, ◌≤◌, [], true, false, List, length, refl, sym, ◌∙◌, ap, subst, is_some, slice_set, get_or, eq-eqb}
-use Rattle.link_histories.specs.Calls.{born}
+use Rattle.link_history.specs.Calls.{born}
 use Rattle.std.proofs.Common.{arith, Option, None, Some, Result, Ok, Err}
 use Rattle.std.proofs.lemmas.Bool.{le-leb, lt-leb}
-use Rattle.delegator_states.specs.Trains.{Joining}
+use Rattle.delegator_history.specs.Trains.{Joining}
 use Rattle.isoal_base.specs.declared.hearing.Hearing.{Hearing}
 use Rattle.transcript_text.specs.declared.refusal.Refusal.TheVariants.{SinkTwice, NoOutlet}
 use Rattle.scenario_history.specs.Boxes.{most_sinks}
@@ -17,8 +17,8 @@ use Rattle.scenario_sinks.specs.Pasts.{Past, with_sink, without, with_tuning, wi
 use Rattle.scenario_sinks.specs.Refusals.{Answers, Tunes, not_made, not_living, not_tuned}
 use Rattle.scenario_sinks.specs.State.Standing.{EntryAt, EntriesAre, SinksStand}
 use Rattle.scenario_sinks.specs.State.Entries.{EntryHears, EntryTunes}
-use Rattle.sink_histories.specs.Lives.{Made}
-use Rattle.sink_steps.specs.State.Living.{Lives}
+use Rattle.sink_history.specs.Lives.{Made}
+use Rattle.scenario_sink.specs.State.Living.{Lives}
 use Rattle.scenario_sinks.proofs.Entries.{OthersStay, one_entry, entry_read, none_lives, lives_in, sink_in}
 
 -- the sinks where the entry of a number is new

@@ -1,12 +1,12 @@
 -- The sinks after a line of the control or of the links of one of them.
 use Rattle.std.proofs.Common.{◌≡◌, ℕ, ◌<◌, ◌==◌, false, List, length, refl, sym, ◌∙◌, subst, slice_set, eq-eqb, Option, None, Some, Result, Ok, Err}
-use Rattle.delegator_states.specs.Trains.{Train}
+use Rattle.delegator_history.specs.Trains.{Train}
 use Rattle.group_sink.specs.Calls.{Call}
-use Rattle.link_histories.specs.Calls as links
+use Rattle.link_history.specs.Calls as links
 use Rattle.scenario_history.specs.Boxes.{most_sinks}
 use Rattle.scenario_text.specs.declared.step.Step.{Step}
-use Rattle.sink_histories.specs.Lives.{Source, lived_by}
-use Rattle.sink_histories.specs.Moves.{follows_by, received_by, source_by, train_by}
+use Rattle.sink_history.specs.Lives.{Source, lived_by}
+use Rattle.sink_history.specs.Moves.{follows_by, received_by, source_by, train_by}
 use Rattle.transcript_text.specs.declared.stop.Stop.{Stop}
 use Rattle.transcript_text.specs.declared.stop.Stop.TheVariants.{Refused, OutletFault, Memory}
 use Rattle.scenario_sinks.specs.declared.sink.Sink.{Sink}

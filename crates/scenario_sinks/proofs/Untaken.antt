@@ -8,10 +8,6 @@ use Rattle.scenario_sinks.specs.Untaken.{AllButSame, UntakenSame}
 pub all_but : {A : Type 0} (box : Option ℕ) (place : ℕ) (old new : List A) → box ≡ Some place → OthersSame place old new → AllButSame box old new
 all_but box place old new is others other apart = others other (λ same. apart (is ∙ ap Some (sym same)))
 
--- units of one sink went to its box
-pub untaken_one : {A : Type 0} (past : Past) (n : ℕ) (old new : List A) → AllButSame (past.boxes n) old new → UntakenSame past old new
-untaken_one past n old new more place free = more place (free n)
-
 -- the units of one sink more went to its box
 pub untaken_more : {A : Type 0} (past : Past) (n : ℕ) (old mid new : List A) → UntakenSame past old mid → AllButSame (past.boxes n) mid new → UntakenSame past old new
 untaken_more past n old mid new first more place free = more place (free n) ∙ first place free

@@ -4,15 +4,15 @@
 -- closes the events of that source alone (Core 5.2, volume 6 part B, section 4.4.6).
 use Rattle.std.specs.Prelude.{ℕ, ◌+◌, ◌==◌, ◌&&◌, List, [], ◌∷◌, Option, None, Some, if◌then◌else◌}
 use Rattle.delegator_machine.specs.Groups.{tuning_of}
-use Rattle.delegator_states.specs.States.{put_on}
-use Rattle.delegator_states.specs.Trains.{Joining, Train}
+use Rattle.delegator_history.specs.States.{put_on}
+use Rattle.delegator_history.specs.Trains.{Joining, Train}
 use Rattle.group_sink.specs.Calls.{Call, tune, hear}
-use Rattle.link_histories.specs.Calls as links
-use Rattle.link_histories.specs.Calls.{stepped, born}
+use Rattle.link_history.specs.Calls as links
+use Rattle.link_history.specs.Calls.{stepped, born}
 use Rattle.scenario_history.specs.Sinks.{is_of, ticked_if}
 use Rattle.scenario_text.specs.declared.step.Step.{Step}
-use Rattle.sink_histories.specs.Lives.{Made, Source, lived_by}
-use Rattle.sink_histories.specs.Moves.{received_by, source_by, train_by}
+use Rattle.sink_history.specs.Lives.{Made, Source, lived_by}
+use Rattle.sink_history.specs.Moves.{received_by, source_by, train_by}
 
 pub record Past : Type 0 where
   pub boxes : ℕ → Option ℕ

@@ -3,10 +3,10 @@
 use Rattle.std.specs.Prelude.{ℕ, ◌≡◌, List, ◌++◌, None, Some, Result, Ok, Err}
 use Rattle.std.specs.List.{concat}
 use Rattle.scenario_text.specs.declared.step.Step.{Step}
-use Rattle.sink_histories.specs.Lives.{Source}
-use Rattle.sink_histories.specs.Output.{printed_where}
-use Rattle.sink_histories.specs.Refusals.{refused_where}
-use Rattle.sink_steps.specs.Making.{Takes}
+use Rattle.sink_history.specs.Lives.{Source}
+use Rattle.sink_history.specs.Output.{printed_where}
+use Rattle.sink_history.specs.Refusals.{refused_where}
+use Rattle.scenario_sink.specs.Making.{Takes}
 use Rattle.transcript_text.specs.declared.stop.Stop.{Stop}
 use Rattle.transcript_text.specs.declared.stop.Stop.TheVariants.{Refused, OutletFault, Memory}
 use Rattle.scenario_sinks.specs.declared.sinks.Sinks.{Sinks}

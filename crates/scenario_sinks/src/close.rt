@@ -1,12 +1,12 @@
 //! Closing an event of a source: each of its sinks hands its units up.
-ghost use Rattle.std.specs.Prelude.{◌≡◌, ◌<◌, ◌^◌, ◌&&◌, ℕ, true, List, [], Option, Some, is_some, length, map};
+ghost use Rattle.std.specs.Prelude.{◌≡◌, ◌≤◌, ◌<◌, ◌+◌, ◌^◌, ◌&&◌, ℕ, true, false, List, [], Option, Some, is_some, length, map};
 ghost use Rattle.group_sink.specs.Calls.{Call};
-ghost use Rattle.link_histories.specs.Calls as links;
+ghost use Rattle.link_history.specs.Calls as links;
 ghost use Rattle.scenario_history.specs.Sinks as history;
-ghost use Rattle.sink_histories.specs.Lives.{Made};
+ghost use Rattle.sink_history.specs.Lives.{Made};
 ghost use Rattle.scenario_sinks.specs.Pasts.{Past};
 ghost use Rattle.scenario_sinks.specs.State.Standing.{EntryIs, EntriesAre};
-ghost use Rattle.scenario_sinks.specs.State.Between.{SinkCloses, SinkHands, AllClose};
+ghost use Rattle.scenario_sinks.specs.State.Between.{SinkCloses, SinkHands, AllClose, OneCloses};
 ghost use Rattle.scenario_sinks.specs.Untaken.{AllButSame, UntakenSame};
 ghost use Rattle.unit_outlets.specs.Took.{OthersSame};
 
@@ -30,7 +30,6 @@ fn is_sink_of(entry: &Option<Sink>, source: u8) -> bool
 
 /// Closes an event of its source for a living sink, the owner of its units: they go to its box, and then to the text. They stay
 /// gathered.
-#[inline(never)]
 fn hand_living(
     sink: &mut Sink,
     owner: Owner,
@@ -43,7 +42,8 @@ fn hand_living(
     ensures hands { (box : Option ℕ) (made : Option Made) (own : Option ℕ) (life : List links.Call) (received : List Call)
         → EntryIs box made own life received (Some (Some sink.old)) → history.is_of owner.source own ≡ true
         → owner.outlet ≡ sink.old.outlet → gathered.old.units.items ≡ []
-        → SinkHands box made own life received owner.sink owner.source event (Some sink.new) gathered.new text.old text.new (map account outlets.old.items) (map account outlets.new.items) result }
+        → SinkHands box made own life received owner.sink owner.source event (Some sink.new) gathered.new text.old text.new
+        (map account outlets.old.items) (map account outlets.new.items) result }
     ensures others { OthersSame owner.outlet outlets.old.items outlets.new.items }
 {
     match sink.living.tick(event, gathered) {
@@ -59,7 +59,7 @@ fn hand_living(
 
 /// Closes an event of a source for the sink of a number, where one lives that is of this source: its units go to its
 /// box, and then to the text. They stay gathered.
-pub(crate) fn hand_sink(
+fn hand_sink(
     entry: &mut Option<Sink>,
     number: u8,
     source: u8,
@@ -71,7 +71,8 @@ pub(crate) fn hand_sink(
     requires { event < 2 ^ 39 }
     ensures hands { (box : Option ℕ) (made : Option Made) (own : Option ℕ) (life : List links.Call) (received : List Call)
         → EntryIs box made own life received (Some entry.old) → gathered.old.units.items ≡ []
-        → SinkHands box made own life received number source event entry.new gathered.new text.old text.new (map account outlets.old.items) (map account outlets.new.items) result }
+        → SinkHands box made own life received number source event entry.new gathered.new text.old text.new (map account outlets.old.items)
+        (map account outlets.new.items) result }
     ensures others { (box : Option ℕ) (made : Option Made) (own : Option ℕ) (life : List links.Call) (received : List Call)
         → EntryIs box made own life received (Some entry.old) → AllButSame box outlets.old.items outlets.new.items }
 {
@@ -90,20 +91,26 @@ pub(crate) fn hand_sink(
 }
 
 /// Closes an event of a source for the sink of a number, where one lives that is of this source: its units go to its
-/// box, and then to the text.
+/// box, and then to the text. Where they are kept they stay gathered.
 fn close_sink(
     entry: &mut Option<Sink>,
     number: u8,
     source: u8,
     event: u64,
+    keeps: bool,
     gathered: &mut Gathered,
     outlets: &mut Vec<Box<dyn Outlet>>,
     text: &mut Octets,
 ) -> Result<(), Stop>
     requires { event < 2 ^ 39 }
     ensures closes { (box : Option ℕ) (made : Option Made) (own : Option ℕ) (life : List links.Call) (received : List Call)
-        → EntryIs box made own life received (Some entry.old) → gathered.old.units.items ≡ []
-        → SinkCloses box made own life received number source event entry.new gathered.new text.old text.new (map account outlets.old.items) (map account outlets.new.items) result }
+        → EntryIs box made own life received (Some entry.old) → gathered.old.units.items ≡ [] → keeps ≡ false
+        → SinkCloses box made own life received number source event entry.new gathered.new text.old text.new (map account outlets.old.items)
+        (map account outlets.new.items) result }
+    ensures hands { (box : Option ℕ) (made : Option Made) (own : Option ℕ) (life : List links.Call) (received : List Call)
+        → EntryIs box made own life received (Some entry.old) → gathered.old.units.items ≡ [] → keeps ≡ true
+        → SinkHands box made own life received number source event entry.new gathered.new text.old text.new (map account outlets.old.items)
+        (map account outlets.new.items) result }
     ensures others { (box : Option ℕ) (made : Option Made) (own : Option ℕ) (life : List links.Call) (received : List Call)
         → EntryIs box made own life received (Some entry.old) → AllButSame box outlets.old.items outlets.new.items }
 {
@@ -114,32 +121,44 @@ fn close_sink(
         Ok(()) => {}
         Err(stop) => return Err(stop),
     }
+    if keeps {
+        return Ok(());
+    }
     gathered.units.clear();
     Ok(())
 }
 
-/// Closes an event of a source for all its sinks, by rising number.
+/// Closes an event of a source for the sinks from a number to another, which is left out: for all, or for one alone, whose
+/// units are kept.
 pub(crate) fn close_sinks(
     sinks: &mut [Option<Sink>],
+    first: u8,
+    end: u8,
     source: u8,
     event: u64,
+    keeps: bool,
     gathered: &mut Gathered,
     outlets: &mut Vec<Box<dyn Outlet>>,
     text: &mut Octets,
 ) -> Result<(), Stop>
     requires event { event < 2 ^ 39 }
     requires eight { length sinks.old ≡ 8 }
-    ensures closes { (past : Past) → EntriesAre past sinks.old → gathered.old.units.items ≡ []
-        → AllClose past source event sinks.new gathered.new text.old text.new (map account outlets.old.items) (map account outlets.new.items) result }
-    ensures others { (past : Past) → EntriesAre past sinks.old → gathered.old.units.items ≡ []
-        → UntakenSame past outlets.old.items outlets.new.items }
+    requires end { end ≤ 8 }
+    ensures closes { (past : Past) → EntriesAre past sinks.old → gathered.old.units.items ≡ [] → first ≡ 0 → end ≡ 8 → keeps ≡ false
+        → AllClose past source event sinks.new gathered.new text.old text.new (map account outlets.old.items)
+        (map account outlets.new.items) result }
+    ensures one { (past : Past) → EntriesAre past sinks.old → gathered.old.units.items ≡ [] → end ≡ first + 1 → keeps ≡ true
+        → OneCloses past first source event sinks.new gathered.new text.old text.new (map account outlets.old.items)
+        (map account outlets.new.items) result }
+    ensures others { (past : Past) → EntriesAre past sinks.old → UntakenSame past outlets.old.items outlets.new.items }
 {
-    'sinks: for number in 0..8u8 {
+    'sinks: for number in first..end {
         match close_sink(
             &mut sinks[usize::from(number)],
             number,
             source,
             event,
+            keeps,
             gathered,
             outlets,
             text,

@@ -1,20 +1,20 @@
 //! What comes to the sink of one number.
 ghost use Rattle.std.specs.Prelude.{◌≡◌, ◌≤◌, ◌^◌, ◌∷◌, ℕ, List, Option, Some, OnOk};
 ghost use Rattle.delegator_machine.specs.Groups.{tuning_of};
-ghost use Rattle.delegator_states.specs.States.{put_on};
+ghost use Rattle.delegator_history.specs.States.{put_on};
 ghost use Rattle.group_sink.specs.Calls.{Call, hear, tune};
 ghost use Rattle.group_sink.specs.Hearings.{hearing_of};
-ghost use Rattle.link_histories.specs.Calls as links;
-ghost use Rattle.link_histories.specs.Calls.{stepped};
+ghost use Rattle.link_history.specs.Calls as links;
+ghost use Rattle.link_history.specs.Calls.{stepped};
 ghost use Rattle.scenario_sinks.specs.Joinings.{joining_in};
 ghost use Rattle.scenario_sinks.specs.State.Entries.{EntryHears, EntryRuns, EntryTunes, LineMakes};
 ghost use Rattle.scenario_sinks.specs.State.Standing.{EntryIs};
 ghost use Rattle.scenario_text.specs.Ranges.{IsInRange};
 ghost use Rattle.scenario_text.specs.declared.step.Step.TheVariants.{Announce};
-ghost use Rattle.sink_histories.specs.Lives.{Made, Source};
-ghost use Rattle.sink_steps.specs.Origins.{IsFrom};
-ghost use Rattle.sink_steps.specs.SinkLines.{IsSinkLine};
-ghost use Rattle.sink_steps.specs.State.Living.{Lives};
+ghost use Rattle.sink_history.specs.Lives.{Made, Source};
+ghost use Rattle.scenario_sink.specs.Origins.{IsFrom};
+ghost use Rattle.scenario_sink.specs.SinkLines.{IsSinkLine};
+ghost use Rattle.scenario_sink.specs.State.Living.{Lives};
 
 use crate::beyond::is_beyond;
 use crate::joining::Joining;
@@ -22,8 +22,8 @@ use crate::sink::{Sink, is_of};
 use announcement_train::Train;
 use bcast_base::{Bis, Memory, Octets};
 use isoal_base::Hearing;
+use scenario_sink::Origin;
 use scenario_text::Step;
-use sink_steps::Origin;
 use transcript_text::{Refusal, Stop};
 
 /// Puts the sink of an entry on the group of a source.
@@ -51,8 +51,10 @@ pub(crate) fn tune_entry(
 
 /// Puts a sink on the group of a source.
 fn put_on_group(sink: &mut Sink, source: u8, joining: &Joining) -> Result<(), Memory>
-    ensures lives { (made : Made) (own : Option ℕ) (life : List links.Call) (received : List Call) → Lives made own life received sink.old.living
-        → OnOk result (Lives made (Some source) (stepped (put_on source (joining_in joining.now)) ∷ life) (tune (tuning_of (joining_in joining.now)) ∷ received) sink.new.living) }
+    ensures lives { (made : Made) (own : Option ℕ) (life : List links.Call) (received : List Call)
+        → Lives made own life received sink.old.living
+        → OnOk result (Lives made (Some source) (stepped (put_on source (joining_in joining.now)) ∷ life)
+        (tune (tuning_of (joining_in joining.now)) ∷ received) sink.new.living) }
     ensures outlet { sink.new.outlet ≡ sink.old.outlet }
 {
     sink.living.tune(
@@ -73,7 +75,8 @@ pub(crate) fn run_entry(
     text: &mut Octets,
 ) -> Result<(), Stop>
     requires { IsInRange step }
-    ensures { (source : Source) (box : Option ℕ) (made : Option Made) (own : Option ℕ) (life : List links.Call) (received : List Call) → IsFrom origin source
+    ensures { (source : Source) (box : Option ℕ) (made : Option Made) (own : Option ℕ) (life : List links.Call) (received : List Call)
+        → IsFrom origin source
         → IsSinkLine step → EntryIs box made own life received (Some entry.old)
         → EntryRuns box made own life received source step entry.new text.old text.new result }
 {
@@ -86,8 +89,10 @@ pub(crate) fn run_entry(
 /// Runs a line on a sink.
 fn run(sink: &mut Sink, step: Step, origin: Origin, text: &mut Octets) -> Result<(), Stop>
     requires { IsInRange step }
-    ensures makes { (source : Source) (made : Made) (own : Option ℕ) (life : List links.Call) (received : List Call) → IsFrom origin source → IsSinkLine step
-        → Lives made own life received sink.old.living → LineMakes made own life received source step text.old text.new sink.new.living result }
+    ensures makes { (source : Source) (made : Made) (own : Option ℕ) (life : List links.Call) (received : List Call) → IsFrom origin source
+        → IsSinkLine step
+        → Lives made own life received sink.old.living → LineMakes made own life received source step text.old text.new
+        sink.new.living result }
     ensures outlet { sink.new.outlet ≡ sink.old.outlet }
 {
     sink.living.line(step, origin, text)
@@ -102,7 +107,8 @@ pub(crate) fn announce_entry(
     text: &mut Octets,
 ) -> Result<(), Stop>
     requires { train.now.time ≤ 2 ^ 61 }
-    ensures { (source : Source) (box : Option ℕ) (made : Option Made) (own : Option ℕ) (life : List links.Call) (received : List Call) → IsFrom origin source
+    ensures { (source : Source) (box : Option ℕ) (made : Option Made) (own : Option ℕ) (life : List links.Call) (received : List Call)
+        → IsFrom origin source
         → source.announced ≡ train.now → EntryIs box made own life received (Some entry.old)
         → EntryRuns box made own life received source (Announce number) entry.new text.old text.new result }
 {
@@ -155,9 +161,11 @@ pub(crate) fn hear_entry(
 /// Hands a sink octets in the place of a PDU.
 fn deliver(sink: &mut Sink, event: u64, bis: Bis, subevent: u8, octets: &[u8]) -> Hearing
     requires { event ≤ 2 ^ 39 }
-    ensures answer { (made : Made) (own : Option ℕ) (life : List links.Call) (received : List Call) → Lives made own life received sink.old.living
+    ensures answer { (made : Made) (own : Option ℕ) (life : List links.Call) (received : List Call)
+        → Lives made own life received sink.old.living
         → result ≡ hearing_of received event bis subevent octets.now }
-    ensures lives { (made : Made) (own : Option ℕ) (life : List links.Call) (received : List Call) → Lives made own life received sink.old.living
+    ensures lives { (made : Made) (own : Option ℕ) (life : List links.Call) (received : List Call)
+        → Lives made own life received sink.old.living
         → Lives made own life (hear event bis subevent octets.now ∷ received) sink.new.living }
     ensures outlet { sink.new.outlet ≡ sink.old.outlet }
 {

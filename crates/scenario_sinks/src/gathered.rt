@@ -62,6 +62,7 @@ impl UnitTaker for Gathered {
 
     ghost counts = { counts_of };
 
+    #[inline(always)]
     fn valid(&mut self, bis: Bis, time: u64, octets: &[u8]) -> Result<(), TakerFault> {
         let Ok(octets) = Octets::copy(self.alloc, octets) else {
             return self.want();

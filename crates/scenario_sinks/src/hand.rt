@@ -36,7 +36,8 @@ fn hand_valid(
     outlets: &mut Vec<Box<dyn Outlet>>,
     text: &mut Octets,
 ) -> Result<(), Stop>
-    ensures hands { Hands (units_for owner (valid bis time octets.now ∷ [])) text.old text.new (map account outlets.old.items) (map account outlets.new.items) result }
+    ensures hands { Hands (units_for owner (valid bis time octets.now ∷ [])) text.old text.new (map account outlets.old.items)
+        (map account outlets.new.items) result }
     ensures others { OthersSame owner.outlet outlets.old.items outlets.new.items }
 {
     match put_in_box(outlets, owner.outlet, octets) {
@@ -66,7 +67,8 @@ fn hand_unit(
     outlets: &mut Vec<Box<dyn Outlet>>,
     text: &mut Octets,
 ) -> Result<(), Stop>
-    ensures hands { Hands (units_for owner (handed_of unit.now ∷ [])) text.old text.new (map account outlets.old.items) (map account outlets.new.items) result }
+    ensures hands { Hands (units_for owner (handed_of unit.now ∷ [])) text.old text.new (map account outlets.old.items)
+        (map account outlets.new.items) result }
     ensures others { OthersSame owner.outlet outlets.old.items outlets.new.items }
 {
     match &unit.octets {
@@ -82,7 +84,8 @@ pub(crate) fn hand_units(
     outlets: &mut Vec<Box<dyn Outlet>>,
     text: &mut Octets,
 ) -> Result<(), Stop>
-    ensures hands { Hands (units_for owner (map handed_of units.now)) text.old text.new (map account outlets.old.items) (map account outlets.new.items) result }
+    ensures hands { Hands (units_for owner (map handed_of units.now)) text.old text.new (map account outlets.old.items)
+        (map account outlets.new.items) result }
     ensures others { OthersSame owner.outlet outlets.old.items outlets.new.items }
 {
     'units: for unit in units {

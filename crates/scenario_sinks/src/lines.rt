@@ -5,16 +5,16 @@ ghost use Rattle.scenario_sinks.specs.SinkLines.{SinkLineMakes};
 ghost use Rattle.scenario_sinks.specs.State.Standing.{SinksStand};
 ghost use Rattle.scenario_text.specs.Ranges.{IsInRange};
 ghost use Rattle.scenario_text.specs.declared.step.Step.TheVariants.{Announce};
-ghost use Rattle.sink_histories.specs.Lives.{Source};
-ghost use Rattle.sink_steps.specs.Origins.{IsFrom};
-ghost use Rattle.sink_steps.specs.SinkLines.{IsSinkLine};
+ghost use Rattle.sink_history.specs.Lives.{Source};
+ghost use Rattle.scenario_sink.specs.Origins.{IsFrom};
+ghost use Rattle.scenario_sink.specs.SinkLines.{IsSinkLine};
 
 use crate::entry::{announce_entry, run_entry};
 use crate::sinks::Sinks;
 use announcement_train::Train;
 use bcast_base::Octets;
+use scenario_sink::Origin;
 use scenario_text::Step;
-use sink_steps::Origin;
 use transcript_text::Stop;
 
 impl Sinks {

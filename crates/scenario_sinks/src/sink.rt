@@ -1,7 +1,7 @@
 ghost use Rattle.std.specs.Prelude.{◌≡◌};
 ghost use Rattle.scenario_history.specs.Sinks.{is_of};
 
-use sink_steps::LivingSink;
+use scenario_sink::LivingSink;
 
 /// A sink of a scenario.
 #[derive(Drop)]

@@ -1,7 +1,7 @@
 ghost use Rattle.std.specs.Prelude.{◌≡◌, ◌≤◌, ◌<◌, ◌^◌, ◌++◌, vec_len, IfOk, OnOk, List, map, replicate, is_some, None, Option};
 ghost use Rattle.std.specs.Option.{ForSome};
 
-use crate::close::{close_sinks, hand_sink};
+use crate::close::close_sinks;
 use crate::entry::{hear_entry, tune_entry};
 use crate::gathered::{Gathered, HandedUnit};
 use crate::joining::Joining;
@@ -9,7 +9,7 @@ use crate::sink::Sink;
 use crate::sums::{put_sum_at, put_sums};
 use bcast_base::{Bis, Memory, Octets};
 use isoal_base::Hearing;
-use sink_steps::LivingSink;
+use scenario_sink::LivingSink;
 use std::alloc::Global;
 use transcript_text::{Refusal, Stop};
 use unit_outlets::Outlet;
@@ -83,7 +83,8 @@ impl Sinks {
         requires mtu { IsMtu mtu }
         ensures { (past : Past) → SinksStand past self.old
             → Answers (not_made (past.boxes sink) past.made boxes) past
-            (with_sink sink (record { setup = record { streams = streams; slots = slots; horizon = horizon }; mtu = mtu }) past) self.new result }
+            (with_sink sink (record { setup = record { streams = streams; slots = slots; horizon = horizon }; mtu = mtu }) past)
+            self.new result }
     {
         let place = usize::from(sink);
         if self.entries[place].is_some() {
@@ -112,8 +113,10 @@ impl Sinks {
         text: &mut Octets,
     ) -> Result<(), Stop>
         requires { sink ≤ 7 }
-        ensures answer { (past : Past) → SinksStand past self.old → Answers (not_living (past.boxes sink)) past (without sink past) self.new result }
-        ensures text { (past : Past) → SinksStand past self.old → Puts (sum_where (map account outlets.now.items) sink (past.boxes sink)) text.old text.new result }
+        ensures answer { (past : Past) → SinksStand past self.old
+            → Answers (not_living (past.boxes sink)) past (without sink past) self.new result }
+        ensures text { (past : Past) → SinksStand past self.old
+            → Puts (sum_where (map account outlets.now.items) sink (past.boxes sink)) text.old text.new result }
     {
         let Some(entry) = &self.entries[usize::from(sink)] else {
             return Err(Stop::Refused(Refusal::NoSuchSink));
@@ -131,13 +134,15 @@ impl Sinks {
     pub fn tune(&mut self, sink: u8, source: u8, joining: &Joining) -> Result<(), Stop>
         requires { sink ≤ 7 }
         ensures { (past : Past) → SinksStand past self.old
-            → Tunes (not_tuned (past.boxes sink) joining.now.group.info.num_bis joining.now.which) past (with_tuning sink source (joining_in joining.now) past) self.new result }
+            → Tunes (not_tuned (past.boxes sink) joining.now.group.info.num_bis joining.now.which) past
+            (with_tuning sink source (joining_in joining.now) past) self.new result }
     {
         tune_entry(&mut self.entries[usize::from(sink)], source, joining)
     }
 
     /// Hands a sink octets in the place of a PDU of a source: in a subevent, from 0, of an event of a stream. The answer is
     /// what the sink made of them, and none where no sink of this number lives. It takes no memory.
+    #[inline(always)]
     pub fn hear(
         &mut self,
         sink: u8,
@@ -181,8 +186,11 @@ impl Sinks {
         };
         close_sinks(
             &mut self.entries,
+            0,
+            8,
             source,
             event,
+            false,
             &mut self.gathered,
             outlets,
             text,
@@ -201,14 +209,17 @@ impl Sinks {
         requires sink { sink ≤ 7 }
         requires event { event < 2 ^ 39 }
         ensures closes { (past : Past) → SinksStand past self.old
-            → ClosesAt past sink source event self.new text.old text.new (map account outlets.old.items) (map account outlets.new.items) result }
+            → ClosesAt past sink source event self.new text.old text.new (map account outlets.old.items)
+            (map account outlets.new.items) result }
         ensures others { (past : Past) → SinksStand past self.old → UntakenSame past outlets.old.items outlets.new.items }
     {
-        hand_sink(
-            &mut self.entries[usize::from(sink)],
+        close_sinks(
+            &mut self.entries,
             sink,
+            sink + 1,
             source,
             event,
+            true,
             &mut self.gathered,
             outlets,
             text,

@@ -1,6 +1,6 @@
 -- What a source announces that is as its steps leave it.
 use Rattle.std.proofs.Common.{◌≡◌, ℕ, List, None, Some, Ok, Err, refl, sym, ◌∙◌, ap}
-use Rattle.announced_groups.specs.Octets.{train_of}
+use Rattle.delegator_history.specs.Octets.{train_of}
 use Rattle.announcement_train.specs.declared.train.Train.{Train}
 use Rattle.base_grammar.specs.Layout.{Endpoint}
 use Rattle.big_info.specs.declared.info.BigInfo.{BigInfo}

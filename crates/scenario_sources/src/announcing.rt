@@ -6,8 +6,8 @@ ghost use Rattle.scenario_sources.specs.Answers.{AnnouncesAs};
 ghost use Rattle.scenario_sources.specs.State.Phases.{PhaseIs};
 
 use crate::phase::Phase;
-use announced_groups::a_source_has_one_train;
 use announcement_train::Train;
+use delegator_history::a_source_has_one_train;
 use source_machine::AnnounceFault;
 use transcript_text::{Refusal, Stop};
 

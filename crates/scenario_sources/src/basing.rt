@@ -15,7 +15,8 @@ use transcript_text::{Refusal, Stop};
 /// `subgroup`: opens a subgroup.
 pub(crate) fn open_subgroup(phase: &mut Phase, codec: [u8; 5], config: &[u8]) -> Result<(), Stop>
     requires { bad_of config.now ≡ None }
-    ensures { (version : ℕ) (own : List Step) → PhaseIs own phase.old → Becomes version own (SubgroupStep codec config.now) phase.new result }
+    ensures { (version : ℕ) (own : List Step) → PhaseIs own phase.old
+        → Becomes version own (SubgroupStep codec config.now) phase.new result }
 {
     let Phase::Described(described) = phase else {
         return Err(Stop::Refused(Refusal::Order));

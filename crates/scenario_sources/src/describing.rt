@@ -25,7 +25,8 @@ pub(crate) fn describe(
     requires least { 3000 ≤ origin }
     requires greatest { origin ≤ 2 ^ 48 }
     requires delay { delay < 2 ^ 24 }
-    ensures { (version : ℕ) (own : List Step) → IsPlain info → PhaseIs own phase.old → Becomes version own (group_step info origin delay) phase.new result }
+    ensures { (version : ℕ) (own : List Step) → IsPlain info → PhaseIs own phase.old
+        → Becomes version own (group_step info origin delay) phase.new result }
 {
     let Phase::Absent = phase else {
         return Err(Stop::Refused(Refusal::Order));
@@ -57,7 +58,8 @@ pub(crate) fn identify(phase: &mut Phase, identity: Identity) -> Result<(), Stop
 
 /// `cipher`: encrypts the group of a source, once.
 pub(crate) fn encrypt(phase: &mut Phase, cipher: Cipher) -> Result<(), Stop>
-    ensures { (version : ℕ) (own : List Step) → PhaseIs own phase.old → Becomes version own (CipherStep cipher.giv cipher.gskd) phase.new result }
+    ensures { (version : ℕ) (own : List Step) → PhaseIs own phase.old
+        → Becomes version own (CipherStep cipher.giv cipher.gskd) phase.new result }
 {
     let Phase::Described(described) = phase else {
         return Err(Stop::Refused(Refusal::Order));

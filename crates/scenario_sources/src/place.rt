@@ -40,7 +40,8 @@ fn heard_from(started: &Broadcast, place: Place) -> Result<&[u8], Stop>
     ensures ok { IfOk result (λ pdu. (own : List Step) → StartedIs own started.now
         → (no_place own place.back place.bis place.subevent ≡ None)
         × (pdu.now ≡ pdu_in airs_of own (event_back own place.back) place.bis place.subevent)) }
-    ensures err { IfErr result (λ stop. (own : List Step) → StartedIs own started.now → NoPlace own place.back place.bis place.subevent stop) }
+    ensures err { IfErr result (λ stop. (own : List Step) → StartedIs own started.now
+        → NoPlace own place.back place.bis place.subevent stop) }
 {
     match started.heard_at(place.back, place.bis, place.subevent) {
         Ok(pdu) => Ok(pdu),
@@ -54,7 +55,8 @@ pub(crate) fn heard_in(phase: &Phase, place: Place) -> Result<&[u8], Stop>
     ensures ok { IfOk result (λ pdu. (own : List Step) → PhaseIs own phase.now
         → (no_place own place.back place.bis place.subevent ≡ None)
         × (pdu.now ≡ pdu_in airs_of own (event_back own place.back) place.bis place.subevent)) }
-    ensures err { IfErr result (λ stop. (own : List Step) → PhaseIs own phase.now → is_heard own ≡ true → NoPlace own place.back place.bis place.subevent stop) }
+    ensures err { IfErr result (λ stop. (own : List Step) → PhaseIs own phase.now → is_heard own ≡ true
+        → NoPlace own place.back place.bis place.subevent stop) }
 {
     match phase {
         Phase::Sending(started) => heard_from(started, place),

@@ -23,13 +23,15 @@ use std::mem::replace;
 use transcript_text::{Refusal, Stop};
 
 /// `unit`: gives a source a unit of a stream.
+#[inline(always)]
 pub(crate) fn give(
     phase: &mut Phase,
     bis: Bis,
     time: Option<u64>,
     octets: &[u8],
 ) -> Result<(), Stop>
-    ensures { (version : ℕ) (own : List Step) → PhaseIs own phase.old → Becomes version own (UnitStep bis time octets.now) phase.new result }
+    ensures { (version : ℕ) (own : List Step) → PhaseIs own phase.old
+        → Becomes version own (UnitStep bis time octets.now) phase.new result }
 {
     let Phase::Sending(started) = phase else {
         return Err(Stop::Refused(Refusal::Order));
@@ -41,6 +43,7 @@ pub(crate) fn give(
 }
 
 /// Gives a source that was started a unit of a stream.
+#[inline(always)]
 fn give_to(started: &mut Broadcast, bis: Bis, time: Option<u64>, octets: &[u8]) -> Result<(), Stop>
     requires { started.old.source.cipher ≡ None }
     ensures identity { started.new.source.identity ≡ started.old.source.identity }
@@ -69,7 +72,8 @@ fn give_stop(fault: GiveFault) -> Stop
 /// Why a source refuses a unit of a stream that has had a relay: the first reason that holds, where Backlog is none, and Relayed
 /// where no other does.
 pub(crate) fn relayed_in(phase: &Phase, bis: Bis, time: Option<u64>, octets: &[u8]) -> Refusal
-    ensures { (version : ℕ) (own : List Step) → PhaseIs own phase.now → relayed_or true (fault_in version own (UnitStep bis time octets.now)) ≡ Some result }
+    ensures { (version : ℕ) (own : List Step) → PhaseIs own phase.now
+        → relayed_or true (fault_in version own (UnitStep bis time octets.now)) ≡ Some result }
 {
     let Phase::Sending(started) = phase else {
         return Refusal::Order;

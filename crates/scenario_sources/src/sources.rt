@@ -83,7 +83,8 @@ impl Sources {
         requires least { 3000 ≤ origin }
         requires greatest { origin ≤ 2 ^ 48 }
         requires delay { delay < 2 ^ 24 }
-        ensures { (version : ℕ) (steps : List Step) → IsPlain info → SourcesStand steps self.old → Answers version steps (group_step info origin delay) self.new result }
+        ensures { (version : ℕ) (steps : List Step) → IsPlain info → SourcesStand steps self.old
+            → Answers version steps (group_step info origin delay) self.new result }
     {
         describe(
             self.alloc,
@@ -107,7 +108,8 @@ impl Sources {
     /// refused with Order outside `group` and `start`, and while the last subgroup has no stream.
     pub fn open_subgroup(&mut self, codec: [u8; 5], config: &[u8]) -> Result<(), Stop>
         requires { bad_of config.now ≡ None }
-        ensures { (version : ℕ) (steps : List Step) → SourcesStand steps self.old → Answers version steps (SubgroupStep codec config.now) self.new result }
+        ensures { (version : ℕ) (steps : List Step) → SourcesStand steps self.old
+            → Answers version steps (SubgroupStep codec config.now) self.new result }
     {
         open_subgroup(&mut self.phases[usize::from(self.chosen)], codec, config)
     }
@@ -116,7 +118,8 @@ impl Sources {
     /// a first `subgroup` and `start`.
     pub fn give_metadata(&mut self, metadata: &[u8]) -> Result<(), Stop>
         requires { bad_of metadata.now ≡ None }
-        ensures { (version : ℕ) (steps : List Step) → SourcesStand steps self.old → Answers version steps (MetaStep metadata.now) self.new result }
+        ensures { (version : ℕ) (steps : List Step) → SourcesStand steps self.old
+            → Answers version steps (MetaStep metadata.now) self.new result }
     {
         give_metadata(&mut self.phases[usize::from(self.chosen)], metadata)
     }
@@ -126,7 +129,8 @@ impl Sources {
     /// index stands.
     pub fn add_stream(&mut self, bis: Bis, config: &[u8]) -> Result<(), Stop>
         requires { bad_of config.now ≡ None }
-        ensures { (version : ℕ) (steps : List Step) → SourcesStand steps self.old → Answers version steps (BisStep bis config.now) self.new result }
+        ensures { (version : ℕ) (steps : List Step) → SourcesStand steps self.old
+            → Answers version steps (BisStep bis config.now) self.new result }
     {
         add_stream(&mut self.phases[usize::from(self.chosen)], bis, config)
     }
@@ -134,7 +138,8 @@ impl Sources {
     /// `cipher`: encrypts the group of the chosen source, once, between `group` and `start`; else it is refused with Order.
     /// Such a source is announced and ended alone. It takes no memory.
     pub fn encrypt(&mut self, cipher: Cipher) -> Result<(), Stop>
-        ensures { (version : ℕ) (steps : List Step) → SourcesStand steps self.old → Answers version steps (CipherStep cipher.giv cipher.gskd) self.new result }
+        ensures { (version : ℕ) (steps : List Step) → SourcesStand steps self.old
+            → Answers version steps (CipherStep cipher.giv cipher.gskd) self.new result }
     {
         encrypt(&mut self.phases[usize::from(self.chosen)], cipher)
     }
@@ -146,7 +151,8 @@ impl Sources {
     pub fn start(&mut self, limits: Limits, first: u64) -> Result<(), Stop>
         requires limits { limits.horizon ≤ 31 }
         requires first { first < 2 ^ 39 }
-        ensures { (version : ℕ) (steps : List Step) → limits.horizon ≡ horizon_in version → limits.ahead ≡ is_ahead_in version → stage_of steps ≡ running version
+        ensures { (version : ℕ) (steps : List Step) → limits.horizon ≡ horizon_in version → limits.ahead ≡ is_ahead_in version
+            → stage_of steps ≡ running version
             → SourcesStand steps self.old → Answers version steps (StartStep first) self.new result }
     {
         let ready = match check_start(self.alloc, &self.phases[usize::from(self.chosen)], limits) {
@@ -167,8 +173,10 @@ impl Sources {
 
     /// `unit`: gives the chosen source a unit of a stream. The first refusal that holds is answered: Order outside its start
     /// and its stop, NoSuchBis, UnitTooLong, TimeOrder, Backlog.
+    #[inline(always)]
     pub fn give(&mut self, bis: Bis, time: Option<u64>, octets: &[u8]) -> Result<(), Stop>
-        ensures { (version : ℕ) (steps : List Step) → SourcesStand steps self.old → Answers version steps (UnitStep bis time octets.now) self.new result }
+        ensures { (version : ℕ) (steps : List Step) → SourcesStand steps self.old
+            → Answers version steps (UnitStep bis time octets.now) self.new result }
     {
         give(
             &mut self.phases[usize::from(self.chosen)],
@@ -181,7 +189,8 @@ impl Sources {
     /// Why the chosen source refuses a unit of a stream that has had a relay: the first reason that holds of Order, NoSuchBis,
     /// UnitTooLong, TimeOrder and Relayed.
     pub fn relayed(&self, bis: Bis, time: Option<u64>, octets: &[u8]) -> Refusal
-        ensures { (version : ℕ) (steps : List Step) → SourcesStand steps self.now → relayed_or true (fault_of version steps (UnitStep bis time octets.now)) ≡ Some result }
+        ensures { (version : ℕ) (steps : List Step) → SourcesStand steps self.now
+            → relayed_or true (fault_of version steps (UnitStep bis time octets.now)) ≡ Some result }
     {
         relayed_in(&self.phases[usize::from(self.chosen)], bis, time, octets)
     }
@@ -273,7 +282,8 @@ impl Sources {
 
     /// The last event of the chosen source, where it performed one.
     pub fn last_event(&self) -> Option<u64>
-        ensures last { (steps : List Step) → SourcesStand steps self.now → is_heard (chosen_steps steps) ≡ true → LastIs (chosen_steps steps) result }
+        ensures last { (steps : List Step) → SourcesStand steps self.now → is_heard (chosen_steps steps) ≡ true
+            → LastIs (chosen_steps steps) result }
         ensures within { ForSome result (λ event. event < 2 ^ 39) }
     {
         last_in(&self.phases[usize::from(self.chosen)])
@@ -281,7 +291,8 @@ impl Sources {
 
     /// The event `back` events before the last one of the chosen source; 0 before its start.
     pub fn event_back(&self, back: u8) -> u64
-        ensures event { (steps : List Step) → SourcesStand steps self.now → is_heard (chosen_steps steps) ≡ true → result ≡ event_back (chosen_steps steps) back }
+        ensures event { (steps : List Step) → SourcesStand steps self.now → is_heard (chosen_steps steps) ≡ true
+            → result ≡ event_back (chosen_steps steps) back }
         ensures within { result ≤ 2 ^ 39 }
     {
         event_in(&self.phases[usize::from(self.chosen)], back)
@@ -289,6 +300,7 @@ impl Sources {
 
     /// The PDU at a place on the air of the chosen source. The first refusal that holds is answered: Order before its start,
     /// NoSuchBis, NoSuchSubevent, NotOnAir.
+    #[inline(always)]
     pub fn heard_at(&self, place: Place) -> Result<&[u8], Stop>
         requires { place.back ≤ 31 }
         ensures ok { IfOk result (λ pdu. (steps : List Step) → SourcesStand steps self.now

@@ -37,7 +37,8 @@ pub(crate) struct Ready {
 /// Whether a source may be started, but for its identity.
 pub(crate) fn check_start(alloc: Global, phase: &Phase, limits: Limits) -> Result<Ready, Stop>
     requires { limits.horizon ≤ 31 }
-    ensures { (version first : ℕ) (own : List Step) → limits.horizon ≡ horizon_in version → PhaseIs own phase.now → IsReady version first own result }
+    ensures { (version first : ℕ) (own : List Step) → limits.horizon ≡ horizon_in version → PhaseIs own phase.now
+        → IsReady version first own result }
 {
     let Phase::Described(described) = phase else {
         return Err(Stop::Refused(Refusal::Order));
@@ -118,7 +119,8 @@ pub(crate) fn begin(
 ) -> Result<(), Stop>
     requires limits { limits.horizon ≤ 31 }
     requires first { first < 2 ^ 39 }
-    ensures { (version : ℕ) (own : List Step) → limits.horizon ≡ horizon_in version → limits.ahead ≡ is_ahead_in version → stage_of own ≡ running version
+    ensures { (version : ℕ) (own : List Step) → limits.horizon ≡ horizon_in version → limits.ahead ≡ is_ahead_in version
+        → stage_of own ≡ running version
         → MayStart version first own ready.plain → PhaseIs own phase.old → Becomes version own (StartStep first) phase.new result }
 {
     match replace(phase, Phase::Absent) {
@@ -146,7 +148,8 @@ fn begin_with(
 ) -> Result<Broadcast, Stop>
     requires limits { limits.horizon ≤ 31 }
     requires first { first < 2 ^ 39 }
-    ensures { (version : ℕ) (own : List Step) → limits.horizon ≡ horizon_in version → limits.ahead ≡ is_ahead_in version → stage_of own ≡ running version
+    ensures { (version : ℕ) (own : List Step) → limits.horizon ≡ horizon_in version → limits.ahead ≡ is_ahead_in version
+        → stage_of own ≡ running version
         → MayStart version first own plain → PhaseIs own (DescribedPhase described) → Begins first own result }
 {
     let Described {

@@ -1,8 +1,9 @@
-mod Rows
-mod Octets
-mod Within
-mod Operations
-mod Steps
-mod Misfits
-mod MisfitNumbers
 pub mod Citable
+mod MigratedLines
+mod MisfitNumbers
+mod Misfits
+mod Octets
+mod Operations
+mod Rows
+mod Steps
+mod Within

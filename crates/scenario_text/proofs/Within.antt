@@ -6,7 +6,7 @@ use Rattle.scenario_words.specs.Places.{WordPlace, between, framing_word, time_u
 use Rattle.scenario_words.specs.Places.{perhaps, rising, wishes, WordValue, PlaceValue}
 use Rattle.scenario_words.specs.Spelling.{Spells, SpellsWord}
 use Rattle.ltv_codec.specs.Reading.{bad_of}
-use Rattle.scenario_values.specs.Lines.{◌▸◌}
+use Rattle.scenario_words.specs.Lines.{◌▸◌}
 use Rattle.octet_fields.specs.Spelling.{IsOctets}
 use Rattle.bass_operations.specs.Layout.{MetadataFits}
 use Rattle.scenario_text.specs.declared.step.Step.{Step}

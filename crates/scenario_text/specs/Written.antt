@@ -3,8 +3,8 @@
 -- the step at the places of the row.
 use Rattle.std.specs.Prelude.{ℕ, List}
 use Rattle.printed_words.specs.Lines.{joined}
-use Rattle.scenario_values.specs.Lines.{Values, ◌▸◌, AllHaveWords, all_words}
-use Rattle.scenario_values.specs.Given.{Placed}
+use Rattle.scenario_words.specs.Lines.{Values, ◌▸◌, AllHaveWords, all_words}
+use Rattle.scenario_words.specs.Given.{Placed}
 use Rattle.scenario_text.specs.declared.step.Step.{Step}
 use Rattle.scenario_text.specs.declared.step.Step.TheVariants.{Scenario, Group, Ident, Subgroup, Meta, Bis, Cipher, Start, Sink, Pac, Locate, Context, Tuned}
 use Rattle.scenario_text.specs.declared.step.Step.TheVariants.{Unit, Event, Hear, Air, Inject, Sniff, Announce, Train, Write, Add, Modify, Remove, Code, Serve}

@@ -4,7 +4,7 @@ ghost use Rattle.scenario_text.specs.Written.{Fits, PlacedFits};
 
 use crate::step::Step;
 use crate::taker::LineTaker;
-use scenario_values::{Value, all_have_words};
+use scenario_words::{Value, all_have_words};
 
 /// Tells whether all values of a line have words.
 #[derive(Drop)]

@@ -27,6 +27,7 @@ pub fn a_line_says_one_step()
 /// An operation has the octets before its subgroups and those of the subgroups, so that an `add` or a `modify` passes its
 /// place exactly where its operation passes 512 octets.
 pub fn an_operation_has_so_many_octets()
-    ensures add { (op : AddSource) → length op.address ≡ 6 → length op.broadcast_id ≡ 3 → length (spelling (Add op)) ≡ before_add + wishes_octets op.wishes }
+    ensures add { (op : AddSource) → length op.address ≡ 6 → length op.broadcast_id ≡ 3
+        → length (spelling (Add op)) ≡ before_add + wishes_octets op.wishes }
     ensures modify { (op : ModifySource) → length (spelling (Modify op)) ≡ before_modify + wishes_octets op.wishes }
 {}

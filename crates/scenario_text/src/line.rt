@@ -6,7 +6,7 @@ use crate::limits::{BEFORE_ADD, BEFORE_MODIFY, MOST_OF_OPERATION};
 use crate::step::Step;
 use crate::taker::LineTaker;
 use bass_operations::{AddSource, ModifySource};
-use scenario_values::Value::{
+use scenario_words::Value::{
     Exactly, FourOctets, Framing, Link, List, Number, Octets, Perhaps, Sink, Stream, Streams, Time,
     TwoOctets, Wishes,
 };

@@ -1,6 +1,6 @@
-ghost use Rattle.scenario_values.specs.Given.{Placed, placed};
+ghost use Rattle.scenario_words.specs.Given.{Placed, placed};
 
-use scenario_values::Value;
+use scenario_words::Value;
 
 /// Makes something of a line: of its first word, and of the values at its places.
 pub trait LineTaker {

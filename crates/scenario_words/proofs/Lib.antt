@@ -1,11 +1,17 @@
-pub mod Splitting
+pub mod Citable
+pub mod CitableValues
 pub mod Decimals
 pub mod DigitPairs
-pub mod NextWords
-pub mod MoreWords
-pub mod OneWord
-pub mod Streams
-pub mod WishWords
-mod Spelling
 mod Fitting
-pub mod Citable
+mod Given
+pub mod MoreWords
+pub mod NextWords
+mod Octets
+pub mod OneWord
+mod Places
+mod Spaces
+mod Spelling
+pub mod Splitting
+pub mod Streams
+mod ValueStreams
+pub mod WishWords

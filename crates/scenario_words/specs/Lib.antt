@@ -1,6 +1,10 @@
-pub mod Words
-pub mod Rests
+pub mod Fitting
+pub mod Given
+pub mod Lines
 pub mod Places
 pub mod Reading
+pub mod Rests
 pub mod Spelling
-pub mod Fitting
+pub mod ValueFitting
+pub mod ValueWords
+pub mod Words

@@ -1,8 +1,8 @@
 -- The line that is written for a step is a line of the table, and each line of the table has values that have words.
 use Rattle.std.proofs.Common.{◌≡◌, ℕ, true, ◌||◌, not, List, [], ◌∷◌, Some, refl}
 use Rattle.scenario_words.specs.Places.{Place, one, perhaps, rising, wishes}
-use Rattle.scenario_values.specs.Lines.{Values, AllHaveWords, all_words}
-use Rattle.scenario_values.proofs.Citable.{EndsAt, words_fit, words_spelled, words_unspaced, NoSpaces, more_unspaced}
+use Rattle.scenario_words.specs.Lines.{Values, AllHaveWords, all_words}
+use Rattle.scenario_words.proofs.CitableValues.{EndsAt, words_fit, words_spelled, words_unspaced, NoSpaces, more_unspaced}
 use Rattle.scenario_text.specs.declared.step.Step.{Step}
 use Rattle.scenario_text.specs.Table.{Build, Row, row_of}
 use Rattle.scenario_text.specs.Lines.{Says}

@@ -5,10 +5,10 @@ use Rattle.std.specs.Int.{bit_at}
 use Rattle.std.proofs.lemmas.List.{append-nil, drop_all}
 use Rattle.printed_words.specs.Lines.{behind}
 use Rattle.bass_operations.specs.declared.wishes.Wish.{Wish}
-use Rattle.scenario_values.specs.Words.{streams_from, wish_words}
-use Rattle.scenario_values.specs.declared.value.Value.{Value}
-use Rattle.scenario_values.specs.Given.{at_place, given_words, placed, words_at}
-use Rattle.scenario_values.proofs.Citable.{all_words_given, next_item}
+use Rattle.scenario_words.specs.ValueWords.{streams_from, wish_words}
+use Rattle.scenario_words.specs.declared.value.Value.{Value}
+use Rattle.scenario_words.specs.Given.{at_place, given_words, placed, words_at}
+use Rattle.scenario_words.proofs.CitableValues.{all_words_given, next_item}
 use Rattle.scenario_text.specs.Written.{placed_line}
 
 pub behind_more : (words more : List (List ℕ)) → behind (words ++ more) ≡ behind words ++ behind more

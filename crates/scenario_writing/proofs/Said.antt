@@ -1,7 +1,7 @@
 -- The line of a step says it where it fits, and a step that a line says fits.
 use Rattle.std.proofs.Common.{◌≡◌, ℕ, true, List, Some, subst}
-use Rattle.scenario_values.specs.Lines.{all_words}
-use Rattle.scenario_values.proofs.Citable.{is_unspaced, joined_split, unspaced}
+use Rattle.scenario_words.specs.Lines.{all_words}
+use Rattle.scenario_words.proofs.CitableValues.{is_unspaced, joined_split, unspaced}
 use Rattle.scenario_text.specs.declared.step.Step.{Step}
 use Rattle.scenario_text.specs.Table.{row_of}
 use Rattle.scenario_text.specs.Lines.{Says, LineIs}

@@ -8,7 +8,7 @@ use crate::laws::a_step_has_a_line_where_it_fits;
 use crate::values::put_values;
 use bcast_base::{Memory, Octets};
 use scenario_text::{LineTaker, Step};
-use scenario_values::Value;
+use scenario_words::Value;
 use std::alloc::Global;
 
 /// The line of a step, which fits: its words with one space between each two, decimals, octets as lower-case hexadecimal

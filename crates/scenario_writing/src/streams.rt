@@ -1,6 +1,6 @@
 ghost use Rattle.std.specs.Prelude.{◌≡◌, ◌≤◌, ◌++◌, OnOk, map, decimal};
 ghost use Rattle.printed_words.specs.Lines.{behind};
-ghost use Rattle.scenario_values.specs.Words.{streams_from, streams_in};
+ghost use Rattle.scenario_words.specs.ValueWords.{streams_from, streams_in};
 
 use bcast_base::{Bis, BisSet, Memory, Octets};
 use printed_words::{Word, put_words};

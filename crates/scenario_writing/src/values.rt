@@ -2,15 +2,15 @@
 ghost use Rattle.std.specs.Prelude.{◌≡◌, ◌++◌, ◌∷◌, [], OnOk};
 ghost use Rattle.printed_words.specs.Lines.{behind};
 ghost use Rattle.printed_words.specs.Words.{spelled};
-ghost use Rattle.scenario_values.specs.Given.{at_place, given_words, words_at};
-ghost use Rattle.scenario_values.specs.Words.{perhaps_words};
+ghost use Rattle.scenario_words.specs.Given.{at_place, given_words, words_at};
+ghost use Rattle.scenario_words.specs.ValueWords.{perhaps_words};
 
 use crate::numbers::{four_octets, framing_word, time_word, two_octets};
 use crate::streams::put_streams;
 use crate::wishes::put_wishes;
 use bcast_base::{Memory, Octets};
 use printed_words::{Word, put_words};
-use scenario_values::Value;
+use scenario_words::Value;
 
 /// Puts a word behind a line.
 fn put(line: &mut Octets, word: Word<'_>) -> Result<(), Memory>

@@ -1,6 +1,6 @@
 ghost use Rattle.std.specs.Prelude.{◌≡◌, ◌++◌, ◌∷◌, [], OnOk};
 ghost use Rattle.printed_words.specs.Lines.{behind};
-ghost use Rattle.scenario_values.specs.Words.{wish_words};
+ghost use Rattle.scenario_words.specs.ValueWords.{wish_words};
 
 use crate::numbers::four_octets;
 use bass_operations::{Wish, Wishes};

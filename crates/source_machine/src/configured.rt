@@ -102,7 +102,8 @@ impl SourceConfigured {
     /// source back as it was.
     pub fn start(self, first_event: u64) -> Result<SourceStreaming, Kept<SourceConfigured, Memory>>
         requires { first_event < 2 ^ 39 }
-        ensures ok { IfOk result (λ source. (source.identity ≡ self.identity) × (source.setup ≡ started self first_event) × StandsFor [] source) }
+        ensures ok { IfOk result (λ source. (source.identity ≡ self.identity) × (source.setup ≡ started self first_event)
+            × StandsFor [] source) }
         ensures announced { IfOk result (λ source. (source.base ≡ self.base) × (source.cipher ≡ self.cipher)) }
         ensures err { IfErr result (λ kept. kept.state ≡ self) }
     {

@@ -22,7 +22,8 @@ pub fn one_air()
     ensures same { (setup : Setup) (calls : List Call) (airs others : List Air) → IsChecked setup.info
         → AreAirs setup calls airs → AreAirs setup calls others → airs ≡ others }
     ensures some { (setup : Setup) (calls : List Call) → IsChecked setup.info → AreAirs setup calls (airs_of setup calls) }
-    ensures only { (setup : Setup) (calls : List Call) (airs : List Air) → IsChecked setup.info → AreAirs setup calls airs → airs ≡ airs_of setup calls }
+    ensures only { (setup : Setup) (calls : List Call) (airs : List Air) → IsChecked setup.info → AreAirs setup calls airs
+        → airs ≡ airs_of setup calls }
 {}
 
 /// In an unframed group each subevent of an event that was performed carries the PDU that division gives at its payload number: `laid` where
@@ -45,7 +46,8 @@ pub fn air_is_by_division()
 /// What an event that was performed sent stays, whatever calls follow.
 pub fn what_was_sent_stays()
     ensures { (group : Group) (setup : Setup) (later calls : List Call) (airs others : List Air) (event bis subevent : ℕ)
-        → setup.info ≡ group.info → AreAirs setup calls airs → AreAirs setup (later ++ calls) others → setup.first ≤ event → event < next_of setup calls
+        → setup.info ≡ group.info → AreAirs setup calls airs → AreAirs setup (later ++ calls) others → setup.first ≤ event
+        → event < next_of setup calls
         → 1 ≤ bis → bis ≤ group.info.num_bis → subevent < group.info.nse
         → pdu_of setup others event bis subevent ≡ pdu_of setup airs event bis subevent }
 {}
@@ -63,11 +65,14 @@ pub fn units_keep_their_order()
         → place_of setup calls bis event slot < place_of setup calls bis later behind }
     ensures within { (setup : Setup) (calls : List Call) (bis event slot behind : ℕ) → slot < behind
         → place_of setup calls bis event slot < place_of setup calls bis event behind }
-    ensures timed { (setup : Setup) (calls : List Call) (bis : ℕ) → map (λ (unit : Timed). unit.octets) (accepted (framed_calls setup bis calls)) ≡ given bis calls }
-    ensures framed { (group : Group) (setup : Setup) (calls : List Call) (airs : List Air) (bis : ℕ) → setup.info ≡ group.info → setup.info.framing ≡ 1
+    ensures timed { (setup : Setup) (calls : List Call) (bis : ℕ)
+        → map (λ (unit : Timed). unit.octets) (accepted (framed_calls setup bis calls)) ≡ given bis calls }
+    ensures framed { (group : Group) (setup : Setup) (calls : List Call) (airs : List Air) (bis : ℕ) → setup.info ≡ group.info
+        → setup.info.framing ≡ 1
         → AreAirs setup calls airs → 1 ≤ bis → bis ≤ setup.info.num_bis
         → ((i : ℕ) (unit : List ℕ) → slice_get (given bis calls) i ≡ Some unit → length unit ≤ setup.info.max_sdu)
-        → (air : Air) × (slice_get airs (bis - 1) ≡ Some air) × (units : List Sent) × TimedSends setup.info (framed_calls setup bis calls) air units }
+        → (air : Air) × (slice_get airs (bis - 1) ≡ Some air) × (units : List Sent)
+        × TimedSends setup.info (framed_calls setup bis calls) air units }
 {
     a_framed_air_sends_units();
 }

@@ -45,7 +45,8 @@ impl Sender {
         octets: &[u8],
     ) -> Result<(), PutFault>
         ensures ok { OnOk result (HasTime self.old time limit × (waiting_in self.old < 16) × (info_of self.new ≡ info_of self.old)) }
-        ensures stands { OnOk result ((info : BigInfo) (plain : List PlainCall) (timed : List TimedCall) → SenderStands info plain timed self.old
+        ensures stands { OnOk result ((info : BigInfo) (plain : List PlainCall) (timed : List TimedCall)
+            → SenderStands info plain timed self.old
             → SenderStands info (accept octets.now ∷ plain) (accept_timed (unwrap_or time 0) octets.now ∷ timed) self.new) }
         ensures err { OnErr result (self.new ≡ self.old) }
         ensures fault { IfErr result (λ fault. PutStops self.old time limit octets.now fault) }
@@ -75,9 +76,11 @@ impl Sender {
         ensures info { info_of self.new ≡ info_of self.old }
         ensures count { IfOk result (λ event. length event.pdus ≡ (info_of self.old).bn) }
         ensures err { OnErr result (self.new ≡ self.old) }
-        ensures laid { IfOk result (λ event. (info : BigInfo) (plain : List PlainCall) (timed : List TimedCall) → IsChecked info → SenderStands info plain timed self.old
+        ensures laid { IfOk result (λ event. (info : BigInfo) (plain : List PlainCall) (timed : List TimedCall) → IsChecked info
+            → SenderStands info plain timed self.old
             → SenderStands info (lay ∷ plain) (lay_at anchor ∷ timed) self.new
-            × (begun : ℕ) × (air_after info (lay ∷ plain) (lay_at anchor ∷ timed) ≡ record { event = laid_in event; begun = begun } ∷ air_after info plain timed)) }
+            × (begun : ℕ) × (air_after info (lay ∷ plain) (lay_at anchor ∷ timed)
+            ≡ record { event = laid_in event; begun = begun } ∷ air_after info plain timed)) }
     {
         match self {
             Sender::Unframed(out) => out.lay_event(),
@@ -89,7 +92,8 @@ impl Sender {
 /// Gives a unit to the sender of an unframed stream, where it has no time of its own.
 fn put_unframed(out: &mut UnframedOut, time: Option<u64>, octets: &[u8]) -> Result<(), PutFault>
     ensures ok { OnOk result ((time ≡ None) × (length out.old.waiting < 16) × (out.new.info ≡ out.old.info)) }
-    ensures stands { OnOk result ((info : BigInfo) (calls : List PlainCall) → PlainStands info calls out.old → PlainStands info (accept octets.now ∷ calls) out.new) }
+    ensures stands { OnOk result ((info : BigInfo) (calls : List PlainCall) → PlainStands info calls out.old
+        → PlainStands info (accept octets.now ∷ calls) out.new) }
     ensures err { OnErr result (out.new ≡ out.old) }
     ensures fault { IfErr result (λ fault. PutStops (UnframedSender out.old) time None octets.now fault) }
 {

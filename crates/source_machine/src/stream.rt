@@ -121,7 +121,8 @@ pub(crate) fn lay_all(
     stale: &mut StaleList,
 ) -> Result<(), Memory>
     ensures ok { OnOk result (AllZip (Lays laying.anchor laying.iso_us laying.count) streams.old.items streams.new.items) }
-    ensures told { OnOk result (AllTell laying.anchor laying.iso_us laying.count streams.old.items (length streams.old.items) stale.old stale.new) }
+    ensures told { OnOk result (AllTell laying.anchor laying.iso_us laying.count streams.old.items
+        (length streams.old.items) stale.old stale.new) }
     ensures err { OnErr result (AllZip Grows streams.old.items streams.new.items) }
 {
     lay_each(streams.as_mut_slice(), laying, stale)
@@ -147,7 +148,8 @@ pub(crate) fn sent_pdus(
 ) -> Result<EventPdus, Memory>
     requires count { length streams.now ≡ group.now.info.num_bis }
     requires laid { All (IsLaid group.now.info) streams.now }
-    ensures { IfOk result (λ pdus. map Some pdus ≡ map (sent_at group.now.info streams.now) (range_with_len 0 (group.now.info.num_bis * group.now.info.nse))) }
+    ensures { IfOk result (λ pdus. map Some pdus ≡ map (sent_at group.now.info streams.now)
+        (range_with_len 0 (group.now.info.num_bis * group.now.info.nse))) }
 {
     let nse = u16::from(group.info.nse);
     let count = u16::from(group.info.num_bis) * nse;

@@ -96,7 +96,8 @@ impl SourceStreaming {
         ensures accepted { OnOk result ((calls : List Call) (airs : List Air) → StandsFor calls self.old → AreAirs self.old.setup calls airs
             → give_fault self.old.setup calls airs bis time octets.now ≡ None) }
         ensures err { OnErr result (self.new ≡ self.old) }
-        ensures cause { IfErr result (λ fault. (calls : List Call) (airs : List Air) → StandsFor calls self.old → AreAirs self.old.setup calls airs
+        ensures cause { IfErr result (λ fault. (calls : List Call) (airs : List Air) → StandsFor calls self.old
+            → AreAirs self.old.setup calls airs
             → give_fault self.old.setup calls airs bis time octets.now ≡ refused_unit fault) }
         ensures failed { self.old.failed ≡ true → IfErr result (λ fault. fault ≡ GiveMemory) }
         ensures works { OnOk result (self.old.failed ≡ false) }
@@ -140,10 +141,12 @@ impl SourceStreaming {
         ensures ok { OnOk result ((calls : List Call) → StandsFor calls self.old
             → (event_fault self.old.setup calls ≡ None) × StandsFor (performs ∷ calls) self.new) }
         ensures event { IfOk result (λ sent. (sent.event ≡ self.old.next) × (self.new.next ≡ self.old.next + 1)) }
-        ensures pdus { IfOk result (λ sent. (calls : List Call) (airs : List Air) → StandsFor calls self.old → AreAirs self.old.setup (performs ∷ calls) airs
+        ensures pdus { IfOk result (λ sent. (calls : List Call) (airs : List Air) → StandsFor calls self.old
+            → AreAirs self.old.setup (performs ∷ calls) airs
             → Sends self.old.setup airs sent.event sent.pdus) }
         ensures count { IfOk result (λ sent. length sent.pdus ≡ self.old.setup.info.num_bis * self.old.setup.info.nse) }
-        ensures stale { IfOk result (λ sent. (calls : List Call) (airs : List Air) → StandsFor calls self.old → AreAirs self.old.setup (performs ∷ calls) airs
+        ensures stale { IfOk result (λ sent. (calls : List Call) (airs : List Air) → StandsFor calls self.old
+            → AreAirs self.old.setup (performs ∷ calls) airs
             → sent.stale ≡ stale_of self.old.setup calls airs) }
         ensures err { IfErr result (λ fault. AfterFault fault self.old self.new) }
         ensures cause { IfErr result (λ fault. (calls : List Call) → StandsFor calls self.old
@@ -173,8 +176,10 @@ impl SourceStreaming {
     /// CounterEnds comes exactly where the payload count of the event, which is its number × BN, is 2^39 or more. A source
     /// that has failed answers Memory.
     pub fn announce(&self) -> Result<Train, AnnounceFault>
-        ensures train { IfOk result (λ train. IsTrain self.now.identity.broadcast_id self.now.base (group_in self.now) self.now.next (anchor_in self.now) train) }
-        ensures told { IfOk result (λ train. Tells train self.now.identity.broadcast_id self.now.base (group_in self.now) self.now.next (anchor_in self.now)) }
+        ensures train { IfOk result (λ train. IsTrain self.now.identity.broadcast_id self.now.base (group_in self.now) self.now.next
+            (anchor_in self.now) train) }
+        ensures told { IfOk result (λ train. Tells train self.now.identity.broadcast_id self.now.base (group_in self.now) self.now.next
+            (anchor_in self.now)) }
         ensures ok { OnOk result ((calls : List Call) → StandsFor calls self.now → announce_fault self.now.setup calls ≡ None) }
         ensures cause { IfErr result (λ fault. (calls : List Call) → StandsFor calls self.now
             → announce_fault self.now.setup calls ≡ refused_train fault) }
@@ -307,7 +312,8 @@ impl SourceStreaming {
         ensures ok { OnOk result (IsFit self.now.setup bis octets.now) }
         ensures err { IfErr result (λ fault. (calls : List Call) (airs : List Air) (time : Option ℕ)
             → (give_fault self.now.setup calls airs bis time octets.now ≡ Some fault) × (refused_unit fault ≡ Some fault)) }
-        ensures misfit { IfErr result (λ fault. (calls : List Call) (time : Option ℕ) → misfit_of self.now.setup calls bis time octets.now ≡ Some fault) }
+        ensures misfit { IfErr result (λ fault. (calls : List Call) (time : Option ℕ)
+            → misfit_of self.now.setup calls bis time octets.now ≡ Some fault) }
     {
         if bis.get() > self.plan.group.info.num_bis {
             return Err(GiveFault::NoSuchBis);

@@ -2,7 +2,7 @@
 use Rattle.std.specs.Prelude.{ℕ, ◌≡◌, ◌<◌, ◌≤◌, ◌++◌, ◌∷◌, [], nat_lt, Bool, true, false, List, length, replicate, slice_get, slice_set, Option, Some, None, if◌then◌else◌}
 use Rattle.receive_state.specs.declared.state.ReceiveState.{ReceiveState}
 use Rattle.assistant_machine.specs.Calls.{Call, mtu_of, sent_of, waiting_of, writes_of}
-use Rattle.notice_links.specs.Cuts.{asks}
+use Rattle.assistant_machine.specs.Cuts.{asks}
 use Rattle.assistant_machine.specs.Views.{reading_of, view_of, waits_of}
 
 -- the MTU, the writes that wait, and of each slot its view and whether a read of it waits

@@ -1,7 +1,7 @@
 -- What a train brings, as the code tells it.
 use Rattle.std.specs.Prelude.{Option, Some, None}
-use Rattle.delegator_states.specs.Trains as trains
-use Rattle.delegator_states.specs.Trains.{ignored, heard, taken}
+use Rattle.delegator_history.specs.Trains as trains
+use Rattle.delegator_history.specs.Trains.{ignored, heard, taken}
 use Rattle.delegator_choices.specs.declared.brought.Brought.{Brought}
 use Rattle.delegator_choices.specs.declared.brought.Brought.TheVariants.{Ignored, Heard, Taken}
 use Rattle.delegator_choices.specs.declared.brought.Joining.{Joining}

@@ -3,7 +3,7 @@ use Rattle.std.specs.Prelude.{ℕ, ◌≡◌, ◌+◌, ◌-◌, ◌^◌, ◌==�
 use Rattle.std.specs.List.{filter, range_with_len}
 use Rattle.base_grammar.specs.declared.subgroup.Subgroup.{Subgroup}
 use Rattle.base_grammar.specs.Layout.{Endpoint, bis_of, indices, stands_in}
-use Rattle.delegator_states.specs.Trains.{is_candidate, set_with}
+use Rattle.delegator_history.specs.Trains.{is_candidate, set_with}
 use Rattle.delegator_choices.specs.declared.choosing.Choice.{Choice}
 use Rattle.delegator_choices.specs.declared.choosing.Taking.{Taking}
 

@@ -1,8 +1,8 @@
 -- What a Scan Delegator keeps, and the calls that it stands for.
 use Rattle.std.specs.Prelude.{ℕ, ◌≡◌, List, Option}
-use Rattle.delegator_states.specs.Trains.{Setup}
+use Rattle.delegator_history.specs.Trains.{Setup}
 use Rattle.group_sink.specs.State.Sinks.{OnGroup, StandsFor as SinkStands}
-use Rattle.scan_delegator.specs.State.Machines.{Machine, StandsFor as ScanStands}
+use Rattle.delegator_control.specs.State.Machines.{Machine, StandsFor as ScanStands}
 use Rattle.delegator_machine.specs.Calls.{Call, steps_of}
 use Rattle.delegator_machine.specs.Groups.{group_calls}
 

@@ -6,8 +6,8 @@ use Rattle.assistant_machine.specs.Calls as assistants
 use Rattle.assistant_machine.specs.Calls.{told, read}
 use Rattle.assistant_machine.specs.State.Assistants.{StandsFor}
 use Rattle.assistant_machine.specs.Views as known
-use Rattle.notice_links.specs.Links.{view_of, waiting_of, waits_of}
-use Rattle.link_histories.specs.Links.{Acts, delivered, language}
+use Rattle.assistant_machine.specs.Links.{view_of, waiting_of, waits_of}
+use Rattle.link_history.specs.Links.{Acts, delivered, language}
 use Rattle.multi_assist.specs.State.Places.{Linked}
 
 -- what an assistant was told and what it read is octets

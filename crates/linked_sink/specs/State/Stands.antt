@@ -2,13 +2,13 @@
 use Rattle.std.specs.Prelude.{ℕ, ◌≡◌, ◌∷◌, true, [], List, Option}
 use Rattle.delegator_machine.specs.Calls as machine
 use Rattle.delegator_machine.specs.State.Halves.{StandsFor}
-use Rattle.delegator_states.specs.Notices.{changes}
-use Rattle.delegator_states.specs.States.{sight_of}
-use Rattle.delegator_states.specs.Trains.{Setup}
-use Rattle.link_histories.specs.Calls.{Call, is_joined, steps_of, writes_waiting}
-use Rattle.link_histories.specs.Links.{acts_of}
-use Rattle.link_histories.specs.Octets.{AreOctets}
-use Rattle.link_histories.specs.Steps.{IsStep}
+use Rattle.delegator_history.specs.Notices.{changes}
+use Rattle.delegator_history.specs.States.{sight_of}
+use Rattle.delegator_history.specs.Trains.{Setup}
+use Rattle.link_history.specs.Calls.{Call, is_joined, steps_of, writes_waiting}
+use Rattle.link_history.specs.Links.{acts_of}
+use Rattle.link_history.specs.Octets.{AreOctets}
+use Rattle.link_history.specs.Steps.{IsStep}
 use Rattle.multi_assist.specs.State.Links.{link_at, mtu_of, slots_of}
 use Rattle.linked_sink.specs.declared.sink.LinkedSink.{LinkedSink}
 use Rattle.linked_sink.specs.State.Links.{OnLink}

@@ -1,7 +1,7 @@
 -- The calls of a delegator without those that asked for a notice: its notices all go to the links, and which of them were
 -- asked for changes nothing of what it answers.
 use Rattle.std.specs.Prelude.{List, [], ◌∷◌}
-use Rattle.delegator_states.specs.States.{Step, told}
+use Rattle.delegator_history.specs.States.{Step, told}
 use Rattle.delegator_machine.specs.Calls.{Call, control, hear, tick}
 
 abbrev pub unless_told : Step → List Call → List Call

@@ -1,10 +1,10 @@
 -- Notices that go from a sink to its links, each as the sink hands it out.
 use Rattle.std.specs.Prelude.{ℕ, zero, suc, ◌≡◌, ◌++◌, ◌∷◌, [], List, map, Option}
-use Rattle.delegator_states.specs.declared.notice.Notice.{Notice}
-use Rattle.delegator_states.specs.Notices.{handed_out}
-use Rattle.delegator_states.specs.States.{told as handed}
-use Rattle.delegator_states.specs.Trains.{Setup}
-use Rattle.scan_delegator.specs.State.Machines.{Machine}
+use Rattle.delegator_history.specs.declared.notice.Notice.{Notice}
+use Rattle.delegator_history.specs.Notices.{handed_out}
+use Rattle.delegator_history.specs.States.{told as handed}
+use Rattle.delegator_history.specs.Trains.{Setup}
+use Rattle.delegator_control.specs.State.Machines.{Machine}
 use Rattle.delegator_machine.specs.Calls.{Call, control}
 use Rattle.delegator_machine.specs.State.Halves.{Halves, StandsFor}
 use Rattle.multi_assist.specs.State.Places.{Linked, with_notices}

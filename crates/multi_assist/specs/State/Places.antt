@@ -3,7 +3,7 @@ use Rattle.std.specs.Prelude.{ℕ, ◌++◌, ◌∷◌, [], List, drop, replicat
 use Rattle.std.specs.Borrow.{LendsIf, MutBor, Fml}
 use Rattle.assistant_machine.specs.State.Assistants.{Assistant}
 use Rattle.assistant_machine.specs.contracts.joined.AssistJoined.{the_row as assistant_row}
-use Rattle.delegator_states.specs.declared.notice.Notice.{Notice}
+use Rattle.delegator_history.specs.declared.notice.Notice.{Notice}
 use Rattle.multi_assist.specs.contracts.place.Place.{the_row as place_row}
 use Rattle.multi_assist.specs.declared.place.Place.{Place}
 use Rattle.multi_assist.specs.State.Terms.{joining}

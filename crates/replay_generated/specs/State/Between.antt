@@ -9,10 +9,10 @@ use Rattle.unit_outlets.specs.Account.{Account}
 use Rattle.source_machine.specs.Airs.{airs_of}
 use Rattle.transcript_text.specs.declared.refusal.Refusal.{Refusal}
 use Rattle.transcript_text.specs.Lines.{refusal_line}
-use Rattle.transcript_summary.specs.Lines.{lines_of, IsWhole}
-use Rattle.transcript_summary.specs.Summary.{counts_of, with_lines}
-use Rattle.transcript_summary.specs.declared.counts.Counts.{Counts}
-use Rattle.line_runs.specs.Runs.{End, through, refused, brought, Accepted}
+use Rattle.transcript_text.specs.CountedLines.{lines_of, IsWhole}
+use Rattle.transcript_text.specs.Summary.{counts_of, with_lines}
+use Rattle.transcript_text.specs.declared.counts.Counts.{Counts}
+use Rattle.scenario_history.specs.Runs.{End, through, refused, brought, Accepted}
 use Rattle.scenario_history.specs.Boxes.{SinkUnit, Took}
 use Rattle.scenario_history.specs.Lines.{rules_of, handed_on, steps_of}
 use Rattle.scenario_history.specs.Transcript.{transcript_of, transcript_end, units_of}
@@ -86,14 +86,6 @@ Ran starts ends lines counts endings.Through = Told starts ends lines counts thr
 Ran starts ends lines counts (endings.Refused line reason) = Told starts ends lines counts (refused line reason)
 Ran starts ends lines counts endings.OutletFault = BoxFailed airs_of starts ends lines
 Ran starts ends lines counts endings.Memory = FrontTaken starts ends lines
-
--- the first of these lines were run, of which none is refused, and each box that none of them took is the same
-pub record UntakenRun {A : Type 0} (starts : List Account) (lines : List TextLine) (old new : List A) : Type 0 where
-  pub earlier : List TextLine
-  pub later : List TextLine
-  pub split : lines ≡ reverse earlier ++ later
-  pub accepted : Accepted (rules_of airs_of starts) earlier
-  pub same : UntakenSame (steps_of airs_of earlier) old new
 
 -- ---- the summary
 

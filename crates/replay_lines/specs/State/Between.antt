@@ -12,7 +12,7 @@ use Rattle.unit_outlets.specs.Account.{Account}
 use Rattle.source_machine.specs.Airs.{airs_of}
 use Rattle.transcript_text.specs.declared.refusal.Refusal.{Refusal}
 use Rattle.transcript_text.specs.Lines.{refusal_line}
-use Rattle.line_runs.specs.Runs.{brought, Accepted}
+use Rattle.scenario_history.specs.Runs.{brought, Accepted}
 use Rattle.scenario_history.specs.Lines.{rules_of}
 use Rattle.replay_steps.specs.declared.machine.Machine.{Machine}
 use Rattle.replay_lines.specs.declared.ending.Ending.{Ending}

@@ -3,14 +3,14 @@ use Rattle.std.specs.Prelude.{◌≡◌, List, ◌∷◌}
 use Rattle.bcast_io.specs.TextLines.{TextLine}
 use Rattle.unit_outlets.specs.Account.{Account}
 use Rattle.source_machine.specs.Airs.{airs_of}
-use Rattle.line_runs.specs.Runs.{Accepted}
+use Rattle.scenario_history.specs.Runs.{Accepted}
 use Rattle.scenario_history.specs.Airs.{MeetAirs}
 use Rattle.scenario_history.specs.Lines.{handed_on, rules_of}
 use Rattle.scenario_history.specs.Source.{Airs}
 use Rattle.scenario_history.specs.Transcript.{end_after, out_of, transcript_end, transcript_of, units_of}
-use Rattle.isolation_laws.specs.Isolation.{IsolationLaw}
-use Rattle.migration_laws.specs.Laws.{MigrationLaw}
-use Rattle.relay_laws.specs.Relayed.{RelayLinesLaw, RelayedUnitsLaw}
+use Rattle.scenario_laws.specs.Isolation.{IsolationLaw}
+use Rattle.scenario_laws.specs.Versions.{MigrationLaw}
+use Rattle.scenario_laws.specs.Relayed.{RelayLinesLaw, RelayedUnitsLaw}
 use Rattle.replay_steps.specs.LineMeets.{answered_on}
 use Rattle.scenario_laws.specs.Laws.{UnitsLaw, OrderLaw}
 use Rattle.scenario_laws.specs.Links.{AgreementLaw, LinksLaw}

@@ -2,7 +2,7 @@
 use Rattle.std.specs.Prelude.{ℕ, ◌≡◌, List, Option}
 use Rattle.std.specs.Io.KnownBytes.{Appends}
 use Rattle.bcast_io.specs.Writing.{AppendsFront, AppendsShort}
-use Rattle.scenario_migration.specs.Migrated.{migrated}
+use Rattle.scenario_text.specs.Migrated.{migrated}
 use Rattle.replay_migration.specs.Ended.{too_long_line}
 use Rattle.replay_migration.specs.declared.migration.Migration.{Migration}
 use Rattle.replay_migration.specs.declared.migration.Migration.TheVariants as ends

@@ -1,19 +1,19 @@
 -- What stands between the closes of two sinks.
-use Rattle.std.specs.Prelude.{ℕ, ◌≡◌, ◌≤◌, ◌<◌, slice_get, List, [], ◌++◌, Option, Some, Result, OnOk}
+use Rattle.std.specs.Prelude.{ℕ, ◌≡◌, ◌≤◌, ◌<◌, ◌+◌, ◌⊎◌, slice_get, List, [], ◌++◌, Option, Some, Result, Ok, OnOk}
 use Rattle.std.specs.List.{range_with_len}
 use Rattle.unit_outlets.specs.Account.{Account}
 use Rattle.group_sink.specs.Calls.{Call}
-use Rattle.link_histories.specs.Calls as links
+use Rattle.link_history.specs.Calls as links
 use Rattle.scenario_history.specs.Boxes.{most_sinks, accounts_after, closing_by}
 use Rattle.scenario_history.specs.Sinks.{is_of, ticked_if}
 use Rattle.scenario_history.specs.Output.{unit_lines}
-use Rattle.sink_histories.specs.Lives.{Made}
+use Rattle.sink_history.specs.Lives.{Made}
 use Rattle.scenario_sinks.specs.declared.gathered.Gathered.{Gathered}
 use Rattle.scenario_sinks.specs.declared.sink.Sink.{Sink}
 use Rattle.transcript_text.specs.declared.stop.Stop.{Stop}
-use Rattle.scenario_sinks.specs.Pasts.{Past, with_close}
+use Rattle.scenario_sinks.specs.Pasts.{Past, with_close, with_close_at}
 use Rattle.scenario_sinks.specs.Handing.{Hands}
-use Rattle.scenario_sinks.specs.Closing.{closings, closings_at, handed_all}
+use Rattle.scenario_sinks.specs.Closing.{closing_of, closings, closings_at, handed_all}
 use Rattle.scenario_sinks.specs.State.Gathering.{calls_of}
 use Rattle.scenario_sinks.specs.State.Standing.{EntryIs, EntryAt, EntriesAre}
 
@@ -60,3 +60,31 @@ pub record AllClose (past : Past) (source event : ℕ) (sinks : List (Option Sin
     (text told : List ℕ) (before after : List Account) (result : Result (Unit {0}) Stop) : Type 0 where
   pub hands : Hands (closings_at source (Some event) past) text told before after result
   pub is_ticked : OnOk result (SinksTicked past source event sinks gathered)
+
+-- the sink of this number is ticked, where it is of the source, and the units that it handed up are gathered
+pub record OneHeld (past : Past) (n source event : ℕ) (sinks : List (Option Sink)) (gathered : Gathered) : Type 0 where
+  pub entries : EntriesAre (with_close_at n source event past) sinks
+  pub held : calls_of gathered ≡ handed_all (closing_of n source event past)
+
+-- what became of a close over the sink of this number alone
+pub record OneCloses (past : Past) (n source event : ℕ) (sinks : List (Option Sink)) (gathered : Gathered)
+    (text told : List ℕ) (before after : List Account) (result : Result (Unit {0}) Stop) : Type 0 where
+  pub hands : Hands (closing_of n source event past) text told before after result
+  pub is_held : OnOk result (OneHeld past n source event sinks gathered)
+
+-- nothing happened so far
+pub record Unmoved (sinks now : List (Option Sink)) (gathered : Gathered) (text told : List ℕ) (before after : List Account) : Type 0 where
+  pub sinks_same : now ≡ sinks
+  pub empty : gathered.units.items ≡ []
+  pub lines : told ≡ text
+  pub boxes_are : after ≡ before
+
+-- that sink alone is closed, or not yet
+abbrev pub OneBetween : Past → (first source event number : ℕ) → (sinks now : List (Option Sink)) → Gathered → (text told : List ℕ) → (before after : List Account) → Type 0
+OneBetween past first source event number sinks now gathered text told before after =
+    ((number ≡ first) × Unmoved sinks now gathered text told before after)
+    ⊎ ((number ≡ first + 1) × OneCloses past first source event now gathered text told before after (Ok tt))
+
+-- the entries from a number on
+abbrev pub EntriesFrom : Past → ℕ → List (Option Sink) → Type 0
+EntriesFrom past number sinks = (n : ℕ) → number ≤ n → n < most_sinks → EntryAt past n (slice_get sinks n)

@@ -3,22 +3,22 @@
 use Rattle.std.specs.Prelude.{ℕ, ◌≡◌, ◌∷◌, ◌++◌, true, is_some, List, Option, None, Some, Result, Ok, Err, if◌then◌else◌}
 use Rattle.std.specs.List.{concat}
 use Rattle.delegator_machine.specs.Groups.{tuning_of}
-use Rattle.delegator_states.specs.States.{put_on}
-use Rattle.delegator_states.specs.Trains.{Joining}
+use Rattle.delegator_history.specs.States.{put_on}
+use Rattle.delegator_history.specs.Trains.{Joining}
 use Rattle.group_sink.specs.Calls.{Call, tune, hear}
 use Rattle.isoal_base.specs.declared.hearing.Hearing.{Hearing}
-use Rattle.link_histories.specs.Calls as links
-use Rattle.link_histories.specs.Calls.{stepped}
+use Rattle.link_history.specs.Calls as links
+use Rattle.link_history.specs.Calls.{stepped}
 use Rattle.scenario_history.specs.Sinks.{is_of}
 use Rattle.scenario_sinks.specs.declared.sink.Sink.{Sink}
 use Rattle.scenario_text.specs.declared.step.Step.{Step}
-use Rattle.sink_histories.specs.Lives.{Made, Source, lived_by}
-use Rattle.sink_histories.specs.Moves.{received_by, source_by}
-use Rattle.sink_histories.specs.Output.{printed_of, printed_where}
-use Rattle.sink_histories.specs.Refusals.{refused_by, refused_where}
-use Rattle.sink_steps.specs.Making.{Makes, Takes}
-use Rattle.sink_steps.specs.State.Living.{Lives}
-use Rattle.sink_steps.specs.declared.sink.LivingSink.{LivingSink}
+use Rattle.sink_history.specs.Lives.{Made, Source, lived_by}
+use Rattle.sink_history.specs.Moves.{received_by, source_by}
+use Rattle.sink_history.specs.Output.{printed_of, printed_where}
+use Rattle.sink_history.specs.Refusals.{refused_by, refused_where}
+use Rattle.scenario_sink.specs.Making.{Makes, Takes}
+use Rattle.scenario_sink.specs.State.Living.{Lives}
+use Rattle.scenario_sink.specs.declared.sink.LivingSink.{LivingSink}
 use Rattle.transcript_text.specs.declared.stop.Stop.{Stop}
 use Rattle.transcript_text.specs.declared.stop.Stop.TheVariants.{Refused, OutletFault, Memory}
 use Rattle.scenario_sinks.specs.Hearing.{hearing_by}

@@ -2,14 +2,14 @@
 use Rattle.std.specs.Prelude.{ℕ, ◌≡◌, ◌<◌, List, [], Option, None, Some, slice_get}
 use Rattle.unit_outlets.specs.Handed.{Handed}
 use Rattle.group_sink.specs.Calls.{Call}
-use Rattle.link_histories.specs.Calls as links
+use Rattle.link_history.specs.Calls as links
 use Rattle.scenario_history.specs.Boxes.{most_sinks}
 use Rattle.scenario_sinks.specs.declared.sink.Sink.{Sink}
 use Rattle.scenario_sinks.specs.declared.sinks.Sinks.{Sinks}
 use Rattle.scenario_sinks.specs.Pasts.{Past}
 use Rattle.scenario_sinks.specs.State.Gathering.{calls_of}
-use Rattle.sink_histories.specs.Lives.{Made}
-use Rattle.sink_steps.specs.State.Living.{Lives}
+use Rattle.sink_history.specs.Lives.{Made}
+use Rattle.scenario_sink.specs.State.Living.{Lives}
 
 -- the entry of a number with this box, or none where no sink lives; the sink was made so, is of this source, has this life, and
 -- its receivers took these calls

@@ -1,6 +1,6 @@
 use Rattle.std.proofs.Common.{◌∙◌, ap}
-use Rattle.delegator_states.specs.States.{sight_of}
-use Rattle.scan_delegator.specs.Groups.{has_group}
+use Rattle.delegator_history.specs.States.{sight_of}
+use Rattle.delegator_control.specs.Groups.{has_group}
 use Rattle.delegator_machine.specs.Calls.{steps_of}
 use Rattle.delegator_machine.proofs.Where.{both_on}
 use Rattle.delegator_machine.proofs.laws.bits_stand_where_the_sink_is.Goals as goal

@@ -31,7 +31,7 @@ returns-clause-packed c units earlier acts pdus queue_is start =
     c.acts.invariant.going units earlier acts pdus queue_is start in
     MatchResult-weaker c.copy.result
     {P' = λ octets. (own : List Act) × (pdus_ended own ≡ pdus_ended acts) × Going c.args.max_pdu units c.args.anchor earlier (ends ∷ own)
-      c.put_next.new.packing.past c.put_next.new.packing.sent c.args.max_pdu [] (pdus ++ octets ∷ []) c.put_next.new.packing.stale}
+    c.put_next.new.packing.past c.put_next.new.packing.sent c.args.max_pdu [] (pdus ++ octets ∷ []) c.put_next.new.packing.stale}
     c.copy.ensures
     (λ octets is. (
       was.0,

@@ -1,7 +1,7 @@
 use Rattle.std.proofs.Common.{[], sym, subst}
-use Rattle.link_histories.specs.Calls.{born}
+use Rattle.link_history.specs.Calls.{born}
 use Rattle.delegator_machine.specs.State.Halves.{StandsFor}
-use Rattle.delegator_states.specs.Trains.{Setup}
+use Rattle.delegator_history.specs.Trains.{Setup}
 use Rattle.linked_sink.specs.Taken.{delegator_calls}
 use Rattle.linked_sink.proofs.sink.delegator_with.Goals as goal
 

@@ -1,6 +1,6 @@
 use Rattle.std.proofs.Common.{◌≡◌, ◌∙◌, refl, sym, subst, map, string_bytes}
 use Rattle.replay_generated.specs.Generated.{lines_made}
-use Rattle.replay_generated.specs.Untaken.{UntakenBy}
+use Rattle.replay_steps.specs.Untaken.{UntakenBy}
 use Rattle.replay_words.specs.Words.{mode_of}
 use Rattle.replay_lines.specs.World.{world_of}
 use Rattle.replay_command.specs.Migrated.{Migrated}

@@ -1,5 +1,5 @@
 use Rattle.std.proofs.Common.{map, subst}
-use Rattle.line_runs.specs.Runs.{through, refused}
+use Rattle.scenario_history.specs.Runs.{through, refused}
 use Rattle.replay_generated.specs.Generated.{lines_made}
 use Rattle.replay_generated.specs.State.Between.{Ran}
 use Rattle.replay_generated.specs.declared.outcome.Outcome.TheVariants as outcomes

@@ -2,7 +2,7 @@ use Rattle.std.proofs.Common.{map}
 use Rattle.source_machine.specs.Airs.{airs_of}
 use Rattle.replay_generated.specs.Generated.{lines_made}
 use Rattle.replay_generated.proofs.Promising.{run_promises}
-use Rattle.replay_generated.proofs.Untaken.{untaken_run}
+use Rattle.replay_steps.proofs.Citable.{untaken_run}
 use Rattle.replay_generated.proofs.generated.run_generated.Goals as goal
 
 pub returns-clause-generated : goal.returns-clause-generated

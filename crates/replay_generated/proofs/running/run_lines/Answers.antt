@@ -3,7 +3,8 @@ use Rattle.scenario_generator.specs.Generated.{generated_lines}
 use Rattle.replay_generated.specs.Generated.{lines_made}
 use Rattle.replay_generated.proofs.EndLines.{made_end}
 use Rattle.replay_generated.proofs.GeneratedText.{generated_count, generated_read}
-use Rattle.replay_generated.proofs.Runs.{none_run, none_taken, running_none, runs_on, runs_out, runs_through, stops_here, untaken_here, untaken_out}
+use Rattle.replay_steps.proofs.Citable.{none_run}
+use Rattle.replay_generated.proofs.Runs.{none_taken, running_none, runs_on, runs_out, runs_through, stops_here, untaken_here, untaken_out}
 use Rattle.replay_generated.proofs.running.run_lines.Goals as goal
 
 pub returns-in_default-clause-ran : goal.returns-in_default-clause-ran

@@ -1,6 +1,6 @@
 use Rattle.std.proofs.Common.{◌+◌, ◌∙◌, true, map, refl, arith}
 use Rattle.bcast_io.specs.TextLines.{lines_of}
-use Rattle.replay_generated.proofs.Citable.{none_run}
+use Rattle.replay_steps.proofs.Citable.{none_run}
 use Rattle.replay_lines.proofs.Endings.{ends_at_once}
 use Rattle.replay_lines.proofs.ReadingOn.{none_within}
 use Rattle.replay_lines.proofs.LineSteps.{running_none, bound_none, running_more, running_ends}

@@ -1,10 +1,10 @@
 use Rattle.std.proofs.Common.{refl, sym, ◌∙◌, ap, subst}
 use Rattle.std.specs.Prelude.{IsSome}
-use Rattle.delegator_states.specs.Controls.{control_heard as answer_to}
-use Rattle.delegator_states.specs.Sights.{Sight, slot_of}
-use Rattle.delegator_states.specs.States.{control_heard}
-use Rattle.scan_delegator.proofs.Wanting.{on_any_err}
-use Rattle.scan_delegator.specs.State.Machines.{Machine, machine}
+use Rattle.delegator_history.specs.Controls.{control_heard as answer_to}
+use Rattle.delegator_history.specs.Sights.{Sight, slot_of}
+use Rattle.delegator_history.specs.States.{control_heard}
+use Rattle.delegator_control.proofs.Wanting.{on_any_err}
+use Rattle.delegator_control.specs.State.Machines.{Machine, machine}
 use Rattle.delegator_machine.specs.Calls.{steps_of}
 use Rattle.delegator_machine.specs.State.Halves.{Halves, StandsFor}
 use Rattle.delegator_machine.proofs.Standing.{sight_is, stands_settled}

@@ -1,9 +1,9 @@
 use Rattle.std.proofs.Common.{◌∙◌, sym, ap, subst}
 use Rattle.std.specs.Prelude.{IsSome}
 use Rattle.std.proofs.lemmas.Result.{IfOk-weaker, on_err_weaker}
-use Rattle.delegator_states.specs.Sights.{Sight, entry_at}
-use Rattle.delegator_states.specs.Values.{value_at}
-use Rattle.scan_delegator.specs.State.Machines.{machine}
+use Rattle.delegator_history.specs.Sights.{Sight, entry_at}
+use Rattle.delegator_history.specs.Values.{value_at}
+use Rattle.delegator_control.specs.State.Machines.{machine}
 use Rattle.delegator_machine.specs.State.Halves.{Halves, StandsFor}
 use Rattle.delegator_machine.proofs.Standing.{sight_is}
 use Rattle.delegator_machine.proofs.delegator.Delegator.read_state.Goals as goal

@@ -1,6 +1,6 @@
 use Rattle.std.proofs.Common.{refl, sym, ap, subst}
-use Rattle.delegator_states.specs.States.{written}
-use Rattle.scan_delegator.specs.State.Machines.{Machine, machine}
+use Rattle.delegator_history.specs.States.{written}
+use Rattle.delegator_control.specs.State.Machines.{Machine, machine}
 use Rattle.delegator_machine.specs.Calls.{steps_of}
 use Rattle.delegator_machine.specs.State.Halves.{Halves, StandsFor}
 use Rattle.delegator_machine.proofs.Standing.{stands_settled}

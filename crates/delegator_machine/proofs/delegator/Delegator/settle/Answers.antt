@@ -2,7 +2,7 @@ use Rattle.std.proofs.Common.{◌∙◌, sym, ap, subst}
 use Rattle.std.specs.Prelude.{◌&&◌, not, ◌∷◌, if◌then◌else◌}
 use Rattle.group_sink.specs.Calls.{leave}
 use Rattle.group_sink.specs.State.Sinks.{StandsFor as SinkStands}
-use Rattle.scan_delegator.specs.Groups.{has_group}
+use Rattle.delegator_control.specs.Groups.{has_group}
 use Rattle.delegator_machine.specs.State.Halves.{Halves}
 use Rattle.delegator_machine.proofs.delegator.Delegator.settle.Goals as goal
 

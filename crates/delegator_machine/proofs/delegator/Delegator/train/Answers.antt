@@ -1,9 +1,9 @@
 use Rattle.std.proofs.Common.{◌≡◌, ◌∙◌, option_map, sym, ap, subst}
-use Rattle.delegator_states.specs.Trains.{Train, brought_by, done_brought}
+use Rattle.delegator_history.specs.Trains.{Train, brought_by, done_brought}
 use Rattle.delegator_choices.specs.State.Brings.{brought_of, joining_by, joining_in}
-use Rattle.scan_delegator.specs.Following.{is_followed}
-use Rattle.scan_delegator.proofs.Wanting.{on_any_err}
-use Rattle.scan_delegator.specs.State.Machines.{machine, moved}
+use Rattle.delegator_control.specs.Following.{is_followed}
+use Rattle.delegator_control.proofs.Wanting.{on_any_err}
+use Rattle.delegator_control.specs.State.Machines.{machine, moved}
 use Rattle.delegator_machine.specs.Calls.{steps_of}
 use Rattle.delegator_machine.specs.Groups.{joining_brought}
 use Rattle.delegator_machine.specs.State.Halves.{Halves, StandsFor}

@@ -1,8 +1,8 @@
 use Rattle.std.proofs.Common.{◌∙◌, refl, sym, ap, subst}
-use Rattle.delegator_states.specs.States.{put_on}
-use Rattle.delegator_states.specs.Trains.{Joining}
+use Rattle.delegator_history.specs.States.{put_on}
+use Rattle.delegator_history.specs.Trains.{Joining}
 use Rattle.group_sink.specs.State.Steps.{fresh_on}
-use Rattle.scan_delegator.specs.State.Machines.{Machine, machine}
+use Rattle.delegator_control.specs.State.Machines.{Machine, machine}
 use Rattle.delegator_machine.specs.Calls.{steps_of}
 use Rattle.delegator_machine.specs.Groups.{group_calls, tuning_of}
 use Rattle.delegator_machine.specs.State.Halves.{Halves, StandsFor}

@@ -1,7 +1,7 @@
 use Rattle.std.proofs.Common.{◌≤◌, [], ◌∷◌, ◌++◌, length, refl, subst}
 use Rattle.std.specs.Prelude.{IfErr, OnOk}
-use Rattle.delegator_states.specs.Sights.{Sight}
-use Rattle.delegator_states.specs.States.{record_added}
+use Rattle.delegator_history.specs.Sights.{Sight}
+use Rattle.delegator_history.specs.States.{record_added}
 use Rattle.pacs_records.specs.Layout.{greatest_value, value}
 use Rattle.pacs_records.specs.Pushes.{RefusesPush}
 use Rattle.linked_sink.proofs.Results.{on_err, on_ok}

@@ -1,9 +1,9 @@
 use Rattle.std.proofs.Common.{refl, sym, ap, ◌∙◌, subst}
 use Rattle.std.specs.Prelude.{IsSome}
-use Rattle.delegator_states.specs.Controls.{control_heard}
-use Rattle.delegator_states.specs.Sights.{Sight, slot_of}
-use Rattle.delegator_states.specs.States.{control_heard as controlled}
-use Rattle.link_histories.specs.Calls.{stepped, steps_of}
+use Rattle.delegator_history.specs.Controls.{control_heard}
+use Rattle.delegator_history.specs.Sights.{Sight, slot_of}
+use Rattle.delegator_history.specs.States.{control_heard as controlled}
+use Rattle.link_history.specs.Calls.{stepped, steps_of}
 use Rattle.linked_sink.proofs.Stands.{steps}
 use Rattle.linked_sink.proofs.Untold.{its_sight}
 use Rattle.linked_sink.proofs.Wanting.{changed_left, changed_slot}

@@ -1,7 +1,7 @@
 use Rattle.std.proofs.Common.{refl, ap, ◌∙◌}
 use Rattle.delegator_machine.specs.Calls.{hear}
 use Rattle.group_sink.specs.Hearings.{hearing_of}
-use Rattle.link_histories.specs.Calls.{heard}
+use Rattle.link_history.specs.Calls.{heard}
 use Rattle.linked_sink.proofs.Stands.{hears}
 use Rattle.linked_sink.proofs.Untold.{its_groups}
 use Rattle.linked_sink.proofs.sink.LinkedSink.hear.Goals as goal

@@ -1,8 +1,8 @@
 use Rattle.std.proofs.Common.{refl, subst}
 use Rattle.std.specs.Prelude.{IsSome}
-use Rattle.delegator_states.specs.Sights.{Sight, slot_of}
-use Rattle.delegator_states.specs.States.{train_lost}
-use Rattle.link_histories.specs.Calls.{stepped, steps_of}
+use Rattle.delegator_history.specs.Sights.{Sight, slot_of}
+use Rattle.delegator_history.specs.States.{train_lost}
+use Rattle.link_history.specs.Calls.{stepped, steps_of}
 use Rattle.linked_sink.proofs.Results.{on_any_err, on_err}
 use Rattle.linked_sink.proofs.Stands.{steps}
 use Rattle.linked_sink.proofs.Untold.{its_sight}

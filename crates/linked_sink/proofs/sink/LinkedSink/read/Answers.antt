@@ -1,9 +1,9 @@
 use Rattle.std.proofs.Common.{ℕ, ◌≡◌, ◌<◌, [], ◌∷◌, refl, sym, ap, subst, slice_get, arith}
 use Rattle.std.specs.Prelude.{is_some, option_map}
 use Rattle.assistant_machine.specs.Calls.{read}
-use Rattle.delegator_states.specs.declared.notice.Notice.{Notice}
-use Rattle.delegator_states.specs.Values.{value}
-use Rattle.link_histories.specs.Links.{reads_waiting, state}
+use Rattle.delegator_history.specs.declared.notice.Notice.{Notice}
+use Rattle.delegator_history.specs.Values.{value}
+use Rattle.link_history.specs.Links.{reads_waiting, state}
 use Rattle.linked_sink.specs.State.Taking.{Takes}
 use Rattle.linked_sink.proofs.Calls.{Here, here, its_assistant, kept, no_read, reads_none, reads_one, slot_there, slots_there, value_read, was_read, which_read}
 use Rattle.linked_sink.proofs.Results.{on_any_err}

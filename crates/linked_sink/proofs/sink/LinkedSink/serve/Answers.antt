@@ -3,9 +3,9 @@ use Rattle.std.specs.Prelude.{IsOk, option_map}
 use Rattle.bass_operations.specs.Reading.{op_of}
 use Rattle.delegator_machine.specs.Calls.{control}
 use Rattle.delegator_machine.specs.State.Halves.{StandsFor}
-use Rattle.delegator_states.specs.States.{sight_of, written}
-use Rattle.delegator_states.specs.Writes.{reply_of}
-use Rattle.link_histories.specs.Calls.{served, steps_of}
+use Rattle.delegator_history.specs.States.{sight_of, written}
+use Rattle.delegator_history.specs.Writes.{reply_of}
+use Rattle.link_history.specs.Calls.{served, steps_of}
 use Rattle.linked_sink.proofs.Calls.{Here, first_write, here, its_assistant, kept, no_write, replied, serves, serves_none}
 use Rattle.linked_sink.proofs.Wanting.{changed_served, first_op}
 use Rattle.linked_sink.proofs.Results.{on_any_err}

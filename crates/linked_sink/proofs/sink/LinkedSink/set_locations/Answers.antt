@@ -1,5 +1,5 @@
 use Rattle.std.proofs.Common.{refl}
-use Rattle.delegator_states.specs.States.{locations_set}
+use Rattle.delegator_history.specs.States.{locations_set}
 use Rattle.linked_sink.proofs.Stands.{sets}
 use Rattle.linked_sink.proofs.sink.LinkedSink.set_locations.Goals as goal
 

@@ -1,9 +1,9 @@
 use Rattle.std.proofs.Common.{◌≡◌, subst}
 use Rattle.std.specs.Prelude.{IfOk, IsSome}
 use Rattle.delegator_machine.specs.Calls as machine
-use Rattle.delegator_states.specs.Sights.{Sight}
-use Rattle.delegator_states.specs.States.{sight_of}
-use Rattle.delegator_states.specs.Values.{state_at, value_at}
+use Rattle.delegator_history.specs.Sights.{Sight}
+use Rattle.delegator_history.specs.States.{sight_of}
+use Rattle.delegator_history.specs.Values.{state_at, value_at}
 use Rattle.linked_sink.proofs.Results.{on_err}
 use Rattle.linked_sink.proofs.Untold.{its_sight}
 use Rattle.linked_sink.proofs.Wanting.{filled_state}

@@ -2,7 +2,7 @@ use Rattle.std.proofs.Common.{refl, subst}
 use Rattle.delegator_machine.specs.Calls.{tick}
 use Rattle.group_sink.specs.Handing.{handed_at}
 use Rattle.isoal_unframed.specs.State.Windows.{HandsOver}
-use Rattle.link_histories.specs.Calls.{ticked}
+use Rattle.link_history.specs.Calls.{ticked}
 use Rattle.linked_sink.proofs.Stands.{hears}
 use Rattle.linked_sink.proofs.Untold.{its_groups}
 use Rattle.linked_sink.proofs.sink.LinkedSink.tick.Goals as goal

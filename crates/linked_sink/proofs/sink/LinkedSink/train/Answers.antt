@@ -1,9 +1,9 @@
 use Rattle.std.proofs.Common.{ℕ, List, refl, sym, ap, ◌∙◌}
-use Rattle.delegator_states.specs.Sights.{Sight}
-use Rattle.delegator_states.specs.States.{train_heard}
-use Rattle.delegator_states.specs.Trains.{Train, answer_of, brought_by}
-use Rattle.link_histories.specs.Calls.{stepped, steps_of}
-use Rattle.scan_delegator.specs.Following.{is_followed}
+use Rattle.delegator_history.specs.Sights.{Sight}
+use Rattle.delegator_history.specs.States.{train_heard}
+use Rattle.delegator_history.specs.Trains.{Train, answer_of, brought_by}
+use Rattle.link_history.specs.Calls.{stepped, steps_of}
+use Rattle.delegator_control.specs.Following.{is_followed}
 use Rattle.linked_sink.proofs.Stands.{steps}
 use Rattle.linked_sink.proofs.Untold.{its_sight}
 use Rattle.linked_sink.proofs.Wanting.{changed_followed}

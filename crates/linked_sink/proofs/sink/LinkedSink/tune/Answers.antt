@@ -1,7 +1,7 @@
 use Rattle.std.proofs.Common.{refl}
-use Rattle.delegator_states.specs.States.{put_on}
-use Rattle.delegator_states.specs.Trains.{Joining}
-use Rattle.link_histories.specs.Calls.{stepped}
+use Rattle.delegator_history.specs.States.{put_on}
+use Rattle.delegator_history.specs.Trains.{Joining}
+use Rattle.link_history.specs.Calls.{stepped}
 use Rattle.linked_sink.proofs.Stands.{steps}
 use Rattle.linked_sink.proofs.sink.LinkedSink.tune.Goals as goal
 

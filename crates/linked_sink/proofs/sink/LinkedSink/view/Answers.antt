@@ -2,7 +2,7 @@ use Rattle.std.proofs.Common.{◌≡◌, ◌<◌, ◌∙◌, Option, None, refl,
 use Rattle.std.specs.Prelude.{IfOk, IsSome, OnErr, slice_index_or}
 use Rattle.receive_state.specs.declared.state.ReceiveState.{ReceiveState}
 use Rattle.assistant_machine.specs.Views.{view_of}
-use Rattle.delegator_states.specs.Values.{value}
+use Rattle.delegator_history.specs.Values.{value}
 use Rattle.linked_sink.proofs.Calls.{Here, here, its_assistant, its_view, slots_there}
 use Rattle.linked_sink.proofs.Heard.{views_fit}
 use Rattle.linked_sink.proofs.Stands.{unchanged}

@@ -1,8 +1,8 @@
 use Rattle.std.proofs.Common.{◌≡◌, Some, refl, sym, ◌∙◌, ap, subst, length, arith}
 use Rattle.std.proofs.lemmas.Grind.{common_steps}
 use Rattle.scenario_text.specs.declared.step.Step.TheVariants.{Bis as BisStep, Inject as InjectStep, Meta as MetaStep, Subgroup as SubgroupStep, Unit as UnitStep}
-use Rattle.sink_histories.specs.Lives.{named_by}
-use Rattle.sink_steps.specs.SinkLines.{IsSinkLine}
+use Rattle.sink_history.specs.Lives.{named_by}
+use Rattle.scenario_sink.specs.SinkLines.{IsSinkLine}
 use Rattle.replay_steps.specs.Versions.{number_of}
 use Rattle.replay_steps.proofs.SinkLines.{closes_none_by, gives_none_by, nothing_handed_by}
 use Rattle.replay_steps.proofs.StepLaws.{boxes_counted, quiet_as, tells_as, meets_as}

@@ -1,4 +1,4 @@
-use Rattle.scenario_values.proofs.Citable.{all_have}
+use Rattle.scenario_words.proofs.CitableValues.{all_have}
 use Rattle.scenario_text.proofs.fitting.FittingLineTaker.take.Goals as goal
 
 pub returns : goal.returns

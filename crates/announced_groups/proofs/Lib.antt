@@ -1,7 +1,0 @@
-mod Brought
-mod Delays
-mod Infos
-mod Joinings
-mod Octets
-mod Streams
-pub mod Citable

@@ -1,3 +1,0 @@
-pub mod Announced
-pub mod Octets
-pub mod Rows

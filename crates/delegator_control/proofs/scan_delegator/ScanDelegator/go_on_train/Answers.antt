@@ -1,0 +1,23 @@
+use Rattle.std.proofs.Common.{◌≡◌, ◌<◌, ◌∙◌, ap, sym, subst, true, []}
+use Rattle.delegator_history.specs.Sights.{Sight, on_train, slot_of}
+use Rattle.delegator_history.specs.Steps.{followed}
+use Rattle.delegator_control.specs.State.Machines.{Machine, machine}
+use Rattle.delegator_control.proofs.Followed.{near_itself, same_some, stands_at, train_status, went_to}
+use Rattle.delegator_control.proofs.scan_delegator.ScanDelegator.go_on_train.Goals as goal
+
+pub returns-clause-step : goal.returns-clause-step
+returns-clause-step c =
+    let m : Machine = machine c.args.self.now in
+    let mid : Machine = machine c.note_status.new.self in
+    went_to m mid _ c.args.slot (on_train c.args.slot) c.encrypted_then-is_encrypted.result [] (followed c.args.slot c.args.encrypted)
+    (record { is_synced = true; is_encrypted = c.encrypted_then-is_encrypted.result; bits = [] })
+    c.requires.within c.requires.near (near_itself c.args.slot) c.in_ok-note_status.ensures.ok
+    (ap (λ (s : Sight). record mid { sight = s }) (c.join_train.ensures mid.sight))
+    (λ i. stands_at m.sight (on_train c.args.slot) (c.encrypted_then-is_encrypted.ensures i) [])
+    (train_status c.args.slot c.encrypted_then-is_encrypted.result)
+
+pub invariant_of-self-clause-within : goal.invariant_of-self-clause-within
+invariant_of-self-clause-within c slot is =
+    let mid : Machine = machine c.note_status.new.self in
+    let here : c.args.slot ≡ slot = same_some c.args.slot slot (sym (ap (λ (s : Sight). slot_of s.place) (c.join_train.ensures mid.sight)) ∙ is) in
+    subst (λ k. k < mid.setup.slots) here (subst (λ (a : Machine). c.args.slot < a.setup.slots) (sym c.in_ok-note_status.ensures.ok) c.requires.within)

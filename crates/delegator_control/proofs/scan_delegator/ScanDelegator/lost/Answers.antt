@@ -1,0 +1,10 @@
+use Rattle.std.proofs.Common.{refl}
+use Rattle.std.proofs.lemmas.Result.{on_ok_weaker}
+use Rattle.delegator_history.specs.States.{train_lost}
+use Rattle.delegator_control.specs.State.Machines.{machine}
+use Rattle.delegator_control.proofs.Standing.{stands_done}
+use Rattle.delegator_control.proofs.scan_delegator.ScanDelegator.lost.Goals as goal
+
+pub returns-clause-stands : goal.returns-clause-stands
+returns-clause-stands c =
+    on_ok_weaker c.go.result (λ is steps stands. stands_done (train_lost) steps (machine c.args.self.now) (machine c.go.new.self) refl refl is stands) c.go.ensures.step

@@ -1,0 +1,21 @@
+use Rattle.std.proofs.Common.{ℕ, ◌<◌, ◌∙◌, sym, subst, Option}
+use Rattle.std.specs.Prelude.{IfSome}
+use Rattle.bass_operations.specs.declared.operation.Operation.TheVariants.{Modify}
+use Rattle.delegator_history.specs.declared.replies.Cause.TheVariants as causes
+use Rattle.delegator_control.specs.State.Machines.{Machine, machine}
+use Rattle.delegator_control.proofs.Serving.{refused, modify_unknown}
+use Rattle.delegator_control.proofs.scan_delegator.ScanDelegator.modify.Goals as goal
+
+pub returns-in_default : goal.returns-in_default
+returns-in_default c =
+    let m : Machine = machine c.args.self.now in
+    refused (Modify c.args.modify) m causes.SourceUnknown c.refused.result
+    (modify_unknown m.sight c.args.modify (sym c.find_slot-found.ensures.first ∙ c.in_default.is)) c.refused.ensures
+
+pub modify_held-requires-clause-found : goal.modify_held-requires-clause-found
+modify_held-requires-clause-found c = sym c.find_slot-found.ensures.first ∙ c.in-Some.is
+
+pub modify_held-requires-clause-within : goal.modify_held-requires-clause-within
+modify_held-requires-clause-within c =
+    let m : Machine = machine c.args.self.now in
+    subst (λ (o : Option ℕ). IfSome o (λ s. s < m.setup.slots)) c.in-Some.is c.find_slot-found.ensures.within

@@ -1,0 +1,35 @@
+use Rattle.std.proofs.Common.{ℕ, ◌≡◌, ◌<◌, ◌++◌, ◌∙◌, set, ap, sym, subst, refl, Option, Some, None, true}
+use Rattle.std.specs.Prelude.{IfSome}
+use Rattle.bass_operations.specs.declared.operation.Operation.TheVariants.{Remove}
+use Rattle.delegator_history.specs.declared.replies.Cause.TheVariants as causes
+use Rattle.delegator_history.specs.Notices.{change}
+use Rattle.delegator_history.specs.Writes.{slot_with}
+use Rattle.delegator_choices.proofs.Citable.{held_slot}
+use Rattle.delegator_control.specs.State.Machines.{Machine, machine}
+use Rattle.delegator_control.proofs.Serving.{refused, remove_unknown, remove_synced, remove_accepted}
+use Rattle.delegator_control.proofs.scan_delegator.ScanDelegator.remove.Goals as goal
+
+pub returns-in_default : goal.returns-in_default
+returns-in_default c =
+    let m : Machine = machine c.args.self.now in
+    refused (Remove c.args.source_id) m causes.SourceUnknown c.refused.result
+    (remove_unknown m.sight c.args.source_id (sym c.find_slot-found.ensures.first ∙ c.in_default.is)) c.refused.ensures
+
+pub returns-then-is_on : goal.returns-then-is_on
+returns-then-is_on c =
+    let m : Machine = machine c.args.self.now in
+    let found : slot_with c.args.source_id m.sight.slots ≡ Some c.in-Some.slot = sym c.find_slot-found.ensures.first ∙ c.in-Some.is in
+    let held = held_slot c.args.source_id m.sight.slots c.in-Some.slot found in
+    refused (Remove c.args.source_id) m causes.StillSynced c.refused-then-is_on.result
+    (remove_synced m.sight c.args.source_id c.in-Some.slot held.0 true found held.1 (sym c.is_on.ensures ∙ c.if-is_on.true)) c.refused-then-is_on.ensures
+
+pub returns : goal.returns
+returns c =
+    let m : Machine = machine c.args.self.now in
+    let found : slot_with c.args.source_id m.sight.slots ≡ Some c.in-Some.slot = sym c.find_slot-found.ensures.first ∙ c.in-Some.is in
+    let held = held_slot c.args.source_id m.sight.slots c.in-Some.slot found in
+    let within : c.in-Some.slot < m.setup.slots = subst (λ (o : Option ℕ). IfSome o (λ s. s < m.setup.slots)) c.in-Some.is c.find_slot-found.ensures.within in
+    remove_accepted m _ c.args.source_id c.in-Some.slot held.0 _ _ found held.1 (sym c.is_on.ensures ∙ c.if-is_on.false) within
+    (subst (λ n. c.in-Some.slot < n) c.args.self.now.slots.ok.0 within) refl
+    (ap (λ k. set m.sight.slots k None) c.from.ensures)
+    (c.in_ok-note.ensures.ok ∙ (λ i. m.waiting ++ change c.in-Some.slot (c.in_ok-before.ensures.value i) (c.new.ensures i)))

@@ -1,0 +1,13 @@
+use Rattle.std.proofs.Common.{refl}
+use Rattle.std.proofs.lemmas.Result.{on_ok_weaker}
+use Rattle.delegator_history.specs.States.{written}
+use Rattle.delegator_control.specs.State.Machines.{machine}
+use Rattle.delegator_control.proofs.Standing.{stands_done}
+use Rattle.delegator_control.proofs.scan_delegator.ScanDelegator.serve.Goals as goal
+
+pub returns-clause-stands : goal.returns-clause-stands
+returns-clause-stands c =
+    on_ok_weaker c.serve_write.result
+    (λ is steps link stands.
+    stands_done (written link c.args.write.now) steps (machine c.args.self.now) (machine c.serve_write.new.self) refl refl is stands)
+    c.serve_write.ensures.step

@@ -1,0 +1,13 @@
+use Rattle.std.proofs.Common.{refl}
+use Rattle.delegator_history.specs.States.{contexts_set}
+use Rattle.delegator_history.specs.Steps.{opened}
+use Rattle.delegator_control.specs.State.Machines.{machine}
+use Rattle.delegator_control.proofs.Standing.{moved_setting, stands_done}
+use Rattle.delegator_control.proofs.scan_delegator.ScanDelegator.set_contexts.Goals as goal
+
+pub returns-clause-step : goal.returns-clause-step
+returns-clause-step c = moved_setting (machine c.args.self.now) (opened c.args.bits) (λ i. refl)
+
+pub returns-clause-stands : goal.returns-clause-stands
+returns-clause-stands c steps stands =
+    stands_done (contexts_set c.args.bits) steps (machine c.args.self.now) _ refl refl (moved_setting (machine c.args.self.now) (opened c.args.bits) (λ i. refl)) stands

@@ -1,0 +1,6 @@
+use Rattle.delegator_control.specs.State.Machines.{machine}
+use Rattle.delegator_control.proofs.Standing.{stands_mtu}
+use Rattle.delegator_control.proofs.scan_delegator.ScanDelegator.set_mtu.Goals as goal
+
+pub returns-clause-stands : goal.returns-clause-stands
+returns-clause-stands c steps stands = stands_mtu c.args.mtu steps (machine c.args.self.now) stands

@@ -1,0 +1,270 @@
+//! What a train brings that is heard, and how the sink follows it.
+ghost use Rattle.std.specs.Prelude.{◌≡◌, ◌≤◌, ◌<◌, ◌+◌, ◌∷◌, ◌^◌, ℕ, List, length, vec_len, is_some, false, true, Some, None, IfOk, OnOk, OnErr};
+ghost use Rattle.base_grammar.specs.Reading.{base_of, wants};
+ghost use Rattle.big_info.specs.Rows.{first_fault};
+ghost use Rattle.big_info.specs.Widths.{FitsWidths};
+ghost use Rattle.delegator_history.specs.Sights.{entry_at};
+ghost use Rattle.delegator_history.specs.States.{Step, train_heard};
+ghost use Rattle.delegator_history.specs.Steps.{wishes_at};
+ghost use Rattle.delegator_history.specs.Trains as trains;
+ghost use Rattle.delegator_history.specs.Trains.{answer_of, base_in, big_info_in, brought_by, by_base, by_big_info, by_endpoint, by_group, by_slot, by_streams, done_brought, first_candidates, heard};
+ghost use Rattle.delegator_history.specs.declared.train_heard.TrainHeard.TheVariants as answers;
+ghost use Rattle.delegator_choices.specs.State.Brings.{brought_of};
+ghost use Rattle.delegator_control.specs.Following.{has_base, is_followed};
+ghost use Rattle.delegator_control.specs.State.Brings.{train_of, IsBrought};
+ghost use Rattle.delegator_control.specs.State.Machines.{machine, moved, StandsFor};
+
+use crate::scan_delegator::ScanDelegator;
+use crate::train::{Train, base_octets, big_info_octets};
+use base_grammar::{Base, BaseFault, broadcast_id, decode_base};
+use bass_operations::Wishes;
+use bcast_base::{BisSet, Memory};
+use big_info::{BigInfo, Group, check_group_within, decode_big_info};
+use delegator_choices::{Brought, Chosen, Sought, choose, find_slot, joining_at};
+use delegator_history::TrainHeard;
+
+/// The octets of the BIGInfo of an encrypted group.
+const ENCRYPTED_BIG_INFO: usize = 57;
+
+impl ScanDelegator {
+    /// What a train brings that is heard at `now` in µs: the first answer that holds (Basic Audio Profile 1.0, sections
+    /// 3.7.2 and 6.5), and the group that the sink joins where it is OnGroup. Nothing changes before it is followed. Memory is
+    /// wanted only where what the train announces as BASE is one, so with none of the first four answers.
+    pub fn bring(
+        &self,
+        address_type: u8,
+        sid: u8,
+        ext: &[u8],
+        adv: &[u8],
+        acad: &[u8],
+        now: u64,
+    ) -> Result<Brought, Memory>
+        requires { now ≤ 2 ^ 61 }
+        ensures brought { IfOk result (λ brought. brought_of brought ≡ brought_by (machine self.now).setup (machine self.now).sight
+            (record { address_type = address_type; sid = sid; ext = ext.now; adv = adv.now; acad = acad.now; now = now })) }
+        ensures memory { OnErr result (has_base (brought_by (machine self.now).setup (machine self.now).sight
+            (record { address_type = address_type; sid = sid; ext = ext.now; adv = adv.now; acad = acad.now; now = now })) ≡ true) }
+    {
+        self.bring_train(&Train {
+            address_type,
+            sid,
+            ext,
+            adv,
+            acad,
+            heard_at: now,
+        })
+    }
+
+    /// Follows the train that brought this to the sink as it is. Memory is wanted with none of the first four answers; the sink
+    /// is then as before.
+    pub fn follow(&mut self, brought: Brought) -> Result<TrainHeard, Memory>
+        requires { IsBrought brought (machine self.old) }
+        ensures answer { IfOk result (λ heard. heard ≡ answer_of (brought_of brought)) }
+        ensures step { OnOk result (machine self.new ≡ moved (done_brought (brought_of brought)) (machine self.old)) }
+        ensures err { OnErr result (machine self.new ≡ machine self.old) }
+        ensures memory { OnErr result (is_followed (brought_of brought) ≡ true) }
+        ensures stands { OnOk result ((steps : List Step) (source : ℕ) (train : trains.Train)
+            → brought_of brought ≡ brought_by (machine self.old).setup (machine self.old).sight train
+            → StandsFor steps (machine self.old) → StandsFor (train_heard source train ∷ steps) (machine self.new)) }
+    {
+        self.follow_brought(brought)
+    }
+
+    // By the source that it is of.
+    fn bring_train(&self, train: &Train<'_>) -> Result<Brought, Memory>
+        requires { train.now.heard_at ≤ 2 ^ 61 }
+        ensures brought { IfOk result (λ brought. brought_of brought
+            ≡ brought_by (machine self.now).setup (machine self.now).sight (train_of train.now)) }
+        ensures memory { OnErr result
+            (has_base (brought_by (machine self.now).setup (machine self.now).sight (train_of train.now)) ≡ true) }
+    {
+        let Some(id) = broadcast_id(train.ext) else {
+            return Ok(Brought::Ignored(TrainHeard::NoBroadcastId));
+        };
+        let wanted = Sought::Wanted {
+            address_type: train.address_type,
+            sid: train.sid,
+            broadcast_id: id,
+        };
+        let found = find_slot(&self.slots, &wanted);
+        let Some(slot) = found else {
+            return Ok(Brought::Ignored(TrainHeard::NotWanted));
+        };
+        self.bring_wanted(slot, train)
+    }
+
+    // By the place of the sink, where the slot wants the train.
+    fn bring_wanted(&self, slot: u8, train: &Train<'_>) -> Result<Brought, Memory>
+        requires time { train.now.heard_at ≤ 2 ^ 61 }
+        requires within { slot < vec_len self.now.slots }
+        requires filled { is_some (entry_at self.now.slots.items slot) ≡ true }
+        ensures brought { IfOk result (λ brought. brought_of brought
+            ≡ by_slot (machine self.now).setup (machine self.now).sight (train_of train.now) (Some slot)) }
+        ensures memory { OnErr result (has_base (by_slot (machine self.now).setup (machine self.now).sight (train_of train.now) (Some slot))
+            ≡ true) }
+    {
+        if self.place.is_elsewhere(slot) {
+            return Ok(Brought::Ignored(TrainHeard::OtherTrain));
+        }
+        if self.place.is_on_group(slot) {
+            return Ok(Brought::Ignored(TrainHeard::AlreadyOnGroup));
+        }
+        let Some(held) = &self.slots[usize::from(slot)] else {
+            unreachable!()
+        };
+        self.bring_base(slot, held.wishes(), train)
+    }
+
+    // By the octets that are announced as BASE.
+    fn bring_base(&self, slot: u8, wishes: &Wishes, train: &Train<'_>) -> Result<Brought, Memory>
+        requires { train.now.heard_at ≤ 2 ^ 61 }
+        ensures brought { IfOk result (λ brought. brought_of brought
+            ≡ by_base (machine self.now).setup (machine self.now).sight.capability wishes.now slot (train_of train.now)
+            (base_in train.now.adv.now)) }
+        ensures memory { OnErr result
+            (has_base (by_base (machine self.now).setup (machine self.now).sight.capability wishes.now slot (train_of train.now)
+            (base_in train.now.adv.now)) ≡ true) }
+    {
+        let Some(octets) = base_octets(train.adv) else {
+            return Ok(heard_so(slot, TrainHeard::NoBase, None));
+        };
+        match decode_base(self.alloc, octets) {
+            Ok(base) => self.bring_big_info(slot, wishes, train, &base),
+            Err(fault) => bad_base(slot, fault),
+        }
+    }
+
+    // By the octets that are announced as BIGInfo.
+    fn bring_big_info(
+        &self,
+        slot: u8,
+        wishes: &Wishes,
+        train: &Train<'_>,
+        base: &Base,
+    ) -> Result<Brought, Memory>
+        requires { train.now.heard_at ≤ 2 ^ 61 }
+        ensures { IfOk result (λ brought. brought_of brought
+            ≡ by_big_info (machine self.now).setup (machine self.now).sight.capability wishes.now slot (train_of train.now) base.now
+            (big_info_in train.now.acad.now)) }
+    {
+        let Some(octets) = big_info_octets(train.acad) else {
+            return Ok(heard_so(slot, TrainHeard::NoBigInfo, None));
+        };
+        match decode_big_info(octets) {
+            Err(_) => Ok(heard_so(slot, TrainHeard::BadBigInfo, None)),
+            Ok(info) => {
+                let encrypted = octets.len() == ENCRYPTED_BIG_INFO;
+                self.bring_info(slot, wishes, train, base, &info, encrypted)
+            }
+        }
+    }
+
+    // By the check of the group.
+    fn bring_info(
+        &self,
+        slot: u8,
+        wishes: &Wishes,
+        train: &Train<'_>,
+        base: &Base,
+        info: &BigInfo,
+        encrypted: bool,
+    ) -> Result<Brought, Memory>
+        requires time { train.now.heard_at ≤ 2 ^ 61 }
+        requires widths { FitsWidths info.now }
+        ensures { IfOk result (λ brought. brought_of brought
+            ≡ by_group (machine self.now).setup (machine self.now).sight.capability wishes.now slot
+            (train_of train.now) base.now info.now encrypted (first_fault self.now.limits.horizon info.now)) }
+    {
+        match check_group_within(info, self.limits) {
+            Err(fault) => Ok(heard_so(slot, TrainHeard::BadGroup(fault), Some(encrypted))),
+            Ok(group) => self.bring_group(slot, wishes, train, base, &group, encrypted),
+        }
+    }
+
+    // By the candidates.
+    fn bring_group(
+        &self,
+        slot: u8,
+        wishes: &Wishes,
+        train: &Train<'_>,
+        base: &Base,
+        group: &Group,
+        encrypted: bool,
+    ) -> Result<Brought, Memory>
+        requires { train.now.heard_at ≤ 2 ^ 61 }
+        ensures { IfOk result (λ brought. brought_of brought
+            ≡ by_streams slot (train_of train.now) base.now group.now.info encrypted
+            (first_candidates self.now.capability base.now group.now.info.num_bis self.now.streams wishes.now base.now.subgroups)) }
+    {
+        let num_bis = group.info.num_bis;
+        let Chosen { bits, which } = choose(
+            self.alloc,
+            &self.capability,
+            base,
+            wishes,
+            num_bis,
+            self.streams,
+        )?;
+        if which == BisSet::new() {
+            return Ok(heard_so(slot, TrainHeard::NoneTaken, Some(encrypted)));
+        }
+        Ok(Brought::Taken {
+            slot,
+            bits,
+            encrypted,
+            joining: joining_at(group, which, base.delay(), train.heard_at),
+        })
+    }
+
+    // The same as a step.
+    fn follow_brought(&mut self, brought: Brought) -> Result<TrainHeard, Memory>
+        requires { IsBrought brought (machine self.old) }
+        ensures answer { IfOk result (λ heard. heard ≡ answer_of (brought_of brought)) }
+        ensures step { OnOk result (machine self.new ≡ moved (done_brought (brought_of brought)) (machine self.old)) }
+        ensures err { OnErr result (machine self.new ≡ machine self.old) }
+        ensures memory { OnErr result (is_followed (brought_of brought) ≡ true) }
+    {
+        match brought {
+            Brought::Ignored(answer) => Ok(answer),
+            Brought::Heard {
+                slot,
+                answer,
+                encrypted,
+            } => {
+                self.go_on_train(slot, encrypted)?;
+                Ok(answer)
+            }
+            Brought::Taken {
+                slot,
+                bits,
+                encrypted,
+                joining,
+            } => {
+                self.go_on_group(slot, bits, encrypted)?;
+                Ok(TrainHeard::OnGroup(joining.which))
+            }
+        }
+    }
+}
+
+/// The sink is then on the train.
+fn heard_so(slot: u8, answer: TrainHeard, encrypted: Option<bool>) -> Brought
+    ensures { brought_of result ≡ heard slot answer encrypted }
+{
+    Brought::Heard {
+        slot,
+        answer,
+        encrypted,
+    }
+}
+
+/// What octets bring that are no BASE.
+fn bad_base(slot: u8, fault: BaseFault) -> Result<Brought, Memory>
+    ensures brought { IfOk result (λ brought. (wants fault ≡ false) × (brought_of brought ≡ heard slot answers.BadBase None)) }
+    ensures memory { OnErr result (wants fault ≡ true) }
+{
+    match fault {
+        BaseFault::Memory => Err(Memory),
+        _ => Ok(heard_so(slot, TrainHeard::BadBase, None)),
+    }
+}

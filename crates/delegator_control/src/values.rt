@@ -1,0 +1,169 @@
+//! The values of slots, and the notices of their changes.
+ghost use Rattle.std.specs.Prelude.{◌≡◌, ◌<◌, ◌+◌, ◌++◌, ◌∷◌, drop, length, if◌then◌else◌, get_or, option_map, None, IfOk, IsSome, OnOk, OnErr};
+ghost use Rattle.receive_state.specs.Layout.{spelling};
+ghost use Rattle.delegator_history.specs.Notices.{change};
+ghost use Rattle.delegator_history.specs.Sights.{Sight};
+ghost use Rattle.delegator_history.specs.Steps.{placed};
+ghost use Rattle.delegator_history.specs.Values.{encryption_of, groups_from, received, value};
+ghost use Rattle.delegator_choices.specs.State.Slots.{AreSets, EntryFits};
+ghost use Rattle.delegator_control.specs.State.Places.{place_by, place_of, standing};
+ghost use Rattle.delegator_control.specs.State.Statuses.{status_at, status_seen};
+
+use crate::place::{Move, Place};
+use bass_operations::Wishes;
+use bcast_base::{Memory, Octets};
+use delegator_choices::Slot;
+use delegator_history::Notice;
+use receive_state::{Encryption, GroupState, GroupStates, ReceiveState, encode_state};
+use std::alloc::Global;
+use std::collections::VecDeque;
+
+/// How the sink stands to a slot: on its train or its group, a Broadcast_Code required, and the streams that are taken of
+/// each subgroup.
+#[derive(Clone, Copy)]
+pub(crate) struct Status<'a> {
+    pub is_synced: bool,
+    pub is_encrypted: bool,
+    pub bits: &'a [u32],
+}
+
+/// How a sink that is there stands to a slot after a change of its place.
+pub(crate) fn status_after(place: &Place, slot: u8, moves: Move) -> Status<'_>
+    ensures same { (sight : Sight) → status_seen result ≡ status_at slot
+        (placed (place_by (place_of place.now) moves) None None (standing place.now sight)) }
+    ensures sets { AreSets result.bits.now }
+{
+    let is_synced = match moves {
+        Move::Off => false,
+        _ => place.is_on(slot),
+    };
+    let bits: &[u32] = match moves {
+        Move::Stay => place.bits_on(slot),
+        _ => &[],
+    };
+    Status {
+        is_synced,
+        is_encrypted: is_synced && place.is_encrypted(),
+        bits,
+    }
+}
+
+/// The value of a slot to which the sink stands so. Memory is wanted only where the slot is filled.
+pub(crate) fn value_as(
+    alloc: Global,
+    slot: &Option<Slot>,
+    status: &Status<'_>,
+) -> Result<Octets, Memory>
+    requires { AreSets status.now.bits.now }
+    ensures value { IfOk result (λ octets. octets ≡ value (option_map (received (status_seen status.now)) slot.now)) }
+    ensures memory { OnErr result (IsSome slot.now) }
+{
+    match slot {
+        None => Ok(Octets::new(alloc)),
+        Some(filled) => value_filled(alloc, filled, status),
+    }
+}
+
+/// The value of a slot that is filled.
+pub(crate) fn value_filled(
+    alloc: Global,
+    slot: &Slot,
+    status: &Status<'_>,
+) -> Result<Octets, Memory>
+    requires { AreSets status.now.bits.now }
+    ensures { IfOk result (λ octets. octets ≡ spelling (received (status_seen status.now) slot.now)) }
+{
+    let state = state_of(alloc, slot, status)?;
+    encode_state(alloc, Some(&state))
+}
+
+/// The state of a slot that is filled.
+fn state_of(alloc: Global, slot: &Slot, status: &Status<'_>) -> Result<ReceiveState, Memory>
+    ensures same { IfOk result (λ state. state ≡ received (status_seen status.now) slot.now) }
+    ensures fits { EntryFits slot.now }
+{
+    let source = slot.source();
+    let address = source.address;
+    let broadcast_id = source.broadcast_id;
+    let groups = groups_of(alloc, slot.wishes(), status.bits)?;
+    Ok(ReceiveState {
+        source_id: source.source_id,
+        address_type: source.address_type,
+        address,
+        sid: source.sid,
+        broadcast_id,
+        pa_sync_state: sync_state(status.is_synced),
+        encryption: encryption(status.is_encrypted),
+        groups,
+    })
+}
+
+/// Synchronised, or not synchronised.
+fn sync_state(is_synced: bool) -> u8
+    ensures { result ≡ (if is_synced then 2 else 0) }
+{
+    if is_synced { 2 } else { 0 }
+}
+
+/// Code required, or not encrypted.
+fn encryption(is_encrypted: bool) -> Encryption
+    ensures { result ≡ encryption_of is_encrypted }
+{
+    if is_encrypted {
+        Encryption::CodeRequired
+    } else {
+        Encryption::None
+    }
+}
+
+/// What is received of each subgroup that is wanted.
+fn groups_of(alloc: Global, wishes: &Wishes, bits: &[u32]) -> Result<GroupStates, Memory>
+    ensures { IfOk result (λ groups. groups ≡ groups_from 0 bits.now wishes.now) }
+{
+    let mut groups = GroupStates::new(alloc);
+    'subgroups: for place in 0..wishes.count() {
+        let group = group_at(wishes, bits, place)?;
+        groups.push(group)?;
+    }
+    Ok(groups)
+}
+
+/// What is received of the subgroup at this place.
+fn group_at(wishes: &Wishes, bits: &[u32], place: usize) -> Result<GroupState, Memory>
+    requires { place < length wishes.now }
+    ensures { IfOk result (λ group. groups_from place bits.now (drop place wishes.now)
+        ≡ group ∷ groups_from (place + 1) bits.now (drop (place + 1) wishes.now)) }
+{
+    let wish = wishes.item(place);
+    let metadata = wish.metadata.copy_again()?;
+    Ok(GroupState {
+        bis_sync_state: bits_at(bits, place),
+        metadata,
+    })
+}
+
+/// The streams of the subgroup at this place; none past the end.
+fn bits_at(bits: &[u32], place: usize) -> u32
+    ensures { result ≡ get_or bits.now place 0 }
+{
+    match bits.get(place) {
+        Some(set) => *set,
+        None => 0,
+    }
+}
+
+/// Puts the notice of a slot whose value changes at the end. After want of memory nothing changed.
+pub(crate) fn note(
+    waiting: &mut VecDeque<Notice>,
+    slot: u8,
+    before: &Octets,
+    after: Octets,
+) -> Result<(), Memory>
+    ensures ok { OnOk result (waiting.new.items ≡ waiting.old.items ++ change slot before.now after) }
+    ensures err { OnErr result (waiting.new.items ≡ waiting.old.items) }
+{
+    if before.as_slice() == after.as_slice() {
+        return Ok(());
+    }
+    Ok(waiting.push_back(Notice { slot, value: after })?)
+}

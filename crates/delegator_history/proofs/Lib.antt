@@ -1,0 +1,14 @@
+mod Bits
+mod Brought
+pub mod Citable
+mod Delays
+mod GoesOn
+mod Infos
+mod Joinings
+mod Lasts
+mod Lists
+mod Octets
+mod Places
+pub mod Sets
+mod Streams
+mod Waiting

@@ -1,0 +1,142 @@
+-- The octets of a train are those of its parts, and no others.
+use Rattle.std.proofs.Common.{◌≡◌, ◌<◌, ◌+◌, ◌-◌, ◌*◌, ◌^◌, ℕ, Bool, true, false, cond, ltb, List, ◌∷◌, ◌++◌, length, take, drop, Option, Some, None, refl, sym, ap, ◌∙◌, subst, arith}
+use Rattle.std.proofs.lemmas.List.{drop_at, length-append, length-take, take-append-drop}
+use Rattle.std.proofs.lemmas.Option.{none-some, same_Some}
+use Rattle.bcast_base.specs.Numbers.{sum_from}
+use Rattle.octet_fields.specs.Spelling.{IsOctets, number}
+use Rattle.octet_fields.proofs.Citable.{IsOctets-front, IsOctets-rest, number-length, number_again, number_once}
+use Rattle.ltv_codec.specs.Layout.{structure}
+use Rattle.base_grammar.specs.Ad.{broadcast_audio_announcement}
+use Rattle.base_grammar.specs.Layout.{Endpoint, spelling}
+use Rattle.big_info.specs.declared.info.BigInfo.{BigInfo}
+use Rattle.big_info.specs.declared.info.Cipher.{Cipher}
+use Rattle.big_info.specs.Layout.{CipherIs, Spells, number_of}
+use Rattle.big_info.specs.Widths.{FitsWidths}
+use Rattle.announcement_train.specs.declared.train.Train.{Train}
+use Rattle.announcement_train.specs.Layout.{IsTrain, announced, basic_audio_announcement, info_ad, lead, service_ad}
+use Rattle.delegator_history.specs.Octets.{MayAnnounce, cipher_octets, info_octets, train_of}
+
+-- ---- a BIGInfo
+
+cipher_only : (cipher : Option Cipher) (octets : List ℕ) → CipherIs cipher octets → octets ≡ cipher_octets cipher
+cipher_only None octets is = is
+cipher_only (Some cipher) octets is = is.2
+
+info_only : (info : BigInfo) (octets : List ℕ) → IsOctets octets → Spells info 0 octets → octets ≡ info_octets info
+info_only info octets fits is =
+    let parts : octets ≡ take 33 octets ++ drop 33 octets = sym (take-append-drop 33 octets) in
+    let front : IsOctets (take 33 octets) = IsOctets-front (take 33 octets) (drop 33 octets) (subst IsOctets parts fits) in
+    let long : length (take 33 octets) ≡ 33 = omega (arith, length-take 33 octets, is.whole) in
+    parts ∙ ap (λ (os : List ℕ). os ++ drop 33 octets) (number_once 33 (number_of info 0) (take 33 octets) front long is.fields)
+    ∙ ap (λ (os : List ℕ). number 33 (number_of info 0) ++ os) (cipher_only info.cipher (drop 33 octets) is.cipher)
+
+number_small : (info : BigInfo) → FitsWidths info → number_of info 0 < 2 ^ (8 * 33)
+number_small info fits =
+    omega (
+      arith,
+      fits.big_offset,
+      fits.big_offset_units,
+      fits.iso_interval,
+      fits.num_bis,
+      fits.nse,
+      fits.bn,
+      fits.sub_interval,
+      fits.pto,
+      fits.bis_spacing,
+      fits.irc,
+      fits.max_pdu,
+      fits.seed_access_address,
+      fits.sdu_interval,
+      fits.max_sdu,
+      fits.base_crc_init,
+      fits.chm,
+      fits.phy,
+      fits.bis_payload_count,
+      fits.framing,
+    )
+
+first_is : (short : Bool) (one other : ℕ × List ℕ) → cond short None (Some one) ≡ Some other → one.0 ≡ other.0
+first_is true one other is = absurd (none-some other is)
+first_is false one other is = ap (λ (field : ℕ × List ℕ). field.0) (same_Some one other is)
+
+info_spelled : (info : BigInfo) → FitsWidths info → CipherIs info.cipher (cipher_octets info.cipher) → Spells info 0 (info_octets info)
+info_spelled info fits cipher =
+    let all : ℕ = number_of info 0 in
+    let behind : List ℕ = cipher_octets info.cipher in
+    let octets : List ℕ = number 33 all ++ behind in
+    let one : ℕ × List ℕ = (sum_from 0 (take 33 octets), drop 33 octets) in
+    let other : ℕ × List ℕ = (all, behind) in
+    let long : length (number 33 all) ≡ 33 = number-length 33 all in
+    record {
+      widths = fits;
+      rfu_width = omega arith;
+      whole = omega (arith, long, length-append (number 33 all) behind);
+      fields = sym (first_is (ltb (length octets) 33) one other (number_again 33 all behind (number_small info fits)));
+      cipher = subst (CipherIs info.cipher) (sym (drop_at (number 33 all) behind 33 long)) cipher;
+    }
+
+-- ---- the BIGInfo of an event
+
+announced_fits : (info : BigInfo) (event : ℕ) → FitsWidths info → event * info.bn < 2 ^ 39 → FitsWidths (announced info event)
+announced_fits info event fits count = record {
+  big_offset = omega arith;
+  big_offset_units = omega arith;
+  iso_interval = fits.iso_interval;
+  num_bis = fits.num_bis;
+  nse = fits.nse;
+  bn = fits.bn;
+  sub_interval = fits.sub_interval;
+  pto = fits.pto;
+  bis_spacing = fits.bis_spacing;
+  irc = fits.irc;
+  max_pdu = fits.max_pdu;
+  seed_access_address = omega arith;
+  sdu_interval = fits.sdu_interval;
+  max_sdu = fits.max_sdu;
+  base_crc_init = omega arith;
+  chm = omega arith;
+  phy = fits.phy;
+  bis_payload_count = count;
+  framing = fits.framing;
+}
+
+-- ---- the train
+
+pub train_is : (broadcast_id : List ℕ) (base : Endpoint) (info : BigInfo) (event anchor : ℕ) → MayAnnounce broadcast_id base info event anchor
+    → IsTrain broadcast_id base info event anchor (train_of broadcast_id base info event anchor)
+train_is broadcast_id base info event anchor may = record {
+  three = may.three;
+  time = omega (arith, may.late);
+  ext = refl;
+  base_octets = spelling base;
+  base_is = record { base = may.base_is; spelled = refl };
+  adv = refl;
+  info_octets = info_octets (announced info event);
+  info_is = info_spelled (announced info event) (announced_fits info event may.widths may.count) may.cipher;
+  acad = refl;
+}
+
+abbrev service : List ℕ → List ℕ
+service broadcast_id = structure (service_ad broadcast_audio_announcement broadcast_id)
+
+abbrev base_list : List ℕ → List ℕ
+base_list octets = structure (service_ad basic_audio_announcement octets)
+
+abbrev info_list : List ℕ → List ℕ
+info_list octets = structure (info_ad octets)
+
+abbrev made : (time : ℕ) → (ext adv acad : List ℕ) → Train
+made time ext adv acad = record { time = time; ext = ext; adv = adv; acad = acad }
+
+pub train_only : (broadcast_id : List ℕ) (base : Endpoint) (info : BigInfo) (event anchor : ℕ) (train : Train) → IsTrain broadcast_id base info event anchor train
+    → IsOctets train.acad → train ≡ train_of broadcast_id base info event anchor
+train_only broadcast_id base info event anchor train is fits =
+    let time : train.time ≡ anchor - lead = omega (arith, is.time) in
+    let acad : List ℕ = is.info_octets in
+    let listed : IsOctets ((1 + length acad) ∷ 0x2c ∷ acad) = subst IsOctets is.acad fits in
+    let own : IsOctets acad = IsOctets-rest 0x2c acad (IsOctets-rest (1 + length acad) (0x2c ∷ acad) listed) in
+    let info_is : acad ≡ info_octets (announced info event) = info_only (announced info event) acad own is.info_is in
+    ap (λ n. made n train.ext train.adv train.acad) time
+    ∙ ap (λ os. made (anchor - lead) os train.adv train.acad) is.ext
+    ∙ ap (λ os. made (anchor - lead) (service broadcast_id) os train.acad) (is.adv ∙ ap base_list is.base_is.spelled)
+    ∙ ap (λ os. made (anchor - lead) (service broadcast_id) (base_list (spelling base)) os) (is.acad ∙ ap info_list info_is)

@@ -1,0 +1,192 @@
+-- The place looked back for, and what goes with it, as one more step is answered.
+use Rattle.std.proofs.Common.{ℕ, ◌≡◌, Bool, true, false, List, [], ◌∷◌, Option, Some, None, refl, sym, ap, ◌∙◌}
+use Rattle.std.specs.Prelude.{◌==◌, ◌&&◌, not, unwrap_or, if◌then◌else◌}
+use Rattle.std.specs.Option.{option_or}
+use Rattle.std.proofs.lemmas.Bool.{eqb-true, eq-eqb}
+use Rattle.delegator_history.specs.LastGiven.{last_given}
+use Rattle.delegator_history.specs.Sights.{Place, Sight, idle, on_train, on_group, slot_of, is_slot, is_on, is_on_group, entry_at}
+use Rattle.delegator_history.specs.Steps.{Done, nothing, added, modified, removed, tuned, followed, joined, lost, left, recorded, located, opened}
+use Rattle.delegator_history.specs.Steps.{same_streams, wishes_at, place_left, place_given, place_after, encryption_given, encrypted_on, taken_given, taken_on, placed}
+use Rattle.delegator_history.specs.Trains.{Setup}
+use Rattle.delegator_history.specs.States.{Answered, Step, answered, done_by, sight_in, place_in, encryption_by, encrypted_in, encrypted_where, taken_in}
+
+-- ---- what is given with a place
+
+no_wanted : (a b : Bool) (slot : ℕ) → (if a then Some idle else (if b then Some (on_train slot) else None)) ≡ None → (a ≡ false) × (b ≡ false)
+no_wanted true b slot e = absurd cc
+no_wanted false true slot e = absurd cc
+no_wanted false false slot e = (refl, refl)
+
+-- no place, no encryption and no streams
+pub none_given : (sight : Sight) (done : Done) → place_given sight done ≡ None → (encryption_given done ≡ None) × (taken_given done ≡ None)
+none_given sight nothing e = (refl, refl)
+none_given sight (added slot entry) e = (refl, refl)
+none_given sight (modified slot wanted) e = (refl, refl)
+none_given sight (removed slot) e = (refl, refl)
+none_given sight tuned e = absurd cc
+none_given sight (followed slot encrypted) e = absurd cc
+none_given sight (joined slot encrypted taken) e = absurd cc
+none_given sight lost e = absurd cc
+none_given sight left e = (refl, refl)
+none_given sight (recorded entry) e = (refl, refl)
+none_given sight (located locations) e = (refl, refl)
+none_given sight (opened contexts) e = (refl, refl)
+
+-- the group of a slot comes with streams
+wanted_group : (a b c : Bool) (slot other : ℕ) → (if a then (if b then Some idle else (if c then Some (on_train slot) else None)) else None) ≡ Some (on_group (Some other)) → ⊥
+wanted_group true true c slot other e = cc
+wanted_group true false true slot other e = cc
+wanted_group true false false slot other e = cc
+wanted_group false b c slot other e = cc
+
+left_group : (place : Place) (other : ℕ) → place_left place ≡ Some (on_group (Some other)) → ⊥
+left_group idle other e = cc
+left_group (on_train slot) other e = cc
+left_group (on_group None) other e = cc
+left_group (on_group (Some slot)) other e = cc
+
+pub group_given : (sight : Sight) (done : Done) (slot : ℕ) → place_given sight done ≡ Some (on_group (Some slot)) → (taken : List ℕ) × (taken_given done ≡ Some taken)
+group_given sight nothing slot e = absurd cc
+group_given sight (added other entry) slot e = absurd cc
+group_given sight (modified other wanted) slot e =
+    absurd (wanted_group (is_on sight.place other) (wanted.pa_sync == 0) (is_on_group sight.place other && not (same_streams wanted.wishes (wishes_at (entry_at sight.slots other)))) other slot e)
+group_given sight (removed other) slot e = absurd cc
+group_given sight tuned slot e = absurd cc
+group_given sight (followed other encrypted) slot e = absurd cc
+group_given sight (joined other encrypted taken) slot e = (taken, refl)
+group_given sight lost slot e = absurd cc
+group_given sight left slot e = absurd (left_group sight.place slot e)
+group_given sight (recorded entry) slot e = absurd cc
+group_given sight (located locations) slot e = absurd cc
+group_given sight (opened contexts) slot e = absurd cc
+
+-- ---- the place
+
+or_then : {A : Type 0} (o p : Option A) (d : A) → unwrap_or (option_or o p) d ≡ unwrap_or o (unwrap_or p d)
+or_then None p d = refl
+or_then (Some x) p d = refl
+
+pub place_goes_on : (n : ℕ) (steps : List Answered) (done : Done)
+    → place_in (record { before = sight_in n steps; done = done } ∷ steps) ≡ place_after (sight_in n steps) done
+place_goes_on n steps done =
+    or_then (place_given (sight_in n steps) done) (last_given (λ step. place_given step.before step.done) steps) idle
+
+-- ---- encryption
+
+pub on_itself : (slot : ℕ) (place : Place) → slot_of place ≡ Some slot → is_on place slot ≡ true
+on_itself slot place is = ap (λ s. is_slot s slot) is ∙ eq-eqb slot slot refl
+
+choose : {A : Type 0} (b : Bool) (x y : A) → b ≡ true → (if b then x else y) ≡ x
+choose true x y e = refl
+choose false x y e = absurd cc
+
+refuse : {A : Type 0} (b : Bool) (x y : A) → b ≡ false → (if b then x else y) ≡ y
+refuse true x y e = absurd cc
+refuse false x y e = refl
+
+-- where the sink is neither on the train nor on the group of the slot none is required
+pub not_on : (setup : Setup) (steps : List Step) (slot : ℕ) → is_on (place_in (answered setup steps)) slot ≡ false → encrypted_in (answered setup steps) slot ≡ false
+unfolding answered
+not_on setup [] slot off = refl
+not_on setup (step ∷ earlier) slot off =
+    let before : Sight = sight_in setup.slots (answered setup earlier) in
+    let done : Done = done_by setup before step in
+    let off_after : is_on (place_after before done) slot ≡ false =
+    ap (λ p. is_on p slot) (sym (place_goes_on setup.slots (answered setup earlier) done)) ∙ off in
+    ap (λ o. unwrap_or (option_or o (last_given (encryption_by slot) (answered setup earlier))) false)
+    (refuse (is_on (place_after before done) slot) (encryption_given done) (Some false) off_after)
+
+-- what was found before, of a slot that the sink may have been on
+kept : (steps : List Answered) (slot : ℕ) (before : Option ℕ) (b : Bool) → is_slot before slot ≡ b
+    → (b ≡ false → encrypted_in steps slot ≡ false) → encrypted_in steps slot ≡ (b && encrypted_where steps before)
+kept steps slot None true is off = absurd cc
+kept steps slot (Some other) true is off = ap (encrypted_in steps) (sym (eqb-true other slot is))
+kept steps slot before false is off = off refl
+
+encryption_here : (n : ℕ) (steps : List Answered) (slot : ℕ) (given : Option Bool)
+    → (is_on (place_in steps) slot ≡ false → encrypted_in steps slot ≡ false)
+    → unwrap_or (option_or given (last_given (encryption_by slot) steps)) false
+    ≡ encrypted_on (Some slot) (place_in steps) given (encrypted_where steps (slot_of (place_in steps)))
+encryption_here n steps slot (Some given) off = refl
+encryption_here n steps slot None off = kept steps slot (slot_of (place_in steps)) (is_on (place_in steps) slot) refl off
+
+encryption_on : (n : ℕ) (steps : List Answered) (done : Done) (place : Place) (slot : Option ℕ) → slot_of place ≡ slot
+    → place_after (sight_in n steps) done ≡ place
+    → ((s : ℕ) → is_on (place_in steps) s ≡ false → encrypted_in steps s ≡ false)
+    → encrypted_where (record { before = sight_in n steps; done = done } ∷ steps) slot
+    ≡ encrypted_on slot (place_in steps) (encryption_given done) (encrypted_where steps (slot_of (place_in steps)))
+encryption_on n steps done place None is there off = refl
+encryption_on n steps done place (Some slot) is there off =
+    let on : is_on (place_after (sight_in n steps) done) slot ≡ true = ap (λ p. is_on p slot) there ∙ on_itself slot place is in
+    ap (λ o. unwrap_or (option_or o (last_given (encryption_by slot) steps)) false) (choose (is_on (place_after (sight_in n steps) done) slot) (encryption_given done) (Some false) on)
+    ∙ encryption_here n steps slot (encryption_given done) (off slot)
+
+-- a place that stays keeps it
+encryption_stays : (steps : List Answered) (slot : Option ℕ) (before : Place) → slot_of before ≡ slot → (old : Bool) → (slot ≡ None → old ≡ false)
+    → encrypted_on slot before None old ≡ old
+encryption_stays steps None before is old none = sym (none refl)
+encryption_stays steps (Some slot) before is old none = ap (λ b. b && old) (on_itself slot before is)
+
+where_none : (steps : List Answered) (slot : Option ℕ) → slot ≡ None → encrypted_where steps slot ≡ false
+where_none steps None e = refl
+where_none steps (Some slot) e = absurd cc
+
+pub encryption_goes_on : (n : ℕ) (steps : List Answered) (done : Done) (given : Option Place) → place_given (sight_in n steps) done ≡ given
+    → ((s : ℕ) → is_on (place_in steps) s ≡ false → encrypted_in steps s ≡ false) → (sight : Sight)
+    → sight.place ≡ place_in steps → sight.encrypted ≡ encrypted_where steps (slot_of (place_in steps))
+    → encrypted_where (record { before = sight_in n steps; done = done } ∷ steps) (slot_of (place_in (record { before = sight_in n steps; done = done } ∷ steps)))
+    ≡ (placed given (encryption_given done) (taken_given done) sight).encrypted
+encryption_goes_on n steps done None is off sight p e =
+    let P : Place = place_in steps in
+    let after : place_after (sight_in n steps) done ≡ P = ap (λ o. unwrap_or o P) is in
+    let a : Answered = record { before = sight_in n steps; done = done } in
+    ap (λ q. encrypted_where (a ∷ steps) (slot_of q)) (place_goes_on n steps done ∙ after)
+    ∙ encryption_on n steps done P (slot_of P) refl after off
+    ∙ ap (λ o. encrypted_on (slot_of P) P o (encrypted_where steps (slot_of P))) (none_given (sight_in n steps) done is).0
+    ∙ encryption_stays steps (slot_of P) P refl (encrypted_where steps (slot_of P)) (where_none steps (slot_of P))
+    ∙ sym e
+encryption_goes_on n steps done (Some place) is off sight p e =
+    let P : Place = place_in steps in
+    let after : place_after (sight_in n steps) done ≡ place = ap (λ o. unwrap_or o P) is in
+    let a : Answered = record { before = sight_in n steps; done = done } in
+    ap (λ q. encrypted_where (a ∷ steps) (slot_of q)) (place_goes_on n steps done ∙ after)
+    ∙ encryption_on n steps done place (slot_of place) refl after off
+    ∙ (λ i. encrypted_on (slot_of place) (sym p i) (encryption_given done) (sym e i))
+
+-- ---- streams
+
+taken_stays : (steps : List Answered) (a : Answered) (place : Place) → taken_given a.done ≡ None → taken_in (a ∷ steps) place ≡ taken_in steps place
+taken_stays steps a idle none = refl
+taken_stays steps a (on_train slot) none = refl
+taken_stays steps a (on_group None) none = refl
+taken_stays steps a (on_group (Some slot)) none =
+    ap (λ o. unwrap_or (option_or o (last_given (λ step. taken_given step.done) steps)) []) none
+
+taken_there : (steps : List Answered) (a : Answered) (place : Place) (old : List ℕ)
+    → ((slot : ℕ) → place ≡ on_group (Some slot) → (taken : List ℕ) × (taken_given a.done ≡ Some taken))
+    → taken_in (a ∷ steps) place ≡ taken_on place (taken_given a.done) old
+taken_there steps a idle old some = refl
+taken_there steps a (on_train slot) old some = refl
+taken_there steps a (on_group None) old some = refl
+taken_there steps a (on_group (Some slot)) old some =
+    let t = some slot refl in
+    ap (λ o. unwrap_or (option_or o (last_given (λ step. taken_given step.done) steps)) []) t.1
+    ∙ ap (λ o. unwrap_or o old) (sym t.1)
+
+pub taken_goes_on : (n : ℕ) (steps : List Answered) (done : Done) (given : Option Place) → place_given (sight_in n steps) done ≡ given → (sight : Sight)
+    → sight.taken ≡ taken_in steps (place_in steps)
+    → taken_in (record { before = sight_in n steps; done = done } ∷ steps) (place_in (record { before = sight_in n steps; done = done } ∷ steps))
+    ≡ (placed given (encryption_given done) (taken_given done) sight).taken
+taken_goes_on n steps done None is sight t =
+    let P : Place = place_in steps in
+    let a : Answered = record { before = sight_in n steps; done = done } in
+    let after : place_after (sight_in n steps) done ≡ P = ap (λ o. unwrap_or o P) is in
+    ap (taken_in (a ∷ steps)) (place_goes_on n steps done ∙ after)
+    ∙ taken_stays steps a P (none_given (sight_in n steps) done is).1
+    ∙ sym t
+taken_goes_on n steps done (Some place) is sight t =
+    let P : Place = place_in steps in
+    let a : Answered = record { before = sight_in n steps; done = done } in
+    let after : place_after (sight_in n steps) done ≡ place = ap (λ o. unwrap_or o P) is in
+    ap (taken_in (a ∷ steps)) (place_goes_on n steps done ∙ after)
+    ∙ taken_there steps a place sight.taken (λ slot on. group_given (sight_in n steps) done slot (is ∙ ap (λ p. Some p) on))

@@ -1,0 +1,28 @@
+-- A set of streams is empty exactly where no stream was put into it.
+use Rattle.std.proofs.Common.{ℕ, ◌≡◌, ◌+◌, ◌-◌, ◌<◌, ◌≤◌, ◌^◌, suc, Bool, true, false, List, [], ◌∷◌, ◌++◌, length, refl, sym, ◌∙◌, arith}
+use Rattle.std.specs.Prelude.{◌==◌, bit_or}
+use Rattle.std.specs.List.{concat}
+use Rattle.std.proofs.lemmas.Bool.{ne_eqb}
+use Rattle.std.proofs.lemmas.Nat.{le_or_l, le_or_r, pow_pos}
+use Rattle.delegator_history.specs.Trains.{are_none, set_with, sets_with}
+
+set_grows : (set : ℕ) (streams : List ℕ) → set ≤ set_with set streams
+set_grows set [] = omega arith
+set_grows set (bis ∷ streams) = omega (arith, le_or_l set (2 ^ (bis - 1)), set_grows (bit_or set (2 ^ (bis - 1))) streams)
+
+sets_grow : (set : ℕ) (lists : List (List ℕ)) → set ≤ sets_with set lists
+sets_grow set [] = omega arith
+sets_grow set (streams ∷ others) = omega (arith, set_grows set streams, sets_grow (set_with set streams) others)
+
+-- a stream that is put into it is in the set
+some_set : (bis : ℕ) (streams : List ℕ) (others : List (List ℕ)) → (sets_with 0 ((bis ∷ streams) ∷ others) == 0) ≡ false
+some_set bis streams others =
+    let one : ℕ = bit_or 0 (2 ^ (bis - 1)) in
+    let grows : 0 < sets_with (set_with one streams) others =
+    omega (arith, pow_pos (bis - 1), le_or_r 0 (2 ^ (bis - 1)), set_grows one streams, sets_grow (set_with one streams) others) in
+    ne_eqb (sets_with (set_with one streams) others) 0 (λ none. omega (arith, grows, none))
+
+pub none_set : (lists : List (List ℕ)) → are_none lists ≡ (sets_with 0 lists == 0)
+none_set [] = refl
+none_set ([] ∷ others) = none_set others
+none_set ((bis ∷ streams) ∷ others) = ne_eqb (suc (length (streams ++ concat others))) 0 (λ e. omega (arith, e)) ∙ sym (some_set bis streams others)

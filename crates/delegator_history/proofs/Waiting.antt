@@ -1,0 +1,59 @@
+-- The notices that wait go on by what each step makes of them.
+use Rattle.std.proofs.Common.{ℕ, zero, suc, ◌≡◌, ◌≢◌, ◌+◌, ◌<◌, min, List, [], ◌∷◌, ◌++◌, length, drop, refl, sym, ap, ◌∙◌, arith}
+use Rattle.std.specs.Prelude.{if◌then◌else◌}
+use Rattle.std.proofs.Math.Nat.{min-le_right}
+use Rattle.std.proofs.lemmas.Slice.Eq.{bytes_eq-Decides}
+use Rattle.std.proofs.lemmas.List.{drop-append-le}
+use Rattle.delegator_history.specs.declared.notice.Notice.{Notice}
+use Rattle.delegator_history.specs.Notices.{change, changes, notices, is_told, delivered, waiting}
+use Rattle.delegator_history.specs.Sights.{Sight}
+use Rattle.delegator_history.specs.States.{Step, sight_of}
+use Rattle.delegator_history.specs.Trains.{Setup}
+use Rattle.delegator_history.specs.Values.{value_at}
+use Rattle.delegator_history.proofs.Lists.{flat_none, flat_one}
+
+drop_nil : {A : Type 0} (n : ℕ) → drop {A = A} n [] ≡ []
+drop_nil zero = refl
+drop_nil (suc n) = refl
+
+drop_drop : {A : Type 0} (d t : ℕ) (xs : List A) → drop (d + t) xs ≡ drop t (drop d xs)
+drop_drop zero t xs = ap (λ k. drop k xs) (omega arith)
+drop_drop (suc d) t [] = drop_nil (suc d + t) ∙ sym (drop_nil t)
+drop_drop (suc d) t (x ∷ xs) =
+    let next : suc d + t ≡ suc (d + t) = omega arith in
+    ap (λ k. drop k (x ∷ xs)) next ∙ drop_drop d t xs
+
+drop_within : {A : Type 0} (k : ℕ) (xs : List A) → drop (min k (length xs)) xs ≡ drop k xs
+drop_within k [] = drop_nil (min k 0) ∙ sym (drop_nil k)
+drop_within zero (x ∷ xs) =
+    let least : min 0 (suc (length xs)) ≡ 0 = omega arith in
+    ap (λ n. drop n (x ∷ xs)) least
+drop_within (suc k) (x ∷ xs) =
+    let least : min (suc k) (suc (length xs)) ≡ suc (min k (length xs)) = omega arith in
+    ap (λ n. drop n (x ∷ xs)) least ∙ drop_within k xs
+
+pub waiting_goes_on : (setup : Setup) (step : Step) (steps : List Step)
+    → waiting setup (step ∷ steps) ≡ drop (is_told step) (waiting setup steps) ++ changes setup.slots (sight_of setup steps) (sight_of setup (step ∷ steps))
+waiting_goes_on setup step steps =
+    let all : List Notice = notices setup steps in
+    let d : ℕ = delivered setup steps in
+    let more : List Notice = changes setup.slots (sight_of setup steps) (sight_of setup (step ∷ steps)) in
+    drop-append-le (min (d + is_told step) (length all)) all more (min-le_right (d + is_told step) (length all))
+    ∙ ap (λ xs. xs ++ more) (drop_within (d + is_told step) all ∙ drop_drop d (is_told step) all)
+
+-- ---- the notices of a step
+
+pub no_change : (slot : ℕ) (before after : List ℕ) → before ≡ after → change slot before after ≡ []
+no_change slot before after same =
+    ap (λ b. if b then [] else record { slot = slot; value = after } ∷ []) ((bytes_eq-Decides before after).1 same)
+
+-- of a step that changes no value
+pub none_change : (n : ℕ) (before after : Sight) → ((i : ℕ) → value_at before i ≡ value_at after i) → changes n before after ≡ []
+none_change n before after same = flat_none (λ i. change i (value_at before i) (value_at after i)) 0 n (λ i least below. no_change i (value_at before i) (value_at after i) (same i))
+
+-- of a step that may change the value of one slot
+pub one_changes : (n slot : ℕ) (before after : Sight) → slot < n → ((i : ℕ) → i ≢ slot → value_at before i ≡ value_at after i)
+    → changes n before after ≡ change slot (value_at before slot) (value_at after slot)
+one_changes n slot before after within same =
+    flat_one (λ i. change i (value_at before i) (value_at after i)) 0 n slot (omega arith) (omega arith)
+    (λ i other. no_change i (value_at before i) (value_at after i) (same i other))

@@ -1,0 +1,12 @@
+pub mod Announced
+pub mod Controls
+pub mod LastGiven
+pub mod Notices
+pub mod Octets
+pub mod Rows
+pub mod Sights
+pub mod States
+pub mod Steps
+pub mod Trains
+pub mod Values
+pub mod Writes

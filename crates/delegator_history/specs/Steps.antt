@@ -1,0 +1,118 @@
+-- What a Scan Delegator does, step by step, and what a step makes of what it has. What a Modify Source does to the place of
+-- the sink is this project's own.
+use Rattle.std.specs.Prelude.{ℕ, ◌==◌, ◌&&◌, not, Bool, false, List, [], ◌∷◌, ◌++◌, map, Option, Some, None, unwrap_or, slice_set, if◌then◌else◌}
+use Rattle.std.specs.Str.{bytes_eq}
+use Rattle.bass_operations.specs.declared.wishes.Wish.{Wish}
+use Rattle.pacs_records.specs.declared.capability.Capability.{Capability}
+use Rattle.pacs_records.specs.declared.record.PacRecord.{PacRecord}
+use Rattle.delegator_history.specs.Sights.{Wanted, Entry, Place, idle, on_train, on_group, Sight, slot_of, is_on, is_on_group, entry_at}
+
+-- what was done by a step
+pub data Done : Type 0 where
+  nothing : Done
+  added : (slot : ℕ) (entry : Entry) → Done  -- an accepted Add Source
+  modified : (slot : ℕ) (wanted : Wanted) → Done  -- an accepted Modify Source
+  removed : (slot : ℕ) → Done  -- an accepted Remove Source
+  tuned : Done  -- put on a group of no slot
+  -- a train of the slot answered NoBase to NoneTaken; from BadGroup on with whether a Broadcast_Code is required
+  followed : (slot : ℕ) (encrypted : Option Bool) → Done
+  joined : (slot : ℕ) (encrypted : Bool) (taken : List ℕ) → Done  -- a train of the slot answered OnGroup
+  lost : Done  -- the train was lost
+  left : Done  -- a control PDU answered Left
+  recorded : (entry : PacRecord) → Done  -- a record of capabilities was added
+  located : (locations : ℕ) → Done  -- Sink Audio Locations were set
+  opened : (contexts : ℕ) → Done  -- Available Sink Contexts were set
+
+-- ---- the place
+
+-- the same streams are wanted
+abbrev pub same_streams : List Wish → List Wish → Bool
+same_streams wishes others = bytes_eq (map (λ wish. wish.bis_sync) wishes) (map (λ wish. wish.bis_sync) others)
+
+abbrev pub wishes_at : Option Entry → List Wish
+wishes_at None = []
+wishes_at (Some entry) = entry.wanted.wishes
+
+-- the place after a Modify Source of a slot whose train or group the sink is on, where it changes
+abbrev pub place_wanted : Sight → ℕ → Wanted → Option Place
+place_wanted sight slot wanted =
+    if wanted.pa_sync == 0 then Some idle
+    else (if is_on_group sight.place slot && not (same_streams wanted.wishes (wishes_at (entry_at sight.slots slot))) then Some (on_train slot) else None)
+
+-- the place after the group was left
+abbrev pub place_left : Place → Option Place
+place_left idle = None
+place_left (on_train slot) = None
+place_left (on_group None) = Some idle
+place_left (on_group (Some slot)) = Some (on_train slot)
+
+-- the place that a step gives the sink, where it gives one
+abbrev pub place_given : Sight → Done → Option Place
+place_given sight (modified slot wanted) = if is_on sight.place slot then place_wanted sight slot wanted else None
+place_given sight tuned = Some (on_group None)
+place_given sight (followed slot encrypted) = Some (on_train slot)
+place_given sight (joined slot encrypted taken) = Some (on_group (Some slot))
+place_given sight lost = Some idle
+place_given sight left = place_left sight.place
+place_given sight _ = None
+
+abbrev pub place_after : Sight → Done → Place
+place_after sight done = unwrap_or (place_given sight done) sight.place
+
+-- ---- the slots
+
+abbrev pub wanting : Wanted → Option Entry → Option Entry
+wanting wanted None = None
+wanting wanted (Some entry) = Some (record entry { wanted = wanted })
+
+abbrev pub slots_after : Done → List (Option Entry) → List (Option Entry)
+slots_after (added slot entry) slots = slice_set slots slot (Some entry)
+slots_after (modified slot wanted) slots = slice_set slots slot (wanting wanted (entry_at slots slot))
+slots_after (removed slot) slots = slice_set slots slot None
+slots_after _ slots = slots
+
+-- ---- encryption and streams, which end with the train and the group
+
+abbrev pub encryption_given : Done → Option Bool
+encryption_given (followed slot encrypted) = encrypted
+encryption_given (joined slot encrypted taken) = Some encrypted
+encryption_given _ = None
+
+-- of the slot that the sink is on now: what the step gives, or what it had where it was on this slot before
+abbrev pub encrypted_on : Option ℕ → Place → Option Bool → Bool → Bool
+encrypted_on None before given encrypted = false
+encrypted_on (Some slot) before (Some given) encrypted = given
+encrypted_on (Some slot) before None encrypted = is_on before slot && encrypted
+
+abbrev pub taken_given : Done → Option (List ℕ)
+taken_given (joined slot encrypted taken) = Some taken
+taken_given _ = None
+
+abbrev pub taken_on : Place → Option (List ℕ) → List ℕ → List ℕ
+taken_on (on_group (Some slot)) given taken = unwrap_or given taken
+taken_on _ given taken = []
+
+-- ---- the capability
+
+abbrev pub capability_after : Done → Capability → Capability
+capability_after (recorded entry) capability = record capability { entries = capability.entries ++ entry ∷ [] }
+capability_after (located locations) capability = record capability { locations = locations }
+capability_after (opened contexts) capability = record capability { contexts = contexts }
+capability_after _ capability = capability
+
+-- ---- all of it
+
+-- a place that is given changes what goes with it, to what is given with it
+abbrev pub placed : Option Place → Option Bool → Option (List ℕ) → Sight → Sight
+placed None encryption taken sight = sight
+placed (Some place) encryption taken sight = record sight {
+  place = place;
+  encrypted = encrypted_on (slot_of place) sight.place encryption sight.encrypted;
+  taken = taken_on place taken sight.taken;
+}
+
+abbrev pub after : Done → Sight → Sight
+after done sight = placed (place_given sight done) (encryption_given done) (taken_given done) (record sight {
+  slots = slots_after done sight.slots;
+  capability = capability_after done sight.capability;
+})

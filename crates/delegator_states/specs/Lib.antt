@@ -1,9 +1,0 @@
-pub mod Controls
-pub mod LastGiven
-pub mod Notices
-pub mod Sights
-pub mod States
-pub mod Steps
-pub mod Trains
-pub mod Values
-pub mod Writes

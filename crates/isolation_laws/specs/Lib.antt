@@ -1,3 +1,0 @@
-pub mod Isolation
-pub mod Only
-pub mod Rows

@@ -1,2 +1,0 @@
-mod RunLaws
-pub mod Citable

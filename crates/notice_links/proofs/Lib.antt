@@ -1,2 +1,0 @@
-mod Agreement
-mod Draining

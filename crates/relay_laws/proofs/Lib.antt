@@ -1,5 +1,0 @@
-mod Both
-mod Ending
-mod Numbered
-mod Offering
-mod Order

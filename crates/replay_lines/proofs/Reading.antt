@@ -1,0 +1,71 @@
+-- What was read of a document, and what it stands for.
+use Rattle.std.proofs.Common.{◌≡◌, ℕ, ◌+◌, ◌≤◌, cond, List, [], ◌++◌, length, ap, subst, ◌∙◌, arith, Option, Some, length-append}
+use Rattle.std.proofs.lemmas.Bool.{lt-ltb, le-ltb}
+use Rattle.std.proofs.lemmas.List.{append-nil}
+use Rattle.std.specs.Io.KnownBytes.{Consumes, IsAtEnd}
+use Rattle.bcast_io.specs.Documents.{ReadWhole, ReadPast, ReadFront, document_limit}
+use Rattle.replay_lines.proofs.Citable.{told}
+use Rattle.scenario_toml.specs.Document.{Meaning, no_toml, no_form, lines, meaning_of}
+use Rattle.replay_lines.specs.declared.cause.Cause.TheVariants.{TooLong, BadToml, BadDocument}
+use Rattle.replay_lines.specs.Documents.{DocumentIs, WholeIs}
+use Rattle.replay_lines.specs.Standing.{Standing, refused_for, stands_for, standing_by, standing_of}
+
+is_too_long : (document : List ℕ) → document_limit + 1 ≤ length document → standing_of document ≡ refused_for TooLong
+unfolding standing_of
+is_too_long document long =
+    ap (λ b. cond b (refused_for TooLong) (standing_by (meaning_of document))) (lt-ltb document_limit (length document) (omega arith))
+
+is_within : (document : List ℕ) → length document ≤ document_limit → standing_of document ≡ standing_by (meaning_of document)
+unfolding standing_of
+is_within document within =
+    ap (λ b. cond b (refused_for TooLong) (standing_by (meaning_of document))) (le-ltb document_limit (length document) within)
+
+-- a document that was read to its end
+pub whole_is : (left left' : Option (List ℕ)) (document : List ℕ) → ReadWhole left left' document
+    → DocumentIs left left' (standing_by (meaning_of document))
+whole_is left left' document read = by_meaning (meaning_of document) (is_within document read.within)
+  where
+    by_meaning : (meaning : Meaning) → standing_of document ≡ standing_by meaning → DocumentIs left left' (standing_by meaning)
+    by_meaning no_toml means = record { document = document; read = read; means = means }
+    by_meaning no_form means = record { document = document; read = read; means = means }
+    by_meaning (lines octets) means = record { document = document; read = read; means = means }
+
+module _ (left left' : Option (List ℕ)) where
+  front_of_whole : (standing : Standing) → WholeIs left left' standing → ReadFront (document_limit + 1) left left'
+  front_of_whole standing whole = record {
+    octets = whole.document;
+    consumed = whole.read.consumed;
+    least = omega (arith, whole.read.within);
+  }
+
+  -- no more was read than octet 1,048,577
+  pub front_read : (standing : Standing) → DocumentIs left left' standing → ReadFront (document_limit + 1) left left'
+  front_read (refused_for TooLong) past = record { octets = past.octets; consumed = past.consumed; least = omega (arith, past.long) }
+  front_read (refused_for BadToml) whole = front_of_whole (refused_for BadToml) whole
+  front_read (refused_for BadDocument) whole = front_of_whole (refused_for BadDocument) whole
+  front_read (stands_for text) whole = front_of_whole (stands_for text) whole
+
+-- ---- a source that tells its octets
+
+module _ (left left' : Option (List ℕ)) (document : List ℕ) (tells : left ≡ Some document) where
+  octets_of : (front : List ℕ) → Consumes left left' front → (rest : List ℕ) × (left' ≡ Some rest) × (document ≡ front ++ rest)
+  octets_of front consumed =
+      let P : Option (List ℕ) → Type 0 = λ l. Consumes l left' front in told document left' front (subst P tells consumed)
+
+  whole_told : (standing : Standing) → WholeIs left left' standing → standing_of document ≡ standing
+  whole_told standing whole =
+      let t = octets_of whole.document whole.read.consumed in
+      let none : t.0 ≡ [] = subst IsAtEnd t.1 whole.read.at_end in
+      ap standing_of (t.2 ∙ ap (λ rest. whole.document ++ rest) none ∙ append-nil whole.document) ∙ whole.means
+
+  past_told : ReadPast left left' → standing_of document ≡ refused_for TooLong
+  past_told past =
+      let t = octets_of past.octets past.consumed in
+      is_too_long document (omega (arith, past.long, ap length t.2, length-append past.octets t.0))
+
+  -- the document that it tells stands for what was read
+  pub document_told : (standing : Standing) → DocumentIs left left' standing → standing_of document ≡ standing
+  document_told (refused_for TooLong) past = past_told past
+  document_told (refused_for BadToml) whole = whole_told (refused_for BadToml) whole
+  document_told (refused_for BadDocument) whole = whole_told (refused_for BadDocument) whole
+  document_told (stands_for text) whole = whole_told (stands_for text) whole

@@ -1,0 +1,101 @@
+-- What is promised where a document wasn't read, and of the laws.
+use Rattle.std.proofs.Common.{◌≡◌, ℕ, ◌+◌, true, List, refl, Option, None, Some, Ok, inl, arith}
+use Rattle.std.specs.Io.KnownBytes.{Keeps}
+use Rattle.bcast_base.specs.Counts.{Rose}
+use Rattle.bcast_io.specs.Documents.{ReadFront, document_limit}
+use Rattle.replay_lines.specs.Promised.{Promised}
+use Rattle.replay_lines.specs.World.{World}
+use Rattle.replay_lines.specs.declared.ending.Ending.{Ending}
+use Rattle.replay_lines.specs.declared.ending.Ending.TheVariants as endings
+use Rattle.bcast_io.proofs.Citable.{AppendsFront-nothing}
+use Rattle.bcast_io.specs.TextLines.{lines_of}
+use Rattle.bcast_io.specs.Writing.{AppendsFront}
+use Rattle.scenario_history.specs.Airs.{MeetAirs}
+use Rattle.scenario_history.specs.Source.{Airs}
+use Rattle.scenario_sinks.proofs.Citable.{none_counts}
+use Rattle.replay_lines.specs.FromToml.{DocumentLaws, FromToml, Unread}
+use Rattle.replay_lines.specs.Standing.{Standing, refused_for, stands_for, transcript_over}
+
+-- the laws that are promised of every run
+pub laws_of : (old new : World) (ending : Ending) → Promised old new ending → DocumentLaws old.boxes
+laws_of old new ending p = record {
+  some_airs = p.some_airs;
+  one_transcript = one_over;
+  units_law = p.units_law;
+  order_law = p.order_law;
+  agreement_law = p.agreement_law;
+  links_law = p.links_law;
+  migration_law = p.migration_law;
+  isolation_law = p.isolation_law;
+  relay_law = p.relay_law;
+  relayed_units_law = p.relayed_units_law;
+}
+  where
+    one_over : (airs others : Airs) → MeetAirs airs → MeetAirs others → (standing : Standing)
+        → transcript_over airs old.boxes standing ≡ transcript_over others old.boxes standing
+    one_over airs others meets meet_too (refused_for cause) = refl
+    one_over airs others meets meet_too (stands_for text) = p.one_transcript airs others meets meet_too (lines_of true text)
+
+keeps_same : (kept : Option (List ℕ)) → Keeps kept kept
+keeps_same None = tt
+keeps_same (Some octets) = refl
+
+-- nothing was put
+pub nothing_put : (kept : Option (List ℕ)) (octets : List ℕ) → AppendsFront kept kept octets
+nothing_put kept octets = AppendsFront-nothing kept kept octets (keeps_same kept)
+
+-- what is outside once some of a document was read
+abbrev pub after_reads : World → Option (List ℕ) → ℕ → World
+after_reads old left reads = record { left = left; reads = reads; taken = old.taken; writes = old.writes; boxes = old.boxes }
+
+module _ (old : World) (left : Option (List ℕ)) (reads : ℕ) where
+  none_written : (most : ℕ) → ReadFront most old.left left → Unread most old (after_reads old left reads)
+  none_written most front = record { read = front; written = keeps_same old.taken; boxes = refl }
+
+  pub failed_toml : ReadFront document_limit old.left left → Rose old.reads reads → DocumentLaws old.boxes
+      → FromToml old (after_reads old left reads) (Ok endings.ReadFault)
+  failed_toml front rose laws = record {
+    done = λ is. absurd cc;
+    refused = λ line reason is. absurd cc;
+    document_refused = λ cause is. absurd cc;
+    read_fault = λ is. (rose, none_written document_limit front);
+    write_fault = λ is. absurd cc;
+    outlet_fault = λ is. absurd cc;
+    memory = λ is. absurd cc;
+    no_read_fault = λ other. absurd (other refl);
+    no_write_fault = λ other. refl;
+    no_outlet_fault = λ airs meets other. inl (λ box. refl);
+    one_outlet_fault = none_counts old.boxes old.boxes (λ box. refl);
+    boxes = λ airs meets document tells whole. absurd whole;
+    complete = λ airs meets document tells. record {
+      through_all = λ through no_read no_write none. absurd (no_read rose);
+      room = λ room is. cc;
+      no_fault = λ room no_read no_write. absurd (no_read rose);
+    };
+    reads_at_most = record { octets = front.octets; consumed = front.consumed; least = omega (arith, front.least) };
+    laws = laws;
+  }
+
+  pub wanting_toml : ReadFront (document_limit + 1) old.left left → reads ≡ old.reads → DocumentLaws old.boxes
+      → FromToml old (after_reads old left reads) (Ok endings.Memory)
+  wanting_toml front same laws = record {
+    done = λ is. absurd cc;
+    refused = λ line reason is. absurd cc;
+    document_refused = λ cause is. absurd cc;
+    read_fault = λ is. absurd cc;
+    write_fault = λ is. absurd cc;
+    outlet_fault = λ is. absurd cc;
+    memory = λ is. inl (none_written (document_limit + 1) front);
+    no_read_fault = λ other. same;
+    no_write_fault = λ other. refl;
+    no_outlet_fault = λ airs meets other. inl (λ box. refl);
+    one_outlet_fault = none_counts old.boxes old.boxes (λ box. refl);
+    boxes = λ airs meets document tells whole. absurd whole;
+    complete = λ airs meets document tells. record {
+      through_all = λ through no_read no_write none. tt;
+      room = λ room is. cc;
+      no_fault = λ room no_read no_write. tt;
+    };
+    reads_at_most = front;
+    laws = laws;
+  }

@@ -1,6 +1,0 @@
-mod Fronts
-mod Reading
-mod Unread
-mod Refusing
-mod Running
-mod Promises

@@ -1,4 +1,0 @@
-pub mod Standing
-pub mod Documents
-pub mod FromToml
-pub mod State

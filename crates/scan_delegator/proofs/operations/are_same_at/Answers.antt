@@ -1,5 +1,0 @@
-use Rattle.scan_delegator.proofs.Streams.{same_next}
-use Rattle.scan_delegator.proofs.operations.are_same_at.Goals as goal
-
-pub returns : goal.returns
-returns c = same_next c.args.wishes.now c.args.others.now c.args.place c.item-wish.result.now c.item-other.result.now c.item-wish.ensures c.item-other.ensures

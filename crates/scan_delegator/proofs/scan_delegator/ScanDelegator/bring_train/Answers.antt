@@ -1,7 +1,0 @@
-use Rattle.std.proofs.Common.{◌∙◌, sym}
-use Rattle.scan_delegator.proofs.Followed.{found_filled}
-use Rattle.scan_delegator.proofs.scan_delegator.ScanDelegator.bring_train.Goals as goal
-
-pub bring_wanted-requires-clause-filled : goal.bring_wanted-requires-clause-filled
-bring_wanted-requires-clause-filled c =
-    found_filled c.args.train.now.address_type c.args.train.now.sid c.in-Some.id c.args.self.now.slots.items c.in-Some-found.slot (sym c.find_slot-found.ensures.first ∙ c.in-Some-found.is)

@@ -1,6 +1,0 @@
-use Rattle.scan_delegator.specs.State.Machines.{machine}
-use Rattle.scan_delegator.proofs.Standing.{stands_mtu}
-use Rattle.scan_delegator.proofs.scan_delegator.ScanDelegator.set_mtu.Goals as goal
-
-pub returns-clause-stands : goal.returns-clause-stands
-returns-clause-stands c steps stands = stands_mtu c.args.mtu steps (machine c.args.self.now) stands

@@ -1,8 +1,0 @@
-use Rattle.std.proofs.Common.{sym, subst}
-use Rattle.receive_state.specs.Layout.{HasSpelling}
-use Rattle.scan_delegator.specs.State.Statuses.{status_seen}
-use Rattle.scan_delegator.proofs.Spelled.{has_octets}
-use Rattle.scan_delegator.proofs.values.value_filled.Goals as goal
-
-pub encode_state-requires : goal.encode_state-requires
-encode_state-requires c = subst HasSpelling (sym c.in_ok-state.ensures.same) (has_octets (status_seen c.args.status.now) c.args.slot.now c.requires c.in_ok-state.ensures.fits)

@@ -1,0 +1,221 @@
+-- A line that means another source, and puts the sink on no train and no group, changes nothing of the sink and of the source.
+use Rattle.std.proofs.Common.{ℕ, ◌≡◌, ◌≢◌, ◌==◌, ◌&&◌, ◌||◌, ◌∙◌, cond, not, Bool, true, false, List, [], ◌∷◌, Option, None, Some, refl}
+use Rattle.std.proofs.Common.{sym, ap}
+use Rattle.std.proofs.lemmas.Bool.{and_right, false≢true, ne_eqb}
+use Rattle.delegator_machine.specs.Groups.{joining_brought, with_leave, with_step}
+use Rattle.delegator_history.specs.States.{train_heard}
+use Rattle.delegator_history.specs.Sights.{Sight}
+use Rattle.delegator_history.specs.Trains.{Brought, Train, brought_by, heard, ignored, taken}
+use Rattle.group_sink.specs.Calls.{Call, hear, tune}
+use Rattle.link_history.specs.Calls as links
+use Rattle.delegator_control.specs.Groups.{has_group}
+use Rattle.scenario_text.specs.declared.step.Step.{Step}
+use Rattle.scenario_text.specs.declared.step.Step.TheVariants as steps
+use Rattle.scenario_history.specs.Boxes.{box_of, handed_by}
+use Rattle.scenario_history.specs.Sinks.{hear_at, heard_on_air, is_of, sink_calls, source_of, spots_of, ticked_if, tuning_of}
+use Rattle.scenario_history.specs.Source.{Airs, event_back, open_event}
+use Rattle.scenario_history.specs.Steps.{chosen_given, chosen_of, chosen_steps, is_common, is_of_source, is_source_line}
+use Rattle.scenario_history.specs.Worlds.{life, source_at}
+use Rattle.sink_history.specs.Lives.{Made, Source, given_train, lived_by, made_of, own_train, version_given}
+use Rattle.sink_history.specs.Moves.{follows, follows_by, joining_of, received_by, train_by}
+use Rattle.sink_history.specs.Output.{sight_in}
+use Rattle.scenario_laws.specs.Isolation.{is_followed, puts, units_by}
+use Rattle.scenario_laws.proofs.Isolating.Lives.{ignores}
+use Rattle.scenario_laws.proofs.Isolating.Left.{Leaves, lives_equal, lives_itself}
+use Rattle.scenario_laws.proofs.Isolating.Said.{said_elsewhere}
+use Rattle.scenario_laws.proofs.Isolating.Same.{LivesAlike}
+use Rattle.scenario_laws.proofs.Isolating.Units.{closing_none}
+
+-- ---- tests
+
+miss : {A : Type 0} (hit : Bool) (x y : A) → hit ≡ false → cond hit x y ≡ y
+miss true x y other = absurd (false≢true (sym other))
+miss false x y other = refl
+
+miss_both : {A : Type 0} (hit more : Bool) (x y : A) → (hit && more) ≡ false → cond hit (cond more x y) y ≡ y
+miss_both true more x y other = miss more x y other
+miss_both false more x y other = refl
+
+if_same : {A : Type 0} (hit : Bool) (x : A) → cond hit x x ≡ x
+if_same true x = refl
+if_same false x = refl
+
+-- ---- a source line is no common step, and neither makes nor drops a sink
+
+not_common : (step : Step) → is_source_line step ≡ true → is_common step ≡ false
+not_common (steps.Scenario version) is = absurd (false≢true is)
+not_common steps.End is = absurd (false≢true is)
+not_common _ is = refl
+
+chooses_none : (step : Step) → is_source_line step ≡ true → chosen_given step ≡ None
+chooses_none (steps.Source source) is = absurd (false≢true is)
+chooses_none _ is = refl
+
+no_version : (step : Step) → is_source_line step ≡ true → version_given step ≡ None
+no_version (steps.Scenario version) is = absurd (false≢true is)
+no_version _ is = refl
+
+made_stays : (n : ℕ) (step : Step) (made : List Step) → is_source_line step ≡ true → made_of n (step ∷ made) ≡ made_of n made
+made_stays n (steps.Sink sink streams slots mtu) made is = absurd (false≢true is)
+made_stays n (steps.Drop sink) made is = absurd (false≢true is)
+made_stays n _ made is = refl
+
+box_stays : (n : ℕ) (step : Step) (made : List Step) → is_source_line step ≡ true → box_of n (step ∷ made) ≡ box_of n made
+box_stays n (steps.Sink sink streams slots mtu) made is = absurd (false≢true is)
+box_stays n (steps.Drop sink) made is = absurd (false≢true is)
+box_stays n _ made is = refl
+
+-- ---- a train that isn't followed
+
+train_lives : (hit : Bool) (source : Source) (train : Train) (made : Option Made) (a : List links.Call)
+    → (hit && follows_by source (Some train) made a) ≡ false
+    → LivesAlike made (cond hit (links.stepped (train_heard source.number train) ∷ a) a) a
+train_lives true source train None a not = tt
+train_lives true source train (Some made) a not = ignores made.setup made.mtu source.number train a not
+train_lives false source train made a not = lives_itself made a
+
+not_joined : (brought : Brought) → follows brought ≡ false → joining_brought brought ≡ None
+not_joined (ignored answer) not = refl
+not_joined (heard slot answer encrypted) not = refl
+not_joined (taken slot bits encrypted joining) not = absurd (false≢true (sym not))
+
+not_left : (on : Bool) (calls : List Call) → with_leave on on calls ≡ calls
+not_left true calls = refl
+not_left false calls = refl
+
+train_received : (hit : Bool) (source : Source) (line : Step) (train : Train) (made : Option Made) (a a' : List links.Call)
+    (calls : List Call)
+    → train_by source line ≡ Some train → (hit && follows_by source (Some train) made a) ≡ false → LivesAlike made (cond hit a' a) a
+    → cond hit (received_by source line made a (cond hit a' a) calls) calls ≡ calls
+train_received false source line train made a a' calls is not same = refl
+train_received true source line train None a a' calls is not same = refl
+train_received true source line train (Some made) a a' calls is not same =
+    let before : Sight = sight_in made a in
+    ap (λ t. with_step (joining_of made before t) before (sight_in made a') calls) is
+    ∙ ap (λ joining. with_step joining before (sight_in made a') calls) (not_joined (brought_by made.setup before train) not)
+    ∙ ap (λ later. with_leave (has_group before.place) (has_group later.place) calls) same.sight
+    ∙ not_left (has_group before.place) calls
+
+-- ---- the life
+
+life_stays : (n : ℕ) (step : Step) (made : List Step) → is_source_line step ≡ true → puts n made step ≡ false
+    → LivesAlike (made_of n made) (life n (step ∷ made)) (life n made)
+life_stays n (steps.Tuned sink which) made is not =
+    lives_equal (made_of n made) (life n (steps.Tuned sink which ∷ made)) (life n made)
+    (miss (sink == n) (lived_by (source_at made) (steps.Tuned sink which) (made_of n made) (life n made)) (life n made) not)
+life_stays n (steps.Announce sink) made is not =
+    train_lives (sink == n) (source_at made) (own_train (source_at made)) (made_of n made) (life n made) not
+life_stays n (steps.Train sink time ext adv acad) made is not =
+    train_lives (sink == n) (source_at made) (given_train (source_at made) time ext adv acad) (made_of n made) (life n made) not
+life_stays n (steps.Hear sink back bis subevent) made is not =
+    lives_equal (made_of n made) (life n (steps.Hear sink back bis subevent ∷ made)) (life n made) (if_same (sink == n) (life n made))
+life_stays n (steps.Air sink lose) made is not =
+    lives_equal (made_of n made) (life n (steps.Air sink lose ∷ made)) (life n made) (if_same (sink == n) (life n made))
+life_stays n (steps.Inject sink back bis subevent octets) made is not =
+    lives_equal (made_of n made) (life n (steps.Inject sink back bis subevent octets ∷ made)) (life n made)
+    (if_same (sink == n) (life n made))
+life_stays n (steps.Group framing origin delay iso sdu max_sdu max_pdu num_bis bn nse irc pto sub spacing phy) made is not =
+    lives_itself (made_of n made) (life n made)
+life_stays n (steps.Ident address_type address sid broadcast_id) made is not = lives_itself (made_of n made) (life n made)
+life_stays n (steps.Subgroup codec config) made is not = lives_itself (made_of n made) (life n made)
+life_stays n (steps.Meta metadata) made is not = lives_itself (made_of n made) (life n made)
+life_stays n (steps.Bis bis config) made is not = lives_itself (made_of n made) (life n made)
+life_stays n (steps.Cipher giv gskd) made is not = lives_itself (made_of n made) (life n made)
+life_stays n (steps.Start first) made is not = lives_itself (made_of n made) (life n made)
+life_stays n (steps.Unit bis time octets) made is not = lives_itself (made_of n made) (life n made)
+life_stays n steps.Event made is not = lives_itself (made_of n made) (life n made)
+life_stays n (steps.Sniff back bis subevent) made is not = lives_itself (made_of n made) (life n made)
+life_stays n steps.Stop made is not = lives_itself (made_of n made) (life n made)
+life_stays n (steps.Terminate reason) made is not = lives_itself (made_of n made) (life n made)
+life_stays n _ made is not = absurd (false≢true is)
+
+-- ---- the source that it is of
+
+source_stays : (n : ℕ) (step : Step) (made : List Step) → is_source_line step ≡ true → puts n made step ≡ false
+    → source_of n (step ∷ made) ≡ source_of n made
+source_stays n (steps.Sink sink streams slots mtu) made is not = absurd (false≢true is)
+source_stays n (steps.Drop sink) made is not = absurd (false≢true is)
+source_stays n (steps.Tuned sink which) made is not = miss (sink == n) (Some (chosen_of made)) (source_of n made) not
+source_stays n (steps.Announce sink) made is not =
+    miss_both (sink == n) (is_followed n made (steps.Announce sink)) (Some (chosen_of made)) (source_of n made) not
+source_stays n (steps.Train sink time ext adv acad) made is not =
+    miss_both (sink == n) (is_followed n made (steps.Train sink time ext adv acad)) (Some (chosen_of made)) (source_of n made) not
+source_stays n _ made is not = refl
+
+-- ---- its receivers, where it isn't of the source that the line means
+
+close_stays : (airs : Airs) (n : ℕ) (made : List Step) → is_of (chosen_of made) (source_of n made) ≡ false
+    → ticked_if (is_of (chosen_of made) (source_of n made)) (open_event (chosen_steps made)) (sink_calls airs n made)
+    ≡ sink_calls airs n made
+close_stays airs n made apart = ap (λ its. ticked_if its (open_event (chosen_steps made)) (sink_calls airs n made)) apart
+
+calls_stay : (airs : Airs) (n : ℕ) (step : Step) (made : List Step) → is_source_line step ≡ true → puts n made step ≡ false
+    → is_of (chosen_of made) (source_of n made) ≡ false → sink_calls airs n (step ∷ made) ≡ sink_calls airs n made
+calls_stay airs n (steps.Tuned sink which) made is not apart =
+    miss (sink == n) (tune (tuning_of (chosen_steps made) which) ∷ sink_calls airs n made) (sink_calls airs n made) not
+calls_stay airs n (steps.Announce sink) made is not apart =
+    train_received (sink == n) (source_at made) (steps.Announce sink) (own_train (source_at made)) (made_of n made) (life n made)
+    (lived_by (source_at made) (steps.Announce sink) (made_of n made) (life n made)) (sink_calls airs n made) refl not
+    (life_stays n (steps.Announce sink) made is not)
+calls_stay airs n (steps.Train sink time ext adv acad) made is not apart =
+    train_received (sink == n) (source_at made) (steps.Train sink time ext adv acad) (given_train (source_at made) time ext adv acad)
+    (made_of n made) (life n made)
+    (lived_by (source_at made) (steps.Train sink time ext adv acad) (made_of n made) (life n made)) (sink_calls airs n made) refl not
+    (life_stays n (steps.Train sink time ext adv acad) made is not)
+calls_stay airs n (steps.Hear sink back bis subevent) made is not apart =
+    miss ((sink == n) && is_of (chosen_of made) (source_of n made))
+    (hear_at airs (chosen_steps made) (event_back (chosen_steps made) back)
+    (record { bis = bis; subevent = subevent }) ∷ sink_calls airs n made) (sink_calls airs n made)
+    (and_right (sink == n) (is_of (chosen_of made) (source_of n made)) apart)
+calls_stay airs n (steps.Air sink lose) made is not apart =
+    miss ((sink == n) && is_of (chosen_of made) (source_of n made))
+    (heard_on_air airs (chosen_steps made) lose (spots_of (chosen_steps made)) (sink_calls airs n made)) (sink_calls airs n made)
+    (and_right (sink == n) (is_of (chosen_of made) (source_of n made)) apart)
+calls_stay airs n (steps.Inject sink back bis subevent octets) made is not apart =
+    miss ((sink == n) && is_of (chosen_of made) (source_of n made))
+    (hear (event_back (chosen_steps made) back) bis subevent octets ∷ sink_calls airs n made)
+    (sink_calls airs n made) (and_right (sink == n) (is_of (chosen_of made) (source_of n made)) apart)
+calls_stay airs n steps.Event made is not apart = close_stays airs n made apart
+calls_stay airs n steps.Stop made is not apart = close_stays airs n made apart
+calls_stay airs n (steps.Terminate reason) made is not apart = close_stays airs n made apart
+calls_stay airs n (steps.Group framing origin delay iso sdu max_sdu max_pdu num_bis bn nse irc pto sub spacing phy) made is not apart = refl
+calls_stay airs n (steps.Ident address_type address sid broadcast_id) made is not apart = refl
+calls_stay airs n (steps.Subgroup codec config) made is not apart = refl
+calls_stay airs n (steps.Meta metadata) made is not apart = refl
+calls_stay airs n (steps.Bis bis config) made is not apart = refl
+calls_stay airs n (steps.Cipher giv gskd) made is not apart = refl
+calls_stay airs n (steps.Start first) made is not apart = refl
+calls_stay airs n (steps.Unit bis time octets) made is not apart = refl
+calls_stay airs n (steps.Sniff back bis subevent) made is not apart = refl
+calls_stay airs n _ made is not apart = absurd (false≢true is)
+
+-- ---- what it hands up
+
+units_stay : (airs : Airs) (n : ℕ) (step : Step) (made : List Step) → is_source_line step ≡ true
+    → is_of (chosen_of made) (source_of n made) ≡ false
+    → units_by n (handed_by airs made step) ≡ []
+units_stay airs n steps.Event made is apart = closing_none airs (chosen_of made) n (open_event (chosen_steps made)) made apart
+units_stay airs n steps.Stop made is apart = closing_none airs (chosen_of made) n (open_event (chosen_steps made)) made apart
+units_stay airs n (steps.Terminate reason) made is apart = closing_none airs (chosen_of made) n (open_event (chosen_steps made)) made apart
+units_stay airs n steps.End made is apart = absurd (false≢true is)
+units_stay airs n _ made is apart = refl
+
+not_own : (s : ℕ) (step : Step) (made : List Step) → is_source_line step ≡ true → chosen_of made ≢ s → is_of_source s made step ≡ false
+not_own s step made is other =
+    ap (λ common. common || (is_source_line step && (chosen_of made == s))) (not_common step is)
+    ∙ and_right (is_source_line step) (chosen_of made == s) (ne_eqb (chosen_of made) s other)
+
+pub elsewhere : (airs : Airs) (s n : ℕ) (step : Step) (made : List Step) → is_source_line step ≡ true → chosen_of made ≢ s
+    → puts n made step ≡ false
+    → is_of (chosen_of made) (source_of n made) ≡ false → Leaves airs s n step made
+elsewhere airs s n step made is other not apart = record {
+  chosen = chooses_none step is;
+  own = said_elsewhere s step made (not_own s step made is other);
+  version = no_version step is;
+  sink = made_stays n step made is;
+  lives = life_stays n step made is not;
+  source = source_stays n step made is not;
+  calls = calls_stay airs n step made is not apart;
+  boxed = box_stays n step made is;
+  units = units_stay airs n step made is apart;
+}

@@ -1,0 +1,199 @@
+-- The isolation law: by one induction over the steps, each of which is kept in both lists or left out of one.
+use Rattle.std.proofs.Common.{ℕ, ◌≡◌, ◌≢◌, ◌⊎◌, ◌==◌, ◌&&◌, ◌||◌, ◌∙◌, cond, not, Bool, true, false, List, [], ◌∷◌, ◌++◌, Option, None}
+use Rattle.std.proofs.Common.{Some, refl, sym, ap, subst, inl, inr}
+use Rattle.std.proofs.lemmas.Bool.{and_parts, eq-eqb, eqb-true, false≢true}
+use Rattle.delegator_history.specs.Values.{state_at}
+use Rattle.link_history.specs.Calls.{Call}
+use Rattle.link_history.specs.Links.{language}
+use Rattle.assistant_machine.specs.Links.{view_of, waits_of}
+use Rattle.scenario_text.specs.declared.step.Step.{Step}
+use Rattle.scenario_text.specs.declared.step.Step.TheVariants as steps
+use Rattle.unit_outlets.specs.Account.{Account}
+use Rattle.scenario_history.specs.Lines.{steps_of}
+use Rattle.scenario_history.specs.Source.{Airs}
+use Rattle.scenario_history.specs.Steps.{chosen_of, is_common, is_source_line}
+use Rattle.scenario_history.specs.Worlds.{life}
+use Rattle.sink_history.specs.Lives.{Made}
+use Rattle.scenario_laws.specs.Isolation.{IsIsolated, IsSameLife, IsolationLaw, NoOtherPuts, kept_lines, lines_by, lines_of, puts}
+use Rattle.scenario_laws.specs.Only.{chooses, is_kept, is_other, is_sink, only, sink_in}
+use Rattle.scenario_laws.proofs.Isolating.Elsewhere.{elsewhere}
+use Rattle.scenario_laws.proofs.Isolating.Kept.{Means, kept}
+use Rattle.scenario_laws.proofs.Isolating.Left.{another_sink, left_out}
+use Rattle.scenario_laws.proofs.Isolating.Lines.{replied_same}
+use Rattle.scenario_laws.proofs.Isolating.Lives.{Alike, notices_same, waiting_same}
+use Rattle.scenario_laws.proofs.Isolating.Same.{LivesAlike, Same}
+use Rattle.scenario_laws.proofs.Isolating.Printed.{lines_same}
+
+-- ---- why a step is left out
+
+by_tests : (common line chosen other its : Bool) → cond common true (cond line (chosen && not other) its) ≡ false
+    → (its ≡ false → line ≡ false → common ≡ false → other ≡ true) → (other ≡ true) ⊎ ((line ≡ true) × (chosen ≡ false))
+by_tests true line chosen other its is rest = absurd (false≢true (sym is))
+by_tests false true true true its is rest = inl refl
+by_tests false true true false its is rest = absurd (false≢true (sym is))
+by_tests false true false other its is rest = inr (refl, refl)
+by_tests false false chosen other its is rest = inl (rest is refl refl)
+
+-- a step that is neither of the whole scenario nor a source line names a sink
+names_one : (n : ℕ) (step : Step) → is_sink n (sink_in step) ≡ false → is_source_line step ≡ false
+    → (is_common step || chooses step) ≡ false → is_other n (sink_in step) ≡ true
+names_one n (steps.Scenario version) not line common = absurd (false≢true (sym common))
+names_one n (steps.Group framing origin delay iso sdu max_sdu max_pdu num_bis bn nse irc pto sub spacing phy) not line common =
+    absurd (false≢true (sym line))
+names_one n (steps.Ident address_type address sid broadcast_id) not line common = absurd (false≢true (sym line))
+names_one n (steps.Subgroup codec config) not line common = absurd (false≢true (sym line))
+names_one n (steps.Meta metadata) not line common = absurd (false≢true (sym line))
+names_one n (steps.Bis bis config) not line common = absurd (false≢true (sym line))
+names_one n (steps.Cipher giv gskd) not line common = absurd (false≢true (sym line))
+names_one n (steps.Start first) not line common = absurd (false≢true (sym line))
+names_one n (steps.Unit bis time octets) not line common = absurd (false≢true (sym line))
+names_one n steps.Event not line common = absurd (false≢true (sym line))
+names_one n (steps.Sniff back bis subevent) not line common = absurd (false≢true (sym line))
+names_one n (steps.Source source) not line common = absurd (false≢true (sym common))
+names_one n steps.Stop not line common = absurd (false≢true (sym line))
+names_one n (steps.Terminate reason) not line common = absurd (false≢true (sym line))
+names_one n steps.End not line common = absurd (false≢true (sym common))
+names_one n _ others line common = ap not others
+
+apart_from : (c s : ℕ) → (c == s) ≡ false → c ≢ s
+apart_from c s is same = false≢true (sym is ∙ eq-eqb c s same)
+
+fate : (s n : ℕ) (step : Step) (made : List Step) → is_kept s n made step ≡ false
+    → (is_other n (sink_in step) ≡ true) ⊎ ((is_source_line step ≡ true) × (chosen_of made ≢ s))
+fate s n step made is =
+    elim (by_tests (is_common step || chooses step) (is_source_line step) (chosen_of made == s) (is_other n (sink_in step))
+    (is_sink n (sink_in step)) is (names_one n step)) [
+      | inl other ↦ inl other
+      | inr elsewhere ↦ inr (elsewhere.0, apart_from (chosen_of made) s elsewhere.1)
+    ]
+
+-- ---- what a step is that is kept
+
+means_by : (common line chosen other its : Bool) → cond common true (cond line (chosen && not other) its) ≡ true
+    → (common ≡ true → line ≡ false) → line ≡ true → chosen ≡ true
+means_by true line chosen other its is common_not line_is = absurd (false≢true (sym (common_not refl) ∙ line_is))
+means_by false true chosen other its is common_not line_is = (and_parts chosen (not other) is).0
+means_by false false chosen other its is common_not line_is = absurd (false≢true line_is)
+
+no_line : (step : Step) → (is_common step || chooses step) ≡ true → is_source_line step ≡ false
+no_line (steps.Scenario version) is = refl
+no_line steps.End is = refl
+no_line (steps.Source source) is = refl
+no_line _ is = absurd (false≢true is)
+
+means : (s n : ℕ) (step : Step) (made : List Step) → is_kept s n made step ≡ true → Means s made step
+means s n step made is line =
+    eqb-true (chosen_of made) s
+    (means_by (is_common step || chooses step) (is_source_line step) (chosen_of made == s) (is_other n (sink_in step))
+    (is_sink n (sink_in step)) is (no_line step) line)
+
+true_not : (b : Bool) → not b ≡ true → b ≡ false
+true_not true is = absurd (false≢true is)
+true_not false is = refl
+
+names_by : (common line chosen other its : Bool) → cond common true (cond line (chosen && not other) its) ≡ true
+    → (common ≡ true → other ≡ false) → (its ≡ true → other ≡ false)
+    → other ≡ false
+names_by true line chosen other its is common_not its_not = common_not refl
+names_by false true chosen other its is common_not its_not = true_not other (and_parts chosen (not other) is).1
+names_by false false chosen other its is common_not its_not = its_not is
+
+names_none : (n : ℕ) (step : Step) → (is_common step || chooses step) ≡ true → is_other n (sink_in step) ≡ false
+names_none n (steps.Scenario version) is = refl
+names_none n steps.End is = refl
+names_none n (steps.Source source) is = refl
+names_none n _ is = absurd (false≢true is)
+
+names_its : (n : ℕ) (named : Option ℕ) → is_sink n named ≡ true → is_other n named ≡ false
+names_its n None is = refl
+names_its n (Some sink) is = ap not is
+
+names : (s n : ℕ) (step : Step) (made : List Step) → is_kept s n made step ≡ true → is_other n (sink_in step) ≡ false
+names s n step made is =
+    names_by (is_common step || chooses step) (is_source_line step) (chosen_of made == s) (is_other n (sink_in step))
+    (is_sink n (sink_in step)) is (names_none n step)
+    (names_its n (sink_in step))
+
+-- ---- the induction
+
+none_same : (airs : Airs) (s n : ℕ) → Same airs s n [] []
+none_same airs s n = record {
+  chosen = refl;
+  own = refl;
+  version = refl;
+  sink = refl;
+  lives = tt;
+  source = refl;
+  apart = λ t other. refl;
+  calls = refl;
+  boxed = refl;
+  units = refl;
+  took = λ box other its its'. refl;
+}
+
+same_if : (airs : Airs) (s n : ℕ) (step : Step) (made : List Step) (hit : Bool) → is_kept s n made step ≡ hit
+    → (chosen_of made ≢ s → puts n made step ≡ false)
+    → Same airs s n made (only s n made) → Same airs s n (step ∷ made) (cond hit (step ∷ only s n made) (only s n made))
+same_if airs s n step made true is puts_not same = kept airs s n step made (only s n made) (means s n step made is) same
+same_if airs s n step made false is puts_not same = elim (fate s n step made is) [
+  | inl other ↦ left_out airs s n step made (only s n made) (another_sink airs s n step made other) same
+  | inr line ↦
+      left_out airs s n step made (only s n made)
+      (elsewhere airs s n step made line.0 line.1 (puts_not line.1) (same.apart (chosen_of made) line.1)) same
+]
+
+same_of : (airs : Airs) (s n : ℕ) (made : List Step) → NoOtherPuts s n made → Same airs s n made (only s n made)
+same_of airs s n [] puts_not = none_same airs s n
+same_of airs s n (step ∷ made) puts_not =
+    same_if airs s n step made (is_kept s n made step) refl puts_not.1 (same_of airs s n made puts_not.0)
+
+-- ---- what the kept steps print
+
+append_same : (xs ys xs' ys' : List ℕ) → xs ≡ xs' → ys ≡ ys' → xs ++ ys ≡ xs' ++ ys'
+append_same xs ys xs' ys' first rest = ap (λ ls. ls ++ ys) first ∙ ap (λ ls. xs' ++ ls) rest
+
+lines_if : (airs : Airs) (s n : ℕ) (step : Step) (made : List Step) (hit : Bool) → is_kept s n made step ≡ hit
+    → Same airs s n made (only s n made)
+    → kept_lines airs s n made ≡ lines_of airs n (only s n made)
+    → cond hit (kept_lines airs s n made ++ lines_by airs n made step) (kept_lines airs s n made)
+    ≡ lines_of airs n (cond hit (step ∷ only s n made) (only s n made))
+lines_if airs s n step made true is same before =
+    append_same (kept_lines airs s n made) (lines_by airs n made step) (lines_of airs n (only s n made))
+    (lines_by airs n (only s n made) step) before
+    (lines_same airs s n step made (only s n made) (names s n step made is) (means s n step made is) same)
+lines_if airs s n step made false is same before = before
+
+lines_kept : (airs : Airs) (s n : ℕ) (made : List Step) → NoOtherPuts s n made → kept_lines airs s n made ≡ lines_of airs n (only s n made)
+lines_kept airs s n [] puts_not = refl
+lines_kept airs s n (step ∷ made) puts_not =
+    lines_if airs s n step made (is_kept s n made step) refl (same_of airs s n made puts_not.0) (lines_kept airs s n made puts_not.0)
+
+-- ---- the law
+
+same_life : (made : Made) (a b : List Call) → Alike made.setup made.mtu a b → IsSameLife made a b
+same_life made a b same = record {
+  sight = same.sight;
+  states = λ slot. ap (λ sight. state_at sight slot) same.sight;
+  joined = same.joined;
+  writes = λ link. waiting_same made.setup made.mtu link a b same;
+  replies = λ link. replied_same made link a b same;
+  notices = λ link. notices_same made.setup made.mtu link a b same;
+  reads = λ link slot. ap (waits_of (language made.mtu) slot) (same.acts link);
+  views = λ link slot. ap (view_of (language made.mtu) slot) (same.acts link);
+}
+
+pub isolated : (airs : Airs) (s n : ℕ) (made : List Step) → NoOtherPuts s n made → IsIsolated airs s n made
+isolated airs s n made puts_not =
+    let same : Same airs s n made (only s n made) = same_of airs s n made puts_not in record {
+      made = same.sink;
+      source = same.source;
+      calls = same.calls;
+      units = same.units;
+      sums = same.took;
+      lives = λ sink is. same_life sink (life n made) (life n (only s n made))
+          (subst (λ m. LivesAlike m (life n made) (life n (only s n made))) is same.lives);
+      lines = lines_kept airs s n made puts_not;
+    }
+
+pub isolation_holds : (starts : List Account) → IsolationLaw starts
+isolation_holds starts airs meet lines accepted no_relay s n puts_not = isolated airs s n (steps_of airs lines) puts_not

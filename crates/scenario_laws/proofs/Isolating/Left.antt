@@ -1,0 +1,181 @@
+-- A step that is left out changes nothing of the sink and of the source: it names another sink, or it means another source and puts
+-- the sink on no train and no group.
+use Rattle.std.proofs.Common.{ℕ, ◌≡◌, ◌==◌, ◌&&◌, ◌∙◌, cond, not, Bool, true, false, List, [], ◌∷◌, ◌++◌, Option, None, Some, is_some, refl}
+use Rattle.std.proofs.Common.{sym, ap, subst}
+use Rattle.std.specs.Option.{option_or}
+use Rattle.std.proofs.lemmas.Bool.{false≢true}
+use Rattle.std.proofs.lemmas.List.{append-nil}
+use Rattle.delegator_history.specs.LastGiven.{last_given as last_of}
+use Rattle.group_sink.specs.Calls.{Call, hear, tune}
+use Rattle.link_history.specs.Calls as links
+use Rattle.scenario_text.specs.declared.step.Step.{Step}
+use Rattle.scenario_text.specs.declared.step.Step.TheVariants as steps
+use Rattle.scenario_history.specs.Boxes.{box_of, handed_by, handed_up}
+use Rattle.scenario_history.specs.Sinks.{hear_at, heard_on_air, is_of, moved, sink_calls, source_of, spots_of, tuning_of}
+use Rattle.scenario_history.specs.Source.{Airs, event_back}
+use Rattle.scenario_history.specs.Steps.{chosen_given, chosen_of, chosen_steps, last_given, sinks_made, steps_of_source}
+use Rattle.scenario_history.specs.Worlds.{life, source_at, the_world}
+use Rattle.sink_history.specs.Lives.{Made, horizon_of, lived_at, lived_by, made_of, named_by, version_given}
+use Rattle.link_history.specs.Calls.{born}
+use Rattle.sink_history.specs.Moves.{received_by, source_by}
+use Rattle.scenario_laws.specs.Isolation.{units_by}
+use Rattle.scenario_laws.specs.Only.{is_other, sink_in}
+use Rattle.scenario_laws.proofs.Isolating.Lives.{alike_itself, alike_then}
+use Rattle.scenario_laws.proofs.Isolating.Said.{Said, said_after, said_of, said_stays}
+use Rattle.scenario_laws.proofs.Isolating.Same.{LivesAlike, Same}
+use Rattle.scenario_laws.proofs.Isolating.Sums.{left_took}
+use Rattle.scenario_laws.proofs.Isolating.Units.{units_append}
+
+-- ---- what a step leaves
+
+pub record Leaves (airs : Airs) (s n : ℕ) (step : Step) (made : List Step) : Type 0 where
+  pub chosen : chosen_given step ≡ None
+  pub own : said_of (steps_of_source s (step ∷ made)) ≡ said_of (steps_of_source s made)
+  pub version : version_given step ≡ None
+  pub sink : made_of n (step ∷ made) ≡ made_of n made
+  pub lives : LivesAlike (made_of n made) (life n (step ∷ made)) (life n made)
+  pub source : source_of n (step ∷ made) ≡ source_of n made
+  pub calls : sink_calls airs n (step ∷ made) ≡ sink_calls airs n made
+  pub boxed : box_of n (step ∷ made) ≡ box_of n made
+  pub units : units_by n (handed_by airs made step) ≡ []
+
+pub lives_itself : (made : Option Made) (a : List links.Call) → LivesAlike made a a
+lives_itself None a = tt
+lives_itself (Some made) a = alike_itself made.setup made.mtu a
+
+pub lives_equal : (made : Option Made) (a b : List links.Call) → a ≡ b → LivesAlike made a b
+lives_equal made a b is = subst (LivesAlike made a) is (lives_itself made a)
+
+lives_then : (made : Option Made) (a b c : List links.Call) → LivesAlike made a b → LivesAlike made b c → LivesAlike made a c
+lives_then None a b c first second = tt
+lives_then (Some made) a b c first second = alike_then made.setup made.mtu a b c first second
+
+pub left_out : (airs : Airs) (s n : ℕ) (step : Step) (made others : List Step) → Leaves airs s n step made → Same airs s n made others
+    → Same airs s n (step ∷ made) others
+left_out airs s n step made others leaves same = record {
+  chosen = ap (λ given. option_or given (last_given chosen_given made)) leaves.chosen ∙ same.chosen;
+  own = leaves.own ∙ same.own;
+  version = ap (λ given. option_or given (last_of version_given made)) leaves.version ∙ same.version;
+  sink = leaves.sink ∙ same.sink;
+  lives = subst (λ m. LivesAlike m (life n (step ∷ made)) (life n others)) (sym leaves.sink)
+      (lives_then (made_of n made) (life n (step ∷ made)) (life n made) (life n others) leaves.lives same.lives);
+  source = leaves.source ∙ same.source;
+  apart = λ t other. ap (is_of t) leaves.source ∙ same.apart t other;
+  calls = leaves.calls ∙ same.calls;
+  boxed = ap is_some leaves.boxed ∙ same.boxed;
+  units = units_append n (handed_up airs made) (handed_by airs made step) ∙ ap (λ us. units_by n (handed_up airs made) ++ us) leaves.units
+      ∙ append-nil (units_by n (handed_up airs made)) ∙ same.units;
+  took = left_took airs n step made others same.took leaves.units leaves.boxed;
+}
+
+-- ---- another sink is named
+
+pass : {A : Type 0} (hit : Bool) (x y : A) → not hit ≡ true → cond hit x y ≡ y
+pass true x y other = absurd (false≢true other)
+pass false x y other = refl
+
+pass_and : {A : Type 0} (hit more : Bool) (x y : A) → not hit ≡ true → cond (hit && more) x y ≡ y
+pass_and true more x y other = absurd (false≢true other)
+pass_and false more x y other = refl
+
+pub record Quiet (step : Step) : Type 0 where
+  pub chosen : chosen_given step ≡ None
+  pub version : version_given step ≡ None
+  pub says : (said : Said) → said_after step said ≡ said
+  pub hands : (airs : Airs) (made : List Step) → handed_by airs made step ≡ []
+
+-- a step that names a sink says nothing of a source
+quiet : (n : ℕ) (step : Step) → is_other n (sink_in step) ≡ true → Quiet step
+quiet n (steps.Scenario version) other = absurd (false≢true other)
+quiet n (steps.Group framing origin delay iso sdu max_sdu max_pdu num_bis bn nse irc pto sub spacing phy) other = absurd (false≢true other)
+quiet n (steps.Ident address_type address sid broadcast_id) other = absurd (false≢true other)
+quiet n (steps.Subgroup codec config) other = absurd (false≢true other)
+quiet n (steps.Meta metadata) other = absurd (false≢true other)
+quiet n (steps.Bis bis config) other = absurd (false≢true other)
+quiet n (steps.Cipher giv gskd) other = absurd (false≢true other)
+quiet n (steps.Start first) other = absurd (false≢true other)
+quiet n (steps.Unit bis time octets) other = absurd (false≢true other)
+quiet n steps.Event other = absurd (false≢true other)
+quiet n (steps.Sniff back bis subevent) other = absurd (false≢true other)
+quiet n (steps.Source source) other = absurd (false≢true other)
+quiet n steps.Stop other = absurd (false≢true other)
+quiet n (steps.Terminate reason) other = absurd (false≢true other)
+quiet n steps.End other = absurd (false≢true other)
+quiet n _ other = record { chosen = refl; version = refl; says = λ said. refl; hands = λ airs made. refl }
+
+made_other : (n : ℕ) (step : Step) (made : List Step) → is_other n (sink_in step) ≡ true → made_of n (step ∷ made) ≡ made_of n made
+made_other n (steps.Sink sink streams slots mtu) made other =
+    pass (sink == n) (Some (record { setup = record { streams = streams; slots = slots; horizon = horizon_of made }; mtu = mtu }))
+    (made_of n made) other
+made_other n (steps.Drop sink) made other = pass (sink == n) None (made_of n made) other
+made_other n _ made other = refl
+
+named_life : (n : ℕ) (named : Option ℕ) (line : Step) (made : List Step) (sink : Option Made) (calls : List links.Call)
+    → is_other n named ≡ true
+    → lived_at the_world n named line made sink calls ≡ calls
+named_life n None line made sink calls other = refl
+named_life n (Some m) line made sink calls other = pass (m == n) (lived_by (source_at made) line sink calls) calls other
+
+life_other : (n : ℕ) (step : Step) (made : List Step) → is_other n (sink_in step) ≡ true → life n (step ∷ made) ≡ life n made
+life_other n (steps.Sink sink streams slots mtu) made other = pass (sink == n) (born mtu) (life n made) other
+life_other n step made other = named_life n (named_by step) step made (made_of n made) (life n made) other
+
+source_other : (n : ℕ) (step : Step) (made : List Step) → is_other n (sink_in step) ≡ true → source_of n (step ∷ made) ≡ source_of n made
+source_other n (steps.Sink sink streams slots mtu) made other = pass (sink == n) None (source_of n made) other
+source_other n (steps.Drop sink) made other = pass (sink == n) None (source_of n made) other
+source_other n (steps.Tuned sink which) made other = pass (sink == n) (Some (chosen_of made)) (source_of n made) other
+source_other n (steps.Announce sink) made other =
+    pass (sink == n) (source_by (source_at made) (steps.Announce sink) (made_of n made) (life n made) (source_of n made))
+    (source_of n made) other
+source_other n (steps.Train sink time ext adv acad) made other =
+    pass (sink == n) (source_by (source_at made) (steps.Train sink time ext adv acad) (made_of n made) (life n made) (source_of n made))
+    (source_of n made) other
+source_other n _ made other = refl
+
+moved_other : (n : ℕ) (named : Option ℕ) (line : Step) (made : List Step) (calls : List Call) → is_other n named ≡ true
+    → moved n named line made calls ≡ calls
+moved_other n None line made calls other = refl
+moved_other n (Some m) line made calls other =
+    pass (m == n) (received_by (source_at made) line (made_of n made) (life n made) (life n (line ∷ made)) calls) calls other
+
+calls_other : (airs : Airs) (n : ℕ) (step : Step) (made : List Step) → is_other n (sink_in step) ≡ true
+    → sink_calls airs n (step ∷ made) ≡ sink_calls airs n made
+calls_other airs n (steps.Sink sink streams slots mtu) made other = pass (sink == n) [] (sink_calls airs n made) other
+calls_other airs n (steps.Drop sink) made other = pass (sink == n) [] (sink_calls airs n made) other
+calls_other airs n (steps.Tuned sink which) made other =
+    pass (sink == n) (tune (tuning_of (chosen_steps made) which) ∷ sink_calls airs n made) (sink_calls airs n made) other
+calls_other airs n (steps.Hear sink back bis subevent) made other =
+    pass_and (sink == n) (is_of (chosen_of made) (source_of n made))
+    (hear_at airs (chosen_steps made) (event_back (chosen_steps made) back)
+    (record { bis = bis; subevent = subevent }) ∷ sink_calls airs n made) (sink_calls airs n made) other
+calls_other airs n (steps.Air sink lose) made other =
+    pass_and (sink == n) (is_of (chosen_of made) (source_of n made))
+    (heard_on_air airs (chosen_steps made) lose (spots_of (chosen_steps made)) (sink_calls airs n made)) (sink_calls airs n made) other
+calls_other airs n (steps.Inject sink back bis subevent octets) made other =
+    pass_and (sink == n) (is_of (chosen_of made) (source_of n made))
+    (hear (event_back (chosen_steps made) back) bis subevent octets ∷ sink_calls airs n made)
+    (sink_calls airs n made) other
+calls_other airs n steps.Event made other = absurd (false≢true other)
+calls_other airs n steps.Stop made other = absurd (false≢true other)
+calls_other airs n (steps.Terminate reason) made other = absurd (false≢true other)
+calls_other airs n steps.End made other = absurd (false≢true other)
+calls_other airs n step made other = moved_other n (named_by step) step made (sink_calls airs n made) other
+
+box_other : (n : ℕ) (step : Step) (made : List Step) → is_other n (sink_in step) ≡ true → box_of n (step ∷ made) ≡ box_of n made
+box_other n (steps.Sink sink streams slots mtu) made other = pass (sink == n) (Some (sinks_made made)) (box_of n made) other
+box_other n (steps.Drop sink) made other = pass (sink == n) None (box_of n made) other
+box_other n _ made other = refl
+
+pub another_sink : (airs : Airs) (s n : ℕ) (step : Step) (made : List Step) → is_other n (sink_in step) ≡ true → Leaves airs s n step made
+another_sink airs s n step made other =
+    let is : Quiet step = quiet n step other in record {
+      chosen = is.chosen;
+      own = said_stays s step made is.says;
+      version = is.version;
+      sink = made_other n step made other;
+      lives = lives_equal (made_of n made) (life n (step ∷ made)) (life n made) (life_other n step made other);
+      source = source_other n step made other;
+      calls = calls_other airs n step made other;
+      boxed = box_other n step made other;
+      units = ap (units_by n) (is.hands airs made);
+    }

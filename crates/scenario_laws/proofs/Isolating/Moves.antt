@@ -1,0 +1,185 @@
+-- What a line makes of two lives of the sink that it names which come to the same: of the lives, of the receivers, and of the source
+-- that the sink is of.
+use Rattle.std.proofs.Common.{ℕ, ◌≡◌, ◌==◌, ◌∙◌, cond, Bool, true, false, List, [], ◌∷◌, Option, None, Some, refl, ap, subst}
+use Rattle.bass_operations.specs.declared.operation.Operation.TheVariants as operations
+use Rattle.bass_operations.specs.Layout.{spelling}
+use Rattle.delegator_machine.specs.Groups.{with_step}
+use Rattle.delegator_history.specs.States.{contexts_set, control_heard, locations_set, put_on, record_added, train_heard, train_lost}
+use Rattle.delegator_history.specs.Trains.{Train, brought_by}
+use Rattle.group_sink.specs.Calls as sinks
+use Rattle.link_history.specs.Calls as links
+use Rattle.link_history.specs.Calls.{Call, born}
+use Rattle.scenario_text.specs.declared.step.Step.{Step}
+use Rattle.scenario_text.specs.declared.step.Step.TheVariants as steps
+use Rattle.scenario_history.specs.Sinks.{moved}
+use Rattle.scenario_history.specs.Steps.{is_source_line}
+use Rattle.scenario_history.specs.Worlds.{life, source_at, the_world}
+use Rattle.sink_history.specs.Lives.{Made, Source, given_train, horizon_of, lived_at, lived_by, made_of, named_by, own_train, record_of}
+use Rattle.sink_history.specs.Moves.{follows, follows_by, joining_of, received_by, source_by, train_by}
+use Rattle.sink_history.specs.Output.{sight_in}
+use Rattle.scenario_laws.proofs.Isolating.Lives.{Alike, alike_itself, drains, grows}
+use Rattle.scenario_laws.proofs.Isolating.Same.{LivesAlike}
+
+-- ---- a line takes something of a source only where it is a source line
+
+-- where the line is a source line both have the same source
+abbrev pub Sourced : Step → (source source' : Source) → Type 0
+Sourced line source source' = is_source_line line ≡ true → source ≡ source'
+
+lived_sourced : (line : Step) (source source' : Source) → Sourced line source source' → (made : Option Made) (calls : List Call)
+    → lived_by source line made calls ≡ lived_by source' line made calls
+lived_sourced (steps.Tuned sink which) source source' same made calls =
+    ap (λ src. lived_by src (steps.Tuned sink which) made calls) (same refl)
+lived_sourced (steps.Announce sink) source source' same made calls = ap (λ src. lived_by src (steps.Announce sink) made calls) (same refl)
+lived_sourced (steps.Train sink time ext adv acad) source source' same made calls =
+    ap (λ src. lived_by src (steps.Train sink time ext adv acad) made calls) (same refl)
+lived_sourced _ source source' same made calls = refl
+
+train_sourced : (line : Step) (source source' : Source) → Sourced line source source' → train_by source line ≡ train_by source' line
+train_sourced (steps.Announce sink) source source' same = ap (λ src. train_by src (steps.Announce sink)) (same refl)
+train_sourced (steps.Train sink time ext adv acad) source source' same =
+    ap (λ src. train_by src (steps.Train sink time ext adv acad)) (same refl)
+train_sourced _ source source' same = refl
+
+-- ---- the lives
+
+lived_some : (source : Source) (line : Step) (made : Made) (a b : List Call) → Alike made.setup made.mtu a b
+    → Alike made.setup made.mtu (lived_by source line (Some made) a) (lived_by source line (Some made) b)
+lived_some source (steps.Drop sink) made a b same = alike_itself made.setup made.mtu []
+lived_some source (steps.Pac sink codec caps metadata) made a b same =
+    grows made.setup made.mtu (links.stepped (record_added (record_of codec caps metadata))) a b same
+lived_some source (steps.Locate sink bits) made a b same = grows made.setup made.mtu (links.stepped (locations_set bits)) a b same
+lived_some source (steps.Context sink sink_bits source_bits) made a b same =
+    grows made.setup made.mtu (links.stepped (contexts_set sink_bits)) a b same
+lived_some source (steps.Tuned sink which) made a b same =
+    grows made.setup made.mtu (links.stepped (put_on source.number (source.joining which))) a b same
+lived_some source (steps.Announce sink) made a b same =
+    grows made.setup made.mtu (links.stepped (train_heard source.number (own_train source))) a b same
+lived_some source (steps.Train sink time ext adv acad) made a b same =
+    grows made.setup made.mtu (links.stepped (train_heard source.number (given_train source time ext adv acad))) a b same
+lived_some source (steps.Lose sink) made a b same = grows made.setup made.mtu (links.stepped train_lost) a b same
+lived_some source (steps.Control sink octets) made a b same = grows made.setup made.mtu (links.stepped (control_heard octets)) a b same
+lived_some source (steps.Write sink octets) made a b same = grows made.setup made.mtu (links.asked 0 octets) a b same
+lived_some source (steps.Add sink op) made a b same = grows made.setup made.mtu (links.asked 0 (spelling (operations.Add op))) a b same
+lived_some source (steps.Modify sink op) made a b same =
+    grows made.setup made.mtu (links.asked 0 (spelling (operations.Modify op))) a b same
+lived_some source (steps.Remove sink source_id) made a b same =
+    grows made.setup made.mtu (links.asked 0 (spelling (operations.Remove source_id))) a b same
+lived_some source (steps.Code sink source_id code) made a b same =
+    grows made.setup made.mtu (links.asked 0 (spelling (operations.Code source_id code))) a b same
+lived_some source (steps.Serve sink) made a b same = grows made.setup made.mtu (links.served 0) a b same
+lived_some source (steps.Tell sink) made a b same = grows made.setup made.mtu (links.told 0) a b same
+lived_some source (steps.Read sink) made a b same = grows made.setup made.mtu (links.read 0) a b same
+lived_some source (steps.Drain sink) made a b same = drains made.setup made.mtu 0 a b same
+lived_some source (steps.Forge sink slot octets) made a b same = grows made.setup made.mtu (links.forged slot octets) a b same
+lived_some source (steps.Assist sink link) made a b same = grows made.setup made.mtu (links.joined link) a b same
+lived_some source (steps.Apart sink link) made a b same = grows made.setup made.mtu (links.parted link) a b same
+lived_some source (steps.AWrite sink link octets) made a b same = grows made.setup made.mtu (links.asked link octets) a b same
+lived_some source (steps.AServe sink link) made a b same = grows made.setup made.mtu (links.served link) a b same
+lived_some source (steps.ATell sink link) made a b same = grows made.setup made.mtu (links.told link) a b same
+lived_some source (steps.ARead sink link) made a b same = grows made.setup made.mtu (links.read link) a b same
+lived_some source (steps.ADrain sink link) made a b same = drains made.setup made.mtu link a b same
+lived_some source _ made a b same = same
+
+pub lives_grow : (line : Step) (source source' : Source) → Sourced line source source' → (made : Option Made) (a b : List Call)
+    → LivesAlike made a b
+    → LivesAlike made (lived_by source line made a) (lived_by source' line made b)
+lives_grow line source source' sourced None a b same = tt
+lives_grow line source source' sourced (Some made) a b same =
+    subst (λ calls. Alike made.setup made.mtu (lived_by source line (Some made) a) calls)
+    (lived_sourced line source source' sourced (Some made) b)
+    (lived_some source line made a b same)
+
+lives_if : (hit : Bool) (made : Option Made) (a b a' b' : List Call) → LivesAlike made a b → LivesAlike made a' b'
+    → LivesAlike made (cond hit a' a) (cond hit b' b)
+lives_if true made a b a' b' before later = later
+lives_if false made a b a' b' before later = before
+
+named_lives : (n : ℕ) (named : Option ℕ) (line : Step) (earlier others : List Step) (made : Option Made) (a b : List Call)
+    → Sourced line (source_at earlier) (source_at others) → LivesAlike made a b
+    → LivesAlike made (lived_at the_world n named line earlier made a) (lived_at the_world n named line others made b)
+named_lives n None line earlier others made a b sourced same = same
+named_lives n (Some sink) line earlier others made a b sourced same =
+    lives_if (sink == n) made a b (lived_by (source_at earlier) line made a) (lived_by (source_at others) line made b) same
+    (lives_grow line (source_at earlier) (source_at others) sourced made a b same)
+
+born_lives : (hit : Bool) (new : Made) (mtu : Option ℕ) (made : Option Made) (a b : List Call) → LivesAlike made a b
+    → LivesAlike (cond hit (Some new) made) (cond hit (born mtu) a) (cond hit (born mtu) b)
+born_lives true new mtu made a b same = alike_itself new.setup new.mtu (born mtu)
+born_lives false new mtu made a b same = same
+
+gone_lives : (hit : Bool) (made : Option Made) (a b : List Call) → LivesAlike made a b
+    → LivesAlike (cond hit None made) (cond hit [] a) (cond hit [] b)
+gone_lives true made a b same = tt
+gone_lives false made a b same = same
+
+-- over two lists of steps
+pub life_grows : (n : ℕ) (step : Step) (earlier others : List Step) → Sourced step (source_at earlier) (source_at others)
+    → made_of n earlier ≡ made_of n others → LivesAlike (made_of n earlier) (life n earlier) (life n others)
+    → LivesAlike (made_of n (step ∷ earlier)) (life n (step ∷ earlier)) (life n (step ∷ others))
+life_grows n (steps.Sink sink streams slots mtu) earlier others sourced sink_same same =
+    born_lives (sink == n) (record { setup = record { streams = streams; slots = slots; horizon = horizon_of earlier }; mtu = mtu }) mtu
+    (made_of n earlier) (life n earlier) (life n others) same
+life_grows n (steps.Drop sink) earlier others sourced sink_same same =
+    gone_lives (sink == n) (made_of n earlier) (life n earlier) (life n others) same
+life_grows n step earlier others sourced sink_same same =
+    subst (λ made. LivesAlike (made_of n earlier) (lived_at the_world n (named_by step) step earlier (made_of n earlier) (life n earlier))
+    (lived_at the_world n (named_by step) step others made (life n others))) sink_same
+    (named_lives n (named_by step) step earlier others (made_of n earlier) (life n earlier) (life n others) sourced same)
+
+-- ---- the receivers
+
+received_some : (line : Step) (source source' : Source) → Sourced line source source'
+    → (made : Made) (a a' b b' : List Call) (calls calls' : List sinks.Call)
+    → Alike made.setup made.mtu a b → Alike made.setup made.mtu a' b' → calls ≡ calls'
+    → received_by source line (Some made) a a' calls ≡ received_by source' line (Some made) b b' calls'
+received_some line source source' sourced made a a' b b' calls calls' before later took =
+    ap (λ train. with_step (joining_of made (sight_in made a) train) (sight_in made a) (sight_in made a') calls)
+    (train_sourced line source source' sourced)
+    ∙ ap (λ sight. with_step (joining_of made sight (train_by source' line)) sight (sight_in made a') calls) before.sight
+    ∙ ap (λ sight. with_step (joining_of made (sight_in made b) (train_by source' line)) (sight_in made b) sight calls) later.sight
+    ∙ ap (with_step (joining_of made (sight_in made b) (train_by source' line)) (sight_in made b) (sight_in made b')) took
+
+received_same : (line : Step) (source source' : Source) → Sourced line source source'
+    → (made : Option Made) (a a' b b' : List Call) (calls calls' : List sinks.Call)
+    → LivesAlike made a b → LivesAlike made a' b' → calls ≡ calls'
+    → received_by source line made a a' calls ≡ received_by source' line made b b' calls'
+received_same line source source' sourced None a a' b b' calls calls' before later took = took
+received_same line source source' sourced (Some made) a a' b b' calls calls' before later took =
+    received_some line source source' sourced made a a' b b' calls calls' before later took
+
+pub cond_same : {A : Type 0} (hit : Bool) (x x' y y' : A) → x ≡ x' → y ≡ y' → cond hit x y ≡ cond hit x' y'
+cond_same true x x' y y' then otherwise = then
+cond_same false x x' y y' then otherwise = otherwise
+
+-- over two lists of steps
+pub moved_same : (n : ℕ) (named : Option ℕ) (line : Step) (earlier others : List Step) (calls calls' : List sinks.Call)
+    → Sourced line (source_at earlier) (source_at others) → made_of n earlier ≡ made_of n others
+    → LivesAlike (made_of n earlier) (life n earlier) (life n others)
+    → LivesAlike (made_of n earlier) (life n (line ∷ earlier)) (life n (line ∷ others)) → calls ≡ calls'
+    → moved n named line earlier calls ≡ moved n named line others calls'
+moved_same n None line earlier others calls calls' sourced sink_same before later took = took
+moved_same n (Some sink) line earlier others calls calls' sourced sink_same before later took =
+    cond_same (sink == n) (received_by (source_at earlier) line (made_of n earlier) (life n earlier) (life n (line ∷ earlier)) calls)
+    (received_by (source_at others) line (made_of n others) (life n others) (life n (line ∷ others)) calls') calls calls'
+    (received_same line (source_at earlier) (source_at others) sourced (made_of n earlier) (life n earlier) (life n (line ∷ earlier))
+    (life n others) (life n (line ∷ others))
+    calls calls' before later took
+    ∙ ap (λ made. received_by (source_at others) line made (life n others) (life n (line ∷ others)) calls') sink_same) took
+
+-- ---- the source that the sink is of
+
+follows_same : (source : Source) (train : Option Train) (made : Option Made) (a b : List Call) → LivesAlike made a b
+    → follows_by source train made a ≡ follows_by source train made b
+follows_same source None made a b same = refl
+follows_same source (Some train) None a b same = refl
+follows_same source (Some train) (Some made) a b same = ap (λ sight. follows (brought_by made.setup sight train)) same.sight
+
+pub sourced_same : (line : Step) (source source' : Source) (made made' : Option Made) (a b : List Call) (its its' : Option ℕ)
+    → source ≡ source' → made ≡ made'
+    → LivesAlike made a b → its ≡ its' → source_by source line made a its ≡ source_by source' line made' b its'
+sourced_same line source source' made made' a b its its' sources sinks_same same of_same =
+    ap (λ hit. cond hit (Some source.number) its) (follows_same source (train_by source line) made a b same)
+    ∙ ap (λ m. source_by source line m b its) sinks_same
+    ∙ ap (λ src. source_by src line made' b its) sources
+    ∙ ap (source_by source' line made' b) of_same

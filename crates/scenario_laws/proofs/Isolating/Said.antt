@@ -1,0 +1,216 @@
+-- What is said of a source, looked back for: eight facts, of which all else that sinks and lines take of it are functions.
+use Rattle.std.proofs.Common.{ℕ, zero, suc, ◌≡◌, ◌-◌, ◌*◌, ◌%◌, ◌^◌, ◌==◌, ◌||◌, ◌&&◌, ◌∙◌, not, cond, Bool, true, false, List, [], ◌∷◌}
+use Rattle.std.proofs.Common.{Option, None, Some, refl, sym, ap}
+use Rattle.std.specs.Prelude.{unwrap_or}
+use Rattle.std.specs.Option.{option_or}
+use Rattle.delegator_history.specs.Octets.{train_of}
+use Rattle.base_grammar.specs.Layout.{Endpoint}
+use Rattle.big_info.specs.declared.info.Cipher.{Cipher}
+use Rattle.group_sink.specs.Calls.{Call, Tuning, hear}
+use Rattle.iso_pdu.specs.Control.{terminate}
+use Rattle.iso_pdu.specs.Layout.{control}
+use Rattle.iso_pdu.specs.Spelling.{pdu}
+use Rattle.scenario_bases.specs.Lines.{BaseLine, subgroups_in}
+use Rattle.scenario_text.specs.declared.step.Step.{Step}
+use Rattle.scenario_history.specs.Bases.{base_from, base_lines, with_base_line}
+use Rattle.scenario_history.specs.Sinks.{Spot, hear_at, heard_on_air, is_lost, spot_at, spots_of, tuning_of, unless_lost}
+use Rattle.scenario_history.specs.Source.{Airs, GroupLine, Phase, absent, cipher_given, cipher_of, end_pdu, event_back, group_given}
+use Rattle.scenario_history.specs.Source.{group_of, ident_of, identity_given}
+use Rattle.scenario_history.specs.Source.{is_ahead_in, is_sending_at, no_group, no_identity, open_event, pdu_in, phase_given, setup_from}
+use Rattle.scenario_history.specs.Source.{setup_of, source_calls}
+use Rattle.scenario_history.specs.Source.{stale_in, start_given, start_of, with_source_call}
+use Rattle.scenario_history.specs.Steps.{Stage, chosen_of, chosen_steps, is_common, is_of_source, is_over_at, is_source_line, last_given}
+use Rattle.scenario_history.specs.Steps.{stage_after, stage_of, steps_of_source, version_at}
+use Rattle.scenario_history.specs.Worlds.{source_at}
+use Rattle.sink_history.specs.Lives.{Source}
+use Rattle.source_machine.specs.Airs.{pdu_of, stale_of}
+use Rattle.source_machine.specs.Calls.{Setup, Call as SourceCall, event as perform, events, next_anchor_of, next_of}
+use Rattle.source_machine.specs.Ciphers.{with_cipher}
+use Rattle.source_machine.specs.declared.setup.Identity.{Identity}
+
+pub record Said : Type 0 where
+  pub stage : Stage
+  pub group : Option GroupLine
+  pub start : Option ℕ
+  pub ident : Option Identity
+  pub cipher : Option Cipher
+  pub phase : Option Phase
+  pub lines : List BaseLine
+  pub calls : List SourceCall
+
+abbrev pub said_of : List Step → Said
+said_of own = record {
+  stage = stage_of own;
+  group = group_of own;
+  start = start_of own;
+  ident = ident_of own;
+  cipher = cipher_of own;
+  phase = last_given phase_given own;
+  lines = base_lines own;
+  calls = source_calls own;
+}
+
+-- a step more
+abbrev pub said_after : Step → Said → Said
+said_after step said = record {
+  stage = stage_after step said.stage;
+  group = option_or (group_given step) said.group;
+  start = option_or (start_given step) said.start;
+  ident = option_or (identity_given step) said.ident;
+  cipher = option_or (cipher_given step) said.cipher;
+  phase = option_or (phase_given step) said.phase;
+  lines = with_base_line step said.lines;
+  calls = with_source_call step said.calls;
+}
+
+-- ---- what they fix
+
+abbrev setup_in : Said → Setup
+setup_in said = setup_from (unwrap_or said.group no_group) (unwrap_or said.start 0) (is_ahead_in (version_at said.stage))
+
+abbrev next_in : Said → ℕ
+next_in said = next_of (setup_in said) said.calls
+
+abbrev back_in : Said → ℕ → ℕ
+back_in said back = next_in said - 1 - back
+
+abbrev base_in : Said → Endpoint
+base_in said = base_from (unwrap_or said.group no_group) (subgroups_in said.lines)
+
+abbrev identity_in : Said → Identity
+identity_in said = unwrap_or said.ident no_identity
+
+abbrev pdu_said : Airs → Said → (event bis subevent : ℕ) → List ℕ
+pdu_said airs said event bis subevent = unwrap_or (pdu_of (setup_in said) (airs (setup_in said) said.calls) event bis subevent) []
+
+abbrev source_in : ℕ → Said → Source
+source_in number said = record {
+  number = number;
+  address_type = (identity_in said).address_type;
+  sid = (identity_in said).sid;
+  announced = train_of (identity_in said).broadcast_id (base_in said) (with_cipher (unwrap_or said.group no_group).info said.cipher)
+      (next_in said)
+      (next_anchor_of (setup_in said) said.calls);
+  joining = λ which. record {
+    info = (setup_in said).info;
+    which = which;
+    first = next_in said;
+    anchor = next_anchor_of (setup_in said) said.calls;
+    delay = (setup_in said).delay;
+  };
+}
+
+abbrev tuning_in : ℕ → Said → Tuning
+tuning_in which said = record {
+  info = (setup_in said).info;
+  which = which;
+  first = next_in said;
+  anchor = next_anchor_of (setup_in said) said.calls;
+  delay = (setup_in said).delay;
+}
+
+abbrev open_in : Said → Option ℕ
+open_in said =
+    cond (not (is_sending_at (unwrap_or said.phase absent)) || is_over_at said.stage || (events said.calls == 0)) None
+    (Some (back_in said 0))
+
+-- ---- so two lists of steps that say the same of a source have all of it alike
+
+pub open_same : (own own' : List Step) → said_of own ≡ said_of own' → open_event own ≡ open_event own'
+open_same own own' same = ap open_in same
+
+pub back_same : (own own' : List Step) (back : ℕ) → said_of own ≡ said_of own' → event_back own back ≡ event_back own' back
+back_same own own' back same = ap (λ said. back_in said back) same
+
+-- of the events before the last one performed
+pub pdu_back_same : (airs : Airs) (own own' : List Step) (back bis subevent : ℕ) → said_of own ≡ said_of own'
+    → pdu_in airs own (event_back own back) bis subevent ≡ pdu_in airs own' (event_back own' back) bis subevent
+pdu_back_same airs own own' back bis subevent same = ap (λ said. pdu_said airs said (back_in said back) bis subevent) same
+
+pub tuning_same : (own own' : List Step) (which : ℕ) → said_of own ≡ said_of own' → tuning_of own which ≡ tuning_of own' which
+tuning_same own own' which same = ap (tuning_in which) same
+
+pub hear_same : (airs : Airs) (own own' : List Step) (back : ℕ) (spot : Spot) → said_of own ≡ said_of own'
+    → hear_at airs own (event_back own back) spot ≡ hear_at airs own' (event_back own' back) spot
+hear_same airs own own' back spot same =
+    ap (λ said. hear (back_in said back) spot.bis spot.subevent (pdu_said airs said (back_in said back) spot.bis spot.subevent)) same
+
+pub stale_same : (airs : Airs) (own own' : List Step) → said_of own ≡ said_of own' → stale_in airs own ≡ stale_in airs own'
+stale_same airs own own' same = ap (λ said. stale_of (setup_in said) said.calls (airs (setup_in said) (perform ∷ said.calls))) same
+
+pub end_same : (own own' : List Step) (reason : ℕ) → said_of own ≡ said_of own' → end_pdu own reason ≡ end_pdu own' reason
+end_same own own' reason same = ap (λ said. pdu (control (terminate reason (next_in said % 2 ^ 16)))) same
+
+-- ---- what is heard on the air
+
+abbrev spot_in : ℕ → Said → Spot
+spot_in i said = spot_at (setup_in said).info i
+
+heard_one : (airs : Airs) (own own' : List Step) (lose i : ℕ) (calls : List Call) → said_of own ≡ said_of own'
+    → unless_lost (is_lost (setup_of own).info (event_back own 0) lose (spot_at (setup_of own).info i))
+    (hear_at airs own (event_back own 0) (spot_at (setup_of own).info i)) calls
+    ≡ unless_lost (is_lost (setup_of own').info (event_back own' 0) lose (spot_at (setup_of own').info i))
+    (hear_at airs own' (event_back own' 0) (spot_at (setup_of own').info i)) calls
+heard_one airs own own' lose i calls same =
+    ap (λ said. unless_lost (is_lost (setup_in said).info (back_in said 0) lose (spot_in i said))
+    (hear (back_in said 0) (spot_in i said).bis (spot_in i said).subevent
+    (pdu_said airs said (back_in said 0) (spot_in i said).bis (spot_in i said).subevent)) calls) same
+
+heard_first : (airs : Airs) (own own' : List Step) (lose count : ℕ) (calls calls' : List Call) → said_of own ≡ said_of own' → calls ≡ calls'
+    → heard_on_air airs own lose count calls ≡ heard_on_air airs own' lose count calls'
+heard_first airs own own' lose zero calls calls' same took = took
+heard_first airs own own' lose (suc i) calls calls' same took =
+    heard_one airs own own' lose i (heard_on_air airs own lose i calls) same
+    ∙ ap (unless_lost (is_lost (setup_of own').info (event_back own' 0) lose (spot_at (setup_of own').info i))
+    (hear_at airs own' (event_back own' 0) (spot_at (setup_of own').info i))) (heard_first airs own own' lose i calls calls' same took)
+
+pub heard_same : (airs : Airs) (own own' : List Step) (lose : ℕ) (calls calls' : List Call) → said_of own ≡ said_of own' → calls ≡ calls'
+    → heard_on_air airs own lose (spots_of own) calls ≡ heard_on_air airs own' lose (spots_of own') calls'
+heard_same airs own own' lose calls calls' same took =
+    ap (λ said. heard_on_air airs own lose ((setup_in said).info.num_bis * (setup_in said).info.nse) calls) same
+    ∙ heard_first airs own own' lose (spots_of own') calls calls' same took
+
+-- ---- the chosen source
+
+-- the source that a line after these steps means
+pub source_same : (made others : List Step) → chosen_of made ≡ chosen_of others
+    → said_of (chosen_steps made) ≡ said_of (chosen_steps others) → source_at made ≡ source_at others
+source_same made others chosen same = ap (λ s. source_in s (said_of (chosen_steps made))) chosen ∙ ap (source_in (chosen_of others)) same
+
+-- where it is this one, of which both say the same
+pub chosen_said : (s : ℕ) (made others : List Step) → chosen_of made ≡ s → chosen_of made ≡ chosen_of others
+    → said_of (steps_of_source s made) ≡ said_of (steps_of_source s others) → said_of (chosen_steps made) ≡ said_of (chosen_steps others)
+chosen_said s made others is chosen same =
+    ap (λ t. said_of (steps_of_source t made)) is ∙ same ∙ ap (λ t. said_of (steps_of_source t others)) (sym is ∙ chosen)
+
+-- ---- a step more
+
+said_if : (is_its : Bool) (step : Step) (own own' : List Step) → said_of own ≡ said_of own'
+    → said_of (cond is_its (step ∷ own) own) ≡ said_of (cond is_its (step ∷ own') own')
+said_if true step own own' same = ap (said_after step) same
+said_if false step own own' same = same
+
+-- that both lists have
+pub said_grows : (s : ℕ) (step : Step) (made others : List Step) → chosen_of made ≡ chosen_of others
+    → said_of (steps_of_source s made) ≡ said_of (steps_of_source s others)
+    → said_of (steps_of_source s (step ∷ made)) ≡ said_of (steps_of_source s (step ∷ others))
+said_grows s step made others chosen same =
+    ap (λ c. said_of (cond (is_common step || (is_source_line step && (c == s)))
+    (step ∷ steps_of_source s made) (steps_of_source s made))) chosen
+    ∙ said_if (is_of_source s others step) step (steps_of_source s made) (steps_of_source s others) same
+
+stays_if : (is_its : Bool) (step : Step) (own : List Step) → said_after step (said_of own) ≡ said_of own
+    → said_of (cond is_its (step ∷ own) own) ≡ said_of own
+stays_if true step own same = same
+stays_if false step own same = refl
+
+-- that says nothing of a source
+pub said_stays : (s : ℕ) (step : Step) (made : List Step) → ((said : Said) → said_after step said ≡ said)
+    → said_of (steps_of_source s (step ∷ made)) ≡ said_of (steps_of_source s made)
+said_stays s step made nothing =
+    stays_if (is_of_source s made step) step (steps_of_source s made) (nothing (said_of (steps_of_source s made)))
+
+-- that means another source
+pub said_elsewhere : (s : ℕ) (step : Step) (made : List Step) → is_of_source s made step ≡ false
+    → said_of (steps_of_source s (step ∷ made)) ≡ said_of (steps_of_source s made)
+said_elsewhere s step made other = ap (λ its. said_of (cond its (step ∷ steps_of_source s made) (steps_of_source s made))) other

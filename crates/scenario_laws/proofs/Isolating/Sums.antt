@@ -1,0 +1,242 @@
+-- What the box of a sink took since the sink was made: the valid units that the sink handed up since then, and nothing else, since no
+-- two sinks have one box and a new sink has a new one.
+use Rattle.std.proofs.Common.{ℕ, ◌≡◌, ◌<◌, ◌≤◌, ◌==◌, ◌∙◌, cond, Bool, true, false, List, [], ◌∷◌, ◌++◌, map, Option, None, Some}
+use Rattle.std.proofs.Common.{arith, refl, sym, ap, inl, inr}
+use Rattle.std.specs.List.{AllByRecursion, filter, flat_map}
+use Rattle.std.proofs.lemmas.Bool.{cases_eq, eq-eqb, eqb-true, ne_eqb}
+use Rattle.std.proofs.lemmas.List.{append-nil}
+use Rattle.std.proofs.lemmas.Option.{none-some}
+use Rattle.unit_outlets.specs.Handed.{Handed, valid, lost}
+use Rattle.group_sink.specs.Calls.{Call}
+use Rattle.group_sink.specs.Handing.{handed_at}
+use Rattle.scenario_text.specs.declared.step.Step.{Step}
+use Rattle.scenario_text.specs.declared.step.Step.TheVariants as steps
+use Rattle.scenario_history.proofs.Citable.{box_was_made, valid_append}
+use Rattle.scenario_history.specs.Boxes.{SinkUnit, box_of, closing, closing_at, closing_by, closing_in, handed_by, handed_up}
+use Rattle.scenario_history.specs.Boxes.{onto_valid, sink_numbers, valid_for}
+use Rattle.scenario_history.specs.Sinks.{is_of, sink_calls, source_of}
+use Rattle.scenario_history.specs.Source.{Airs, open_event}
+use Rattle.scenario_history.specs.Steps.{chosen_of, sinks_made, sinks_made_by, steps_of_source}
+use Rattle.scenario_laws.specs.Isolation.{units_by}
+
+-- the octets of the valid ones
+abbrev pub octets_in : List Handed → List (List ℕ)
+octets_in [] = []
+octets_in (valid bis time octets ∷ units) = octets ∷ octets_in units
+octets_in (lost bis time ∷ units) = octets_in units
+
+-- ---- no two sinks have one box
+
+same_some : (a b : ℕ) → (let some : ℕ → Option ℕ = λ n. Some n in some a ≡ some b) → a ≡ b
+same_some a b e = cc
+
+made_hits : (sink m k count b : ℕ) (bm bk : Option ℕ) (hm hk : Bool) → (bm ≡ Some b → b < count) → (bk ≡ Some b → b < count)
+    → (bm ≡ Some b → bk ≡ Some b → m ≡ k) → (sink == m) ≡ hm → (sink == k) ≡ hk → cond hm (Some count) bm ≡ Some b
+    → cond hk (Some count) bk ≡ Some b → m ≡ k
+made_hits sink m k count b bm bk true true older older' before p q em ek = sym (eqb-true sink m p) ∙ eqb-true sink k q
+made_hits sink m k count b bm bk true false older older' before p q em ek = absurd (omega (arith, same_some count b em, older' ek))
+made_hits sink m k count b bm bk false true older older' before p q em ek = absurd (omega (arith, same_some count b ek, older em))
+made_hits sink m k count b bm bk false false older older' before p q em ek = before em ek
+
+gone_hits : (m k b : ℕ) (bm bk : Option ℕ) (hm hk : Bool) → (bm ≡ Some b → bk ≡ Some b → m ≡ k) → cond hm None bm ≡ Some b
+    → cond hk None bk ≡ Some b → m ≡ k
+gone_hits m k b bm bk true hk before em ek = absurd (none-some b em)
+gone_hits m k b bm bk false true before em ek = absurd (none-some b ek)
+gone_hits m k b bm bk false false before em ek = before em ek
+
+one_box : (made : List Step) (m k b : ℕ) → box_of m made ≡ Some b → box_of k made ≡ Some b → m ≡ k
+one_box [] m k b em ek = absurd (none-some b em)
+one_box (steps.Sink sink streams slots mtu ∷ made) m k b em ek =
+    made_hits sink m k (sinks_made made) b (box_of m made) (box_of k made) (sink == m) (sink == k) (box_was_made m made b)
+    (box_was_made k made b) (one_box made m k b) refl refl em ek
+one_box (steps.Drop sink ∷ made) m k b em ek =
+    gone_hits m k b (box_of m made) (box_of k made) (sink == m) (sink == k) (one_box made m k b) em ek
+one_box (_ ∷ made) m k b em ek = one_box made m k b em ek
+
+-- ---- the units that go to the box of a sink are those of the sink
+
+abbrev FitsBox : ℕ → ℕ → List SinkUnit → Type 0
+FitsBox b n units = AllByRecursion (λ unit. (unit.box == b) ≡ (unit.sink == n)) units
+
+onto_octets : (unit : Handed) (units : List Handed) → onto_valid true unit (octets_in units) ≡ octets_in (unit ∷ units)
+onto_octets (valid bis time octets) units = refl
+onto_octets (lost bis time) units = refl
+
+past_octets : (unit : Handed) (units : List Handed) → onto_valid false unit (octets_in units) ≡ octets_in units
+past_octets (valid bis time octets) units = refl
+past_octets (lost bis time) units = refl
+
+one_octets : (hit : Bool) (unit : SinkUnit) (units : List SinkUnit)
+    → onto_valid hit unit.unit (octets_in (map (λ u. u.unit) units)) ≡ octets_in (map (λ u. u.unit) (cond hit (unit ∷ units) units))
+one_octets true unit units = onto_octets unit.unit (map (λ u. u.unit) units)
+one_octets false unit units = past_octets unit.unit (map (λ u. u.unit) units)
+
+its_octets : (b n : ℕ) (units : List SinkUnit) → FitsBox b n units → valid_for b units ≡ octets_in (units_by n units)
+its_octets b n [] fits = refl
+its_octets b n (unit ∷ units) fits =
+    ap (λ hit. onto_valid hit unit.unit (valid_for b units)) fits.0
+    ∙ ap (onto_valid (unit.sink == n) unit.unit) (its_octets b n units fits.1)
+    ∙ one_octets (unit.sink == n) unit (filter (λ u. u.sink == n) units)
+
+fits_append : (b n : ℕ) (us vs : List SinkUnit) → FitsBox b n us → FitsBox b n vs → FitsBox b n (us ++ vs)
+fits_append b n [] vs first rest = rest
+fits_append b n (u ∷ us) vs first rest = (first.0, fits_append b n us vs first.1 rest)
+
+fits_flat : (b n : ℕ) (f : ℕ → List SinkUnit) (ms : List ℕ) → ((m : ℕ) → FitsBox b n (f m)) → FitsBox b n (flat_map f ms)
+fits_flat b n f [] each = tt
+fits_flat b n f (m ∷ ms) each = fits_append b n (f m) (flat_map f ms) (each m) (fits_flat b n f ms each)
+
+fits_units : (b n t m box : ℕ) (units : List Handed) → (box == b) ≡ (m == n)
+    → FitsBox b n (map (λ unit. record { source = t; sink = m; box = box; unit = unit }) units)
+fits_units b n t m box [] same = tt
+fits_units b n t m box (unit ∷ units) same = (same, fits_units b n t m box units same)
+
+same_tests : (made : List Step) (n m b box : ℕ) → box_of n made ≡ Some b → box_of m made ≡ Some box → (box == b) ≡ (m == n)
+same_tests made n m b box its is = elim (cases_eq m n) [
+  | inl same ↦
+      let boxes : box ≡ b = same_some box b (sym is ∙ ap (λ k. box_of k made) same ∙ its) in
+      eq-eqb box b boxes ∙ sym (eq-eqb m n same)
+  | inr other ↦
+      ne_eqb box b (λ boxes. other (one_box made m n b (is ∙ ap Some boxes) its)) ∙ sym (ne_eqb m n other)
+]
+
+fits_one : (made : List Step) (b n t event m : ℕ) (calls : List Call) (hit : Bool) (box : Option ℕ) → box_of n made ≡ Some b
+    → box_of m made ≡ box → FitsBox b n (cond hit (closing_in t event m calls box) [])
+fits_one made b n t event m calls true None its is = tt
+fits_one made b n t event m calls true (Some box) its is =
+    fits_units b n t m box (handed_at calls event) (same_tests made n m b box its is)
+fits_one made b n t event m calls false box its is = tt
+
+fits_at : (airs : Airs) (made : List Step) (b n t : ℕ) (last_open : Option ℕ) → box_of n made ≡ Some b
+    → FitsBox b n (closing_at airs t made last_open)
+fits_at airs made b n t None its = tt
+fits_at airs made b n t (Some event) its =
+    fits_flat b n (λ m. closing_by t event m (sink_calls airs m made) (source_of m made) (box_of m made)) sink_numbers
+    (λ m. fits_one made b n t event m (sink_calls airs m made) (is_of t (source_of m made)) (box_of m made) its refl)
+
+fits_closing : (airs : Airs) (made : List Step) (b n t : ℕ) → box_of n made ≡ Some b → FitsBox b n (closing airs t made)
+fits_closing airs made b n t its = fits_at airs made b n t (open_event (steps_of_source t made)) its
+
+fits_step : (airs : Airs) (made : List Step) (b n : ℕ) (step : Step) → box_of n made ≡ Some b → FitsBox b n (handed_by airs made step)
+fits_step airs made b n steps.Event its = fits_closing airs made b n (chosen_of made) its
+fits_step airs made b n steps.Stop its = fits_closing airs made b n (chosen_of made) its
+fits_step airs made b n (steps.Terminate reason) its = fits_closing airs made b n (chosen_of made) its
+fits_step airs made b n steps.End its =
+    fits_append b n (closing airs 0 made) (closing airs 1 made) (fits_closing airs made b n 0 its) (fits_closing airs made b n 1 its)
+fits_step airs made b n _ its = tt
+
+pub step_octets : (airs : Airs) (made : List Step) (b n : ℕ) (step : Step) → box_of n made ≡ Some b
+    → valid_for b (handed_by airs made step) ≡ octets_in (units_by n (handed_by airs made step))
+step_octets airs made b n step its = its_octets b n (handed_by airs made step) (fits_step airs made b n step its)
+
+-- ---- a box that no sink had took nothing
+
+none_units : (b t m box : ℕ) (units : List Handed) → (box == b) ≡ false
+    → valid_for b (map (λ unit. record { source = t; sink = m; box = box; unit = unit }) units) ≡ []
+none_units b t m box [] other = refl
+none_units b t m box (valid bis time octets ∷ units) other =
+    ap (λ hit. onto_valid hit (valid bis time octets)
+    (valid_for b (map (λ unit. record { source = t; sink = m; box = box; unit = unit }) units)))
+    other ∙ none_units b t m box units other
+none_units b t m box (lost bis time ∷ units) other = none_units b t m box units other
+
+none_flat : (b : ℕ) (f : ℕ → List SinkUnit) (ms : List ℕ) → ((m : ℕ) → valid_for b (f m) ≡ []) → valid_for b (flat_map f ms) ≡ []
+none_flat b f [] none = refl
+none_flat b f (m ∷ ms) none =
+    valid_append b (f m) (flat_map f ms) ∙ ap (λ us. us ++ valid_for b (flat_map f ms)) (none m) ∙ none_flat b f ms none
+
+none_one : (made : List Step) (b t event m : ℕ) (calls : List Call) (hit : Bool) (box : Option ℕ) → sinks_made made ≤ b
+    → box_of m made ≡ box
+    → valid_for b (cond hit (closing_in t event m calls box) []) ≡ []
+none_one made b t event m calls true None later is = refl
+none_one made b t event m calls true (Some box) later is =
+    let older : box < sinks_made made = box_was_made m made box is in
+    none_units b t m box (handed_at calls event) (ne_eqb box b (λ same. omega (arith, older, later, same)))
+none_one made b t event m calls false box later is = refl
+
+none_at : (airs : Airs) (made : List Step) (b t : ℕ) (last_open : Option ℕ) → sinks_made made ≤ b
+    → valid_for b (closing_at airs t made last_open) ≡ []
+none_at airs made b t None later = refl
+none_at airs made b t (Some event) later =
+    none_flat b (λ m. closing_by t event m (sink_calls airs m made) (source_of m made) (box_of m made)) sink_numbers
+    (λ m. none_one made b t event m (sink_calls airs m made) (is_of t (source_of m made)) (box_of m made) later refl)
+
+none_step : (airs : Airs) (made : List Step) (b : ℕ) (step : Step) → sinks_made made ≤ b → valid_for b (handed_by airs made step) ≡ []
+none_step airs made b steps.Event later = none_at airs made b (chosen_of made) (open_event (steps_of_source (chosen_of made) made)) later
+none_step airs made b steps.Stop later = none_at airs made b (chosen_of made) (open_event (steps_of_source (chosen_of made) made)) later
+none_step airs made b (steps.Terminate reason) later =
+    none_at airs made b (chosen_of made) (open_event (steps_of_source (chosen_of made) made)) later
+none_step airs made b steps.End later =
+    valid_append b (closing airs 0 made) (closing airs 1 made)
+    ∙ ap (λ us. us ++ valid_for b (closing airs 1 made)) (none_at airs made b 0 (open_event (steps_of_source 0 made)) later)
+    ∙ none_at airs made b 1 (open_event (steps_of_source 1 made)) later
+none_step airs made b _ later = refl
+
+more_made : (step : Step) (count : ℕ) → count ≤ sinks_made_by step count
+more_made (steps.Sink sink streams slots mtu) count = omega arith
+more_made _ count = omega arith
+
+pub none_yet : (airs : Airs) (made : List Step) (b : ℕ) → sinks_made made ≤ b → valid_for b (handed_up airs made) ≡ []
+none_yet airs [] b later = refl
+none_yet airs (step ∷ made) b later =
+    let before : sinks_made made ≤ b = omega (arith, more_made step (sinks_made made), later) in
+    valid_append b (handed_up airs made) (handed_by airs made step)
+    ∙ ap (λ us. us ++ valid_for b (handed_by airs made step)) (none_yet airs made b before)
+    ∙ none_step airs made b step before
+
+-- ---- what two boxes took alike
+
+-- the box of the sink after some steps and that after others took the same
+abbrev pub TookAlike : Airs → ℕ → List Step → List Step → Type 0
+TookAlike airs n made others =
+    (box other : ℕ) → box_of n made ≡ Some box → box_of n others ≡ Some other → valid_for box (handed_up airs made)
+    ≡ valid_for other (handed_up airs others)
+
+-- a step more in both lists, that leaves both boxes
+stays_took : (airs : Airs) (n : ℕ) (step : Step) (made others : List Step) → TookAlike airs n made others
+    → units_by n (handed_by airs made step) ≡ units_by n (handed_by airs others step)
+    → (box other : ℕ) → box_of n made ≡ Some box → box_of n others ≡ Some other
+    → valid_for box (handed_up airs (step ∷ made)) ≡ valid_for other (handed_up airs (step ∷ others))
+stays_took airs n step made others took same box other its its' =
+    valid_append box (handed_up airs made) (handed_by airs made step)
+    ∙ ap (λ us. us ++ valid_for box (handed_by airs made step)) (took box other its its')
+    ∙ ap (λ us. valid_for other (handed_up airs others) ++ us)
+    (step_octets airs made box n step its ∙ ap octets_in same ∙ sym (step_octets airs others other n step its'))
+    ∙ sym (valid_append other (handed_up airs others) (handed_by airs others step))
+
+-- one list alone has the step, by which the sink hands up nothing
+pub left_took : (airs : Airs) (n : ℕ) (step : Step) (made others : List Step) → TookAlike airs n made others
+    → units_by n (handed_by airs made step) ≡ [] → box_of n (step ∷ made) ≡ box_of n made → TookAlike airs n (step ∷ made) others
+left_took airs n step made others took none stays box other its its' =
+    let before : box_of n made ≡ Some box = sym stays ∙ its in
+    valid_append box (handed_up airs made) (handed_by airs made step)
+    ∙ ap (λ us. valid_for box (handed_up airs made) ++ us) (step_octets airs made box n step before ∙ ap octets_in none)
+    ∙ append-nil (valid_for box (handed_up airs made)) ∙ took box other before its'
+
+made_took : (hit : Bool) (airs : Airs) (n sink streams slots : ℕ) (mtu : Option ℕ) (made others : List Step) → TookAlike airs n made others
+    → (box other : ℕ) → cond hit (Some (sinks_made made)) (box_of n made) ≡ Some box
+    → cond hit (Some (sinks_made others)) (box_of n others) ≡ Some other
+    → valid_for box (handed_up airs (steps.Sink sink streams slots mtu ∷ made))
+    ≡ valid_for other (handed_up airs (steps.Sink sink streams slots mtu ∷ others))
+made_took true airs n sink streams slots mtu made others took box other its its' =
+    let newer : sinks_made made ≤ box = omega (arith, same_some (sinks_made made) box its) in
+    let newer' : sinks_made others ≤ other = omega (arith, same_some (sinks_made others) other its') in
+    valid_append box (handed_up airs made) [] ∙ ap (λ us. us ++ []) (none_yet airs made box newer)
+    ∙ sym (valid_append other (handed_up airs others) [] ∙ ap (λ us. us ++ []) (none_yet airs others other newer'))
+made_took false airs n sink streams slots mtu made others took box other its its' =
+    stays_took airs n (steps.Sink sink streams slots mtu) made others took refl box other its its'
+
+gone_took : (hit : Bool) (airs : Airs) (n sink : ℕ) (made others : List Step) → TookAlike airs n made others
+    → (box other : ℕ) → cond hit None (box_of n made) ≡ Some box → cond hit None (box_of n others) ≡ Some other
+    → valid_for box (handed_up airs (steps.Drop sink ∷ made)) ≡ valid_for other (handed_up airs (steps.Drop sink ∷ others))
+gone_took true airs n sink made others took box other its its' = absurd (none-some box its)
+gone_took false airs n sink made others took box other its its' =
+    stays_took airs n (steps.Drop sink) made others took refl box other its its'
+
+pub kept_took : (airs : Airs) (n : ℕ) (step : Step) (made others : List Step) → TookAlike airs n made others
+    → units_by n (handed_by airs made step) ≡ units_by n (handed_by airs others step) → TookAlike airs n (step ∷ made) (step ∷ others)
+kept_took airs n (steps.Sink sink streams slots mtu) made others took same box other its its' =
+    made_took (sink == n) airs n sink streams slots mtu made others took box other its its'
+kept_took airs n (steps.Drop sink) made others took same box other its its' =
+    gone_took (sink == n) airs n sink made others took box other its its'
+kept_took airs n step made others took same box other its its' = stays_took airs n step made others took same box other its its'

@@ -1,0 +1,150 @@
+-- The units that a sink hands up as an event is closed: of the source that it is of alone, whatever other sinks do.
+use Rattle.std.proofs.Common.{ℕ, ◌≡◌, ◌==◌, ◌∙◌, cond, Bool, true, false, List, [], ◌∷◌, ◌++◌, map, Option, None, Some, is_some, refl, sym}
+use Rattle.std.proofs.Common.{ap, inl, inr}
+use Rattle.std.specs.List.{filter, flat_map}
+use Rattle.std.proofs.lemmas.Bool.{cases_eq, eq-eqb, false≢true, ne_eqb}
+use Rattle.std.proofs.lemmas.List.{map-append}
+use Rattle.std.proofs.lemmas.List.Elements.{filter-append}
+use Rattle.unit_outlets.specs.Handed.{Handed}
+use Rattle.group_sink.specs.Calls.{Call}
+use Rattle.group_sink.specs.Handing.{handed_at}
+use Rattle.scenario_text.specs.declared.step.Step.{Step}
+use Rattle.scenario_history.specs.Boxes.{SinkUnit, box_of, closing, closing_at, closing_both, closing_by, closing_in, sink_numbers}
+use Rattle.scenario_history.specs.Sinks.{is_of, sink_calls, source_of}
+use Rattle.scenario_history.specs.Source.{Airs, open_event}
+use Rattle.scenario_history.specs.Steps.{steps_of_source}
+use Rattle.scenario_laws.specs.Isolation.{units_by}
+use Rattle.scenario_laws.proofs.Isolating.Said.{open_same}
+use Rattle.scenario_laws.proofs.Isolating.Same.{Same}
+
+-- ---- lists
+
+pub units_append : (n : ℕ) (us vs : List SinkUnit) → units_by n (us ++ vs) ≡ units_by n us ++ units_by n vs
+units_append n us vs =
+    ap (map (λ (unit : SinkUnit). unit.unit)) (filter-append (λ (unit : SinkUnit). unit.sink == n) us vs)
+    ∙ map-append (λ (unit : SinkUnit). unit.unit) (filter (λ (unit : SinkUnit). unit.sink == n) us)
+    (filter (λ (unit : SinkUnit). unit.sink == n) vs)
+
+units_flat : (n : ℕ) (f : ℕ → List SinkUnit) (ms : List ℕ) → units_by n (flat_map f ms) ≡ flat_map (λ m. units_by n (f m)) ms
+units_flat n f [] = refl
+units_flat n f (m ∷ ms) = units_append n (f m) (flat_map f ms) ∙ ap (λ us. units_by n (f m) ++ us) (units_flat n f ms)
+
+flat_same : (f g : ℕ → List Handed) (ms : List ℕ) → ((m : ℕ) → f m ≡ g m) → flat_map f ms ≡ flat_map g ms
+flat_same f g [] same = refl
+flat_same f g (m ∷ ms) same = ap (λ us. us ++ flat_map f ms) (same m) ∙ ap (λ us. g m ++ us) (flat_same f g ms same)
+
+flat_none : (f : ℕ → List Handed) (ms : List ℕ) → ((m : ℕ) → f m ≡ []) → flat_map f ms ≡ []
+flat_none f [] none = refl
+flat_none f (m ∷ ms) none = ap (λ us. us ++ flat_map f ms) (none m) ∙ flat_none f ms none
+
+-- ---- one sink
+
+own_units : (t n box : ℕ) (units : List Handed)
+    → units_by n (map (λ unit. record { source = t; sink = n; box = box; unit = unit }) units) ≡ units
+own_units t n box [] = refl
+own_units t n box (unit ∷ units) = rw (eq-eqb n n refl) (ap (λ us. unit ∷ us) (own_units t n box units))
+
+other_units : (t n m box : ℕ) (units : List Handed) → (m == n) ≡ false
+    → units_by n (map (λ unit. record { source = t; sink = m; box = box; unit = unit }) units) ≡ []
+other_units t n m box [] other = refl
+other_units t n m box (unit ∷ units) other = rw other (other_units t n m box units other)
+
+other_in : (its : Bool) (t event n m : ℕ) (calls : List Call) (box : Option ℕ) → (m == n) ≡ false
+    → units_by n (cond its (closing_in t event m calls box) []) ≡ []
+other_in true t event n m calls None other = refl
+other_in true t event n m calls (Some box) other = other_units t n m box (handed_at calls event) other
+other_in false t event n m calls box other = refl
+
+boxes_in : (its : Bool) (t event n : ℕ) (calls : List Call) (box box' : Option ℕ) → is_some box ≡ is_some box'
+    → units_by n (cond its (closing_in t event n calls box) []) ≡ units_by n (cond its (closing_in t event n calls box') [])
+boxes_in true t event n calls None None same = refl
+boxes_in true t event n calls None (Some box') same = absurd (false≢true same)
+boxes_in true t event n calls (Some box) None same = absurd (false≢true (sym same))
+boxes_in true t event n calls (Some box) (Some box') same =
+    own_units t n box (handed_at calls event) ∙ sym (own_units t n box' (handed_at calls event))
+boxes_in false t event n calls box box' same = refl
+
+-- ---- all sinks
+
+abbrev closes : Airs → (t event : ℕ) → List Step → ℕ → List SinkUnit
+closes airs t event made m = closing_by t event m (sink_calls airs m made) (source_of m made) (box_of m made)
+
+-- what a sink hands up of a source, over two lists of steps
+pub record HandsAlike (airs : Airs) (n : ℕ) (made others : List Step) : Type 0 where
+  pub calls : sink_calls airs n made ≡ sink_calls airs n others
+  pub source : source_of n made ≡ source_of n others
+  pub boxed : is_some (box_of n made) ≡ is_some (box_of n others)
+
+own_closes : (airs : Airs) (t event n : ℕ) (made others : List Step) → HandsAlike airs n made others
+    → units_by n (closes airs t event made n) ≡ units_by n (closes airs t event others n)
+own_closes airs t event n made others same =
+    ap (λ calls. units_by n (closing_by t event n calls (source_of n made) (box_of n made))) same.calls
+    ∙ ap (λ source. units_by n (closing_by t event n (sink_calls airs n others) source (box_of n made))) same.source
+    ∙ boxes_in (is_of t (source_of n others)) t event n (sink_calls airs n others) (box_of n made) (box_of n others) same.boxed
+
+each_closes : (airs : Airs) (t event n : ℕ) (made others : List Step) → HandsAlike airs n made others → (m : ℕ)
+    → units_by n (closes airs t event made m) ≡ units_by n (closes airs t event others m)
+each_closes airs t event n made others same m = elim (cases_eq m n) [
+  | inl is ↦
+      ap (λ k. units_by n (closes airs t event made k)) is ∙ own_closes airs t event n made others same
+      ∙ sym (ap (λ k. units_by n (closes airs t event others k)) is)
+  | inr other ↦
+      other_in (is_of t (source_of m made)) t event n m (sink_calls airs m made) (box_of m made) (ne_eqb m n other)
+      ∙ sym (other_in (is_of t (source_of m others)) t event n m (sink_calls airs m others) (box_of m others) (ne_eqb m n other))
+]
+
+closing_same : (airs : Airs) (t n : ℕ) (last_open : Option ℕ) (made others : List Step) → HandsAlike airs n made others
+    → units_by n (closing_at airs t made last_open) ≡ units_by n (closing_at airs t others last_open)
+closing_same airs t n None made others same = refl
+closing_same airs t n (Some event) made others same =
+    units_flat n (closes airs t event made) sink_numbers
+    ∙ flat_same (λ m. units_by n (closes airs t event made m)) (λ m. units_by n (closes airs t event others m)) sink_numbers
+    (each_closes airs t event n made others same)
+    ∙ sym (units_flat n (closes airs t event others) sink_numbers)
+
+not_its : (airs : Airs) (t event n : ℕ) (made : List Step) → is_of t (source_of n made) ≡ false → (m : ℕ)
+    → units_by n (closes airs t event made m) ≡ []
+not_its airs t event n made apart m = elim (cases_eq m n) [
+  | inl is ↦
+      ap (λ k. units_by n (closes airs t event made k)) is
+      ∙ ap (λ its. units_by n (cond its (closing_in t event n (sink_calls airs n made) (box_of n made)) [])) apart
+  | inr other ↦ other_in (is_of t (source_of m made)) t event n m (sink_calls airs m made) (box_of m made) (ne_eqb m n other)
+]
+
+-- a sink that isn't of the source hands up nothing
+pub closing_none : (airs : Airs) (t n : ℕ) (last_open : Option ℕ) (made : List Step) → is_of t (source_of n made) ≡ false
+    → units_by n (closing_at airs t made last_open) ≡ []
+closing_none airs t n None made apart = refl
+closing_none airs t n (Some event) made apart =
+    units_flat n (closes airs t event made) sink_numbers
+    ∙ flat_none (λ m. units_by n (closes airs t event made m)) sink_numbers (not_its airs t event n made apart)
+
+-- ---- of any source
+
+hands_alike : (airs : Airs) (s n : ℕ) (made others : List Step) → Same airs s n made others → HandsAlike airs n made others
+hands_alike airs s n made others same = record { calls = same.calls; source = same.source; boxed = same.boxed }
+
+pub opens_alike : (airs : Airs) (s n t : ℕ) (made others : List Step) → t ≡ s → Same airs s n made others
+    → open_event (steps_of_source t made) ≡ open_event (steps_of_source t others)
+opens_alike airs s n t made others its same =
+    ap (λ k. open_event (steps_of_source k made)) its ∙ open_same (steps_of_source s made) (steps_of_source s others) same.own
+    ∙ sym (ap (λ k. open_event (steps_of_source k others)) its)
+
+pub closing_alike : (airs : Airs) (s n t : ℕ) (made others : List Step) → Same airs s n made others
+    → units_by n (closing airs t made) ≡ units_by n (closing airs t others)
+closing_alike airs s n t made others same = elim (cases_eq t s) [
+  | inl its ↦
+      ap (λ last_open. units_by n (closing_at airs t made last_open)) (opens_alike airs s n t made others its same)
+      ∙ closing_same airs t n (open_event (steps_of_source t others)) made others (hands_alike airs s n made others same)
+  | inr other ↦
+      closing_none airs t n (open_event (steps_of_source t made)) made (same.apart t other)
+      ∙ sym (closing_none airs t n (open_event (steps_of_source t others)) others (sym (ap (is_of t) same.source) ∙ same.apart t other))
+]
+
+pub both_alike : (airs : Airs) (s n : ℕ) (made others : List Step) → Same airs s n made others
+    → units_by n (closing_both airs made) ≡ units_by n (closing_both airs others)
+both_alike airs s n made others same =
+    units_append n (closing airs 0 made) (closing airs 1 made)
+    ∙ ap (λ us. us ++ units_by n (closing airs 1 made)) (closing_alike airs s n 0 made others same)
+    ∙ ap (λ us. units_by n (closing airs 0 others) ++ us) (closing_alike airs s n 1 made others same)
+    ∙ sym (units_append n (closing airs 0 others) (closing airs 1 others))

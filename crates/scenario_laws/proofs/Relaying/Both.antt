@@ -1,0 +1,83 @@
+-- The relayed units law: what is in the order of source 1 is in the order of what the relaying sink handed up, and that is in the
+-- order of source 0.
+use Rattle.std.proofs.Common.{ℕ, zero, suc, ◌≡◌, ◌<◌, ◌+◌, ◌∙◌, List, [], ◌∷◌, length, map}
+use Rattle.std.proofs.Common.{arith}
+use Rattle.std.specs.Prelude.{slice_index}
+use Rattle.std.specs.List.{AllZip}
+use Rattle.std.specs.List.Sorted.{IsStrictlyIncreasing}
+use Rattle.std.proofs.lemmas.Bool.{eqb-true}
+use Rattle.std.proofs.lemmas.List.{length-map}
+use Rattle.std.proofs.lemmas.Option.{slice_get_within}
+use Rattle.bcast_base.specs.declared.unit.Unit.{Unit as AudioUnit}
+use Rattle.scenario_text.specs.declared.step.Step.{Step}
+use Rattle.source_machine.specs.Calls.{Setup, given}
+use Rattle.unit_outlets.specs.Handed.{Handed}
+use Rattle.scenario_history.specs.Gifts.{happened}
+use Rattle.scenario_history.specs.Source.{setup_of, source_calls}
+use Rattle.scenario_history.specs.Steps.{steps_of_source}
+use Rattle.gift_laws.proofs.Citable.{had_happened, happens_legally, has_had, settled}
+use Rattle.gift_laws.specs.Laws.{RelayLaw, offered}
+use Rattle.scenario_laws.specs.Laws.{StepsInOrder, is_made, shown_since}
+use Rattle.scenario_laws.specs.Relayed.{InFirstOrder, InRelayOrder, IsOfFirst, IsOfOffered, RelayedUnits}
+use Rattle.scenario_laws.proofs.Relaying.Numbered.{Numbered}
+use Rattle.scenario_laws.proofs.Relaying.Offering.{offered_numbered, ungiven}
+use Rattle.scenario_laws.proofs.Relaying.Order.{at_map, in_relay_order, zip_map}
+
+-- ---- the numbers of the entries
+
+-- each of these numbers is the place of one of the units
+bounded : (setup : Setup) (to : ℕ) (units : List AudioUnit) (numbers : List ℕ) (entries : List Handed) (k : ℕ)
+    → AllZip (IsOfOffered setup to units) numbers entries → k < length numbers → slice_index numbers k < length units
+bounded setup to units [] entries k all below = absurd (omega (arith, below))
+bounded setup to units (number ∷ numbers) [] k all below = absurd all
+bounded setup to units (number ∷ numbers) (entry ∷ entries) zero all below = slice_get_within units number all.0.unit all.0.is_offered
+bounded setup to units (number ∷ numbers) (entry ∷ entries) (suc k) all below =
+    bounded setup to units numbers entries k all.1 (omega (arith, below))
+
+rising_units : (octets : List (List ℕ)) (units : List AudioUnit) (numbered : Numbered octets units) (setup : Setup) (to : ℕ)
+    (entries : List Handed) (order : InRelayOrder setup to units entries) → IsStrictlyIncreasing (map numbered.number order.numbers)
+rising_units octets units numbered setup to entries order k within =
+    let long : k + 1 < length order.numbers = omega (arith, within, length-map order.numbers numbered.number) in
+    let one = at_map numbered.number order.numbers k (omega (arith, long)) in
+    let next = at_map numbered.number order.numbers (k + 1) long in
+    let now : numbered.number (slice_index order.numbers k) < numbered.number (slice_index order.numbers (k + 1)) =
+    numbered.rises (slice_index order.numbers k) (slice_index order.numbers (k + 1)) (order.rising k long)
+    (bounded setup to units order.numbers entries (k + 1) order.each long) in
+    omega (arith, one, next, now)
+
+of_first : (octets : List (List ℕ)) (units : List AudioUnit) (numbered : Numbered octets units) (setup : Setup) (to k : ℕ) (entry : Handed)
+    → IsOfOffered setup to units k entry → IsOfFirst octets units setup to (numbered.number k) entry
+of_first octets units numbered setup to k entry of_offered = record {
+  unit = of_offered.unit;
+  is_given = numbered.gives k of_offered.unit of_offered.is_offered;
+  place = k;
+  is_handed = of_offered.is_offered;
+  stream = of_offered.stream;
+  time_is = of_offered.time_is;
+  valid_is = of_offered.valid_is;
+}
+
+in_first_order : (octets : List (List ℕ)) (units : List AudioUnit) → Numbered octets units → (setup : Setup) (to : ℕ) (entries : List Handed)
+    → InRelayOrder setup to units entries → InFirstOrder octets units setup to entries
+in_first_order octets units numbered setup to entries order = record {
+  numbers = map numbered.number order.numbers;
+  rising = rising_units octets units numbered setup to entries order;
+  each = zip_map numbered.number (IsOfOffered setup to units) (IsOfFirst octets units setup to)
+      (of_first octets units numbered setup to) order.numbers entries order.each;
+}
+
+-- ---- the law
+
+pub relayed_units : ((boxes : ℕ) → RelayLaw boxes) → StepsInOrder → (boxes : ℕ) → RelayedUnits boxes
+relayed_units law order boxes airs meets said legal n bis to within least greatest to_least to_greatest m below first_clean clean =
+    let made : List Step = happened airs said in
+    let made_legal = happens_legally airs boxes said legal in
+    let framed : (setup_of (steps_of_source 1 made)).info.framing ≡ 1 =
+    eqb-true (setup_of (steps_of_source 1 made)).info.framing 1
+    (settled airs boxes to made made_legal (had_happened airs to said ∙ has_had n bis to said within)).framed in
+    let second = (order airs meets boxes made made_legal 1 m (omega arith) (ungiven m made clean)).in_unit_order to below to_least to_greatest
+    framed clean in
+    in_first_order (given bis (source_calls (steps_of_source 0 made))) (offered airs n bis to said)
+    (offered_numbered order airs meets boxes n bis to said legal within least greatest first_clean) (setup_of (steps_of_source 1 made)) to
+    (shown_since (is_made m) airs 1 m to made)
+    (in_relay_order law airs boxes said legal n bis to within (shown_since (is_made m) airs 1 m to made) second)

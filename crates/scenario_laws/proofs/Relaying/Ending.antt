@@ -1,0 +1,180 @@
+-- What the relay of a sink offered is the end of what the sink handed up since it was made: while the relay stands, the sink lives.
+use Rattle.std.proofs.Common.{ℕ, ◌≡◌, ◌==◌, ◌&&◌, ◌∙◌, cond, Bool, true, false, List, [], ◌∷◌, ◌++◌, map, Option, None, Some}
+use Rattle.std.proofs.Common.{is_some, refl, sym, ap, subst, append_assoc, inl, inr}
+use Rattle.std.specs.Prelude.{unwrap_or}
+use Rattle.std.specs.List.{Contains, filter}
+use Rattle.std.specs.Option.{option_or}
+use Rattle.std.proofs.lemmas.Bool.{eq-eqb, eqb-true, false_from_ne_true, false≢true}
+use Rattle.std.proofs.lemmas.List.{append-nil, map-append}
+use Rattle.std.proofs.lemmas.List.Concat.{flat_map-append}
+use Rattle.std.proofs.lemmas.List.Elements.{filter-append}
+use Rattle.std.proofs.lemmas.Option.{none-some, same_Some}
+use Rattle.bcast_base.specs.declared.unit.Unit.{Unit as AudioUnit}
+use Rattle.scenario_text.specs.declared.step.Step.{Step}
+use Rattle.scenario_text.specs.declared.step.Step.TheVariants as steps
+use Rattle.transcript_text.specs.declared.refusal.Refusal.{Refusal}
+use Rattle.transcript_text.specs.declared.refusal.Refusal.TheVariants as refusals
+use Rattle.scenario_history.specs.Boxes.{SinkUnit, box_of, handed_by}
+use Rattle.scenario_history.proofs.Citable.{fails_not, neither, permitted}
+use Rattle.scenario_history.specs.Refusals.{line_refusal, refusal_of, refuse_if}
+use Rattle.scenario_history.specs.Source.{Airs}
+use Rattle.scenario_history.specs.Steps.{last_given, sinks_made}
+use Rattle.scenario_laws.specs.Laws.{handed_since, is_made, of_sink}
+use Rattle.gift_laws.proofs.Citable.{OneStands, contains_cases, first_free, had_happened, happens_legally, has_had, is_free}
+use Rattle.gift_laws.proofs.Citable.{left_by_gifts, line_passes, not_yet, one_stands}
+use Rattle.scenario_history.specs.Gifts.{Offer, after_offer, after_offers, dropped_for, happened, offers_before, units_on, valid_on}
+use Rattle.scenario_history.specs.Gifts.{with_gift_unless, with_gifts}
+use Rattle.gift_laws.specs.Laws.{handed_on, is_route, offered}
+use Rattle.gift_laws.specs.Legal.{AreLegal, AreSaidLegally}
+use Rattle.scenario_history.specs.Relays.{Route, had_relay, relay_given, relay_of}
+use Rattle.scenario_laws.specs.Relayed.{EndsWith}
+
+-- ---- a sink with a relay lives
+
+boxed_if : (hit : Bool) (box : Option ℕ) (made : ℕ) → is_some box ≡ true → is_some (cond hit (Some made) box) ≡ true
+boxed_if true box made is = refl
+boxed_if false box made is = is
+
+made_boxed : (hit : Bool) (n sink bis to : ℕ) (later : Option (Option Route)) (route : Route) (box : ℕ → Option ℕ) → (hit ≡ true → sink ≡ n)
+    → is_some (box sink) ≡ true → (unwrap_or later None ≡ Some route → is_some (box n) ≡ true)
+    → unwrap_or (option_or (cond hit (Some (Some (record { bis = bis; to = to }))) None) later) None ≡ Some route → is_some (box n) ≡ true
+made_boxed true n sink bis to later route box same living before is = subst (λ k. is_some (box k) ≡ true) (same refl) living
+made_boxed false n sink bis to later route box same living before is = before is
+
+dropped_boxed : (hit : Bool) (later : Option (Option Route)) (route : Route) (box : Option ℕ)
+    → (unwrap_or later None ≡ Some route → is_some box ≡ true)
+    → unwrap_or (option_or (cond hit (Some None) None) later) None ≡ Some route → is_some (cond hit None box) ≡ true
+dropped_boxed true later route box before is = absurd (none-some route is)
+dropped_boxed false later route box before is = before is
+
+boxed : (airs : Airs) (boxes n : ℕ) (route : Route) (made : List Step) → AreLegal airs boxes made → relay_of n made ≡ Some route
+    → is_some (box_of n made) ≡ true
+boxed airs boxes n route [] legal is = absurd (none-some route is)
+boxed airs boxes n route (steps.Relay sink bis to ∷ earlier) legal is =
+    made_boxed (sink == n) n sink bis to (last_given (relay_given n) earlier) route (λ k. box_of k earlier) (eqb-true sink n)
+    (is_free airs boxes earlier sink bis to legal.1).living (boxed airs boxes n route earlier legal.0) is
+boxed airs boxes n route (steps.Drop sink ∷ earlier) legal is =
+    dropped_boxed (sink == n) (last_given (relay_given n) earlier) route (box_of n earlier) (boxed airs boxes n route earlier legal.0) is
+boxed airs boxes n route (steps.Sink sink streams slots mtu ∷ earlier) legal is =
+    boxed_if (sink == n) (box_of n earlier) (sinks_made earlier) (boxed airs boxes n route earlier legal.0 is)
+boxed airs boxes n route (step ∷ earlier) legal is = boxed airs boxes n route earlier legal.0 is
+
+-- a sink that is made didn't live
+unboxed : (airs : Airs) (boxes : ℕ) (made : List Step) (sink streams slots : ℕ) (mtu : Option ℕ)
+    → refusal_of airs boxes made (steps.Sink sink streams slots mtu) ≡ None → is_some (box_of sink made) ≡ false
+unboxed airs boxes made sink streams slots mtu none =
+    let sinks = (permitted airs boxes made (steps.Sink sink streams slots mtu) none).by_sinks in
+    let twice = neither (refuse_if (is_some (box_of sink made)) refusals.SinkTwice) _ sinks in
+    fails_not (is_some (box_of sink made)) refusals.SinkTwice twice.0
+
+-- a sink that lives isn't made
+made_not : (airs : Airs) (boxes n : ℕ) (made gifted : List Step) (step : Step) → line_refusal airs boxes made step ≡ None
+    → is_some (box_of n made) ≡ true → is_made n gifted step ≡ false
+made_not airs boxes n made gifted (steps.Sink sink streams slots mtu) none living =
+    let free = unboxed airs boxes made sink streams slots mtu (line_passes airs boxes made (steps.Sink sink streams slots mtu) none) in
+    false_from_ne_true (sink == n)
+    (λ its. false≢true (sym free ∙ ap (λ k. is_some (box_of k made)) (eqb-true sink n its) ∙ living))
+made_not airs boxes n made gifted step none living = refl
+
+-- ---- what it handed up
+
+abbrev since : Airs → ℕ → List Step → List SinkUnit
+since airs n made = handed_since (is_made n) airs made
+
+unless_since : (airs : Airs) (n : ℕ) (reason : Option Refusal) (offer : Offer) (made : List Step)
+    → since airs n (with_gift_unless reason offer made) ≡ since airs n made
+unless_since airs n None offer made = append-nil ((since airs n made ++ []) ++ []) ∙ append-nil (since airs n made ++ [])
+    ∙ append-nil (since airs n made)
+unless_since airs n (Some reason) offer made = refl
+
+offers_since : (airs : Airs) (n : ℕ) (offers : List Offer) (made : List Step)
+    → since airs n (after_offers airs offers made) ≡ since airs n made
+offers_since airs n [] made = refl
+offers_since airs n (offer ∷ offers) made =
+    offers_since airs n offers (after_offer airs offer made) ∙ unless_since airs n (dropped_for airs offer made) offer made
+
+abbrev own_units : ℕ → ℕ → List SinkUnit → List AudioUnit
+own_units n bis units = units_on bis (of_sink 0 n units)
+
+own_append : (n bis : ℕ) (one other : List SinkUnit) → own_units n bis (one ++ other) ≡ own_units n bis one ++ own_units n bis other
+own_append n bis one other =
+    let mine = λ (unit : SinkUnit). (unit.source == 0) && (unit.sink == n) in
+    let unit = λ (unit : SinkUnit). unit.unit in
+    ap (λ l. units_on bis (map unit l)) (filter-append mine one other)
+    ∙ ap (units_on bis) (map-append unit (filter mine one) (filter mine other))
+    ∙ flat_map-append (valid_on bis) (of_sink 0 n one) (of_sink 0 n other)
+
+step_since : (made_now : Bool) (n bis : ℕ) (before now : List SinkUnit) → made_now ≡ false
+    → own_units n bis (cond made_now [] (before ++ now)) ≡ own_units n bis before ++ own_units n bis now
+step_since true n bis before now not = absurd (false≢true (sym not))
+step_since false n bis before now not = own_append n bis before now
+
+-- ---- its end
+
+-- the sink still has the relay to the stream, of which the `relay` line was made before
+goes_on : (airs : Airs) (boxes n bis to : ℕ) (step : Step) (earlier : List Step) (route : Route)
+    → AreSaidLegally airs boxes (step ∷ earlier)
+    → relay_of n (happened airs earlier) ≡ Some route → is_route bis to (relay_of n (happened airs earlier)) ≡ true
+    → EndsWith (own_units n bis (since airs n (happened airs earlier))) (offered airs n bis to earlier)
+    → EndsWith (own_units n bis (since airs n (happened airs (step ∷ earlier)))) (offered airs n bis to (step ∷ earlier))
+goes_on airs boxes n bis to step earlier route legal is goes ends =
+    let made = happened airs earlier in
+    let gifted = with_gifts airs made step in
+    let now = handed_on airs n bis made step in
+    let living = boxed airs boxes n route made (happens_legally airs boxes earlier legal.0) is in
+    record {
+      before = ends.before;
+      parts = step_since (is_made n gifted step) n bis (since airs n gifted) (handed_by airs gifted step)
+          (made_not airs boxes n made gifted step legal.1 living)
+          ∙ ap (λ l. own_units n bis l ++ now) (offers_since airs n (offers_before airs made step) made)
+          ∙ ap (λ l. l ++ now) ends.parts
+          ∙ append_assoc ends.before (offered airs n bis to earlier) now
+          ∙ ap (λ hit. ends.before ++ (offered airs n bis to earlier ++ cond hit now [])) (sym goes);
+    }
+
+still_if : (hit : Bool) (made route : Route) (later : Option (Option Route)) → (hit ≡ true → made.to ≡ route.to → ⊥)
+    → unwrap_or (option_or (cond hit (Some (Some made)) None) later) None ≡ Some route → unwrap_or later None ≡ Some route
+still_if true made route later other is = absurd (other refl (ap (λ (r : Route). r.to) (same_Some made route is)))
+still_if false made route later other is = is
+
+dropped_not : (hit : Bool) (route : Route) (later : Option (Option Route))
+    → unwrap_or (option_or (cond hit (Some None) None) later) None ≡ Some route → unwrap_or later None ≡ Some route
+dropped_not true route later is = absurd (none-some route is)
+dropped_not false route later is = is
+
+-- a relay to a stream that had one stood before
+stood : (airs : Airs) (boxes n to : ℕ) (made gifted : List Step) (step : Step) (route : Route) → line_refusal airs boxes made step ≡ None
+    → had_relay to made ≡ true → relay_of n (step ∷ gifted) ≡ Some route → route.to ≡ to → relay_of n gifted ≡ Some route
+stood airs boxes n to made gifted (steps.Relay sink from into) route none had is goes =
+    still_if (sink == n) (record { bis = from; to = into }) route (last_given (relay_given n) gifted)
+    (λ its same. false≢true (sym (is_free airs boxes made sink from into
+    (line_passes airs boxes made (steps.Relay sink from into) none)).had ∙ ap (λ b. had_relay b made) (same ∙ goes) ∙ had)) is
+stood airs boxes n to made gifted (steps.Drop sink) route none had is goes = dropped_not (sink == n) route
+    (last_given (relay_given n) gifted) is
+stood airs boxes n to made gifted step route none had is goes = is
+
+is_its : (n bis to : ℕ) (made : List Step) (route : Route) → OneStands n bis to made → relay_of n made ≡ Some route → route.to ≡ to
+    → is_route bis to (relay_of n made) ≡ true
+is_its n bis to made route stands is goes =
+    ap (is_route bis to) is ∙ rw (eq-eqb route.bis bis (stands n route is goes).1, eq-eqb route.to to goes) refl
+
+pub ends_with : (airs : Airs) (boxes n bis to : ℕ) (said : List Step) → AreSaidLegally airs boxes said
+    → Contains said (steps.Relay n bis to)
+    → (route : Route) → relay_of n (happened airs said) ≡ Some route → route.to ≡ to
+    → EndsWith (own_units n bis (since airs n (happened airs said))) (offered airs n bis to said)
+ends_with airs boxes n bis to [] legal within route is goes = absurd (none-some route is)
+ends_with airs boxes n bis to (step ∷ earlier) legal within route is goes =
+    let made = happened airs earlier in
+    let left = left_by_gifts airs made step in
+    elim (contains_cases step earlier (steps.Relay n bis to) within) [
+      | inl line ↦
+          let all = own_units n bis (since airs n (happened airs (step ∷ earlier))) in
+          let none = sym (had_happened airs to earlier) ∙ first_free airs boxes n bis to step made line legal.1 in
+          record { before = all; parts = sym (ap (λ l. all ++ l) (not_yet airs n bis to step earlier none) ∙ append-nil all) }
+      | inr before ↦
+          let had = had_happened airs to earlier ∙ has_had n bis to earlier before in
+          let stands = sym (left.relay n) ∙ stood airs boxes n to made (with_gifts airs made step) step route legal.1 had is goes in
+          goes_on airs boxes n bis to step earlier route legal stands
+          (is_its n bis to made route (one_stands airs boxes n bis to earlier legal.0 before) stands goes)
+          (ends_with airs boxes n bis to earlier legal.0 before route stands goes)
+    ]

@@ -1,0 +1,172 @@
+-- The units that a sink handed up of a stream, each with the number of the unit of its source that it is.
+use Rattle.std.proofs.Common.{ℕ, zero, suc, ◌≡◌, ◌<◌, ◌==◌, ◌∙◌, Bool, true, false, cond, List, [], ◌∷◌, ◌++◌, length, map, slice_get}
+use Rattle.std.proofs.Common.{Option, None, Some, refl, sym, ap, arith}
+use Rattle.std.specs.Prelude.{slice_index, unwrap_or}
+use Rattle.std.specs.List.{AllZip, filter}
+use Rattle.std.specs.Option.{option_map}
+use Rattle.std.proofs.lemmas.List.{length-map, map-append}
+use Rattle.std.proofs.lemmas.List.Kept.{AllPairs-from_increasing}
+use Rattle.std.proofs.lemmas.Option.{none-some, same_Some, slice_get-map}
+use Rattle.bcast_base.specs.declared.unit.Unit.{Unit as AudioUnit}
+use Rattle.group_sink.specs.Handing.{of_stream}
+use Rattle.isoal_framed.specs.Calls.{Call as FramedCall, accept, accepted}
+use Rattle.source_machine.specs.Calls.{Call, Setup, event, framed_calls, given, give}
+use Rattle.unit_outlets.specs.Handed.{Handed, lost, valid}
+use Rattle.scenario_laws.specs.SourceUnits.{InSourceOrder, InUnitOrder, IsGiven, IsOfUnit, is_valid, valid_in}
+use Rattle.gift_laws.proofs.Citable.{event_accepts_none}
+use Rattle.scenario_history.specs.Gifts.{units_on}
+use Rattle.scenario_laws.proofs.Relaying.Order.{place, place_by, place_gets, place_rises}
+
+-- the number of each of these units, by its place, among the units with these octets
+pub record Numbered (octets : List (List ℕ)) (units : List AudioUnit) : Type 0 where
+  pub number : ℕ → ℕ
+  pub rises : (j : ℕ) → (k : ℕ) → j < k → k < length units → number j < number k
+  pub gives : (k : ℕ) → (unit : AudioUnit) → slice_get units k ≡ Some unit → slice_get octets (number k) ≡ Some unit.octets
+
+-- ---- entries and units
+
+-- the unit of a valid entry
+abbrev shown : Handed → Option AudioUnit
+shown (valid stream time octets) = Some (record { time = time; octets = octets })
+shown (lost stream time) = None
+
+valid_if : (hit : Bool) (stream time : ℕ) (octets : List ℕ) (units : List AudioUnit) (rest : List Handed)
+    → map (λ (unit : AudioUnit). shown (valid 0 unit.time unit.octets)) units ≡ map shown (valid_in rest)
+    → map (λ (unit : AudioUnit). shown (valid 0 unit.time unit.octets))
+    (cond hit (record { time = time; octets = octets } ∷ []) [] ++ units)
+    ≡ map shown (valid_in (cond hit (valid stream time octets ∷ rest) rest))
+valid_if true stream time octets units rest same = ap (λ l. shown (valid 0 time octets) ∷ l) same
+valid_if false stream time octets units rest same = same
+
+lost_if : (hit : Bool) (stream time : ℕ) (units : List (Option AudioUnit)) (rest : List Handed) → units ≡ map shown (valid_in rest)
+    → units ≡ map shown (valid_in (cond hit (lost stream time ∷ rest) rest))
+lost_if true stream time units rest same = same
+lost_if false stream time units rest same = same
+
+-- the units of a stream are those of the valid entries of it
+units_are : (bis : ℕ) (entries : List Handed)
+    → map (λ (unit : AudioUnit). shown (valid 0 unit.time unit.octets)) (units_on bis entries)
+    ≡ map shown (valid_in (of_stream bis entries))
+units_are bis [] = refl
+units_are bis (valid stream time octets ∷ entries) =
+    valid_if (stream == bis) stream time octets (units_on bis entries) (of_stream bis entries) (units_are bis entries)
+units_are bis (lost stream time ∷ entries) =
+    lost_if (stream == bis) stream time (map (λ (unit : AudioUnit). shown (valid 0 unit.time unit.octets)) (units_on bis entries))
+    (of_stream bis entries)
+    (units_are bis entries)
+
+-- the unit at a place is that of the valid entry there
+shown_at : (bis : ℕ) (entries : List Handed) (k : ℕ) (unit : AudioUnit) → slice_get (units_on bis entries) k ≡ Some unit
+    → slice_get (map shown (valid_in (of_stream bis entries))) k ≡ Some (shown (valid 0 unit.time unit.octets))
+shown_at bis entries k unit is =
+    ap (λ l. slice_get l k) (sym (units_are bis entries))
+    ∙ slice_get-map (λ (u : AudioUnit). shown (valid 0 u.time u.octets)) (units_on bis entries) k
+    ∙ ap (option_map (λ (u : AudioUnit). shown (valid 0 u.time u.octets))) is
+
+same_long : (bis : ℕ) (entries : List Handed) → length (units_on bis entries) ≡ length (valid_in (of_stream bis entries))
+same_long bis entries =
+    sym (length-map (units_on bis entries) (λ (u : AudioUnit). shown (valid 0 u.time u.octets))) ∙ ap length (units_are bis entries)
+    ∙ length-map (valid_in (of_stream bis entries)) shown
+
+-- ---- numbers
+
+record Found {A B : Type 0} (R : ℕ → A → Type 0) (f : A → B) (number : ℕ) (y : B) : Type 0 where
+  one : A
+  holds : R number one
+  is : f one ≡ y
+
+zip_get : {A B : Type 0} (R : ℕ → A → Type 0) (f : A → B) (numbers : List ℕ) (xs : List A) (k : ℕ) (y : B) → AllZip R numbers xs
+    → slice_get (map f xs) k ≡ Some y → Found R f (slice_index numbers k) y
+zip_get R f [] [] k y all is = absurd (none-some y is)
+zip_get R f [] (x ∷ xs) k y all is = absurd all
+zip_get R f (number ∷ numbers) [] k y all is = absurd all
+zip_get R f (number ∷ numbers) (x ∷ xs) zero y all is = record { one = x; holds = all.0; is = same_Some (f x) y is }
+zip_get R f (number ∷ numbers) (x ∷ xs) (suc k) y all is = zip_get R f numbers xs k y all.1 is
+
+zip_long : {A : Type 0} (R : ℕ → A → Type 0) (numbers : List ℕ) (xs : List A) → AllZip R numbers xs → length numbers ≡ length xs
+zip_long R [] [] all = refl
+zip_long R [] (x ∷ xs) all = absurd all
+zip_long R (number ∷ numbers) [] all = absurd all
+zip_long R (number ∷ numbers) (x ∷ xs) all = ap suc (zip_long R numbers xs all.1)
+
+-- ---- unframed
+
+of_given : (setup : Setup) (calls : List Call) (bis number : ℕ) (entry : Handed) (unit : AudioUnit) → IsGiven setup calls bis number entry
+    → shown entry ≡ Some unit → slice_get (given bis calls) number ≡ Some unit.octets
+of_given setup calls bis number entry unit its is =
+    its.accepted ∙ ap (λ (u : AudioUnit). Some u.octets) (same_Some _ unit (sym (ap shown its.unit_is) ∙ is))
+
+pub numbered_slots : (setup : Setup) (calls : List Call) (bis : ℕ) (entries : List Handed)
+    → InSourceOrder setup calls bis (valid_in (of_stream bis entries)) → Numbered (given bis calls) (units_on bis entries)
+numbered_slots setup calls bis entries order =
+    let long : length order.numbers ≡ length (units_on bis entries) =
+    zip_long (IsGiven setup calls bis) order.numbers (valid_in (of_stream bis entries)) order.given ∙ sym (same_long bis entries) in
+    record {
+      number = slice_index order.numbers;
+      rises = λ j k below within. AllPairs-from_increasing order.numbers order.rising j k 0 below (omega (arith, within, long));
+      gives = λ k unit is.
+          let found = zip_get (IsGiven setup calls bis) shown order.numbers (valid_in (of_stream bis entries)) k
+          (shown (valid 0 unit.time unit.octets))
+          order.given (shown_at bis entries k unit is) in
+          of_given setup calls bis (slice_index order.numbers k) found.one unit found.holds found.is;
+    }
+
+-- ---- framed
+
+given_if : (hit : Bool) (time : ℕ) (octets : List ℕ) (calls : List FramedCall) (before : List (List ℕ))
+    → map (λ (unit : AudioUnit). unit.octets) (accepted calls) ≡ before
+    → map (λ (unit : AudioUnit). unit.octets) (accepted (cond hit (accept time octets ∷ calls) calls))
+    ≡ cond hit (before ++ octets ∷ []) before
+given_if true time octets calls before same =
+    map-append (λ (unit : AudioUnit). unit.octets) (accepted calls) (record { time = time; octets = octets } ∷ [])
+    ∙ ap (λ l. l ++ octets ∷ []) same
+given_if false time octets calls before same = same
+
+given_units : (setup : Setup) (bis : ℕ) (calls : List Call)
+    → map (λ (unit : AudioUnit). unit.octets) (accepted (framed_calls setup bis calls)) ≡ given bis calls
+given_units setup bis [] = refl
+given_units setup bis (give stream time octets ∷ earlier) =
+    given_if (stream == bis) (unwrap_or time 0) octets (framed_calls setup bis earlier) (given bis earlier) (given_units setup bis earlier)
+given_units setup bis (event ∷ earlier) =
+    ap (map (λ (unit : AudioUnit). unit.octets)) (event_accepts_none setup bis earlier) ∙ given_units setup bis earlier
+
+of_unit : (setup : Setup) (calls : List Call) (bis number : ℕ) (entry : Handed) (unit : AudioUnit) → IsOfUnit setup calls bis number entry
+    → shown entry ≡ Some unit → slice_get (given bis calls) number ≡ Some unit.octets
+of_unit setup calls bis number (valid stream time octets) unit its is =
+    ap (λ l. slice_get l number) (sym (given_units setup bis calls))
+    ∙ slice_get-map (λ (u : AudioUnit). u.octets) (accepted (framed_calls setup bis calls)) number
+    ∙ ap (option_map (λ (u : AudioUnit). u.octets)) its.accepted
+    ∙ ap Some (sym (its.valid_is stream time octets refl))
+    ∙ ap (λ (u : AudioUnit). Some u.octets) (same_Some (record { time = time; octets = octets }) unit is)
+of_unit setup calls bis number (lost stream time) unit its is = absurd (none-some unit is)
+
+within_by : {A : Type 0} (hit : Bool) (x : A) (xs kept : List A) (later : ℕ → ℕ) → ((k : ℕ) → k < length kept → later k < length xs)
+    → (k : ℕ) → k < length (cond hit (x ∷ kept) kept) → place_by hit later k < length (x ∷ xs)
+within_by true x xs kept later goes_on zero below = omega arith
+within_by true x xs kept later goes_on (suc k) below = let now : later k < length xs = goes_on k (omega (arith, below)) in omega
+    (arith, now)
+within_by false x xs kept later goes_on k below = let now : later k < length xs = goes_on k below in omega (arith, now)
+
+place_within : {A : Type 0} (test : A → Bool) (xs : List A) (k : ℕ) → k < length (filter test xs) → place test xs k < length xs
+place_within test [] k below = below
+place_within test (x ∷ xs) k below = within_by (test x) x xs (filter test xs) (place test xs) (place_within test xs) k below
+
+pub numbered_units : (setup : Setup) (calls : List Call) (bis : ℕ) (entries : List Handed)
+    → InUnitOrder setup calls bis (of_stream bis entries) → Numbered (given bis calls) (units_on bis entries)
+numbered_units setup calls bis entries order =
+    let all = of_stream bis entries in
+    let index = place is_valid all in
+    let long : length order.numbers ≡ length all = zip_long (IsOfUnit setup calls bis) order.numbers all order.each in
+    let same = same_long bis entries in
+    record {
+      number = λ k. slice_index order.numbers (index k);
+      rises = λ j k below within.
+          let last : index k < length all = place_within is_valid all k (omega (arith, within, same)) in
+          AllPairs-from_increasing order.numbers order.rising (index j) (index k) 0 (place_rises is_valid all j k below)
+          (omega (arith, last, long));
+      gives = λ k unit is.
+          let found = zip_get (IsOfUnit setup calls bis) shown order.numbers all (index k) (shown (valid 0 unit.time unit.octets))
+          order.each
+          (place_gets is_valid shown all (shown (valid 0 unit.time unit.octets)) k (shown_at bis entries k unit is)) in
+          of_unit setup calls bis (slice_index order.numbers (index k)) found.one unit found.holds found.is;
+    }

@@ -1,0 +1,123 @@
+-- Of what was offered those units pass that weren't dropped, in order: so what is in the order of the one is in the order of the other.
+use Rattle.std.proofs.Common.{ℕ, zero, suc, ◌≡◌, ◌<◌, ◌≤◌, ◌+◌, ◌-◌, ◌∙◌, Bool, true, false, cond, List, [], ◌∷◌, length, map}
+use Rattle.std.proofs.Common.{slice_get, Some, refl, sym, ap, arith}
+use Rattle.std.specs.Prelude.{is_none, slice_index}
+use Rattle.std.specs.List.{AllZip, Contains, filter}
+use Rattle.std.specs.List.Sorted.{IsStrictlyIncreasing}
+use Rattle.std.proofs.lemmas.List.{length-map}
+use Rattle.bcast_base.specs.declared.unit.Unit.{Unit as AudioUnit}
+use Rattle.big_info.specs.Time.{iso_us_of, sync_delay_of}
+use Rattle.isoal_framed.specs.Calls.{accepted}
+use Rattle.source_machine.specs.Calls.{Call, Setup, framed_calls}
+use Rattle.unit_outlets.specs.Handed.{Handed}
+use Rattle.scenario_text.specs.declared.step.Step.{Step}
+use Rattle.scenario_text.specs.declared.step.Step.TheVariants as steps
+use Rattle.scenario_history.specs.Source.{Airs, setup_of, source_calls}
+use Rattle.scenario_history.specs.Steps.{steps_of_source}
+use Rattle.gift_laws.specs.Legal.{AreSaidLegally}
+use Rattle.scenario_laws.specs.SourceUnits.{InUnitOrder, IsOfUnit, anchor_in}
+use Rattle.scenario_history.specs.Gifts.{Answered, all_answered, happened, offered_to, passed}
+use Rattle.gift_laws.specs.Laws.{RelayLaw, offered}
+use Rattle.scenario_laws.specs.Relayed.{InRelayOrder, IsOfOffered}
+
+-- ---- the places of what passes a test
+
+abbrev pub place_by : Bool → (ℕ → ℕ) → ℕ → ℕ
+place_by true later zero = 0
+place_by true later (suc k) = suc (later k)
+place_by false later k = suc (later k)
+
+-- the place in a list of what has this place among those of it that pass
+abbrev pub place : {A : Type 0} → (A → Bool) → List A → ℕ → ℕ
+place test [] k = k
+place test (x ∷ xs) k = place_by (test x) (place test xs) k
+
+gets_by : {A B : Type 0} (hit : Bool) (f : A → B) (x : A) (xs kept : List A) (later : ℕ → ℕ) (y : B)
+    → ((k : ℕ) → slice_get (map f kept) k ≡ Some y → slice_get (map f xs) (later k) ≡ Some y)
+    → (k : ℕ) → slice_get (map f (cond hit (x ∷ kept) kept)) k ≡ Some y → slice_get (map f (x ∷ xs)) (place_by hit later k) ≡ Some y
+gets_by true f x xs kept later y goes_on zero is = is
+gets_by true f x xs kept later y goes_on (suc k) is = goes_on k is
+gets_by false f x xs kept later y goes_on k is = goes_on k is
+
+pub place_gets : {A B : Type 0} (test : A → Bool) (f : A → B) (xs : List A) (y : B) (k : ℕ) → slice_get (map f (filter test xs)) k ≡ Some y
+    → slice_get (map f xs) (place test xs k) ≡ Some y
+place_gets test f [] y k is = is
+place_gets test f (x ∷ xs) y k is = gets_by (test x) f x xs (filter test xs) (place test xs) y (place_gets test f xs y) k is
+
+rises_by : (hit : Bool) (later : ℕ → ℕ) → ((j k : ℕ) → j < k → later j < later k) → (j k : ℕ) → j < k
+    → place_by hit later j < place_by hit later k
+rises_by true later rises zero zero below = absurd (omega (arith, below))
+rises_by true later rises zero (suc k) below = omega arith
+rises_by true later rises (suc j) zero below = absurd (omega (arith, below))
+rises_by true later rises (suc j) (suc k) below = let now : later j < later k = rises j k (omega (arith, below)) in omega (arith, now)
+rises_by false later rises j k below = let now : later j < later k = rises j k below in omega (arith, now)
+
+pub place_rises : {A : Type 0} (test : A → Bool) (xs : List A) (j k : ℕ) → j < k → place test xs j < place test xs k
+place_rises test [] j k below = below
+place_rises test (x ∷ xs) j k below = rises_by (test x) (place test xs) (place_rises test xs) j k below
+
+-- ---- numbers that are mapped
+
+pub at_map : (f : ℕ → ℕ) (xs : List ℕ) (k : ℕ) → k < length xs → slice_index (map f xs) k ≡ f (slice_index xs k)
+at_map f [] k below = absurd (omega (arith, below))
+at_map f (x ∷ xs) zero below = refl
+at_map f (x ∷ xs) (suc k) below = at_map f xs k (omega (arith, below))
+
+rising_map : (f : ℕ → ℕ) → ((j k : ℕ) → j < k → f j < f k) → (xs : List ℕ) → IsStrictlyIncreasing xs → IsStrictlyIncreasing (map f xs)
+rising_map f rises xs increasing k within =
+    let long : k + 1 < length xs = omega (arith, within, length-map xs f) in
+    let one = at_map f xs k (omega (arith, long)) in
+    let next = at_map f xs (k + 1) long in
+    let now : f (slice_index xs k) < f (slice_index xs (k + 1)) = rises (slice_index xs k) (slice_index xs (k + 1)) (increasing k long) in
+    omega (arith, one, next, now)
+
+pub zip_map : {A B : Type 0} (f : A → A) (R S : A → B → Type 0) → ((a : A) → (b : B) → R a b → S (f a) b) → (xs : List A) (ys : List B)
+    → AllZip R xs ys
+    → AllZip S (map f xs) ys
+zip_map f R S each [] [] all = tt
+zip_map f R S each [] (b ∷ ys) all = absurd all
+zip_map f R S each (a ∷ xs) [] all = absurd all
+zip_map f R S each (a ∷ xs) (b ∷ ys) all = (each a b all.0, zip_map f R S each xs ys all.1)
+
+-- ---- one unit
+
+rendered : (anchor sync sdu iso delay time : ℕ) → time ≤ anchor
+    → anchor + sync + sdu + iso - (anchor - time) + delay ≡ time + (sync + sdu + iso + delay)
+rendered anchor sync sdu iso delay time ready = omega (arith, ready)
+
+of_offered : (setup : Setup) (calls : List Call) (to : ℕ) (answers : List Answered) (units : List AudioUnit)
+    → accepted (framed_calls setup to calls) ≡ passed answers → map (λ (answer : Answered). answer.offer.unit) answers ≡ units
+    → (number : ℕ) (entry : Handed) → IsOfUnit setup calls to number entry
+    → IsOfOffered setup to units (place (λ (answer : Answered). is_none answer.reason) answers number) entry
+of_offered setup calls to answers units passes offers number entry of_unit =
+    let unit = λ (answer : Answered). answer.offer.unit in
+    let taken = λ (answer : Answered). is_none answer.reason in
+    let there : slice_get (passed answers) number ≡ Some of_unit.unit = ap (λ l. slice_get l number) (sym passes) ∙ of_unit.accepted in
+    record {
+      unit = of_unit.unit;
+      is_offered = ap (λ l. slice_get l (place taken answers number)) (sym offers)
+          ∙ place_gets taken unit answers of_unit.unit number there;
+      stream = of_unit.stream;
+      time_is = of_unit.time_is
+          ∙ rendered (anchor_in setup of_unit.event) (sync_delay_of setup.info) setup.info.sdu_interval (iso_us_of setup.info) setup.delay
+          of_unit.unit.time of_unit.ready;
+      valid_is = of_unit.valid_is;
+    }
+
+pub in_relay_order : ((boxes : ℕ) → RelayLaw boxes) → (airs : Airs) (boxes : ℕ) (said : List Step) → AreSaidLegally airs boxes said
+    → (n bis to : ℕ) → Contains said (steps.Relay n bis to) → (entries : List Handed)
+    → InUnitOrder (setup_of (steps_of_source 1 (happened airs said))) (source_calls (steps_of_source 1 (happened airs said))) to entries
+    → InRelayOrder (setup_of (steps_of_source 1 (happened airs said))) to (offered airs n bis to said) entries
+in_relay_order law airs boxes said legal n bis to within entries order =
+    let own = steps_of_source 1 (happened airs said) in
+    let answers = offered_to to (all_answered airs said) in
+    let taken = λ (answer : Answered). is_none answer.reason in
+    let relayed = law boxes airs said legal n bis to within in
+    record {
+      numbers = map (place taken answers) order.numbers;
+      rising = rising_map (place taken answers) (place_rises taken answers) order.numbers order.rising;
+      each = zip_map (place taken answers) (IsOfUnit (setup_of own) (source_calls own) to)
+          (IsOfOffered (setup_of own) to (offered airs n bis to said))
+          (of_offered (setup_of own) (source_calls own) to answers (offered airs n bis to said) relayed.passed_is relayed.offered_is)
+          order.numbers entries order.each;
+    }

@@ -1,0 +1,218 @@
+-- The sinks of a scenario in version 2: their life is the same, where no train was answered `BadGroup 11` (Basic Audio Profile
+-- 1.0, section 6.5). Lists of steps and of calls have the newest first.
+use Rattle.std.proofs.Common.{ℕ, ◌≡◌, ◌≤◌, ◌==◌, cond, Bool, true, false, List, [], ◌∷◌, Option, None, Some, refl, ◌∙◌, ap, ap₂}
+use Rattle.std.proofs.lemmas.Bool.{eqb-true}
+use Rattle.delegator_history.specs.Octets.{train_of}
+use Rattle.announcement_train.specs.declared.train.Train.{Train as Announced}
+use Rattle.link_history.specs.Calls.{Call, born}
+use Rattle.link_history.specs.Drains.{drained}
+use Rattle.source_machine.specs.Calls.{Setup, Call as SourceCall, next_anchor_of, next_of}
+use Rattle.source_machine.specs.declared.setup.Identity.{Identity}
+use Rattle.scenario_text.specs.declared.step.Step.{Step}
+use Rattle.scenario_text.specs.declared.step.Step.TheVariants as steps
+use Rattle.sink_history.specs.Lives.{Made, Source, horizon_of, lived, lived_at, lived_by, made_by, made_of, named_by, with_drain}
+use Rattle.sink_history.specs.Moves.{train_by}
+use Rattle.scenario_history.specs.Bases.{base_of}
+use Rattle.scenario_history.specs.Source.{checked_info, identity_of, setup_of, source_calls}
+use Rattle.scenario_history.specs.Steps.{chosen_of, chosen_steps}
+use Rattle.scenario_history.specs.Worlds.{announced_of, life, source_at, the_world}
+use Rattle.scenario_laws.proofs.Versions.Lives.{AreQuietCalls, drained_same, quiet_drained, quiet_served}
+use Rattle.scenario_laws.proofs.Versions.Printed.{HearsNear, IsQuietLife, reaching_made}
+use Rattle.scenario_laws.proofs.Versions.Seconds.{at_second, chosen_own, chosen_same, second, seconds, sink_grows}
+use Rattle.scenario_laws.proofs.Versions.Sources.{base_is_same, identity_same, info_same, of_calls}
+
+-- ---- the source that a line means
+
+announced_same : (own : List Step) → announced_of (seconds own) ≡ announced_of own
+announced_same own =
+    let theirs : List Step = seconds own in
+    ap (λ (identity : Identity). train_of identity.broadcast_id (base_of theirs) (checked_info theirs)
+    (next_of (setup_of theirs) (source_calls theirs)) (next_anchor_of (setup_of theirs) (source_calls theirs))) (identity_same own)
+    ∙ ap₂ (λ base info. train_of (identity_of own).broadcast_id base info
+    (next_of (setup_of theirs) (source_calls theirs)) (next_anchor_of (setup_of theirs) (source_calls theirs))) (base_is_same own)
+    (info_same own)
+    ∙ of_calls (λ setup calls. train_of (identity_of own).broadcast_id (base_of own) (checked_info own) (next_of setup calls)
+    (next_anchor_of setup calls))
+    (λ ahead setup calls. refl) own
+
+abbrev source_with : ℕ → Identity → Announced → Setup → List SourceCall → Source
+source_with number identity announced setup calls = record {
+  number = number;
+  address_type = identity.address_type;
+  sid = identity.sid;
+  announced = announced;
+  joining = λ which. record {
+    info = setup.info;
+    which = which;
+    first = next_of setup calls;
+    anchor = next_anchor_of setup calls;
+    delay = setup.delay;
+  };
+}
+
+abbrev source_from : ℕ → List Step → Source
+source_from number own = source_with number (identity_of own) (announced_of own) (setup_of own) (source_calls own)
+
+from_same : (number : ℕ) (own : List Step) → source_from number (seconds own) ≡ source_from number own
+from_same number own =
+    ap₂ (λ identity announced. source_with number identity announced (setup_of (seconds own)) (source_calls (seconds own)))
+    (identity_same own) (announced_same own)
+    ∙ of_calls (source_with number (identity_of own) (announced_of own)) (λ ahead setup calls. refl) own
+
+pub source_same : (made : List Step) → source_at (seconds made) ≡ source_at made
+source_same made = ap₂ source_from (chosen_same made) (chosen_own made) ∙ from_same (chosen_of made) (chosen_steps made)
+
+-- ---- the sink that a line made
+
+-- the sink, but for how far a group may reach, which is as far at least
+pub record IsFar (made other : Made) : Type 0 where
+  pub horizon : ℕ
+  pub within : made.setup.horizon ≤ horizon
+  pub is : other ≡ reaching_made horizon made
+
+-- the same of a sink that lives or not
+abbrev pub AreFar : Option Made → Option Made → Type 0
+AreFar None None = Unit {0}
+AreFar (Some made) (Some other) = IsFar made other
+AreFar _ _ = ⊥
+
+far_if : (b : Bool) (one two made other : Option Made) → AreFar one two → AreFar made other → AreFar (cond b one made) (cond b two other)
+far_if true one two made other is far = is
+far_if false one two made other is far = far
+
+far_after : (n : ℕ) (step : Step) (earlier : List Step) (made other : Option Made) → AreFar made other
+    → AreFar (made_by n step earlier made) (made_by n (second step) (seconds earlier) other)
+far_after n (steps.Sink sink streams slots mtu) earlier made other far =
+    far_if (sink == n) (Some (record { setup = record { streams = streams; slots = slots; horizon = horizon_of earlier }; mtu = mtu }))
+    (Some (record { setup = record { streams = streams; slots = slots; horizon = horizon_of (seconds earlier) }; mtu = mtu })) made other
+    (record { horizon = horizon_of (seconds earlier); within = sink_grows earlier; is = refl }) far
+far_after n (steps.Drop sink) earlier made other far = far_if (sink == n) None None made other tt far
+far_after n _ earlier made other far = far
+
+pub made_far : (n : ℕ) (made : List Step) → AreFar (made_of n made) (made_of n (seconds made))
+made_far n [] = tt
+made_far n (step ∷ earlier) = far_after n step earlier (made_of n earlier) (made_of n (seconds earlier)) (made_far n earlier)
+
+-- ---- trains that are heard
+
+-- a train that the step hands a sink isn't answered `BadGroup 11`
+abbrev pub IsCalm : List Step → Step → Type 0
+IsCalm earlier step = (n : ℕ) → (made : Made) → named_by step ≡ Some n → made_of n earlier ≡ Some made
+    → HearsNear made (life n earlier) (train_by (source_at earlier) step)
+
+abbrev pub AreCalm : List Step → Type 0
+AreCalm [] = Unit {0}
+AreCalm (step ∷ earlier) = AreCalm earlier × IsCalm earlier step
+
+-- no train in its life was answered so
+abbrev pub QuietLife : Option Made → List Call → Type 0
+QuietLife None calls = Unit {0}
+QuietLife (Some made) calls = AreQuietCalls made.setup calls
+
+quiet_lived : (source : Source) (step : Step) (made : Made) (calls : List Call) → AreQuietCalls made.setup calls
+    → HearsNear made calls (train_by source step)
+    → AreQuietCalls made.setup (lived_by source step (Some made) calls)
+quiet_lived source (steps.Drop sink) made calls quiet near = tt
+quiet_lived source (steps.Pac sink codec caps metadata) made calls quiet near = (quiet, tt)
+quiet_lived source (steps.Locate sink bits) made calls quiet near = (quiet, tt)
+quiet_lived source (steps.Context sink sink_bits source_bits) made calls quiet near = (quiet, tt)
+quiet_lived source (steps.Tuned sink which) made calls quiet near = (quiet, tt)
+quiet_lived source (steps.Announce sink) made calls quiet near = (quiet, near)
+quiet_lived source (steps.Train sink time ext adv acad) made calls quiet near = (quiet, near)
+quiet_lived source (steps.Lose sink) made calls quiet near = (quiet, tt)
+quiet_lived source (steps.Control sink octets) made calls quiet near = (quiet, tt)
+quiet_lived source (steps.Serve sink) made calls quiet near = quiet_served made.setup 0 calls quiet
+quiet_lived source (steps.AServe sink link) made calls quiet near = quiet_served made.setup link calls quiet
+quiet_lived source (steps.Drain sink) made calls quiet near = quiet_drained made.setup made.mtu 0 calls quiet
+quiet_lived source (steps.ADrain sink link) made calls quiet near = quiet_drained made.setup made.mtu link calls quiet
+quiet_lived source _ made calls quiet near = quiet
+
+quiet_if : (b : Bool) (one made : Option Made) (first calls : List Call) → QuietLife one first → QuietLife made calls
+    → QuietLife (cond b one made) (cond b first calls)
+quiet_if true one made first calls is quiet = is
+quiet_if false one made first calls is quiet = quiet
+
+quiet_born : (made : Made) (mtu : Option ℕ) → AreQuietCalls made.setup (born mtu)
+quiet_born made None = tt
+quiet_born made (Some mtu) = (tt, tt)
+
+quiet_chosen : (is_its : Bool) (made : Option Made) (first calls : List Call) → (is_its ≡ true → QuietLife made first)
+    → QuietLife made calls → QuietLife made (cond is_its first calls)
+quiet_chosen true made first calls is quiet = is refl
+quiet_chosen false made first calls is quiet = quiet
+
+quiet_of_made : (source : Source) (step : Step) (made : Option Made) (calls : List Call) → QuietLife made calls
+    → ((sink : Made) → made ≡ Some sink → HearsNear sink calls (train_by source step)) → QuietLife made (lived_by source step made calls)
+quiet_of_made source this None calls quiet near = tt
+quiet_of_made source this (Some made) calls quiet near = quiet_lived source this made calls quiet (near made refl)
+
+quiet_at : (n : ℕ) (named : Option ℕ) (step : Step) (earlier : List Step) (made : Option Made) (calls : List Call) → QuietLife made calls
+    → ((sink : Made) → named ≡ Some n → made ≡ Some sink → HearsNear sink calls (train_by (source_at earlier) step))
+    → QuietLife made (lived_at the_world n named step earlier made calls)
+quiet_at n None this earlier made calls quiet near = quiet
+quiet_at n (Some sink) this earlier made calls quiet near =
+    quiet_chosen (sink == n) made (lived_by (source_at earlier) this made calls) calls
+    (λ its. quiet_of_made (source_at earlier) this made calls quiet (λ it is. near it (ap Some (eqb-true sink n its)) is)) quiet
+
+quiet_after : (n : ℕ) (step : Step) (earlier : List Step) (made : Option Made) (calls : List Call) → QuietLife made calls
+    → ((sink : Made) → named_by step ≡ Some n → made ≡ Some sink → HearsNear sink calls (train_by (source_at earlier) step))
+    → QuietLife (made_by n step earlier made) (lived the_world n step earlier made calls)
+quiet_after n (steps.Sink sink streams slots mtu) earlier made calls quiet near =
+    let it : Made = record { setup = record { streams = streams; slots = slots; horizon = horizon_of earlier }; mtu = mtu } in
+    quiet_if (sink == n) (Some it) made (born mtu) calls (quiet_born it mtu) quiet
+quiet_after n (steps.Drop sink) earlier made calls quiet near = quiet_if (sink == n) None made [] calls tt quiet
+quiet_after n this earlier made calls quiet near = quiet_at n (named_by this) this earlier made calls quiet near
+
+pub quiet_life : (n : ℕ) (made : List Step) → AreCalm made → QuietLife (made_of n made) (life n made)
+quiet_life n [] calm = tt
+quiet_life n (step ∷ earlier) calm =
+    quiet_after n step earlier (made_of n earlier) (life n earlier) (quiet_life n earlier calm.0) (λ it named is. calm.1 n it named is)
+
+-- the sink's life in both versions
+pub is_quiet : (made other : Made) (calls : List Call) → (far : IsFar made other) → AreQuietCalls made.setup calls
+    → IsQuietLife far.horizon made calls
+is_quiet made other calls far quiet = record { within = far.within; quiet = quiet }
+
+-- ---- its life
+
+drain_same : (link : ℕ) (made other : Option Made) (calls : List Call) → AreFar made other → QuietLife made calls
+    → with_drain other link calls ≡ with_drain made link calls
+drain_same link None None calls far quiet = refl
+drain_same link (Some made) (Some other) calls far quiet =
+    ap (λ (sink : Made). drained sink.setup sink.mtu link calls) far.is
+    ∙ drained_same far.horizon made.setup made.mtu link calls far.within quiet
+drain_same link None (Some other) calls far quiet = absurd far
+drain_same link (Some made) None calls far quiet = absurd far
+
+lived_same : (source : Source) (step : Step) (made other : Option Made) (calls : List Call) → AreFar made other → QuietLife made calls
+    → lived_by source step other calls ≡ lived_by source step made calls
+lived_same source (steps.Drain sink) made other calls far quiet = drain_same 0 made other calls far quiet
+lived_same source (steps.ADrain sink link) made other calls far quiet = drain_same link made other calls far quiet
+lived_same source _ made other calls far quiet = refl
+
+at_same : (n : ℕ) (named : Option ℕ) (step : Step) (earlier : List Step) (made other : Option Made) (calls others : List Call)
+    → AreFar made other → QuietLife made calls
+    → others ≡ calls → lived_at the_world n named step (seconds earlier) other others ≡ lived_at the_world n named step earlier made calls
+at_same n None this earlier made other calls others far quiet same = same
+at_same n (Some sink) this earlier made other calls others far quiet same =
+    ap₂ (λ source all. cond (sink == n) (lived_by source this other all) all) (source_same earlier) same
+    ∙ ap (λ all. cond (sink == n) all calls) (lived_same (source_at earlier) this made other calls far quiet)
+
+pub after_same : (n : ℕ) (step : Step) (earlier : List Step) (made other : Option Made) (calls others : List Call) → AreFar made other
+    → QuietLife made calls → others ≡ calls
+    → lived the_world n step (seconds earlier) other others ≡ lived the_world n step earlier made calls
+after_same n (steps.Sink sink streams slots mtu) earlier made other calls others far quiet same =
+    ap (λ all. cond (sink == n) (born mtu) all) same
+after_same n this earlier made other calls others far quiet same =
+    at_same n (named_by this) this earlier made other calls others far quiet same
+
+pub life_same : (n : ℕ) (made : List Step) → AreCalm made → life n (seconds made) ≡ life n made
+life_same n [] calm = refl
+life_same n (step ∷ earlier) calm =
+    let other = made_of n (seconds earlier) in
+    at_second (λ one two. lived the_world n two (seconds earlier) other (life n (seconds earlier))
+    ≡ lived the_world n one (seconds earlier) other (life n (seconds earlier)))
+    (λ version. refl) (λ same. refl) step
+    ∙ after_same n step earlier (made_of n earlier) other (life n earlier) (life n (seconds earlier)) (made_far n earlier)
+    (quiet_life n earlier calm.0)
+    (life_same n earlier calm.0)

@@ -1,0 +1,151 @@
+-- The life of a sink whose groups may reach more events ahead: what it has, what its links bring and what it prints are the
+-- same, where no train was answered `BadGroup 11` (Basic Audio Profile 1.0, section 6.5; Broadcast Audio Scan Service 1.0,
+-- section 3). Lists of steps and of calls have the newest first.
+use Rattle.std.proofs.Common.{ℕ, zero, suc, ◌≡◌, ◌≤◌, List, [], ◌∷◌, length, Option, None, Some, refl, ◌∙◌, ap}
+use Rattle.std.specs.Prelude.{option_map, slice_get}
+use Rattle.delegator_history.specs.Notices.{changes}
+use Rattle.delegator_history.specs.Sights.{Sight}
+use Rattle.delegator_history.specs.States.{Answered, Step, answered, done_by, sight_in, sight_of, train_heard, written}
+use Rattle.delegator_history.specs.Steps.{Done}
+use Rattle.delegator_history.specs.Trains.{Setup, brought_by, done_brought}
+use Rattle.link_history.specs.Calls as links
+use Rattle.link_history.specs.Calls.{Call, step_by, steps_of, with_step, writes_waiting}
+use Rattle.link_history.specs.Drains.{drained, repeated, served_out, told_and_read, told_out}
+use Rattle.link_history.specs.Links.{Acts, Told, acts_by, acts_of, changed, language, made_all, notices_waiting, reads_waiting}
+use Rattle.assistant_machine.specs.Links.{reads_of, waiting_of}
+use Rattle.scenario_laws.proofs.Versions.Trains.{BringsNear, brought_same, reaching}
+
+-- ---- what it has
+
+-- the step is no train that was answered `BadGroup 11`
+abbrev pub IsQuiet : Setup → List Step → Step → Type 0
+IsQuiet setup earlier (train_heard source train) = BringsNear (brought_by setup (sight_of setup earlier) train)
+IsQuiet setup earlier _ = Unit {0}
+
+abbrev pub AreQuiet : Setup → List Step → Type 0
+AreQuiet setup [] = Unit {0}
+AreQuiet setup (step ∷ earlier) = AreQuiet setup earlier × IsQuiet setup earlier step
+
+done_same : (far : ℕ) (setup : Setup) (earlier : List Step) (step : Step) → setup.horizon ≤ far → IsQuiet setup earlier step
+    → done_by (reaching far setup) (sight_of setup earlier) step ≡ done_by setup (sight_of setup earlier) step
+done_same far setup earlier (train_heard source train) within quiet =
+    ap done_brought (brought_same far setup (sight_of setup earlier) train within quiet)
+done_same far setup earlier _ within quiet = refl
+
+answer_with : Sight → Done → List Answered → List Answered
+answer_with before done earlier = record { before = before; done = done } ∷ earlier
+
+answered_same : (far : ℕ) (setup : Setup) (steps : List Step) → setup.horizon ≤ far → AreQuiet setup steps
+    → answered (reaching far setup) steps ≡ answered setup steps
+unfolding answered answer_with
+answered_same far setup [] within quiet = refl
+answered_same far setup (step ∷ earlier) within quiet =
+    ap (λ all. answer_with (sight_in setup.slots all) (done_by (reaching far setup) (sight_in setup.slots all) step) all)
+    (answered_same far setup earlier within quiet.0)
+    ∙ ap (λ done. answer_with (sight_in setup.slots (answered setup earlier)) done (answered setup earlier))
+    (done_same far setup earlier step within quiet.1)
+
+pub sight_same : (far : ℕ) (setup : Setup) (steps : List Step) → setup.horizon ≤ far → AreQuiet setup steps
+    → sight_of (reaching far setup) steps ≡ sight_of setup steps
+sight_same far setup steps within quiet = ap (sight_in setup.slots) (answered_same far setup steps within quiet)
+
+-- ---- what its links bring
+
+abbrev pub AreQuietCalls : Setup → List Call → Type 0
+AreQuietCalls setup calls = AreQuiet setup (steps_of calls)
+
+quiet_before : (setup : Setup) (step : Option Step) (steps : List Step) → AreQuiet setup (with_step step steps) → AreQuiet setup steps
+quiet_before setup None steps quiet = quiet
+quiet_before setup (Some step) steps quiet = quiet.0
+
+changed_same : (far : ℕ) (setup : Setup) (before now : List Step) (acts : Acts)
+    → sight_of (reaching far setup) before ≡ sight_of setup before
+    → sight_of (reaching far setup) now ≡ sight_of setup now → changed (reaching far setup) before now acts ≡ changed setup before now acts
+changed_same far setup before now acts same same_now =
+    ap (λ sight. made_all sight (changes setup.slots (sight_of (reaching far setup) before) sight) acts) same_now
+    ∙ ap (λ sight. made_all (sight_of setup now) (changes setup.slots sight (sight_of setup now)) acts) same
+
+by_same : (far : ℕ) (setup : Setup) (mtu : Option ℕ) (link : ℕ) (call : Call) (before now : List Step) (acts : Acts)
+    → sight_of (reaching far setup) before ≡ sight_of setup before → sight_of (reaching far setup) now ≡ sight_of setup now
+    → acts_by (reaching far setup) mtu link call before now acts ≡ acts_by setup mtu link call before now acts
+by_same far setup mtu link (links.stepped step) before now acts same same_now = changed_same far setup before now acts same same_now
+by_same far setup mtu link (links.served at) before now acts same same_now = changed_same far setup before now acts same same_now
+by_same far setup mtu link _ before now acts same same_now = refl
+
+pub acts_same : (far : ℕ) (setup : Setup) (mtu : Option ℕ) (link : ℕ) (calls : List Call) → setup.horizon ≤ far → AreQuietCalls setup calls
+    → acts_of (reaching far setup) mtu link calls ≡ acts_of setup mtu link calls
+acts_same far setup mtu link [] within quiet = refl
+acts_same far setup mtu link (call ∷ earlier) within quiet =
+    let quiet_earlier : AreQuietCalls setup earlier = quiet_before setup (step_by call earlier) (steps_of earlier) quiet in
+    ap (acts_by (reaching far setup) mtu link call (steps_of earlier) (steps_of (call ∷ earlier)))
+    (acts_same far setup mtu link earlier within quiet_earlier)
+    ∙ by_same far setup mtu link call (steps_of earlier) (steps_of (call ∷ earlier)) (acts_of setup mtu link earlier)
+    (sight_same far setup (steps_of earlier) within quiet_earlier) (sight_same far setup (steps_of (call ∷ earlier)) within quiet)
+
+pub notices_same : (far : ℕ) (setup : Setup) (mtu : Option ℕ) (link : ℕ) (calls : List Call) → setup.horizon ≤ far
+    → AreQuietCalls setup calls
+    → notices_waiting (reaching far setup) mtu link calls ≡ notices_waiting setup mtu link calls
+notices_same far setup mtu link calls within quiet = ap waiting_of (acts_same far setup mtu link calls within quiet)
+
+pub reads_same : (far : ℕ) (setup : Setup) (mtu : Option ℕ) (link : ℕ) (calls : List Call) → setup.horizon ≤ far → AreQuietCalls setup calls
+    → reads_waiting (reaching far setup) mtu link calls ≡ reads_waiting setup mtu link calls
+reads_same far setup mtu link calls within quiet = ap (reads_of (language mtu) setup.slots)
+    (acts_same far setup mtu link calls within quiet)
+
+-- ---- drains
+
+quiet_written : (setup : Setup) (link : ℕ) (octets : Option (List ℕ)) (steps : List Step) → AreQuiet setup steps
+    → AreQuiet setup (with_step (option_map (written link) octets) steps)
+quiet_written setup link None steps quiet = quiet
+quiet_written setup link (Some octets) steps quiet = (quiet, tt)
+
+pub quiet_served : (setup : Setup) (link : ℕ) (calls : List Call) → AreQuietCalls setup calls
+    → AreQuietCalls setup (links.served link ∷ calls)
+quiet_served setup link calls quiet = quiet_written setup link (slice_get (writes_waiting link calls) 0) (steps_of calls) quiet
+
+pub quiet_serves : (setup : Setup) (link count : ℕ) (calls : List Call) → AreQuietCalls setup calls
+    → AreQuietCalls setup (repeated count (links.served link) calls)
+quiet_serves setup link zero calls quiet = quiet
+quiet_serves setup link (suc count) calls quiet =
+    quiet_served setup link (repeated count (links.served link) calls) (quiet_serves setup link count calls quiet)
+
+pub quiet_tells : (setup : Setup) (link count : ℕ) (calls : List Call) → AreQuietCalls setup calls
+    → AreQuietCalls setup (repeated count (links.told link) calls)
+quiet_tells setup link zero calls quiet = quiet
+quiet_tells setup link (suc count) calls quiet = quiet_tells setup link count calls quiet
+
+pub quiet_reads : (setup : Setup) (link count : ℕ) (calls : List Call) → AreQuietCalls setup calls
+    → AreQuietCalls setup (repeated count (links.read link) calls)
+quiet_reads setup link zero calls quiet = quiet
+quiet_reads setup link (suc count) calls quiet = quiet_reads setup link count calls quiet
+
+pub quiet_drained : (setup : Setup) (mtu : Option ℕ) (link : ℕ) (calls : List Call) → AreQuietCalls setup calls
+    → AreQuietCalls setup (drained setup mtu link calls)
+quiet_drained setup mtu link calls quiet =
+    let served : List Call = served_out link calls in
+    let told : List Call = told_out setup mtu link served in
+    quiet_reads setup link (length (reads_waiting setup mtu link told)) told
+    (quiet_tells setup link (length (notices_waiting setup mtu link served)) served
+    (quiet_serves setup link (length (writes_waiting link calls)) calls quiet))
+
+pub told_same : (far : ℕ) (setup : Setup) (mtu : Option ℕ) (link : ℕ) (calls : List Call) → setup.horizon ≤ far → AreQuietCalls setup calls
+    → told_out (reaching far setup) mtu link calls ≡ told_out setup mtu link calls
+told_same far setup mtu link calls within quiet =
+    ap (λ (notices : List Told). repeated (length notices) (links.told link) calls) (notices_same far setup mtu link calls within quiet)
+
+told_and_read_same : (far : ℕ) (setup : Setup) (mtu : Option ℕ) (link : ℕ) (calls : List Call) → setup.horizon ≤ far
+    → AreQuietCalls setup calls
+    → told_and_read (reaching far setup) mtu link calls ≡ told_and_read setup mtu link calls
+told_and_read_same far setup mtu link calls within quiet =
+    let told : List Call = told_out setup mtu link calls in
+    ap (λ all. repeated (length (reads_waiting (reaching far setup) mtu link all)) (links.read link) all)
+    (told_same far setup mtu link calls within quiet)
+    ∙ ap (λ (reads : List ℕ). repeated (length reads) (links.read link) told)
+    (reads_same far setup mtu link told within (quiet_tells setup link (length (notices_waiting setup mtu link calls)) calls quiet))
+
+pub drained_same : (far : ℕ) (setup : Setup) (mtu : Option ℕ) (link : ℕ) (calls : List Call) → setup.horizon ≤ far
+    → AreQuietCalls setup calls
+    → drained (reaching far setup) mtu link calls ≡ drained setup mtu link calls
+drained_same far setup mtu link calls within quiet =
+    told_and_read_same far setup mtu link (served_out link calls) within
+    (quiet_serves setup link (length (writes_waiting link calls)) calls quiet)

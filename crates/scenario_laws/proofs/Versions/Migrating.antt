@@ -1,0 +1,272 @@
+-- The migration law, over the airs of each stream by its framing: a text and the text in version 2.
+use Rattle.std.proofs.Common.{ℕ, ◌≡◌, ◌⊎◌, ◌+◌, nat_eq, cond, leb, Bool, true, false, List, [], ◌∷◌, ◌++◌, length, reverse, Option, None}
+use Rattle.std.proofs.Common.{Some, Ok, refl, sym, ◌∙◌, ap, ap₂, subst, inl, inr}
+use Rattle.std.specs.Fmt.{digits as numerals}
+use Rattle.std.proofs.lemmas.List.{append-nil}
+use Rattle.bcast_io.specs.TextLines.{TextLine, plain, too_long, line_limit, line_of}
+use Rattle.bcast_io.specs.TextLines.{lines_of as text_lines}
+use Rattle.unit_outlets.specs.Account.{Account}
+use Rattle.scenario_history.specs.Runs.{Accepted, End, Rules, accepted_of, accepted_unless, end_of, end_unless, out, out_unless}
+use Rattle.scenario_history.specs.Runs.{refused, through}
+use Rattle.scenario_history.proofs.Citable.{reverse_onto}
+use Rattle.scenario_text.specs.Migrated.{is_blank, migrated}
+use Rattle.source_machine.specs.Airs.{airs_of}
+use Rattle.octet_fields.specs.Tries.{◌>>=◌}
+use Rattle.scenario_words.specs.Reading.{decimal_in}
+use Rattle.scenario_text.specs.Steps.{read_of, step_of}
+use Rattle.scenario_text.specs.Table.{first_row_of, row_of}
+use Rattle.scenario_text.specs.declared.step.Step.{Step}
+use Rattle.scenario_text.specs.declared.step.Step.TheVariants as steps
+use Rattle.transcript_text.specs.declared.refusal.Refusal.{Refusal}
+use Rattle.transcript_text.specs.declared.refusal.Refusal.TheVariants.{LineTooLong}
+use Rattle.scenario_history.specs.Lines.{a_step, nothing, unsaid, output_said, refusal_said, said_after, said_by, said_in, said_of}
+use Rattle.scenario_history.specs.Lines.{steps_of, with_said}
+use Rattle.scenario_history.specs.Gifts.{happened}
+use Rattle.scenario_history.specs.Relays.{has_relay}
+use Rattle.scenario_history.specs.Steps.{is_over, is_unbegun_at, stage_of, version_of}
+use Rattle.scenario_history.specs.Transcript.{end_after, has_end, last_end_after, last_line_after, out_of, transcript_end, transcript_of}
+use Rattle.scenario_history.specs.Transcript.{units_of}
+use Rattle.scenario_laws.specs.Versions.{EndsLasting, IsLastingText, NonePrintsTooFar}
+use Rattle.scenario_laws.proofs.Versions.Lived.{AreCalm}
+use Rattle.scenario_laws.proofs.Versions.Runs.{Begins, Its, Laws, RunAlike, RunsAlike, Stands, run_alike}
+use Rattle.scenario_laws.proofs.Versions.Seconds.{seconds}
+use Rattle.scenario_laws.proofs.Versions.Texts.{Turned, here, later, first_version, second_version, same_count, text_turn}
+
+-- ---- an empty line, or a comment
+
+blank_if : (long : Bool) (version : ℕ) (line : List ℕ) → is_blank line ≡ true
+    → (said_in version (cond long (plain line) too_long) ≡ nothing) ⊎ (said_in version (cond long (plain line) too_long)
+    ≡ unsaid LineTooLong)
+unfolding read_of
+blank_if false version line blank = inr refl
+blank_if true version [] blank = inl refl
+blank_if true version (octet ∷ line) blank = inl
+    (ap (λ b. said_by (cond b (Ok None) (step_of version (octet ∷ line) >>= λ step. Ok (Some step)))) blank)
+
+blank_says : (version : ℕ) (line : List ℕ) → is_blank line ≡ true
+    → (said_in version (line_of line) ≡ nothing) ⊎ (said_in version (line_of line) ≡ unsaid LineTooLong)
+blank_says version line blank = blank_if (leb (length line) line_limit) version line blank
+
+-- a line that both histories accept, and that brings nothing
+skips : (starts : List Account) (history others : List TextLine) (reason reason' : Option Refusal)
+    (brought brought' octets octets' : List ℕ) (end end' : End Refusal)
+    (all all' : List TextLine) → reason ≡ None → reason' ≡ None → brought ≡ [] → brought' ≡ [] → RunsAlike octets octets' end end' all all'
+    → RunsAlike (out_unless (Its starts) history reason (brought ++ octets)) (out_unless (Its starts) others reason' (brought' ++ octets'))
+    (end_unless history reason end) (end_unless others reason' end') (accepted_unless history reason all)
+    (accepted_unless others reason' all')
+skips starts history others reason reason' brought brought' octets octets' end end' all all' none none' empty empty' alike =
+    subst (λ r. RunsAlike (out_unless (Its starts) history r (brought ++ octets))
+    (out_unless (Its starts) others reason' (brought' ++ octets'))
+    (end_unless history r end) (end_unless others reason' end') (accepted_unless history r all) (accepted_unless others reason' all'))
+    (sym none)
+    (subst (λ r. RunsAlike (brought ++ octets) (out_unless (Its starts) others r (brought' ++ octets')) end (end_unless others r end') all
+    (accepted_unless others r all')) (sym none')
+    (subst (λ front. RunsAlike (front ++ octets) (brought' ++ octets') end end' all all') (sym empty)
+    (subst (λ front. RunsAlike octets (front ++ octets') end end' all all') (sym empty') alike)))
+
+-- a line that both histories refuse
+stops : (starts : List Account) (history : List TextLine) (reason : Option Refusal) (why : Refusal) (octets octets' : List ℕ)
+    (end end' : End Refusal) (all all' : List TextLine)
+    → reason ≡ Some why → RunsAlike (out_unless (Its starts) history reason octets) (out_unless (Its starts) history reason octets')
+    (end_unless history reason end) (end_unless history reason end') (accepted_unless history reason all)
+    (accepted_unless history reason all')
+stops starts history reason why octets octets' end end' all all' is =
+    subst (λ r. RunsAlike (out_unless (Its starts) history r octets) (out_unless (Its starts) history r octets')
+    (end_unless history r end) (end_unless history r end') (accepted_unless history r all) (accepted_unless history r all')) (sym is)
+    (record { octets_same = refl; end_same = refl; units_same = refl; over_same = refl })
+
+lasting_next : (history : List TextLine) (reason : Option Refusal) (end : End Refusal) → reason ≡ None
+    → EndsLasting (end_unless history reason end) → EndsLasting end
+lasting_next history reason end none lasting = subst (λ r. EndsLasting (end_unless history r end)) none lasting
+
+-- ---- the line of the version
+
+says_first : said_in 1 (plain first_version) ≡ a_step (steps.Scenario 1)
+unfolding read_of step_of row_of first_row_of decimal_in numerals
+says_first = refl
+
+says_second : said_in 1 (plain second_version) ≡ a_step (steps.Scenario 2)
+unfolding read_of step_of row_of first_row_of decimal_in numerals
+says_second = refl
+
+-- a history that says no step
+first_refusal : (boxes version : ℕ) (made : List Step) → made ≡ []
+    → refusal_said airs_of boxes made (a_step (steps.Scenario version)) ≡ None
+first_refusal boxes version made none = subst (λ before. refusal_said airs_of boxes before (a_step (steps.Scenario version)) ≡ None)
+    (sym none) refl
+
+first_says : (made : List Step) → made ≡ [] → said_in (version_of made) (plain first_version) ≡ a_step (steps.Scenario 1)
+first_says made none = subst (λ before. said_in (version_of before) (plain first_version) ≡ a_step (steps.Scenario 1)) (sym none) says_first
+
+second_says : (made : List Step) → made ≡ [] → said_in (version_of made) (plain second_version) ≡ a_step (steps.Scenario 2)
+second_says made none = subst (λ before. said_in (version_of before) (plain second_version) ≡ a_step (steps.Scenario 2)) (sym none)
+    says_second
+
+-- what the line of the version says behind lines that say no step
+abbrev SaysVersion : List TextLine → ℕ → List ℕ → Type 0
+SaysVersion history version line = said_after history (plain line) ≡ a_step (steps.Scenario version)
+
+its_refusal : (starts : List Account) (history : List TextLine) (version : ℕ) (line : List ℕ) → said_of history ≡ []
+    → SaysVersion history version line
+    → (Its starts).refusal history (plain line) ≡ None
+its_refusal starts history version line none says =
+    ap (refusal_said airs_of (length starts) (steps_of airs_of history)) says
+    ∙ first_refusal (length starts) version (steps_of airs_of history) (ap (happened airs_of) none)
+
+its_output : (starts : List Account) (history : List TextLine) (version : ℕ) (line : List ℕ) → SaysVersion history version line
+    → (Its starts).output history (plain line) ≡ []
+its_output starts history version line says = ap (output_said airs_of starts (steps_of airs_of history)) says
+
+its_steps : (history : List TextLine) (version : ℕ) (line : List ℕ) → said_of history ≡ [] → SaysVersion history version line
+    → said_of (plain line ∷ history) ≡ steps.Scenario version ∷ []
+its_steps history version line none says = ap₂ with_said says none
+
+begun_calm : AreCalm (steps.Scenario 1 ∷ [])
+begun_calm = (tt, λ n made names lives. tt)
+
+first_stands : (starts : List Account) (history : List TextLine) → said_of history ≡ [] → Accepted (Its starts) history
+    → Stands starts (plain first_version ∷ history) (plain second_version ∷ history)
+first_stands starts history none accepted =
+    let one : SaysVersion history 1 first_version = first_says (said_of history) none in
+    let two : SaysVersion history 2 second_version = second_says (said_of history) none in
+    let made : said_of (plain first_version ∷ history) ≡ steps.Scenario 1 ∷ [] = its_steps history 1 first_version none one in
+    record {
+      made = its_steps history 2 second_version none two ∙ ap seconds (sym made);
+      count = refl;
+      begun = ap (λ all. is_unbegun_at (stage_of all)) made;
+      first = ap (λ all. nat_eq (version_of all) 2) made;
+      plain = ap has_relay made;
+      calm = subst AreCalm (sym made) begun_calm;
+      accepted = (accepted, its_refusal starts history 1 first_version none one);
+    }
+
+-- ---- the lines of both texts
+
+first_alike : Laws → (starts : List Account) (all history rest : List TextLine) → NonePrintsTooFar airs_of starts all
+    → Begins all history (plain first_version ∷ rest)
+    → said_of history ≡ [] → Accepted (Its starts) history → EndsLasting (end_of (Its starts) history (plain first_version ∷ rest))
+    → RunAlike starts history history (plain first_version ∷ rest) (plain second_version ∷ rest)
+first_alike laws starts all history rest never begins none accepted lasting =
+    let one : SaysVersion history 1 first_version = first_says (said_of history) none in
+    let two : SaysVersion history 2 second_version = second_says (said_of history) none in
+    let none_one : (Its starts).refusal history (plain first_version) ≡ None = its_refusal starts history 1 first_version none one in
+    let none_two : (Its starts).refusal history (plain second_version) ≡ None = its_refusal starts history 2 second_version none two in
+    skips starts history history ((Its starts).refusal history (plain first_version)) ((Its starts).refusal history (plain second_version))
+    ((Its starts).output history (plain first_version)) ((Its starts).output history (plain second_version))
+    (out (Its starts) (plain first_version ∷ history) rest) (out (Its starts) (plain second_version ∷ history) rest)
+    (end_of (Its starts) (plain first_version ∷ history) rest) (end_of (Its starts) (plain second_version ∷ history) rest)
+    (accepted_of (Its starts) (plain first_version ∷ history) rest) (accepted_of (Its starts) (plain second_version ∷ history) rest)
+    none_one none_two (its_output starts history 1 first_version one) (its_output starts history 2 second_version two)
+    (run_alike laws starts all (plain first_version ∷ history) (plain second_version ∷ history) rest never
+    (begins ∙ sym (reverse_onto (plain first_version) history rest)) (first_stands starts history none accepted)
+    (lasting_next history ((Its starts).refusal history (plain first_version)) (end_of (Its starts) (plain first_version ∷ history) rest)
+    none_one lasting))
+
+turned_alike : Laws → (starts : List Account) (all history lines others : List TextLine) → NonePrintsTooFar airs_of starts all
+    → Begins all history lines → said_of history ≡ []
+    → Accepted (Its starts) history → EndsLasting (end_of (Its starts) history lines) → Turned lines others
+    → RunAlike starts history history lines others
+turned_alike laws starts all history _ _ never begins none accepted lasting (here rest) =
+    first_alike laws starts all history rest never begins none accepted lasting
+turned_alike laws starts all history _ _ never begins none accepted lasting (later line lines others blank turned) =
+    let it : TextLine = line_of line in
+    elim (blank_says (version_of (said_of history)) line blank) [
+      | inl says ↦
+          let passes : (Its starts).refusal history it ≡ None = ap (refusal_said airs_of (length starts) (steps_of airs_of history)) says in
+          let empty : (Its starts).output history it ≡ [] = ap (output_said airs_of starts (steps_of airs_of history)) says in
+          skips starts history history ((Its starts).refusal history it) ((Its starts).refusal history it) ((Its starts).output history it)
+          ((Its starts).output history it)
+          (out (Its starts) (it ∷ history) lines) (out (Its starts) (it ∷ history) others) (end_of (Its starts) (it ∷ history) lines)
+          (end_of (Its starts) (it ∷ history) others)
+          (accepted_of (Its starts) (it ∷ history) lines) (accepted_of (Its starts) (it ∷ history) others) passes passes empty empty
+          (turned_alike laws starts all (it ∷ history) lines others never (begins ∙ sym (reverse_onto it history lines))
+          (ap (λ said. with_said said (said_of history)) says ∙ none) (accepted, passes)
+          (lasting_next history ((Its starts).refusal history it) (end_of (Its starts) (it ∷ history) lines) passes lasting) turned)
+      | inr says ↦
+          stops starts history ((Its starts).refusal history it) LineTooLong ((Its starts).output history it
+          ++ out (Its starts) (it ∷ history) lines)
+          ((Its starts).output history it ++ out (Its starts) (it ∷ history) others) (end_of (Its starts) (it ∷ history) lines)
+          (end_of (Its starts) (it ∷ history) others)
+          (accepted_of (Its starts) (it ∷ history) lines) (accepted_of (Its starts) (it ∷ history) others)
+          (ap (refusal_said airs_of (length starts) (steps_of airs_of history)) says)
+    ]
+
+-- ---- the transcripts
+
+through_if : {L R : Type 0} (rules : Rules L R) (history lines : List L) (line : L) (reason : Option R)
+    → (end_of rules (line ∷ history) lines ≡ through → accepted_of rules (line ∷ history) lines ≡ reverse lines ++ line ∷ history)
+    → end_unless history reason (end_of rules (line ∷ history) lines) ≡ through
+    → accepted_unless history reason (accepted_of rules (line ∷ history) lines) ≡ reverse (line ∷ lines) ++ history
+through_if rules history lines line None more is = more is ∙ sym (reverse_onto line lines history)
+through_if rules history lines line (Some reason) more is = absurd cc
+
+-- where a run goes through all its lines, it accepts them all
+through_all : {L R : Type 0} (rules : Rules L R) (history lines : List L) → end_of rules history lines ≡ through
+    → accepted_of rules history lines ≡ reverse lines ++ history
+through_all rules history [] is = refl
+through_all rules history (line ∷ lines) is = through_if rules history lines line (rules.refusal history line)
+    (through_all rules (line ∷ history) lines) is
+
+ends_over : (starts : List Account) (lines : List TextLine) → end_after airs_of starts lines ≡ through
+    → has_end lines ≡ is_over (said_of (accepted_of (Its starts) [] lines))
+ends_over starts lines is = ap (λ all. is_over (said_of all)) (sym (through_all (Its starts) [] lines is ∙ append-nil (reverse lines)))
+
+line_if : (end : End Refusal) (over over' : Bool) (number : ℕ) → (end ≡ through → over' ≡ over)
+    → last_line_after end over' number ≡ last_line_after end over number
+line_if (refused line reason) over over' number same = refl
+line_if through over over' number same = ap (λ b. last_line_after through b number) (same refl)
+
+end_if : (end : End Refusal) (over over' : Bool) (number : ℕ) → (end ≡ through → over' ≡ over)
+    → last_end_after end over' number ≡ last_end_after end over number
+end_if (refused line reason) over over' number same = refl
+end_if through over over' number same = ap (λ b. last_end_after through b number) (same refl)
+
+lasting_before : (end : End Refusal) (over : Bool) (number : ℕ) → EndsLasting (last_end_after end over number) → EndsLasting end
+lasting_before (refused line reason) over number lasting = lasting
+lasting_before through over number lasting = tt
+
+-- the transcripts of two lists of lines, their ends and the units are the same
+pub record LinesAlike (starts : List Account) (lines others : List TextLine) : Type 0 where
+  pub octets : transcript_of airs_of starts others ≡ transcript_of airs_of starts lines
+  pub end : transcript_end airs_of starts others ≡ transcript_end airs_of starts lines
+  pub units : units_of airs_of starts others ≡ units_of airs_of starts lines
+
+lines_alike : (starts : List Account) (lines others : List TextLine) → length others ≡ length lines → RunAlike starts [] [] lines others
+    → LinesAlike starts lines others
+lines_alike starts lines others count alike =
+    let ended : end_after airs_of starts lines ≡ through → has_end others ≡ has_end lines =
+    λ is. ends_over starts others (alike.end_same ∙ is) ∙ alike.over_same ∙ sym (ends_over starts lines is) in
+    record {
+      octets =
+          ap₂ (λ octets end. octets ++ last_line_after end (has_end others) (length others + 1)) alike.octets_same alike.end_same
+          ∙ ap (λ number. out_of airs_of starts lines ++ last_line_after (end_after airs_of starts lines) (has_end others) (number + 1))
+          count
+          ∙ ap (λ line. out_of airs_of starts lines ++ line)
+          (line_if (end_after airs_of starts lines) (has_end lines) (has_end others) (length lines + 1) ended);
+      end =
+          ap₂ (λ end number. last_end_after end (has_end others) (number + 1)) alike.end_same count
+          ∙ end_if (end_after airs_of starts lines) (has_end lines) (has_end others) (length lines + 1) ended;
+      units = alike.units_same;
+    }
+
+same_lines : (starts : List Account) (lines others : List TextLine) → others ≡ lines → LinesAlike starts lines others
+same_lines starts lines others same =
+    record {
+      octets = ap (transcript_of airs_of starts) same;
+      end = ap (transcript_end airs_of starts) same;
+      units =
+          ap (units_of airs_of starts) same;
+    }
+
+pub text_alike : Laws → (starts : List Account) (text : List ℕ) → IsLastingText airs_of starts text
+    → LinesAlike starts (text_lines true text) (text_lines true (migrated text))
+text_alike laws starts text lasting = elim (text_turn text) [
+  | inl same ↦ same_lines starts (text_lines true text) (text_lines true (migrated text)) same
+  | inr turned ↦
+      lines_alike starts (text_lines true text) (text_lines true (migrated text))
+      (same_count (text_lines true text) (text_lines true (migrated text)) turned)
+      (turned_alike laws starts (text_lines true text) [] (text_lines true text) (text_lines true (migrated text)) lasting.trains refl refl
+      tt
+      (lasting_before (end_after airs_of starts (text_lines true text)) (has_end (text_lines true text)) (length (text_lines true text) + 1)
+      lasting.end) turned)
+]

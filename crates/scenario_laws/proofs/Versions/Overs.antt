@@ -1,0 +1,70 @@
+-- The migration law over any airs that meet the relation of their framing, one for the text and one for the text in version 2.
+use Rattle.std.proofs.Common.{ℕ, ◌≡◌, true, List, ◌∷◌, sym, ◌∙◌, ap, subst}
+use Rattle.bcast_io.specs.TextLines.{TextLine, lines_of}
+use Rattle.unit_outlets.specs.Account.{Account}
+use Rattle.scenario_history.specs.Runs.{Accepted}
+use Rattle.scenario_text.specs.Migrated.{migrated}
+use Rattle.source_machine.specs.Airs.{airs_of}
+use Rattle.scenario_text.specs.declared.step.Step.TheVariants as steps
+use Rattle.scenario_history.specs.Airs.{MeetAirs}
+use Rattle.scenario_history.specs.Lines.{output_said, rules_of, steps_of}
+use Rattle.scenario_history.specs.Output.{sink_lines}
+use Rattle.scenario_history.specs.Source.{Airs}
+use Rattle.scenario_history.specs.Transcript.{transcript_end, transcript_of, units_of}
+use Rattle.scenario_laws.specs.Versions.{EndsLasting, IsLastingText, MigrationLaw, PrintsTooFar}
+use Rattle.scenario_laws.proofs.Versions.Migrating.{LinesAlike, text_alike}
+use Rattle.scenario_laws.proofs.Versions.Runs.{Laws}
+
+-- any two airs that meet their relation give one transcript
+pub record OneTranscript : Type 0 where
+  pub octets : (airs others : Airs) (starts : List Account) (lines : List TextLine) → MeetAirs airs → MeetAirs others
+      → transcript_of airs starts lines ≡ transcript_of others starts lines
+  pub end : (airs others : Airs) (starts : List Account) (lines : List TextLine) → MeetAirs airs → MeetAirs others
+      → transcript_end airs starts lines ≡ transcript_end others starts lines
+  pub units : (airs others : Airs) (starts : List Account) (lines : List TextLine) → MeetAirs airs → MeetAirs others
+      → units_of airs starts lines ≡ units_of others starts lines
+  pub accepted : (airs others : Airs) (starts : List Account) (lines : List TextLine) → MeetAirs airs → MeetAirs others
+      → Accepted (rules_of airs starts) lines → Accepted (rules_of others starts) lines
+  pub steps : (airs others : Airs) (starts : List Account) (lines : List TextLine) → MeetAirs airs → MeetAirs others
+      → Accepted (rules_of airs starts) lines → steps_of airs lines ≡ steps_of others lines
+
+-- a `train` step prints the same over all airs
+prints_over : (airs others : Airs) (starts : List Account) (earlier : List TextLine) (line : TextLine)
+    → steps_of airs earlier ≡ steps_of others earlier → PrintsTooFar airs starts earlier line → PrintsTooFar others starts earlier line
+prints_over airs others starts earlier line same prints = record {
+  sink = prints.sink;
+  time = prints.time;
+  ext = prints.ext;
+  adv = prints.adv;
+  acad = prints.acad;
+  says = prints.says;
+  prints = ap (output_said others starts (steps_of others earlier)) prints.says
+      ∙ ap (λ made. sink_lines made (steps.Train prints.sink prints.time prints.ext prints.adv prints.acad)) (sym same)
+      ∙ sym (ap (output_said airs starts (steps_of airs earlier)) prints.says) ∙ prints.prints;
+}
+
+lasting_over : OneTranscript → MeetAirs airs_of → (airs : Airs) (starts : List Account) (text : List ℕ) → MeetAirs airs
+    → IsLastingText airs starts text
+    → IsLastingText airs_of starts text
+lasting_over one meet airs starts text meets lasting = record {
+  trains = λ earlier line later is accepted prints. lasting.trains earlier line later is
+      (one.accepted airs_of airs starts (line ∷ earlier) meet meets accepted) (prints_over airs_of airs starts earlier line
+      (one.steps airs_of airs starts earlier meet meets accepted.0) prints);
+  end = subst EndsLasting (one.end airs airs_of starts (lines_of true text) meets meet) lasting.end;
+}
+
+pub migration_law_holds : Laws → OneTranscript → MeetAirs airs_of → (starts : List Account) → MigrationLaw starts
+migration_law_holds laws one meet starts airs others meets meet_too text lasting =
+    let alike : LinesAlike starts (lines_of true text) (lines_of true (migrated text)) =
+    text_alike laws starts text (lasting_over one meet airs starts text meets lasting) in
+    record {
+      octets =
+          one.octets others airs_of starts (lines_of true (migrated text)) meet_too meet ∙ alike.octets
+          ∙ one.octets airs_of airs starts (lines_of true text) meet meets;
+      end =
+          one.end others airs_of starts (lines_of true (migrated text)) meet_too meet ∙ alike.end
+          ∙ one.end airs_of airs starts (lines_of true text) meet meets;
+      units =
+          one.units others airs_of starts (lines_of true (migrated text)) meet_too meet ∙ alike.units
+          ∙ one.units airs_of airs starts (lines_of true text) meet meets;
+    }

@@ -1,0 +1,216 @@
+-- A train that a source announces isn't answered `BadGroup 11`: its group passed the group check of the version that its sinks
+-- are of too (Basic Audio Profile 1.0, section 6.5; Core 5.2, volume 6 part B, section 4.4.6). Lists of steps have the newest
+-- first; where a list is called `own` its steps are those of one source.
+use Rattle.std.proofs.Common.{ℕ, ◌≡◌, ◌≤◌, ◌-◌, ◌*◌, ◌/◌, ◌==◌, not, cond, Bool, true, false, List, [], ◌∷◌, Option, None, Some, Ok, refl}
+use Rattle.std.proofs.Common.{sym, ◌∙◌, ap, ap₂, subst}
+use Rattle.std.specs.Prelude.{slice_index, unwrap_or}
+use Rattle.std.proofs.lemmas.Bool.{eqb-true, false≢true, ltb-false, not-false}
+use Rattle.std.proofs.lemmas.Option.{same_Some}
+use Rattle.delegator_history.specs.Octets.{MayAnnounce, train_of}
+use Rattle.delegator_history.proofs.Citable.{info_read}
+use Rattle.announcement_train.specs.declared.train.Train.{Train}
+use Rattle.announcement_train.specs.Layout.{IsTrain}
+use Rattle.announcement_train.specs.Told.{Tells, TellsInfo, numbers_of}
+use Rattle.base_grammar.specs.Layout.{Endpoint}
+use Rattle.big_info.specs.declared.fault.GroupFault.TheVariants.{Horizon}
+use Rattle.big_info.specs.declared.info.BigInfo.{BigInfo}
+use Rattle.big_info.specs.Reading.{info_of}
+use Rattle.big_info.specs.Rows.{NoFault, first_fault}
+use Rattle.big_info.specs.Schedule.{horizon_of as reach_of}
+use Rattle.delegator_history.specs.Trains.{Setup, Train as Heard, big_info_in, found_in}
+use Rattle.ltv_codec.specs.Values.{first_of}
+use Rattle.source_machine.specs.Ciphers.{without_cipher}
+use Rattle.source_machine.specs.Calls.{next_anchor_of, next_of}
+use Rattle.scenario_text.specs.declared.step.Step.{Step}
+use Rattle.scenario_text.specs.declared.step.Step.TheVariants as steps
+use Rattle.transcript_text.specs.declared.refusal.Refusal.TheVariants.{BaseTooLong}
+use Rattle.sink_history.specs.Lives.{Made, horizon_of, made_of, own_train}
+use Rattle.scenario_history.specs.Bases.{base_of, is_base_too_long}
+use Rattle.scenario_history.specs.Refusals.{group_refusal, horizon_in, refusal_of, refuse_if, source_refusal}
+use Rattle.scenario_history.specs.Source.{Airs, checked_info, cipher_of, group_of, identity_of, is_sending, is_started, no_group, setup_of}
+use Rattle.scenario_history.specs.Source.{source_calls}
+use Rattle.scenario_history.specs.Steps.{chosen_of, chosen_steps, is_of_source, is_unbegun_at, stage_of, steps_of_source, version_of}
+use Rattle.scenario_history.specs.Worlds.{announced_of, life, source_at}
+use Rattle.sink_history.specs.Output.{sight_in}
+use Rattle.scenario_laws.proofs.Citable.{Lawful, Legal, Permitted, bounds_in, lawful, may_announce, may_be_sent, neither, permitted, sends}
+use Rattle.scenario_laws.proofs.Citable.{settled}
+use Rattle.scenario_laws.proofs.Versions.Groups.{within_near}
+use Rattle.scenario_laws.proofs.Versions.Lived.{IsCalm}
+use Rattle.scenario_laws.proofs.Versions.Seconds.{sink_horizon}
+use Rattle.scenario_laws.proofs.Versions.Trains.{ReadsNear, brought_near}
+
+-- ---- `scenario` comes first
+
+unbegun_empty : (airs : Airs) (boxes : ℕ) (made : List Step) → Legal airs boxes made → is_unbegun_at (stage_of made) ≡ true → made ≡ []
+unbegun_empty airs boxes [] legal unbegun = refl
+unbegun_empty airs boxes (steps.Scenario version ∷ earlier) legal unbegun = absurd (false≢true unbegun)
+unbegun_empty airs boxes (steps.End ∷ earlier) legal unbegun = absurd (false≢true unbegun)
+unbegun_empty airs boxes (this ∷ earlier) legal unbegun = absurd (false≢true (sym (permitted airs boxes earlier this legal.1).in_place
+    ∙ unbegun))
+
+first_alone : (airs : Airs) (boxes version : ℕ) (earlier : List Step) → Legal airs boxes (steps.Scenario version ∷ earlier) → earlier ≡ []
+first_alone airs boxes version earlier legal =
+    unbegun_empty airs boxes earlier legal.0
+    (not-false (is_unbegun_at (stage_of earlier)) (permitted airs boxes earlier (steps.Scenario version) legal.1).in_place)
+
+-- ---- how far a group may reach for a sink
+
+-- a sink that lives has this horizon
+abbrev HasHorizon : Option Made → ℕ → Type 0
+HasHorizon None horizon = Unit {0}
+HasHorizon (Some made) horizon = made.setup.horizon ≡ horizon
+
+horizon_if : (b : Bool) (one made : Option Made) (horizon : ℕ) → HasHorizon one horizon → HasHorizon made horizon
+    → HasHorizon (cond b one made) horizon
+horizon_if true one made horizon is has = is
+horizon_if false one made horizon is has = has
+
+horizon_made : (airs : Airs) (boxes n : ℕ) (made : List Step) → Legal airs boxes made
+    → HasHorizon (made_of n made) (horizon_in (version_of made))
+horizon_made airs boxes n [] legal = tt
+horizon_made airs boxes n (steps.Scenario version ∷ earlier) legal =
+    subst (λ before. HasHorizon (made_of n before) (horizon_in version)) (sym (first_alone airs boxes version earlier legal)) tt
+horizon_made airs boxes n (steps.Sink sink streams slots mtu ∷ earlier) legal =
+    horizon_if (sink == n) (Some (record { setup = record { streams = streams; slots = slots; horizon = horizon_of earlier }; mtu = mtu }))
+    (made_of n earlier)
+    (horizon_in (version_of earlier)) (sink_horizon earlier) (horizon_made airs boxes n earlier legal.0)
+horizon_made airs boxes n (steps.Drop sink ∷ earlier) legal =
+    horizon_if (sink == n) None (made_of n earlier) (horizon_in (version_of earlier)) tt (horizon_made airs boxes n earlier legal.0)
+horizon_made airs boxes n (this ∷ earlier) legal = horizon_made airs boxes n earlier legal.0
+
+-- ---- how far the group of a source reaches
+
+-- the group of the source, where it was started, reaches so many events ahead at most
+abbrev ReachesIn : List Step → ℕ → Type 0
+ReachesIn own horizon = is_started own ≡ true → reach_of (unwrap_or (group_of own) no_group).info ≤ horizon
+
+reach_if : (b : Bool) (own : List Step) (step : Step) (horizon : ℕ) → (b ≡ true → ReachesIn (step ∷ own) horizon) → ReachesIn own horizon
+    → ReachesIn (cond b (step ∷ own) own) horizon
+reach_if true own this horizon here before = here refl
+reach_if false own this horizon here before = before
+
+-- the group check found that it reaches no further
+started_reach : (version first : ℕ) (own : List Step) → source_refusal (λ setup calls. []) version own (steps.Start first) ≡ None
+    → reach_of (unwrap_or (group_of own) no_group).info ≤ horizon_in version
+started_reach version first own none =
+    let sound : NoFault (horizon_in version) (without_cipher (unwrap_or (group_of own) no_group).info) =
+    may_be_sent (horizon_in version) (unwrap_or (group_of own) no_group).info (cipher_of own)
+    (first_fault (horizon_in version) (checked_info own)) refl
+    (neither (group_refusal (first_fault (horizon_in version) (checked_info own))) (refuse_if (is_base_too_long own) BaseTooLong) none).0 in
+    ltb-false (horizon_in version) (reach_of (unwrap_or (group_of own) no_group).info) (sound Horizon)
+
+starts_in : (airs : Airs) (boxes s first : ℕ) (earlier : List Step) → Permitted airs boxes earlier (steps.Start first)
+    → is_of_source s earlier (steps.Start first) ≡ true
+    → ReachesIn (steps.Start first ∷ steps_of_source s earlier) (horizon_in (version_of earlier))
+starts_in airs boxes s first earlier permits is =
+    subst (λ t. ReachesIn (steps.Start first ∷ steps_of_source t earlier) (horizon_in (version_of earlier)))
+    (eqb-true (chosen_of earlier) s is)
+    (λ started. started_reach (version_of earlier) first (chosen_steps earlier) permits.by_source)
+
+-- where the source was sending before the step
+stops_in : (s : ℕ) (earlier : List Step) → not (is_sending (chosen_steps earlier)) ≡ false → (chosen_of earlier == s) ≡ true
+    → ReachesIn (steps_of_source s earlier) (horizon_in (version_of earlier))
+    → reach_of (unwrap_or (group_of (steps_of_source s earlier)) no_group).info ≤ horizon_in (version_of earlier)
+stops_in s earlier sending is before =
+    before (sends (steps_of_source s earlier) (subst (λ t. not (is_sending (steps_of_source t earlier)) ≡ false)
+    (eqb-true (chosen_of earlier) s is) sending))
+
+group_reach : (airs : Airs) (boxes s : ℕ) (made : List Step) → Legal airs boxes made
+    → ReachesIn (steps_of_source s made) (horizon_in (version_of made))
+group_reach airs boxes s [] legal = λ started. absurd (false≢true started)
+group_reach airs boxes s (steps.Scenario version ∷ earlier) legal =
+    subst (λ before. ReachesIn (steps.Scenario version ∷ steps_of_source s before) (horizon_in version))
+    (sym (first_alone airs boxes version earlier legal))
+    (λ started. absurd (false≢true started))
+group_reach airs boxes s (steps.Group framing origin delay iso sdu max_sdu max_pdu num_bis bn nse irc pto sub spacing phy ∷ earlier) legal =
+    let this : Step = steps.Group framing origin delay iso sdu max_sdu max_pdu num_bis bn nse irc pto sub spacing phy in
+    reach_if (is_of_source s earlier this) (steps_of_source s earlier) this (horizon_in (version_of earlier))
+    (λ is started. absurd (false≢true started))
+    (group_reach airs boxes s earlier legal.0)
+group_reach airs boxes s (steps.Start first ∷ earlier) legal =
+    reach_if (is_of_source s earlier (steps.Start first)) (steps_of_source s earlier) (steps.Start first) (horizon_in (version_of earlier))
+    (starts_in airs boxes s first earlier (permitted airs boxes earlier (steps.Start first) legal.1))
+    (group_reach airs boxes s earlier legal.0)
+group_reach airs boxes s (steps.Stop ∷ earlier) legal =
+    let before : ReachesIn (steps_of_source s earlier) (horizon_in (version_of earlier)) = group_reach airs boxes s earlier legal.0 in
+    reach_if (is_of_source s earlier steps.Stop) (steps_of_source s earlier) steps.Stop (horizon_in (version_of earlier))
+    (λ is started. stops_in s earlier (permitted airs boxes earlier steps.Stop legal.1).in_phase is before) before
+group_reach airs boxes s (steps.Terminate reason ∷ earlier) legal =
+    let before : ReachesIn (steps_of_source s earlier) (horizon_in (version_of earlier)) = group_reach airs boxes s earlier legal.0 in
+    reach_if (is_of_source s earlier (steps.Terminate reason)) (steps_of_source s earlier) (steps.Terminate reason)
+    (horizon_in (version_of earlier))
+    (λ is started. stops_in s earlier (permitted airs boxes earlier (steps.Terminate reason) legal.1).in_phase is before) before
+group_reach airs boxes s (this ∷ earlier) legal =
+    let before : ReachesIn (steps_of_source s earlier) (horizon_in (version_of earlier)) = group_reach airs boxes s earlier legal.0 in
+    reach_if (is_of_source s earlier this) (steps_of_source s earlier) this (horizon_in (version_of earlier)) (λ is. before) before
+
+-- ---- what a sink reads of an announced train
+
+-- the laws of announcements
+pub record Announcing : Type 0 where
+  -- a source has a train for each event that it can announce
+  pub is_train : (broadcast_id : List ℕ) (base : Endpoint) (info : BigInfo) (event anchor : ℕ)
+      → MayAnnounce broadcast_id base info event anchor
+      → IsTrain broadcast_id base info event anchor (train_of broadcast_id base info event anchor)
+  -- a train is read as what it tells
+  pub is_read : (train : Train) (broadcast_id : List ℕ) (base : Endpoint) (info : BigInfo) (event anchor : ℕ) → 1 ≤ info.bn
+      → IsTrain broadcast_id base info event anchor train → Tells train broadcast_id base info event anchor
+
+reach_by : (nse bn pto irc : ℕ) → ℕ
+reach_by nse bn pto irc = pto * (nse / bn - irc)
+
+-- groups with the same numbers reach as far
+same_reach : (one other : BigInfo) → numbers_of one ≡ numbers_of other → reach_of one ≡ reach_of other
+unfolding reach_by
+same_reach one other same =
+    ap₂ (λ nse bn. reach_by nse bn one.pto one.irc) (ap (λ numbers. slice_index numbers 2) same)
+    (ap (λ numbers. slice_index numbers 3) same)
+    ∙ ap₂ (reach_by other.nse other.bn) (ap (λ numbers. slice_index numbers 5) same) (ap (λ numbers. slice_index numbers 7) same)
+
+read_as : (octets found : List ℕ) (info read : BigInfo) → Some found ≡ Some octets → info_of octets ≡ Ok info → info_of found ≡ Ok read
+    → info ≡ read
+read_as octets found info read same is reads =
+    let one : found ≡ octets = same_Some found octets same in
+    let both : Ok info ≡ Ok read = sym is ∙ ap info_of (sym one) ∙ reads in cc
+
+reads_near : (setup : Setup) (train : Train) (heard : Heard) (broadcast_id : List ℕ) (base : Endpoint) (info : BigInfo) (event anchor : ℕ)
+    → heard.acad ≡ train.acad
+    → Tells train broadcast_id base info event anchor → reach_of info ≤ setup.horizon → ReadsNear setup heard
+reads_near setup train heard broadcast_id base info event anchor same tells within octets its found is =
+    let told : TellsInfo train.acad tells.read = tells.info_is in
+    let list : Some told.octets ≡ big_info_in heard.acad =
+    sym (ap big_info_in same ∙ ap (found_in (first_of 0x2C)) told.list ∙ told.found) in
+    let read : its ≡ tells.read = read_as octets told.octets its tells.read (list
+    ∙ found) is (info_read tells.read told.is.0 told.octets told.is.1) in
+    within_near setup.horizon its (subst (λ (group : BigInfo). reach_of group ≤ setup.horizon) (sym read)
+    (subst (λ reach. reach ≤ setup.horizon) (sym (same_reach tells.read info tells.numbers)) within))
+
+-- ---- an announced train
+
+its_horizon : (made : Option Made) (sink : Made) (horizon : ℕ) → HasHorizon made horizon → made ≡ Some sink → sink.setup.horizon ≡ horizon
+its_horizon made sink horizon has is = subst (λ one. HasHorizon one horizon) is has
+
+pub announced_calm : Announcing → (airs : Airs) (boxes n : ℕ) (earlier : List Step) → Legal airs boxes earlier
+    → refusal_of airs boxes earlier (steps.Announce n) ≡ None
+    → IsCalm earlier (steps.Announce n)
+announced_calm laws airs boxes n earlier legal none m made names is =
+    let own : List Step = chosen_steps earlier in
+    let permits : Permitted airs boxes earlier (steps.Announce n) = permitted airs boxes earlier (steps.Announce n) none in
+    let lawful_own : Lawful airs own = lawful airs boxes (chosen_of earlier) earlier legal in
+    let started : is_started own ≡ true = sends own permits.in_phase in
+    let event : ℕ = next_of (setup_of own) (source_calls own) in
+    let anchor : ℕ = next_anchor_of (setup_of own) (source_calls own) in
+    let may : MayAnnounce (identity_of own).broadcast_id (base_of own) (checked_info own) event anchor =
+    may_announce airs own lawful_own permits.in_phase permits.by_source in
+    let tells : Tells (announced_of own) (identity_of own).broadcast_id (base_of own) (checked_info own) event anchor =
+    laws.is_read (announced_of own) (identity_of own).broadcast_id (base_of own) (checked_info own) event anchor
+    (bounds_in own (settled airs own lawful_own) started).bn
+    (laws.is_train (identity_of own).broadcast_id (base_of own) (checked_info own) event anchor may) in
+    let reach : reach_of (checked_info own) ≤ horizon_in (version_of earlier) =
+    group_reach airs boxes (chosen_of earlier) earlier legal started in
+    let horizon : made.setup.horizon ≡ horizon_in (version_of earlier) = its_horizon (made_of m earlier) made
+    (horizon_in (version_of earlier)) (horizon_made airs boxes m earlier legal) is in
+    brought_near made.setup (sight_in made (life m earlier)) (own_train (source_at earlier))
+    (reads_near made.setup (announced_of own) (own_train (source_at earlier)) (identity_of own).broadcast_id (base_of own)
+    (checked_info own) event anchor refl tells
+    (subst (λ most. reach_of (checked_info own) ≤ most) (sym horizon) reach))

@@ -1,0 +1,304 @@
+-- Why a step of a scenario in version 2 is refused: for the reason of version 1, but where that is BadLine, `BadGroup 11` or
+-- TimeOrder. Lists of steps have the newest first; where a list is called `own` its steps are those of one source.
+use Rattle.std.proofs.Common.{ℕ, ◌≡◌, ◌⊎◌, ◌≤◌, ◌==◌, ◌||◌, ◌&&◌, not, cond, leb, ltb, Bool, true, false, List, [], ◌∷◌, Option, None, Some}
+use Rattle.std.proofs.Common.{refl, sym, subst, ◌∙◌, ap, ap₂, inl, inr}
+use Rattle.std.specs.Prelude.{is_none, is_some, length, nat_le}
+use Rattle.std.specs.Option.{option_map, option_or}
+use Rattle.big_info.specs.declared.info.BigInfo.{BigInfo}
+use Rattle.big_info.specs.Rows.{first_fault}
+use Rattle.isoal_base.specs.Air.{Air}
+use Rattle.isoal_framed.specs.Calls.{last_time}
+use Rattle.source_machine.specs.Airs.{airs_of, waiting_of}
+use Rattle.source_machine.specs.Calls.{Setup, Call, framed_calls, next_anchor_of}
+use Rattle.source_machine.specs.Faults.{air_fault, announce_fault, event_fault, give_fault, has_its_time, is_above, is_in_time}
+use Rattle.source_machine.specs.Setups.{are_twins}
+use Rattle.source_machine.specs.declared.fault.GiveFault.{GiveFault}
+use Rattle.source_machine.specs.declared.fault.GiveFault.TheVariants as give_faults
+use Rattle.link_history.specs.Calls as links
+use Rattle.scenario_text.specs.declared.step.Step.{Step}
+use Rattle.scenario_text.specs.declared.step.Step.TheVariants as steps
+use Rattle.transcript_text.specs.declared.refusal.Refusal.{Refusal}
+use Rattle.transcript_text.specs.declared.refusal.Refusal.TheVariants.{AfterEnd, BaseTooLong, IdentTwice, NoOutlet, NoSuchBis, NoSuchSink}
+use Rattle.transcript_text.specs.declared.refusal.Refusal.TheVariants.{NotOnAir, Order, RelayTaken, SinkTwice}
+use Rattle.sink_history.specs.Lives.{Made, made_of, named_by}
+use Rattle.sink_history.specs.Refusals.{refused_at, refused_by, refused_where}
+use Rattle.scenario_history.specs.Bases.{is_base_too_long}
+use Rattle.scenario_history.specs.Boxes.{box_after, box_of}
+use Rattle.scenario_history.specs.Refusals.{air_refusal, counter_ends, give_refusal, group_refusal, has_beyond, horizon_in, is_ident_twice}
+use Rattle.scenario_history.specs.Refusals.{is_misplaced, is_out_of_order, is_out_of_phase}
+use Rattle.scenario_history.specs.Refusals.{no_place, no_sink, own_refusal, refusal_of, refuse_if, sink_refusal}
+use Rattle.scenario_history.specs.Refusals.{relay_refusal, source_refusal, train_ends, twin_refusal}
+use Rattle.scenario_history.specs.Source.{GroupLine, checked_info, identity_of, is_absent_at}
+use Rattle.scenario_history.specs.Source.{is_described_at, is_started, setup_of, source_calls}
+use Rattle.scenario_history.specs.Steps.{chosen_of, chosen_steps, is_over, other_of, stage_of, steps_of_source, version_of}
+use Rattle.scenario_history.specs.Worlds.{life, the_world}
+use Rattle.scenario_laws.specs.Versions.{IsLasting}
+use Rattle.scenario_laws.proofs.Versions.Groups.{first_same, near_or_far}
+use Rattle.scenario_laws.proofs.Versions.Lived.{AreCalm, AreFar, QuietLife, is_quiet, life_same, made_far, quiet_life}
+use Rattle.scenario_laws.proofs.Versions.Printed.{refused_same}
+use Rattle.scenario_laws.proofs.Versions.Received.{of_chosen}
+use Rattle.scenario_laws.proofs.Versions.Relays.{beyond_same, may_same, taken_same}
+use Rattle.scenario_laws.proofs.Versions.Seconds.{IsLater, ahead_stays, at_second, calls_same, chosen_own, chosen_same, horizon_grows, ident_same}
+use Rattle.scenario_laws.proofs.Versions.Seconds.{is_later, over_same, own_same, phase_same}
+use Rattle.scenario_laws.proofs.Versions.Seconds.{seconds, sinks_same, unbegun_same}
+use Rattle.scenario_laws.proofs.Versions.Sources.{airs_same, bare_same, ciphered_same, framed_same, has_same, heard_same, identity_same, info_same}
+use Rattle.scenario_laws.proofs.Versions.Sources.{is_ahead, line_same, of_calls, performed_same}
+use Rattle.scenario_laws.proofs.Versions.Sources.{sending_same, setup_same, started_same, stream_same, takes_same, too_long_same, with_ahead}
+
+-- the reason is one that version 2 may not have
+abbrev pub IsGone : Option Refusal → Type 0
+IsGone None = ⊥
+IsGone (Some reason) = IsLasting reason → ⊥
+
+-- one refusal is the other, or that one may be gone
+abbrev pub Lasts : Option Refusal → Option Refusal → Type 0
+Lasts one two = (two ≡ one) ⊎ IsGone one
+
+gone_or : (a b : Option Refusal) → IsGone a → IsGone (option_or a b)
+gone_or None b gone = absurd gone
+gone_or (Some reason) b gone = gone
+
+or_lasts : (a here there : Option Refusal) → Lasts here there → Lasts (option_or a here) (option_or a there)
+or_lasts None here there lasts = lasts
+or_lasts (Some reason) here there lasts = inl refl
+
+lasts_or : (here there b : Option Refusal) → Lasts here there → Lasts (option_or here b) (option_or there b)
+lasts_or here there b (inl same) = inl (ap (λ o. option_or o b) same)
+lasts_or here there b (inr gone) = inr (gone_or here b gone)
+
+-- ---- a group
+
+group_lasts : (near far : ℕ) (info : BigInfo) → near ≤ far
+    → Lasts (group_refusal (first_fault near info)) (group_refusal (first_fault far info))
+group_lasts near far info within = elim (near_or_far (first_fault near info)) [
+  | inl is ↦ inl (ap group_refusal (first_same near far info within is))
+  | inr too_far ↦ inr (subst (λ found. IsGone (group_refusal found)) (sym too_far) (λ lasting. lasting))
+]
+
+-- ---- a unit
+
+time_stays : (before ahead later in_time : Bool) → (ahead ≡ true → later ≡ true) → (before && (ahead || in_time)) ≡ true
+    → (before && (later || in_time)) ≡ true
+time_stays false ahead later in_time stays is = is
+time_stays true true later in_time stays is = ap (λ b. b || in_time) (stays refl)
+time_stays true false true in_time stays is = refl
+time_stays true false false in_time stays is = is
+
+in_time_stays : (ahead : Bool) (setup : Setup) (calls : List Call) (bis : ℕ) (framing : Bool) (time : Option ℕ)
+    → (setup.ahead ≡ true → ahead ≡ true)
+    → cond framing (is_none time) (is_in_time setup calls bis time) ≡ true
+    → cond framing (is_none time) (is_in_time (with_ahead ahead setup) calls bis time) ≡ true
+in_time_stays ahead setup calls bis true time stays is = is
+in_time_stays ahead setup calls bis false None stays is = is
+in_time_stays ahead setup calls bis false (Some time) stays is =
+    ap (λ all. is_above (last_time all) time && (ahead || nat_le time (next_anchor_of setup calls))) (framed_same ahead setup bis calls)
+    ∙ time_stays (is_above (last_time (framed_calls setup bis calls)) time) setup.ahead ahead (nat_le time (next_anchor_of setup calls))
+    stays is
+
+-- why a unit is refused, by the tests in their order
+abbrev fault_by : (beyond long timed waits : Bool) → Option GiveFault
+fault_by beyond long timed waits =
+    cond beyond (Some give_faults.NoSuchBis)
+    (cond long (Some give_faults.UnitTooLong) (cond (not timed) (Some give_faults.TimeOrder) (cond waits (Some give_faults.Backlog) None)))
+
+fault_lasts : (beyond long timed later waits : Bool) → (timed ≡ true → later ≡ true)
+    → Lasts (option_map give_refusal (fault_by beyond long timed waits)) (option_map give_refusal (fault_by beyond long later waits))
+fault_lasts true long timed later waits stays = inl refl
+fault_lasts false true timed later waits stays = inl refl
+fault_lasts false false false later waits stays = inr (λ lasting. lasting)
+fault_lasts false false true later waits stays = inl (ap (λ b. option_map give_refusal (fault_by false false b waits)) (stays refl))
+
+give_lasts : (ahead : Bool) (setup : Setup) (calls : List Call) (airs : List Air) (bis : ℕ) (time : Option ℕ) (octets : List ℕ)
+    → (setup.ahead ≡ true → ahead ≡ true)
+    → Lasts (option_map give_refusal (give_fault setup calls airs bis time octets))
+    (option_map give_refusal (give_fault (with_ahead ahead setup) calls airs bis time octets))
+give_lasts ahead setup calls airs bis time octets stays =
+    fault_lasts (ltb setup.info.num_bis bis) (ltb setup.info.max_sdu (length octets)) (has_its_time setup calls bis time)
+    (has_its_time (with_ahead ahead setup) calls bis time)
+    (leb 16 (waiting_of calls airs bis)) (in_time_stays ahead setup calls bis (setup.info.framing == 0) time stays)
+
+unit_lasts : (own : List Step) (bis : ℕ) (time : Option ℕ) (octets : List ℕ)
+    → Lasts (option_map give_refusal (give_fault (setup_of own) (source_calls own) (airs_of (setup_of own) (source_calls own)) bis time
+    octets))
+    (option_map give_refusal (give_fault (setup_of (seconds own)) (source_calls (seconds own))
+    (airs_of (setup_of (seconds own)) (source_calls (seconds own))) bis time octets))
+unit_lasts own bis time octets =
+    let ahead : Bool = is_ahead (seconds own) in
+    let here = option_map give_refusal (give_fault (setup_of own) (source_calls own) (airs_of (setup_of own) (source_calls own)) bis time
+    octets) in
+    subst (Lasts here)
+    (sym (ap₂ (λ setup calls. option_map give_refusal (give_fault setup calls (airs_of setup calls) bis time octets)) (setup_same own)
+    (calls_same own)
+    ∙ ap (λ airs. option_map give_refusal (give_fault (with_ahead ahead (setup_of own)) (source_calls own) airs bis time octets))
+    (airs_same ahead (setup_of own) (source_calls own))))
+    (give_lasts ahead (setup_of own) (source_calls own) (airs_of (setup_of own) (source_calls own)) bis time octets
+    (ahead_stays (version_of own) (version_of (seconds own)) (is_later own)))
+
+-- ---- a step of a source
+
+place_same : (own : List Step) (back bis subevent : ℕ) → no_place (seconds own) back bis subevent ≡ no_place own back bis subevent
+place_same own back bis subevent =
+    of_calls (λ setup calls. option_map air_refusal (air_fault setup calls back bis subevent)) (λ ahead setup calls. refl) own
+
+source_lasts : (version later : ℕ) (own : List Step) (step : Step) → IsLater version later
+    → Lasts (source_refusal airs_of version own step) (source_refusal airs_of later (seconds own) step)
+source_lasts version later own (steps.Bis bis config) is =
+    inl (ap₂ (λ (group : GroupLine) stands. refuse_if (ltb group.info.num_bis bis || stands) NoSuchBis) (line_same own)
+    (stream_same own bis))
+source_lasts version later own (steps.Start first) is =
+    subst (λ there. Lasts (source_refusal airs_of version own (steps.Start first)) there)
+    (sym (ap₂ (λ info long. option_or (group_refusal (first_fault (horizon_in later) info)) (refuse_if long BaseTooLong)) (info_same own)
+    (too_long_same own)))
+    (lasts_or (group_refusal (first_fault (horizon_in version) (checked_info own)))
+    (group_refusal (first_fault (horizon_in later) (checked_info own)))
+    (refuse_if (is_base_too_long own) BaseTooLong) (group_lasts (horizon_in version) (horizon_in later) (checked_info own)
+    (horizon_grows version later is)))
+source_lasts version later own (steps.Tuned sink which) is =
+    inl (of_calls (λ setup calls. refuse_if (has_beyond setup.info.num_bis which) NoSuchBis) (λ ahead setup calls. refl) own)
+source_lasts version later own (steps.Unit bis time octets) is = unit_lasts own bis time octets
+source_lasts version later own steps.Event is = inl
+    (of_calls (λ setup calls. counter_ends (event_fault setup calls)) (λ ahead setup calls. refl) own)
+source_lasts version later own (steps.Hear sink back bis subevent) is = inl (place_same own back bis subevent)
+source_lasts version later own (steps.Air sink lose) is = inl (ap (λ count. refuse_if (count == 0) NotOnAir) (performed_same own))
+source_lasts version later own (steps.Inject sink back bis subevent octets) is = inl (place_same own back bis subevent)
+source_lasts version later own (steps.Sniff back bis subevent) is = inl (place_same own back bis subevent)
+source_lasts version later own (steps.Announce sink) is = inl
+    (of_calls (λ setup calls. train_ends (announce_fault setup calls)) (λ ahead setup calls. refl) own)
+source_lasts version later own _ is = inl refl
+
+-- ---- a step of a sink
+
+box_next : (n : ℕ) (step : Step) (earlier : List Step) (box other : Option ℕ) → other ≡ box
+    → box_after n step (seconds earlier) other ≡ box_after n step earlier box
+box_next n (steps.Sink sink streams slots mtu) earlier box other same =
+    ap₂ (λ made its. cond (sink == n) (Some made) its) (sinks_same earlier) same
+box_next n (steps.Drop sink) earlier box other same = ap (λ its. cond (sink == n) None its) same
+box_next n _ earlier box other same = same
+
+pub box_same : (n : ℕ) (made : List Step) → box_of n (seconds made) ≡ box_of n made
+box_same n [] = refl
+box_same n (step ∷ earlier) =
+    at_second (λ one two. box_after n two (seconds earlier) (box_of n (seconds earlier))
+    ≡ box_after n one (seconds earlier) (box_of n (seconds earlier))) (λ version. refl) (λ same. refl) step
+    ∙ box_next n step earlier (box_of n earlier) (box_of n (seconds earlier)) (box_same n earlier)
+
+where_same : (step : Step) (made other : Option Made) (calls : List links.Call) → AreFar made other → QuietLife made calls
+    → refused_where step other calls ≡ refused_where step made calls
+where_same this None None calls far quiet = refl
+where_same this (Some made) (Some other) calls far quiet =
+    ap (λ sink. refused_by this sink calls) far.is ∙ refused_same far.horizon this made calls (is_quiet made other calls far quiet)
+where_same this None (Some other) calls far quiet = absurd far
+where_same this (Some made) None calls far quiet = absurd far
+
+named_same : (step : Step) (named : Option ℕ) (made : List Step) → AreCalm made
+    → refused_at the_world (seconds made) step named ≡ refused_at the_world made step named
+named_same this None made calm = refl
+named_same this (Some n) made calm =
+    ap (refused_where this (made_of n (seconds made))) (life_same n made calm)
+    ∙ where_same this (made_of n made) (made_of n (seconds made)) (life n made) (made_far n made) (quiet_life n made calm)
+
+no_sink_same : (n : ℕ) (made : List Step) → no_sink n (seconds made) ≡ no_sink n made
+no_sink_same n made = ap (λ box. refuse_if (not (is_some box)) NoSuchSink) (box_same n made)
+
+sink_same : (boxes : ℕ) (made : List Step) (step : Step) → AreCalm made
+    → sink_refusal boxes (seconds made) step ≡ sink_refusal boxes made step
+sink_same boxes made (steps.Sink sink streams slots mtu) calm =
+    ap₂ (λ box count. option_or (refuse_if (is_some box) SinkTwice) (refuse_if (leb boxes count) NoOutlet)) (box_same sink made)
+    (sinks_same made)
+sink_same boxes made (steps.Drop sink) calm = no_sink_same sink made
+sink_same boxes made (steps.Tuned sink which) calm = no_sink_same sink made
+sink_same boxes made (steps.Hear sink back bis subevent) calm = no_sink_same sink made
+sink_same boxes made (steps.Air sink lose) calm = no_sink_same sink made
+sink_same boxes made (steps.Inject sink back bis subevent octets) calm = no_sink_same sink made
+sink_same boxes made (steps.Relay sink bis to) calm = refl
+sink_same boxes made this calm = named_same this (named_by this) made calm
+
+-- ---- the order of steps
+
+phase_stays : (own : List Step) (step : Step) → is_out_of_phase (seconds own) step ≡ is_out_of_phase own step
+phase_stays own (steps.Group framing origin delay iso sdu max_sdu max_pdu num_bis bn nse irc pto sub spacing phy) =
+    ap (λ phase. not (is_absent_at phase)) (phase_same own)
+phase_stays own (steps.Ident address_type address sid broadcast_id) =
+    ap₂ (λ phase ident. not (is_described_at phase) || is_some ident) (phase_same own) (ident_same own)
+phase_stays own (steps.Subgroup codec config) = ap₂ (λ phase bare. not (is_described_at phase) || bare) (phase_same own) (bare_same own)
+phase_stays own (steps.Meta metadata) = ap₂ (λ phase has. not (is_described_at phase) || not has) (phase_same own) (has_same own)
+phase_stays own (steps.Bis bis config) = ap₂ (λ phase has. not (is_described_at phase) || not has) (phase_same own) (has_same own)
+phase_stays own (steps.Cipher giv gskd) = ap₂ (λ phase ciphered. not (is_described_at phase) || ciphered) (phase_same own)
+    (ciphered_same own)
+phase_stays own (steps.Start first) = ap₂ (λ phase bare. not (is_described_at phase) || bare) (phase_same own) (bare_same own)
+phase_stays own (steps.Tuned sink which) = ap not (takes_same own)
+phase_stays own (steps.Unit bis time octets) = ap not (takes_same own)
+phase_stays own steps.Event = ap not (takes_same own)
+phase_stays own (steps.Announce sink) = ap not (sending_same own)
+phase_stays own steps.Stop = ap not (sending_same own)
+phase_stays own (steps.Terminate reason) = ap not (sending_same own)
+phase_stays own (steps.Hear sink back bis subevent) = ap not (heard_same own)
+phase_stays own (steps.Air sink lose) = ap not (heard_same own)
+phase_stays own (steps.Inject sink back bis subevent octets) = ap not (heard_same own)
+phase_stays own (steps.Sniff back bis subevent) = ap not (heard_same own)
+phase_stays own _ = refl
+
+placed_same : (made : List Step) (step : Step) → is_misplaced (stage_of (seconds made)) step ≡ is_misplaced (stage_of made) step
+placed_same made (steps.Scenario version) = ap not (unbegun_same made)
+placed_same made _ = unbegun_same made
+
+order_same : (made : List Step) (step : Step) → is_out_of_order (seconds made) step ≡ is_out_of_order made step
+order_same made step =
+    ap₂ (λ misplaced out. misplaced || out) (placed_same made step)
+    (of_chosen (λ own. is_out_of_phase own step) (λ own. phase_stays own step) made)
+
+-- ---- both sources
+
+started_in : (s : ℕ) (made : List Step) → is_started (steps_of_source s (seconds made)) ≡ is_started (steps_of_source s made)
+started_in s made = ap is_started (own_same s made) ∙ started_same (steps_of_source s made)
+
+identity_in : (s : ℕ) (made : List Step) → identity_of (steps_of_source s (seconds made)) ≡ identity_of (steps_of_source s made)
+identity_in s made = ap identity_of (own_same s made) ∙ identity_same (steps_of_source s made)
+
+twice_by : (chosen : ℕ) (made : List Step) → Bool
+twice_by chosen made =
+    is_started (steps_of_source (other_of chosen) made)
+    && are_twins (identity_of (steps_of_source chosen made)) (identity_of (steps_of_source (other_of chosen) made))
+
+twice_same : (made : List Step) → is_ident_twice (seconds made) ≡ is_ident_twice made
+unfolding twice_by
+twice_same made =
+    ap (λ chosen. twice_by chosen (seconds made)) (chosen_same made)
+    ∙ ap (λ started. started && are_twins (identity_of (steps_of_source (chosen_of made) (seconds made)))
+    (identity_of (steps_of_source (other_of (chosen_of made)) (seconds made))))
+    (started_in (other_of (chosen_of made)) made)
+    ∙ ap₂ (λ one two. is_started (steps_of_source (other_of (chosen_of made)) made) && are_twins one two)
+    (identity_in (chosen_of made) made) (identity_in (other_of (chosen_of made)) made)
+
+relay_row : (made : List Step) (sink bis to : ℕ) → relay_refusal (seconds made) sink bis to ≡ relay_refusal made sink bis to
+relay_row made sink bis to =
+    ap₂ (λ may rest. option_or (refuse_if (not may) Order) rest) (may_same made)
+    (ap₂ option_or (no_sink_same sink made)
+    (ap₂ (λ beyond taken. option_or (refuse_if beyond NoSuchBis) (refuse_if taken RelayTaken)) (beyond_same made bis to)
+    (taken_same made sink to)))
+
+twin_same : (made : List Step) (step : Step) → twin_refusal (seconds made) step ≡ twin_refusal made step
+twin_same made (steps.Start first) = ap (λ twice. refuse_if twice IdentTwice) (twice_same made)
+twin_same made (steps.Relay sink bis to) = relay_row made sink bis to
+twin_same made _ = refl
+
+-- ---- the first reason that holds
+
+pub step_lasts : (boxes : ℕ) (made : List Step) (step : Step) → AreCalm made
+    → Lasts (refusal_of airs_of boxes made step) (refusal_of airs_of boxes (seconds made) step)
+step_lasts boxes made step calm =
+    let later : Option Refusal = source_refusal airs_of (version_of (seconds made)) (seconds (chosen_steps made)) step in
+    let here : Option Refusal = source_refusal airs_of (version_of made) (chosen_steps made) step in
+    let sink : Option Refusal = sink_refusal boxes made step in
+    let order : Option Refusal = refuse_if (is_out_of_order made step) Order in
+    let ended : Option Refusal = refuse_if (is_over made) AfterEnd in
+    let twin : Option Refusal = twin_refusal made step in
+    subst (Lasts (refusal_of airs_of boxes made step))
+    (sym (ap₂ (λ over out. option_or (refuse_if over AfterEnd)
+    (option_or (refuse_if out Order) (own_refusal airs_of boxes (seconds made) step)))
+    (over_same made) (order_same made step)
+    ∙ ap₂ (λ by_sink source. option_or ended (option_or order (option_or by_sink (option_or source (twin_refusal (seconds made) step)))))
+    (sink_same boxes made step calm) (ap (λ own. source_refusal airs_of (version_of (seconds made)) own step) (chosen_own made))
+    ∙ ap (λ twins. option_or ended (option_or order (option_or sink (option_or later twins)))) (twin_same made step)))
+    (or_lasts ended _ _ (or_lasts order _ _ (or_lasts sink _ _
+    (lasts_or here later twin (source_lasts (version_of made) (version_of (seconds made)) (chosen_steps made) step (is_later made))))))

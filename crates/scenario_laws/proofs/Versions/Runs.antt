@@ -1,0 +1,353 @@
+-- A run over the lines behind `scenario 1` and behind `scenario 2`: it brings the same, where the run in version 1 isn't refused
+-- for BadLine, `BadGroup 11` or TimeOrder, and no `train` step in it prints `BadGroup 11`. Histories have the newest line first.
+use Rattle.std.proofs.Common.{ℕ, suc, ◌≡◌, ◌⊎◌, ◌+◌, nat_eq, not, false, List, [], ◌∷◌, ◌++◌, length, reverse, Option, None, Some, refl}
+use Rattle.std.proofs.Common.{sym, ◌∙◌, ap, ap₂, subst, inl, inr}
+use Rattle.std.specs.List.{concat}
+use Rattle.std.proofs.lemmas.Bool.{false≢true}
+use Rattle.std.proofs.lemmas.List.{append-nil}
+use Rattle.std.proofs.lemmas.Option.{none-some, same_Some}
+use Rattle.bcast_io.specs.TextLines.{TextLine}
+use Rattle.unit_outlets.specs.Account.{Account}
+use Rattle.big_info.specs.declared.fault.GroupFault.TheVariants.{Horizon}
+use Rattle.delegator_history.specs.Trains.{Train, answer_of, brought_by}
+use Rattle.delegator_history.specs.declared.train_heard.TrainHeard.TheVariants.{BadGroup as Refused}
+use Rattle.scenario_history.specs.Runs.{Accepted, End, Rules, accepted_of, accepted_unless, end_of, end_unless, number_after, out, out_unless}
+use Rattle.scenario_history.specs.Runs.{refused, through}
+use Rattle.scenario_history.proofs.Citable.{reverse_onto}
+use Rattle.source_machine.specs.Airs.{airs_of}
+use Rattle.scenario_text.specs.declared.step.Step.{Step}
+use Rattle.scenario_text.specs.declared.step.Step.TheVariants as steps
+use Rattle.transcript_text.specs.Lines.{refusal_line}
+use Rattle.transcript_text.specs.declared.refusal.Refusal.{Refusal}
+use Rattle.transcript_text.specs.declared.refusal.Refusal.TheVariants.{BadLine}
+use Rattle.transcript_text.specs.SinkLines.{sink_line, train_words}
+use Rattle.sink_history.specs.Lives.{Made, given_train, made_of}
+use Rattle.sink_history.specs.Output.{printed_where, sight_in}
+use Rattle.scenario_history.specs.Boxes.{handed_up}
+use Rattle.scenario_history.specs.Lines.{Said, a_step, nothing, unsaid, output_said, refusal_said, rules_of, said_after, said_in, said_of}
+use Rattle.scenario_history.specs.Lines.{steps_of, with_said}
+use Rattle.scenario_history.specs.Refusals.{is_misplaced, line_refusal, refusal_of}
+use Rattle.scenario_history.specs.Relays.{has_relay}
+use Rattle.gift_laws.proofs.Citable.{SaidNever, line_passes, none_relayed, nothing_else, plain_after, says_no_relay}
+use Rattle.scenario_history.specs.Steps.{is_over, is_unbegun_at, stage_after, stage_of, version_of}
+use Rattle.scenario_history.specs.Worlds.{life, source_at}
+use Rattle.scenario_laws.proofs.Citable.{Legal, LinesInRange, legal, permitted}
+use Rattle.scenario_laws.specs.Versions.{EndsLasting, NonePrintsTooFar, PrintsTooFar, too_far_line}
+use Rattle.scenario_laws.proofs.Versions.Lived.{AreCalm, IsCalm}
+use Rattle.scenario_laws.proofs.Versions.Outputs.{handed_up_same, output_same}
+use Rattle.scenario_laws.proofs.Versions.Printed.{HearsNear}
+use Rattle.scenario_laws.proofs.Versions.Reach.{Announcing, announced_calm}
+use Rattle.scenario_laws.proofs.Versions.Reading.{IsUnsaid, said_later}
+use Rattle.scenario_laws.proofs.Versions.Refused.{IsGone, Lasts, step_lasts}
+use Rattle.scenario_laws.proofs.Versions.Relays.{has_relay_same}
+use Rattle.scenario_laws.proofs.Versions.Seconds.{is_later, over_same, second, seconds}
+use Rattle.scenario_laws.proofs.Versions.Trains.{near_or_far}
+
+-- the rules of a scenario with these boxes
+abbrev pub Its : List Account → Rules TextLine Refusal
+Its starts = rules_of airs_of starts
+
+-- what holds of the lines of any text
+pub record Laws : Type 0 where
+  pub announcing : Announcing
+  pub ranged : LinesInRange
+
+-- ---- what a line says
+
+unsaid_gone : (boxes : ℕ) (made : List Step) (said : Said) → IsUnsaid said → IsGone (refusal_said airs_of boxes made said)
+unsaid_gone boxes made (unsaid (BadLine word)) is = λ lasting. lasting
+unsaid_gone boxes made (unsaid reason) is = absurd is
+unsaid_gone boxes made (a_step this) is = absurd is
+unsaid_gone boxes made nothing is = absurd is
+
+both_last : (one one' two two' : Option Refusal) → one' ≡ one → two' ≡ two → Lasts one two → Lasts one' two'
+both_last one one' two two' same same' lasts = subst (λ r. Lasts r two') (sym same) (subst (Lasts one) (sym same') lasts)
+
+same_lasts : (boxes : ℕ) (made : List Step) (said : Said) → has_relay made ≡ false → AreCalm made
+    → Lasts (refusal_said airs_of boxes made said) (refusal_said airs_of boxes (seconds made) said)
+same_lasts boxes made (a_step this) plain calm =
+    both_last (refusal_of airs_of boxes made this) (line_refusal airs_of boxes made this) (refusal_of airs_of boxes (seconds made) this)
+    (line_refusal airs_of boxes (seconds made) this) (none_relayed boxes airs_of made this plain)
+    (none_relayed boxes airs_of (seconds made) this (has_relay_same made ∙ plain)) (step_lasts boxes made this calm)
+same_lasts boxes made nothing plain calm = inl refl
+same_lasts boxes made (unsaid reason) plain calm = inl refl
+
+said_lasts : (boxes : ℕ) (made : List Step) (said later : Said) → has_relay made ≡ false → AreCalm made → (later ≡ said) ⊎ IsUnsaid said
+    → Lasts (refusal_said airs_of boxes made said) (refusal_said airs_of boxes (seconds made) later)
+said_lasts boxes made said later plain calm (inl same) =
+    subst (λ it. Lasts (refusal_said airs_of boxes made said) (refusal_said airs_of boxes (seconds made) it)) (sym same)
+    (same_lasts boxes made said plain calm)
+said_lasts boxes made said later plain calm (inr is) = inr (unsaid_gone boxes made said is)
+
+gone_some : (reason : Option Refusal) → IsGone reason → reason ≡ None → ⊥
+gone_some None gone none = gone
+gone_some (Some reason) gone none = none-some reason (sym none)
+
+said_same : (boxes : ℕ) (made : List Step) (said later : Said) → (later ≡ said) ⊎ IsUnsaid said
+    → refusal_said airs_of boxes made said ≡ None → later ≡ said
+said_same boxes made said later (inl same) none = same
+said_same boxes made said later (inr is) none = absurd
+    (gone_some (refusal_said airs_of boxes made said) (unsaid_gone boxes made said is) none)
+
+-- ---- trains that are given
+
+-- what happens by lines without `relay` is what they say
+pub as_said : (lines : List TextLine) → has_relay (said_of lines) ≡ false → steps_of airs_of lines ≡ said_of lines
+as_said lines plain = nothing_else airs_of (said_of lines) plain
+
+answers_so : (starts : List Account) (earlier : List TextLine) (line : TextLine) (sink time : ℕ) (ext adv acad : List ℕ) (made : Made)
+    → has_relay (said_of earlier) ≡ false
+    → said_after earlier line ≡ a_step (steps.Train sink time ext adv acad) → made_of sink (said_of earlier) ≡ Some made
+    → answer_of (brought_by made.setup (sight_in made (life sink (said_of earlier)))
+    (given_train (source_at (said_of earlier)) time ext adv acad)) ≡ Refused Horizon
+    → (Its starts).output earlier line ≡ too_far_line sink
+answers_so starts earlier line sink time ext adv acad made plain says lives far =
+    let before : List Step = said_of earlier in
+    let train : Train = given_train (source_at before) time ext adv acad in
+    ap (λ made. output_said airs_of starts made (said_after earlier line)) (as_said earlier plain)
+    ∙ ap (output_said airs_of starts before) says
+    ∙ ap (λ it. concat (printed_where (source_at before) (steps.Train sink time ext adv acad) it (life sink before))) lives
+    ∙ append-nil (sink_line sink (train_words (answer_of (brought_by made.setup (sight_in made (life sink before)) train))))
+    ∙ ap (λ answer. sink_line sink (train_words answer)) far
+
+given_calm : (starts : List Account) (earlier : List TextLine) (line : TextLine) (sink time : ℕ) (ext adv acad : List ℕ)
+    → has_relay (said_of earlier) ≡ false → said_after earlier line ≡ a_step (steps.Train sink time ext adv acad) → (PrintsTooFar airs_of starts earlier line → ⊥)
+    → IsCalm (said_of earlier) (steps.Train sink time ext adv acad)
+given_calm starts earlier line sink time ext adv acad plain says never n made names lives =
+    let before : List Step = said_of earlier in
+    let train : Train = given_train (source_at before) time ext adv acad in
+    let here : made_of sink before ≡ Some made → HearsNear made (life sink before) (Some train) =
+    λ is. elim (near_or_far (answer_of (brought_by made.setup (sight_in made (life sink before)) train))) [
+      | inl near ↦ near
+      | inr far ↦ absurd (never (record {
+        sink = sink;
+        time = time;
+        ext = ext;
+        adv = adv;
+        acad = acad;
+        says = says;
+        prints = answers_so starts earlier line sink time ext adv acad made plain says is far;
+      }))
+    ] in
+    subst (λ m. made_of m before ≡ Some made → HearsNear made (life m before) (Some train)) (same_Some sink n names) here lives
+
+step_calm : Laws → (starts : List Account) (earlier : List TextLine) (line : TextLine) (step : Step)
+    → has_relay (said_of earlier) ≡ false → said_after earlier line ≡ a_step step
+    → Accepted (Its starts) earlier → refusal_of airs_of (length starts) (said_of earlier) step ≡ None
+    → (PrintsTooFar airs_of starts earlier line → ⊥)
+    → IsCalm (said_of earlier) step
+step_calm laws starts earlier line (steps.Announce sink) plain says accepted none never =
+    announced_calm laws.announcing airs_of (length starts) sink (said_of earlier)
+    (subst (Legal airs_of (length starts)) (as_said earlier plain) (legal laws.ranged airs_of starts earlier accepted)) none
+step_calm laws starts earlier line (steps.Train sink time ext adv acad) plain says accepted none never =
+    given_calm starts earlier line sink time ext adv acad plain says never
+step_calm laws starts earlier line _ plain says accepted none never = λ n made names lives. tt
+
+-- ---- the lines so far
+
+-- a history in version 1, under way and not refused, and the same in version 2
+pub record Stands (starts : List Account) (history later : List TextLine) : Type 0 where
+  pub made : said_of later ≡ seconds (said_of history)
+  pub count : length later ≡ length history
+  pub begun : is_unbegun_at (stage_of (said_of history)) ≡ false
+  pub first : nat_eq (version_of (said_of history)) 2 ≡ false
+  pub plain : has_relay (said_of history) ≡ false
+  pub calm : AreCalm (said_of history)
+  pub accepted : Accepted (Its starts) history
+
+-- what happens by both
+happens : (starts : List Account) (history later : List TextLine) → Stands starts history later → steps_of airs_of history ≡ said_of history
+happens starts history later stands = as_said history stands.plain
+
+happens_later : (starts : List Account) (history later : List TextLine) → Stands starts history later
+    → steps_of airs_of later ≡ seconds (said_of history)
+happens_later starts history later stands =
+    as_said later (ap has_relay stands.made ∙ has_relay_same (said_of history) ∙ stands.plain) ∙ stands.made
+
+line_later : (starts : List Account) (history later : List TextLine) (line : TextLine) → Stands starts history later
+    → (said_after later line ≡ said_after history line) ⊎ IsUnsaid (said_after history line)
+line_later starts history later line stands =
+    subst (λ made. (said_in (version_of made) line ≡ said_after history line) ⊎ IsUnsaid (said_after history line)) (sym stands.made)
+    (said_later (version_of (said_of history)) (version_of (seconds (said_of history))) line (is_later (said_of history)))
+
+line_lasts : (starts : List Account) (history later : List TextLine) (line : TextLine) → Stands starts history later
+    → Lasts ((Its starts).refusal history line) ((Its starts).refusal later line)
+line_lasts starts history later line stands =
+    both_last (refusal_said airs_of (length starts) (said_of history) (said_after history line)) ((Its starts).refusal history line)
+    (refusal_said airs_of (length starts) (seconds (said_of history)) (said_after later line)) ((Its starts).refusal later line)
+    (ap (λ made. refusal_said airs_of (length starts) made (said_after history line)) (happens starts history later stands))
+    (ap (λ made. refusal_said airs_of (length starts) made (said_after later line)) (happens_later starts history later stands))
+    (said_lasts (length starts) (said_of history) (said_after history line) (said_after later line) stands.plain stands.calm
+    (line_later starts history later line stands))
+
+-- a line that isn't refused, of what is said before it
+passes_said : (starts : List Account) (history later : List TextLine) (line : TextLine) → Stands starts history later
+    → (Its starts).refusal history line ≡ None → refusal_said airs_of (length starts) (said_of history) (said_after history line) ≡ None
+passes_said starts history later line stands none =
+    ap (λ made. refusal_said airs_of (length starts) made (said_after history line)) (sym (happens starts history later stands)) ∙ none
+
+-- behind `scenario` no step that isn't refused is `scenario`
+second_same : (made : List Step) (step : Step) → is_misplaced (stage_of made) step ≡ false → is_unbegun_at (stage_of made) ≡ false
+    → second step ≡ step
+second_same made (steps.Scenario version) placed begun = absurd (false≢true (sym placed ∙ ap not begun))
+second_same made _ placed begun = refl
+
+begun_after : (made : List Step) (step : Step) → is_unbegun_at (stage_of made) ≡ false
+    → is_unbegun_at (stage_after step (stage_of made)) ≡ false
+begun_after made (steps.Scenario version) begun = refl
+begun_after made steps.End begun = refl
+begun_after made _ begun = begun
+
+version_after : (made : List Step) (step : Step) → is_misplaced (stage_of made) step ≡ false → is_unbegun_at (stage_of made) ≡ false
+    → version_of (step ∷ made) ≡ version_of made
+version_after made (steps.Scenario version) placed begun = absurd (false≢true (sym placed ∙ ap not begun))
+version_after made steps.End placed begun = refl
+version_after made _ placed begun = refl
+
+-- what a line that isn't refused leaves to the lines behind it
+record Goes (made later : List Step) (said : Said) : Type 0 where
+  pub same : with_said said later ≡ seconds (with_said said made)
+  pub begun : is_unbegun_at (stage_of (with_said said made)) ≡ false
+  pub first : nat_eq (version_of (with_said said made)) 2 ≡ false
+  pub plain : has_relay (with_said said made) ≡ false
+  pub calm : AreCalm (with_said said made)
+
+goes_on : Laws → (starts : List Account) (history later : List TextLine) (line : TextLine) (said : Said) → said_after history line ≡ said
+    → Stands starts history later
+    → refusal_said airs_of (length starts) (said_of history) said ≡ None → (PrintsTooFar airs_of starts history line → ⊥)
+    → Goes (said_of history) (said_of later) said
+goes_on laws starts history later line (a_step this) says stands none never =
+    let passes = line_passes airs_of (length starts) (said_of history) this none in
+    let permits = permitted airs_of (length starts) (said_of history) this passes in
+    record {
+      same = ap₂ (λ step (all : List Step). step ∷ all) (sym (second_same (said_of history) this permits.in_place stands.begun))
+          stands.made;
+      begun = begun_after (said_of history) this stands.begun;
+      first = ap (λ version. nat_eq version 2) (version_after (said_of history) this permits.in_place stands.begun) ∙ stands.first;
+      plain = plain_after (said_of history) this (subst SaidNever says (says_no_relay (version_of (said_of history)) line stands.first)) stands.plain;
+      calm = (stands.calm, step_calm laws starts history line this stands.plain says stands.accepted passes never);
+    }
+goes_on laws starts history later line nothing says stands none never =
+    record { same = stands.made; begun = stands.begun; first = stands.first; plain = stands.plain; calm = stands.calm }
+goes_on laws starts history later line (unsaid reason) says stands none never =
+    record { same = stands.made; begun = stands.begun; first = stands.first; plain = stands.plain; calm = stands.calm }
+
+stands_next : Laws → (starts : List Account) (history later : List TextLine) (line : TextLine) → Stands starts history later
+    → (Its starts).refusal history line ≡ None
+    → (PrintsTooFar airs_of starts history line → ⊥) → Stands starts (line ∷ history) (line ∷ later)
+stands_next laws starts history later line stands none never =
+    let passes = passes_said starts history later line stands none in
+    let same : said_after later line ≡ said_after history line =
+    said_same (length starts) (said_of history) (said_after history line) (said_after later line)
+    (line_later starts history later line stands) passes in
+    let goes : Goes (said_of history) (said_of later) (said_after history line) =
+    goes_on laws starts history later line (said_after history line) refl stands passes never in
+    record {
+      made = ap (λ said. with_said said (said_of later)) same ∙ goes.same;
+      count = ap (λ count. suc count) stands.count;
+      begun = goes.begun;
+      first = goes.first;
+      plain = goes.plain;
+      calm = goes.calm;
+      accepted = (stands.accepted, none);
+    }
+
+brought_same : (starts : List Account) (made : List Step) (said : Said) → has_relay made ≡ false → AreCalm made
+    → AreCalm (with_said said made)
+    → output_said airs_of starts (seconds made) said ≡ output_said airs_of starts made said
+brought_same starts made (a_step this) plain calm next = output_same starts made this plain calm next.1
+brought_same starts made nothing plain calm next = refl
+brought_same starts made (unsaid reason) plain calm next = refl
+
+line_same : Laws → (starts : List Account) (history later : List TextLine) (line : TextLine) → Stands starts history later
+    → (Its starts).refusal history line ≡ None
+    → (PrintsTooFar airs_of starts history line → ⊥) → (Its starts).output later line ≡ (Its starts).output history line
+line_same laws starts history later line stands none never =
+    ap₂ (output_said airs_of starts) (happens_later starts history later stands)
+    (said_same (length starts) (said_of history) (said_after history line) (said_after later line)
+    (line_later starts history later line stands) (passes_said starts history later line stands none))
+    ∙ brought_same starts (said_of history) (said_after history line) stands.plain stands.calm
+    (stands_next laws starts history later line stands none never).calm
+    ∙ ap (λ made. output_said airs_of starts made (said_after history line)) (sym (happens starts history later stands))
+
+-- ---- the lines behind them
+
+-- one run brings what the other brings: its octets, its end, and the steps that it made hand up the same and end alike
+pub record RunsAlike (octets octets' : List ℕ) (end end' : End Refusal) (all all' : List TextLine) : Type 0 where
+  pub octets_same : octets' ≡ octets
+  pub end_same : end' ≡ end
+  pub units_same : handed_up airs_of (steps_of airs_of all') ≡ handed_up airs_of (steps_of airs_of all)
+  pub over_same : is_over (said_of all') ≡ is_over (said_of all)
+
+abbrev pub RunAlike : List Account → (history later lines others : List TextLine) → Type 0
+RunAlike starts history later lines others =
+    RunsAlike (out (Its starts) history lines) (out (Its starts) later others) (end_of (Its starts) history lines)
+    (end_of (Its starts) later others)
+    (accepted_of (Its starts) history lines) (accepted_of (Its starts) later others)
+
+stands_alike : (starts : List Account) (history later : List TextLine) (octets octets' : List ℕ) (end end' : End Refusal)
+    → Stands starts history later → octets' ≡ octets
+    → end' ≡ end → RunsAlike octets octets' end end' history later
+stands_alike starts history later octets octets' end end' stands same ends = record {
+  octets_same = same;
+  end_same = ends;
+  units_same = ap (handed_up airs_of) (happens_later starts history later stands) ∙ handed_up_same (said_of history) stands.calm
+      ∙ ap (handed_up airs_of) (sym (happens starts history later stands));
+  over_same = ap is_over stands.made ∙ over_same (said_of history);
+}
+
+alike_if : (starts : List Account) (history later : List TextLine) (reason reason' : Option Refusal) (octets octets' : List ℕ)
+    (end end' : End Refusal)
+    (all all' : List TextLine) → Stands starts history later → Lasts reason reason' → EndsLasting (end_unless history reason end)
+    → (reason ≡ None → EndsLasting end → RunsAlike octets octets' end end' all all')
+    → RunsAlike (out_unless (Its starts) history reason octets) (out_unless (Its starts) later reason' octets')
+    (end_unless history reason end) (end_unless later reason' end') (accepted_unless history reason all)
+    (accepted_unless later reason' all')
+alike_if starts history later None reason' octets octets' end end' all all' stands (inl same) lasting goes =
+    subst (λ r. RunsAlike octets (out_unless (Its starts) later r octets') end (end_unless later r end') all (accepted_unless later r all'))
+    (sym same) (goes refl lasting)
+alike_if starts history later None reason' octets octets' end end' all all' stands (inr gone) lasting goes = absurd gone
+alike_if starts history later (Some reason) reason' octets octets' end end' all all' stands (inl same) lasting goes =
+    subst (λ r. RunsAlike (refusal_line (number_after history) reason) (out_unless (Its starts) later r octets')
+    (refused (number_after history) reason) (end_unless later r end') history (accepted_unless later r all')) (sym same)
+    (stands_alike starts history later (refusal_line (number_after history) reason) (refusal_line (number_after later) reason)
+    (refused (number_after history) reason) (refused (number_after later) reason) stands
+    (ap (λ count. refusal_line (count + 1) reason) stands.count) (ap (λ count. refused (count + 1) reason) stands.count))
+alike_if starts history later (Some reason) reason' octets octets' end end' all all' stands (inr gone) lasting goes = absurd (gone lasting)
+
+-- these lines, of which the first are a history
+abbrev pub Begins : List TextLine → List TextLine → List TextLine → Type 0
+Begins lines history rest = lines ≡ reverse history ++ rest
+
+run_next : (starts : List Account) (history later rest : List TextLine) (line : TextLine)
+    → (Its starts).output later line ≡ (Its starts).output history line
+    → RunAlike starts (line ∷ history) (line ∷ later) rest rest
+    → RunsAlike ((Its starts).output history line ++ out (Its starts) (line ∷ history) rest) ((Its starts).output later line
+    ++ out (Its starts) (line ∷ later) rest)
+    (end_of (Its starts) (line ∷ history) rest) (end_of (Its starts) (line ∷ later) rest)
+    (accepted_of (Its starts) (line ∷ history) rest) (accepted_of (Its starts) (line ∷ later) rest)
+run_next starts history later rest line same more = record {
+  octets_same = ap₂ (λ (one two : List ℕ). one ++ two) same more.octets_same;
+  end_same = more.end_same;
+  units_same = more.units_same;
+  over_same = more.over_same;
+}
+
+pub run_alike : Laws → (starts : List Account) (lines history later rest : List TextLine) → NonePrintsTooFar airs_of starts lines
+    → Begins lines history rest
+    → Stands starts history later → EndsLasting (end_of (Its starts) history rest) → RunAlike starts history later rest rest
+run_alike laws starts lines history later [] never begins stands lasting =
+    stands_alike starts history later [] [] through through stands refl refl
+run_alike laws starts lines history later (line ∷ rest) never begins stands lasting =
+    alike_if starts history later ((Its starts).refusal history line) ((Its starts).refusal later line)
+    ((Its starts).output history line ++ out (Its starts) (line ∷ history) rest) ((Its starts).output later line
+    ++ out (Its starts) (line ∷ later) rest)
+    (end_of (Its starts) (line ∷ history) rest) (end_of (Its starts) (line ∷ later) rest)
+    (accepted_of (Its starts) (line ∷ history) rest) (accepted_of (Its starts) (line ∷ later) rest) stands
+    (line_lasts starts history later line stands) lasting
+    (λ none on.
+    let prints_not : PrintsTooFar airs_of starts history line → ⊥ = never history line rest begins (stands.accepted, none) in
+    run_next starts history later rest line
+    (line_same laws starts history later line stands none prints_not)
+    (run_alike laws starts lines (line ∷ history) (line ∷ later) rest never (begins ∙ sym (reverse_onto line history rest))
+    (stands_next laws starts history later line stands none prints_not) on))

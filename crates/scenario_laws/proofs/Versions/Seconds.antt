@@ -1,0 +1,199 @@
+-- The steps of a scenario in version 2: `scenario 2` stands for `scenario`. What the steps say that isn't said of the version
+-- stays. Lists of steps have the newest first.
+use Rattle.std.proofs.Common.{ℕ, ◌≡◌, ◌⊎◌, ◌≤◌, ◌==◌, ◌||◌, ◌&&◌, cond, Bool, true, false, List, [], ◌∷◌, Option, refl, sym}
+use Rattle.std.proofs.Common.{◌∙◌, ap, subst, inl, inr, arith}
+use Rattle.std.specs.Prelude.{unwrap_or}
+use Rattle.std.specs.Option.{option_or}
+use Rattle.delegator_history.specs.LastGiven.{last_given as last_of}
+use Rattle.scenario_text.specs.declared.step.Step.{Step}
+use Rattle.scenario_text.specs.declared.step.Step.TheVariants as steps
+use Rattle.sink_history.specs.Lives.{horizon_in, horizon_of, version_given}
+use Rattle.scenario_history.specs.Bases.{base_lines, with_base_line}
+use Rattle.scenario_history.specs.Source.{absent, cipher_given, cipher_of, group_given, group_of, ident_of, identity_given, is_ahead_in}
+use Rattle.scenario_history.specs.Source.{phase_given, phase_of, source_calls}
+use Rattle.scenario_history.specs.Source.{start_given, start_of, with_source_call}
+use Rattle.scenario_history.specs.Steps.{Stage, unbegun, running, over, chosen_given, chosen_of, chosen_steps, is_common, is_of_source}
+use Rattle.scenario_history.specs.Steps.{is_over, is_source_line}
+use Rattle.scenario_history.specs.Steps.{is_over_at, is_unbegun_at, last_given, sinks_made, sinks_made_by, stage_after, stage_of}
+use Rattle.scenario_history.specs.Steps.{steps_of_source, version_at, version_of}
+
+abbrev pub second : Step → Step
+second (steps.Scenario version) = steps.Scenario 2
+second step = step
+
+abbrev pub seconds : List Step → List Step
+seconds [] = []
+seconds (step ∷ earlier) = second step ∷ seconds earlier
+
+-- what holds of `scenario` and `scenario 2`, and of each other step and itself, holds of each step and the one that stands for it
+pub at_second : (P : Step → Step → Type 0) → ((version : ℕ) → P (steps.Scenario version) (steps.Scenario 2)) → ((step : Step) → P step step)
+    → (step : Step) → P step (second step)
+at_second P first others (steps.Scenario version) = first version
+at_second P first others step = others step
+
+-- ---- what is gathered step by step
+
+pub gathered : {A : Type 0} (f : List Step → A) (with : Step → A → A)
+    → ((step : Step) (earlier : List Step) → f (step ∷ earlier) ≡ with step (f earlier))
+    → ((version : ℕ) (a : A) → with (steps.Scenario 2) a ≡ with (steps.Scenario version) a) → (made : List Step) → f (seconds made) ≡ f made
+gathered f with next first [] = refl
+gathered f with next first (step ∷ earlier) =
+    next (second step) (seconds earlier) ∙ ap (with (second step)) (gathered f with next first earlier)
+    ∙ at_second (λ one other. with other (f earlier) ≡ with one (f earlier)) (λ version. first version (f earlier)) (λ same. refl) step
+    ∙ sym (next step earlier)
+
+pub given_same : {A : Type 0} (gives : Step → Option A) → ((version : ℕ) → gives (steps.Scenario 2) ≡ gives (steps.Scenario version))
+    → (made : List Step)
+    → last_given gives (seconds made) ≡ last_given gives made
+given_same gives first made =
+    gathered (last_given gives) (λ step given. option_or (gives step) given) (λ step earlier. refl)
+    (λ version given. ap (λ one. option_or one given) (first version)) made
+
+-- ---- a source
+
+pub group_same : (own : List Step) → group_of (seconds own) ≡ group_of own
+group_same own = given_same group_given (λ version. refl) own
+
+pub start_same : (own : List Step) → start_of (seconds own) ≡ start_of own
+start_same own = given_same start_given (λ version. refl) own
+
+pub ident_same : (own : List Step) → ident_of (seconds own) ≡ ident_of own
+ident_same own = given_same identity_given (λ version. refl) own
+
+pub cipher_same : (own : List Step) → cipher_of (seconds own) ≡ cipher_of own
+cipher_same own = given_same cipher_given (λ version. refl) own
+
+pub phase_same : (own : List Step) → phase_of (seconds own) ≡ phase_of own
+phase_same own = ap (λ given. unwrap_or given absent) (given_same phase_given (λ version. refl) own)
+
+pub base_same : (own : List Step) → base_lines (seconds own) ≡ base_lines own
+base_same own = gathered base_lines with_base_line (λ step earlier. refl) (λ version lines. refl) own
+
+pub calls_same : (own : List Step) → source_calls (seconds own) ≡ source_calls own
+calls_same own = gathered source_calls with_source_call (λ step earlier. refl) (λ version calls. refl) own
+
+pub sinks_same : (made : List Step) → sinks_made (seconds made) ≡ sinks_made made
+sinks_same made = gathered sinks_made sinks_made_by (λ step earlier. refl) (λ version count. refl) made
+
+-- ---- which source a line means
+
+pub chosen_same : (made : List Step) → chosen_of (seconds made) ≡ chosen_of made
+chosen_same made = ap (λ given. unwrap_or given 0) (given_same chosen_given (λ version. refl) made)
+
+its_same : (s : ℕ) (earlier : List Step) (step : Step) → is_of_source s (seconds earlier) (second step) ≡ is_of_source s earlier step
+its_same s earlier step =
+    at_second (λ one other. is_of_source s (seconds earlier) other ≡ is_of_source s (seconds earlier) one) (λ version. refl) (λ same. refl)
+    step
+    ∙ ap (λ chosen. is_common step || (is_source_line step && (chosen == s))) (chosen_same earlier)
+
+seconds_if : (is_its : Bool) (step : Step) (own : List Step)
+    → cond is_its (second step ∷ seconds own) (seconds own) ≡ seconds (cond is_its (step ∷ own) own)
+seconds_if true this own = refl
+seconds_if false this own = refl
+
+pub own_same : (s : ℕ) (made : List Step) → steps_of_source s (seconds made) ≡ seconds (steps_of_source s made)
+own_same s [] = refl
+own_same s (step ∷ earlier) =
+    ap (λ own. cond (is_of_source s (seconds earlier) (second step)) (second step ∷ own) own) (own_same s earlier)
+    ∙ ap (λ is_its. cond is_its (second step ∷ seconds (steps_of_source s earlier)) (seconds (steps_of_source s earlier)))
+    (its_same s earlier step)
+    ∙ seconds_if (is_of_source s earlier step) step (steps_of_source s earlier)
+
+pub chosen_own : (made : List Step) → chosen_steps (seconds made) ≡ seconds (chosen_steps made)
+chosen_own made = ap (λ s. steps_of_source s (seconds made)) (chosen_same made) ∙ own_same (chosen_of made) made
+
+-- ---- the version
+
+-- the version is the same, or 2
+abbrev pub IsLater : ℕ → ℕ → Type 0
+IsLater version later = (later ≡ version) ⊎ (later ≡ 2)
+
+-- the same of where a scenario stands
+abbrev pub StandsLater : Stage → Stage → Type 0
+StandsLater unbegun unbegun = Unit {0}
+StandsLater (running version) (running later) = IsLater version later
+StandsLater (over version) (over later) = IsLater version later
+StandsLater _ _ = ⊥
+
+version_later : (stage later : Stage) → StandsLater stage later → IsLater (version_at stage) (version_at later)
+version_later unbegun unbegun is = inl refl
+version_later (running version) (running later) is = is
+version_later (over version) (over later) is = is
+version_later unbegun (running later) is = absurd is
+version_later unbegun (over later) is = absurd is
+version_later (running version) unbegun is = absurd is
+version_later (running version) (over later) is = absurd is
+version_later (over version) unbegun is = absurd is
+version_later (over version) (running later) is = absurd is
+
+over_later : (stage later : Stage) → StandsLater stage later → is_over_at later ≡ is_over_at stage
+over_later unbegun unbegun is = refl
+over_later (running version) (running later) is = refl
+over_later (over version) (over later) is = refl
+over_later unbegun (running later) is = absurd is
+over_later unbegun (over later) is = absurd is
+over_later (running version) unbegun is = absurd is
+over_later (running version) (over later) is = absurd is
+over_later (over version) unbegun is = absurd is
+over_later (over version) (running later) is = absurd is
+
+unbegun_later : (stage later : Stage) → StandsLater stage later → is_unbegun_at later ≡ is_unbegun_at stage
+unbegun_later unbegun unbegun is = refl
+unbegun_later (running version) (running later) is = refl
+unbegun_later (over version) (over later) is = refl
+unbegun_later unbegun (running later) is = absurd is
+unbegun_later unbegun (over later) is = absurd is
+unbegun_later (running version) unbegun is = absurd is
+unbegun_later (running version) (over later) is = absurd is
+unbegun_later (over version) unbegun is = absurd is
+unbegun_later (over version) (running later) is = absurd is
+
+stands_after : (stage later : Stage) (step : Step) → StandsLater stage later
+    → StandsLater (stage_after step stage) (stage_after (second step) later)
+stands_after stage later (steps.Scenario version) is = inr refl
+stands_after stage later steps.End is = version_later stage later is
+stands_after stage later this is = is
+
+stands_later : (made : List Step) → StandsLater (stage_of made) (stage_of (seconds made))
+stands_later [] = tt
+stands_later (step ∷ earlier) = stands_after (stage_of earlier) (stage_of (seconds earlier)) step (stands_later earlier)
+
+pub is_later : (made : List Step) → IsLater (version_of made) (version_of (seconds made))
+is_later made = version_later (stage_of made) (stage_of (seconds made)) (stands_later made)
+
+pub over_same : (made : List Step) → is_over (seconds made) ≡ is_over made
+over_same made = over_later (stage_of made) (stage_of (seconds made)) (stands_later made)
+
+pub unbegun_same : (made : List Step) → is_unbegun_at (stage_of (seconds made)) ≡ is_unbegun_at (stage_of made)
+unbegun_same made = unbegun_later (stage_of made) (stage_of (seconds made)) (stands_later made)
+
+-- ---- what a version bounds
+
+least_horizon : (second : Bool) → cond second 31 15 ≤ 31
+least_horizon true = omega arith
+least_horizon false = omega arith
+
+pub horizon_grows : (version later : ℕ) → IsLater version later → horizon_in version ≤ horizon_in later
+horizon_grows version later (inl same) = subst (λ v. horizon_in version ≤ horizon_in v) (sym same) (omega arith)
+horizon_grows version later (inr two) = subst (λ v. horizon_in version ≤ horizon_in v) (sym two) (least_horizon (version == 2))
+
+pub ahead_stays : (version later : ℕ) → IsLater version later → is_ahead_in version ≡ true → is_ahead_in later ≡ true
+ahead_stays version later (inl same) is = ap is_ahead_in same ∙ is
+ahead_stays version later (inr two) is = ap is_ahead_in two
+
+-- a sink's version is that of its scenario
+version_same : (made : List Step) → unwrap_or (last_of version_given made) 1 ≡ version_of made
+version_same [] = refl
+version_same (steps.Scenario version ∷ earlier) = refl
+version_same (steps.End ∷ earlier) = version_same earlier
+version_same (this ∷ earlier) = version_same earlier
+
+pub sink_horizon : (made : List Step) → horizon_of made ≡ horizon_in (version_of made)
+sink_horizon made = ap horizon_in (version_same made)
+
+pub sink_grows : (made : List Step) → horizon_of made ≤ horizon_of (seconds made)
+sink_grows made =
+    let grows = horizon_grows (version_of made) (version_of (seconds made)) (is_later made) in
+    let here = sink_horizon made in
+    let there = sink_horizon (seconds made) in
+    omega (arith, grows, here, there)

@@ -1,0 +1,234 @@
+-- The lines of a text in version 2: those of the text, but that `scenario 2` stands for `scenario 1` behind empty lines and
+-- comments. Both have the same number of octets, so that the limit of a text cuts both alike.
+use Rattle.std.proofs.Common.{ℕ, suc, ◌≡◌, ◌⊎◌, ◌≤◌, ◌<◌, ◌+◌, ◌==◌, cond, eqb, Bool, true, false, List, [], ◌∷◌, ◌++◌, length, refl}
+use Rattle.std.proofs.Common.{sym, ◌∙◌, ap, ap₂, subst, append_assoc, inl, inr, arith}
+use Rattle.std.specs.Prelude.{bytes_eq, codes}
+use Rattle.std.specs.List.{AllByRecursion}
+use Rattle.std.proofs.lemmas.Bool.{cases_lt, eqb-true, le-leb, lt-leb}
+use Rattle.std.proofs.lemmas.List.{append-nil}
+use Rattle.std.proofs.lemmas.Slice.Eq.{bytes_eq-Decides}
+use Rattle.bcast_io.specs.TextLines.{TextLine, plain, past, line_of, lines_from, newline, text_limit}
+use Rattle.bcast_io.specs.TextLines.{lines_of as text_lines}
+use Rattle.scenario_words.specs.Words.{onto_first}
+use Rattle.scenario_text.specs.MigratedLines.{behind, lines_of, text_of}
+use Rattle.scenario_text.specs.Migrated.{is_blank, migrated, migrated_line, migrated_lines}
+
+abbrev pub first_version : List ℕ
+first_version = codes "scenario 1"
+
+abbrev pub second_version : List ℕ
+second_version = codes "scenario 2"
+
+-- behind empty lines and comments `scenario 2` stands for `scenario 1`; all other lines are the same
+pub data Turned : List TextLine → List TextLine → Type 0 where
+  here : (rest : List TextLine) → Turned (plain first_version ∷ rest) (plain second_version ∷ rest)
+  later : (line : List ℕ) (lines others : List TextLine) → is_blank line ≡ true → Turned lines others
+      → Turned (line_of line ∷ lines) (line_of line ∷ others)
+
+pub same_count : (lines others : List TextLine) → Turned lines others → length others ≡ length lines
+same_count _ _ (here rest) = refl
+same_count _ _ (later line lines others blank turned) = ap (λ count. suc count) (same_count lines others turned)
+
+-- ---- octets of a line
+
+-- no octet ends the line
+abbrev Clean : List ℕ → Type 0
+Clean line = AllByRecursion (λ octet. (octet == newline) ≡ false) line
+
+octet_in : (taken : ℕ) (part : List ℕ) (octet : ℕ) (text : List ℕ) → taken < text_limit → (octet == newline) ≡ false
+    → lines_from true taken part (octet ∷ text) ≡ lines_from true (taken + 1) (part ++ octet ∷ []) text
+unfolding lines_from
+octet_in taken part octet text within plain_octet =
+    let ended : List TextLine = line_of part ∷ lines_from true (taken + 1) [] text in
+    let goes : List TextLine = lines_from true (taken + 1) (part ++ octet ∷ []) text in
+    ap (λ b. cond b (past ∷ []) (cond (eqb octet newline) ended goes)) (lt-leb text_limit taken within)
+    ∙ ap (λ b. cond b ended goes) plain_octet
+
+end_in : (taken : ℕ) (part text : List ℕ) → taken < text_limit
+    → lines_from true taken part (newline ∷ text) ≡ line_of part ∷ lines_from true (taken + 1) [] text
+unfolding lines_from
+end_in taken part text within = ap (λ b. cond b (past ∷ []) (line_of part ∷ lines_from true (taken + 1) [] text))
+    (lt-leb text_limit taken within)
+
+octet_past : (taken : ℕ) (part : List ℕ) (octet : ℕ) (text : List ℕ) → text_limit ≤ taken
+    → lines_from true taken part (octet ∷ text) ≡ past ∷ []
+unfolding lines_from
+octet_past taken part octet text at =
+    ap (λ b. cond b (past ∷ []) (cond (eqb octet newline) (line_of part ∷ lines_from true (taken + 1) [] text)
+    (lines_from true (taken + 1) (part ++ octet ∷ []) text)))
+    (le-leb text_limit taken at)
+
+line_in : (taken : ℕ) (part line text : List ℕ) → Clean line → taken + length line ≤ text_limit
+    → lines_from true taken part (line ++ text) ≡ lines_from true (taken + length line) (part ++ line) text
+line_in taken part [] text clean within =
+    let same : taken ≡ taken + 0 = omega arith in
+    ap₂ (λ count front. lines_from true count front text) same (sym (append-nil part))
+line_in taken part (octet ∷ line) text clean within =
+    let count : (taken + 1) + length line ≡ taken + suc (length line) = omega arith in
+    octet_in taken part octet (line ++ text) (omega arith) clean.0
+    ∙ line_in (taken + 1) (part ++ octet ∷ []) line text clean.1 (omega (arith, within))
+    ∙ ap₂ (λ all front. lines_from true all front text) count (append_assoc part (octet ∷ []) line)
+
+line_past : (taken : ℕ) (part line text : List ℕ) → Clean line → taken ≤ text_limit → text_limit < taken + length line
+    → lines_from true taken part (line ++ text) ≡ past ∷ []
+line_past taken part [] text clean within beyond = absurd (omega (arith, within, beyond))
+line_past taken part (octet ∷ line) text clean within beyond = elim (cases_lt taken text_limit) [
+  | inl below ↦
+      octet_in taken part octet (line ++ text) below clean.0
+      ∙ line_past (taken + 1) (part ++ octet ∷ []) line text clean.1 (omega (arith, below)) (omega (arith, beyond))
+  | inr at ↦ octet_past taken part octet (line ++ text) at
+]
+
+-- ---- lines of a text
+
+abbrev AreClean : List (List ℕ) → Type 0
+AreClean lines = AllByRecursion Clean lines
+
+clean_onto : (octet : ℕ) (lines : List (List ℕ)) → (octet == newline) ≡ false → AreClean lines → AreClean (onto_first octet lines)
+clean_onto octet [] plain_octet clean = ((plain_octet, tt), tt)
+clean_onto octet (line ∷ lines) plain_octet clean = ((plain_octet, clean.0), clean.1)
+
+clean_if : (b : Bool) (octet : ℕ) (lines : List (List ℕ)) → (octet == newline) ≡ b → AreClean lines
+    → AreClean (cond b ([] ∷ lines) (onto_first octet lines))
+clean_if true octet lines is clean = (tt, clean)
+clean_if false octet lines is clean = clean_onto octet lines is clean
+
+clean_lines : (text : List ℕ) → AreClean (lines_of text)
+clean_lines [] = (tt, tt)
+clean_lines (octet ∷ text) = clean_if (octet == newline) octet (lines_of text) refl (clean_lines text)
+
+-- ---- both texts
+
+-- what follows so many octets of a text, behind the end of a line
+abbrev from : ℕ → List ℕ → List TextLine
+from taken text = lines_from true taken [] text
+
+-- the lines are the same, or `scenario 2` stands for `scenario 1`
+abbrev TurnOn : List TextLine → List TextLine → Type 0
+TurnOn lines others = (others ≡ lines) ⊎ Turned lines others
+
+behind_if : (b : Bool) (line second : List ℕ) (lines others : List (List ℕ))
+    → behind (cond b (line ∷ lines) (second ∷ others)) ≡ newline ∷ text_of (cond b (line ∷ lines) (second ∷ others))
+behind_if true line second lines others = refl
+behind_if false line second lines others = refl
+
+behind_migrated : (line : List ℕ) (lines : List (List ℕ)) → behind (migrated_lines (line ∷ lines))
+    ≡ newline ∷ text_of (migrated_lines (line ∷ lines))
+behind_migrated line lines = behind_if (is_blank line) line (migrated_line line) (migrated_lines lines) lines
+
+-- behind a blank line, whose end is an octet of the text
+blank_turn : (taken : ℕ) (line : List ℕ) (one other : List ℕ) → is_blank line ≡ true → taken ≤ text_limit
+    → (taken < text_limit → TurnOn (from (taken + 1) one) (from (taken + 1) other))
+    → TurnOn (lines_from true taken line (newline ∷ one)) (lines_from true taken line (newline ∷ other))
+blank_turn taken line one other blank within turns = elim (cases_lt taken text_limit) [
+  | inl below ↦ elim (turns below) [
+    | inl same ↦ inl (end_in taken line other below ∙ ap (λ lines. line_of line ∷ lines) same ∙ sym (end_in taken line one below))
+    | inr turned ↦
+        inr (subst (λ lines. Turned lines (lines_from true taken line (newline ∷ other))) (sym (end_in taken line one below))
+        (subst (Turned (line_of line ∷ from (taken + 1) one)) (sym (end_in taken line other below))
+        (later line (from (taken + 1) one) (from (taken + 1) other) blank turned)))
+  ]
+  | inr at ↦ inl (octet_past taken line newline other at ∙ sym (octet_past taken line newline one at))
+]
+
+-- behind the line of the version
+version_turn : (taken : ℕ) (lines : List (List ℕ)) → taken ≤ text_limit
+    → TurnOn (lines_from true taken first_version (behind lines)) (lines_from true taken second_version (behind lines))
+unfolding lines_from
+version_turn taken [] within = inr (here [])
+version_turn taken (line ∷ lines) within = elim (cases_lt taken text_limit) [
+  | inl below ↦
+      inr (subst (λ all. Turned all (lines_from true taken second_version (newline ∷ text_of (line ∷ lines))))
+      (sym (end_in taken first_version (text_of (line ∷ lines)) below))
+      (subst (Turned (plain first_version ∷ from (taken + 1) (text_of (line ∷ lines))))
+      (sym (end_in taken second_version (text_of (line ∷ lines)) below))
+      (here (from (taken + 1) (text_of (line ∷ lines))))))
+  | inr at ↦ inl (octet_past taken second_version newline (text_of (line ∷ lines)) at
+      ∙ sym (octet_past taken first_version newline (text_of (line ∷ lines)) at))
+]
+
+first_clean : Clean first_version
+first_clean = (refl, (refl, (refl, (refl, (refl, (refl, (refl, (refl, (refl, (refl, tt))))))))))
+
+second_clean : Clean second_version
+second_clean = (refl, (refl, (refl, (refl, (refl, (refl, (refl, (refl, (refl, (refl, tt))))))))))
+
+-- lines of as many octets, behind which the texts turn or are the same
+line_turn : (taken : ℕ) (line second one other : List ℕ) → Clean line → Clean second → length second ≡ length line → taken ≤ text_limit
+    → (taken + length line ≤ text_limit
+    → TurnOn (lines_from true (taken + length line) line one) (lines_from true (taken + length line) second other))
+    → TurnOn (from taken (line ++ one)) (from taken (second ++ other))
+line_turn taken line second one other clean clean_too same within turns = elim (cases_lt text_limit (taken + length line)) [
+  | inl beyond ↦
+      inl (line_past taken [] second other clean_too within (omega (arith, beyond, same))
+      ∙ sym (line_past taken [] line one clean within beyond))
+  | inr fits ↦
+      let here_is : from taken (line ++ one) ≡ lines_from true (taken + length line) line one = line_in taken [] line one clean fits in
+      let there_is : from taken (second ++ other) ≡ lines_from true (taken + length line) second other =
+      line_in taken [] second other clean_too (omega (arith, fits, same))
+      ∙ ap (λ count. lines_from true (taken + count) second other) same in
+      subst (λ lines. TurnOn lines (from taken (second ++ other))) (sym here_is)
+      (subst (TurnOn (lines_from true (taken + length line) line one)) (sym there_is) (turns fits))
+]
+
+-- the line of the version, or another line that is neither empty nor a comment
+first_turn : (is_it : Bool) (taken : ℕ) (line : List ℕ) (lines : List (List ℕ)) → Clean line → taken ≤ text_limit
+    → bytes_eq line first_version ≡ is_it
+    → TurnOn (from taken (line ++ behind lines)) (from taken (cond is_it second_version line ++ behind lines))
+first_turn false taken line lines clean within is = inl refl
+first_turn true taken line lines clean within is =
+    subst (λ it. TurnOn (from taken (it ++ behind lines)) (from taken (second_version ++ behind lines)))
+    (sym ((bytes_eq-Decides line first_version).0 is))
+    (line_turn taken first_version second_version (behind lines) (behind lines) first_clean second_clean refl within
+    (version_turn (taken + length first_version) lines))
+
+blank_or : (blank : Bool) (taken : ℕ) (line : List ℕ) (lines : List (List ℕ)) → Clean line → taken ≤ text_limit → is_blank line ≡ blank
+    → ((taken' : ℕ) → taken' ≤ text_limit → TurnOn (from taken' (text_of lines)) (from taken' (text_of (migrated_lines lines))))
+    → TurnOn (from taken (line ++ behind lines)) (from taken
+    (text_of (cond blank (line ∷ migrated_lines lines) (migrated_line line ∷ lines))))
+blank_or false taken line lines clean within is turns = first_turn (bytes_eq line first_version) taken line lines clean within refl
+blank_or true taken line [] clean within is turns = inl refl
+blank_or true taken line (next ∷ lines) clean within is turns =
+    subst (λ tail. TurnOn (from taken (line ++ newline ∷ text_of (next ∷ lines))) (from taken (line ++ tail)))
+    (sym (behind_migrated next lines))
+    (line_turn taken line line (newline ∷ text_of (next ∷ lines)) (newline ∷ text_of (migrated_lines (next ∷ lines))) clean clean refl
+    within
+    (λ fits. blank_turn (taken + length line) line (text_of (next ∷ lines)) (text_of (migrated_lines (next ∷ lines))) is fits
+    (λ below. turns (taken + length line + 1) (omega (arith, below)))))
+
+lines_turn : (lines : List (List ℕ)) (taken : ℕ) → AreClean lines → taken ≤ text_limit
+    → TurnOn (from taken (text_of lines)) (from taken (text_of (migrated_lines lines)))
+lines_turn [] taken clean within = inl refl
+lines_turn (line ∷ lines) taken clean within =
+    blank_or (is_blank line) taken line lines clean.0 within refl (λ taken' within'. lines_turn lines taken' clean.1 within')
+
+-- ---- the text again
+
+onto_text : (octet : ℕ) (lines : List (List ℕ)) → text_of (onto_first octet lines) ≡ octet ∷ text_of lines
+onto_text octet [] = refl
+onto_text octet (line ∷ lines) = refl
+
+behind_chosen : (b : Bool) (octet : ℕ) (lines : List (List ℕ))
+    → behind (cond b ([] ∷ lines) (onto_first octet lines)) ≡ newline ∷ text_of (cond b ([] ∷ lines) (onto_first octet lines))
+behind_chosen true octet lines = refl
+behind_chosen false octet [] = refl
+behind_chosen false octet (line ∷ lines) = refl
+
+behind_text : (text : List ℕ) → behind (lines_of text) ≡ newline ∷ text_of (lines_of text)
+behind_text [] = refl
+behind_text (octet ∷ text) = behind_chosen (octet == newline) octet (lines_of text)
+
+again_if : (b : Bool) (octet : ℕ) (text : List ℕ) → (octet == newline) ≡ b → text_of (lines_of text) ≡ text
+    → text_of (cond b ([] ∷ lines_of text) (onto_first octet (lines_of text))) ≡ octet ∷ text
+again_if true octet text is again = behind_text text ∙ ap₂ (λ first (rest : List ℕ). first ∷ rest) (sym (eqb-true octet newline is)) again
+again_if false octet text is again = onto_text octet (lines_of text) ∙ ap (λ (rest : List ℕ). octet ∷ rest) again
+
+text_again : (text : List ℕ) → text_of (lines_of text) ≡ text
+text_again [] = refl
+text_again (octet ∷ text) = again_if (octet == newline) octet text refl (text_again text)
+
+pub text_turn : (text : List ℕ) → TurnOn (text_lines true text) (text_lines true (migrated text))
+unfolding migrated
+text_turn text =
+    subst (λ it. TurnOn (from 0 it) (from 0 (migrated text))) (text_again text)
+    (lines_turn (lines_of text) 0 (clean_lines text) (omega arith))

@@ -1,0 +1,9 @@
+use Rattle.scenario_history.specs.Lines.{said_of}
+use Rattle.scenario_laws.proofs.Citable.{said_legally}
+use Rattle.std.specs.Prelude.{length}
+use Rattle.scenario_laws.proofs.relay_laws.relay_lines_law.Goals as goal
+
+pub returns : goal.returns
+returns c = λ starts airs lines accepted n bis to within.
+    c.relay_law.ensures (length starts) airs (said_of lines) (said_legally c.a_line_says_one_step.ensures.in_range airs starts lines accepted)
+    n bis to within

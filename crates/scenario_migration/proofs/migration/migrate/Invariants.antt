@@ -1,9 +1,0 @@
-use Rattle.std.proofs.Common.{◌≡◌, ◌++◌, length}
-use Rattle.scenario_migration.specs.Migrated.{migrated}
-use Rattle.scenario_migration.proofs.migration.migrate.Given as goal
-
-abbrev pub invariant-blanks : goal.invariant-blanks
-invariant-blanks l = migrated l.text ≡ l.migrated ++ migrated l.left
-
-abbrev pub decreases-blanks : goal.decreases-blanks
-decreases-blanks l = length l.left

@@ -1,0 +1,2 @@
+-- What is proved of the relays.
+pub mod Routes

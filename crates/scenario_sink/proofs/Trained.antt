@@ -1,0 +1,24 @@
+-- A train that a line hands a sink.
+use Rattle.std.proofs.Common.{ℕ, ◌≡◌, List, sym, ap, ◌∙◌}
+use Rattle.delegator_history.specs.Announced.{heard_as}
+use Rattle.announcement_train.specs.declared.train.Train.{Train as Announced}
+use Rattle.delegator_history.specs.Trains.{Train}
+use Rattle.sink_history.specs.Lives.{Source, given_train, own_train}
+use Rattle.scenario_sink.specs.declared.origin.Origin.{Origin}
+use Rattle.scenario_sink.specs.Origins.{IsFrom}
+
+abbrev train_of : ℕ → ℕ → (ext adv acad : List ℕ) → ℕ → Train
+train_of address_type sid ext adv acad now = record { address_type = address_type; sid = sid; ext = ext; adv = adv; acad = acad; now = now }
+
+pub its_train : (origin : Origin) (source : Source) (ext adv acad : List ℕ) (now : ℕ) → IsFrom origin source
+    → train_of origin.address_type origin.sid ext adv acad now ≡ given_train source now ext adv acad
+its_train origin source ext adv acad now from =
+    let kinds = sym from.address_type_is in
+    let sids = sym from.sid_is in
+    λ i. train_of (kinds i) (sids i) ext adv acad now
+
+-- what it announces
+pub announced_train : (source : Source) (train : Announced) (ext adv acad : List ℕ) → source.announced ≡ train → ext ≡ train.ext → adv ≡ train.adv → acad ≡ train.acad
+    → given_train source train.time ext adv acad ≡ own_train source
+announced_train source train ext adv acad is exts advs acads =
+    (λ i. train_of source.address_type source.sid (exts i) (advs i) (acads i) train.time) ∙ ap (heard_as source.address_type source.sid) (sym is)

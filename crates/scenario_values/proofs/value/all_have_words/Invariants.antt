@@ -1,5 +1,0 @@
-use Rattle.scenario_values.proofs.Given.{GivenFrom}
-use Rattle.scenario_values.proofs.value.all_have_words.Given as goal
-
-abbrev pub invariant-loop-value : goal.invariant-loop-value
-invariant-loop-value l = GivenFrom l.values l.value-index

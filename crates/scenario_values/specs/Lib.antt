@@ -1,4 +1,0 @@
-pub mod Fitting
-pub mod Words
-pub mod Lines
-pub mod Given

@@ -1,7 +1,0 @@
-use Rattle.std.proofs.Common.{refl}
-use Rattle.sink_steps.proofs.Fresh.{newborn}
-use Rattle.sink_steps.proofs.sink.LivingSink.new.Goals as goal
-
-pub returns : goal.returns
-returns c =
-    newborn (record { setup = record { streams = c.args.streams; slots = c.args.slots; horizon = c.args.horizon }; mtu = c.args.mtu }) _ c.in_ok-new.ensures.stands refl

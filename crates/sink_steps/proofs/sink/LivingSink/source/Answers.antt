@@ -1,4 +1,0 @@
-use Rattle.sink_steps.proofs.sink.LivingSink.source.Goals as goal
-
-pub returns : goal.returns
-returns c made source life received lives = lives.source_is

@@ -1,5 +1,0 @@
-use Rattle.std.proofs.Common.{◌≡◌}
-use Rattle.source_calls.proofs.relays.hands.Given as goal
-
-abbrev pub invariant-units : goal.invariant-units
-invariant-units l = record { to : l.taker.relay.to ≡ l.initial.taker.relay.to }

@@ -1,0 +1,279 @@
+//! Relays: what they copy of the units that a taker is handed, and what a source takes of these.
+ghost use Rattle.std.specs.Prelude.{◌≡◌, None, IfOk, true};
+ghost use Rattle.relay_role.specs.State.Flushing.{MayTake};
+
+use crate::failing_taken::Taken;
+use crate::numbers::SINGLE;
+use base_grammar::decode_base;
+use bcast_base::Bis;
+use big_info::{BigInfo, Limits};
+use relay_role::{DropName, DroppedUnit, Relay, RelayTaker};
+use source_machine::{Identity, Setup, SourceIdle, SourceStreaming};
+use std::alloc::Global;
+use unit_outlets::{TakerFault, UnitTaker};
+
+/// Two streams of framed units of at most 8 octets every 10.884 ms, in two PDUs of at most 10 octets an event.
+const HALL: BigInfo = BigInfo {
+    num_bis: 2,
+    nse: 2,
+    bn: 2,
+    sub_interval: 400,
+    bis_spacing: 800,
+    max_pdu: 10,
+    sdu_interval: 10884,
+    max_sdu: 8,
+    framing: 1,
+    ..SINGLE
+};
+
+/// A BASE of a presentation delay of 40 ms and one stream of a codec other than LC3.
+const BASE: [u8; 14] = [0x40, 0x9c, 0, 1, 1, 0xff, 1, 0, 2, 0, 0, 0, 1, 0];
+
+/// A PDU that holds nothing.
+const PADDING: [u8; 2] = [0x02, 0x00];
+
+/// More octets than a unit of the source may have.
+const LONG: [u8; 9] = [0; 9];
+
+/// Units of a stream: 17 at rising times, one that comes too late, and one that is too long.
+const MANY: [(u64, &[u8]); 19] = [
+    (1, &[1]),
+    (2, &[2]),
+    (3, &[3]),
+    (4, &[4]),
+    (5, &[5]),
+    (6, &[6]),
+    (7, &[7]),
+    (8, &[8]),
+    (9, &[9]),
+    (10, &[10]),
+    (11, &[11]),
+    (12, &[12]),
+    (13, &[13]),
+    (14, &[14]),
+    (15, &[15]),
+    (16, &[16]),
+    (17, &[17]),
+    (16, &[18]),
+    (18, &LONG),
+];
+
+/// A source of that group, whose first event is at 70,000 µs and which takes times that are ahead.
+fn hall(alloc: Global) -> Result<SourceStreaming, &'static str>
+    ensures plain { IfOk result (λ source. source.cipher ≡ None) }
+    ensures framed { IfOk result (λ source. source.setup.info.framing ≡ 1) }
+    ensures streams { IfOk result (λ source. source.setup.info.num_bis ≡ 2) }
+    ensures ahead { IfOk result (λ source. source.setup.ahead ≡ true) }
+{
+    let Ok(base) = decode_base(alloc, &BASE) else {
+        return Err("no memory");
+    };
+    if !HALL.fits() {
+        return Err("too wide");
+    }
+    let setup = Setup {
+        identity: Identity {
+            address_type: 0,
+            address: [0; 6],
+            sid: 1,
+            broadcast_id: [0; 3],
+        },
+        info: HALL,
+        base,
+        origin: 70000,
+    };
+    let Ok(configured) = SourceIdle::new(alloc).configure_within(setup, Limits::VERSION_2) else {
+        return Err("no group");
+    };
+    let Ok(source) = configured.start(0) else {
+        return Err("no memory");
+    };
+    Ok(source)
+}
+
+/// Hands units of a stream to a taker, each at its time in µs.
+fn hands(taker: &mut RelayTaker<Taken>, bis: Bis, units: &[(u64, &[u8])]) -> bool
+    ensures { taker.new.relay.to ≡ taker.old.relay.to }
+{
+    'units: for (time, octets) in units {
+        if taker.valid(bis, *time, octets).is_err() {
+            return false;
+        }
+    }
+    true
+}
+
+/// A relay from stream 1 to this one, in which these units wait.
+fn relay_of(alloc: Global, to: Bis, units: &[(u64, &[u8])]) -> Result<Relay, &'static str>
+    ensures { IfOk result (λ relay. relay.to ≡ to) }
+{
+    let Some(one) = Bis::new(1) else {
+        return Err("no stream");
+    };
+    let mut taker = RelayTaker::new(Relay::new(alloc, one, to), Taken::new(alloc, 0));
+    if !hands(&mut taker, one, units) {
+        return Err("no memory");
+    }
+    let (relay, _) = taker.parts();
+    Ok(relay)
+}
+
+/// Whether a flush to a source drops these units and no others.
+fn drops(relay: &mut Relay, source: &mut SourceStreaming, units: &[DroppedUnit]) -> bool
+    requires { MayTake relay.old.to source.old }
+    ensures plain { source.new.cipher ≡ source.old.cipher }
+    ensures setup { source.new.setup ≡ source.old.setup }
+{
+    match relay.flush(Some(source)) {
+        Ok(dropped) => dropped.as_slice() == units,
+        Err(_) => false,
+    }
+}
+
+/// Whether a flush to a source that has stopped drops so many units.
+fn drops_all(relay: &mut Relay, count: usize) -> bool {
+    let Ok(dropped) = relay.flush(None) else {
+        return false;
+    };
+    'units: for (place, unit) in dropped.as_slice().iter().enumerate() {
+        if unit.number != place as u64 || unit.name != DropName::NotStreaming {
+            return false;
+        }
+    }
+    dropped.count() == count
+}
+
+/// Whether the next event sends these PDUs, two of each stream.
+fn sends(source: &mut SourceStreaming, pdus: [&[u8]; 4]) -> bool
+    requires { source.old.cipher ≡ None }
+{
+    let Ok(sent) = source.event() else {
+        return false;
+    };
+    match sent.pdus.as_slice() {
+        [first, second, third, fourth] => {
+            first.as_slice() == pdus[0]
+                && second.as_slice() == pdus[1]
+                && third.as_slice() == pdus[2]
+                && fourth.as_slice() == pdus[3]
+        }
+        _ => false,
+    }
+}
+
+/// A unit that was dropped, by its place and the reason.
+fn dropped(number: u64, name: DropName) -> DroppedUnit {
+    DroppedUnit { number, name }
+}
+
+/// Hands a unit of each of two streams, a lost one, one that is refused, and one of no octets.
+fn is_handed_each(taker: &mut RelayTaker<Taken>, one: Bis, two: Bis) -> bool {
+    taker.valid(one, 100, &[0xaa]).is_ok()
+        && taker.valid(two, 100, &[0xbb]).is_ok()
+        && taker.lost(one, 200).is_ok()
+        && taker.valid(one, 300, &[0xcc]) == Err(TakerFault::Failed)
+        && taker.valid(one, 400, &[]).is_ok()
+}
+
+#[test]
+fn a_relay_copies_what_its_stream_hands_and_the_taker_takes(rt: HostRuntime) {
+    let (Some(one), Some(two)) = (Bis::new(1), Bis::new(2)) else {
+        return assert!(rt; false);
+    };
+    let mut taker = RelayTaker::new(Relay::new(rt.alloc(), one, two), Taken::new(rt.alloc(), 4));
+    assert!(rt; is_handed_each(&mut taker, one, two));
+    let (mut relay, taken) = taker.parts();
+    assert!(rt; taken.counts() == (5, 4));
+    assert!(rt; drops_all(&mut relay, 2));
+    assert!(rt; drops_all(&mut relay, 0));
+}
+
+#[test]
+fn a_unit_that_is_given_is_sent(rt: HostRuntime) {
+    let Some(one) = Bis::new(1) else {
+        return assert!(rt; false);
+    };
+    let Ok(mut relay) = relay_of(rt.alloc(), one, &[(60060, &[0xaa]), (60061, &[])]) else {
+        return assert!(rt; false);
+    };
+    let Ok(mut source) = hall(rt.alloc()) else {
+        return assert!(rt; false);
+    };
+    let unit = [0x02, 0x06, 0x02, 0x04, 0xd4, 0x26, 0x00, 0xaa];
+    let empty = [0x02, 0x05, 0x02, 0x03, 0xd3, 0x26, 0x00];
+    assert!(rt; drops(&mut relay, &mut source, &[]));
+    assert!(rt; sends(&mut source, [&unit, &empty, &PADDING, &PADDING]));
+}
+
+#[test]
+fn a_unit_is_dropped_for_the_first_reason(rt: HostRuntime) {
+    let Some(one) = Bis::new(1) else {
+        return assert!(rt; false);
+    };
+    let units: [(u64, &[u8]); 4] = [
+        (1000, &[0xaa]),
+        (1000, &[0xbb]),
+        (1000, &LONG),
+        (1001, &[1, 2, 3, 4, 5, 6, 7, 8]),
+    ];
+    let Ok(mut relay) = relay_of(rt.alloc(), one, &units) else {
+        return assert!(rt; false);
+    };
+    let Ok(mut source) = hall(rt.alloc()) else {
+        return assert!(rt; false);
+    };
+    assert!(rt;
+        drops(
+            &mut relay,
+            &mut source,
+            &[
+                dropped(1, DropName::TimeOrder),
+                dropped(2, DropName::UnitTooLong)
+            ]
+        )
+    );
+}
+
+#[test]
+fn no_more_than_16_units_of_a_relay_wait(rt: HostRuntime) {
+    let Some(one) = Bis::new(1) else {
+        return assert!(rt; false);
+    };
+    let Ok(mut relay) = relay_of(rt.alloc(), one, &MANY) else {
+        return assert!(rt; false);
+    };
+    let Ok(mut source) = hall(rt.alloc()) else {
+        return assert!(rt; false);
+    };
+    assert!(rt;
+        drops(
+            &mut relay,
+            &mut source,
+            &[
+                dropped(16, DropName::Backlog),
+                dropped(17, DropName::TimeOrder),
+                dropped(18, DropName::UnitTooLong)
+            ]
+        )
+    );
+}
+
+#[test]
+fn two_relays_give_to_two_streams(rt: HostRuntime) {
+    let (Some(one), Some(two)) = (Bis::new(1), Bis::new(2)) else {
+        return assert!(rt; false);
+    };
+    let Ok(mut first) = relay_of(rt.alloc(), one, &[(60060, &[0xaa])]) else {
+        return assert!(rt; false);
+    };
+    let Ok(mut second) = relay_of(rt.alloc(), two, &[(60060, &[0xbb])]) else {
+        return assert!(rt; false);
+    };
+    let Ok(mut source) = hall(rt.alloc()) else {
+        return assert!(rt; false);
+    };
+    assert!(rt; drops(&mut first, &mut source, &[]) && drops(&mut second, &mut source, &[]));
+    let unit = [0x02, 0x06, 0x02, 0x04, 0xd4, 0x26, 0x00, 0xaa];
+    let other = [0x02, 0x06, 0x02, 0x04, 0xd4, 0x26, 0x00, 0xbb];
+    assert!(rt; sends(&mut source, [&unit, &PADDING, &other, &PADDING]));
+}

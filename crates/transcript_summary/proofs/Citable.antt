@@ -1,3 +1,0 @@
--- What upper crates may cite: texts of whole lines, and what they say one after the other.
-pub use Rattle.transcript_summary.proofs.Wholes.{whole_append, whole_ended, whole_none}
-pub use Rattle.transcript_summary.proofs.Counting.{counts_append}

@@ -1,4 +1,0 @@
-pub mod Splitting
-pub mod Counting
-pub mod Wholes
-pub mod Citable
