@@ -1,5 +1,5 @@
 #!/usr/bin/env python3
-"""Proves and builds the program `replay`.
+"""Proves and builds the program `replay`, or with `explain` as its first word the program `explain`.
 
 build.py           proves each crate that the program stands on and isn't proved yet, as many side by side as there are
                    processors and memory, and builds the program; standard error tells how far that is
@@ -31,12 +31,15 @@ from concurrent.futures import FIRST_COMPLETED, ThreadPoolExecutor, wait
 
 sys.dont_write_bytecode = True
 TOP = os.path.dirname(os.path.dirname(os.path.realpath(__file__)))
-PROGRAM = 'replay_command'
+PROGRAMS = {'replay': 'replay_command', 'explain': 'explain_command'}
+WORDS = sys.argv[1:]
+NAME = WORDS.pop(0) if WORDS and WORDS[0] in PROGRAMS else 'replay'
+PROGRAM = PROGRAMS[NAME]
 PARTS = ('src', 'specs', 'proofs')
 
 
 def say(text):
-    print(f'replay: {text}', file=sys.stderr, flush=True)
+    print(f'{NAME}: {text}', file=sys.stderr, flush=True)
 
 
 def program_file():
@@ -348,4 +351,4 @@ def main(words):
 
 
 if __name__ == '__main__':
-    sys.exit(main(sys.argv[1:]))
+    sys.exit(main(WORDS))

@@ -1,1 +1,4 @@
 mod Readings
+mod PlainBases
+mod BaseLines
+pub mod Citable

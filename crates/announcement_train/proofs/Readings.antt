@@ -3,7 +3,7 @@ use Rattle.std.proofs.Common.{ℕ, ◌≡◌, ◌+◌, ◌*◌, ◌/◌, ◌≤�
 use Rattle.std.proofs.lemmas.Bool.{cond-false, le-ltb}
 use Rattle.std.proofs.lemmas.List.{append-nil, length-drop, take_all}
 use Rattle.std.proofs.lemmas.Nat.{div-mul-add}
-use Rattle.octet_fields.specs.Spelling.{number}
+use Rattle.bcast_base.specs.Spelling.{number}
 use Rattle.ltv_codec.specs.declared.ltvs.Ltv.{Ltv}
 use Rattle.ltv_codec.specs.Layout.{structure}
 use Rattle.ltv_codec.proofs.Citable.{list_read}

@@ -4,7 +4,7 @@
 -- tells of, with the BIG_Offset in units of 30 µs, and what stands in SeedAccessAddress, BaseCRCInit and ChM, is this
 -- project's own.
 use Rattle.std.specs.Prelude.{ℕ, ◌+◌, ◌-◌, ◌*◌, ◌^◌, ◌≡◌, ◌==◌, List, ◌++◌, length, if◌then◌else◌}
-use Rattle.octet_fields.specs.Spelling.{number}
+use Rattle.bcast_base.specs.Spelling.{number}
 use Rattle.ltv_codec.specs.declared.ltvs.Ltv.{Ltv}
 use Rattle.ltv_codec.specs.Layout.{structure}
 use Rattle.base_grammar.specs.Ad.{service_data_type, broadcast_audio_announcement}

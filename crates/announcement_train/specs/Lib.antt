@@ -1,2 +1,4 @@
 pub mod Layout
 pub mod Told
+pub mod PlainBase
+pub mod BaseLines

@@ -2,7 +2,9 @@
 #![tactic(auto)]
 
 mod laws;
+mod plain;
 mod train;
 
 pub use laws::an_announcement_is_read;
+pub use plain::plain_base;
 pub use train::Train;

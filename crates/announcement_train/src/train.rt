@@ -5,9 +5,8 @@ ghost use Rattle.big_info.specs.Widths.{FitsWidths};
 ghost use Rattle.announcement_train.specs.Layout.{IsTrain, announced, info_ad, lead, service_ad};
 
 use base_grammar::{Base, encode_base, write_ad};
-use bcast_base::{Memory, Octets};
+use bcast_base::{Memory, Octets, put_number};
 use big_info::{BigInfo, encode_big_info};
-use octet_fields::put_number;
 use std::alloc::Global;
 
 /// The AD type of Service Data of a 16-bit UUID.

@@ -5,16 +5,16 @@ use Rattle.std.specs.List.{flat_map, AllByRecursion}
 use Rattle.std.proofs.lemmas.Bool.{ltb-false, le-ltb}
 use Rattle.std.proofs.lemmas.List.{append-nil}
 use Rattle.std.proofs.lemmas.List.Concat.{flat_map-cons}
-use Rattle.octet_fields.specs.Reading.{octets_in, number_in, place_in}
-use Rattle.octet_fields.specs.Spelling.{IsOctets, counted}
-use Rattle.octet_fields.proofs.Citable.{octets_again, number_again}
+use Rattle.bcast_base.specs.Reading.{octets_in, number_in, place_in}
+use Rattle.bcast_base.specs.Spelling.{IsOctets, counted}
+use Rattle.bcast_base.proofs.Citable.{octets_again, number_again}
 use Rattle.base_grammar.specs.declared.fault.BaseFault.{BaseFault}
 use Rattle.base_grammar.specs.declared.fault.BaseFault.TheVariants.{TooLong}
 use Rattle.base_grammar.specs.declared.subgroup.BaseEntry.{BaseEntry}
 use Rattle.base_grammar.specs.declared.subgroup.Subgroup.{Subgroup}
 use Rattle.base_grammar.specs.Layout.{Endpoint, is_lc3, entry, subgroup, spelling, bis_of, indices, stands_in, AreNew, IsConfig, EntryFits, SubgroupFits, HasEntry, IsBase, BaseIs}
 use Rattle.base_grammar.specs.Reading.{run_at, index_at, entry_at, entries_at, streams_at, subgroup_at, subgroups_at, count_at, fields_of, base_of, told}
-use Rattle.octet_fields.specs.Tries.{Answers}
+use Rattle.bcast_base.specs.Tries.{Answers}
 use Rattle.base_grammar.proofs.Steps.{none_run, none_index, none_streams, none_subgroups}
 use Rattle.base_grammar.proofs.Taken.{fields_take}
 

@@ -7,7 +7,7 @@ use Rattle.std.proofs.lemmas.Bool.{cases_lt, lt-ltb, le-ltb, eqb-true, eqb-false
 use Rattle.std.proofs.lemmas.List.{map_push}
 use Rattle.std.proofs.lemmas.List.Folds.{list_any-append}
 use Rattle.bcast_base.specs.Bis.{Has}
-use Rattle.octet_fields.specs.Reading.{octet_in, octets_in, place_in}
+use Rattle.bcast_base.specs.Reading.{octet_in, octets_in, place_in}
 use Rattle.base_grammar.specs.declared.fault.BaseFault.{BaseFault}
 use Rattle.base_grammar.specs.declared.fault.BaseFault.TheVariants as faults
 use Rattle.base_grammar.specs.declared.subgroup.BaseEntry.{BaseEntry}
@@ -15,7 +15,7 @@ use Rattle.base_grammar.specs.declared.subgroup.Subgroup.{Subgroup}
 use Rattle.base_grammar.specs.Checking.{Seen, Passed, Passes, same_bis, entry_bis, entries_bis, subgroup_bis}
 use Rattle.base_grammar.specs.Layout.{Endpoint, is_lc3, bis_of, indices, stands_in}
 use Rattle.base_grammar.specs.Rows.{index_fault}
-use Rattle.octet_fields.specs.Tries.{Finds}
+use Rattle.bcast_base.specs.Tries.{Finds}
 use Rattle.base_grammar.specs.Reading.{field_at, unless, run_at, index_at, entry_at, entries_at, streams_at, subgroup_at, subgroups_at, rest_of, base_of, told}
 use Rattle.base_grammar.proofs.Firsts.{read_bad}
 use Rattle.base_grammar.proofs.Loops.{Entering, entering_next, entering_err, entering_done, Grouping, grouping_next, grouping_err, grouping_done, indices-push}

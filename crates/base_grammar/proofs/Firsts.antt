@@ -11,10 +11,10 @@ use Rattle.ltv_codec.specs.Reading.{bad_of}
 use Rattle.ltv_codec.specs.declared.fault.LtvBad.{LtvBad}
 use Rattle.base_grammar.specs.declared.fault.BaseFault.{BaseFault}
 use Rattle.base_grammar.specs.declared.fault.BaseFault.TheVariants as faults
-use Rattle.octet_fields.specs.Spelling.{IsOctets}
+use Rattle.bcast_base.specs.Spelling.{IsOctets}
 use Rattle.base_grammar.specs.Layout.{Endpoint, stands_in, BaseIs}
 use Rattle.base_grammar.specs.Rows.{run_fault}
-use Rattle.octet_fields.specs.Tries.{Answers}
+use Rattle.bcast_base.specs.Tries.{Answers}
 use Rattle.base_grammar.specs.Reading.{told, fields_of, base_of}
 use Rattle.base_grammar.specs.Faults.{Row, presentation_delay, num_subgroups, num_bis, codec_id, config_length, config, metadata_length, metadata, bis_index, bis_config_length}
 use Rattle.base_grammar.specs.Faults.{bis_config, nothing, Due, first_due, width, number_of, row_fault, next_due, IsDue, due_behind, Meets, AllMeet, field_fault, ending_fault}

@@ -7,7 +7,7 @@ use Rattle.base_grammar.specs.declared.fault.BaseFault.{BaseFault}
 use Rattle.base_grammar.specs.declared.subgroup.BaseEntry.{BaseEntry}
 use Rattle.base_grammar.specs.declared.subgroup.Subgroup.{Subgroup}
 use Rattle.base_grammar.specs.Layout.{bis_of, indices}
-use Rattle.octet_fields.specs.Tries.{◌>>=◌, FindsOrWants}
+use Rattle.bcast_base.specs.Tries.{◌>>=◌, FindsOrWants}
 use Rattle.base_grammar.specs.Reading.{told, entry_at, entries_at, subgroup_at, subgroups_at}
 
 -- what was read before, and what is still read

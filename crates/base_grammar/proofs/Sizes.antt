@@ -5,8 +5,8 @@ use Rattle.std.specs.Option.{SomeIff}
 use Rattle.std.proofs.lemmas.List.{length-append}
 use Rattle.std.proofs.lemmas.List.Concat.{flat_map-cons}
 use Rattle.std.proofs.lemmas.List.Folds.{length-flat_map-take}
-use Rattle.octet_fields.specs.Spelling.{number}
-use Rattle.octet_fields.proofs.Citable.{number-length}
+use Rattle.bcast_base.specs.Spelling.{number}
+use Rattle.bcast_base.proofs.Citable.{number-length}
 use Rattle.base_grammar.specs.declared.subgroup.BaseEntry.{BaseEntry}
 use Rattle.base_grammar.specs.declared.subgroup.Subgroup.{Subgroup}
 use Rattle.base_grammar.specs.Layout.{Endpoint, entry, subgroup, spelling}

@@ -2,16 +2,16 @@
 use Rattle.std.proofs.Common.{◌≡◌, ℕ, zero, suc, ◌≤◌, Bool, true, false, cond, ltb, eqb, List, Option, Some, None, Ok, refl, ap, arith}
 use Rattle.std.specs.Option.{option_map}
 use Rattle.std.proofs.lemmas.Bool.{ltb-false, le-ltb, ne_eqb}
-use Rattle.octet_fields.specs.Spelling.{IsOctets}
+use Rattle.bcast_base.specs.Spelling.{IsOctets}
 use Rattle.ltv_codec.specs.Reading.{bad_of}
 use Rattle.ltv_codec.proofs.Citable.{are_read, reads}
 use Rattle.ltv_codec.specs.declared.fault.LtvBad.{LtvBad}
 use Rattle.base_grammar.specs.declared.fault.BaseFault.{BaseFault}
 use Rattle.base_grammar.specs.declared.fault.BaseFault.TheVariants.{Short, NoSubgroup, NoBis, BadIndex, IndexTwice, Ltv}
-use Rattle.octet_fields.specs.Reading.{place_in}
+use Rattle.bcast_base.specs.Reading.{place_in}
 use Rattle.base_grammar.specs.Layout.{IsConfig, stands_in}
 use Rattle.base_grammar.specs.Rows.{subgroups_fault, streams_fault, index_fault, run_fault}
-use Rattle.octet_fields.proofs.Citable.{needed_ok, ok_is}
+use Rattle.bcast_base.proofs.Citable.{needed_ok, ok_is}
 use Rattle.base_grammar.specs.Reading.{field_at, unless}
 
 -- a field that is whole

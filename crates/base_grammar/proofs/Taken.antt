@@ -3,14 +3,14 @@ use Rattle.std.proofs.Common.{◌≡◌, ℕ, zero, suc, ◌<◌, ◌≤◌, ◌
 use Rattle.std.specs.List.{flat_map, AllByRecursion}
 use Rattle.std.proofs.lemmas.List.{append-nil}
 use Rattle.std.proofs.lemmas.List.Concat.{flat_map-cons}
-use Rattle.octet_fields.specs.Reading.{octet_in, octets_in, number_in, place_in, Takes}
-use Rattle.octet_fields.specs.Spelling.{IsOctets, octet, number, counted}
-use Rattle.octet_fields.proofs.Citable.{IsOctets-front, Takes-then, octet_takes, octets_take, number_takes, bind_ok, ok_is}
+use Rattle.bcast_base.specs.Reading.{octet_in, octets_in, number_in, place_in, Takes}
+use Rattle.bcast_base.specs.Spelling.{IsOctets, octet, number, counted}
+use Rattle.bcast_base.proofs.Citable.{IsOctets-front, Takes-then, octet_takes, octets_take, number_takes, bind_ok, ok_is}
 use Rattle.base_grammar.specs.declared.subgroup.BaseEntry.{BaseEntry}
 use Rattle.base_grammar.specs.declared.subgroup.Subgroup.{Subgroup}
 use Rattle.base_grammar.specs.Layout.{Endpoint, endpoint, is_lc3, entry, subgroup, spelling, bis_of, indices, stands_in, AreNew, IsConfig, EntryFits, SubgroupFits, HasEntry}
 use Rattle.base_grammar.specs.Rows.{subgroups_fault, streams_fault, index_fault, run_fault}
-use Rattle.octet_fields.specs.Tries.{◌>>=◌}
+use Rattle.bcast_base.specs.Tries.{◌>>=◌}
 use Rattle.base_grammar.specs.Reading.{field_at, unless, run_at, index_at, entry_at, entries_at, streams_at, subgroup_at, subgroups_at, count_at, ended, fields_of}
 use Rattle.base_grammar.proofs.Steps.{field_ok, unless_ok, subgroups_none, streams_none, run_none, index_none}
 

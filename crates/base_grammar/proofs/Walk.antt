@@ -6,13 +6,13 @@ use Rattle.std.proofs.lemmas.Bool.{cases_lt, lt-ltb, le-ltb}
 use Rattle.std.proofs.lemmas.List.{append-nil, length-append, length-take, take-append-drop, take_at}
 use Rattle.std.proofs.lemmas.List.Folds.{concat-append}
 use Rattle.bcast_base.specs.Numbers.{sum_from}
-use Rattle.octet_fields.specs.Reading.{octet_in, octets_in, number_in, place_in}
+use Rattle.bcast_base.specs.Reading.{octet_in, octets_in, number_in, place_in}
 use Rattle.base_grammar.specs.declared.fault.BaseFault.{BaseFault}
 use Rattle.base_grammar.specs.declared.fault.BaseFault.TheVariants.{Short}
 use Rattle.base_grammar.specs.Faults.{Row, presentation_delay, num_subgroups, num_bis, codec_id, config_length, config, metadata_length, metadata, bis_index, bis_config_length}
 use Rattle.base_grammar.specs.Faults.{bis_config, nothing, Due, first_due, width, row_fault, next_due, IsDue, due_behind, Meets, AllMeet, field_fault, cut_fault, AtCut}
 use Rattle.base_grammar.specs.Rows.{run_fault}
-use Rattle.octet_fields.specs.Tries.{◌>>=◌}
+use Rattle.bcast_base.specs.Tries.{◌>>=◌}
 use Rattle.base_grammar.specs.Reading.{field_at, unless, run_at}
 
 -- ---- one field more

@@ -1,8 +1,8 @@
 -- Reading a BASE (Basic Audio Profile 1.0, section 3.7.2.2) from left to right, field by field, with the first fault that
 -- is met. `whole` is all that is read, and `rest` its last octets, which are still to be read.
 use Rattle.std.specs.Prelude.{ℕ, zero, suc, Bool, true, List, [], ◌∷◌, ◌++◌, length, map, Option, Some, None, is_none, Result, Ok, Err, nat_lt, if◌then◌else◌}
-use Rattle.octet_fields.specs.Reading.{octet_in, octets_in, number_in, place_in}
-use Rattle.octet_fields.specs.Tries.{◌>>=◌, needed}
+use Rattle.bcast_base.specs.Reading.{octet_in, octets_in, number_in, place_in}
+use Rattle.bcast_base.specs.Tries.{◌>>=◌, needed}
 use Rattle.base_grammar.specs.declared.fault.BaseFault.{BaseFault}
 use Rattle.base_grammar.specs.declared.fault.BaseFault.TheVariants.{Short, Trailing, TooLong, Memory}
 use Rattle.base_grammar.specs.declared.subgroup.BaseEntry.{BaseEntry}

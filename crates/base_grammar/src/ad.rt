@@ -5,11 +5,10 @@ ghost use Rattle.ltv_codec.specs.Layout as ltv;
 ghost use Rattle.ltv_codec.specs.Layout.{AreLtvs};
 ghost use Rattle.ltv_codec.specs.Reading.{ltvs_in};
 ghost use Rattle.ltv_codec.specs.Values.{first_of};
-ghost use Rattle.octet_fields.specs.Reading.{Gives};
+ghost use Rattle.bcast_base.specs.Reading.{Gives};
 
-use bcast_base::{Memory, Octets};
+use bcast_base::{Memory, Octets, counted_at};
 use ltv_codec::{LtvBad, check_ltvs, first_value};
-use octet_fields::counted_at;
 
 /// The AD type of Service Data of a 16-bit UUID.
 const SERVICE_DATA: u8 = 0x16;

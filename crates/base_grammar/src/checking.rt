@@ -3,15 +3,14 @@
 ghost use Rattle.std.specs.Prelude.{◌≡◌, ◌≤◌, ℕ, List, [], length, IfOk};
 ghost use Rattle.std.specs.Result.{result_err};
 ghost use Rattle.base_grammar.specs.Checking.{Seen, Passes, same_bis, entry_bis, entries_bis, subgroup_bis};
-ghost use Rattle.octet_fields.specs.Tries.{Reads};
+ghost use Rattle.bcast_base.specs.Tries.{Reads};
 ghost use Rattle.base_grammar.specs.Reading.{index_at, entry_at, entries_at, subgroup_at, subgroups_at, rest_of, base_of};
 
 use crate::fault::BaseFault;
 use crate::fields::{codec_field, count_field, delay_field, octet_field, run_field, streams_field};
 use crate::reading::MAX_OCTETS;
 use crate::subgroup::is_lc3_codec;
-use bcast_base::{Bis, BisSet};
-use octet_fields::place_of;
+use bcast_base::{Bis, BisSet, place_of};
 
 // What is wrong with octets that are no BASE.
 #[tactic(auto, unfolding(crate::specs::Reading::base_of, crate::specs::Reading::fields_of))]

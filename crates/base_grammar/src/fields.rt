@@ -1,16 +1,15 @@
 //! Reading one field of a BASE. `whole` is all that is read, and `rest` its last octets.
 ghost use Rattle.std.specs.Prelude.{◌≡◌, ◌≤◌, ◌++◌, length, map, IfOk};
-ghost use Rattle.octet_fields.specs.Reading.{place_in, octet_in, octets_in, number_in};
+ghost use Rattle.bcast_base.specs.Reading.{place_in, octet_in, octets_in, number_in};
 ghost use Rattle.base_grammar.specs.Layout.{indices, bis_of};
-ghost use Rattle.octet_fields.specs.Tries.{Reads};
+ghost use Rattle.bcast_base.specs.Tries.{Reads};
 ghost use Rattle.base_grammar.specs.Reading.{field_at, run_at, index_at, streams_at, count_at};
 ghost use Rattle.base_grammar.specs.declared.fault.BaseFault.TheVariants as faults;
 
 use crate::fault::BaseFault;
 use crate::subgroup::{BaseEntry, Subgroup, stands_before};
-use bcast_base::Bis;
+use bcast_base::{Bis, number_at, octet_at, octets_at, place_of};
 use ltv_codec::check_ltvs;
-use octet_fields::{number_at, octet_at, octets_at, place_of};
 
 // The next field is not whole.
 fn short(whole: &[u8], rest: &[u8]) -> BaseFault

@@ -1,6 +1,6 @@
 //! Which octets are a BASE, and what is wrong with all others.
 ghost use Rattle.std.specs.Prelude.{◌≡◌, ◌↔◌, ℕ, List, Ok, Err};
-ghost use Rattle.octet_fields.specs.Spelling.{IsOctets};
+ghost use Rattle.bcast_base.specs.Spelling.{IsOctets};
 ghost use Rattle.base_grammar.specs.Faults.{IsBad};
 ghost use Rattle.base_grammar.specs.Layout.{Endpoint, BaseIs};
 ghost use Rattle.base_grammar.specs.Reading.{base_of};

@@ -1,7 +1,7 @@
 ghost use Rattle.std.specs.Prelude.{◌≡◌, ◌≤◌, [], ◌++◌, length, map, IfOk, IfErr, Ok};
 ghost use Rattle.base_grammar.specs.Faults.{IsFault};
 ghost use Rattle.base_grammar.specs.Layout.{Endpoint, endpoint, indices, bis_of, BaseIs};
-ghost use Rattle.octet_fields.specs.Tries.{Answers, Finds, GivesOrWants};
+ghost use Rattle.bcast_base.specs.Tries.{Answers, Finds, GivesOrWants};
 ghost use Rattle.base_grammar.specs.Reading.{told, entry_at, entries_at, subgroup_at, subgroups_at, fields_of, base_of};
 
 use crate::base::Base;
@@ -9,8 +9,7 @@ use crate::checking::check_base;
 use crate::fault::BaseFault;
 use crate::fields::{codec_field, count_field, delay_field, index_field, run_field, streams_field};
 use crate::subgroup::{BaseEntry, Entries, Subgroup, is_lc3_codec};
-use bcast_base::Octets;
-use octet_fields::place_of;
+use bcast_base::{Octets, place_of};
 use std::alloc::Global;
 
 // The most octets of a BASE.

@@ -4,8 +4,7 @@ ghost use Rattle.base_grammar.specs.Layout.{entry, subgroup, BaseIs};
 
 use crate::base::Base;
 use crate::subgroup::{BaseEntry, Subgroup};
-use bcast_base::{Memory, Octets};
-use octet_fields::{put_counted, put_number};
+use bcast_base::{Memory, Octets, put_counted, put_number};
 use std::alloc::Global;
 
 /// The octets of a BASE, at most 252.

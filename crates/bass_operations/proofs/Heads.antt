@@ -1,10 +1,10 @@
 -- The fields before the subgroups: what is read of them is spelled so, and what is spelled so is read.
 use Rattle.std.proofs.Common.{◌≡◌, ℕ, ◌+◌, ◌^◌, ◌<◌, List, [], ◌++◌, length, Some, refl, ap, subst, ◌∙◌, arith}
 use Rattle.std.proofs.lemmas.List.{length-append}
-use Rattle.octet_fields.specs.Reading.{octet_in, octets_in, number_in}
-use Rattle.octet_fields.specs.Spelling.{IsOctets, octet, number}
-use Rattle.octet_fields.specs.Steps.{◌>>=◌}
-use Rattle.octet_fields.proofs.Citable.{octet_takes, octets_take, octets_again, number_takes, number_again, number-length, bind_some, some_is}
+use Rattle.bcast_base.specs.Reading.{octet_in, octets_in, number_in}
+use Rattle.bcast_base.specs.Spelling.{IsOctets, octet, number}
+use Rattle.bcast_base.specs.Steps.{◌>>=◌}
+use Rattle.bcast_base.proofs.Citable.{octet_takes, octets_take, octets_again, number_takes, number_again, number-length, bind_some, some_is}
 use Rattle.bass_operations.specs.declared.operation.AddSource.{AddSource}
 use Rattle.bass_operations.specs.declared.operation.ModifySource.{ModifySource}
 use Rattle.bass_operations.specs.Reading.{add_head_in, modify_head_in}

@@ -2,11 +2,11 @@
 use Rattle.std.proofs.Common.{◌≡◌, ℕ, zero, suc, ◌<◌, ◌≤◌, Bool, true, false, cond, ltb, List, [], ◌∷◌, ◌++◌, length, Option, Some, None, Result, Ok, Err, refl, sym, ap, subst, ◌∙◌, arith}
 use Rattle.std.proofs.lemmas.Bool.{le-ltb}
 use Rattle.std.specs.List.{flat_map}
-use Rattle.octet_fields.specs.Layout.{laid, reserved_from}
-use Rattle.octet_fields.specs.Reading.{octet_in, octets_in}
-use Rattle.octet_fields.specs.Spelling.{IsOctets, octet}
-use Rattle.octet_fields.specs.Steps.{◌>>=◌, whole}
-use Rattle.octet_fields.proofs.Citable.{IsOctets-rest, octet_takes, octets_take, bind_some, some_is, reserved_none, none_reserved}
+use Rattle.bcast_base.specs.Layout.{laid, reserved_from}
+use Rattle.bcast_base.specs.Reading.{octet_in, octets_in}
+use Rattle.bcast_base.specs.Spelling.{IsOctets, octet}
+use Rattle.bcast_base.specs.Steps.{◌>>=◌, whole}
+use Rattle.bcast_base.proofs.Citable.{IsOctets-rest, octet_takes, octets_take, bind_some, some_is, reserved_none, none_reserved}
 use Rattle.bass_operations.specs.declared.fault.OpFault.{OpFault}
 use Rattle.bass_operations.specs.declared.fault.OpFault.TheVariants.{Opcode}
 use Rattle.bass_operations.specs.declared.operation.Operation.{Operation}

@@ -5,9 +5,9 @@ use Rattle.std.proofs.lemmas.Bool.{lt-ltb, le-ltb}
 use Rattle.std.proofs.lemmas.List.{append-nil}
 use Rattle.std.proofs.Math.Dec.{eqb-suc-zero}
 use Rattle.std.proofs.lemmas.List.Sums.{sum_by-cons}
-use Rattle.octet_fields.specs.Steps.{◌>>=◌, whole}
-use Rattle.octet_fields.specs.Subgroups.{Subgroup, subgroup_in, subgroups_in}
-use Rattle.octet_fields.proofs.Citable.{bind_some, some_is}
+use Rattle.bcast_base.specs.Steps.{◌>>=◌, whole}
+use Rattle.bcast_base.specs.Subgroups.{Subgroup, subgroup_in, subgroups_in}
+use Rattle.bcast_base.proofs.Citable.{bind_some, some_is}
 use Rattle.bass_operations.specs.declared.wishes.Wish.{Wish}
 use Rattle.bass_operations.specs.Reading.{wish_of, wishes_in}
 use Rattle.bass_operations.specs.Scanning.{named_in, twice_in}

@@ -3,11 +3,11 @@ use Rattle.std.proofs.Common.{◌≡◌, ℕ, ◌+◌, ◌<◌, ◌≤◌, Bool,
 use Rattle.std.proofs.lemmas.Bool.{lt-ltb, le-ltb}
 use Rattle.std.specs.Prelude.{IfOk, IsOk}
 use Rattle.std.specs.List.{flat_map}
-use Rattle.octet_fields.specs.Layout.{reserved_from}
-use Rattle.octet_fields.specs.Reading.{place_in}
-use Rattle.octet_fields.specs.Spelling.{IsOctets}
-use Rattle.octet_fields.specs.Subgroups.{subgroup_fields, reserved_in}
-use Rattle.octet_fields.proofs.Citable.{IsOctets-rest, number-length, reserved_found}
+use Rattle.bcast_base.specs.Layout.{reserved_from}
+use Rattle.bcast_base.specs.Reading.{place_in}
+use Rattle.bcast_base.specs.Spelling.{IsOctets}
+use Rattle.bcast_base.specs.Subgroups.{subgroup_fields, reserved_in}
+use Rattle.bcast_base.proofs.Citable.{IsOctets-rest, number-length, reserved_found}
 use Rattle.bass_operations.specs.declared.fault.OpFault.{OpFault}
 use Rattle.bass_operations.specs.declared.fault.OpFault.TheVariants.{Length, Rfu, BisTwice}
 use Rattle.bass_operations.specs.declared.operation.AddSource.{AddSource}
@@ -17,7 +17,7 @@ use Rattle.bass_operations.specs.declared.operation.Operation.TheVariants.{Add, 
 use Rattle.bass_operations.specs.declared.wishes.Wish.{Wish}
 use Rattle.bass_operations.specs.Layout.{fields, wishes_of}
 use Rattle.bass_operations.specs.Reading.{wishes_in, add_head_in, modify_head_in, add_in, modify_in, judged, answered, first_fault, add_reserved, told}
-use Rattle.octet_fields.specs.Tries.{Finds}
+use Rattle.bcast_base.specs.Tries.{Finds}
 use Rattle.bass_operations.specs.Scanning.{twice_in}
 use Rattle.bass_operations.specs.Twice.{twice_of, twice_from}
 use Rattle.bass_operations.proofs.Heads.{add_head_takes, add_before-length, modify_head_takes, modify_before-length}

@@ -3,11 +3,11 @@ use Rattle.std.proofs.Common.{◌≡◌, ℕ, suc, List, [], ◌∷◌, ◌++◌
 use Rattle.std.proofs.lemmas.Grind.{flat_map-append}
 use Rattle.std.proofs.lemmas.List.{append-nil}
 use Rattle.std.specs.List.{flat_map, AllByRecursion}
-use Rattle.octet_fields.specs.Layout.{Field, laid}
-use Rattle.octet_fields.specs.Spelling.{IsOctets}
-use Rattle.octet_fields.specs.Steps.{◌>>=◌, whole}
-use Rattle.octet_fields.specs.Subgroups.{Subgroup, Fits, subgroup, subgroup_fields, subgroups_in}
-use Rattle.octet_fields.proofs.Citable.{bind_some, some_is, subgroup_laid, subgroups_take, subgroups_again}
+use Rattle.bcast_base.specs.Layout.{Field, laid}
+use Rattle.bcast_base.specs.Spelling.{IsOctets}
+use Rattle.bcast_base.specs.Steps.{◌>>=◌, whole}
+use Rattle.bcast_base.specs.Subgroups.{Subgroup, Fits, subgroup, subgroup_fields, subgroups_in}
+use Rattle.bcast_base.proofs.Citable.{bind_some, some_is, subgroup_laid, subgroups_take, subgroups_again}
 use Rattle.bass_operations.specs.declared.wishes.Wish.{Wish}
 use Rattle.bass_operations.specs.Layout.{group_of, WishFits}
 use Rattle.bass_operations.specs.Reading.{wish_of, wishes_in}

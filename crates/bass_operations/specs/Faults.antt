@@ -1,6 +1,6 @@
 -- Why octets are no operation (Broadcast Audio Scan Service 1.0, section 3.1.1). At most one of these holds.
 use Rattle.std.specs.Prelude.{ℕ, ◌≡◌, ◌<◌, ◌≤◌, List, [], ◌∷◌, length}
-use Rattle.octet_fields.specs.Layout.{NoneReserved, FirstReserved}
+use Rattle.bcast_base.specs.Layout.{NoneReserved, FirstReserved}
 use Rattle.bass_operations.specs.declared.fault.OpFault.{OpFault}
 use Rattle.bass_operations.specs.declared.fault.OpFault.TheVariants.{Empty, Opcode, Length, Rfu, BisTwice, Memory}
 use Rattle.bass_operations.specs.declared.operation.Operation.{Operation}

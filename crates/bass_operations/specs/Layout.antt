@@ -2,9 +2,9 @@
 -- and the fields of the operation behind it.
 use Rattle.std.specs.Prelude.{ℕ, ◌≡◌, ◌<◌, ◌≤◌, ◌^◌, List, [], ◌∷◌, length, nat_lt}
 use Rattle.std.specs.List.{flat_map, AllByRecursion}
-use Rattle.octet_fields.specs.Layout.{Field, free, unless, laid, NoneReserved}
-use Rattle.octet_fields.specs.Spelling.{octet, number}
-use Rattle.octet_fields.specs.Subgroups.{Subgroup, subgroup_fields}
+use Rattle.bcast_base.specs.Layout.{Field, free, unless, laid, NoneReserved}
+use Rattle.bcast_base.specs.Spelling.{octet, number}
+use Rattle.bcast_base.specs.Subgroups.{Subgroup, subgroup_fields}
 use Rattle.bass_operations.specs.declared.operation.AddSource.{AddSource}
 use Rattle.bass_operations.specs.declared.operation.ModifySource.{ModifySource}
 use Rattle.bass_operations.specs.declared.operation.Operation.{Operation}

@@ -1,9 +1,9 @@
 -- Reading an operation (Broadcast Audio Scan Service 1.0, section 3.1.1) field by field.
 use Rattle.std.specs.Prelude.{ℕ, zero, suc, List, [], ◌∷◌, map, Option, Some, None, Result, Ok, Err, nat_lt, if◌then◌else◌, ◌<◌, length, IfOk}
-use Rattle.octet_fields.specs.Layout.{reserved_from}
-use Rattle.octet_fields.specs.Reading.{octet_in, octets_in, number_in}
-use Rattle.octet_fields.specs.Steps.{◌>>=◌, whole}
-use Rattle.octet_fields.specs.Subgroups.{Subgroup, subgroups_in}
+use Rattle.bcast_base.specs.Layout.{reserved_from}
+use Rattle.bcast_base.specs.Reading.{octet_in, octets_in, number_in}
+use Rattle.bcast_base.specs.Steps.{◌>>=◌, whole}
+use Rattle.bcast_base.specs.Subgroups.{Subgroup, subgroups_in}
 use Rattle.bass_operations.specs.declared.fault.OpFault.{OpFault}
 use Rattle.bass_operations.specs.declared.fault.OpFault.TheVariants.{Empty, Opcode, Length, Rfu, BisTwice}
 use Rattle.bass_operations.specs.declared.fault.OpFault.TheVariants as faults

@@ -1,7 +1,7 @@
 -- Looking through the subgroups of an operation (Broadcast Audio Scan Service 1.0, section 3.1.1.4) where they lie.
 use Rattle.std.specs.Prelude.{ℕ, zero, suc, ◌+◌, List, Option, Some, None, nat_lt, if◌then◌else◌}
-use Rattle.octet_fields.specs.Steps.{◌>>=◌}
-use Rattle.octet_fields.specs.Subgroups.{subgroup_in}
+use Rattle.bcast_base.specs.Steps.{◌>>=◌}
+use Rattle.bcast_base.specs.Subgroups.{subgroup_in}
 use Rattle.bass_operations.specs.Twice.{has_bit}
 
 abbrev pub or_zero : Option ℕ → ℕ

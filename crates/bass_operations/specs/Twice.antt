@@ -2,7 +2,7 @@
 -- 0xFFFFFFFF is no preference and names no stream.
 use Rattle.std.specs.Prelude.{ℕ, zero, suc, ◌-◌, ◌+◌, ◌<◌, ◌≤◌, List, Option, Some, None, Bool, nat_lt, ◌==◌, ◌&&◌, not, count_by, if◌then◌else◌}
 use Rattle.std.specs.Int.{bit_at}
-use Rattle.octet_fields.specs.Subgroups.{all_bits}
+use Rattle.bcast_base.specs.Subgroups.{all_bits}
 use Rattle.bass_operations.specs.declared.wishes.Wish.{Wish}
 
 -- the bit of the stream is set

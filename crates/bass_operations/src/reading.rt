@@ -1,6 +1,6 @@
 ghost use Rattle.std.specs.Prelude.{◌≡◌, ◌∷◌, IfOk, IfErr, Ok};
-ghost use Rattle.octet_fields.specs.Reading.{Gives};
-ghost use Rattle.octet_fields.specs.Tries.{Answers};
+ghost use Rattle.bcast_base.specs.Reading.{Gives};
+ghost use Rattle.bcast_base.specs.Tries.{Answers};
 ghost use Rattle.bass_operations.specs.Faults.{IsFault};
 ghost use Rattle.bass_operations.specs.Layout.{MetadataFits, OpIs, wishes_of};
 ghost use Rattle.bass_operations.specs.Reading.{WantsFor, told, op_of, judged, add_in, add_head_in, add_reserved, modify_in, modify_head_in, code_in, remove_in};
@@ -10,7 +10,7 @@ use crate::fault::OpFault;
 use crate::operation::{AddSource, ModifySource, Operation};
 use crate::scanning::{are_wishes, check_wishes, read_wishes};
 use crate::wishes::Wishes;
-use octet_fields::{array_at, number_at, octet_at};
+use bcast_base::{array_at, number_at, octet_at};
 use std::alloc::Global;
 
 // Places of fields that may have a reserved value: behind the opcode of an Add Source its address type, its SID behind an

@@ -1,15 +1,14 @@
 //! The subgroups of an operation, looked through where they lie before any memory is taken.
 ghost use Rattle.std.specs.Prelude.{◌≡◌, ◌≤◌, ◌<◌, length, is_some, true, IfOk, OnErr, Some};
 ghost use Rattle.std.specs.Result.{result_err};
-ghost use Rattle.octet_fields.specs.Subgroups.{reserved_in};
+ghost use Rattle.bcast_base.specs.Subgroups.{reserved_in};
 ghost use Rattle.bass_operations.specs.Reading.{wishes_in, first_fault};
 ghost use Rattle.bass_operations.specs.Scanning.{named_in, twice_in};
 ghost use Rattle.bass_operations.specs.Twice.{has_bit};
 
 use crate::fault::OpFault;
 use crate::wishes::{Wish, Wishes};
-use bcast_base::{Memory, Octets};
-use octet_fields::{reserved_subgroup, subgroup_at};
+use bcast_base::{Memory, Octets, reserved_subgroup, subgroup_at};
 use std::alloc::Global;
 
 // Whether the octets are so many subgroups and nothing else.

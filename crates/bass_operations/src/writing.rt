@@ -1,11 +1,10 @@
 ghost use Rattle.std.specs.Prelude.{◌≡◌, ◌++◌, IfOk, OnOk};
-ghost use Rattle.octet_fields.specs.Layout.{laid};
+ghost use Rattle.bcast_base.specs.Layout.{laid};
 ghost use Rattle.bass_operations.specs.Layout.{AddFits, IsLaid, MetadataFits, ModifyFits, WishesFit, add_fields, modify_fields, wishes_fields, wishes_of};
 
 use crate::operation::{AddSource, ModifySource, Operation};
 use crate::wishes::Wishes;
-use bcast_base::{Memory, Octets};
-use octet_fields::{put_number, put_subgroup};
+use bcast_base::{Memory, Octets, put_number, put_subgroup};
 use std::alloc::Global;
 
 /// The octets of an operation (Broadcast Audio Scan Service 1.0, section 3.1.1), also where a field has a reserved value or

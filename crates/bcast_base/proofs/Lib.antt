@@ -1,3 +1,7 @@
 pub mod Sets
 mod Places
 pub mod Citable
+mod Fields
+mod Layouts
+mod Groups
+mod Tries

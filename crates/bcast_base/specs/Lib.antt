@@ -1,3 +1,9 @@
 pub mod Bis
 pub mod Counts
 pub mod Numbers
+pub mod Layout
+pub mod Reading
+pub mod Spelling
+pub mod Steps
+pub mod Subgroups
+pub mod Tries

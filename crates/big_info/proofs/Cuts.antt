@@ -1,5 +1,5 @@
 -- The fields of an info are cut out of its number.
-use Rattle.std.proofs.Common.{◌≡◌, ◌≢◌, ◌<◌, ◌≤◌, ℕ, ◌+◌, ◌-◌, ◌*◌, ◌/◌, ◌%◌, ◌^◌, Bool, true, false, cond, eqb, List, [], ◌∷◌, ◌++◌, length, take, drop, refl, sym, ◌∙◌, ap}
+use Rattle.std.proofs.Common.{◌≡◌, ◌≢◌, ◌<◌, ◌≤◌, ℕ, ◌+◌, ◌-◌, ◌*◌, ◌/◌, ◌%◌, ◌^◌, Bool, false, cond, eqb, List, [], ◌∷◌, ◌++◌, length, take, drop, refl, sym, ◌∙◌, ap}
 use Rattle.std.proofs.Common.{subst, arith, Option, Some, None, Result, Ok, Err}
 use Rattle.std.specs.Prelude.{IfOk, OnErr}
 use Rattle.std.proofs.lemmas.Bool.{eq-eqb, ne_eqb}
@@ -10,7 +10,7 @@ use Rattle.big_info.specs.declared.big_fault.BigFault.{BigFault}
 use Rattle.big_info.specs.declared.big_fault.BigFault.TheVariants.{Length}
 use Rattle.big_info.specs.declared.info.BigInfo.{BigInfo}
 use Rattle.big_info.specs.declared.info.Cipher.{Cipher}
-use Rattle.big_info.specs.Layout.{BigIs, CipherIs, Spells, number_of}
+use Rattle.big_info.specs.Layout.{BigIs, CipherIs, Spells}
 use Rattle.big_info.specs.Reading.{cut, info_from, cipher_from, info_of}
 use Rattle.big_info.proofs.Fields.{stacked, AllFit, widths, values, rebuilt, number-stacked, all_fit}
 
@@ -82,12 +82,12 @@ read_by octets info rfu (Some cipher) c h whole fit number =
     ∙ ap (λ (x : Cipher). Ok (info_from (sum_from 0 (take 33 octets)) (Some x))) (cipher_is cipher (drop 33 octets) h)
     ∙ ap (λ (x : BigInfo). Ok x) (fields_are info rfu (sum_from 0 (take 33 octets)) (Some cipher) fit number c)
 
-pub is_read : (octets : List ℕ) (info : BigInfo) (rfu : ℕ) → Spells info rfu octets → info_of octets ≡ Ok info
-is_read octets info rfu s = read_by octets info rfu info.cipher refl s.cipher s.whole (all_fit info rfu s.widths s.rfu_width) (number_is info rfu octets s)
+pub info_read : (octets : List ℕ) (info : BigInfo) (rfu : ℕ) → Spells info rfu octets → info_of octets ≡ Ok info
+info_read octets info rfu s = read_by octets info rfu info.cipher refl s.cipher s.whole (all_fit info rfu s.widths s.rfu_width) (number_is info rfu octets s)
 
 pub is_exact : (octets : List ℕ) (result : Result BigInfo BigFault) → IfOk result (λ info. BigIs info octets) → OnErr result ((length octets ≢ 33) × (length octets ≢ 57))
     → result ≡ info_of octets
-is_exact octets (Ok info) h k = sym (is_read octets info h.0 h.1)
+is_exact octets (Ok info) h k = sym (info_read octets info h.0 h.1)
 is_exact octets (Err Length) h k =
     sym (
     ap (λ (b : Bool). by_length b (eqb (length octets) 57) (sum_from 0 (take 33 octets)) (drop 33 octets)) (ne_eqb (length octets) 33 k.0)

@@ -1,6 +1,5 @@
 //! Fields of several codecs, written with ample memory.
-use bcast_base::Octets;
-use octet_fields::{put_counted, put_number};
+use bcast_base::{Octets, put_counted, put_number};
 use std::alloc::Global;
 
 // A presentation delay of 40000 µs, and a configuration of 4 octets.

@@ -5,6 +5,7 @@ use Rattle.std.specs.List.{list_any}
 use Rattle.std.proofs.lemmas.Bool.{and_parts, leb-true, or_left, or_right}
 use Rattle.std.proofs.lemmas.Nat.{pow_pos}
 use Rattle.std.proofs.lemmas.List.Folds.{list_any-append}
+use Rattle.std.proofs.lemmas.List.{drop_all}
 use Rattle.base_grammar.specs.declared.subgroup.BaseEntry.{BaseEntry}
 use Rattle.base_grammar.specs.declared.subgroup.Subgroup.{Subgroup}
 use Rattle.base_grammar.specs.Layout.{Endpoint, bis_of, indices, stands_in}
@@ -58,12 +59,6 @@ no_subgroup : (capability : Capability) (base : Endpoint) (num_bis : ℕ) (wishe
     → candidates_of capability base num_bis wishes subgroups ≡ []
 no_subgroup capability base num_bis [] subgroups none = refl
 no_subgroup capability base num_bis (wish ∷ wishes) subgroups none = ap (candidates_of capability base num_bis (wish ∷ wishes)) none
-
-drop_past : {A : Type 0} (n : ℕ) (xs : List A) → length xs ≤ n → drop n xs ≡ []
-drop_past zero [] h = refl
-drop_past zero (x ∷ xs) h = absurd (omega (arith, h))
-drop_past (suc n) [] h = refl
-drop_past (suc n) (x ∷ xs) h = drop_past n xs (omega (arith, h))
 
 -- ---- no candidate is above Num_BIS
 
@@ -121,11 +116,11 @@ pub past_wishes : (capability : Capability) (base : Endpoint) (num_bis streams :
     → IsChosen capability base num_bis streams wishes which bits
 past_wishes capability base num_bis streams wishes place room which bits past leads =
     chosen_last capability base num_bis streams wishes (left_at capability base num_bis wishes place) room which bits
-    (ap (λ some. candidates_of capability base num_bis some (drop place base.subgroups)) (drop_past place wishes past)) leads
+    (ap (λ some. candidates_of capability base num_bis some (drop place base.subgroups)) (drop_all place wishes past)) leads
 
 pub past_subgroups : (capability : Capability) (base : Endpoint) (num_bis streams : ℕ) (wishes : List Wish) (place room which : ℕ) (bits : List ℕ) → length base.subgroups ≤ place
     → Chooses (candidates_of capability base num_bis wishes base.subgroups) streams (left_at capability base num_bis wishes place) room which bits
     → IsChosen capability base num_bis streams wishes which bits
 past_subgroups capability base num_bis streams wishes place room which bits past leads =
     chosen_last capability base num_bis streams wishes (left_at capability base num_bis wishes place) room which bits
-    (no_subgroup capability base num_bis (drop place wishes) (drop place base.subgroups) (drop_past place base.subgroups past)) leads
+    (no_subgroup capability base num_bis (drop place wishes) (drop place base.subgroups) (drop_all place base.subgroups past)) leads

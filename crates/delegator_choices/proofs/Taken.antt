@@ -133,9 +133,6 @@ pub record Chooses (all : List (List ℕ)) (streams : ℕ) (rest : List (List �
   pub bits_lead : bits ++ map (set_with 0) (first_of_all room rest) ≡ map (set_with 0) (first_of_all streams all)
   pub which_leads : sets_with which (first_of_all room rest) ≡ sets_with 0 (first_of_all streams all)
 
-pub chooses_first : (all : List (List ℕ)) (streams : ℕ) → Chooses all streams all streams 0 []
-chooses_first all streams = record { bits_lead = refl; which_leads = refl }
-
 pub chooses_next : (all : List (List ℕ)) (streams : ℕ) (rest others : List (List ℕ)) (room which : ℕ) (bits bits_now candidates : List ℕ) (first last : Taking)
     → rest ≡ candidates ∷ others → first.room ≡ room → first.which ≡ which → first.bits ≡ 0 → Takes candidates first last → bits_now ≡ bits ++ last.bits ∷ []
     → Chooses all streams rest room which bits → Chooses all streams others last.room last.which bits_now

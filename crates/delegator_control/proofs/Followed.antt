@@ -180,6 +180,3 @@ went_to m mid now slot place encrypted streams done status within near near_now 
     ∙ ap (λ (a : Machine). record a { sight = stands_at a.sight place encrypted streams }) noted
     ∙ (λ i. record m { sight = end; waiting = m.waiting ++ one i })
     ∙ (λ i. record m { sight = does i; waiting = m.waiting ++ changes m.setup.slots m.sight (does i) })
-
-pub same_some : (a b : ℕ) → Some a ≡ Some b → a ≡ b
-same_some a b e = cc

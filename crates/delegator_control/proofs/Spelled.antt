@@ -4,8 +4,8 @@ use Rattle.std.specs.Prelude.{nat_lt, ◌==◌, ◌&&◌, not, if◌then◌else�
 use Rattle.std.specs.List.{flat_map, list_any, AllByRecursion}
 use Rattle.std.proofs.lemmas.Bool.{le-ltb}
 use Rattle.bass_operations.specs.declared.wishes.Wish.{Wish}
-use Rattle.octet_fields.specs.Layout.{NoneReserved}
-use Rattle.octet_fields.specs.Subgroups.{subgroup_fields, is_reserved, all_bits}
+use Rattle.bcast_base.specs.Layout.{NoneReserved}
+use Rattle.bcast_base.specs.Subgroups.{subgroup_fields, is_reserved, all_bits}
 use Rattle.receive_state.specs.Layout.{HasSpelling, group_of, number_of}
 use Rattle.delegator_history.specs.Sights.{Entry, Place, idle, on_train, on_group, is_on, is_on_group}
 use Rattle.delegator_history.specs.Values.{Status, encryption_of, groups_from, received, status_of}

@@ -14,7 +14,7 @@ use Rattle.big_info.specs.declared.fault.GroupFault.{GroupFault}
 use Rattle.big_info.specs.declared.info.BigInfo.{BigInfo}
 use Rattle.big_info.specs.Reading.{info_of}
 use Rattle.big_info.specs.Rows.{first_fault}
-use Rattle.octet_fields.specs.Tries.{Finds}
+use Rattle.bcast_base.specs.Tries.{Finds}
 use Rattle.pacs_records.specs.declared.capability.Capability.{Capability}
 use Rattle.delegator_history.specs.Trains.{Setup, Train, Brought, are_none, big_info_in, by_base, by_big_info, by_endpoint, by_group, by_info, first_candidates}
 use Rattle.delegator_history.specs.Writes.{cause_of_fault}

@@ -1,7 +1,7 @@
 //! A train that is heard, and the octets that it carries.
 ghost use Rattle.std.specs.Prelude.{◌≡◌};
 ghost use Rattle.delegator_history.specs.Trains.{base_in, big_info_in};
-ghost use Rattle.octet_fields.specs.Reading.{Gives};
+ghost use Rattle.bcast_base.specs.Reading.{Gives};
 
 use base_grammar::{service_data, structure};
 

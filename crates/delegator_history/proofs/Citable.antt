@@ -1,8 +1,6 @@
 -- What upper crates may cite: how what is looked back for goes on with a step, the notices of a step, where bits of streams stand,
 -- and when no stream is taken.
--- What upper crates may cite: octets that are the layout of a BIGInfo are read as it.
 pub use Rattle.delegator_history.proofs.Bits.{bits_on}
 pub use Rattle.delegator_history.proofs.GoesOn.{sight_goes_on}
 pub use Rattle.delegator_history.proofs.Waiting.{waiting_goes_on, no_change, none_change, one_changes}
 pub use Rattle.delegator_history.proofs.Sets.{none_set}
-pub use Rattle.delegator_history.proofs.Infos.{info_read}

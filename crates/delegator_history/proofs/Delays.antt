@@ -2,9 +2,9 @@
 use Rattle.std.proofs.Common.{◌≡◌, ℕ, ◌∷◌, Bool, true, false, cond, ltb, List, [], length, Some, Result, Ok, Err, sym, ap, ◌∙◌, subst}
 use Rattle.std.specs.List.{flat_map}
 use Rattle.std.proofs.lemmas.Option.{some_pair_parts}
-use Rattle.octet_fields.specs.Reading.{number_in, place_in}
-use Rattle.octet_fields.specs.Tries.{◌>>=◌}
-use Rattle.octet_fields.proofs.Citable.{bind_ok, needed_ok, number_again, ok_is}
+use Rattle.bcast_base.specs.Reading.{number_in, place_in}
+use Rattle.bcast_base.specs.Tries.{◌>>=◌}
+use Rattle.bcast_base.proofs.Citable.{bind_ok, needed_ok, number_again, ok_is}
 use Rattle.base_grammar.specs.declared.fault.BaseFault.{BaseFault}
 use Rattle.base_grammar.specs.declared.fault.BaseFault.TheVariants.{Short, TooLong}
 use Rattle.base_grammar.specs.Layout.{Endpoint, BaseIs, endpoint, subgroup}

@@ -18,7 +18,7 @@ use Rattle.delegator_history.specs.Trains.{Joining, base_in, big_info_in, found_
 use Rattle.delegator_history.specs.Announced.{IsOnGroup, heard_as, numbers_alone}
 use Rattle.delegator_history.proofs.Brought.{Carries}
 use Rattle.delegator_history.proofs.Delays.{delay_read}
-use Rattle.delegator_history.proofs.Infos.{info_read}
+use Rattle.big_info.proofs.Citable.{info_read}
 use Rattle.delegator_history.proofs.Streams.{taken_within}
 
 -- ---- a group that passed the check is not encrypted
@@ -86,7 +86,7 @@ same_info : (horizon address_type sid : ℕ) (train : Train) (broadcast_id : Lis
 same_info horizon address_type sid train broadcast_id base info event anchor joining tells carries =
     let found : big_info_in train.acad ≡ Some tells.info_is.octets = ap (found_in (first_of 0x2C)) tells.info_is.list ∙ tells.info_is.found in
     let octets : carries.info_octets ≡ tells.info_is.octets = same_Some carries.info_octets tells.info_is.octets (sym carries.info_found ∙ found) in
-    same_ok carries.info tells.read (sym carries.info_read ∙ info_read tells.read tells.info_is.is.0 carries.info_octets
+    same_ok carries.info tells.read (sym carries.info_read ∙ info_read carries.info_octets tells.read tells.info_is.is.0
     (subst (λ (os : List ℕ). Spells tells.read tells.info_is.is.0 os) (sym octets) tells.info_is.is.1))
 
 same_base : (horizon address_type sid : ℕ) (train : Train) (broadcast_id : List ℕ) (base : Endpoint) (info : BigInfo) (event anchor : ℕ) (joining : Joining)

@@ -3,7 +3,6 @@ mod Brought
 pub mod Citable
 mod Delays
 mod GoesOn
-mod Infos
 mod Joinings
 mod Lasts
 mod Lists

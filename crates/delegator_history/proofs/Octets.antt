@@ -3,8 +3,8 @@ use Rattle.std.proofs.Common.{◌≡◌, ◌<◌, ◌+◌, ◌-◌, ◌*◌, ◌
 use Rattle.std.proofs.lemmas.List.{drop_at, length-append, length-take, take-append-drop}
 use Rattle.std.proofs.lemmas.Option.{none-some, same_Some}
 use Rattle.bcast_base.specs.Numbers.{sum_from}
-use Rattle.octet_fields.specs.Spelling.{IsOctets, number}
-use Rattle.octet_fields.proofs.Citable.{IsOctets-front, IsOctets-rest, number-length, number_again, number_once}
+use Rattle.bcast_base.specs.Spelling.{IsOctets, number}
+use Rattle.bcast_base.proofs.Citable.{IsOctets-front, IsOctets-rest, number-length, number_again, number_once}
 use Rattle.ltv_codec.specs.Layout.{structure}
 use Rattle.base_grammar.specs.Ad.{broadcast_audio_announcement}
 use Rattle.base_grammar.specs.Layout.{Endpoint, spelling}

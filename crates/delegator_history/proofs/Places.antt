@@ -12,11 +12,6 @@ use Rattle.delegator_history.specs.States.{Answered, Step, answered, done_by, si
 
 -- ---- what is given with a place
 
-no_wanted : (a b : Bool) (slot : ℕ) → (if a then Some idle else (if b then Some (on_train slot) else None)) ≡ None → (a ≡ false) × (b ≡ false)
-no_wanted true b slot e = absurd cc
-no_wanted false true slot e = absurd cc
-no_wanted false false slot e = (refl, refl)
-
 -- no place, no encryption and no streams
 pub none_given : (sight : Sight) (done : Done) → place_given sight done ≡ None → (encryption_given done ≡ None) × (taken_given done ≡ None)
 none_given sight nothing e = (refl, refl)

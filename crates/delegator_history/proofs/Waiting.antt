@@ -3,7 +3,7 @@ use Rattle.std.proofs.Common.{ℕ, zero, suc, ◌≡◌, ◌≢◌, ◌+◌, ◌
 use Rattle.std.specs.Prelude.{if◌then◌else◌}
 use Rattle.std.proofs.Math.Nat.{min-le_right}
 use Rattle.std.proofs.lemmas.Slice.Eq.{bytes_eq-Decides}
-use Rattle.std.proofs.lemmas.List.{drop-append-le}
+use Rattle.std.proofs.lemmas.List.{drop-append-le, drop_min}
 use Rattle.delegator_history.specs.declared.notice.Notice.{Notice}
 use Rattle.delegator_history.specs.Notices.{change, changes, notices, is_told, delivered, waiting}
 use Rattle.delegator_history.specs.Sights.{Sight}
@@ -23,15 +23,6 @@ drop_drop (suc d) t (x ∷ xs) =
     let next : suc d + t ≡ suc (d + t) = omega arith in
     ap (λ k. drop k (x ∷ xs)) next ∙ drop_drop d t xs
 
-drop_within : {A : Type 0} (k : ℕ) (xs : List A) → drop (min k (length xs)) xs ≡ drop k xs
-drop_within k [] = drop_nil (min k 0) ∙ sym (drop_nil k)
-drop_within zero (x ∷ xs) =
-    let least : min 0 (suc (length xs)) ≡ 0 = omega arith in
-    ap (λ n. drop n (x ∷ xs)) least
-drop_within (suc k) (x ∷ xs) =
-    let least : min (suc k) (suc (length xs)) ≡ suc (min k (length xs)) = omega arith in
-    ap (λ n. drop n (x ∷ xs)) least ∙ drop_within k xs
-
 pub waiting_goes_on : (setup : Setup) (step : Step) (steps : List Step)
     → waiting setup (step ∷ steps) ≡ drop (is_told step) (waiting setup steps) ++ changes setup.slots (sight_of setup steps) (sight_of setup (step ∷ steps))
 waiting_goes_on setup step steps =
@@ -39,7 +30,7 @@ waiting_goes_on setup step steps =
     let d : ℕ = delivered setup steps in
     let more : List Notice = changes setup.slots (sight_of setup steps) (sight_of setup (step ∷ steps)) in
     drop-append-le (min (d + is_told step) (length all)) all more (min-le_right (d + is_told step) (length all))
-    ∙ ap (λ xs. xs ++ more) (drop_within (d + is_told step) all ∙ drop_drop d (is_told step) all)
+    ∙ ap (λ xs. xs ++ more) (drop_min (d + is_told step) all ∙ drop_drop d (is_told step) all)
 
 -- ---- the notices of a step
 

@@ -1,7 +1,7 @@
 -- The octets of a train, as those of its parts (Basic Audio Profile 1.0, section 3.7.2; Core 5.2, volume 6 part B, section
 -- 4.4.6.11).
 use Rattle.std.specs.Prelude.{ℕ, ◌-◌, ◌*◌, ◌<◌, ◌≤◌, ◌≡◌, ◌^◌, List, [], ◌++◌, length, Option, Some, None}
-use Rattle.octet_fields.specs.Spelling.{number}
+use Rattle.bcast_base.specs.Spelling.{number}
 use Rattle.ltv_codec.specs.Layout.{structure}
 use Rattle.base_grammar.specs.Ad.{broadcast_audio_announcement}
 use Rattle.base_grammar.specs.Layout.{Endpoint, IsBase, spelling}

@@ -1,6 +1,6 @@
 //! What an announced train is, and what it makes of a sink.
 ghost use Rattle.std.specs.Prelude.{◌≡◌, ℕ, List, Bool};
-ghost use Rattle.octet_fields.specs.Spelling.{IsOctets};
+ghost use Rattle.bcast_base.specs.Spelling.{IsOctets};
 ghost use Rattle.base_grammar.specs.Layout.{Endpoint};
 ghost use Rattle.big_info.specs.declared.info.BigInfo.{BigInfo};
 ghost use Rattle.announcement_train.specs.Layout.{IsTrain};

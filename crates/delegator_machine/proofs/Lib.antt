@@ -1,4 +1,3 @@
-mod Alone
 mod Bits
 mod Places
 mod Standing

@@ -1,6 +1,5 @@
 -- A Scan Delegator that stands for its calls stands for them and one more.
-use Rattle.std.proofs.Common.{ℕ, ◌≡◌, Bool, true, false, List, ◌∷◌, Option, Some, None, refl, sym, ◌∙◌, ap, subst}
-use Rattle.delegator_history.specs.Notices.{waiting}
+use Rattle.std.proofs.Common.{◌≡◌, Bool, true, false, List, ◌∷◌, Option, Some, None, refl, sym, ◌∙◌, ap, subst}
 use Rattle.delegator_history.specs.Sights.{Sight}
 use Rattle.delegator_history.specs.States.{Step, sight_of}
 use Rattle.delegator_history.specs.Trains.{Joining, Setup}
@@ -8,16 +7,13 @@ use Rattle.group_sink.specs.Calls as sinks
 use Rattle.group_sink.specs.State.Sinks.{OnGroup, StandsFor as SinkStands}
 use Rattle.delegator_control.specs.Groups.{has_group}
 use Rattle.delegator_control.specs.State.Machines.{Machine, StandsFor as ScanStands}
-use Rattle.delegator_machine.specs.Calls.{Call, control, hear, tick, steps_of}
+use Rattle.delegator_machine.specs.Calls.{Call, control, steps_of}
 use Rattle.delegator_machine.specs.Groups.{joining_given, tuning_of, with_leave, with_step, group_calls}
 use Rattle.delegator_machine.specs.State.Halves.{Halves, StandsFor}
 
 -- what the control half has
 pub sight_is : (setup : Setup) (calls : List Call) (d : Halves) → StandsFor setup calls d → d.scan.sight ≡ sight_of setup (steps_of calls)
 sight_is setup calls d stands = subst (λ s. d.scan.sight ≡ sight_of s (steps_of calls)) stands.setup_is stands.steps.sight
-
-pub waiting_is : (setup : Setup) (calls : List Call) (d : Halves) → StandsFor setup calls d → d.scan.waiting ≡ waiting setup (steps_of calls)
-waiting_is setup calls d stands = subst (λ s. d.scan.waiting ≡ waiting s (steps_of calls)) stands.setup_is stands.steps.waiting
 
 -- ---- steps of the control half
 
@@ -87,21 +83,3 @@ stands_quiet setup step calls old new none same steps place sink stands =
     stands
 
 -- ---- what the receivers hear
-
-pub stands_heard : (setup : Setup) (calls : List Call) (event bis subevent : ℕ) (octets : List ℕ) (old new : Halves) → new.scan ≡ old.scan
-    → SinkStands (sinks.hear event bis subevent octets ∷ group_calls setup calls) new.sink
-    → StandsFor setup calls old → StandsFor setup (hear event bis subevent octets ∷ calls) new
-stands_heard setup calls event bis subevent octets old new same sink stands = record {
-  setup_is = ap (λ (m : Machine). m.setup) same ∙ stands.setup_is;
-  steps = subst (ScanStands (steps_of calls)) (sym same) stands.steps;
-  groups = sink;
-}
-
-pub stands_ticked : (setup : Setup) (calls : List Call) (event : ℕ) (old new : Halves) → new.scan ≡ old.scan
-    → SinkStands (sinks.tick event ∷ group_calls setup calls) new.sink
-    → StandsFor setup calls old → StandsFor setup (tick event ∷ calls) new
-stands_ticked setup calls event old new same sink stands = record {
-  setup_is = ap (λ (m : Machine). m.setup) same ∙ stands.setup_is;
-  steps = subst (ScanStands (steps_of calls)) (sym same) stands.steps;
-  groups = sink;
-}

@@ -2,7 +2,6 @@
 -- train that is taken, and leaves it as the place of its control half says.
 use Rattle.std.specs.Prelude.{◌&&◌, not, Bool, List, [], ◌∷◌, Option, Some, None, if◌then◌else◌}
 use Rattle.std.specs.Option.{option_or}
-use Rattle.big_info.specs.declared.info.BigInfo.{BigInfo}
 use Rattle.delegator_history.specs.Sights.{Sight}
 use Rattle.delegator_history.specs.States.{Step, put_on, train_heard, sight_of}
 use Rattle.delegator_history.specs.Trains.{Brought, taken, Joining, Setup, brought_by}
@@ -10,6 +9,7 @@ use Rattle.group_sink.specs.Calls as sinks
 use Rattle.group_sink.specs.Calls.{Tuning}
 use Rattle.delegator_control.specs.Groups.{has_group}
 use Rattle.delegator_machine.specs.Calls.{Call, control, hear, tick, steps_of}
+use Rattle.delegator_history.specs.Announced.{numbers_alone}
 
 -- the group that a train brings that is taken
 abbrev pub joining_brought : Brought → Option Joining
@@ -21,11 +21,6 @@ abbrev pub joining_given : Setup → Sight → Step → Option Joining
 joining_given setup sight (put_on source joining) = Some joining
 joining_given setup sight (train_heard source train) = joining_brought (brought_by setup sight train)
 joining_given setup sight _ = None
-
--- what a receiver goes by: the numbers of the group, and not what leads to it or tells where it stands
-abbrev pub numbers_alone : BigInfo → BigInfo
-numbers_alone info =
-    record info { big_offset = 0; big_offset_units = 0; seed_access_address = 0; base_crc_init = 0; chm = 0; bis_payload_count = 0 }
 
 abbrev pub tuning_of : Joining → Tuning
 tuning_of joining =

@@ -2,3 +2,4 @@ pub mod Bits
 pub mod Calls
 pub mod Groups
 pub mod State
+pub mod Trains

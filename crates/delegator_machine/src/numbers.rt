@@ -1,5 +1,5 @@
 ghost use Rattle.std.specs.Prelude.{◌≡◌};
-ghost use Rattle.delegator_machine.specs.Groups.{numbers_alone};
+ghost use Rattle.delegator_history.specs.Announced.{numbers_alone};
 
 use big_info::{BigInfo, Group};
 

@@ -10,6 +10,7 @@ ghost use Rattle.delegator_control.specs.Following.{is_followed};
 ghost use Rattle.delegator_machine.specs.Calls.{Call, control, steps_of};
 ghost use Rattle.delegator_machine.specs.State.Halves.{StandsFor, settings_of};
 ghost use Rattle.delegator_machine.specs.State.Joined.{made_for};
+ghost use Rattle.delegator_machine.specs.Trains.{train_of};
 
 use crate::delegator::Delegator;
 use crate::numbers::by_numbers;
@@ -33,24 +34,17 @@ impl Delegator {
         now: u64,
     ) -> Result<TrainHeard, Memory>
         requires { now ≤ 2 ^ 61 }
-        ensures answer { (setup : Setup) (calls : List Call) → StandsFor setup calls self.old
-            → IfOk result (λ heard. heard ≡ answer_of (brought_by setup (sight_of setup (steps_of calls))
-            (record { address_type = address_type; sid = sid; ext = ext.now; adv = adv.now; acad = acad.now; now = now }))) }
-        ensures stands { (setup : Setup) (calls : List Call) (source : ℕ) → StandsFor setup calls self.old
-            → OnOk result (StandsFor setup
-            (control (train_heard source (record {
-              address_type = address_type;
-              sid = sid;
-              ext = ext.now;
-              adv = adv.now;
-              acad = acad.now;
-              now = now;
-            })) ∷ calls) self.new) }
+        ensures answer { let train : Train = train_of address_type sid ext.now adv.now acad.now now in
+            (setup : Setup) (calls : List Call) → StandsFor setup calls self.old
+            → IfOk result (λ heard. heard ≡ answer_of (brought_by setup (sight_of setup (steps_of calls)) train)) }
+        ensures stands { let train : Train = train_of address_type sid ext.now adv.now acad.now now in
+            (setup : Setup) (calls : List Call) (source : ℕ) → StandsFor setup calls self.old
+            → OnOk result (StandsFor setup (control (train_heard source train) ∷ calls) self.new) }
         ensures settings { settings_of self.new ≡ settings_of self.old }
         ensures err { OnErr result (self.new ≡ self.old) }
-        ensures memory { (setup : Setup) (calls : List Call) → StandsFor setup calls self.old
-            → OnErr result (is_followed (brought_by setup (sight_of setup (steps_of calls))
-            (record { address_type = address_type; sid = sid; ext = ext.now; adv = adv.now; acad = acad.now; now = now })) ≡ true) }
+        ensures memory { let train : Train = train_of address_type sid ext.now adv.now acad.now now in
+            (setup : Setup) (calls : List Call) → StandsFor setup calls self.old
+            → OnErr result (is_followed (brought_by setup (sight_of setup (steps_of calls)) train) ≡ true) }
     {
         let brought = self.scan.bring(address_type, sid, ext, adv, acad, now)?;
         let joining = brought.joining();

@@ -5,9 +5,8 @@ use Rattle.std.proofs.lemmas.List.Edits.{map_over_more}
 use Rattle.std.proofs.lemmas.Grind.{flat_map-append}
 use Rattle.std.proofs.Math.Seq.{take-append-add}
 use Rattle.std.specs.List.{flat_map}
-use Rattle.unit_outlets.specs.Handed.{Handed, Counts, Caused}
+use Rattle.unit_outlets.specs.Handed.{Handed, Counts, Caused, HandsOver}
 use Rattle.unit_outlets.specs.declared.fault.TakerFault.{TakerFault}
-use Rattle.isoal_unframed.specs.State.Windows.{HandsOver}
 
 -- all of the first were handed
 pub hands_more : (first second old between new : List Handed) (r : Result (Unit {0}) TakerFault)

@@ -1,9 +1,8 @@
 -- A receiver of either framing that stands for its calls stands for them and one more.
-use Rattle.std.proofs.Common.{ℕ, ◌≡◌, ◌+◌, ◌≤◌, Bool, true, false, cond, eqb, List, [], ◌∷◌, replicate, None, Result, Ok, Err, refl, ap, ◌∙◌}
+use Rattle.std.proofs.Common.{ℕ, ◌≡◌, ◌+◌, ◌≤◌, Bool, true, false, cond, eqb, List, [], ◌∷◌, replicate, None, refl, ap, ◌∙◌}
 use Rattle.std.proofs.lemmas.Bool.{eqb-true}
 use Rattle.big_info.specs.Bounds.{Bounds}
 use Rattle.unit_outlets.specs.Handed.{Handed}
-use Rattle.unit_outlets.specs.declared.fault.TakerFault.{TakerFault}
 use Rattle.isoal_base.specs.Hearing.{read_as}
 use Rattle.isoal_base.specs.Stays as stays
 use Rattle.isoal_base.specs.Stays.{Stay, opened, window_of}
@@ -124,9 +123,3 @@ answer_either false stay calls number octets = refl
 pub answer_is : (stay : Stay) (calls : List stays.Call) (number : ℕ) (octets : List ℕ)
     → answer_by number octets (receiver_after stay calls) ≡ heard_on stay calls number octets
 answer_is stay calls number octets = answer_either (eqb stay.info.framing 0) stay calls number octets
-
--- units that are handed alike
-pub hands_alike : (units old new : List Handed) (result : Result (Unit {0}) TakerFault)
-    → segments.HandsOver units old new result → plain.HandsOver units old new result
-hands_alike units old new (Ok x) hands = hands
-hands_alike units old new (Err fault) hands = hands

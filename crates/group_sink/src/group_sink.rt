@@ -1,6 +1,5 @@
 ghost use Rattle.std.specs.Prelude.{◌≡◌, ◌+◌, ◌≤◌, ◌<◌, ◌^◌, List, [], ◌∷◌, IfOk, OnOk, OnErr};
-ghost use Rattle.unit_outlets.specs.Handed.{Caused};
-ghost use Rattle.isoal_unframed.specs.State.Windows.{HandsOver};
+ghost use Rattle.unit_outlets.specs.Handed.{Caused, HandsOver};
 ghost use Rattle.group_sink.specs.Calls.{Call, Tuning, tune, hear, tick, leave};
 ghost use Rattle.group_sink.specs.Handing.{handed_at};
 ghost use Rattle.group_sink.specs.Hearings.{hearing_of};

@@ -1,7 +1,6 @@
 //! The receiver of a stream, of either framing.
 ghost use Rattle.std.specs.Prelude.{◌≡◌, ◌+◌, ◌≤◌, ◌<◌, ◌^◌, IfOk};
-ghost use Rattle.unit_outlets.specs.Handed.{Caused};
-ghost use Rattle.isoal_unframed.specs.State.Windows.{HandsOver};
+ghost use Rattle.unit_outlets.specs.Handed.{Caused, HandsOver};
 ghost use Rattle.group_sink.specs.State.Receivers.{answer_by, closed, fresh, hear_by, open_of, owed_of};
 
 use bcast_base::{Bis, Memory};
@@ -67,7 +66,6 @@ impl Receiver {
 
     /// Closes the open event, and hands what it decides. It takes no memory.
     #[inline(never)]
-    #[tactic(auto, using(crate::proofs::Receivers::hands_alike))]
     pub(crate) fn close<T: UnitTaker>(&mut self, taker: &mut T) -> Result<(), TakerFault>
         requires { open_of self.old < 2 ^ 39 }
         ensures step { self.new ≡ closed self.old }

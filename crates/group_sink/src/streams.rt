@@ -1,7 +1,6 @@
 //! The place of a stream at a sink: its receiver, where the sink takes it.
 ghost use Rattle.std.specs.Prelude.{◌≡◌, ◌+◌, ◌≤◌, ◌<◌, ◌^◌, IfOk};
-ghost use Rattle.unit_outlets.specs.Handed.{Caused};
-ghost use Rattle.isoal_unframed.specs.State.Windows.{HandsOver};
+ghost use Rattle.unit_outlets.specs.Handed.{Caused, HandsOver};
 ghost use Rattle.group_sink.specs.State.Steps.{answer_at, fresh_at, hear_at, owed_by, tick_at};
 ghost use Rattle.group_sink.specs.Streams.{number_of};
 

@@ -1,4 +1,5 @@
 mod Ranges
 mod Heards
+mod Runs
 mod Steps
 pub mod Citable

@@ -1,3 +1,4 @@
 pub mod Air
 pub mod Hearing
+pub mod Runs
 pub mod Stays

@@ -2,7 +2,7 @@
 use Rattle.std.proofs.Common.{ℕ, suc, ◌≡◌, ◌+◌, ◌-◌, ◌/◌, ◌<◌, ◌≤◌, inl, inr, true, false, Bool, ◌&&◌, leb, cond, List, [], ◌∷◌, ◌++◌, map}
 use Rattle.std.proofs.Common.{length, Option, Some, None, refl, sym, ap, ◌∙◌, subst, arith, length-append}
 use Rattle.std.specs.List.{flat_map}
-use Rattle.std.proofs.lemmas.Bool.{cases_Bool, cases_order, and_from, and_left, cond-true, cond-false, le-leb}
+use Rattle.std.proofs.lemmas.Bool.{cases_Bool, cases_order, and_from, and_left, cond-true, cond-false, le-leb, and_right}
 use Rattle.std.proofs.lemmas.List.{append-nil}
 use Rattle.std.proofs.lemmas.Option.{none-some}
 use Rattle.unit_outlets.specs.Handed.{valid, lost}
@@ -12,7 +12,7 @@ use Rattle.isoal_framed.specs.Units.{Run}
 use Rattle.isoal_framed.specs.State.Joining.{hands, hands_joined, run_joined}
 use Rattle.isoal_framed.specs.Struck.{Fit, Sent, octets_in, behind, is_last, carried, parts_at, InOrder, entry_of}
 use Rattle.isoal_framed.proofs.Carried.{carried_here, carried_later, none_here, toks, toks_same, toks_none}
-use Rattle.isoal_framed.proofs.Entries.{scan, and_no, scan_run, entry_heard, entry_missed, scan_end}
+use Rattle.isoal_framed.proofs.Entries.{scan, scan_run, entry_heard, entry_missed, scan_end}
 
 -- what an octet string adds to a run that has room for it
 pub joined_fits : (max_sdu bis time : ℕ) (octets : List ℕ) → length octets ≤ max_sdu
@@ -196,7 +196,7 @@ begun_unit stay heard closed from n whole shown here all unit units order fit at
     (starts_here stay unit units from octets (next ∷ segments) is at)
     ∙ ap (λ flag. hands stay.info.max_sdu stay.bis None (starts (time_of stay (from / stay.info.bn) unit.offset) flag octets
     ∷ (map (token_of stay (from / stay.info.bn)) (parts_at units from) ++ toks stay heard (from + 1) [] whole (unit ∷ units) (from + 1) n)))
-    (and_no unit.whole false refl)
+    (and_right unit.whole false refl)
     ∙ ap (λ parts. hands stay.info.max_sdu stay.bis None (starts (time_of stay (from / stay.info.bn) unit.offset) false octets
     ∷ (map (token_of stay (from / stay.info.bn)) parts ++ toks stay heard (from + 1) [] whole (unit ∷ units) (from + 1) n)))
     (none_here (behind unit - 1) closed from units order.3 (omega (arith, behind_is)))

@@ -2,7 +2,7 @@
 use Rattle.std.proofs.Common.{ℕ, ◌≡◌, ◌+◌, ◌-◌, ◌/◌, ◌<◌, ◌≤◌, inl, inr, true, false, Bool, ◌&&◌, ltb, cond, List, [], ◌∷◌, ◌++◌}
 use Rattle.std.proofs.Common.{length, Option, Some, None, refl, sym, ap, ◌∙◌, arith}
 use Rattle.std.specs.List.{flat_map}
-use Rattle.std.proofs.lemmas.Bool.{cases_Bool, cases_order, cond-true, cond-false, lt-ltb, le-ltb}
+use Rattle.std.proofs.lemmas.Bool.{cases_Bool, cases_order, cond-true, cond-false, lt-ltb, le-ltb, and_right}
 use Rattle.unit_outlets.specs.Handed.{Handed, valid, lost}
 use Rattle.isoal_base.specs.Stays.{Stay}
 use Rattle.isoal_framed.specs.Tokens.{time_of}
@@ -41,14 +41,10 @@ and_true : (a b : Bool) → b ≡ true → (a && b) ≡ a
 and_true true b is = is
 and_true false b is = refl
 
-pub and_no : (a b : Bool) → b ≡ false → (a && b) ≡ false
-and_no true b is = is
-and_no false b is = refl
-
 none_closed : (stay : Stay) (closed : ℕ) (unit : Sent) → closed ≤ behind unit - 1 → entry_by stay closed unit None ≡ []
 none_closed stay closed unit past =
     ap (λ test. cond test (valid stay.bis (time_of stay (unit.first / stay.info.bn) unit.offset) (octets_in unit.segments) ∷ []) [])
-    (and_no unit.whole (ltb (behind unit - 1) closed) (le-ltb (behind unit - 1) closed past))
+    (and_right unit.whole (ltb (behind unit - 1) closed) (le-ltb (behind unit - 1) closed past))
 
 some_open : (stay : Stay) (closed : ℕ) (unit : Sent) (number : ℕ) → closed ≤ number → entry_by stay closed unit (Some number) ≡ []
 some_open stay closed unit number past =

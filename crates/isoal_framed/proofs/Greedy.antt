@@ -1,6 +1,6 @@
 -- Filling PDUs greedily meets the conditions on each place, and nothing else does.
 use Rattle.std.proofs.Common.{ℕ, ◌≡◌, ◌+◌, ◌-◌, ◌<◌, ◌≤◌, ◌⊎◌, inl, inr, true, false, leb, ltb, eqb, cond, Bool, ◌&&◌, length, Option, Some, None, refl, sym, ap, ◌∙◌, subst, arith}
-use Rattle.std.proofs.lemmas.Bool.{cases_Bool, cond-true, cond-false, leb-true, leb-false, lt-ltb, le-ltb, le-leb, lt-leb, eqb-true, eq-eqb, ne_eqb, and_left, and_right, false≢true, cases_eq}
+use Rattle.std.proofs.lemmas.Bool.{cases_Bool, cond-true, cond-false, leb-true, leb-false, lt-ltb, le-ltb, le-leb, lt-leb, eqb-true, eq-eqb, ne_eqb, and_left, and_right, false≢true, cases_eq, and_from}
 use Rattle.std.proofs.lemmas.Option.{none-some}
 use Rattle.isoal_base.proofs.Citable.{cases_option}
 use Rattle.isoal_framed.specs.Calls.{Timed}
@@ -48,14 +48,11 @@ roomy_is : (anchor room sent : ℕ) (unit : Timed) → least_room sent (length u
 roomy_is anchor room sent unit roomy =
     cond-false (ltb room (least_room sent (length unit.octets))) ends (unless_early anchor room sent unit) (le-ltb room (least_room sent (length unit.octets)) roomy)
 
-both : (a b : Bool) → a ≡ true → b ≡ true → (a && b) ≡ true
-both a b is also = ap (λ x. x && b) is ∙ also
-
 early_is : (anchor room sent : ℕ) (unit : Timed) → least_room sent (length unit.octets) ≤ room → sent ≡ 0 → anchor < unit.time
     → act_for anchor room sent unit ≡ ends
 early_is anchor room sent unit roomy fresh early =
     roomy_is anchor room sent unit roomy
-    ∙ cond-true (eqb sent 0 && ltb anchor unit.time) ends (unless_stale anchor room sent unit) (both (eqb sent 0) (ltb anchor unit.time) (eq-eqb sent 0 fresh) (lt-ltb anchor unit.time early))
+    ∙ cond-true (eqb sent 0 && ltb anchor unit.time) ends (unless_stale anchor room sent unit) (and_from (eqb sent 0) (ltb anchor unit.time) (eq-eqb sent 0 fresh) (lt-ltb anchor unit.time early))
 
 -- where a first test leads to the second alone
 unless_fresh : (sent : ℕ) (b : Bool) → (sent ≡ 0 → b ≡ false) → (eqb sent 0 && b) ≡ false
@@ -76,7 +73,7 @@ stale_is : (anchor room sent : ℕ) (unit : Timed) → least_room sent (length u
 stale_is anchor room sent unit roomy ready fresh stale =
     ready_is anchor room sent unit roomy ready
     ∙ cond-true (eqb sent 0 && ltb 16777215 (anchor - unit.time)) leaves_out (sends room sent unit)
-    (both (eqb sent 0) (ltb 16777215 (anchor - unit.time)) (eq-eqb sent 0 fresh) (lt-ltb 16777215 (anchor - unit.time) stale))
+    (and_from (eqb sent 0) (ltb 16777215 (anchor - unit.time)) (eq-eqb sent 0 fresh) (lt-ltb 16777215 (anchor - unit.time) stale))
 
 sends_is : (anchor room sent : ℕ) (unit : Timed) → least_room sent (length unit.octets) ≤ room → (sent ≡ 0 → unit.time ≤ anchor)
     → (sent ≡ 0 → anchor - unit.time ≤ 16777215)

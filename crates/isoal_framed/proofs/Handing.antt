@@ -2,9 +2,9 @@
 use Rattle.std.proofs.Common.{◌+◌, ◌<◌, ◌≤◌, List, ◌++◌, length, take, Result, Ok, Err, sym, ap, ◌∙◌, subst, arith, append_assoc, length-append}
 use Rattle.std.proofs.lemmas.List.{take-append-le}
 use Rattle.std.proofs.Math.Seq.{take-append-add}
-use Rattle.unit_outlets.specs.Handed.{Handed, Counts, Caused}
+use Rattle.unit_outlets.specs.Handed.{Handed, Counts, Caused, HandsOver}
 use Rattle.unit_outlets.specs.declared.fault.TakerFault.{TakerFault}
-use Rattle.isoal_framed.specs.State.Windows.{HandsOver, HandsOn, CausedOn}
+use Rattle.isoal_framed.specs.State.Windows.{HandsOn, CausedOn}
 
 -- units, and then more
 over_then : (first second : List Handed) (old now new : List Handed) (middle result : Result (Unit {0}) TakerFault)

@@ -2,7 +2,7 @@
 use Rattle.std.proofs.Common.{ℕ, zero, suc, ◌≡◌, ◌+◌, ◌-◌, ◌<◌, ◌≤◌, true, false, Bool, List, [], ◌∷◌, ◌++◌, length, drop, Option, Some, None, ◌⊎◌, inl, inr, refl, sym, ap, ◌∙◌, subst, arith}
 use Rattle.std.specs.List.{slice_get}
 use Rattle.std.proofs.lemmas.Bool.{false≢true}
-use Rattle.std.proofs.lemmas.Option.{none-some, slice_get_past}
+use Rattle.std.proofs.lemmas.Option.{none-some, slice_get_past, same_Some}
 use Rattle.iso_pdu.specs.Layout.{framed}
 use Rattle.iso_pdu.specs.State.Packing.{room_in}
 use Rattle.iso_pdu.specs.Spelling.{pdu}
@@ -185,9 +185,6 @@ placed_by anchor queue old new goes_on unit act due is changes =
     subst (λ item. Changes anchor item (act_of anchor (room_in old.pdu) old.sent item) old new goes_on) (sym due)
     (subst (λ a. Changes anchor (Some unit) a old new goes_on) is changes)
 
-some_inj : (unit other : Timed) → Some unit ≡ Some other → unit ≡ other
-some_inj unit other same = cc
-
 -- what is left of the units behind a segment
 pub partly_left : (anchor : ℕ) (queue : List Timed) (old new : Packing) (unit : Timed) (count : ℕ) (complete : Bool)
     → slice_get queue old.past ≡ Some unit → Carried anchor unit count complete old new → (complete ≡ false → old.sent + count < length unit.octets)
@@ -205,14 +202,14 @@ partly_left anchor queue old new unit count false due carried part =
     (subst (λ n. IsPartly (old.sent + count) (drop n queue)) (sym carried.past) (record {
       none = λ nothing. absurd (none-some unit (ap (λ items. slice_get items 0) (sym nothing) ∙ here));
       first = λ other is. (let same : Some other ≡ Some unit = sym is ∙ here in
-          let fewer : old.sent + count < length other.octets = subst (λ o. old.sent + count < length o.octets) (some_inj unit other (sym same)) less in
+          let fewer : old.sent + count < length other.octets = subst (λ o. old.sent + count < length o.octets) (same_Some unit other (sym same)) less in
           (omega arith, λ some. fewer));
     }))
 
 part_of_it : (anchor room sent_now : ℕ) (unit : Timed) (count : ℕ) (complete : Bool) → complete ≡ false
     → Comes (record { anchor = anchor; room = room; due = Some unit; sent = sent_now }) (carries count complete) → sent_now + count < length unit.octets
 part_of_it anchor room sent_now unit count complete whole (other, turn, not_stale, segment) =
-    let same : other ≡ unit = sym (some_inj unit other turn.due) in
+    let same : other ≡ unit = sym (same_Some unit other turn.due) in
     let within : sent_now + count ≤ length unit.octets = subst (λ o. sent_now + count ≤ length o.octets) same segment.within in
     strictly (sent_now + count) (length unit.octets) within
     (λ all. false≢true (sym whole ∙ segment.complete_is.1 (all ∙ ap (λ o. length o.octets) (sym same))))
@@ -229,7 +226,7 @@ part_left anchor room sent_now unit count complete partly is whole =
 within_of_it : (anchor room sent_now : ℕ) (unit : Timed) (count : ℕ) (complete : Bool)
     → Comes (record { anchor = anchor; room = room; due = Some unit; sent = sent_now }) (carries count complete) → sent_now + count ≤ length unit.octets
 within_of_it anchor room sent_now unit count complete (other, turn, not_stale, segment) =
-    subst (λ o. sent_now + count ≤ length o.octets) (sym (some_inj unit other turn.due)) segment.within
+    subst (λ o. sent_now + count ≤ length o.octets) (sym (same_Some unit other turn.due)) segment.within
 
 -- a segment has octets of its unit alone
 pub part_within : (anchor room sent_now : ℕ) (unit : Timed) (count : ℕ) (complete : Bool) → Partly sent_now unit

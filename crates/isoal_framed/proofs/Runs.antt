@@ -1,22 +1,13 @@
--- Calls one by one.
-use Rattle.std.proofs.Common.{ℕ, suc, ◌≡◌, ◌+◌, ◌<◌, List, [], ◌∷◌, ◌++◌, length, take, get_or, Result, Ok, Err, refl, sym, ap, ◌∙◌, arith}
+-- What a call hands, behind what was handed before.
+use Rattle.std.proofs.Common.{ℕ, suc, ◌≡◌, ◌+◌, List, [], ◌∷◌, ◌++◌, length, take, Result, Ok, Err, sym, ap, ◌∙◌, arith}
 use Rattle.std.specs.Prelude.{OnOk, OnErr}
-use Rattle.std.proofs.lemmas.List.{take_more, append_assoc}
-use Rattle.unit_outlets.specs.Handed.{Handed}
+use Rattle.std.proofs.lemmas.List.{append_assoc}
+use Rattle.unit_outlets.specs.Handed.{Handed, HandsOver}
 use Rattle.unit_outlets.specs.declared.fault.TakerFault.{TakerFault}
 use Rattle.isoal_base.specs.Stays.{Call}
-use Rattle.isoal_framed.specs.declared.in_call.InCall.{InCall}
-use Rattle.isoal_framed.specs.State.Runs.{call_of, after_all, Stopped}
-use Rattle.isoal_framed.specs.State.Windows.{Window, HandsOver}
-
-after_one : (calls : List InCall) (call : InCall) (past : List Call) → after_all (calls ++ call ∷ []) past ≡ call_of call ∷ after_all calls past
-after_one [] call past = refl
-after_one (first ∷ calls) call past = after_one calls call (call_of first ∷ past)
-
-pub after_more : (calls : List InCall) (n : ℕ) (d : InCall) (past : List Call) → n < length calls
-    → call_of (get_or calls n d) ∷ after_all (take n calls) past ≡ after_all (take (n + 1) calls) past
-after_more calls n d past below =
-    sym (ap (λ xs. after_all xs past) (take_more calls n d below) ∙ after_one (take n calls) (get_or calls n d) past)
+use Rattle.isoal_base.specs.declared.in_call.InCall.{InCall}
+use Rattle.isoal_framed.specs.State.Runs.{Stopped}
+use Rattle.isoal_framed.specs.State.Windows.{Window}
 
 pub hands_ok : (units old new before front : List Handed) (r : Result (Unit {0}) TakerFault) → HandsOver units old new r
     → old ≡ before ++ front → OnOk r (new ≡ before ++ (front ++ units))

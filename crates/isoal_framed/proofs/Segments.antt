@@ -6,6 +6,7 @@ use Rattle.std.proofs.lemmas.Bool.{cond-true, cond-false, eq-eqb, ne_eqb, false�
 use Rattle.std.proofs.lemmas.List.{append-nil, length-take, take_all}
 use Rattle.std.proofs.lemmas.Option.{slice_get_within}
 use Rattle.std.proofs.Math.Seq.{take-add}
+use Rattle.std.proofs.Math.Bool.{and-true}
 use Rattle.iso_pdu.specs.Layout.{Part, start, more}
 use Rattle.isoal_framed.specs.Air.{part_of}
 use Rattle.isoal_framed.specs.Calls.{Laying, Timed}
@@ -15,7 +16,7 @@ use Rattle.isoal_framed.specs.Struck.{Sent, octets_in, behind, carried, parts_at
 use Rattle.isoal_framed.proofs.Stays.{carried_past}
 use Rattle.isoal_framed.proofs.Carried.{carried_before, carried_here}
 use Rattle.isoal_framed.proofs.Sendings.{chain_more, Open, are_more, are_snoc, take_next, octets_snoc, get_same, taken_before, Sending, at_least}
-use Rattle.isoal_framed.proofs.Sendings.{Stable, parts_last, fit_more, and_yes, snoc_before, snoc_here, chain_past, Grown}
+use Rattle.isoal_framed.proofs.Sendings.{Stable, parts_last, fit_more, snoc_before, snoc_here, chain_past, Grown}
 
 -- a start
 new_part : (units : List Timed) (anchor : ℕ) (acts : List Act) (count : ℕ) (complete : Bool) (unit : Timed) → slice_get units (done acts) ≡ Some unit → sent acts ≡ 0
@@ -29,7 +30,7 @@ new_here : (number offset : ℕ) (octets : List ℕ) (complete : Bool) (closed :
     → part ≡ start offset complete octets
     → parts ++ part ∷ [] ≡ parts_at (closed ++ record { first = number; offset = offset; segments = octets ∷ []; whole = complete } ∷ []) number
 new_here number offset octets complete closed parts part here is =
-    ap (λ xs. xs ++ part ∷ []) here ∙ ap (λ x. parts_at closed number ++ x ∷ []) (is ∙ ap (λ flag. start offset flag octets) (sym (and_yes complete)))
+    ap (λ xs. xs ++ part ∷ []) here ∙ ap (λ x. parts_at closed number ++ x ∷ []) (is ∙ ap (λ flag. start offset flag octets) (sym (and-true complete)))
     ∙ ap (λ xs. parts_at closed number ++ xs) (sym (carried_here number (Some offset) octets [] complete))
     ∙ sym (parts_last closed (record { first = number; offset = offset; segments = octets ∷ []; whole = complete }) number)
 
@@ -135,7 +136,7 @@ further_here number octets complete closed unit parts part here is some at =
     ap (λ xs. xs ++ part ∷ []) (here ∙ parts_last closed unit number
     ∙ ap (λ xs. parts_at closed number ++ xs) (carried_past unit.first number (Some unit.offset) unit.segments unit.whole (omega (arith, at)))
     ∙ append-nil (parts_at closed number))
-    ∙ ap (λ x. parts_at closed number ++ x ∷ []) (is ∙ ap (λ flag. more flag octets) (sym (and_yes complete)))
+    ∙ ap (λ x. parts_at closed number ++ x ∷ []) (is ∙ ap (λ flag. more flag octets) (sym (and-true complete)))
     ∙ ap (λ xs. parts_at closed number ++ xs) (sym (snoc_here unit.first number (Some unit.offset) unit.segments octets complete some at))
     ∙ sym (parts_last closed (longer octets complete unit) number)
 

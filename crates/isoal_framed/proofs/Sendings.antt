@@ -2,7 +2,7 @@
 use Rattle.std.proofs.Common.{ℕ, zero, suc, ◌≡◌, ◌+◌, ◌-◌, ◌<◌, ◌≤◌, ◌⊎◌, inl, inr, true, false, Bool, ◌&&◌, eqb, cond, List, [], ◌∷◌, ◌++◌, length, take}
 use Rattle.std.proofs.Common.{Option, Some, None, refl, sym, ap, ◌∙◌, subst, arith}
 use Rattle.std.specs.List.{slice_get}
-use Rattle.std.proofs.lemmas.Bool.{cond-false, ne_eqb}
+use Rattle.std.proofs.lemmas.Bool.{cond-false, ne_eqb, and_right}
 use Rattle.std.proofs.lemmas.Grind.{flat_map-append}
 use Rattle.std.proofs.lemmas.List.{append-nil, length-take}
 use Rattle.std.proofs.lemmas.Option.{none-some, slice_get_past, slice_get_within}
@@ -165,15 +165,6 @@ pub fit_more : (max_sdu : ℕ) (units : List Sent) (unit : Sent) → Fit max_sdu
 fit_more max_sdu [] unit fit here = (here, tt)
 fit_more max_sdu (first ∷ units) unit fit here = (fit.0, fit_more max_sdu units unit fit.1 here)
 
--- a further segment
-and_no : (a b : Bool) → b ≡ false → (a && b) ≡ false
-and_no true b is = is
-and_no false b is = refl
-
-pub and_yes : (a : Bool) → (a && true) ≡ a
-and_yes true = refl
-and_yes false = refl
-
 not_last : (segments : List (List ℕ)) (octets : List ℕ) → is_last (segments ++ octets ∷ []) ≡ false
 not_last [] octets = refl
 not_last (segment ∷ segments) octets = refl
@@ -184,7 +175,7 @@ snoc_before first number offset [] octets whole below =
     cond-false (eqb first number) (part_with offset (whole && true) octets ∷ []) [] (ne_eqb first number (λ same. omega arith))
 snoc_before first number offset (segment ∷ segments) octets whole below =
     ap (λ flag. cond (eqb first number) (part_with offset flag segment ∷ []) (carried (first + 1) None (segments ++ octets ∷ []) whole number))
-    (ap (λ last. whole && last) (not_last segments octets) ∙ and_no whole false refl)
+    (ap (λ last. whole && last) (not_last segments octets) ∙ and_right whole false refl)
     ∙ ap (λ rest. cond (eqb first number) (part_with offset false segment ∷ []) rest)
     (snoc_before (first + 1) number None segments octets whole (omega arith))
 

@@ -1,9 +1,9 @@
 -- A stay, from its first number on: what it decides are the entries of the units that were sent.
-use Rattle.std.proofs.Common.{ℕ, zero, suc, ◌≡◌, ◌+◌, ◌-◌, ◌*◌, ◌/◌, ◌<◌, ◌≤◌, ◌⊎◌, inl, inr, true, false, Bool, is_some, List, [], ◌∷◌, ◌++◌, map, length, drop}
+use Rattle.std.proofs.Common.{ℕ, zero, suc, ◌≡◌, ◌+◌, ◌-◌, ◌*◌, ◌/◌, ◌<◌, ◌≤◌, inl, inr, true, false, Bool, is_some, List, [], ◌∷◌, ◌++◌, map, length, drop}
 use Rattle.std.proofs.Common.{Option, Some, None, refl, sym, ap, ◌∙◌, subst, arith, append_assoc, length-drop}
 use Rattle.std.specs.List.{flat_map, range_with_len}
 use Rattle.std.proofs.Math.Nat.{add-mul, le-div_iff_mul-le, div-lt_iff_lt-mul}
-use Rattle.std.proofs.lemmas.Bool.{cases_order, cond-true, cond-false, true≢false}
+use Rattle.std.proofs.lemmas.Bool.{cond-true, cond-false, true≢false}
 use Rattle.isoal_base.specs.Stays.{Stay, Call, opened, heard, FirstHeard}
 use Rattle.isoal_base.specs.Hearing.{read_as}
 use Rattle.isoal_base.proofs.Citable.{cases_option, heard_first}
@@ -16,6 +16,7 @@ use Rattle.isoal_framed.proofs.Joins.{units_are}
 use Rattle.isoal_framed.proofs.Carried.{tok, toks, toks_same, carried_later}
 use Rattle.isoal_framed.proofs.Entries.{entry_missed}
 use Rattle.isoal_framed.proofs.Struck.{shown_from}
+use Rattle.isoal_framed.proofs.Greedy.{cases_low}
 
 -- a range of numbers in two parts, and events as one range
 flat_append : {A : Type 0} (f : ℕ → List A) (start m n : ℕ)
@@ -92,13 +93,6 @@ heard_least read stay calls number part is =
 
 sum_is : (m n : ℕ) → m ≤ n → m + (n - m) ≡ n
 sum_is m n within = omega arith
-
-cases_low : (m n : ℕ) → (m ≤ n) ⊎ (n < m)
-cases_low m n = elim (cases_order m n) [
-  | inl same ↦ inl (omega arith)
-  | inr (inl less) ↦ inl (omega arith)
-  | inr (inr more) ↦ inr more
-]
 
 -- nothing is heard before the stay
 none_before : (stay : Stay) (calls : List Call) (number : ℕ) → 1 ≤ stay.info.bn → number < stay.first * stay.info.bn → heard_in stay calls number ≡ None

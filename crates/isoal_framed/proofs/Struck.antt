@@ -2,7 +2,7 @@
 use Rattle.std.proofs.Common.{ℕ, zero, suc, ◌≡◌, ◌+◌, ◌-◌, ◌/◌, ◌<◌, ◌≤◌, inl, inr, true, false, Bool, ◌&&◌, List, [], ◌∷◌, ◌++◌, map}
 use Rattle.std.proofs.Common.{length, Option, Some, None, refl, sym, ap, ◌∙◌, subst, arith, append_assoc, length-append}
 use Rattle.std.specs.List.{flat_map}
-use Rattle.std.proofs.lemmas.Bool.{cases_Bool}
+use Rattle.std.proofs.lemmas.Bool.{cases_Bool, and_right}
 use Rattle.std.proofs.lemmas.List.{append-nil}
 use Rattle.std.proofs.lemmas.Option.{none-some}
 use Rattle.unit_outlets.specs.Handed.{valid, lost}
@@ -13,7 +13,7 @@ use Rattle.isoal_framed.specs.State.Joining.{hands, run_joined}
 use Rattle.isoal_framed.specs.Struck.{Fit, Sent, octets_in, is_last, parts_at, InOrder, entry_of}
 use Rattle.isoal_framed.proofs.Begun.{joined_fits, Shown, same_none, run_inj, goes_shown, begun_heard, begun_missed}
 use Rattle.isoal_framed.proofs.Carried.{carried_here, carried_later, none_here, toks, toks_same, tok_heard, tok_missing, toks_first, toks_none}
-use Rattle.isoal_framed.proofs.Entries.{scan, scan_heard, scan_missing, scan_open, and_no, no_entries, scan_run, scan_end}
+use Rattle.isoal_framed.proofs.Entries.{scan, scan_heard, scan_missing, scan_open, no_entries, scan_run, scan_end}
 
 -- where no number is closed any more
 zero_shown : (stay : Stay) (heard : ℕ → Bool) (closed from : ℕ) (segments : List (List ℕ)) (whole : Bool) (run : Option Run) (units : List Sent) → closed ≤ from
@@ -197,7 +197,7 @@ more_shown stay heard closed n from all shown (octets ∷ next ∷ segments) who
       | inl is ↦
           ap (hands stay.info.max_sdu stay.bis run) (goes_heard stay heard from n octets (next ∷ segments) whole units is
           ∙ ap (λ flag. goes_on flag octets ∷ (map (token_of stay (from / stay.info.bn)) (parts_at units from) ++ toks stay heard (from + 1) (next ∷ segments) whole units (from + 1) n))
-          (and_no whole false refl)
+          (and_right whole false refl)
           ∙ ap (λ parts. goes_on false octets ∷ (map (token_of stay (from / stay.info.bn)) parts ++ toks stay heard (from + 1) (next ∷ segments) whole units (from + 1) n))
           (none_here (from + 1 + length (next ∷ segments) - 1) closed from units order' (omega arith)))
           ∙ more_run stay heard closed from n octets next segments whole run units shown is (omega arith) order'

@@ -1,11 +1,11 @@
-ghost use Rattle.std.specs.Prelude.{◌≡◌, ◌≤◌, ◌<◌, ◌+◌, ◌^◌, ◌++◌, List, [], ◌∷◌, length, replicate, IfOk, None};
+ghost use Rattle.std.specs.Prelude.{◌≡◌, ◌≤◌, ◌<◌, ◌+◌, ◌^◌, ◌++◌, List, ◌∷◌, length, replicate, IfOk, None};
 ghost use Rattle.big_info.specs.Bounds.{Bounds};
-ghost use Rattle.unit_outlets.specs.Handed.{Caused};
+ghost use Rattle.unit_outlets.specs.Handed.{Caused, HandsOver};
 ghost use Rattle.isoal_base.specs.Hearing.{answer_of};
 ghost use Rattle.isoal_base.specs.Stays.{Call, hear, close, window_of};
 ghost use Rattle.isoal_framed.specs.Histories.{decided, gained, held_of};
 ghost use Rattle.isoal_framed.specs.Tokens.{segmented};
-ghost use Rattle.isoal_framed.specs.State.Windows.{Stands, HandsOver, after_hear, after_close, owed};
+ghost use Rattle.isoal_framed.specs.State.Windows.{Stands, after_hear, after_close, owed};
 
 use crate::close::take_places;
 use crate::joining::Joining;

@@ -6,7 +6,6 @@ mod close;
 mod framed_in;
 mod framed_out;
 mod hand;
-mod in_call;
 mod joining;
 mod keep;
 mod laws;
@@ -23,6 +22,5 @@ pub use air_laws::{
 };
 pub use framed_in::FramedIn;
 pub use framed_out::FramedOut;
-pub use in_call::InCall;
 pub use laws::{a_close_gains_units, fate_is_decided, framed_units_are_struck};
 pub use run::run_calls;

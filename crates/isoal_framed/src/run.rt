@@ -2,11 +2,12 @@ ghost use Rattle.std.specs.Prelude.{◌≡◌, ◌≤◌, ◌<◌, ◌+◌, ◌^
 ghost use Rattle.unit_outlets.specs.Handed.{Handed, Caused};
 ghost use Rattle.isoal_base.specs.Stays.{Call};
 ghost use Rattle.isoal_framed.specs.Histories.{decided};
-ghost use Rattle.isoal_framed.specs.State.Runs.{call_of, after_all, Stopped};
+ghost use Rattle.isoal_base.specs.Runs.{call_of, after_all};
+ghost use Rattle.isoal_framed.specs.State.Runs.{Stopped};
 ghost use Rattle.isoal_framed.specs.State.Windows.{Stands};
 
 use crate::framed_in::FramedIn;
-use crate::in_call::InCall;
+use isoal_base::InCall;
 use unit_outlets::{TakerFault, UnitTaker};
 
 /// Makes the calls in order, up to the first fault of the taker. Each of them may be a close, so the open event and

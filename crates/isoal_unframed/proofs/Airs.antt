@@ -35,7 +35,7 @@ stands_lay info calls sender stands =
 pub waiting_is : (info : BigInfo) (calls : List Call) (sender : Sender) → StandsFor info calls sender → length sender.waiting ≡ length (accepted calls) - begun info calls
 waiting_is info calls sender stands = ap length stands.waiting ∙ length-drop (begun info calls) (accepted calls)
 
-lays_accepted : (calls : List Call) (n : ℕ) → accepted (lays n calls) ≡ accepted calls
+pub lays_accepted : (calls : List Call) (n : ℕ) → accepted (lays n calls) ≡ accepted calls
 lays_accepted calls zero = refl
 lays_accepted calls (suc n) = lays_accepted calls n
 

@@ -6,11 +6,11 @@ use Rattle.std.proofs.lemmas.Bool.{false≢true}
 use Rattle.std.proofs.lemmas.List.FromFn.{get_or-map-range_with_len, length-map-range_with_len}
 use Rattle.big_info.specs.Schedule.{per_event_of, per_unit_of}
 use Rattle.iso_pdu.specs.Layout.{Content}
-use Rattle.unit_outlets.specs.Handed.{Handed}
+use Rattle.unit_outlets.specs.Handed.{Handed, HandsOver}
 use Rattle.unit_outlets.specs.declared.fault.TakerFault.{TakerFault}
 use Rattle.isoal_base.specs.Stays.{Stay}
 use Rattle.isoal_unframed.specs.Units.{unit_of}
-use Rattle.isoal_unframed.specs.State.Windows.{HandsOver, time_of, handed_of, owed_at, owed_of}
+use Rattle.isoal_unframed.specs.State.Windows.{time_of, handed_of, owed_at, owed_of}
 
 pub hand_more : (units old now new : List Handed) (unit : Handed) (n : ℕ) → now ≡ old ++ take n units → n < length units
     → get_or units n unit ≡ unit → new ≡ now ++ unit ∷ [] → new ≡ old ++ take (n + 1) units

@@ -1,18 +1,15 @@
 -- A receiver that stands for its calls.
-use Rattle.std.proofs.Common.{ℕ, ◌≡◌, ◌+◌, ◌*◌, ◌≤◌, List, [], ◌∷◌, take, drop, None, replicate, sym, ap, ◌∙◌, subst, arith}
+use Rattle.std.proofs.Common.{ℕ, ◌≡◌, ◌+◌, ◌*◌, ◌≤◌, List, ◌∷◌, take, drop, sym, ap, ◌∙◌, subst, arith}
 use Rattle.std.proofs.Math.Nat.{add-mul}
 use Rattle.big_info.specs.Bounds.{Bounds}
 use Rattle.big_info.specs.Schedule.{horizon_of, per_event_of, per_unit_of}
-use Rattle.isoal_base.specs.Stays.{Stay, Call, hear, close, opened, window_of}
+use Rattle.isoal_base.specs.Stays.{Call, hear, close, opened, window_of}
 use Rattle.isoal_base.specs.Hearing.{read_as}
-use Rattle.isoal_base.proofs.Citable.{map_same, map_part, stands_new, stands_hear, stands_close}
+use Rattle.isoal_base.proofs.Citable.{map_same, map_part, stands_hear, stands_close}
 use Rattle.isoal_unframed.specs.Histories.{heard_in, unit_at, units_of}
 use Rattle.isoal_unframed.specs.Units.{unframed, unit_of}
 use Rattle.isoal_unframed.specs.State.Windows.{Window, Stands, after_hear, after_close, handed_of, time_of, owed, owed_at}
 use Rattle.isoal_unframed.proofs.Places.{slot_fits}
-
-pub new_stands : (stay : Stay) → Stands [] (record { stay = stay; event = stay.first; kept = replicate (window_of stay.info) None })
-new_stands stay = stands_new (read_as unframed stay.info.max_pdu) stay
 
 pub hear_stands : (window : Window) (number : ℕ) (octets : List ℕ) → Bounds window.stay.info
     → (calls : List Call) → Stands calls window → Stands (hear number octets ∷ calls) (after_hear number octets window)

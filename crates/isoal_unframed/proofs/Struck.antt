@@ -29,7 +29,7 @@ in_event bn e i below =
 at_place : (bn e i : ℕ) → i < bn → (e * bn + i) % bn ≡ i
 at_place bn e i below = mul-add-mod_self_right e bn i ∙ mod-eq_of_lt below
 
-get-range : {A : Type 0} (f : ℕ → A) (start n r : ℕ) → r < n → slice_get (map f (range_with_len start n)) r ≡ Some (f (start + r))
+pub get-range : {A : Type 0} (f : ℕ → A) (start n r : ℕ) → r < n → slice_get (map f (range_with_len start n)) r ≡ Some (f (start + r))
 get-range f start n r below =
     let within : r < length (map f (range_with_len start n)) = subst (λ k. r < k) (sym (length-map-range_with_len f start n)) below in
     slice_get-get_or (map f (range_with_len start n)) r (f start) within
@@ -171,7 +171,7 @@ all_zip_maps R f g start zero each = tt
 all_zip_maps R f g start (suc n) each =
     (each start (omega arith) (omega arith), all_zip_maps R f g (start + 1) n (λ i least below. each i (omega arith) (omega arith)))
 
-all_zip_append : {A B : Type 0} (R : A → B → Type 0) (xs xs' : List A) (ys ys' : List B) → AllZip R xs ys → AllZip R xs' ys'
+pub all_zip_append : {A B : Type 0} (R : A → B → Type 0) (xs xs' : List A) (ys ys' : List B) → AllZip R xs ys → AllZip R xs' ys'
     → AllZip R (xs ++ xs') (ys ++ ys')
 all_zip_append R [] xs' [] ys' first rest = rest
 all_zip_append R [] xs' (y ∷ ys) ys' first rest = absurd first

@@ -3,7 +3,6 @@
 
 mod air_laws;
 mod cell;
-mod in_call;
 mod laws;
 mod ring;
 mod run;
@@ -14,7 +13,6 @@ mod unframed_out;
 mod window;
 
 pub use air_laws::{a_slot_carries_its_unit, each_number_is_laid, slots_add_up, the_rest_waits};
-pub use in_call::InCall;
 pub use laws::{longest_front_is_held, unit_is_assembled, units_are_struck};
 pub use run::run_calls;
 pub use unframed_in::UnframedIn;

@@ -2,10 +2,10 @@ ghost use Rattle.std.specs.Prelude.{◌≡◌, ◌≤◌, ◌<◌, ◌+◌, ◌*
 ghost use Rattle.std.specs.List.{All, copy_within};
 ghost use Rattle.std.specs.Option.{option_map, option_copied};
 ghost use Rattle.big_info.specs.Schedule.{per_unit_of};
-ghost use Rattle.unit_outlets.specs.Handed.{Caused};
+ghost use Rattle.unit_outlets.specs.Handed.{Caused, HandsOver};
 ghost use Rattle.isoal_unframed.specs.State.Cells.{Within, count_of, entry_in, kept_in, part_of, held_cells};
 ghost use Rattle.isoal_unframed.specs.Units.{unit_of, held_in};
-ghost use Rattle.isoal_unframed.specs.State.Windows.{HandsOver, handed_of};
+ghost use Rattle.isoal_unframed.specs.State.Windows.{handed_of};
 ghost use Rattle.isoal_unframed.specs.declared.cell.Cell.TheVariants.{Empty};
 
 use crate::cell::Cell;

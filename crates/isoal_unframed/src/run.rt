@@ -2,12 +2,13 @@ ghost use Rattle.std.specs.Prelude.{◌≡◌, ◌≤◌, ◌<◌, ◌+◌, ◌^
 ghost use Rattle.unit_outlets.specs.Handed.{Handed, Caused};
 ghost use Rattle.isoal_base.specs.Stays.{Call, opened};
 ghost use Rattle.isoal_unframed.specs.Histories.{handed, units_of};
-ghost use Rattle.isoal_unframed.specs.State.Runs.{call_of, after_all, Stopped};
+ghost use Rattle.isoal_base.specs.Runs.{call_of, after_all};
+ghost use Rattle.isoal_unframed.specs.State.Runs.{Stopped};
 ghost use Rattle.isoal_unframed.specs.State.Windows.{Stands};
-ghost use Rattle.isoal_unframed.specs.declared.in_call.InCall.TheVariants.{Close};
+ghost use Rattle.isoal_base.specs.declared.in_call.InCall.TheVariants.{Close};
 
-use crate::in_call::InCall;
 use crate::unframed_in::UnframedIn;
+use isoal_base::InCall;
 use unit_outlets::{TakerFault, UnitTaker};
 
 /// Makes the calls in order, up to the first fault of the taker: then all that the calls before were to hand was handed,

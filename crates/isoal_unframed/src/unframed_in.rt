@@ -1,12 +1,12 @@
-ghost use Rattle.std.specs.Prelude.{◌≡◌, ◌≤◌, ◌<◌, ◌+◌, ◌*◌, ◌^◌, List, [], ◌∷◌, length, replicate, IfOk, None};
+ghost use Rattle.std.specs.Prelude.{◌≡◌, ◌≤◌, ◌<◌, ◌+◌, ◌*◌, ◌^◌, List, ◌∷◌, length, replicate, IfOk, None};
 ghost use Rattle.big_info.specs.Bounds.{Bounds};
 ghost use Rattle.big_info.specs.Schedule.{per_event_of};
-ghost use Rattle.unit_outlets.specs.Handed.{Caused};
+ghost use Rattle.unit_outlets.specs.Handed.{Caused, HandsOver};
 ghost use Rattle.isoal_base.specs.Hearing.{answer_of};
 ghost use Rattle.isoal_base.specs.Stays.{Call, hear, close, opened, window_of};
 ghost use Rattle.isoal_unframed.specs.Histories.{units_of};
 ghost use Rattle.isoal_unframed.specs.Units.{unframed};
-ghost use Rattle.isoal_unframed.specs.State.Windows.{Stands, HandsOver, after_hear, after_close, owed, held_in_event};
+ghost use Rattle.isoal_unframed.specs.State.Windows.{Stands, after_hear, after_close, owed, held_in_event};
 
 use crate::ring::Ring;
 use crate::stream::Stream;

@@ -1,13 +1,13 @@
 //! The window of a receiver: H + 1 events in a ring, from the open one on.
 ghost use Rattle.std.specs.Prelude.{◌≡◌, ◌≤◌, ◌<◌, ◌+◌, ◌-◌, ◌*◌, ◌^◌, length, take, drop, vec_len, Some};
 ghost use Rattle.big_info.specs.Schedule.{per_event_of};
-ghost use Rattle.unit_outlets.specs.Handed.{Caused};
+ghost use Rattle.unit_outlets.specs.Handed.{Caused, HandsOver};
 ghost use Rattle.isoal_base.specs.Hearing.{placing, kept_by};
 ghost use Rattle.isoal_base.specs.Stays.{window_of};
 ghost use Rattle.isoal_unframed.specs.State.Cells.{part_of, turned};
 ghost use Rattle.isoal_unframed.specs.State.Rings.{kept_of};
 ghost use Rattle.isoal_unframed.specs.State.Streams.{stay_of, place_of};
-ghost use Rattle.isoal_unframed.specs.State.Windows.{HandsOver, owed_of, held_in_event};
+ghost use Rattle.isoal_unframed.specs.State.Windows.{owed_of, held_in_event};
 
 use crate::ring::Ring;
 use crate::stream::Stream;

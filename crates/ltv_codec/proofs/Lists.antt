@@ -5,9 +5,9 @@ use Rattle.std.specs.List.{AllByRecursion}
 use Rattle.std.proofs.lemmas.Bool.{cases_lt, lt-ltb, le-ltb, ltb-true}
 use Rattle.std.proofs.lemmas.List.{take_at, drop_at, take-append-drop, length-append, length-take, append-nil}
 use Rattle.std.proofs.lemmas.List.Concat.{flat_map-cons}
-use Rattle.octet_fields.specs.Spelling.{IsOctets}
-use Rattle.octet_fields.specs.Reading.{counted_in}
-use Rattle.octet_fields.proofs.Citable.{IsOctets-drop, counted_takes}
+use Rattle.bcast_base.specs.Spelling.{IsOctets}
+use Rattle.bcast_base.specs.Reading.{counted_in}
+use Rattle.bcast_base.proofs.Citable.{IsOctets-drop, counted_takes}
 use Rattle.ltv_codec.specs.declared.fault.LtvBad.{LtvBad}
 use Rattle.ltv_codec.specs.declared.fault.LtvBad.TheVariants.{ZeroLength, Short}
 use Rattle.ltv_codec.specs.declared.ltvs.Ltv.{Ltv}

@@ -6,15 +6,15 @@ use Rattle.std.specs.Prelude.{OnOk, IfOk, IfErr, IsOk}
 use Rattle.std.proofs.lemmas.List.{length-append, append-nil, take_at}
 use Rattle.std.proofs.lemmas.Bool.{eqb-true}
 use Rattle.std.proofs.lemmas.Option.{same_Some}
-use Rattle.octet_fields.specs.Spelling.{IsOctets}
+use Rattle.bcast_base.specs.Spelling.{IsOctets}
 use Rattle.ltv_codec.specs.declared.fault.LtvBad.TheVariants.{ZeroLength}
 use Rattle.ltv_codec.specs.declared.fault.LtvFault.{LtvFault}
 use Rattle.ltv_codec.specs.declared.fault.LtvFault.TheVariants as faults
 use Rattle.ltv_codec.specs.Faults.{IsBad, IsFault}
 use Rattle.ltv_codec.specs.Layout.{Fits, spelling, IsLtvList, AreLtvs}
 use Rattle.std.specs.List.{AllByRecursion}
-use Rattle.octet_fields.specs.Reading.{place_in, counted_in}
-use Rattle.octet_fields.specs.Tries.{Answers}
+use Rattle.bcast_base.specs.Reading.{place_in, counted_in}
+use Rattle.bcast_base.specs.Tries.{Answers}
 use Rattle.ltv_codec.specs.declared.fault.LtvBad.{LtvBad}
 use Rattle.ltv_codec.specs.declared.ltvs.Ltv.{Ltv}
 use Rattle.ltv_codec.specs.Reading.{before, ltvs_from, ltvs_of, ltvs_in, bad_of, told, IsStructure, IsBadAt}

@@ -1,6 +1,6 @@
 //! Which octets are an LTV list, and what is wrong with all others.
 ghost use Rattle.std.specs.Prelude.{◌≡◌, ◌↔◌, ℕ, List, Ok, Err};
-ghost use Rattle.octet_fields.specs.Spelling.{IsOctets};
+ghost use Rattle.bcast_base.specs.Spelling.{IsOctets};
 ghost use Rattle.ltv_codec.specs.Faults.{IsBad};
 ghost use Rattle.ltv_codec.specs.Layout.{IsLtvList};
 ghost use Rattle.ltv_codec.specs.Reading.{ltvs_of};

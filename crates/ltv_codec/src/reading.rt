@@ -5,13 +5,12 @@ ghost use Rattle.ltv_codec.specs.Layout.{IsLtvList, AreLtvs};
 ghost use Rattle.ltv_codec.specs.Reading.{ltvs_of, ltvs_in, bad_of, told, IsStructure, IsBadAt};
 ghost use Rattle.ltv_codec.specs.Values.{first_in};
 ghost use Rattle.ltv_codec.specs.declared.ltvs.Ltv.{Ltv};
-ghost use Rattle.octet_fields.specs.Reading.{Gives, place_in};
-ghost use Rattle.octet_fields.specs.Tries.{Answers};
+ghost use Rattle.bcast_base.specs.Reading.{Gives, place_in};
+ghost use Rattle.bcast_base.specs.Tries.{Answers};
 
 use crate::fault::{LtvBad, LtvFault};
 use crate::ltvs::Ltvs;
-use bcast_base::Memory;
-use octet_fields::{counted_at, place_of};
+use bcast_base::{Memory, counted_at, place_of};
 use std::alloc::Global;
 
 /// Whether the octets are an LTV list. Else it is the first bad length octet: one of 0, or one that passes the end.

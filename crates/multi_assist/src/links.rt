@@ -128,8 +128,8 @@ impl Links {
         }
     }
 
-    /// Whether a link is joined.
-    fn is_joined(&self, link: u8) -> bool
+    /// Whether an assistant is on a link.
+    pub fn is_joined(&self, link: u8) -> bool
         ensures { result ≡ is_some (link_at self.now link) }
     {
         match link {

@@ -1,4 +1,5 @@
 ghost use Rattle.std.specs.Prelude.{◌≡◌, ◌≤◌, ◌<◌, ◌+◌, ◌-◌, ◌%◌, ◌^◌, ◌∷◌, [], List, Some, None, is_some, IfOk, IfErr, IfSome, OnOk, OnErr};
+ghost use Rattle.std.specs.Option.{option_map};
 ghost use Rattle.announcement_train.specs.Layout.{IsTrain};
 ghost use Rattle.iso_pdu.specs.Control.{terminate};
 ghost use Rattle.iso_pdu.specs.Layout.{control};
@@ -6,7 +7,7 @@ ghost use Rattle.iso_pdu.specs.Spelling.{pdu};
 ghost use Rattle.isoal_base.specs.Air.{Air as StreamAir};
 ghost use Rattle.source_machine.specs.Airs.{AreAirs, pdu_of, stale_of};
 ghost use Rattle.source_machine.specs.Calls.{Call, give as gives, event as performs, last_of, next_anchor_of, next_of};
-ghost use Rattle.source_machine.specs.Faults.{air_fault, announce_fault, event_fault, give_fault, misfit_of, refused_event, refused_train, refused_unit};
+ghost use Rattle.source_machine.specs.Faults.{air_fault, announce_fault, answer_of, event_fault, give_fault, misfit_of, refused_event, refused_train, refused_unit};
 ghost use Rattle.source_machine.specs.Setups.{IsChecked, started};
 ghost use Rattle.source_machine.specs.State.Sources.{anchor_in, group_in};
 ghost use Rattle.multi_source.specs.State.Broadcasts.{AfterFault, StandsFor};
@@ -83,7 +84,8 @@ impl Broadcast {
 
     /// Why a unit would be refused however few wait, as `SourceStreaming::misfit` says.
     pub fn misfit(&self, bis: Bis, time: Option<u64>, octets: &[u8]) -> Option<GiveFault>
-        ensures { (calls : List Call) → StandsFor calls self.now → result ≡ misfit_of self.now.source.setup calls bis time octets.now }
+        ensures { (calls : List Call) → StandsFor calls self.now
+            → result ≡ option_map answer_of (misfit_of self.now.source.setup calls bis time octets.now) }
     {
         self.source.misfit(bis, time, octets)
     }

@@ -6,9 +6,9 @@ use Rattle.std.specs.Result.{result_err}
 use Rattle.std.proofs.lemmas.Bool.{lt-ltb, le-ltb, ne_eqb}
 use Rattle.std.proofs.lemmas.List.{length-append}
 use Rattle.std.proofs.lemmas.List.Concat.{flat_map-cons}
-use Rattle.octet_fields.specs.Spelling.{counted}
-use Rattle.octet_fields.specs.Reading.{octet_in, octets_in, place_in}
-use Rattle.octet_fields.proofs.Citable.{octets_again}
+use Rattle.bcast_base.specs.Spelling.{counted}
+use Rattle.bcast_base.specs.Reading.{octet_in, octets_in, place_in}
+use Rattle.bcast_base.proofs.Citable.{octets_again}
 use Rattle.ltv_codec.specs.declared.fault.LtvBad.{LtvBad}
 use Rattle.ltv_codec.specs.Layout.{AreLtvs}
 use Rattle.ltv_codec.specs.Reading.{bad_of}

@@ -7,9 +7,9 @@ use Rattle.std.proofs.lemmas.Slice.Eq.{bytes_eq-Decides}
 use Rattle.std.proofs.lemmas.Bool.{eqb-true, ltb-false, le-ltb}
 use Rattle.std.proofs.lemmas.List.{append-nil, nil_from_length, length-append}
 use Rattle.std.proofs.lemmas.List.Concat.{flat_map-cons}
-use Rattle.octet_fields.specs.Spelling.{IsOctets, octet, counted}
-use Rattle.octet_fields.specs.Reading.{octet_in, octets_in, place_in, Takes}
-use Rattle.octet_fields.proofs.Citable.{octet_takes, octets_take, octets_again, IsOctets-front, Takes-then, ok_is, bind_ok, needed_ok}
+use Rattle.bcast_base.specs.Spelling.{IsOctets, octet, counted}
+use Rattle.bcast_base.specs.Reading.{octet_in, octets_in, place_in, Takes}
+use Rattle.bcast_base.proofs.Citable.{octet_takes, octets_take, octets_again, IsOctets-front, Takes-then, ok_is, bind_ok, needed_ok}
 use Rattle.ltv_codec.specs.declared.fault.LtvBad.{LtvBad}
 use Rattle.ltv_codec.specs.Layout.{AreLtvs}
 use Rattle.ltv_codec.specs.Reading.{bad_of}
@@ -19,7 +19,7 @@ use Rattle.pacs_records.specs.declared.fault.PacFault.TheVariants.{TooLong, Shor
 use Rattle.pacs_records.specs.declared.record.PacRecord.{PacRecord}
 use Rattle.base_grammar.specs.Layout.{lc3, is_lc3}
 use Rattle.pacs_records.specs.Layout.{greatest_value, spelled, value, Fits, AreRecords, PacIs}
-use Rattle.octet_fields.specs.Tries.{◌>>=◌, Answers}
+use Rattle.bcast_base.specs.Tries.{◌>>=◌, Answers}
 use Rattle.pacs_records.specs.Reading.{field_at, codec_in, told, checked, run_in, record_in, records_in, value_in}
 
 -- ---- steps of reading

@@ -8,9 +8,9 @@ use Rattle.std.proofs.lemmas.Bool.{ltb-true, ltb-false}
 use Rattle.std.proofs.lemmas.Option.{same_Some}
 use Rattle.std.proofs.lemmas.List.{length-append}
 use Rattle.std.proofs.lemmas.List.Concat.{flat_map-cons}
-use Rattle.octet_fields.specs.Spelling.{IsOctets, octet, counted}
-use Rattle.octet_fields.specs.Reading.{octet_in, octets_in, place_in, Takes}
-use Rattle.octet_fields.proofs.Citable.{octet_takes, octets_take, IsOctets-front, Takes-then, err_is, ok_no, bind_err, needed_err}
+use Rattle.bcast_base.specs.Spelling.{IsOctets, octet, counted}
+use Rattle.bcast_base.specs.Reading.{octet_in, octets_in, place_in, Takes}
+use Rattle.bcast_base.proofs.Citable.{octet_takes, octets_take, IsOctets-front, Takes-then, err_is, ok_no, bind_err, needed_err}
 use Rattle.ltv_codec.specs.declared.fault.LtvBad.{LtvBad}
 use Rattle.ltv_codec.specs.declared.ltvs.Ltv.{Ltv as Structure}
 use Rattle.ltv_codec.specs.Faults.{IsBad}
@@ -24,7 +24,7 @@ use Rattle.pacs_records.specs.Faults.{Fields, to_codec, to_caps_length, to_caps,
 use Rattle.pacs_records.specs.Faults.{IsFault}
 use Rattle.base_grammar.specs.Layout.{lc3, is_lc3}
 use Rattle.pacs_records.specs.Layout.{greatest_value, spelled, value, Fits, PacIs}
-use Rattle.octet_fields.specs.Tries.{◌>>=◌, Answers}
+use Rattle.bcast_base.specs.Tries.{◌>>=◌, Answers}
 use Rattle.pacs_records.specs.Reading.{told, field_at, codec_in, checked, run_in, record_in, records_in, value_in}
 use Rattle.pacs_records.proofs.Fields.{field_ok, is_lc3-true, lc3-is, run_takes, record_takes, records_take, value_takes}
 

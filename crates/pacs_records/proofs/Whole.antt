@@ -2,14 +2,14 @@
 use Rattle.std.proofs.Common.{◌≡◌, ℕ, Bool, true, false, cond, eqb, ltb, List, [], ◌∷◌, length, Option, Some, None, Result, Ok, Err, refl, sym, ap, subst, ◌∙◌}
 use Rattle.std.specs.Prelude.{IsOk, IfOk}
 use Rattle.std.specs.Result.{result_err}
-use Rattle.octet_fields.specs.Reading.{octet_in, place_in}
-use Rattle.octet_fields.specs.Spelling.{IsOctets}
+use Rattle.bcast_base.specs.Reading.{octet_in, place_in}
+use Rattle.bcast_base.specs.Spelling.{IsOctets}
 use Rattle.pacs_records.specs.declared.fault.PacFault.{PacFault}
 use Rattle.pacs_records.specs.declared.fault.PacFault.TheVariants.{TooLong, Short, Ltv, Trailing, Memory}
 use Rattle.pacs_records.specs.declared.record.PacRecord.{PacRecord}
 use Rattle.pacs_records.specs.Layout.{greatest_value}
-use Rattle.octet_fields.specs.Tries.{◌>>=◌, Finds}
-use Rattle.pacs_records.specs.Reading.{told, field_at, records_in, list_of, rest_of, value_in}
+use Rattle.bcast_base.specs.Tries.{◌>>=◌, Finds}
+use Rattle.pacs_records.specs.Reading.{told, field_at, records_in, list_of, value_in}
 use Rattle.pacs_records.proofs.Fields.{value_again}
 use Rattle.pacs_records.proofs.Stops.{value_stops}
 
@@ -22,19 +22,6 @@ pub behind_count : (octets : List ℕ) (count : ℕ) (from : List ℕ) → ltb g
     → value_in octets ≡ (records_in octets count from >>= ending octets)
 unfolding value_in
 behind_count octets count from small first = rw (small, first) refl
-
-ended_by : (octets : List ℕ) (read : Result (List PacRecord × List ℕ) PacFault) (rest : List ℕ) → rest_of read ≡ Ok rest
-    → result_err (read >>= ending octets) ≡ cond (eqb (length rest) 0) None (Some (Trailing (place_in octets rest)))
-ended_by octets (Ok x) rest e = test_of (eqb (length x.1) 0) x.0 (Trailing (place_in octets x.1))
-    ∙ ap (λ (r : List ℕ). cond (eqb (length r) 0) None (Some (Trailing (place_in octets r)))) (ok_same x.1 rest e)
-  where
-    ok_same : (a b : List ℕ) → (let r : List ℕ → Result (List ℕ) PacFault = λ z. Ok z in r a ≡ r b) → a ≡ b
-    ok_same a b h = cc
-
-    test_of : (b : Bool) (records : List PacRecord) (fault : PacFault) → result_err (cond {A = Result (List PacRecord) PacFault} b (Ok records) (Err fault)) ≡ cond b None (Some fault)
-    test_of true records fault = refl
-    test_of false records fault = refl
-ended_by octets (Err fault) rest e = absurd cc
 
 -- ---- octets that are a value
 

@@ -3,7 +3,7 @@
 -- whole, or breaks its row, or where octets follow a whole value.
 use Rattle.std.specs.Prelude.{ℕ, ◌+◌, ◌<◌, ◌≤◌, ◌≡◌, List, [], ◌∷◌, ◌++◌, length}
 use Rattle.std.specs.List.{flat_map, AllByRecursion}
-use Rattle.octet_fields.specs.Spelling.{counted}
+use Rattle.bcast_base.specs.Spelling.{counted}
 use Rattle.ltv_codec.specs.declared.fault.LtvBad.{LtvBad}
 use Rattle.ltv_codec.specs.Faults.{IsBad}
 use Rattle.ltv_codec.specs.Layout.{AreLtvs}

@@ -4,7 +4,7 @@
 use Rattle.std.specs.Prelude.{ℕ, ◌<◌, ◌≤◌, ◌≡◌, List, ◌∷◌, ◌++◌, length}
 use Rattle.std.specs.List.{flat_map, AllByRecursion}
 use Rattle.base_grammar.specs.Layout.{lc3}
-use Rattle.octet_fields.specs.Spelling.{counted}
+use Rattle.bcast_base.specs.Spelling.{counted}
 use Rattle.ltv_codec.specs.Layout.{AreLtvs}
 use Rattle.pacs_records.specs.declared.record.PacRecord.{PacRecord}
 

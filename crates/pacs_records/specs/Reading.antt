@@ -1,8 +1,8 @@
 -- Reading a Sink PAC value (Published Audio Capabilities Service 1.0, section 3.1) field by field, with the first fault
 -- that is met.
 use Rattle.std.specs.Prelude.{ℕ, zero, suc, Bool, true, false, List, [], ◌∷◌, length, Option, Some, None, Result, Ok, Err, nat_lt, ◌==◌, if◌then◌else◌}
-use Rattle.octet_fields.specs.Reading.{octet_in, octets_in, place_in}
-use Rattle.octet_fields.specs.Tries.{◌>>=◌, needed}
+use Rattle.bcast_base.specs.Reading.{octet_in, octets_in, place_in}
+use Rattle.bcast_base.specs.Tries.{◌>>=◌, needed}
 use Rattle.ltv_codec.specs.declared.fault.LtvBad.{LtvBad}
 use Rattle.ltv_codec.specs.Reading.{bad_of}
 use Rattle.pacs_records.specs.declared.fault.PacFault.{PacFault}

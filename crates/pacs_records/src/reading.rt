@@ -2,7 +2,7 @@ ghost use Rattle.std.specs.Prelude.{◌≡◌, ◌≤◌, List, length, IfOk, If
 ghost use Rattle.std.specs.Result.{result_err};
 ghost use Rattle.pacs_records.specs.Layout.{PacIs};
 ghost use Rattle.pacs_records.specs.Faults.{IsFault};
-ghost use Rattle.octet_fields.specs.Tries.{Answers, Reads};
+ghost use Rattle.bcast_base.specs.Tries.{Answers, Reads};
 ghost use Rattle.pacs_records.specs.Reading.{told, codec_in, run_in, record_in, records_in, list_of, rest_of, value_in};
 ghost use Rattle.pacs_records.specs.declared.record.PacRecord.{PacRecord};
 
@@ -10,9 +10,8 @@ use crate::fault::PacFault;
 use crate::record::PacRecord;
 use crate::records::Records;
 use base_grammar::is_lc3_codec;
-use bcast_base::{Items, Memory, Octets};
+use bcast_base::{Items, Memory, Octets, octet_at, octets_at, place_of};
 use ltv_codec::check_ltvs;
-use octet_fields::{octet_at, octets_at, place_of};
 use std::alloc::Global;
 
 /// The most octets of a value: those of an attribute.

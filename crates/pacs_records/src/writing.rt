@@ -3,8 +3,7 @@ ghost use Rattle.pacs_records.specs.Layout.{PacIs, spelled};
 
 use crate::record::PacRecord;
 use crate::records::Records;
-use bcast_base::{Memory, Octets};
-use octet_fields::put_counted;
+use bcast_base::{Memory, Octets, put_counted};
 use std::alloc::Global;
 
 /// The Sink PAC value of a list: the number of records, and each record.

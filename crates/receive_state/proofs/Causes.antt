@@ -1,11 +1,11 @@
 -- What is wrong with octets that have all fields, as it is found and as it is told.
 use Rattle.std.proofs.Common.{◌≡◌, ℕ, ◌<◌, List, [], ◌∷◌, length, Option, Some, None, Result, Ok, Err, refl, sym, ap, ◌∙◌, arith}
 use Rattle.std.proofs.lemmas.List.{length-append}
-use Rattle.octet_fields.specs.Layout.{laid, reserved_from}
-use Rattle.octet_fields.specs.Reading.{place_in}
-use Rattle.octet_fields.specs.Spelling.{IsOctets}
-use Rattle.octet_fields.specs.Subgroups.{Subgroup, subgroups_in}
-use Rattle.octet_fields.proofs.Citable.{reserved_first, first_reserved, reserved_none, none_reserved}
+use Rattle.bcast_base.specs.Layout.{laid, reserved_from}
+use Rattle.bcast_base.specs.Reading.{place_in}
+use Rattle.bcast_base.specs.Spelling.{IsOctets}
+use Rattle.bcast_base.specs.Subgroups.{Subgroup, subgroups_in}
+use Rattle.bcast_base.proofs.Citable.{reserved_first, first_reserved, reserved_none, none_reserved}
 use Rattle.receive_state.specs.declared.fault.StateFault.{StateFault}
 use Rattle.receive_state.specs.declared.fault.StateFault.TheVariants.{Short, Rfu, Trailing}
 use Rattle.receive_state.specs.declared.state.ReceiveState.{ReceiveState}

@@ -3,14 +3,14 @@ use Rattle.std.proofs.Common.{◌≡◌, ℕ, zero, suc, ◌+◌, ◌-◌, ◌*�
 use Rattle.std.specs.List.{flat_map, AllByRecursion}
 use Rattle.std.proofs.lemmas.List.{length-append}
 use Rattle.bcast_base.specs.Numbers.{sum_from}
-use Rattle.octet_fields.specs.Layout.{Field, free, unless}
-use Rattle.octet_fields.specs.Reading.{octet_in, octets_in, place_in}
-use Rattle.octet_fields.specs.Spelling.{IsOctets, octet, number}
-use Rattle.octet_fields.specs.Subgroups.{Subgroup, Fits, subgroup_fields, is_reserved}
-use Rattle.octet_fields.proofs.Citable.{IsOctets-front, number-length, number_below, number_once}
+use Rattle.bcast_base.specs.Layout.{Field, free, unless}
+use Rattle.bcast_base.specs.Reading.{octet_in, octets_in, place_in}
+use Rattle.bcast_base.specs.Spelling.{IsOctets, octet, number}
+use Rattle.bcast_base.specs.Subgroups.{Subgroup, Fits, subgroup_fields, is_reserved}
+use Rattle.bcast_base.proofs.Citable.{IsOctets-front, number-length, number_below, number_once}
 use Rattle.receive_state.specs.Faults.{EndsIn}
 use Rattle.receive_state.specs.Reading.{end_in}
-use Rattle.octet_fields.specs.Tries.{◌>>=◌, needed}
+use Rattle.bcast_base.specs.Tries.{◌>>=◌, needed}
 use Rattle.receive_state.specs.Steps.{field_in}
 use Rattle.receive_state.proofs.Cuts.{ends_here, ends_more, ends_nowhere, zeros, octets_with, filled, length-filled, more-zeros}
 use Rattle.receive_state.proofs.CutSteps.{told_octet, told_octets, find_octet, find_octets}

@@ -2,12 +2,12 @@
 use Rattle.std.proofs.Common.{◌≡◌, ℕ, ◌+◌, ◌<◌, ◌≤◌, List, [], ◌∷◌, ◌++◌, length, Option, Some, None, Result, Err, refl, sym, ap, subst, ◌∙◌, inl, inr, arith, add-zero}
 use Rattle.std.specs.Prelude.{◌⊎◌}
 use Rattle.std.proofs.lemmas.List.{length-append}
-use Rattle.octet_fields.specs.Layout.{Field}
-use Rattle.octet_fields.specs.Reading.{octet_in, octets_in, place_in}
-use Rattle.octet_fields.specs.Spelling.{octet}
-use Rattle.octet_fields.proofs.Citable.{octet_takes, octets_take}
+use Rattle.bcast_base.specs.Layout.{Field}
+use Rattle.bcast_base.specs.Reading.{octet_in, octets_in, place_in}
+use Rattle.bcast_base.specs.Spelling.{octet}
+use Rattle.bcast_base.proofs.Citable.{octet_takes, octets_take}
 use Rattle.receive_state.specs.Faults.{EndsIn}
-use Rattle.octet_fields.specs.Tries.{◌>>=◌, needed}
+use Rattle.bcast_base.specs.Tries.{◌>>=◌, needed}
 use Rattle.receive_state.specs.Steps.{field_in}
 use Rattle.receive_state.proofs.Cuts.{ends_split, no_octet, no_octets, octet_short, octets_short}
 use Rattle.receive_state.proofs.Heads.{octets_again_at}

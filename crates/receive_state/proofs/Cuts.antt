@@ -4,9 +4,9 @@ use Rattle.std.proofs.Common.{inr, append_assoc, arith}
 use Rattle.std.specs.Prelude.{◌⊎◌}
 use Rattle.std.proofs.lemmas.Bool.{lt-ltb, ltb-true}
 use Rattle.std.proofs.lemmas.List.{length-append}
-use Rattle.octet_fields.specs.Layout.{Field, laid}
-use Rattle.octet_fields.specs.Reading.{octet_in, octets_in}
-use Rattle.octet_fields.specs.Spelling.{IsOctets}
+use Rattle.bcast_base.specs.Layout.{Field, laid}
+use Rattle.bcast_base.specs.Reading.{octet_in, octets_in}
+use Rattle.bcast_base.specs.Spelling.{IsOctets}
 use Rattle.receive_state.specs.Faults.{EndsIn}
 
 pub ends_here : (field : Field) (fields : List Field) (part more : List ℕ) → field.octets ≡ part ++ more → 0 < length more → EndsIn 0 (field ∷ fields) part

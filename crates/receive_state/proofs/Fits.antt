@@ -3,8 +3,8 @@ use Rattle.std.proofs.Common.{◌≡◌, ◌≤◌, ◌<◌, ◌^◌, ℕ, suc, 
 use Rattle.std.specs.Prelude.{◌&&◌, ◌||◌, not}
 use Rattle.std.specs.List.{flat_map, list_all, AllByRecursion}
 use Rattle.std.proofs.lemmas.Bool.{leb-true, le-leb}
-use Rattle.octet_fields.specs.Layout.{NoneReserved}
-use Rattle.octet_fields.specs.Subgroups.{Fits, subgroup_fields, is_reserved}
+use Rattle.bcast_base.specs.Layout.{NoneReserved}
+use Rattle.bcast_base.specs.Subgroups.{Fits, subgroup_fields, is_reserved}
 use Rattle.receive_state.specs.declared.state.Encryption.{Encryption}
 use Rattle.receive_state.specs.declared.state.Encryption.TheVariants as keys
 use Rattle.receive_state.specs.declared.state.GroupState.{GroupState}

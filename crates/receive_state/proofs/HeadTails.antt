@@ -1,9 +1,9 @@
 -- What is left to read of the head, from each of its fields on.
 use Rattle.std.proofs.Common.{◌≡◌, ℕ, List, [], Option, Some, None, Result, Ok, refl}
-use Rattle.octet_fields.specs.Reading.{octet_in, octets_in}
+use Rattle.bcast_base.specs.Reading.{octet_in, octets_in}
 use Rattle.receive_state.specs.Layout.{StateFields, code_width}
 use Rattle.receive_state.specs.Reading.{source_in, head_in}
-use Rattle.octet_fields.specs.Tries.{◌>>=◌, needed}
+use Rattle.bcast_base.specs.Tries.{◌>>=◌, needed}
 use Rattle.receive_state.specs.Steps.{field_in}
 
 abbrev pub sourced : StateFields → List ℕ → Result (StateFields × List ℕ) ℕ

@@ -2,14 +2,14 @@
 use Rattle.std.proofs.Common.{◌≡◌, ℕ, ◌+◌, ◌≤◌, List, [], ◌∷◌, length, Result, Ok, Err, refl, sym, subst, inl, inr, arith}
 use Rattle.std.specs.Prelude.{nat_lt, ◌⊎◌}
 use Rattle.std.specs.List.{flat_map}
-use Rattle.octet_fields.specs.Layout.{free, unless}
-use Rattle.octet_fields.specs.Reading.{octet_in, octets_in, place_in}
-use Rattle.octet_fields.specs.Spelling.{octet}
-use Rattle.octet_fields.specs.Subgroups.{subgroup_fields}
+use Rattle.bcast_base.specs.Layout.{free, unless}
+use Rattle.bcast_base.specs.Reading.{octet_in, octets_in, place_in}
+use Rattle.bcast_base.specs.Spelling.{octet}
+use Rattle.bcast_base.specs.Subgroups.{subgroup_fields}
 use Rattle.receive_state.specs.Faults.{EndsIn}
 use Rattle.receive_state.specs.Layout.{StateFields, fields, FieldsFit, code_width}
 use Rattle.receive_state.specs.Reading.{head_in}
-use Rattle.octet_fields.specs.Tries.{◌>>=◌}
+use Rattle.bcast_base.specs.Tries.{◌>>=◌}
 use Rattle.receive_state.proofs.CutSteps.{told_octet, told_octets}
 use Rattle.receive_state.proofs.HeadTails.{sourced, from_id, from_sid, from_address, from_kind, from_source, from_count, from_code, from_enc, from_sync, head_is, assoc}
 

@@ -5,11 +5,11 @@ use Rattle.std.proofs.lemmas.Bool.{ltb-false}
 use Rattle.std.proofs.lemmas.Grind.{flat_map-append}
 use Rattle.std.proofs.lemmas.List.{append-nil, nil_from_length}
 use Rattle.std.specs.List.{flat_map}
-use Rattle.octet_fields.specs.Layout.{Field, laid, reserved_from, NoneReserved}
-use Rattle.octet_fields.specs.Reading.{place_in}
-use Rattle.octet_fields.specs.Spelling.{IsOctets}
-use Rattle.octet_fields.specs.Subgroups.{Subgroup, subgroup, subgroup_fields, subgroups_in}
-use Rattle.octet_fields.proofs.Citable.{subgroup_laid, subgroups_take, subgroups_again, reserved_none, none_reserved}
+use Rattle.bcast_base.specs.Layout.{Field, laid, reserved_from, NoneReserved}
+use Rattle.bcast_base.specs.Reading.{place_in}
+use Rattle.bcast_base.specs.Spelling.{IsOctets}
+use Rattle.bcast_base.specs.Subgroups.{Subgroup, subgroup, subgroup_fields, subgroups_in}
+use Rattle.bcast_base.proofs.Citable.{subgroup_laid, subgroups_take, subgroups_again, reserved_none, none_reserved}
 use Rattle.receive_state.specs.declared.fault.StateFault.{StateFault}
 use Rattle.receive_state.specs.declared.state.Encryption.{Encryption}
 use Rattle.receive_state.specs.declared.state.Encryption.TheVariants as keys
@@ -18,7 +18,7 @@ use Rattle.receive_state.specs.declared.state.ReceiveState.{ReceiveState}
 use Rattle.receive_state.specs.Faults.{IsFollowed}
 use Rattle.receive_state.specs.Layout.{StateFields, fields, FieldsFit, code_width, number_of, code_of, group_of, fields_of, spelling, IsSpelled, StateIs}
 use Rattle.receive_state.specs.Reading.{head_in, end_in, subgroups_of, state_of_group, encryption_of, state_from, first_fault, answered, behind, judged, judged_of, lifted, state_of, told}
-use Rattle.octet_fields.specs.Tries.{Answers}
+use Rattle.bcast_base.specs.Tries.{Answers}
 use Rattle.receive_state.proofs.Heads.{before, head_takes, head_again}
 use Rattle.receive_state.proofs.Loops.{groups_read, groups_told}
 

@@ -1,9 +1,9 @@
 -- The parts of subgroups that are read.
 use Rattle.std.proofs.Common.{◌≡◌, ℕ, suc, List, ◌∷◌, Option, Some, None, refl, ap, ◌∙◌}
-use Rattle.octet_fields.specs.Reading.{number_in, counted_in}
-use Rattle.octet_fields.specs.Steps.{◌>>=◌}
-use Rattle.octet_fields.specs.Subgroups.{Subgroup, subgroup_in, subgroups_in}
-use Rattle.octet_fields.proofs.Citable.{bind_some, some_is}
+use Rattle.bcast_base.specs.Reading.{number_in, counted_in}
+use Rattle.bcast_base.specs.Steps.{◌>>=◌}
+use Rattle.bcast_base.specs.Subgroups.{Subgroup, subgroup_in, subgroups_in}
+use Rattle.bcast_base.proofs.Citable.{bind_some, some_is}
 
 -- a subgroup before others
 abbrev pub joined : Subgroup → Option (List Subgroup × List ℕ) → Option (List Subgroup × List ℕ)

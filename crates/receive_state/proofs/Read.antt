@@ -4,11 +4,11 @@ use Rattle.std.specs.Prelude.{IsOk}
 use Rattle.std.specs.List.{flat_map}
 use Rattle.std.proofs.lemmas.Bool.{eqb-true}
 use Rattle.std.proofs.lemmas.List.{nil_from_length}
-use Rattle.octet_fields.specs.Layout.{reserved_from}
-use Rattle.octet_fields.specs.Reading.{place_in}
-use Rattle.octet_fields.specs.Spelling.{IsOctets}
-use Rattle.octet_fields.specs.Subgroups.{Subgroup, subgroup_fields, subgroups_in, reserved_in}
-use Rattle.octet_fields.proofs.Citable.{reserved_found}
+use Rattle.bcast_base.specs.Layout.{reserved_from}
+use Rattle.bcast_base.specs.Reading.{place_in}
+use Rattle.bcast_base.specs.Spelling.{IsOctets}
+use Rattle.bcast_base.specs.Subgroups.{Subgroup, subgroup_fields, subgroups_in, reserved_in}
+use Rattle.bcast_base.proofs.Citable.{reserved_found}
 use Rattle.receive_state.specs.declared.fault.StateFault.{StateFault}
 use Rattle.receive_state.specs.declared.fault.StateFault.TheVariants.{Rfu, Trailing}
 use Rattle.receive_state.specs.declared.state.GroupState.{GroupState}

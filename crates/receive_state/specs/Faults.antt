@@ -1,7 +1,7 @@
 -- Why octets are no receive state (Broadcast Audio Scan Service 1.0, section 3.2): a field passes their end, or has a value
 -- that is reserved for future use, or octets are left. At most one of these holds.
 use Rattle.std.specs.Prelude.{ℕ, ◌≡◌, ◌<◌, List, ◌∷◌, ◌++◌, length, Option}
-use Rattle.octet_fields.specs.Layout.{Field, laid, NoneReserved, FirstReserved}
+use Rattle.bcast_base.specs.Layout.{Field, laid, NoneReserved, FirstReserved}
 use Rattle.receive_state.specs.declared.fault.StateFault.{StateFault}
 use Rattle.receive_state.specs.declared.fault.StateFault.TheVariants.{Short, Rfu, Trailing, Memory}
 use Rattle.receive_state.specs.declared.state.ReceiveState.{ReceiveState}

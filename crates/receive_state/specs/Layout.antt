@@ -2,9 +2,9 @@
 -- value is no source.
 use Rattle.std.specs.Prelude.{ℕ, ◌≡◌, ◌≤◌, ◌<◌, ◌^◌, List, [], ◌∷◌, length, map, Option, Some, None, Bool, false, nat_lt, nat_le, ◌==◌, ◌&&◌, ◌||◌, not, if◌then◌else◌}
 use Rattle.std.specs.List.{flat_map, list_all, AllByRecursion}
-use Rattle.octet_fields.specs.Layout.{Field, free, unless, laid, NoneReserved}
-use Rattle.octet_fields.specs.Spelling.{octet}
-use Rattle.octet_fields.specs.Subgroups.{Subgroup, Fits, subgroup_fields, is_reserved}
+use Rattle.bcast_base.specs.Layout.{Field, free, unless, laid, NoneReserved}
+use Rattle.bcast_base.specs.Spelling.{octet}
+use Rattle.bcast_base.specs.Subgroups.{Subgroup, Fits, subgroup_fields, is_reserved}
 use Rattle.receive_state.specs.declared.state.Encryption.{Encryption}
 use Rattle.receive_state.specs.declared.state.Encryption.TheVariants as keys
 use Rattle.receive_state.specs.declared.state.GroupState.{GroupState}

@@ -1,8 +1,8 @@
 -- Reading a receive state (Broadcast Audio Scan Service 1.0, section 3.2) field by field.
 use Rattle.std.specs.Prelude.{ℕ, zero, suc, List, [], ◌∷◌, map, Option, Some, None, Result, Ok, Err, nat_lt, if◌then◌else◌}
-use Rattle.octet_fields.specs.Layout.{reserved_from}
-use Rattle.octet_fields.specs.Reading.{octet_in, octets_in, place_in}
-use Rattle.octet_fields.specs.Subgroups.{Subgroup, subgroups_in}
+use Rattle.bcast_base.specs.Layout.{reserved_from}
+use Rattle.bcast_base.specs.Reading.{octet_in, octets_in, place_in}
+use Rattle.bcast_base.specs.Subgroups.{Subgroup, subgroups_in}
 use Rattle.receive_state.specs.declared.fault.StateFault.{StateFault}
 use Rattle.receive_state.specs.declared.fault.StateFault.TheVariants as faults
 use Rattle.receive_state.specs.declared.state.Encryption.{Encryption}
@@ -10,7 +10,7 @@ use Rattle.receive_state.specs.declared.state.Encryption.TheVariants as keys
 use Rattle.receive_state.specs.declared.state.GroupState.{GroupState}
 use Rattle.receive_state.specs.declared.state.ReceiveState.{ReceiveState}
 use Rattle.receive_state.specs.Layout.{StateFields, fields, code_width}
-use Rattle.octet_fields.specs.Tries.{◌>>=◌}
+use Rattle.bcast_base.specs.Tries.{◌>>=◌}
 use Rattle.receive_state.specs.Steps.{field_in}
 
 -- Source_ID, and what tells the source, and the octets behind it

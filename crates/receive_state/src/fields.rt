@@ -1,11 +1,11 @@
 //! Fields that are read behind each other, with the place of the one that passes the end.
 ghost use Rattle.std.specs.Prelude.{◌≡◌, ◌≤◌, length, IfOk};
-ghost use Rattle.octet_fields.specs.Reading.{octet_in, octets_in};
-ghost use Rattle.octet_fields.specs.Tries.{ReadsAs};
+ghost use Rattle.bcast_base.specs.Reading.{octet_in, octets_in};
+ghost use Rattle.bcast_base.specs.Tries.{ReadsAs};
 ghost use Rattle.receive_state.specs.Steps.{field_in};
 
 use crate::fault::StateFault;
-use octet_fields::{octet_at, place_of};
+use bcast_base::{octet_at, place_of};
 
 // The place of a field that passes the end.
 #[derive(Clone, Copy)]

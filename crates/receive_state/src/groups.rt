@@ -1,13 +1,12 @@
 //! The subgroups of a receive state, looked through where they lie before any memory is taken.
 ghost use Rattle.std.specs.Prelude.{◌≡◌, ◌≤◌, length, is_some, true, IfOk, Some};
-ghost use Rattle.octet_fields.specs.Subgroups.{subgroups_in};
+ghost use Rattle.bcast_base.specs.Subgroups.{subgroups_in};
 ghost use Rattle.receive_state.specs.Reading.{end_in, group_end_in, groups_of};
-ghost use Rattle.octet_fields.specs.Tries.{ReadsAs};
+ghost use Rattle.bcast_base.specs.Tries.{ReadsAs};
 
 use crate::fields::{ShortAt, octet_of, octets_of};
 use crate::state::{GroupState, GroupStates};
-use bcast_base::{Memory, Octets};
-use octet_fields::subgroup_at;
+use bcast_base::{Memory, Octets, subgroup_at};
 use std::alloc::Global;
 
 // The octets behind so many subgroups at the front of `octets`, the last octets of `whole`, or the place of the field that

@@ -1,6 +1,6 @@
 //! Which octets are a receive state, what is wrong with all others, and which state has octets.
 ghost use Rattle.std.specs.Prelude.{◌≡◌, ◌≢◌, ◌↔◌, ℕ, List, Option, Some, Ok, Err};
-ghost use Rattle.octet_fields.specs.Spelling.{IsOctets};
+ghost use Rattle.bcast_base.specs.Spelling.{IsOctets};
 ghost use Rattle.receive_state.specs.Faults.{IsFault};
 ghost use Rattle.receive_state.specs.Layout.{HasSpelling, HasTypes, StateIs};
 ghost use Rattle.receive_state.specs.Reading.{state_of};

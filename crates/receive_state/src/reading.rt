@@ -2,16 +2,15 @@ ghost use Rattle.std.specs.Prelude.{◌≡◌, ◌≤◌, [], length, is_some, t
 ghost use Rattle.receive_state.specs.Faults.{IsFault};
 ghost use Rattle.receive_state.specs.Layout.{StateIs, code_width};
 ghost use Rattle.receive_state.specs.Reading.{told, state_of, judged_of, head_in, reserved_head, encryption_of, groups_of};
-ghost use Rattle.octet_fields.specs.Subgroups.{subgroups_in};
-ghost use Rattle.octet_fields.specs.Tries.{Answers, ReadsAs};
+ghost use Rattle.bcast_base.specs.Subgroups.{subgroups_in};
+ghost use Rattle.bcast_base.specs.Tries.{Answers, ReadsAs};
 ghost use Rattle.receive_state.specs.declared.state.ReceiveState.{ReceiveState};
 
 use crate::fault::StateFault;
 use crate::fields::{ShortAt, octet_of, octets_of};
 use crate::groups::{groups_end, read_groups};
 use crate::state::{Encryption, ReceiveState};
-use bcast_base::Memory;
-use octet_fields::{place_of, reserved_subgroup};
+use bcast_base::{Memory, place_of, reserved_subgroup};
 use std::alloc::Global;
 
 // Places of fields that may have a reserved value: the address type behind the Source_ID, the SID behind an address of 6

@@ -2,8 +2,7 @@ ghost use Rattle.std.specs.Prelude.{◌≡◌, ◌↔◌, IsTrue};
 ghost use Rattle.std.specs.List.{list_all};
 ghost use Rattle.receive_state.specs.Layout.{HasSpelling, is_spelled, group_is_spelled};
 
-use bcast_base::{Items, Octets};
-use octet_fields::are_reserved;
+use bcast_base::{Items, Octets, are_reserved};
 
 /// What is known of the key of an encrypted group (BIG_Encryption).
 #[derive(Drop)]

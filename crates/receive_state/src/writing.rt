@@ -1,13 +1,12 @@
 ghost use Rattle.std.specs.Prelude.{◌≡◌, ◌≤◌, ◌++◌, ◌∷◌, [], length, map, Option, IfOk, IfSome, OnOk};
 ghost use Rattle.std.specs.List.{flat_map, AllByRecursion};
 ghost use Rattle.std.specs.Option.{option_copied};
-ghost use Rattle.octet_fields.specs.Layout.{laid};
-ghost use Rattle.octet_fields.specs.Subgroups.{Fits, subgroup_fields};
+ghost use Rattle.bcast_base.specs.Layout.{laid};
+ghost use Rattle.bcast_base.specs.Subgroups.{Fits, subgroup_fields};
 ghost use Rattle.receive_state.specs.Layout.{HasSpelling, IsSpelled, StateIs, spelling, fields_of, FieldsFit, group_of, number_of, code_of, code_width};
 
 use crate::state::{Encryption, GroupState, ReceiveState};
-use bcast_base::{Memory, Octets};
-use octet_fields::put_subgroup;
+use bcast_base::{Memory, Octets, put_subgroup};
 use std::alloc::Global;
 
 /// The octets of a receive state that fits, or none where there is no source (Broadcast Audio Scan Service 1.0, section

@@ -3,9 +3,9 @@ use Rattle.std.proofs.Common.{ℕ, ◌≡◌, ◌+◌, suc, Option, Some, None, 
 use Rattle.std.specs.Result.{OnErr}
 use Rattle.std.proofs.lemmas.List.{append-nil}
 use Rattle.bcast_base.specs.declared.unit.Unit.{Unit as AudioUnit}
-use Rattle.source_machine.specs.Airs.{AreAirs}
+use Rattle.source_machine.specs.Airs.{Airs, AreAirs}
 use Rattle.source_machine.specs.State.Sources.{Source}
-use Rattle.relay_role.specs.Relayed.{Airs, MeetAt, Second, stopped, streaming, after_offer, after_offers, drop_name, dropped_from, refusal_of, taken_unless, told}
+use Rattle.relay_role.specs.Relayed.{MeetAt, Second, stopped, streaming, after_offer, after_offers, drop_name, dropped_from, refusal_of, taken_unless, told}
 use Rattle.relay_role.specs.State.Flushing.{DropsFirst, Keeps, KeepsSecond, Offered, OffersFirst, OffersOne, SecondIs}
 use Rattle.relay_role.specs.declared.dropped.DropName.{DropName}
 use Rattle.relay_role.specs.declared.dropped.DropName.TheVariants.{NotStreaming}

@@ -5,7 +5,8 @@ use Rattle.std.proofs.lemmas.List.{append-nil}
 use Rattle.std.proofs.lemmas.Option.{none-some}
 use Rattle.bcast_base.specs.declared.unit.Unit.{Unit as AudioUnit}
 use Rattle.relay_role.specs.Passing.{is_told, taken_on, undropped}
-use Rattle.relay_role.specs.Relayed.{Airs, Second, stopped, streaming, after_offer, after_offers, drop_name, dropped_from, passed, passed_unless, taken_unless, told}
+use Rattle.source_machine.specs.Airs.{Airs}
+use Rattle.relay_role.specs.Relayed.{Second, stopped, streaming, after_offer, after_offers, drop_name, dropped_from, passed, passed_unless, taken_unless, told}
 use Rattle.relay_role.specs.declared.dropped.DropName.{DropName}
 use Rattle.relay_role.specs.declared.dropped.DroppedUnit.{DroppedUnit}
 

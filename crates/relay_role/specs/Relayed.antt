@@ -3,16 +3,12 @@
 use Rattle.std.specs.Prelude.{ℕ, suc, nat_lt, nat_le, not, if◌then◌else◌, List, [], ◌∷◌, ◌++◌, length, Option, Some, None}
 use Rattle.bcast_base.specs.declared.unit.Unit.{Unit as AudioUnit}
 use Rattle.isoal_base.specs.Air.{Air}
-use Rattle.source_machine.specs.Airs.{AreAirs, waiting_of}
+use Rattle.source_machine.specs.Airs.{Airs, AreAirs, waiting_of}
 use Rattle.source_machine.specs.Calls.{Setup, Call, give, last_time_of}
 use Rattle.source_machine.specs.Faults.{is_above}
 use Rattle.relay_role.specs.declared.dropped.DropName.{DropName}
 use Rattle.relay_role.specs.declared.dropped.DropName.TheVariants.{NotStreaming, UnitTooLong, TimeOrder, Backlog}
 use Rattle.relay_role.specs.declared.dropped.DroppedUnit.{DroppedUnit}
-
--- the airs of the streams of a source, by what fixes it and by the calls that it took
-abbrev pub Airs : Type 0
-Airs = Setup → List Call → List Air
 
 -- the source that a relay gives to: it has stopped, or it streams and took these calls, the newest first
 pub data Second : Type 0 where

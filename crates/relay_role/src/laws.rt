@@ -2,7 +2,8 @@
 ghost use Rattle.std.specs.Prelude.{◌≡◌, ◌≢◌, ◌++◌, ℕ, List};
 ghost use Rattle.bcast_base.specs.declared.unit.Unit.{Unit as AudioUnit};
 ghost use Rattle.relay_role.specs.Passing.{taken_on, undropped};
-ghost use Rattle.relay_role.specs.Relayed.{Airs, Second, after_offers, dropped_from, passed};
+ghost use Rattle.source_machine.specs.Airs.{Airs};
+ghost use Rattle.relay_role.specs.Relayed.{Second, after_offers, dropped_from, passed};
 
 /// Of the units that are offered exactly those pass that aren't told as dropped, in order and with their times and octets.
 /// The stream that they go to takes these behind what it took before, and no other stream takes any.

@@ -2,7 +2,7 @@
 ghost use Rattle.std.specs.Prelude.{◌≡◌, ℕ, List, Some, map, string_bytes, true};
 ghost use Rattle.bcast_io.specs.TextLines.{lines_of};
 ghost use Rattle.scenario_history.specs.Airs.{MeetAirs};
-ghost use Rattle.scenario_history.specs.Source.{Airs};
+ghost use Rattle.source_machine.specs.Airs.{Airs};
 ghost use Rattle.replay_generated.specs.Generated.{lines_made};
 ghost use Rattle.replay_steps.specs.Untaken.{UntakenBy};
 ghost use Rattle.replay_lines.specs.World.{world_of};

@@ -3,20 +3,22 @@ use Rattle.std.proofs.Common.{◌≡◌, ℕ, zero, suc, ◌+◌, ◌≤◌, Boo
 use Rattle.std.specs.Prelude.{⊤, nat_le}
 use Rattle.std.specs.Option.{option_or}
 use Rattle.std.proofs.lemmas.Bool.{lt-leb}
+use Rattle.std.proofs.Math.Numerals.{suc-eq-add-one}
 use Rattle.big_info.specs.Rows.{first_fault}
 use Rattle.isoal_unframed.specs.Calls.{accept}
-use Rattle.octet_fields.specs.Spelling as spelling
+use Rattle.bcast_base.specs.Spelling as spelling
 use Rattle.source_machine.specs.Airs.{airs_of}
 use Rattle.source_machine.specs.Calls.{Call, give, event, events, stream_calls}
 use Rattle.transcript_text.specs.declared.refusal.Refusal.TheVariants.{NoOutlet}
 use Rattle.scenario_text.specs.declared.step.Step.{Step}
 use Rattle.scenario_text.specs.declared.step.Step.TheVariants as kinds
-use Rattle.scenario_generator.specs.Draws.{drawn, next_state}
-use Rattle.scenario_generator.specs.Generated.{unit_of}
+use Rattle.scenario_writing.specs.Draws.{drawn, next_state}
+use Rattle.scenario_writing.specs.Generated.{unit_of}
 use Rattle.scenario_history.specs.Steps.{version_of}
-use Rattle.scenario_history.specs.Refusals.{refusal_of, refuse_if, has_beyond}
+use Rattle.scenario_history.specs.Refusals.{refusal_of, has_beyond}
+use Rattle.sink_history.specs.Refusals.{refuse_if}
 use Rattle.replay_generated.proofs.Standing.{At, air_fine, air_plain, at_next, end_fine, event_fine, event_plain, info_said, unit_fine, unit_plain, version_is}
-use Rattle.replay_generated.proofs.Waiting.{Near, Sent, accept_near, event_given, event_near, first_given, more_near, one_more, second_given, some_events}
+use Rattle.replay_generated.proofs.Waiting.{Near, Sent, accept_near, event_given, event_near, first_given, more_near, second_given, some_events}
 
 -- ---- the steps
 
@@ -77,7 +79,7 @@ events_fine boxes made calls state x (suc count) a sent most =
     let few = sent.performed in
     let at_most : events calls ≤ 100000 = omega (arith, few, most) in
     let sent5 : Sent calls3 (x + 1) = record {
-      performed = ap suc few ∙ one_more x;
+      performed = ap suc few ∙ suc-eq-add-one x;
       first = event_near (nat_eq (events calls2) 0) (stream_calls info_said 1 calls2) (accept_near (unit_of (x + 1)) (stream_calls info_said 1 calls) sent.first);
       second = event_near (nat_eq (events calls2) 0) (stream_calls info_said 2 calls2) (accept_near (unit_of (x + 1)) (stream_calls info_said 2 calls) sent.second);
     } in (

@@ -2,16 +2,16 @@
 use Rattle.std.proofs.Common.{◌≡◌, ℕ, zero, suc, ◌+◌, ◌*◌, ◌<◌, ◌≤◌, ◌/◌, ◌%◌, Bool, true, false, cond, not, ◌&&◌, eqb, leb, nat_eq, List, [], ◌∷◌, ◌++◌, length, get_or, map}
 use Rattle.std.proofs.Common.{codes, decimal, refl, sym, ap, subst, ◌∙◌, append_assoc, arith, length-append, append-nil}
 use Rattle.std.specs.Prelude.{replicate, slice_index, ⊤}
-use Rattle.std.proofs.lemmas.Bool.{lt-leb, le-leb, leb-true, ne_eqb}
+use Rattle.std.proofs.lemmas.Bool.{lt-leb, le-leb, leb-true, ne_eqb, and_parts}
 use Rattle.std.proofs.lemmas.Fmt.{decimal_digit}
 use Rattle.hex.specs.Hex.{encode_with, encode_lower, lower_digits}
 use Rattle.printed_words.specs.Lines.{joined}
 use Rattle.printed_words.specs.Digits.{digits}
 use Rattle.bcast_io.specs.TextLines.{plain, too_long, past, newline, line_limit, text_limit, line_of, lines_from, lines_of}
 use Rattle.bcast_io.proofs.Citable.{lines-nothing}
-use Rattle.scenario_generator.specs.Draws.{drawn, next_state}
-use Rattle.scenario_generator.specs.Generated as made
-use Rattle.scenario_generator.specs.Generated.{unit_of, unit_line, air_line, head_lines, generated_lines, generated, text_of}
+use Rattle.scenario_writing.specs.Draws.{drawn, next_state}
+use Rattle.scenario_writing.specs.Generated as made
+use Rattle.scenario_writing.specs.Generated.{unit_of, unit_line, air_line, head_lines, generated_lines, generated, text_of}
 
 -- ---- lines of a text
 
@@ -68,10 +68,6 @@ both : (a b : Bool) → (not a && b) ≡ true → (a ≡ false) × (b ≡ true)
 both true b e = absurd cc
 both false b e = (refl, e)
 
-both_true : (a b : Bool) → (a && b) ≡ true → (a ≡ true) × (b ≡ true)
-both_true true b e = (refl, e)
-both_true false b e = absurd cc
-
 unended : (line : List ℕ) → is_unended line ≡ true → Unended line
 unended [] e = tt
 unended (octet ∷ line) e =
@@ -85,8 +81,8 @@ are_short most (line ∷ lines) = (is_unended line && leb (length line) most) &&
 all_short : (most : ℕ) (lines : List (List ℕ)) → are_short most lines ≡ true → AllShort most lines
 all_short most [] e = tt
 all_short most (line ∷ lines) e =
-    let parts = both_true (is_unended line && leb (length line) most) (are_short most lines) e in
-    let own = both_true (is_unended line) (leb (length line) most) parts.0 in
+    let parts = and_parts (is_unended line && leb (length line) most) (are_short most lines) e in
+    let own = and_parts (is_unended line) (leb (length line) most) parts.0 in
     ((unended line own.0, leb-true (length line) most own.1), all_short most lines parts.1)
 
 unended_append : (xs ys : List ℕ) → Unended xs → Unended ys → Unended (xs ++ ys)

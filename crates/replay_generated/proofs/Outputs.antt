@@ -7,8 +7,7 @@ use Rattle.unit_outlets.specs.Handed.{Handed, valid, lost}
 use Rattle.source_machine.specs.Airs.{airs_of}
 use Rattle.source_machine.specs.declared.sent.Stale.{Stale}
 use Rattle.printed_words.specs.Digits.{digits}
-use Rattle.printed_words.specs.Lines.{joined}
-use Rattle.transcript_text.specs.Lines.{control_line, dropped_name, handed_line, hearing_name, hearing_number, line_of, numbers, stale_line}
+use Rattle.transcript_text.specs.Lines.{control_line, dropped_name, handed_line, hearing_name, hearing_number, numbers, stale_line}
 use Rattle.scenario_text.specs.declared.step.Step.{Step}
 use Rattle.scenario_text.specs.declared.step.Step.TheVariants as kinds
 use Rattle.scenario_history.specs.Boxes.{SinkUnit, account_at, box_of, closing, closing_both, handed_up, sink_numbers, valid_for}
@@ -19,11 +18,8 @@ use Rattle.scenario_history.specs.Output.{answer_line, close_lines, dropped_line
 use Rattle.scenario_history.specs.Source.{end_pdu, event_back, pdu_in, stale_in}
 use Rattle.scenario_history.specs.Steps.{chosen_of, chosen_steps}
 use Rattle.transcript_text.specs.CountedLines.{IsWhole}
-use Rattle.transcript_text.proofs.Citable.{whole_append, whole_ended, whole_none}
-use Rattle.replay_generated.proofs.SinkOutputs.{sink_lines_whole}
-
-line_whole : (first : List ℕ) (words : List (List ℕ)) → IsWhole (line_of first words)
-line_whole first words = whole_ended (joined first words)
+use Rattle.transcript_text.proofs.Citable.{whole_append, whole_none}
+use Rattle.replay_generated.proofs.SinkOutputs.{sink_lines_whole, line_whole}
 
 all_whole : {X : Type 0} (print : X → List ℕ) → ((x : X) → IsWhole (print x)) → (xs : List X) → IsWhole (flat_map print xs)
 all_whole print each [] = whole_none

@@ -8,7 +8,7 @@ use Rattle.bcast_io.specs.TextLines.{TextLine}
 use Rattle.bcast_io.specs.Writing.{AppendsFront}
 use Rattle.bcast_io.proofs.Citable.{Appends-nothing, AppendsFront-nothing}
 use Rattle.unit_outlets.specs.Account.{Account}
-use Rattle.source_machine.specs.Airs.{airs_of}
+use Rattle.source_machine.specs.Airs.{airs_of, Airs}
 use Rattle.transcript_text.specs.declared.refusal.Refusal.{Refusal}
 use Rattle.transcript_text.specs.declared.refusal.Refusal.TheVariants.{NoOutlet}
 use Rattle.transcript_text.specs.Summary.{summary, summary_of}
@@ -17,7 +17,6 @@ use Rattle.scenario_history.specs.Runs.{End, through, refused, Accepted}
 use Rattle.scenario_history.specs.Airs.{MeetAirs}
 use Rattle.scenario_history.specs.Boxes.{RoomFor, SinkUnit, Took}
 use Rattle.scenario_history.specs.Lines.{rules_of, handed_on}
-use Rattle.scenario_history.specs.Source.{Airs}
 use Rattle.scenario_history.specs.Transcript.{transcript_of, transcript_end, units_of}
 use Rattle.scenario_sinks.specs.Faults.{CountsStay, OneCounts}
 use Rattle.scenario_sinks.specs.Handing.{BoxFails}

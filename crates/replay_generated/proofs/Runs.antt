@@ -15,19 +15,15 @@ use Rattle.transcript_text.specs.declared.counts.Counts.{Counts}
 use Rattle.transcript_text.proofs.Citable.{counts_append, whole_append, whole_none}
 use Rattle.scenario_history.specs.Runs.{through, refused, out, out_unless, end_of, end_unless, accepted_of, accepted_unless, brought, Accepted}
 use Rattle.scenario_history.proofs.Citable.{out_accepted, end_accepted, accepted_accepted, reverse_onto}
-use Rattle.scenario_text.specs.declared.step.Step.{Step}
 use Rattle.scenario_history.specs.Boxes.{SinkUnit, accounts_after, handed_up, Took}
-use Rattle.scenario_history.specs.Gifts.{happened}
-use Rattle.scenario_history.specs.Source.{Airs}
-use Rattle.gift_laws.proofs.Citable.{handed_happened}
-use Rattle.scenario_history.specs.Lines.{Said, a_step, nothing, unsaid, rules_of, said_of, steps_of, said_after, handed_on, handed_said, with_said}
+use Rattle.scenario_history.specs.Lines.{rules_of, steps_of, said_after, handed_on}
 use Rattle.scenario_history.specs.Transcript.{out_of, end_after, last_line_after, last_end_after, has_end, transcript_of, transcript_end, units_of}
 use Rattle.scenario_history.proofs.Citable.{took_all}
 use Rattle.scenario_sinks.specs.Handing.{BoxFails, CutShort}
+use Rattle.scenario_sinks.proofs.Citable.{accounts_append}
 use Rattle.replay_steps.specs.LineMeets.{LinesStand, LineMeets, refusal_at, output_at, answered_on}
-use Rattle.replay_steps.specs.Meets.{BoxesStand}
 use Rattle.replay_steps.specs.declared.machine.Machine.{Machine}
-use Rattle.replay_steps.proofs.Citable.{accounts_append, box_fails, meets_at, untaken_line}
+use Rattle.replay_steps.proofs.Citable.{box_fails, meets_at, untaken_line, took_as, took_history, handed_line}
 use Rattle.replay_generated.specs.Generated.{BoxFailed}
 use Rattle.replay_steps.specs.Untaken.{UntakenRun, UntakenSame}
 use Rattle.replay_generated.specs.State.Between.{Counted, FrontTaken, LineRefused, LineRuns, Ran, Refuses, RunTo, Told}
@@ -102,16 +98,6 @@ module _ (starts : List Account) (history : List TextLine) (accepted : Accepted 
 
 -- ---- the units of further lines
 
-handed_with : (airs : Airs) (earlier : List Step) (said : Said)
-    → handed_up airs (happened airs (with_said said earlier)) ≡ handed_up airs (happened airs earlier) ++ handed_said airs (happened airs earlier) said
-handed_with airs earlier (a_step next) = handed_happened airs earlier next
-handed_with airs earlier nothing = sym (append-nil (handed_up airs (happened airs earlier)))
-handed_with airs earlier (unsaid reason) = sym (append-nil (handed_up airs (happened airs earlier)))
-
-handed_line : (history : List TextLine) (line : TextLine)
-    → handed_up airs_of (steps_of airs_of (line ∷ history)) ≡ handed_up airs_of (steps_of airs_of history) ++ handed_on airs_of history line
-handed_line history line = handed_with airs_of (said_of history) (said_after history line)
-
 -- units that begin with these
 pub record Begins (front all : List SinkUnit) : Type 0 where
   pub rest : List SinkUnit
@@ -137,7 +123,7 @@ units_rest starts history (line ∷ lines) = by_refusal (units_rest starts (line
     by_refusal more (Some reason) = begins_all (handed_up airs_of (steps_of airs_of history))
     by_refusal more None =
         begins_more (handed_up airs_of (steps_of airs_of history)) (handed_on airs_of history line) _
-        (begins_as (handed_up airs_of (steps_of airs_of (line ∷ history))) (handed_up airs_of (steps_of airs_of history) ++ handed_on airs_of history line) _ (handed_line history line) more)
+        (begins_as (handed_up airs_of (steps_of airs_of (line ∷ history))) (handed_up airs_of (steps_of airs_of history) ++ handed_on airs_of history line) _ (handed_line airs_of history line) more)
 
 -- the units of an accepted line come behind those of the history
 pub units_line : (starts : List Account) (history : List TextLine) (line : TextLine) (lines later : List TextLine) → lines ≡ reverse history ++ line ∷ later
@@ -145,7 +131,7 @@ pub units_line : (starts : List Account) (history : List TextLine) (line : TextL
     → Begins (handed_up airs_of (steps_of airs_of history) ++ handed_on airs_of history line) (units_of airs_of starts lines)
 units_line starts history line lines later split accepted none =
     let b = begins_as (handed_up airs_of (steps_of airs_of (line ∷ history))) (handed_up airs_of (steps_of airs_of history) ++ handed_on airs_of history line) _
-    (handed_line history line) (units_rest starts (line ∷ history) later) in
+    (handed_line airs_of history line) (units_rest starts (line ∷ history) later) in
     record {
       rest = b.rest;
       split = ap (units_of airs_of starts) split ∙ units_then starts history accepted (line ∷ later)
@@ -154,14 +140,6 @@ units_line starts history line lines later split accepted none =
     }
 
 -- ---- what the boxes took
-
-took_history : (starts accounts : List Account) (history : List TextLine) → BoxesStand starts (steps_of airs_of history) accounts → Took starts accounts (handed_up airs_of (steps_of airs_of history))
-took_history starts accounts history b =
-    let P : List Account → Type 0 = λ a. Took starts a (handed_up airs_of (steps_of airs_of history)) in
-    subst P (sym b.accounts_are) (took_all starts (handed_up airs_of (steps_of airs_of history)))
-
-took_as : (starts accounts : List Account) (us vs : List SinkUnit) → us ≡ vs → Took starts accounts us → Took starts accounts vs
-took_as starts accounts us vs e t = let P : List SinkUnit → Type 0 = λ u. Took starts accounts u in subst P e t
 
 took_at : (starts accounts others : List Account) (us : List SinkUnit) → others ≡ accounts → Took starts accounts us → Took starts others us
 took_at starts accounts others us e t = let P : List Account → Type 0 = λ a. Took starts a us in subst P (sym e) t

@@ -1,58 +1,26 @@
 -- What the generated lines say.
-use Rattle.std.proofs.Common.{◌≡◌, ℕ, zero, suc, ◌+◌, ◌%◌, ◌<◌, ◌≤◌, true, ◌||◌, not, List, [], ◌∷◌, codes, refl, arith, None, Some}
+use Rattle.std.proofs.Common.{◌≡◌, ℕ, zero, suc, ◌+◌, ◌%◌, ◌<◌, ◌≤◌, true, List, [], ◌∷◌, codes, refl, arith, None, Some}
 use Rattle.std.specs.Prelude.{replicate, ⊤}
 use Rattle.std.specs.Fmt.{digits as numerals}
-use Rattle.octet_fields.specs.Spelling.{IsOctets}
+use Rattle.bcast_base.specs.Spelling.{IsOctets}
 use Rattle.printed_words.specs.Lines.{joined}
-use Rattle.scenario_words.specs.Places.{Place, one, perhaps, rising, wishes}
 use Rattle.scenario_words.specs.Lines.{Values, ◌▸◌, AllHaveWords, all_words}
-use Rattle.scenario_words.proofs.CitableValues.{EndsAt, words_spelled, words_unspaced, NoSpace, NoSpaces, joined_split, more_unspaced, unspaced}
+use Rattle.scenario_words.proofs.CitableValues.{NoSpace, joined_split, unspaced}
 use Rattle.scenario_text.specs.declared.step.Step.{Step}
 use Rattle.scenario_text.specs.declared.step.Step.TheVariants as kinds
-use Rattle.scenario_text.specs.Lines.{LineIs, Says}
+use Rattle.scenario_text.specs.Lines.{LineIs}
 use Rattle.scenario_text.specs.Table as rows
-use Rattle.scenario_text.specs.Table.{Build, Row, first_row_of, row_of}
-use Rattle.scenario_text.proofs.Citable.{all_small, and_parts, none_more, takes_all, takes_all_last}
-use Rattle.scenario_generator.specs.Draws.{drawn, next_state}
-use Rattle.scenario_generator.specs.Generated as made
-use Rattle.scenario_generator.specs.Generated.{unit_of, unit_line, air_line, head_lines, generated_lines}
+use Rattle.scenario_text.specs.Table.{Row, first_row_of, row_of}
+use Rattle.scenario_text.proofs.Citable.{all_small, all_unspaced, made as made_of, says, takes_all_last}
+use Rattle.scenario_writing.specs.Draws.{drawn, next_state}
+use Rattle.scenario_writing.specs.Generated as made
+use Rattle.scenario_writing.specs.Generated.{unit_of, unit_line, air_line, generated_lines}
 use Rattle.replay_generated.proofs.Accepting.{event_steps, group_step, made_steps, scenario_step, sink_step, tuned_step}
 
 -- ---- a line of a row
 
--- the step that values at places make
-abbrev step_made : (places : List Place) → Build places → Values places → Step
-step_made [] build values = build
-step_made (place ∷ places) build values = step_made places (build values.0) values.1
-
-ends_at : (place : Place) (places : List Place) (values : Values places) → (none_more places || not (takes_all place)) ≡ true → EndsAt place (all_words places values)
-ends_at (one place) places values last = tt
-ends_at (perhaps least greatest) [] values last = refl
-ends_at (perhaps least greatest) (place ∷ places) values last = absurd cc
-ends_at rising [] values last = refl
-ends_at rising (place ∷ places) values last = absurd cc
-ends_at (wishes most) [] values last = refl
-ends_at (wishes most) (place ∷ places) values last = absurd cc
-
-says : (places : List Place) (build : Build places) (values : Values places) → takes_all_last places ≡ true → AllHaveWords places values
-    → Says places build (step_made places build values) (all_words places values)
-says [] build values last h = (refl, refl)
-says (place ∷ places) build values last h =
-    let parts = and_parts (none_more places || not (takes_all place)) (takes_all_last places) last in (
-      values.0,
-      all_words places values.1,
-      words_spelled place values.0 (all_words places values.1) (ends_at place places values.1 parts.0) h.0,
-      says places (build values.0) values.1 parts.1 h.1,
-    )
-
-all_unspaced : (places : List Place) (values : Values places) → all_small places ≡ true → AllHaveWords places values → NoSpaces (all_words places values)
-all_unspaced [] values small h = tt
-all_unspaced (place ∷ places) values small h =
-    let parts = and_parts _ (all_small places) small in
-    more_unspaced _ _ (words_unspaced place values.0 parts.0 h.0) (all_unspaced places values.1 parts.1 h.1)
-
 row_says : (row : Row) (values : Values row.places) → row_of 1 row.first ≡ Some row → all_small row.places ≡ true → takes_all_last row.places ≡ true → NoSpace row.first
-    → AllHaveWords row.places values → LineIs 1 (step_made row.places row.build values) (joined row.first (all_words row.places values))
+    → AllHaveWords row.places values → LineIs 1 (made_of row.places row.build values) (joined row.first (all_words row.places values))
 row_says row values known small last first have = record {
   first = row.first;
   words = all_words row.places values;

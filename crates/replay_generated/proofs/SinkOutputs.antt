@@ -5,10 +5,10 @@ use Rattle.assistant_machine.specs.Answers.{answer_of as forged_answer}
 use Rattle.delegator_history.specs.declared.notice.Notice.{Notice}
 use Rattle.delegator_history.specs.Controls as controls
 use Rattle.delegator_history.specs.Trains.{Train, answer_of, brought_by}
-use Rattle.link_history.specs.Calls as links
-use Rattle.link_history.specs.Calls.{Call, writes_waiting}
-use Rattle.link_history.specs.Drains.{repeated, served_out, told_out}
-use Rattle.link_history.specs.Links.{notices_waiting, reads_waiting}
+use Rattle.sink_history.specs.Calls as links
+use Rattle.sink_history.specs.Calls.{Call, writes_waiting}
+use Rattle.sink_history.specs.Drains.{repeated, served_out, told_out}
+use Rattle.sink_history.specs.Links.{notices_waiting, reads_waiting}
 use Rattle.printed_words.specs.Digits.{digits}
 use Rattle.printed_words.specs.Lines.{joined}
 use Rattle.transcript_text.specs.Lines.{line_of}
@@ -48,7 +48,7 @@ flat_whole : (print : ℕ → Lines) → ((slot : ℕ) → AllWhole (print slot)
 flat_whole print each [] = tt
 flat_whole print each (slot ∷ slots) = more_whole (print slot) (flat_map print slots) (each slot) (flat_whole print each slots)
 
-line_whole : (first : List ℕ) (words : List (List ℕ)) → IsWhole (line_of first words)
+pub line_whole : (first : List ℕ) (words : List (List ℕ)) → IsWhole (line_of first words)
 line_whole first words = whole_ended (joined first words)
 
 value_whole : (first : List ℕ) (numbers : List (List ℕ)) (notice : Notice) → IsWhole (value_line first numbers notice)

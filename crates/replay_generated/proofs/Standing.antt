@@ -14,7 +14,8 @@ use Rattle.scenario_history.specs.Steps.{steps_of_source, version_at, version_of
 use Rattle.scenario_history.specs.Source.{GroupLine, absent, sending, cipher_given, group_given, info_with, is_heard, is_sending_at, no_group, performed, phase_given, setup_from, setup_of}
 use Rattle.scenario_history.specs.Source.{source_calls, start_given, start_of, takes_units, was_started_at, with_source_call, is_ahead_in}
 use Rattle.scenario_history.specs.Boxes.{box_after, box_of}
-use Rattle.scenario_history.specs.Refusals.{counter_ends, give_refusal, is_misplaced, is_out_of_order, is_out_of_phase, own_refusal, phase_refusal, refusal_of, refuse_if, source_refusal}
+use Rattle.scenario_history.specs.Refusals.{counter_ends, give_refusal, is_misplaced, is_out_of_order, is_out_of_phase, own_refusal, phase_refusal, refusal_of, source_refusal}
+use Rattle.sink_history.specs.Refusals.{refuse_if}
 
 -- the group that the lines say, and what fixes its source
 abbrev pub group_said : GroupLine

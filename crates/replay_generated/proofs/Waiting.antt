@@ -9,9 +9,9 @@ use Rattle.isoal_unframed.specs.Calls.{Call as StreamCall, accept, lay, lays, ac
 use Rattle.source_machine.specs.Airs.{airs_of, waiting_of}
 use Rattle.source_machine.specs.Calls.{Call, give, event, events, given, laid_with, stream_calls}
 use Rattle.source_machine.specs.Faults.{give_fault, event_fault}
-use Rattle.source_machine.specs.declared.fault.GiveFault.TheVariants as give_faults
+use Rattle.source_machine.specs.UnitFaults as give_faults
 use Rattle.source_machine.specs.declared.fault.EventFault.TheVariants as event_faults
-use Rattle.scenario_generator.specs.Generated.{unit_of}
+use Rattle.scenario_writing.specs.Generated.{unit_of}
 use Rattle.scenario_history.specs.Refusals.{counter_ends, give_refusal}
 use Rattle.replay_generated.proofs.Standing.{info_said, setup_said}
 
@@ -91,9 +91,6 @@ second_given calls x near =
 
 pub some_events : (n : ℕ) → nat_eq (suc n) 0 ≡ false
 some_events n = ne_eqb (suc n) 0 (λ none. omega (arith, none))
-
-pub one_more : (n : ℕ) → suc n ≡ n + 1
-one_more n = omega arith
 
 pub event_given : (calls : List Call) → events calls ≤ 100000 → counter_ends (event_fault setup_said calls) ≡ None
 event_given calls most =

@@ -1,7 +1,7 @@
 -- What a generated run did, by how it ended: `starts` and `ends` are the accounts of the boxes before and after it, `kept`
 -- and `kept'` what the sink had taken, `faults` and `faults'` its count of faults. The generator and the summary are this
 -- project's own.
-use Rattle.std.specs.Prelude.{ℕ, ◌≡◌, ◌≢◌, ◌<◌, ◌≤◌, ◌^◌, IsTrue, true, List, [], ◌∷◌, ◌++◌, length, reverse, slice_get, Option, Some}
+use Rattle.std.specs.Prelude.{ℕ, ◌≡◌, ◌≢◌, ◌<◌, ◌≤◌, true, List, [], ◌∷◌, ◌++◌, length, reverse, Option}
 use Rattle.std.specs.Io.KnownBytes.{Appends}
 use Rattle.bcast_base.specs.Counts.{Rose}
 use Rattle.bcast_io.specs.TextLines.{TextLine, lines_of}
@@ -11,11 +11,11 @@ use Rattle.transcript_text.specs.declared.refusal.Refusal.{Refusal}
 use Rattle.transcript_text.specs.declared.refusal.Refusal.TheVariants.{NoOutlet}
 use Rattle.transcript_text.specs.Summary.{summary}
 use Rattle.scenario_history.specs.Runs.{End, through, refused, Accepted}
-use Rattle.scenario_generator.specs.Generated.{generated}
+use Rattle.scenario_writing.specs.Generated.{generated}
 use Rattle.scenario_history.specs.Airs.{MeetAirs}
-use Rattle.scenario_history.specs.Boxes.{RoomFor, SinkUnit, Took, valid_for, with_units}
+use Rattle.scenario_history.specs.Boxes.{RoomFor, SinkUnit, Took}
 use Rattle.scenario_history.specs.Lines.{rules_of, handed_on}
-use Rattle.scenario_history.specs.Source.{Airs}
+use Rattle.source_machine.specs.Airs.{Airs}
 use Rattle.scenario_history.specs.Transcript.{transcript_of, transcript_end, units_of}
 use Rattle.scenario_sinks.specs.Faults.{CountsStay, OneCounts}
 use Rattle.scenario_sinks.specs.Handing.{BoxFails}

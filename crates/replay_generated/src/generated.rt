@@ -1,11 +1,11 @@
 //! A generated run, from its lines to its summary.
-ghost use Rattle.std.specs.Prelude.{◌≡◌, ◌≤◌, map};
+ghost use Rattle.std.specs.Prelude.{◌≤◌, map};
 ghost use Rattle.transcript_text.specs.Summary.{summary_of};
 ghost use Rattle.replay_generated.specs.Generated.{GeneratedRun, lines_made};
 ghost use Rattle.replay_generated.specs.State.Between.{Ends, Puts};
 ghost use Rattle.replay_steps.specs.Untaken.{UntakenBy, UntakenRun};
 ghost use Rattle.scenario_history.specs.Airs.{MeetAirs};
-ghost use Rattle.scenario_history.specs.Source.{Airs};
+ghost use Rattle.source_machine.specs.Airs.{Airs};
 
 use crate::outcome::Outcome;
 use crate::running::{Ending, run_lines};

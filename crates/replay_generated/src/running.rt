@@ -12,7 +12,7 @@ ghost use Rattle.replay_steps.specs.Untaken.{UntakenRun};
 
 use bcast_base::{Memory, Octets};
 use replay_steps::Machine;
-use scenario_generator::Lines;
+use scenario_writing::Lines;
 use std::alloc::Global;
 use transcript_text::{Counts, Refusal, Stop, put_refusal};
 use unit_outlets::Outlet;

@@ -15,7 +15,7 @@ use Rattle.replay_lines.specs.declared.ending.Ending.{Ending}
 use Rattle.replay_lines.specs.declared.ending.Ending.TheVariants as endings
 use Rattle.replay_lines.specs.Replayed.{TextRead, OutletFaulted}
 use Rattle.replay_lines.specs.Ended.{Ended, IsDoneOrMemory, IsNoFault, IsWhole, AheadOf, NoneFailed, RoomForText, Complete}
-use Rattle.replay_steps.proofs.Citable.{Failure, failure, no_room_for}
+use Rattle.replay_steps.proofs.Citable.{Failure, failure, no_room_for, took_as}
 use Rattle.replay_lines.proofs.Endings.{units_all}
 use Rattle.replay_lines.proofs.LineUnits.{box_stops, units_line}
 
@@ -31,9 +31,6 @@ pub rest_of : (text : List ℕ) (left' : Option (List ℕ)) (front : List ℕ) (
 rest_of text left' front over read =
     let t = told text left' front read.consumed in
     (t.0, t.2, λ is. (refl, subst IsAtEnd t.1 (read.at_end is)))
-
-took_as : (starts ends : List Account) (us vs : List SinkUnit) → us ≡ vs → Took starts ends us → Took starts ends vs
-took_as starts ends us vs e t = let P : List SinkUnit → Type 0 = λ u. Took starts ends u in subst P e t
 
 whole_at : (text : List ℕ) (starts ends : List Account) (left' kept kept' : Option (List ℕ)) (ending : Ending) → Ended airs_of ending starts ends (Some text) left' kept kept' → IsWhole ending
     → Took starts ends (units_of airs_of starts (lines_of true text))

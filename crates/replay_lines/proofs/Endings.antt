@@ -8,25 +8,22 @@ use Rattle.bcast_io.specs.State.Reading.{MayFollow}
 use Rattle.bcast_io.specs.Writing.{AppendsFront, AppendsShort}
 use Rattle.bcast_io.proofs.Citable.{Appends-then, AppendsFront-then, AppendsFront-nothing, Consumes-nothing}
 use Rattle.unit_outlets.specs.Account.{Account}
-use Rattle.source_machine.specs.Airs.{airs_of}
+use Rattle.source_machine.specs.Airs.{airs_of, Airs}
 use Rattle.transcript_text.specs.declared.refusal.Refusal.{Refusal}
 use Rattle.transcript_text.specs.declared.refusal.Refusal.TheVariants.{NoEnd}
 use Rattle.transcript_text.specs.Lines.{refusal_line}
 use Rattle.scenario_history.specs.Runs.{through, refused, out, out_unless, end_of, end_unless, accepted_of, accepted_unless, brought, Accepted}
 use Rattle.scenario_history.proofs.Citable.{out_accepted, end_accepted, accepted_accepted}
-use Rattle.scenario_text.specs.declared.step.Step.{Step}
 use Rattle.scenario_history.specs.Steps.{is_over, is_over_at}
-use Rattle.scenario_history.specs.Boxes.{SinkUnit, handed_up, Took}
-use Rattle.scenario_history.specs.Gifts.{happened}
-use Rattle.scenario_history.specs.Source.{Airs}
-use Rattle.gift_laws.proofs.Citable.{handed_happened, stage_happened}
-use Rattle.scenario_history.specs.Lines.{Said, a_step, nothing, unsaid, rules_of, said_of, steps_of, said_after, handed_on, handed_said, with_said}
+use Rattle.scenario_history.specs.Boxes.{SinkUnit, handed_up}
+use Rattle.scenario_laws.proofs.Gifts.Citable.{stage_happened}
+use Rattle.replay_steps.proofs.Citable.{handed_line, took_as, took_history}
+use Rattle.scenario_history.specs.Lines.{rules_of, said_of, steps_of, handed_on}
 use Rattle.scenario_history.specs.Transcript.{out_of, end_after, last_line_after, last_end_after, has_end, transcript_of, transcript_end, units_of}
 use Rattle.scenario_history.proofs.Citable.{took_all}
 use Rattle.replay_lines.specs.declared.ending.Ending.{Ending}
 use Rattle.replay_lines.specs.declared.ending.Ending.TheVariants as endings
 use Rattle.replay_steps.specs.declared.machine.Machine.{Machine}
-use Rattle.replay_steps.specs.Meets.{BoxesStand}
 use Rattle.replay_steps.specs.LineMeets.{refusal_at, output_at}
 use Rattle.replay_lines.specs.Replayed.{Done, ReadFaulted, brought_by, Broken}
 use Rattle.replay_lines.specs.Ended.{Ended}
@@ -108,16 +105,6 @@ module _ (starts : List Account) (history : List TextLine) (accepted : Accepted 
 
 -- ---- the units of further lines
 
-handed_with : (airs : Airs) (earlier : List Step) (said : Said)
-    → handed_up airs (happened airs (with_said said earlier)) ≡ handed_up airs (happened airs earlier) ++ handed_said airs (happened airs earlier) said
-handed_with airs earlier (a_step next) = handed_happened airs earlier next
-handed_with airs earlier nothing = sym (append-nil (handed_up airs (happened airs earlier)))
-handed_with airs earlier (unsaid reason) = sym (append-nil (handed_up airs (happened airs earlier)))
-
--- the units of a line come behind those of the lines before it
-pub handed_line : (airs : Airs) (history : List TextLine) (line : TextLine) → handed_up airs (steps_of airs (line ∷ history)) ≡ handed_up airs (steps_of airs history) ++ handed_on airs history line
-handed_line airs history line = handed_with airs (said_of history) (said_after history line)
-
 -- what further lines hand up, where they are accepted after a history
 pub units_rest : (airs : Airs) (starts : List Account) (history lines : List TextLine)
     → (rest : List SinkUnit) × (handed_up airs (steps_of airs (accepted_of (rules_of airs starts) history lines)) ≡ handed_up airs (steps_of airs history) ++ rest)
@@ -142,15 +129,6 @@ units_rest airs starts history (line ∷ lines) = by_refusal (units_rest airs st
 
 -- ---- what was run before the line
 
--- the boxes took the units of the history
-pub took_history : (starts accounts : List Account) (history : List TextLine) → BoxesStand starts (steps_of airs_of history) accounts → Took starts accounts (handed_up airs_of (steps_of airs_of history))
-took_history starts accounts history b =
-    let P : List Account → Type 0 = λ a. Took starts a (handed_up airs_of (steps_of airs_of history)) in
-    subst P (sym b.accounts_are) (took_all starts (handed_up airs_of (steps_of airs_of history)))
-
-took_same : (starts accounts : List Account) (us vs : List SinkUnit) → us ≡ vs → Took starts accounts us → Took starts accounts vs
-took_same starts accounts us vs e t = let P : List SinkUnit → Type 0 = λ u. Took starts accounts u in subst P e t
-
 appends_same : (kept kept' : Option (List ℕ)) (xs ys : List ℕ) → xs ≡ ys → Appends kept kept' xs → Appends kept kept' ys
 appends_same kept kept' xs ys e a = let P : List ℕ → Type 0 = λ x. Appends kept kept' x in subst P e a
 
@@ -160,7 +138,7 @@ front_same kept kept' xs ys e a = let P : List ℕ → Type 0 = λ x. AppendsFro
 pub front_of_short : (kept kept' : Option (List ℕ)) (xs : List ℕ) → AppendsShort kept kept' xs → AppendsFront kept kept' xs
 front_of_short kept kept' xs s = record { front = s.front; rest = s.rest; whole = s.whole; appended = s.appended }
 
-keeps_same : (kept : Option (List ℕ)) → Keeps kept kept
+pub keeps_same : (kept : Option (List ℕ)) → Keeps kept kept
 keeps_same None = tt
 keeps_same (Some xs) = refl
 
@@ -177,7 +155,7 @@ ends_done starts history left left' kept kept' machine accounts t r over = recor
   through_all = ap (transcript_end airs_of starts) t.whole ∙ ends_through starts history r.accepted true over;
   written = appends_same kept kept' _ _
       (sym (ap (transcript_of airs_of starts) t.whole ∙ writes_through starts history r.accepted true over ∙ append-nil (brought (rules_of airs_of starts) history))) r.written;
-  boxes = took_same starts accounts _ _ (sym (ap (units_of airs_of starts) t.whole ∙ units_all starts history r.accepted)) (took_history starts accounts history r.stands.boxes);
+  boxes = took_as starts accounts _ _ (sym (ap (units_of airs_of starts) t.whole ∙ units_all starts history r.accepted)) (took_history starts accounts history r.stands.boxes);
 }
 
 pub ends_faulted : (starts : List Account) (history : List TextLine) (left left' kept kept' : Option (List ℕ)) (machine : Machine) (accounts : List Account)
@@ -187,7 +165,7 @@ ends_faulted starts history left left' kept kept' machine accounts t r = record 
   read = t.read;
   through_all = ap (end_after airs_of starts) t.whole ∙ end_all starts history r.accepted;
   written = appends_same kept kept' _ _ (sym (ap (out_of airs_of starts) t.whole ∙ out_all starts history r.accepted)) r.written;
-  boxes = took_same starts accounts _ _ (sym (ap (units_of airs_of starts) t.whole ∙ units_all starts history r.accepted)) (took_history starts accounts history r.stands.boxes);
+  boxes = took_as starts accounts _ _ (sym (ap (units_of airs_of starts) t.whole ∙ units_all starts history r.accepted)) (took_history starts accounts history r.stands.boxes);
 }
 
 -- nothing was read, for want of memory
@@ -249,7 +227,7 @@ module _ (starts : List Account) (history : List TextLine) (left left' kept mid 
       front = brought (rules_of airs_of starts) history ++ f.front;
       written = Appends-then kept mid kept' (brought (rules_of airs_of starts) history) f.front r.written f.appended;
       not_before = omega (arith, ap length (ap (out_of airs_of starts) t.whole ∙ out_all starts history r.accepted), length-append (brought (rules_of airs_of starts) history) f.front);
-      boxes = took_same starts accounts _ _ (sym no_end_units) (took_history starts accounts history r.stands.boxes);
+      boxes = took_as starts accounts _ _ (sym no_end_units) (took_history starts accounts history r.stands.boxes);
     }),
   )
   ends_no_end (endings.Refused line why) f =

@@ -11,7 +11,7 @@ use Rattle.replay_lines.proofs.Citable.{units_rest}
 use Rattle.scenario_text.specs.declared.step.Step.{Step}
 use Rattle.scenario_history.specs.Boxes.{SinkUnit, handed_up}
 use Rattle.scenario_history.specs.Lines.{rules_of, steps_of}
-use Rattle.scenario_history.specs.Source.{Airs}
+use Rattle.source_machine.specs.Airs.{Airs}
 use Rattle.scenario_history.specs.Transcript.{out_of, end_after, has_end, last_line_after, transcript_of, units_of}
 use Rattle.transcript_text.specs.declared.refusal.Refusal.{Refusal}
 

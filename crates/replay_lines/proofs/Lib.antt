@@ -4,6 +4,7 @@ mod Counting
 mod DocumentPromises
 mod Endings
 mod Fronts
+mod Hearing
 mod LineEndings
 mod LineSteps
 mod LineUnits

@@ -21,10 +21,11 @@ use Rattle.scenario_sinks.specs.Handing.{CutShort}
 use Rattle.replay_steps.specs.Failing.{printed_before}
 use Rattle.replay_steps.specs.Meets.{BoxesStand}
 use Rattle.replay_steps.specs.LineMeets.{LinesStand, answered_on, refusal_at, output_at}
+use Rattle.replay_steps.proofs.Citable.{took_history}
 use Rattle.replay_lines.specs.Replayed.{Comes, brought_by, BoxesCut, Broken, FaultCut, LineFails, OutletFaulted, ReadsAhead, CutAt, BoxesAt}
 use Rattle.replay_lines.specs.Ended.{Ended}
 use Rattle.replay_lines.specs.State.Between.{Refuses, Puts, StepRuns}
-use Rattle.replay_lines.proofs.Endings.{out_then, out_all, ends_refused, writes_refused, units_refused, took_history, front_of_short, front_none}
+use Rattle.replay_lines.proofs.Endings.{out_then, out_all, ends_refused, writes_refused, units_refused, front_of_short, front_none}
 use Rattle.replay_lines.proofs.RefusalLaws.{never_no_end}
 use Rattle.replay_lines.proofs.LineUnits.{Brings, CutFor, box_stops, brings_before, brings_nothing, brings_refused, brings_output, cut_before}
 use Rattle.replay_lines.proofs.LineUnits.{cut_after, cut_within, at_refused, at_front, at_after, took_before}

@@ -1,5 +1,5 @@
 -- What the loop of `replay` does at a line, put together.
-use Rattle.std.proofs.Common.{◌≡◌, ℕ, ◌+◌, ◌≤◌, false, List, [], ◌∷◌, length, refl, sym, subst, arith, Option, None, Some, Result, Ok, Err, inl, inr}
+use Rattle.std.proofs.Common.{◌≡◌, ℕ, ◌+◌, ◌≤◌, Bool, false, List, [], ◌∷◌, length, refl, sym, subst, arith, Option, None, Some, Result, Ok, Err, inl, inr}
 use Rattle.bcast_io.specs.TextLines.{TextLine, plain, too_long, past, text_limit}
 use Rattle.bcast_io.specs.State.Reading.{Reading, lines_left}
 use Rattle.bcast_io.specs.declared.line_reader.LineRead.{LineRead}
@@ -20,7 +20,8 @@ use Rattle.replay_steps.proofs.Citable.{meets_at, untaken_line}
 use Rattle.replay_steps.specs.LineMeets.{LinesStand, LineMeets}
 use Rattle.replay_lines.specs.Replayed.{Comes, ReadsAhead, Broken}
 use Rattle.replay_lines.specs.Ended.{Ended}
-use Rattle.replay_lines.specs.State.Between.{ReadTo, NextIs, RunTo, Refuses, Puts, StepRuns, LineRuns}
+use Rattle.replay_lines.specs.Heard.{as_told}
+use Rattle.replay_lines.specs.State.Between.{ReadTo, NextIs, RunTo, Refuses, Puts, StepRuns, StepHeard, LineRuns}
 use Rattle.bcast_io.proofs.Citable.{Appends-nothing}
 use Rattle.replay_lines.proofs.ReadingOn.{read_none, comes_of, ahead_of}
 use Rattle.replay_lines.proofs.LineEndings.{ends_refusal, step_put, outlet_put, step_memory}
@@ -105,11 +106,11 @@ pub line_ahead : (left left' : Option (List ℕ)) (history : List TextLine) (rea
 line_ahead left left' history reader line number is_next r =
     ahead_at left left' (length (line ∷ history)) number (omega arith) (ahead_of left left' (line ∷ history) reader r)
 
-pub step_line : (starts : List Account) (history : List TextLine) (line : TextLine) (left left' kept kept' : Option (List ℕ)) (reader : Reading) (machine : Machine) (accounts : List Account)
-    (result : Option Ending) → ReadTo left left' (line ∷ history) reader → StepRuns starts (line ∷ history) left left' kept kept' machine accounts result
-    → LineRuns starts history left left' kept kept' reader machine accounts result
-step_line starts history line left left' kept kept' reader machine accounts None r s = (line, r, s)
-step_line starts history line left left' kept kept' reader machine accounts (Some ending) r s = s
+pub step_line : (may_fail : Bool) (starts : List Account) (history : List TextLine) (line : TextLine) (left left' kept kept' : Option (List ℕ)) (reader : Reading) (machine : Machine) (accounts : List Account)
+    (result : Option Ending) → ReadTo left left' (line ∷ history) reader → StepHeard may_fail starts (line ∷ history) left left' kept kept' machine accounts result
+    → LineRuns may_fail starts history left left' kept kept' reader machine accounts result
+step_line may_fail starts history line left left' kept kept' reader machine accounts None r s = (line, r, s)
+step_line may_fail starts history line left left' kept kept' reader machine accounts (Some ending) r s = s
 
 -- ---- the loop
 
@@ -136,14 +137,14 @@ running_none olds starts left kept reader machine new stands = record {
 pub bound_none : (reader : Reading) → reader ≡ record { ahead = []; part = []; taken = 0; over = false; line = None } → 1 + lines_left reader ≤ text_limit + 2
 bound_none reader new = let P : Reading → Type 0 = λ r. 1 + lines_left r ≤ text_limit + 2 in subst P (sym new) (omega arith)
 
-pub running_more : {A : Type 0} (olds mids news : List A) (starts before after : List Account) (left mid left' kept put kept' : Option (List ℕ)) (number next : ℕ) (old new : Reading) (machine machine' : Machine) (result : Option Ending)
+pub running_more : {A : Type 0} (may_fail : Bool) (olds mids news : List A) (starts before after : List Account) (left mid left' kept put kept' : Option (List ℕ)) (number next : ℕ) (old new : Reading) (machine machine' : Machine) (result : Option Ending)
     → Running olds mids starts before left mid kept put number old machine → next ≡ number + 1 → result ≡ None
     → ((lines : List TextLine) → LinesStand starts lines machine before → UntakenSame (steps_of airs_of lines) mids news)
     → ((lines : List TextLine) → number ≡ length lines + 1 → ReadTo left mid lines old → RunTo starts lines kept put machine before
-    → LineRuns starts lines left left' kept kept' new machine' after result)
+    → LineRuns may_fail starts lines left left' kept kept' new machine' after result)
     → Running olds news starts after left left' kept kept' next new machine'
-running_more olds mids news starts before after left mid left' kept put kept' number next old new machine machine' result r is none same runs =
-    let P : Option Ending → Type 0 = λ x. LineRuns starts r.lines left left' kept kept' new machine' after x in
+running_more may_fail olds mids news starts before after left mid left' kept put kept' number next old new machine machine' result r is none same runs =
+    let P : Option Ending → Type 0 = λ x. LineRuns may_fail starts r.lines left left' kept kept' new machine' after x in
     let m = subst P none (runs r.lines r.is_next r.read r.run) in
     record {
       lines = m.0 ∷ r.lines;
@@ -153,12 +154,12 @@ running_more olds mids news starts before after left mid left' kept put kept' nu
       untaken = untaken_line m.0 r.lines olds mids news r.untaken (same r.lines r.run.stands);
     }
 
-pub running_ends : {A : Type 0} (olds mids : List A) (starts before after : List Account) (left mid left' kept put kept' : Option (List ℕ)) (number : ℕ) (old new : Reading) (machine machine' : Machine)
+pub running_ends : {A : Type 0} (may_fail : Bool) (olds mids : List A) (starts before after : List Account) (left mid left' kept put kept' : Option (List ℕ)) (number : ℕ) (old new : Reading) (machine machine' : Machine)
     (result : Option Ending) (ending : Ending)
     → Running olds mids starts before left mid kept put number old machine → result ≡ Some ending
     → ((lines : List TextLine) → number ≡ length lines + 1 → ReadTo left mid lines old → RunTo starts lines kept put machine before
-    → LineRuns starts lines left left' kept kept' new machine' after result)
-    → Ended airs_of ending starts after left left' kept kept'
-running_ends olds mids starts before after left mid left' kept put kept' number old new machine machine' result ending r some runs =
-    let P : Option Ending → Type 0 = λ x. LineRuns starts r.lines left left' kept kept' new machine' after x in
+    → LineRuns may_fail starts lines left left' kept kept' new machine' after result)
+    → Ended airs_of (as_told may_fail ending) starts after left left' kept kept'
+running_ends may_fail olds mids starts before after left mid left' kept put kept' number old new machine machine' result ending r some runs =
+    let P : Option Ending → Type 0 = λ x. LineRuns may_fail starts r.lines left left' kept kept' new machine' after x in
     subst P some (runs r.lines r.is_next r.read r.run)

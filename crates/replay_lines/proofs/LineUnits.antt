@@ -12,12 +12,12 @@ use Rattle.scenario_history.specs.Lines.{rules_of, steps_of, handed_on}
 use Rattle.scenario_history.specs.Transcript.{units_of}
 use Rattle.scenario_history.proofs.Citable.{took_all}
 use Rattle.scenario_sinks.specs.Handing.{BoxFails, CutShort}
+use Rattle.scenario_sinks.proofs.Citable.{accounts_append}
 use Rattle.replay_steps.specs.Meets.{BoxesStand}
 use Rattle.replay_steps.specs.LineMeets.{refusal_at, output_at, answered_on}
 use Rattle.replay_lines.specs.Replayed.{BoxesCut, BoxesAt, LineFails, TookFront}
-use Rattle.replay_steps.proofs.Citable.{accounts_append}
-use Rattle.replay_steps.proofs.Citable.{box_fails}
-use Rattle.replay_lines.proofs.Endings.{out_line, out_refused, units_then, units_all, units_refused, units_rest, handed_line, took_history}
+use Rattle.replay_steps.proofs.Citable.{box_fails, handed_line, took_history}
+use Rattle.replay_lines.proofs.Endings.{out_line, out_refused, units_then, units_all, units_refused, units_rest}
 
 -- whatever comes after it, the line begins with these octets
 abbrev pub Brings : List Account → List TextLine → TextLine → List ℕ → Type 0

@@ -11,10 +11,11 @@ use Rattle.scenario_history.specs.Boxes.{SinkUnit, Took}
 use Rattle.scenario_history.specs.Gifts.{Answered, answered_by}
 use Rattle.scenario_history.specs.Lines.{Said, a_step, nothing, unsaid, handed_on, refusal_said, rules_of}
 use Rattle.scenario_history.specs.Refusals.{line_refusal}
-use Rattle.scenario_history.specs.Source.{Airs}
+use Rattle.source_machine.specs.Airs.{Airs}
 use Rattle.scenario_history.specs.Transcript.{out_of, units_of}
 use Rattle.replay_steps.specs.Failing.{CloseFails}
 use Rattle.replay_steps.specs.LineMeets.{answered_on, answered_said}
+use Rattle.replay_steps.proofs.Citable.{took_as}
 use Rattle.replay_lines.specs.declared.ending.Ending.{Ending}
 use Rattle.replay_lines.specs.declared.ending.Ending.TheVariants as endings
 use Rattle.scenario_sinks.specs.Faults.{CountsStay}
@@ -22,9 +23,6 @@ use Rattle.replay_lines.specs.Ended.{AheadOf, Complete, Ended, IsCut, RoomForTex
 use Rattle.scenario_history.specs.Boxes.{RoomFor}
 use Rattle.replay_lines.specs.State.Laws.{Same}
 use Rattle.replay_lines.specs.Replayed.{BoxesAt, BoxesCut, Broken, CutAt, Done, FaultCut, LineFails, NoEndCut, OutletFaulted, ReadFaulted, RefusedAt, WriteCut, brought_by}
-
-took_as : (starts ends : List Account) (us vs : List SinkUnit) → us ≡ vs → Took starts ends us → Took starts ends vs
-took_as starts ends us vs same took = subst (λ units. Took starts ends units) same took
 
 -- the same becomes of the units that relays offer before a line, where it does before each step that isn't refused
 pub answered_alike : (airs others : Airs) (boxes : ℕ) (made more : List Step) (said : Said)

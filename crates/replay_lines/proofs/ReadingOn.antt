@@ -3,7 +3,7 @@ use Rattle.std.proofs.Common.{◌≡◌, ℕ, ◌+◌, ◌≤◌, Bool, true, fa
 use Rattle.std.proofs.Common.{refl, sym, ap, subst, ◌∙◌, append_assoc, arith, Option, None, Result, Ok, Err, length-append}
 use Rattle.std.specs.Prelude.{IfOk, OnErr}
 use Rattle.std.proofs.lemmas.List.{append-nil, length-reverse}
-use Rattle.std.proofs.lemmas.Bool.{false≢true}
+use Rattle.std.proofs.lemmas.Bool.{false≢true, false_from_ne_true}
 use Rattle.std.specs.Io.KnownBytes.{Consumes, IsAtEnd}
 use Rattle.bcast_io.specs.TextLines.{TextLine, plain, too_long, past, lines_of, lines_from}
 use Rattle.bcast_io.specs.State.Reading.{Reading, IsSound, IsPast, IsDone, Took, BreaksOff, lines_after}
@@ -169,10 +169,6 @@ at_the_end : (left mid left' : Option (List ℕ)) (lines : List TextLine) (old n
 at_the_end left mid left' lines old new true is r same end over = subst IsAtEnd (sym (same is)) (r.at_end is)
 at_the_end left mid left' lines old new false is r same end over = end is over
 
-going_on : (over : Bool) → (over ≡ true → ⊥) → over ≡ false
-going_on true never = absurd (never refl)
-going_on false never = refl
-
 pub next_is : (left mid left' : Option (List ℕ)) (lines : List TextLine) (old new : Reading) (result : Result LineRead Failed)
     → IfOk result (λ read. Answers read old new mid left')
     → OnErr result (BreaksOff old new mid left')
@@ -183,18 +179,18 @@ pub next_is : (left mid left' : Option (List ℕ)) (lines : List TextLine) (old 
     → ReadTo left mid lines old
     → NextIs left left' lines new result
 next_is left mid left' lines old new (Ok Line) a b anew sound over end r =
-    let going : old.over ≡ false = going_on old.over (λ e. let is = (over e).0 in cc) in
+    let going : old.over ≡ false = false_from_ne_true old.over (λ e. let is = (over e).0 in cc) in
     (a.0, a.1, read_line left mid left' lines old new (plain a.0) r going a.2 anew sound (end going))
 next_is left mid left' lines old new (Ok LineTooLong) a b anew sound over end r =
-    let going : old.over ≡ false = going_on old.over (λ e. let is = (over e).0 in cc) in
+    let going : old.over ≡ false = false_from_ne_true old.over (λ e. let is = (over e).0 in cc) in
     read_line left mid left' lines old new too_long r going a.1 anew sound (end going)
 next_is left mid left' lines old new (Ok TextTooLong) a b anew sound over end r =
-    let going : old.over ≡ false = going_on old.over (λ e. let is = (over e).0 in cc) in
+    let going : old.over ≡ false = false_from_ne_true old.over (λ e. let is = (over e).0 in cc) in
     read_past left mid left' lines old new r going a.2 a.1 sound (end going)
 next_is left mid left' lines old new (Ok End) a b anew sound over end r =
     read_end left mid left' lines old new r a.0 a.1 (at_the_end left mid left' lines old new old.over refl r (λ e. (over e).1) end a.0.over)
 next_is left mid left' lines old new (Err failed) a b anew sound over end r =
-    let going : old.over ≡ false = going_on old.over (λ e. let is = (over e).0 in cc) in
+    let going : old.over ≡ false = false_from_ne_true old.over (λ e. let is = (over e).0 in cc) in
     read_broken left mid left' lines old new r going b
 
 -- no more is read than a text and one read behind it

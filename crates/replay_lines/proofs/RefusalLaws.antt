@@ -9,8 +9,8 @@ use Rattle.big_info.specs.declared.fault.GroupFault.TheVariants as of_group
 use Rattle.big_info.specs.Rows.{first_fault}
 use Rattle.radio_schedule.specs.declared.air.AirFault.{AirFault}
 use Rattle.radio_schedule.specs.declared.air.AirFault.TheVariants as places
-use Rattle.source_machine.specs.declared.fault.GiveFault.{GiveFault}
-use Rattle.source_machine.specs.declared.fault.GiveFault.TheVariants as gives
+use Rattle.source_machine.specs.UnitFaults.{UnitFault}
+use Rattle.source_machine.specs.UnitFaults as gives
 use Rattle.source_machine.specs.declared.fault.AnnounceFault.{AnnounceFault}
 use Rattle.source_machine.specs.declared.fault.EventFault.{EventFault}
 use Rattle.source_machine.specs.Airs.{airs_of}
@@ -19,10 +19,9 @@ use Rattle.transcript_text.specs.declared.refusal.Refusal.{Refusal}
 use Rattle.transcript_text.specs.declared.refusal.Refusal.TheVariants.{AfterEnd, Order, BaseTooLong, IdentTwice, NoSuchSink, SinkTwice, NoOutlet, NoSuchBis, NotOnAir, NoEnd}
 use Rattle.transcript_text.specs.declared.refusal.Refusal.TheVariants.{NoSuchLink, LinkTwice, NothingWaiting, RecordsTooLong, RelayTaken}
 use Rattle.transcript_text.specs.declared.refusal.Refusal.TheVariants as refusals
-use Rattle.link_history.specs.Calls.{Call}
-use Rattle.sink_history.specs.Lives.{Made, World, life_of, made_of, named_by}
-use Rattle.sink_history.specs.Refusals.{link_named, link_twice, no_link, no_record_room, nothing_waits, refused_at, refused_by, refused_where}
-use Rattle.sink_history.specs.Refusals.{refusal_of as refusal_of_sink, refuse_if as refuse_sink_if}
+use Rattle.sink_history.specs.Calls.{Call}
+use Rattle.sink_history.specs.Lives.{Made, World, life_of, made_of, named_by, horizon_in}
+use Rattle.sink_history.specs.Refusals.{link_named, link_twice, no_link, no_record_room, nothing_waits, refused_at, refused_by, refused_where, refusal_of as refusal_of_sink, refuse_if}
 use Rattle.scenario_history.specs.Worlds.{the_world}
 use Rattle.scenario_text.specs.declared.step.Step.{Step}
 use Rattle.scenario_text.specs.declared.step.Step.TheVariants as kinds
@@ -33,7 +32,7 @@ use Rattle.scenario_history.specs.Steps.{chosen_steps, version_of, is_over, sink
 use Rattle.scenario_history.specs.Bases.{has_bis, is_base_too_long}
 use Rattle.scenario_history.specs.Source.{checked_info, group_of, no_group, performed, setup_of, source_calls}
 use Rattle.scenario_history.specs.Boxes.{box_of}
-use Rattle.scenario_history.specs.Refusals.{group_refusal, horizon_in, refuse_if, no_sink, no_place, has_beyond, is_ident_twice, is_out_of_order}
+use Rattle.scenario_history.specs.Refusals.{group_refusal, no_sink, no_place, has_beyond, is_ident_twice, is_out_of_order}
 use Rattle.scenario_history.specs.Refusals.{is_relay_beyond, is_relay_taken, is_relayed, may_relay, relayed_or}
 use Rattle.scenario_history.specs.Refusals.{give_refusal, air_refusal, counter_ends, train_ends, sink_refusal, source_refusal, twin_refusal, own_refusal, phase_refusal, refusal_of}
 use Rattle.scenario_history.specs.Lines.{said_by, said_in, said_of, steps_of, refusal_said}
@@ -72,12 +71,11 @@ other_group (Some of_group.Horizon) = λ e. cc
 other_group (Some of_group.SubInterval) = λ e. cc
 other_group (Some of_group.SyncDelay) = λ e. cc
 
-other_give : (fault : GiveFault) → give_refusal fault ≢ NoEnd
+other_give : (fault : UnitFault) → give_refusal fault ≢ NoEnd
 other_give gives.NoSuchBis e = cc
 other_give gives.UnitTooLong e = cc
 other_give gives.TimeOrder e = cc
 other_give gives.Backlog e = cc
-other_give gives.Memory e = cc
 
 other_place : (fault : AirFault) → air_refusal fault ≢ NoEnd
 other_place places.NoSuchBis e = cc
@@ -92,40 +90,33 @@ other_train : (o : Option AnnounceFault) → OtherThan (train_ends o)
 other_train None = tt
 other_train (Some fault) = λ e. cc
 
-other_sink : (b : Bool) → OtherThan (refuse_if b NoSuchSink)
-other_sink b = other_if b NoSuchSink (λ e. cc)
-
 other_no_sink : (sink : ℕ) (steps : List Step) → OtherThan (no_sink sink steps)
-other_no_sink sink steps = other_sink (not (is_some (box_of sink steps)))
+other_no_sink sink steps = other_if (not (is_some (box_of sink steps))) NoSuchSink (λ e. cc)
 
 other_no_place : (steps : List Step) (back bis subevent : ℕ) → OtherThan (no_place steps back bis subevent)
 other_no_place steps back bis subevent = other_map air_refusal other_place (air_fault (setup_of steps) (source_calls steps) back bis subevent)
 
 -- ---- what the sink that a step names and its links are
 
-other_sink_if : (b : Bool) (reason : Refusal) → reason ≢ NoEnd → OtherThan (refuse_sink_if b reason)
-other_sink_if true reason other = other
-other_sink_if false reason other = tt
-
 other_link : (calls : List Call) (link : Option ℕ) → OtherThan (no_link calls link)
 other_link calls None = tt
-other_link calls (Some link) = other_sink_if _ NoSuchLink (λ e. cc)
+other_link calls (Some link) = other_if _ NoSuchLink (λ e. cc)
 
 other_twice : (calls : List Call) (step : Step) → OtherThan (link_twice calls step)
-other_twice calls (kinds.Assist sink link) = other_sink_if _ LinkTwice (λ e. cc)
+other_twice calls (kinds.Assist sink link) = other_if _ LinkTwice (λ e. cc)
 other_twice calls _ = tt
 
 other_waits : (made : Made) (calls : List Call) (step : Step) → OtherThan (nothing_waits made calls step)
-other_waits made calls (kinds.Serve sink) = other_sink_if _ NothingWaiting (λ e. cc)
-other_waits made calls (kinds.Tell sink) = other_sink_if _ NothingWaiting (λ e. cc)
-other_waits made calls (kinds.Read sink) = other_sink_if _ NothingWaiting (λ e. cc)
-other_waits made calls (kinds.AServe sink link) = other_sink_if _ NothingWaiting (λ e. cc)
-other_waits made calls (kinds.ATell sink link) = other_sink_if _ NothingWaiting (λ e. cc)
-other_waits made calls (kinds.ARead sink link) = other_sink_if _ NothingWaiting (λ e. cc)
+other_waits made calls (kinds.Serve sink) = other_if _ NothingWaiting (λ e. cc)
+other_waits made calls (kinds.Tell sink) = other_if _ NothingWaiting (λ e. cc)
+other_waits made calls (kinds.Read sink) = other_if _ NothingWaiting (λ e. cc)
+other_waits made calls (kinds.AServe sink link) = other_if _ NothingWaiting (λ e. cc)
+other_waits made calls (kinds.ATell sink link) = other_if _ NothingWaiting (λ e. cc)
+other_waits made calls (kinds.ARead sink link) = other_if _ NothingWaiting (λ e. cc)
 other_waits made calls _ = tt
 
 other_room : (made : Made) (calls : List Call) (step : Step) → OtherThan (no_record_room made calls step)
-other_room made calls (kinds.Pac sink codec caps metadata) = other_sink_if _ RecordsTooLong (λ e. cc)
+other_room made calls (kinds.Pac sink codec caps metadata) = other_if _ RecordsTooLong (λ e. cc)
 other_room made calls _ = tt
 
 other_by : (step : Step) (made : Made) (calls : List Call) → OtherThan (refused_by step made calls)

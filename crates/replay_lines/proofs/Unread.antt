@@ -1,20 +1,20 @@
 -- What is promised where a document wasn't read, and of the laws.
-use Rattle.std.proofs.Common.{◌≡◌, ℕ, ◌+◌, true, List, refl, Option, None, Some, Ok, inl, arith}
-use Rattle.std.specs.Io.KnownBytes.{Keeps}
+use Rattle.std.proofs.Common.{◌≡◌, ℕ, ◌+◌, true, List, refl, Option, Ok, inl, arith}
 use Rattle.bcast_base.specs.Counts.{Rose}
 use Rattle.bcast_io.specs.Documents.{ReadFront, document_limit}
 use Rattle.replay_lines.specs.Promised.{Promised}
 use Rattle.replay_lines.specs.World.{World}
 use Rattle.replay_lines.specs.declared.ending.Ending.{Ending}
 use Rattle.replay_lines.specs.declared.ending.Ending.TheVariants as endings
-use Rattle.bcast_io.proofs.Citable.{AppendsFront-nothing}
 use Rattle.bcast_io.specs.TextLines.{lines_of}
 use Rattle.bcast_io.specs.Writing.{AppendsFront}
+use Rattle.bcast_io.proofs.Citable.{AppendsFront-nothing}
 use Rattle.scenario_history.specs.Airs.{MeetAirs}
-use Rattle.scenario_history.specs.Source.{Airs}
+use Rattle.source_machine.specs.Airs.{Airs}
 use Rattle.scenario_sinks.proofs.Citable.{none_counts}
 use Rattle.replay_lines.specs.FromToml.{DocumentLaws, FromToml, Unread}
 use Rattle.replay_lines.specs.Standing.{Standing, refused_for, stands_for, transcript_over}
+use Rattle.replay_lines.proofs.Endings.{keeps_same}
 
 -- the laws that are promised of every run
 pub laws_of : (old new : World) (ending : Ending) → Promised old new ending → DocumentLaws old.boxes
@@ -35,10 +35,6 @@ laws_of old new ending p = record {
         → transcript_over airs old.boxes standing ≡ transcript_over others old.boxes standing
     one_over airs others meets meet_too (refused_for cause) = refl
     one_over airs others meets meet_too (stands_for text) = p.one_transcript airs others meets meet_too (lines_of true text)
-
-keeps_same : (kept : Option (List ℕ)) → Keeps kept kept
-keeps_same None = tt
-keeps_same (Some octets) = refl
 
 -- nothing was put
 pub nothing_put : (kept : Option (List ℕ)) (octets : List ℕ) → AppendsFront kept kept octets

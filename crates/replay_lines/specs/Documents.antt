@@ -10,7 +10,7 @@ use Rattle.scenario_history.specs.Runs.{End, Accepted}
 use Rattle.replay_lines.specs.Replayed.{BoxesCut, LineFails}
 use Rattle.scenario_history.specs.Boxes.{Took}
 use Rattle.scenario_history.specs.Lines.{rules_of}
-use Rattle.scenario_history.specs.Source.{Airs}
+use Rattle.source_machine.specs.Airs.{Airs}
 use Rattle.scenario_history.specs.Transcript.{out_of, units_of}
 use Rattle.transcript_text.specs.declared.refusal.Refusal.{Refusal}
 use Rattle.unit_outlets.specs.Account.{Account}

@@ -4,7 +4,7 @@ use Rattle.bcast_io.specs.TextLines.{lines_of}
 use Rattle.unit_outlets.specs.Account.{Account}
 use Rattle.bcast_base.specs.Counts.{Rose}
 use Rattle.transcript_text.specs.declared.refusal.Refusal.TheVariants.{NoEnd}
-use Rattle.scenario_history.specs.Source.{Airs}
+use Rattle.source_machine.specs.Airs.{Airs}
 use Rattle.scenario_history.specs.Runs.{through}
 use Rattle.scenario_history.specs.Transcript.{transcript_end, units_of}
 use Rattle.scenario_history.specs.Boxes.{RoomFor}

@@ -1,6 +1,7 @@
 pub mod Documents
 pub mod Ended
 pub mod FromToml
+pub mod Heard
 pub mod Promised
 pub mod Replayed
 pub mod Standing

@@ -5,7 +5,7 @@ use Rattle.bcast_io.specs.TextLines.{TextLine, lines_of}
 use Rattle.transcript_text.specs.declared.refusal.Refusal.{Refusal}
 use Rattle.scenario_history.specs.Airs.{MeetAirs}
 use Rattle.scenario_history.specs.Boxes.{Took}
-use Rattle.scenario_history.specs.Source.{Airs}
+use Rattle.source_machine.specs.Airs.{Airs}
 use Rattle.scenario_history.specs.Transcript.{transcript_of, units_of}
 use Rattle.scenario_sinks.specs.Faults.{CountsStay, OneCounts}
 use Rattle.replay_lines.specs.declared.ending.Ending.{Ending}

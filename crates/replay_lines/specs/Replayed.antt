@@ -10,7 +10,7 @@ use Rattle.unit_outlets.specs.Account.{Account}
 use Rattle.transcript_text.specs.declared.refusal.Refusal.{Refusal}
 use Rattle.transcript_text.specs.declared.refusal.Refusal.TheVariants.{NoEnd}
 use Rattle.scenario_history.specs.Runs.{through, refused, Accepted}
-use Rattle.scenario_history.specs.Source.{Airs}
+use Rattle.source_machine.specs.Airs.{Airs}
 use Rattle.scenario_history.specs.Boxes.{SinkUnit, Took}
 use Rattle.scenario_history.specs.Lines.{rules_of, handed_on}
 use Rattle.scenario_history.specs.Transcript.{out_of, end_after, transcript_of, transcript_end, units_of}

@@ -5,7 +5,7 @@ use Rattle.bcast_io.specs.TextLines.{TextLine, lines_of}
 use Rattle.bcast_io.specs.Documents.{document_limit}
 use Rattle.scenario_history.specs.Runs.{End}
 use Rattle.scenario_history.specs.Boxes.{SinkUnit}
-use Rattle.scenario_history.specs.Source.{Airs}
+use Rattle.source_machine.specs.Airs.{Airs}
 use Rattle.scenario_history.specs.Transcript.{transcript_of, transcript_end, units_of}
 use Rattle.scenario_toml.specs.Document.{Meaning, no_toml, no_form, lines, meaning_of}
 use Rattle.transcript_text.specs.Lines.{refusal_line}

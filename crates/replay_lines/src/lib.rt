@@ -4,10 +4,12 @@
 mod cause;
 mod ending;
 mod lines;
+mod listener;
 mod mode;
 mod text;
 
 pub use cause::Cause;
 pub use ending::Ending;
+pub use listener::Listener;
 pub use mode::{run_toml, want_of_memory_before_a_document};
-pub use text::{run_text, want_of_memory_at_once};
+pub use text::{run_heard, run_text, want_of_memory_at_once};

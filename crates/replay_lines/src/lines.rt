@@ -12,9 +12,11 @@ ghost use Rattle.replay_steps.specs.Untaken.{UntakenSame};
 ghost use Rattle.replay_steps.specs.Untaken.{UntakenRun};
 ghost use Rattle.replay_lines.specs.Replayed.{Comes, ReadsAhead, ReadsAtMost, read_limit};
 ghost use Rattle.replay_lines.specs.Ended.{Ended};
-ghost use Rattle.replay_lines.specs.State.Between.{ReadTo, TextIs, NextIs, RunTo, Refuses, Puts, StepRuns, LineRuns};
+ghost use Rattle.replay_lines.specs.Heard.{as_told};
+ghost use Rattle.replay_lines.specs.State.Between.{ReadTo, TextIs, NextIs, RunTo, Refuses, Puts, StepRuns, StepHeard, LineRuns};
 
 use crate::ending::Ending;
+use crate::listener::Listener;
 use bcast_base::Octets;
 use bcast_io::{ByteSink, ByteSource, Failed, LineRead, LineReader, SinkFault, write_whole};
 use replay_steps::Machine;
@@ -22,14 +24,15 @@ use std::alloc::Global;
 use transcript_text::{Refusal, Stop, put_refusal};
 use unit_outlets::Outlet;
 
-/// Runs the lines of the source to their end, to a refusal or to a fault.
-pub(crate) fn run_lines<S: ByteSource, K: ByteSink>(
+/// Runs the lines of the source to their end, to a refusal or to a fault, with a listener that is told of each.
+pub(crate) fn run_lines<S: ByteSource, K: ByteSink, L: Listener<K>>(
     alloc: Global,
     source: &mut S,
     sink: &mut K,
+    listener: &mut L,
     outlets: &mut Vec<Box<dyn Outlet>>,
 ) -> Ending
-    ensures ended { Ended airs_of result (map account outlets.old.items) (map account outlets.new.items) (S.left source.old)
+    ensures ended { Ended airs_of (as_told L.may_fail result) (map account outlets.old.items) (map account outlets.new.items) (S.left source.old)
         (S.left source.new) (K.contents sink.old) (K.contents sink.new) }
     ensures untaken { (text : List ℕ) → S.left source.old ≡ Some text
         → UntakenRun (map account outlets.old.items) (lines_of true text) outlets.old.items outlets.new.items }
@@ -55,6 +58,7 @@ pub(crate) fn run_lines<S: ByteSource, K: ByteSink>(
             &mut text,
             source,
             sink,
+            listener,
             outlets,
         ) {
             None => number += 1,
@@ -64,19 +68,20 @@ pub(crate) fn run_lines<S: ByteSource, K: ByteSink>(
 }
 
 /// Reads the next line, of this number, runs it and writes what it brings: an ending where it is the last.
-fn run_line<S: ByteSource, K: ByteSink>(
+fn run_line<S: ByteSource, K: ByteSink, L: Listener<K>>(
     number: u64,
     reader: &mut LineReader,
     machine: &mut Machine,
     text: &mut Octets,
     source: &mut S,
     sink: &mut K,
+    listener: &mut L,
     outlets: &mut Vec<Box<dyn Outlet>>,
 ) -> Option<Ending>
     ensures runs { (starts : List Account) (lines : List TextLine) (left kept : Option (List ℕ)) → number ≡ length lines + 1
         → ReadTo left (S.left source.old) lines reader.old
         → RunTo starts lines kept (K.contents sink.old) machine.old (map account outlets.old.items)
-        → LineRuns starts lines left (S.left source.new) kept (K.contents sink.new) reader.new machine.new
+        → LineRuns L.may_fail starts lines left (S.left source.new) kept (K.contents sink.new) reader.new machine.new
         (map account outlets.new.items) result }
     ensures untaken { (starts : List Account) (lines : List TextLine) (accounts : List Account)
         → LinesStand starts lines machine.old accounts
@@ -94,7 +99,15 @@ fn run_line<S: ByteSource, K: ByteSink>(
         Ok(LineRead::End) => Some(end_text(number, machine, text, sink)),
         Ok(LineRead::TextTooLong) => Some(refuse(number, Refusal::TextTooLong, text, sink)),
         Ok(LineRead::LineTooLong) => Some(refuse(number, Refusal::LineTooLong, text, sink)),
-        Ok(LineRead::Line) => run_step(number, reader.line(), machine, text, sink, outlets),
+        Ok(LineRead::Line) => hear_step(
+            number,
+            reader.line(),
+            machine,
+            text,
+            sink,
+            listener,
+            outlets,
+        ),
     }
 }
 
@@ -145,6 +158,39 @@ fn refuse<K: ByteSink>(number: u64, reason: Refusal, text: &mut Octets, sink: &m
                 reason,
             },
         },
+    }
+}
+
+/// Runs a line, and tells the listener of it before and after.
+fn hear_step<K: ByteSink, L: Listener<K>>(
+    number: u64,
+    line: &[u8],
+    machine: &mut Machine,
+    text: &mut Octets,
+    sink: &mut K,
+    listener: &mut L,
+    outlets: &mut Vec<Box<dyn Outlet>>,
+) -> Option<Ending>
+    ensures runs { (starts : List Account) (lines : List TextLine) (left left' kept : Option (List ℕ)) → number ≡ length lines + 1
+        → Comes left left' lines (plain line.now) → ReadsAhead left left' number
+        → RunTo starts lines kept (K.contents sink.old) machine.old (map account outlets.old.items)
+        → StepHeard L.may_fail starts (plain line.now ∷ lines) left left' kept (K.contents sink.new) machine.new
+        (map account outlets.new.items) result }
+    ensures untaken { (starts : List Account) (lines : List TextLine) (accounts : List Account)
+        → LinesStand starts lines machine.old accounts
+        → UntakenSame (steps_of airs_of lines) outlets.old.items outlets.new.items }
+    ensures never_read_fault { result ≢ Some Ending.ReadFault }
+    ensures write_fault { result ≡ Some Ending.WriteFault → Rose (K.faults sink.old) (K.faults sink.new) }
+    ensures no_write_fault { result ≢ Some Ending.WriteFault → K.faults sink.new ≡ K.faults sink.old }
+{
+    match listener.begin_line(number, line, machine, sink) {
+        Ok(()) => {
+            let ended = run_step(number, line, machine, text, sink, outlets);
+            listener.end_line(line, machine, text, ended);
+            ended
+        }
+        Err(SinkFault::Failed) => Some(Ending::WriteFault),
+        Err(SinkFault::Memory) => Some(Ending::Memory),
     }
 }
 

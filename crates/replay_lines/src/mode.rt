@@ -1,12 +1,11 @@
 //! The mode: a document is read whole, and the lines that it stands for are run.
 ghost use Rattle.std.specs.Prelude.{◌≡◌, ◌≢◌, ◌<◌, ◌^◌, ℕ, List, Ok, Some, map, vec_len};
 ghost use Rattle.bcast_base.specs.Counts.{Rose};
-ghost use Rattle.unit_outlets.specs.Account.{Account};
 ghost use Rattle.replay_steps.specs.Untaken.{UntakenBy};
 ghost use Rattle.replay_lines.specs.World.{World, world_of};
 ghost use Rattle.replay_lines.specs.declared.ending.Ending.TheVariants as endings;
 ghost use Rattle.scenario_history.specs.Airs.{MeetAirs};
-ghost use Rattle.scenario_history.specs.Source.{Airs};
+ghost use Rattle.source_machine.specs.Airs.{Airs};
 ghost use Rattle.scenario_toml.specs.Document.{meaning_of};
 ghost use Rattle.replay_lines.specs.FromToml.{FromToml};
 ghost use Rattle.replay_lines.specs.Standing.{lines_over, standing_by, standing_of};

@@ -3,14 +3,16 @@ ghost use Rattle.std.specs.Prelude.{◌≡◌, ◌<◌, ◌^◌, ℕ, List, Some
 ghost use Rattle.bcast_io.specs.TextLines.{lines_of};
 ghost use Rattle.unit_outlets.specs.Account.{Account};
 ghost use Rattle.scenario_history.specs.Airs.{MeetAirs};
-ghost use Rattle.scenario_history.specs.Source.{Airs};
+ghost use Rattle.source_machine.specs.Airs.{Airs};
 ghost use Rattle.replay_steps.specs.Untaken.{UntakenBy};
+ghost use Rattle.replay_lines.specs.Heard.{Heard};
 ghost use Rattle.replay_lines.specs.Promised.{Promised};
 ghost use Rattle.replay_lines.specs.State.Laws.{Laws};
 ghost use Rattle.replay_lines.specs.World.{World, world_of};
 
 use crate::ending::Ending;
 use crate::lines::run_lines;
+use crate::listener::{Listener, Silent};
 use bcast_io::{ByteSink, ByteSource};
 use scenario_laws::{
     agreement_law, isolation_law, links_law, migration_law, one_transcript, order_law,
@@ -40,7 +42,30 @@ pub fn run_text<S: ByteSource, K: ByteSink>(
         → UntakenBy airs (map account outlets.old.items) (lines_of true text) outlets.old.items outlets.new.items }
 {
     laws_hold();
-    run_lines(alloc, source, sink, outlets)
+    run_lines(alloc, source, sink, &mut Silent, outlets)
+}
+
+/// The same with a listener, which is told of each line of the text before it is run and after it. Lines that are too long are told
+/// to nobody, as they aren't kept.
+///
+/// `WriteFault` comes also where the listener failed, and `Memory` where it wanted memory: then a front of the transcript was
+/// written.
+pub fn run_heard<S: ByteSource, K: ByteSink, L: Listener<K>>(
+    alloc: Global,
+    source: &mut S,
+    sink: &mut K,
+    listener: &mut L,
+    outlets: &mut Vec<Box<dyn Outlet>>,
+) -> Ending
+    requires { vec_len outlets.old < 2 ^ 64 }
+    ensures heard { let old = world_of S.left S.faults K.contents K.faults source.old sink.old (map account outlets.old.items) in
+        let new = world_of S.left S.faults K.contents K.faults source.new sink.new (map account outlets.new.items) in
+        Heard old new result }
+    ensures untaken { (text : List ℕ) (airs : Airs) → S.left source.old ≡ Some text → MeetAirs airs
+        → UntakenBy airs (map account outlets.old.items) (lines_of true text) outlets.old.items outlets.new.items }
+{
+    laws_hold();
+    run_lines(alloc, source, sink, listener, outlets)
 }
 
 /// Memory may run out before anything is read: then nothing was written, no box was called, and all that is promised of a

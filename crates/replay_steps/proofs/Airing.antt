@@ -26,7 +26,8 @@ use Rattle.scenario_history.specs.Boxes.{box_of}
 use Rattle.scenario_history.specs.Output.{injected_hearing}
 use Rattle.scenario_history.specs.Worlds.{life}
 use Rattle.sink_history.specs.Lives.{made_of}
-use Rattle.scenario_history.specs.Refusals.{air_refusal, no_place, no_sink, phase_refusal, refuse_if, source_refusal}
+use Rattle.scenario_history.specs.Refusals.{air_refusal, no_place, no_sink, phase_refusal, source_refusal}
+use Rattle.sink_history.specs.Refusals.{refuse_if}
 use Rattle.scenario_sources.specs.Answers.{NoPlace}
 use Rattle.scenario_sources.proofs.Citable.{air_says, hear_says, inject_says, sniff_says, sources_stay}
 use Rattle.scenario_sinks.specs.declared.sinks.Sinks.{Sinks}

@@ -14,7 +14,7 @@ use Rattle.scenario_history.specs.Boxes.{SinkUnit, accounts_after, closing_by}
 use Rattle.scenario_history.specs.Gifts.{Offer, after_offers, answered, offered_of}
 use Rattle.scenario_history.specs.Output.{unit_lines}
 use Rattle.scenario_history.specs.Sinks.{is_of, ticked_if}
-use Rattle.gift_laws.proofs.Citable.{left_by_offers}
+use Rattle.scenario_laws.proofs.Gifts.Citable.{left_by_offers}
 use Rattle.scenario_sinks.specs.Closing.{closing_of, handed_all}
 use Rattle.scenario_sinks.specs.Handing.{BoxFails, CutShort}
 use Rattle.scenario_sinks.specs.Pasts.{Past, with_close, with_close_at}
@@ -23,7 +23,7 @@ use Rattle.scenario_sinks.specs.Untaken.{UntakenSame}
 use Rattle.scenario_sinks.specs.declared.sinks.Sinks.{Sinks}
 use Rattle.scenario_sinks.proofs.Citable.{accounts_append, hands_stop, hands_then, stands_same}
 use Rattle.scenario_sinks.proofs.Ranges.{range_append}
-use Rattle.scenario_relays.specs.State.Standing.{RelaysStand}
+use Rattle.scenario_sinks.specs.State.RelaysStand.{RelaysStand}
 use Rattle.scenario_sources.specs.State.Standing.{SourcesStand}
 use Rattle.replay_steps.specs.declared.machine.Machine.{Machine}
 use Rattle.replay_steps.specs.Between.{FirstBetween, with_closes_below}

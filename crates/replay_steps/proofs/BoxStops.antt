@@ -24,7 +24,8 @@ use Rattle.scenario_sinks.proofs.Citable.{accounts_append, lines_append}
 use Rattle.replay_steps.specs.Failing.{CloseFails, printed_before}
 use Rattle.replay_steps.specs.Relaying.{FirstFails, answer_lines, lines_at, lines_below, offers_below, offers_of, units_below}
 use Rattle.replay_steps.proofs.Between.{range_about}
-use Rattle.replay_steps.proofs.CloseLines.{answers_of, flat_nothing, flat_within, handed_append, none_handed, of_sink, own_handed, own_lines}
+use Rattle.scenario_laws.proofs.Gifts.Citable.{flat_within, handed_append}
+use Rattle.replay_steps.proofs.CloseLines.{answers_of, flat_nothing, none_handed, of_sink, own_handed, own_lines}
 
 -- ---- whose units they are
 

@@ -1,10 +1,9 @@
 -- What a close of source 0 prints, sink by sink, is what its definition says: the units of each sink, and then those that its relay
 -- offered and that source 1 didn't take.
-use Rattle.std.proofs.Common.{ℕ, zero, suc, ◌≡◌, ◌≢◌, ◌<◌, ◌≤◌, ◌+◌, ◌-◌, ◌==◌, ◌&&◌, Bool, true, false, cond, List, [], ◌∷◌, ◌++◌, map, refl, sym, ◌∙◌, ap, ap₂, subst, inl, inr}
+use Rattle.std.proofs.Common.{ℕ, zero, suc, ◌≡◌, ◌<◌, ◌≤◌, ◌+◌, ◌-◌, ◌==◌, Bool, true, false, cond, List, [], ◌∷◌, ◌++◌, map, refl, sym, ◌∙◌, ap, ap₂, subst, inl, inr}
 use Rattle.std.proofs.Common.{append-nil, arith, eq-eqb, ne_eqb, Option, None, Some}
 use Rattle.std.specs.List.{filter, flat_map, range_with_len}
 use Rattle.std.proofs.lemmas.Bool.{cases_eq}
-use Rattle.std.proofs.lemmas.List.{map-append}
 use Rattle.std.proofs.lemmas.List.Elements.{filter-append}
 use Rattle.bcast_base.specs.declared.unit.Unit.{Unit as AudioUnit}
 use Rattle.group_sink.specs.Calls.{Call}
@@ -24,20 +23,10 @@ use Rattle.scenario_sinks.specs.Closing.{closing_of, handed_all}
 use Rattle.scenario_sinks.specs.Pasts.{Past}
 use Rattle.replay_steps.specs.Machines.{past_of}
 use Rattle.replay_steps.specs.Relaying.{answer_lines, lines_at, lines_below, offers_below, offers_of, units_below}
+use Rattle.scenario_laws.proofs.Gifts.Citable.{flat_within, flat_one, other_in, handed_flat, lines_map, own_handed as own_units}
 use Rattle.replay_steps.proofs.Offering.{after_append, answered_append}
 
 -- ---- lists
-
-pub flat_same : {A : Type 0} (f g : ℕ → List A) (xs : List ℕ) → ((n : ℕ) → f n ≡ g n) → flat_map f xs ≡ flat_map g xs
-flat_same f g [] same = refl
-flat_same f g (x ∷ xs) same = ap (λ front. front ++ flat_map f xs) (same x) ∙ ap (λ rest. g x ++ rest) (flat_same f g xs same)
-
-pub flat_within : {B : Type 0} (f g : ℕ → List B) (start count : ℕ) → ((m : ℕ) → start ≤ m → m < start + count → f m ≡ g m)
-    → flat_map f (range_with_len start count) ≡ flat_map g (range_with_len start count)
-flat_within f g start zero same = refl
-flat_within f g start (suc count) same =
-    ap (λ l. l ++ flat_map f (range_with_len (start + 1) count)) (same start (omega arith) (omega arith))
-    ∙ ap (λ l. g start ++ l) (flat_within f g (start + 1) count (λ m least below. same m (omega (arith, least)) (omega (arith, below))))
 
 pub flat_nothing : {B : Type 0} (f : ℕ → List B) (start count : ℕ) → ((m : ℕ) → start ≤ m → m < start + count → f m ≡ []) → flat_map f (range_with_len start count) ≡ []
 flat_nothing f start zero none = refl
@@ -45,58 +34,18 @@ flat_nothing f start (suc count) none =
     ap (λ l. l ++ flat_map f (range_with_len (start + 1) count)) (none start (omega arith) (omega arith))
     ∙ flat_nothing f (start + 1) count (λ m least below. none m (omega (arith, least)) (omega (arith, below)))
 
--- of a range only one number gives something
-flat_one : {B : Type 0} (f : ℕ → List B) (n start count : ℕ) → start ≤ n → n < start + count → ((m : ℕ) → m ≢ n → f m ≡ []) → flat_map f (range_with_len start count) ≡ f n
-flat_one f n start zero least below others = absurd (omega (arith, least, below))
-flat_one f n start (suc count) least below others = elim (cases_eq start n) [
-  | inl same ↦
-      ap (λ l. f start ++ l) (flat_nothing f (start + 1) count (λ m more under. others m (λ e. omega (arith, same, more, e))))
-      ∙ append-nil (f start) ∙ ap f same
-  | inr other ↦
-      ap (λ l. l ++ flat_map f (range_with_len (start + 1) count)) (others start other)
-      ∙ flat_one f n (start + 1) count (omega (arith, least, other)) (omega (arith, below)) others
-]
-
 -- ---- what one sink hands up, among all
-
-abbrev mine : ℕ → ℕ → SinkUnit → Bool
-mine s n unit = (unit.source == s) && (unit.sink == n)
-
-pub handed_append : (s n : ℕ) (one other : List SinkUnit) → handed_of s n (one ++ other) ≡ handed_of s n one ++ handed_of s n other
-handed_append s n one other =
-    ap (map (λ (unit : SinkUnit). unit.unit)) (filter-append (mine s n) one other)
-    ∙ map-append (λ (unit : SinkUnit). unit.unit) (filter (mine s n) one) (filter (mine s n) other)
-
-own_units : (n box : ℕ) (units : List Handed)
-    → handed_of 0 n (map (λ unit. record { source = 0; sink = n; box = box; unit = unit }) units) ≡ units
-own_units n box [] = refl
-own_units n box (unit ∷ units) = rw (eq-eqb n n refl) (ap (λ l. unit ∷ l) (own_units n box units))
 
 back_units : (n box : ℕ) (units : List Handed)
     → handed_all (map (λ unit. record { source = 0; sink = n; box = box; unit = unit }) units) ≡ units
 back_units n box [] = refl
 back_units n box (unit ∷ units) = ap (λ l. unit ∷ l) (back_units n box units)
 
-other_units : (n m box : ℕ) (units : List Handed) → (m == n) ≡ false
-    → handed_of 0 n (map (λ unit. record { source = 0; sink = m; box = box; unit = unit }) units) ≡ []
-other_units n m box [] other = refl
-other_units n m box (unit ∷ units) other = rw other (other_units n m box units other)
-
 own_in : (its : Bool) (event n : ℕ) (calls : List Call) (box : Option ℕ)
     → handed_of 0 n (cond its (closing_in 0 event n calls box) []) ≡ handed_all (cond its (closing_in 0 event n calls box) [])
 own_in true event n calls None = refl
 own_in true event n calls (Some box) = own_units n box (handed_at calls event) ∙ sym (back_units n box (handed_at calls event))
 own_in false event n calls box = refl
-
-other_in : (its : Bool) (event n m : ℕ) (calls : List Call) (box : Option ℕ) → (m == n) ≡ false
-    → handed_of 0 n (cond its (closing_in 0 event m calls box) []) ≡ []
-other_in true event n m calls None other = refl
-other_in true event n m calls (Some box) other = other_units n m box (handed_at calls event) other
-other_in false event n m calls box other = refl
-
-handed_flat : (n : ℕ) (f : ℕ → List SinkUnit) (ms : List ℕ) → handed_of 0 n (flat_map f ms) ≡ flat_map (λ m. handed_of 0 n (f m)) ms
-handed_flat n f [] = refl
-handed_flat n f (m ∷ ms) = handed_append 0 n (f m) (flat_map f ms) ∙ ap (λ l. handed_of 0 n (f m) ++ l) (handed_flat n f ms)
 
 -- of what the first sinks hand up the part of one of them is what it hands up
 pub own_handed : (past : Past) (event n number : ℕ) → n < number → handed_of 0 n (units_below past event number) ≡ handed_all (closing_of n 0 event past)
@@ -112,12 +61,6 @@ none_handed past event n number beyond =
     handed_flat n (λ m. closing_of m 0 event past) (range_with_len 0 number)
     ∙ flat_nothing (λ m. handed_of 0 n (closing_of m 0 event past)) 0 number
     (λ m least below. other_in (is_of 0 (past.sources m)) event n m (past.received m) (past.boxes m) (ne_eqb m n (λ same. omega (arith, same, below, beyond))))
-
--- its lines are those of its units
-lines_map : (n box : ℕ) (units : List Handed)
-    → flat_map (handed_line n) units ≡ unit_lines (map (λ unit. record { source = 0; sink = n; box = box; unit = unit }) units)
-lines_map n box [] = refl
-lines_map n box (unit ∷ units) = ap (λ l. handed_line n unit ++ l) (lines_map n box units)
 
 own_lines_in : (its : Bool) (event n : ℕ) (calls : List Call) (box : Option ℕ)
     → flat_map (handed_line n) (handed_all (cond its (closing_in 0 event n calls box) [])) ≡ unit_lines (cond its (closing_in 0 event n calls box) [])

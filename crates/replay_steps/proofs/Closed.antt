@@ -18,7 +18,7 @@ use Rattle.scenario_sinks.specs.Handing.{CutShort}
 use Rattle.scenario_sinks.specs.Pasts.{Past, with_close}
 use Rattle.scenario_sinks.specs.State.Standing.{SinksStand}
 use Rattle.scenario_sinks.specs.declared.sinks.Sinks.{Sinks}
-use Rattle.scenario_relays.specs.State.Standing.{RelaysStand}
+use Rattle.scenario_sinks.specs.State.RelaysStand.{RelaysStand}
 use Rattle.scenario_sources.specs.State.Standing.{SourcesStand}
 use Rattle.scenario_sinks.proofs.Citable.{hands_stop, stands_same}
 use Rattle.replay_steps.specs.declared.machine.Machine.{Machine}

@@ -11,19 +11,19 @@ use Rattle.scenario_history.specs.Relays.{relay_of}
 use Rattle.scenario_history.specs.Sinks.{is_of, ticked_if}
 use Rattle.scenario_history.specs.Source.{open_event}
 use Rattle.scenario_history.specs.Steps.{chosen_of, chosen_steps, steps_of_source}
-use Rattle.gift_laws.proofs.Citable.{left_by_offers}
+use Rattle.scenario_laws.proofs.Gifts.Citable.{left_by_offers, flat_same}
 use Rattle.scenario_sinks.specs.Closing.{closing_of, handed_all}
 use Rattle.scenario_sinks.specs.Pasts.{Past, with_close}
 use Rattle.scenario_sinks.specs.State.Standing.{SinksStand}
 use Rattle.scenario_sinks.specs.declared.sinks.Sinks.{Sinks}
 use Rattle.scenario_sinks.proofs.Citable.{stands_same}
-use Rattle.scenario_relays.specs.State.Standing.{RelaysStand}
+use Rattle.scenario_sinks.specs.State.RelaysStand.{RelaysStand}
 use Rattle.scenario_sources.specs.State.Standing.{SourcesStand}
 use Rattle.replay_steps.specs.declared.machine.Machine.{Machine}
 use Rattle.replay_steps.specs.Machines.{Stands, past_of, relays_past}
 use Rattle.replay_steps.specs.Relaying.{answer_lines, lines_at, lines_below, offers_below, offers_of}
 use Rattle.replay_steps.specs.Versions.{stage_in}
-use Rattle.replay_steps.proofs.CloseLines.{first_printed, flat_same, lines_closed, offers_closed, offers_same, units_are, units_closed}
+use Rattle.replay_steps.proofs.CloseLines.{first_printed, lines_closed, offers_closed, offers_same, units_are, units_closed}
 use Rattle.replay_steps.proofs.Closed.{FirstClosed}
 use Rattle.replay_steps.proofs.Gifted.{MeansOne, relays_behind, same_answers, same_answers_after, sources_behind}
 use Rattle.replay_steps.proofs.RelaysStay.{minds_relays}

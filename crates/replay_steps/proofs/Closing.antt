@@ -21,7 +21,7 @@ use Rattle.scenario_sinks.specs.Closing.{closings_at}
 use Rattle.scenario_sinks.specs.Handing.{CutShort}
 use Rattle.scenario_sinks.specs.Pasts.{with_close}
 use Rattle.scenario_sinks.specs.State.Standing.{SinksStand}
-use Rattle.scenario_relays.specs.State.Standing.{RelaysStand}
+use Rattle.scenario_sinks.specs.State.RelaysStand.{RelaysStand}
 use Rattle.replay_steps.specs.declared.machine.Machine.{Machine}
 use Rattle.replay_steps.specs.Failing.{CloseFails}
 use Rattle.replay_steps.specs.Machines.{Stands, past_of, relays_past}

@@ -18,8 +18,8 @@ use Rattle.scenario_history.specs.Gifts.{Answered, Offer, after_offers, answered
 use Rattle.scenario_history.specs.Output.{first_lines, output_of, sum_if, sum_of, sums_of, unit_lines}
 use Rattle.scenario_history.specs.Refusals.{no_sink, phase_refusal}
 use Rattle.scenario_history.proofs.Citable.{box_was_made, octets_add_up, units_add_up}
-use Rattle.gift_laws.specs.Laws.{IsLeft}
-use Rattle.gift_laws.proofs.Citable.{left_by_offers}
+use Rattle.scenario_laws.specs.Gifts.Laws.{IsLeft}
+use Rattle.scenario_laws.proofs.Gifts.Citable.{left_by_offers, flat_same}
 use Rattle.scenario_sources.specs.declared.sources.Sources.{Sources}
 use Rattle.scenario_sources.specs.State.Standing.{SourcesStand}
 use Rattle.scenario_sources.proofs.Citable.{drop_says, end_says, sources_stay}
@@ -33,7 +33,7 @@ use Rattle.scenario_sinks.specs.State.Standing.{SinksStand}
 use Rattle.scenario_sinks.specs.Sums.{Puts, sum_at, sum_where, sums_where}
 use Rattle.scenario_sinks.proofs.Citable.{accounts_append, hands_then, stands_same}
 use Rattle.replay_steps.specs.declared.machine.Machine.{Machine}
-use Rattle.scenario_relays.specs.State.Standing.{RelaysStand}
+use Rattle.scenario_sinks.specs.State.RelaysStand.{RelaysStand}
 use Rattle.replay_steps.specs.Failing.{CloseFails}
 use Rattle.replay_steps.specs.Machines.{Stands, past_of, relays_past}
 use Rattle.replay_steps.specs.Meets.{BoxesStand, Meets, Tells, phase_line}
@@ -41,7 +41,7 @@ use Rattle.replay_steps.specs.Relaying.{Closes, RoomsStand}
 use Rattle.replay_steps.specs.Versions.{stage_in}
 use Rattle.replay_steps.proofs.BoxStops.{AreFrom, from_closings}
 use Rattle.replay_steps.proofs.Closed.{FirstClosed, first_cut, first_fails_at, never_refused, second_closed, second_cut, second_fails_at}
-use Rattle.replay_steps.proofs.CloseLines.{first_printed, flat_same, lines_closed, offers_closed, offers_same, units_are, units_closed}
+use Rattle.replay_steps.proofs.CloseLines.{first_printed, lines_closed, offers_closed, offers_same, units_are, units_closed}
 use Rattle.replay_steps.proofs.Closing.{closing_is}
 use Rattle.replay_steps.proofs.RelaysStay.{relays_stay}
 use Rattle.replay_steps.proofs.Stepping.{or_none, sinks_stand}

@@ -9,13 +9,14 @@ use Rattle.scenario_text.specs.declared.step.Step.{Step}
 use Rattle.scenario_text.specs.declared.step.Step.TheVariants.{Unit as UnitLine}
 use Rattle.scenario_history.specs.Gifts.{Offer, after_offer, after_offers, answered, dropped_for, with_gift, with_gift_unless}
 use Rattle.scenario_history.specs.Gifts.{Answered}
-use Rattle.scenario_history.specs.Refusals.{gives_on, refuse_if, source_refusal}
+use Rattle.scenario_history.specs.Refusals.{gives_on, source_refusal}
+use Rattle.sink_history.specs.Refusals.{refuse_if}
 use Rattle.scenario_history.specs.Relays.{relay_given, relays_to}
 use Rattle.scenario_history.specs.Source.{takes_units}
 use Rattle.scenario_history.specs.Steps.{chosen_given, chosen_of, is_of_source, stage_of, steps_of_source, version_at, version_of}
-use Rattle.gift_laws.proofs.Citable.{left_by_offers}
-use Rattle.scenario_relays.specs.declared.relays.Relays.{Relays}
-use Rattle.scenario_relays.specs.State.Standing.{RelaysStand}
+use Rattle.scenario_laws.proofs.Gifts.Citable.{left_by_offers}
+use Rattle.scenario_sinks.specs.declared.relays.Relays.{Relays}
+use Rattle.scenario_sinks.specs.State.RelaysStand.{RelaysStand}
 use Rattle.scenario_sources.specs.declared.sources.Sources.{Sources}
 use Rattle.scenario_sources.specs.State.Standing.{SourcesStand}
 use Rattle.replay_steps.specs.Machines.{lent, relays_past}

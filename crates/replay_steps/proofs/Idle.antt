@@ -2,7 +2,7 @@
 use Rattle.std.proofs.Common.{ℕ, zero, suc, ◌≡◌, ◌≤◌, ◌<◌, ◌+◌, ◌⊎◌, ◌==◌, ◌&&◌, not, Bool, true, false, List, [], ◌∷◌, ◌++◌, refl, sym, ◌∙◌, ap, subst, inl, inr, arith}
 use Rattle.std.proofs.Common.{append_assoc, append-nil, eqb-true, option_map, is_none, Option, None, Some, Result, Ok, Err}
 use Rattle.std.specs.List.{flat_map, list_all, range_with_len}
-use Rattle.std.proofs.lemmas.Bool.{and_parts, cases_eq}
+use Rattle.std.proofs.lemmas.Bool.{and_parts, cases_eq, not-false}
 use Rattle.unit_outlets.specs.Account.{Account}
 use Rattle.unit_outlets.specs.Took.{TookAt}
 use Rattle.unit_outlets.specs.declared.fault.OutletFault.TheVariants.{Failed}
@@ -19,15 +19,16 @@ use Rattle.scenario_sinks.specs.Closing.{closing_of, handed_all}
 use Rattle.scenario_sinks.specs.Handing.{BoxFails}
 use Rattle.scenario_sinks.specs.Pasts.{Past}
 use Rattle.scenario_sinks.proofs.Citable.{accounts_append, lines_append}
-use Rattle.scenario_relays.specs.Pasts.{is_idle}
-use Rattle.scenario_relays.specs.State.Standing.{RelaysStand}
+use Rattle.scenario_sinks.specs.RelayPasts.{is_idle}
+use Rattle.scenario_sinks.specs.State.RelaysStand.{RelaysStand}
 use Rattle.scenario_sources.specs.State.Standing.{SourcesStand}
 use Rattle.replay_steps.specs.declared.machine.Machine.{Machine}
 use Rattle.replay_steps.specs.Machines.{lent, relays_past}
 use Rattle.replay_steps.specs.Relaying.{Closes, FirstMeets, RoomsStand, answer_lines, lines_at, lines_below, offers_below, offers_of, units_below}
 use Rattle.replay_steps.proofs.Between.{range_more}
 use Rattle.replay_steps.proofs.Closed.{first_closes, second_closes}
-use Rattle.replay_steps.proofs.CloseLines.{flat_nothing, flat_within}
+use Rattle.scenario_laws.proofs.Gifts.Citable.{flat_within}
+use Rattle.replay_steps.proofs.CloseLines.{flat_nothing}
 
 -- ---- a box stops units of two lists
 
@@ -192,10 +193,6 @@ all_meet steps past event old new text told before after (Err OutletFault) none 
     }
 all_meet steps past event old new text told before after (Err Memory) none rooms sources held m = m.hands
 
-not_false : (b : Bool) → not b ≡ false → b ≡ true
-not_false true e = refl
-not_false false e = sym e
-
 pub idle_meets : (steps : List Step) (past : Past) (event : ℕ) (old new : Machine) (text told : List ℕ) (before after : List Account) (r : Result (Unit {0}) Stop)
     → is_idle (relays_past steps) ≡ true → RoomsStand steps past old → new.sources ≡ old.sources → new.relays ≡ old.relays
     → sinks.Closes past 0 (Some event) new.sinks text told before after r → FirstMeets steps past event new text told before after r
@@ -209,7 +206,7 @@ pub closes_at_once : (steps : List Step) (past : Past) (source : ℕ) (closed : 
     → Closes steps past source closed new text told before after r
 closes_at_once steps past zero closed event old new text told before after r idle is rooms sources held m =
     first_closes steps past 0 closed event new text told before after r refl is
-    (idle_meets steps past event old new text told before after r (not_false (is_idle (relays_past steps)) idle) rooms sources held m)
+    (idle_meets steps past event old new text told before after r (not-false (is_idle (relays_past steps)) idle) rooms sources held m)
 closes_at_once steps past (suc other) closed event old new text told before after r idle is rooms sources held m =
     second_closes steps past (suc other) closed event old new text told before after r (λ e. absurd (cc e)) is rooms sources held m
 

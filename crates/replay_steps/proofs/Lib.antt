@@ -20,3 +20,4 @@ pub mod Closed
 pub mod Idle
 pub mod Rooms
 pub mod UntakenRuns
+mod HandedOn

@@ -1,13 +1,11 @@
 -- A line by its step.
-use Rattle.std.proofs.Common.{◌≡◌, ℕ, ◌+◌, ◌<◌, ◌≤◌, nat_le, List, [], ◌∷◌, ◌++◌, length, true, false, Bool, inl, inr, Option, None, Some, Result, Ok, Err, refl, sym, ◌∙◌, ap, ap₂, subst, is_some, arith}
+use Rattle.std.proofs.Common.{◌≡◌, ℕ, ◌+◌, ◌<◌, ◌≤◌, nat_le, List, [], ◌∷◌, ◌++◌, length, inl, inr, Option, None, Some, Result, Ok, Err, refl, sym, ◌∙◌, ap, ap₂, subst, is_some, arith}
 use Rattle.std.specs.Option.{option_or}
 use Rattle.std.proofs.lemmas.Bool.{leb-false}
-use Rattle.std.proofs.lemmas.Option.{none-some}
 use Rattle.bcast_io.specs.TextLines.{TextLine, plain}
 use Rattle.unit_outlets.specs.Account.{Account}
 use Rattle.source_machine.specs.Airs.{airs_of}
-use Rattle.transcript_text.specs.declared.refusal.Refusal.{Refusal}
-use Rattle.transcript_text.specs.declared.refusal.Refusal.TheVariants.{AfterEnd, BadLine, Backlog, Order, Relayed, SinkTwice, NoOutlet}
+use Rattle.transcript_text.specs.declared.refusal.Refusal.TheVariants.{AfterEnd, BadLine, Order, SinkTwice, NoOutlet}
 use Rattle.scenario_words.specs.declared.fault.LineFault.TheVariants.{BadLine as Misfit}
 use Rattle.scenario_history.specs.Gifts.{happened, with_gifts}
 use Rattle.std.proofs.lemmas.List.{append-nil}
@@ -15,10 +13,12 @@ use Rattle.scenario_text.specs.Steps.{read_of}
 use Rattle.scenario_text.specs.declared.step.Step.{Step}
 use Rattle.scenario_text.specs.declared.step.Step.TheVariants as steps
 use Rattle.scenario_history.specs.Steps.{sinks_made, sinks_made_by, version_at, version_of, is_over}
-use Rattle.gift_laws.proofs.Citable.{hands_alike, left_by_gifts, stage_happened}
+use Rattle.scenario_laws.proofs.Gifts.Citable.{hands_alike, left_by_gifts, stage_happened, passes_both}
 use Rattle.scenario_history.specs.Boxes.{accounts_after, box_of, handed_by, handed_up}
-use Rattle.scenario_history.specs.Refusals.{is_relayed, refusal_of, refuse_if, is_out_of_order, relayed_or, sink_refusal}
+use Rattle.scenario_history.specs.Refusals.{is_relayed, refusal_of, is_out_of_order, sink_refusal}
+use Rattle.sink_history.specs.Refusals.{refuse_if}
 use Rattle.scenario_history.specs.Lines.{Said, a_step, nothing, unsaid, said_of, steps_of, said_by, said_after, with_said, refusal_said, output_said, handed_said}
+use Rattle.scenario_history.proofs.Citable.{fails_not}
 use Rattle.replay_steps.specs.declared.machine.Machine.{Machine}
 use Rattle.transcript_text.specs.declared.stop.Stop.{Stop}
 use Rattle.transcript_text.specs.declared.stop.Stop.TheVariants.{Refused, OutletFault, Memory}
@@ -37,10 +37,6 @@ first_none : {A : Type 0} (a b : Option A) → option_or a b ≡ None → a ≡ 
 first_none None b e = refl
 first_none (Some x) b e = absurd (cc)
 
-test_fails : (b : Bool) (reason : Refusal) → refuse_if b reason ≡ None → b ≡ false
-test_fails true reason e = absurd (cc)
-test_fails false reason e = refl
-
 -- a box is left for each sink that was made
 sink_fits : (boxes n streams slots : ℕ) (mtu : Option ℕ) (earlier : List Step) → refusal_of airs_of boxes earlier (steps.Sink n streams slots mtu) ≡ None → sinks_made earlier + 1 ≤ boxes
 sink_fits boxes n streams slots mtu earlier e =
@@ -48,7 +44,7 @@ sink_fits boxes n streams slots mtu earlier e =
     let own = last_none (refuse_if (is_out_of_order earlier (steps.Sink n streams slots mtu)) Order) _ phase in
     let sink = first_none (sink_refusal boxes earlier (steps.Sink n streams slots mtu)) _ own in
     let outlet = last_none (refuse_if (is_some (box_of n earlier)) SinkTwice) _ sink in
-    let less : sinks_made earlier < boxes = leb-false boxes (sinks_made earlier) (test_fails (nat_le boxes (sinks_made earlier)) NoOutlet outlet) in
+    let less : sinks_made earlier < boxes = leb-false boxes (sinks_made earlier) (fails_not (nat_le boxes (sinks_made earlier)) NoOutlet outlet) in
     omega arith
 
 room_stays : (boxes : ℕ) (earlier : List Step) (made : Step) → refusal_of airs_of boxes earlier made ≡ None → sinks_made earlier ≤ boxes → sinks_made (made ∷ earlier) ≤ boxes
@@ -73,17 +69,6 @@ one_more : (lines : List TextLine) (line : TextLine) (made : Step) → said_afte
     → steps_of airs_of (line ∷ lines) ≡ made ∷ with_gifts airs_of (steps_of airs_of lines) made
 one_more lines line made is = ap (λ said. happened airs_of (with_said said (said_of lines))) is
 
--- a reason stays one
-some_stays : (reason : Refusal) → relayed_or true (Some reason) ≡ None → ⊥
-some_stays Backlog none = none-some Relayed (sym none)
-some_stays reason none = none-some reason (sym none)
-
--- a line is refused for nothing only where its step is
-line_refused : (relayed : Bool) (refusal : Option Refusal) → relayed_or relayed refusal ≡ None → refusal ≡ None
-line_refused true None none = absurd (none-some Relayed (sym none))
-line_refused true (Some reason) none = absurd (some_stays reason none)
-line_refused false refusal none = none
-
 -- what a line that says a step does, by what the step does
 said_meets : (starts : List Account) (lines : List TextLine) (line : TextLine) (made : Step) (new : Machine) (text told : List ℕ) (before after : List Account)
     (r : Result (Unit {0}) Stop) → BoxesStand starts (steps_of airs_of lines) before → said_after lines line ≡ a_step made
@@ -91,7 +76,7 @@ said_meets : (starts : List Account) (lines : List TextLine) (line : TextLine) (
 said_meets starts lines line made new text told before after (Ok x) boxes is m =
     let made_before : List Step = steps_of airs_of lines in
     let more = one_more lines line made is in
-    let passes = line_refused (is_relayed made_before made) (refusal_of airs_of (length starts) made_before made) m.0 in (
+    let passes = passes_both (is_relayed made_before made) (refusal_of airs_of (length starts) made_before made) m.0 in (
       ap (refusal_said airs_of (length starts) made_before) is ∙ m.0,
       record {
         stands = (let P : List Step → Type 0 = λ s. Stands s new in subst P (sym more) m.1);

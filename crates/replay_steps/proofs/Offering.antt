@@ -17,14 +17,15 @@ use Rattle.scenario_text.specs.declared.step.Step.{Step}
 use Rattle.scenario_text.specs.declared.step.Step.TheVariants.{Source, Unit as UnitLine}
 use Rattle.scenario_history.specs.Gifts.{Answered, Offer, after_offer, after_offers, answered, dropped_for, offered_of, units_on, valid_on, with_gift}
 use Rattle.scenario_history.specs.Output.{answer_line}
-use Rattle.scenario_history.specs.Refusals.{gives_on, refuse_if, source_refusal}
+use Rattle.scenario_history.specs.Refusals.{gives_on, source_refusal}
+use Rattle.sink_history.specs.Refusals.{refuse_if}
 use Rattle.scenario_history.specs.Relays.{Route}
 use Rattle.scenario_history.specs.Source.{takes_units}
 use Rattle.scenario_history.specs.Steps.{chosen_of, steps_of_source, version_of}
-use Rattle.scenario_relays.specs.declared.relays.Relays.{Relays}
-use Rattle.scenario_relays.specs.declared.route.Route.{Route as LentRoute}
-use Rattle.scenario_relays.specs.Pasts as pasts
-use Rattle.scenario_relays.specs.State.Standing.{RelaysStand}
+use Rattle.scenario_sinks.specs.declared.relays.Relays.{Relays}
+use Rattle.scenario_sinks.specs.declared.route.Route.{Route as LentRoute}
+use Rattle.scenario_sinks.specs.RelayPasts as pasts
+use Rattle.scenario_sinks.specs.State.RelaysStand.{RelaysStand}
 use Rattle.scenario_sinks.specs.State.Gathering.{handed_as, handed_of}
 use Rattle.scenario_sinks.specs.declared.gathered.HandedUnit.{HandedUnit}
 use Rattle.scenario_sources.specs.Answers.{Answers}

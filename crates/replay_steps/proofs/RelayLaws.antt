@@ -7,7 +7,7 @@ use Rattle.big_info.specs.declared.info.BigInfo.{BigInfo}
 use Rattle.source_machine.specs.Airs.{airs_of}
 use Rattle.delegator_machine.specs.Groups.{with_leave}
 use Rattle.group_sink.specs.Calls.{Call}
-use Rattle.link_history.specs.Calls as links
+use Rattle.sink_history.specs.Calls as links
 use Rattle.sink_history.specs.Lives.{Made, Source, made_of}
 use Rattle.sink_history.specs.Moves.{received_by}
 use Rattle.transcript_text.specs.declared.refusal.Refusal.{Refusal}
@@ -17,15 +17,16 @@ use Rattle.transcript_text.specs.declared.stop.Stop.TheVariants.{Refused, Outlet
 use Rattle.scenario_text.specs.declared.step.Step.{Step}
 use Rattle.scenario_text.specs.declared.step.Step.TheVariants.{Drop, Relay, Unit as UnitLine}
 use Rattle.scenario_history.specs.Boxes.{box_of}
-use Rattle.scenario_history.specs.Refusals.{gives_on, is_relay_beyond, is_relay_taken, may_relay, phase_refusal, refuse_if, relay_refusal, relayed_or}
+use Rattle.scenario_history.specs.Refusals.{gives_on, is_relay_beyond, is_relay_taken, may_relay, phase_refusal, relay_refusal, relayed_or}
+use Rattle.sink_history.specs.Refusals.{refuse_if}
 use Rattle.scenario_history.specs.Relays.{Route, had_relay, relay_given, relay_of}
 use Rattle.scenario_history.specs.Sinks.{sink_calls}
 use Rattle.scenario_history.specs.Source.{setup_of, takes_units}
 use Rattle.scenario_history.specs.Steps.{chosen_of, last_given, running, stage_of, steps_of_source}
 use Rattle.scenario_history.specs.Worlds.{life, source_at}
-use Rattle.scenario_relays.specs.declared.relays.Relays.{Relays}
-use Rattle.scenario_relays.specs.Pasts.{with_gift, with_relay, without}
-use Rattle.scenario_relays.specs.State.Standing.{RelaysStand}
+use Rattle.scenario_sinks.specs.declared.relays.Relays.{Relays}
+use Rattle.scenario_sinks.specs.RelayPasts.{with_gift, with_relay, without}
+use Rattle.scenario_sinks.specs.State.RelaysStand.{RelaysStand}
 use Rattle.scenario_sources.specs.Answers.{Answers}
 use Rattle.scenario_sources.specs.Faults.{fault_of}
 use Rattle.scenario_sources.specs.State.Standing.{SourcesStand}

@@ -7,9 +7,9 @@ use Rattle.scenario_text.specs.declared.step.Step.TheVariants.{Drop, Relay, Unit
 use Rattle.scenario_history.specs.Refusals.{gives_on, is_relayed}
 use Rattle.scenario_history.specs.Relays.{Route, had_relay, relay_given, relay_of, relays_to}
 use Rattle.scenario_history.specs.Steps.{is_of_source, last_given, steps_of_source}
-use Rattle.scenario_relays.specs.declared.relays.Relays.{Relays}
-use Rattle.scenario_relays.specs.Pasts as relays
-use Rattle.scenario_relays.specs.State.Standing.{RelaysStand}
+use Rattle.scenario_sinks.specs.declared.relays.Relays.{Relays}
+use Rattle.scenario_sinks.specs.RelayPasts as relays
+use Rattle.scenario_sinks.specs.State.RelaysStand.{RelaysStand}
 use Rattle.replay_steps.specs.Machines.{lent, relays_past}
 
 all_as : (one other : ℕ → Bool) (ns : List ℕ) → ((n : ℕ) → one n ≡ other n) → list_all one ns ≡ list_all other ns

@@ -4,7 +4,7 @@ use Rattle.std.specs.List.{concat}
 use Rattle.std.specs.Option.{option_or}
 use Rattle.unit_outlets.specs.Account.{Account}
 use Rattle.announcement_train.specs.declared.train.Train.{Train as Announced}
-use Rattle.link_history.specs.Calls.{Call}
+use Rattle.sink_history.specs.Calls.{Call}
 use Rattle.source_machine.specs.Airs.{airs_of}
 use Rattle.source_machine.specs.Faults.{announce_fault}
 use Rattle.transcript_text.specs.declared.refusal.Refusal.TheVariants.{NoSuchSink, Order}

@@ -3,7 +3,8 @@ use Rattle.std.proofs.Common.{◌≡◌, ℕ, ◌==◌, List, [], ◌∷◌, tru
 use Rattle.std.specs.Option.{option_or}
 use Rattle.source_machine.specs.Airs.{airs_of}
 use Rattle.big_info.specs.declared.info.BigInfo.{BigInfo}
-use Rattle.delegator_machine.specs.Groups.{numbers_alone, tuning_of as tuning_to}
+use Rattle.delegator_machine.specs.Groups.{tuning_of as tuning_to}
+use Rattle.delegator_history.specs.Announced.{numbers_alone}
 use Rattle.delegator_history.specs.LastGiven.{last_given}
 use Rattle.delegator_history.specs.Trains.{Joining}
 use Rattle.group_sink.specs.Calls.{Tuning, tune}
@@ -18,9 +19,10 @@ use Rattle.scenario_history.specs.Source.{group_of, no_group, setup_of, takes_un
 use Rattle.scenario_history.specs.Sinks.{tuning_of}
 use Rattle.scenario_history.specs.Boxes.{box_of}
 use Rattle.scenario_history.specs.Worlds.{joining_on}
-use Rattle.sink_history.specs.Lives.{Made, horizon_of, version_given}
+use Rattle.sink_history.specs.Lives.{Made, horizon_of, version_given, horizon_in}
 use Rattle.scenario_history.specs.Steps.{sinks_made}
-use Rattle.scenario_history.specs.Refusals.{has_beyond, horizon_in, is_misplaced, is_out_of_phase, no_sink, phase_refusal, refuse_if, relayed_or, sink_refusal, source_refusal, twin_refusal}
+use Rattle.scenario_history.specs.Refusals.{has_beyond, is_misplaced, is_out_of_phase, no_sink, phase_refusal, relayed_or, sink_refusal, source_refusal, twin_refusal}
+use Rattle.sink_history.specs.Refusals.{refuse_if}
 use Rattle.scenario_sources.specs.declared.sources.Sources.{Sources}
 use Rattle.scenario_sources.specs.Answers as sources
 use Rattle.scenario_sources.specs.Faults.{fault_of}
@@ -32,8 +34,8 @@ use Rattle.scenario_sinks.specs.Refusals as sinks
 use Rattle.scenario_sinks.specs.Refusals.{not_made, not_tuned}
 use Rattle.scenario_sinks.specs.State.Standing.{SinksStand}
 use Rattle.replay_steps.specs.declared.machine.Machine.{Machine}
-use Rattle.scenario_relays.specs.declared.relays.Relays.{Relays}
-use Rattle.scenario_relays.specs.State.Standing.{RelaysStand}
+use Rattle.scenario_sinks.specs.declared.relays.Relays.{Relays}
+use Rattle.scenario_sinks.specs.State.RelaysStand.{RelaysStand}
 use Rattle.replay_steps.specs.Machines.{Stands, past_of, relays_past}
 use Rattle.replay_steps.specs.Meets.{Quiet, phase_line}
 use Rattle.replay_steps.specs.Versions.{stage_in}

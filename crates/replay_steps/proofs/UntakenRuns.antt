@@ -2,15 +2,14 @@
 use Rattle.std.proofs.Common.{◌≡◌, ◌≤◌, List, [], ◌∷◌, ◌++◌, reverse, ap, ◌∙◌, arith, refl, Option, None, Some}
 use Rattle.bcast_io.specs.TextLines.{TextLine}
 use Rattle.unit_outlets.specs.Account.{Account}
-use Rattle.source_machine.specs.Airs.{airs_of}
+use Rattle.source_machine.specs.Airs.{airs_of, Airs}
 use Rattle.transcript_text.specs.declared.refusal.Refusal.{Refusal}
 use Rattle.scenario_history.specs.Runs.{Accepted, accepted_of, accepted_unless}
 use Rattle.scenario_history.proofs.Citable.{accepted_accepted}
 use Rattle.scenario_text.specs.declared.step.Step.{Step}
 use Rattle.scenario_text.specs.declared.step.Step.TheVariants.{Sink}
 use Rattle.scenario_history.specs.Lines.{Said, a_step, nothing, unsaid, rules_of, said_after, said_of, steps_of, with_said}
-use Rattle.gift_laws.proofs.Citable.{sinks_happened}
-use Rattle.scenario_history.specs.Source.{Airs}
+use Rattle.scenario_laws.proofs.Gifts.Citable.{sinks_happened}
 use Rattle.scenario_history.specs.Steps.{sinks_made}
 use Rattle.replay_steps.specs.Untaken.{UntakenBy, UntakenRun, UntakenSame}
 

@@ -13,7 +13,8 @@ use Rattle.scenario_history.specs.Sinks.{heard_on_air, reaches, sink_calls, sour
 use Rattle.scenario_history.specs.Boxes.{box_of}
 use Rattle.scenario_history.specs.Worlds.{life}
 use Rattle.sink_history.specs.Lives.{made_of}
-use Rattle.scenario_history.specs.Refusals.{no_sink, refuse_if}
+use Rattle.scenario_history.specs.Refusals.{no_sink}
+use Rattle.sink_history.specs.Refusals.{refuse_if}
 use Rattle.scenario_sinks.specs.Pasts.{Past}
 
 -- a PDU of the chosen source may be handed to a sink: the source was started and has this group, and the sink lives

@@ -13,9 +13,9 @@ use Rattle.scenario_history.specs.Relays.{had_relay, relay_of}
 use Rattle.scenario_history.specs.Worlds.{life}
 use Rattle.sink_history.specs.Lives.{made_of}
 use Rattle.scenario_sources.specs.State.Standing.{SourcesStand}
-use Rattle.scenario_relays.specs.declared.route.Route.{Route}
-use Rattle.scenario_relays.specs.Pasts as relays
-use Rattle.scenario_relays.specs.State.Standing.{RelaysStand}
+use Rattle.scenario_sinks.specs.declared.route.Route.{Route}
+use Rattle.scenario_sinks.specs.RelayPasts as relays
+use Rattle.scenario_sinks.specs.State.RelaysStand.{RelaysStand}
 use Rattle.scenario_sinks.specs.Pasts.{Past}
 use Rattle.scenario_sinks.specs.State.Standing.{SinksStand}
 use Rattle.replay_steps.specs.Versions.{stage_in}

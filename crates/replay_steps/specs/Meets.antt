@@ -1,7 +1,7 @@
 -- What a step does, by the definitions of a scenario, whose language is this project's own.
 use Rattle.std.specs.Prelude.{ℕ, ◌≡◌, ◌≤◌, ◌⊎◌, List, ◌∷◌, ◌++◌, length, Option, None, Some, Result, Ok, Err}
 use Rattle.unit_outlets.specs.Account.{Account}
-use Rattle.source_machine.specs.Airs.{airs_of}
+use Rattle.source_machine.specs.Airs.{airs_of, Airs}
 use Rattle.transcript_text.specs.declared.refusal.Refusal.{Refusal}
 use Rattle.transcript_text.specs.declared.refusal.Refusal.TheVariants.{Order}
 use Rattle.scenario_text.specs.declared.step.Step.{Step}
@@ -11,7 +11,6 @@ use Rattle.scenario_history.specs.Boxes.{SinkUnit, accounts_after, handed_up, ha
 use Rattle.scenario_history.specs.Output.{output_of}
 use Rattle.scenario_history.specs.Gifts.{Answered, answered_by, with_gifts}
 use Rattle.scenario_history.specs.Refusals.{is_relayed, line_refusal, phase_refusal, relayed_or}
-use Rattle.scenario_history.specs.Source.{Airs}
 use Rattle.replay_steps.specs.declared.machine.Machine.{Machine}
 use Rattle.transcript_text.specs.declared.stop.Stop.{Stop}
 use Rattle.transcript_text.specs.declared.stop.Stop.TheVariants.{Refused, OutletFault, Memory}

@@ -13,8 +13,8 @@ use Rattle.scenario_history.specs.Boxes.{SinkUnit, accounts_after, sink_numbers}
 use Rattle.scenario_history.specs.Gifts.{Answered, Offer, after_offers, answered, dropped_for, offered_of, with_gift}
 use Rattle.scenario_history.specs.Output.{answer_line, unit_lines}
 use Rattle.scenario_history.specs.Relays.{relay_of}
-use Rattle.scenario_relays.specs.declared.relays.Relays.{Relays}
-use Rattle.scenario_relays.specs.State.Standing.{RelaysStand}
+use Rattle.scenario_sinks.specs.declared.relays.Relays.{Relays}
+use Rattle.scenario_sinks.specs.State.RelaysStand.{RelaysStand}
 use Rattle.scenario_sinks.specs.Closing.{closing_of, closings, handed_all}
 use Rattle.scenario_sinks.specs.Handing.{BoxFails, CutShort, Hands}
 use Rattle.scenario_sinks.specs.Pasts.{Past, with_close, with_close_at}

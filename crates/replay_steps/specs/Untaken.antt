@@ -2,11 +2,10 @@
 use Rattle.std.specs.Prelude.{ℕ, ◌≡◌, ◌≤◌, List, [], ◌++◌, reverse, slice_get}
 use Rattle.bcast_io.specs.TextLines.{TextLine}
 use Rattle.unit_outlets.specs.Account.{Account}
-use Rattle.source_machine.specs.Airs.{airs_of}
+use Rattle.source_machine.specs.Airs.{airs_of, Airs}
 use Rattle.scenario_text.specs.declared.step.Step.{Step}
 use Rattle.scenario_history.specs.Runs.{Accepted, accepted_of}
 use Rattle.scenario_history.specs.Lines.{rules_of, steps_of}
-use Rattle.scenario_history.specs.Source.{Airs}
 use Rattle.scenario_history.specs.Steps.{sinks_made}
 
 -- each box behind those that the sinks of these steps took, the first ones of the list, is the same

@@ -1,5 +1,5 @@
 ghost use Rattle.std.specs.Prelude.{◌≡◌, ◌≤◌};
-ghost use Rattle.scenario_history.specs.Refusals.{horizon_in};
+ghost use Rattle.sink_history.specs.Lives.{horizon_in};
 ghost use Rattle.scenario_history.specs.Source.{is_ahead_in};
 
 use big_info::Limits;

@@ -1,6 +1,7 @@
-ghost use Rattle.std.specs.Prelude.{◌≡◌, ◌≤◌, map, option_map, string_bytes, codes, IfOk, IfSome};
+ghost use Rattle.std.specs.Prelude.{◌≡◌, ◌≤◌, [], Ok, map, option_map, string_bytes, codes, IfOk, IfSome};
 ghost use Rattle.clap.specs.Words.{first_of, rows_of, found_of};
 ghost use Rattle.scenario_words.specs.Reading.{decimal_in};
+ghost use Rattle.replay_words.specs.declared.mode.Mode.TheVariants.{Replay};
 ghost use Rattle.replay_words.specs.Words.{HasNumbers, asked as mode_asked, asked_of, generating as mode_generating, is_yes, mode_of as mode_of_words};
 
 use crate::command::matches_of;
@@ -40,6 +41,7 @@ pub enum Mode {
 pub fn mode_of(alloc: Global, words: &Words) -> Result<Mode, Memory>
     ensures meaning { IfOk result (λ mode. mode ≡ mode_of_words (map string_bytes words.now)) }
     ensures numbers { IfOk result HasNumbers }
+    ensures no_words { words.now ≡ [] → result ≡ Ok Replay }
 {
     if words.count() == 0 {
         return Ok(Mode::Replay);

@@ -1,6 +1,6 @@
 -- What boxes took, unit by unit and all together.
 use Rattle.std.proofs.Common.{◌≡◌, ◌≢◌, ℕ, ◌+◌, ◌-◌, zero, suc, Bool, true, false, eqb, List, [], ◌∷◌, ◌++◌, length}
-use Rattle.std.proofs.Common.{map, drop, refl, sym, ap, ◌∙◌, append_assoc, arith, slice_get, slice_set, Option, None, Some, length-append, length-drop, inl, inr}
+use Rattle.std.proofs.Common.{map, drop, refl, sym, ap, ◌∙◌, append_assoc, arith, slice_get, slice_set, Option, None, Some, length-append, length-drop, ◌<◌, inl, inr}
 use Rattle.std.specs.Prelude.{slice_index_or, option_map, sum}
 use Rattle.std.proofs.lemmas.List.{drop-drop, drop-append-le}
 use Rattle.std.proofs.lemmas.Bool.Decides.{eqb_tells}
@@ -71,12 +71,17 @@ get_set [] i d f = refl
 get_set (x ∷ xs) zero d f = refl
 get_set (x ∷ xs) (suc i) d f = get_set xs i d f
 
-get_other : {A : Type 0} (xs : List A) (i j : ℕ) (x : A) → i ≢ j → slice_get (slice_set xs i x) j ≡ slice_get xs j
-get_other [] i j x other = refl
-get_other (y ∷ ys) zero zero x other = absurd (other refl)
-get_other (y ∷ ys) zero (suc j) x other = refl
-get_other (y ∷ ys) (suc i) zero x other = refl
-get_other (y ∷ ys) (suc i) (suc j) x other = get_other ys i j x (λ e. other (ap suc e))
+pub get_set_here : {A : Type 0} (xs : List A) (i : ℕ) (x : A) → i < length xs → slice_get (slice_set xs i x) i ≡ Some x
+get_set_here [] i x h = absurd (omega arith)
+get_set_here (y ∷ xs) zero x h = refl
+get_set_here (y ∷ xs) (suc i) x h = get_set_here xs i x (omega arith)
+
+pub get_set_other : {A : Type 0} (xs : List A) (i j : ℕ) (x : A) → j ≢ i → slice_get (slice_set xs i x) j ≡ slice_get xs j
+get_set_other [] i j x h = refl
+get_set_other (y ∷ xs) zero zero x h = absurd (h refl)
+get_set_other (y ∷ xs) zero (suc j) x h = refl
+get_set_other (y ∷ xs) (suc i) zero x h = refl
+get_set_other (y ∷ xs) (suc i) (suc j) x h = get_set_other xs i j x (λ e. h (ap suc e))
 
 -- one unit goes to its box
 took_step : (starts : List Account) (place : ℕ) (handed : Handed) (box : ℕ) (rest : List (List ℕ))
@@ -92,7 +97,7 @@ took_step starts place (valid bis time octets) box rest = elim (eqb_tells place 
       ∙ map_then (with_unit octets) (λ account. with_units account rest) (λ account. with_units account (octets ∷ rest)) (λ account. with_more account octets rest) (slice_get starts box)
       ∙ ap (λ b. option_map (λ account. with_units account (onto_valid b (valid bis time octets) rest)) (slice_get starts box)) (sym is.0)
   | inr not ↦
-      ap (option_map (λ account. with_units account rest)) (get_other starts place box (with_unit octets (account_at starts place)) not.1)
+      ap (option_map (λ account. with_units account rest)) (get_set_other starts place box (with_unit octets (account_at starts place)) (λ same. not.1 (sym same)))
       ∙ ap (λ b. option_map (λ account. with_units account (onto_valid b (valid bis time octets) rest)) (slice_get starts box)) (sym not.0)
 ]
 

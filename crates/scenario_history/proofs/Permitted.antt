@@ -6,9 +6,10 @@ use Rattle.std.specs.Option.{option_map, option_or}
 use Rattle.scenario_text.specs.declared.step.Step.{Step}
 use Rattle.transcript_text.specs.declared.refusal.Refusal.{Refusal}
 use Rattle.scenario_history.specs.Steps.{chosen_steps, is_over, stage_of, version_of}
-use Rattle.scenario_history.specs.Source.{Airs}
+use Rattle.source_machine.specs.Airs.{Airs}
 use Rattle.scenario_history.specs.Refusals.{is_misplaced, is_out_of_order, is_out_of_phase, own_refusal, phase_refusal}
-use Rattle.scenario_history.specs.Refusals.{refusal_of, refuse_if, sink_refusal, source_refusal, twin_refusal}
+use Rattle.scenario_history.specs.Refusals.{refusal_of, sink_refusal, source_refusal, twin_refusal}
+use Rattle.sink_history.specs.Refusals.{refuse_if}
 
 pub neither : {A : Type 0} (a b : Option A) → option_or a b ≡ None → (a ≡ None) × (b ≡ None)
 neither None b none = (refl, none)

@@ -3,10 +3,9 @@
 -- check and at calls that were accepted. Lists of calls have the newest first.
 use Rattle.std.specs.Prelude.{◌≡◌, List, [], ◌∷◌, None}
 use Rattle.big_info.specs.declared.group.Group.{Group}
-use Rattle.source_machine.specs.Airs.{AreAirs}
+use Rattle.source_machine.specs.Airs.{AreAirs, Airs}
 use Rattle.source_machine.specs.Calls.{Setup, Call, give, event}
 use Rattle.source_machine.specs.Faults.{give_fault, event_fault}
-use Rattle.scenario_history.specs.Source.{Airs}
 
 -- no call was refused after those before it
 abbrev pub AreAccepted : Airs → Setup → List Call → Type 0

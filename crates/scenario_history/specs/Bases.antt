@@ -4,8 +4,8 @@ use Rattle.std.specs.Prelude.{ℕ, nat_lt, is_some, Bool, List, [], ◌∷◌, l
 use Rattle.base_grammar.specs.Draft.{is_empty_last, last_of}
 use Rattle.base_grammar.specs.Layout.{Endpoint, endpoint, indices, spelling, stands_in}
 use Rattle.base_grammar.specs.declared.subgroup.Subgroup.{Subgroup}
-use Rattle.scenario_bases.specs.Lines.{BaseLine, opens, describes, adds, subgroups_in}
-use Rattle.scenario_bases.specs.Plain.{plain_base_of}
+use Rattle.announcement_train.specs.BaseLines.{BaseLine, opens, describes, adds, subgroups_in}
+use Rattle.announcement_train.specs.PlainBase.{plain_base_of}
 use Rattle.scenario_text.specs.declared.step.Step.{Step}
 use Rattle.scenario_text.specs.declared.step.Step.TheVariants.{Subgroup as SubgroupLine, Meta, Bis}
 use Rattle.scenario_history.specs.Source.{GroupLine, group_of, no_group}

@@ -11,9 +11,11 @@ use Rattle.transcript_text.specs.declared.refusal.Refusal.TheVariants.{Order}
 use Rattle.scenario_text.specs.declared.step.Step.{Step}
 use Rattle.scenario_text.specs.declared.step.Step.TheVariants.{Unit as UnitLine, Event, Source, Stop, Terminate, End}
 use Rattle.scenario_history.specs.Steps.{chosen_of, steps_of_source, version_of}
-use Rattle.scenario_history.specs.Source.{Airs, takes_units}
+use Rattle.scenario_history.specs.Source.{takes_units}
+use Rattle.source_machine.specs.Airs.{Airs}
 use Rattle.scenario_history.specs.Boxes.{SinkUnit, closing, sink_numbers}
-use Rattle.scenario_history.specs.Refusals.{refuse_if, source_refusal}
+use Rattle.scenario_history.specs.Refusals.{source_refusal}
+use Rattle.sink_history.specs.Refusals.{refuse_if}
 use Rattle.scenario_history.specs.Relays.{Route, relay_of}
 
 -- ---- what is offered

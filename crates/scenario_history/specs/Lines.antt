@@ -11,7 +11,7 @@ use Rattle.transcript_text.specs.declared.refusal.Refusal.TheVariants.{TextTooLo
 use Rattle.transcript_text.specs.Lines.{refusal_line}
 use Rattle.scenario_history.specs.Runs.{Rules}
 use Rattle.scenario_history.specs.Steps.{version_of}
-use Rattle.scenario_history.specs.Source.{Airs}
+use Rattle.source_machine.specs.Airs.{Airs}
 use Rattle.scenario_history.specs.Boxes.{SinkUnit, handed_by}
 use Rattle.scenario_history.specs.Gifts.{happened}
 use Rattle.scenario_history.specs.Refusals.{line_refusal}

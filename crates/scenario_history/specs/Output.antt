@@ -15,7 +15,8 @@ use Rattle.scenario_text.specs.declared.step.Step.TheVariants.{Event, Inject, Sn
 use Rattle.scenario_text.specs.declared.step.Step.TheVariants.{AServe, ATell, ARead, ADrain, AShow, Drop, Stop, Terminate, End}
 use Rattle.sink_history.specs.Output.{printed}
 use Rattle.scenario_history.specs.Steps.{chosen_of, chosen_steps}
-use Rattle.scenario_history.specs.Source.{Airs, event_back, end_pdu, pdu_in, stale_in}
+use Rattle.scenario_history.specs.Source.{event_back, end_pdu, pdu_in, stale_in}
+use Rattle.source_machine.specs.Airs.{Airs}
 use Rattle.scenario_history.specs.Sinks.{is_of, sink_calls, source_of}
 use Rattle.scenario_history.specs.Worlds.{the_world}
 use Rattle.scenario_history.specs.Gifts.{Answered, Offer, answered_by, handed_of}

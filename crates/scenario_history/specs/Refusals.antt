@@ -1,7 +1,7 @@
 -- Why a step is refused after those before it: the first reason that holds, in the order of test. The refusals are the
 -- scenario language's own; those of a group, a unit and a place on the air are after Core 5.2, volume 6 parts B and G. Lists
 -- of steps have the newest first; where a list is called `own` its steps are those of one source.
-use Rattle.std.specs.Prelude.{ℕ, ◌==◌, ◌&&◌, ◌||◌, nat_lt, nat_le, not, is_some, unwrap_or, Bool, true, false, List, Option, None, Some, if◌then◌else◌}
+use Rattle.std.specs.Prelude.{ℕ, ◌==◌, ◌&&◌, ◌||◌, nat_lt, nat_le, not, is_some, unwrap_or, Bool, true, false, List, Option, None, Some}
 use Rattle.std.specs.List.{list_any}
 use Rattle.std.specs.Option.{option_or, option_map, option_and_then}
 use Rattle.big_info.specs.declared.fault.GroupFault.{GroupFault}
@@ -9,8 +9,8 @@ use Rattle.big_info.specs.declared.fault.GroupFault.TheVariants.{Encrypted}
 use Rattle.big_info.specs.Rows.{first_fault}
 use Rattle.radio_schedule.specs.declared.air.AirFault.{AirFault}
 use Rattle.radio_schedule.specs.declared.air.AirFault.TheVariants.{NoSuchBis as NoStreamThere, NoSuchSubevent as NoSubeventThere, NotOnAir as NotKept}
-use Rattle.source_machine.specs.declared.fault.GiveFault.{GiveFault}
-use Rattle.source_machine.specs.declared.fault.GiveFault.TheVariants.{NoSuchBis as NoStream, UnitTooLong as TooLong, TimeOrder as WrongTime, Backlog as Full, Memory as NoMemory}
+use Rattle.source_machine.specs.UnitFaults.{UnitFault}
+use Rattle.source_machine.specs.UnitFaults.{NoSuchBis as NoStream, UnitTooLong as TooLong, TimeOrder as WrongTime, Backlog as Full}
 use Rattle.source_machine.specs.declared.fault.AnnounceFault.{AnnounceFault}
 use Rattle.source_machine.specs.declared.fault.EventFault.{EventFault}
 use Rattle.source_machine.specs.Faults.{give_fault, event_fault, announce_fault, air_fault}
@@ -24,17 +24,15 @@ use Rattle.scenario_text.specs.declared.step.Step.{Step}
 use Rattle.scenario_text.specs.declared.step.Step.TheVariants.{Scenario, Group, Ident, Subgroup, Meta, Bis, Cipher, Start, Sink, Tuned, Unit, Event, Hear, Air}
 use Rattle.scenario_text.specs.declared.step.Step.TheVariants.{Inject, Sniff, Announce, Drop, Relay, Stop, Terminate}
 use Rattle.scenario_history.specs.Steps.{Stage, chosen_of, chosen_steps, is_over, is_unbegun_at, other_of, sinks_made, stage_of, steps_of_source, version_of}
-use Rattle.scenario_history.specs.Source.{Airs, checked_info, group_of, ident_of, identity_of, is_absent_at, is_ciphered, is_described_at}
+use Rattle.scenario_history.specs.Source.{checked_info, group_of, ident_of, identity_of, is_absent_at, is_ciphered, is_described_at}
+use Rattle.source_machine.specs.Airs.{Airs}
 use Rattle.scenario_history.specs.Source.{is_heard, is_sending, is_started, no_group, performed, phase_of, setup_of, source_calls, takes_units}
 use Rattle.scenario_history.specs.Bases.{has_subgroup, has_bis, is_last_bare, is_base_too_long}
-use Rattle.sink_history.specs.Refusals.{refusal_of as refusal_of_sink}
+use Rattle.sink_history.specs.Refusals.{refusal_of as refusal_of_sink, refuse_if}
 use Rattle.scenario_history.specs.Boxes.{box_of}
 use Rattle.scenario_history.specs.Relays.{had_relay, relay_of}
 use Rattle.scenario_history.specs.Worlds.{the_world}
-
-abbrev pub refuse_if : Bool → Refusal → Option Refusal
-refuse_if true reason = Some reason
-refuse_if false reason = None
+use Rattle.sink_history.specs.Lives.{horizon_in}
 
 -- `scenario` is the first step and stands once
 abbrev pub is_misplaced : Stage → Step → Bool
@@ -73,10 +71,6 @@ is_out_of_phase own _ = false
 abbrev pub is_out_of_order : List Step → Step → Bool
 is_out_of_order steps step = is_misplaced (stage_of steps) step || is_out_of_phase (chosen_steps steps) step
 
--- how many events ahead a group may reach in a version
-abbrev pub horizon_in : ℕ → ℕ
-horizon_in version = if version == 2 then 31 else 15
-
 -- that a group is encrypted keeps no source from its start
 abbrev pub fault_refusal : GroupFault → Option Refusal
 fault_refusal Encrypted = None
@@ -88,12 +82,11 @@ group_refusal fault = option_and_then fault_refusal fault
 abbrev pub no_sink : ℕ → List Step → Option Refusal
 no_sink n steps = refuse_if (not (is_some (box_of n steps))) NoSuchSink
 
-abbrev pub give_refusal : GiveFault → Refusal
+abbrev pub give_refusal : UnitFault → Refusal
 give_refusal NoStream = NoSuchBis
 give_refusal TooLong = UnitTooLong
 give_refusal WrongTime = TimeOrder
 give_refusal Full = Backlog
-give_refusal NoMemory = Backlog
 
 abbrev pub air_refusal : AirFault → Refusal
 air_refusal NoStreamThere = NoSuchBis

@@ -12,7 +12,8 @@ use Rattle.scenario_history.specs.Steps.{chosen_of, chosen_steps, steps_of_sourc
 use Rattle.sink_history.specs.Lives.{made_of, named_by}
 use Rattle.sink_history.specs.Moves.{received_by, source_by}
 use Rattle.scenario_history.specs.Worlds.{life, source_at}
-use Rattle.scenario_history.specs.Source.{Airs, setup_of, source_calls, event_back, pdu_in, open_event}
+use Rattle.scenario_history.specs.Source.{setup_of, source_calls, event_back, pdu_in, open_event}
+use Rattle.source_machine.specs.Airs.{Airs}
 
 -- ---- the source of a sink
 

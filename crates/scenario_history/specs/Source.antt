@@ -7,9 +7,8 @@ use Rattle.big_info.specs.declared.info.Cipher.{Cipher}
 use Rattle.iso_pdu.specs.Control.{terminate}
 use Rattle.iso_pdu.specs.Layout.{control}
 use Rattle.iso_pdu.specs.Spelling.{pdu}
-use Rattle.isoal_base.specs.Air.{Air}
 use Rattle.source_machine.specs.Calls.{Setup, Call, give, event as perform, events, next_of}
-use Rattle.source_machine.specs.Airs.{pdu_of, stale_of}
+use Rattle.source_machine.specs.Airs.{Airs, pdu_of, stale_of}
 use Rattle.source_machine.specs.Ciphers.{with_cipher}
 use Rattle.source_machine.specs.declared.sent.Stale.{Stale}
 use Rattle.source_machine.specs.declared.setup.Identity.{Identity}
@@ -165,10 +164,6 @@ abbrev pub is_heard : List Step → Bool
 is_heard steps = is_started steps && not (is_ciphered steps)
 
 -- ---- its calls and its air
-
--- the airs of a source after its calls, one a stream
-abbrev pub Airs : Type 0
-Airs = Setup → List Call → List Air
 
 abbrev pub setup_from : GroupLine → ℕ → Bool → Setup
 setup_from group first ahead = record { info = group.info; origin = group.origin; delay = group.delay; first = first; ahead = ahead }

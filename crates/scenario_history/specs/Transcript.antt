@@ -8,7 +8,7 @@ use Rattle.transcript_text.specs.declared.refusal.Refusal.TheVariants.{NoEnd}
 use Rattle.transcript_text.specs.Lines.{refusal_line}
 use Rattle.scenario_history.specs.Runs.{End, through, refused, out, end_of, accepted_of}
 use Rattle.scenario_history.specs.Steps.{is_over}
-use Rattle.scenario_history.specs.Source.{Airs}
+use Rattle.source_machine.specs.Airs.{Airs}
 use Rattle.scenario_history.specs.Boxes.{SinkUnit, handed_up}
 use Rattle.scenario_history.specs.Lines.{rules_of, said_of, steps_of}
 

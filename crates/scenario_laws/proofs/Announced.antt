@@ -24,7 +24,8 @@ use Rattle.sink_history.specs.Moves.{joining_of}
 use Rattle.sink_history.specs.Output.{sight_in}
 use Rattle.scenario_history.specs.Bases.{base_from, base_of, subgroups_of}
 use Rattle.scenario_history.specs.Sinks.{tuning_of}
-use Rattle.scenario_history.specs.Source.{Airs, GroupLine, checked_info, group_of, identity_of, no_group, setup_of, source_calls}
+use Rattle.scenario_history.specs.Source.{GroupLine, checked_info, group_of, identity_of, no_group, setup_of, source_calls}
+use Rattle.source_machine.specs.Airs.{Airs}
 use Rattle.scenario_history.specs.Steps.{chosen_of, chosen_steps}
 use Rattle.scenario_history.specs.Worlds.{announced_of, life, source_at}
 use Rattle.scenario_laws.proofs.Announcers.{Tellable, may_announce, tellable}

@@ -18,7 +18,7 @@ use Rattle.base_grammar.specs.Layout.{endpoint, indices, stands_in}
 use Rattle.base_grammar.proofs.Drafts.{with_entry_keeps, with_metadata_keeps, with_subgroup_keeps}
 use Rattle.delegator_history.specs.Announced.{numbers_alone}
 use Rattle.delegator_history.specs.Octets.{MayAnnounce, cipher_octets}
-use Rattle.scenario_bases.proofs.Citable.{adds_to_last, describes_last}
+use Rattle.announcement_train.proofs.Citable.{adds_to_last, describes_last}
 use Rattle.source_machine.specs.declared.fault.AnnounceFault.{AnnounceFault}
 use Rattle.source_machine.specs.Calls.{next_anchor_of, next_of}
 use Rattle.source_machine.specs.Ciphers.{with_cipher}
@@ -28,8 +28,11 @@ use Rattle.scenario_text.specs.declared.step.Step.TheVariants as steps
 use Rattle.scenario_text.specs.Ranges.{IsInRange}
 use Rattle.transcript_text.specs.declared.refusal.Refusal.TheVariants.{BaseTooLong, NoSuchBis}
 use Rattle.scenario_history.specs.Bases.{base_lines, base_of, has_bis, has_subgroup, is_base_too_long, is_last_bare, subgroups_of}
-use Rattle.scenario_history.specs.Refusals.{group_refusal, horizon_in, refuse_if, train_ends}
-use Rattle.scenario_history.specs.Source.{Airs, Phase, absent, checked_info, cipher_of, described, group_of, identity_of, is_absent_at, is_described_at, is_sending, is_sending_at, is_started}
+use Rattle.scenario_history.specs.Refusals.{group_refusal, train_ends}
+use Rattle.sink_history.specs.Refusals.{refuse_if}
+use Rattle.sink_history.specs.Lives.{horizon_in}
+use Rattle.scenario_history.specs.Source.{Phase, absent, checked_info, cipher_of, described, group_of, identity_of, is_absent_at, is_described_at, is_sending, is_sending_at, is_started}
+use Rattle.source_machine.specs.Airs.{Airs}
 use Rattle.scenario_history.specs.Source.{GroupLine, no_group, phase_of, sending, setup_of, source_calls, stopped}
 use Rattle.scenario_laws.proofs.Bases.{is_base}
 use Rattle.scenario_laws.proofs.Legals.{fails_not, neither}

@@ -12,8 +12,8 @@ use Rattle.base_grammar.specs.declared.fault.DraftFault.TheVariants as faults
 use Rattle.base_grammar.specs.declared.subgroup.Subgroup.{Subgroup}
 use Rattle.base_grammar.specs.Layout.{AreNew, EntryFits, IsBase, SubgroupFits, bis_of, endpoint, is_lc3, lc3, spelling, stands_in}
 use Rattle.base_grammar.proofs.Drafts.{draft_done, finish_is}
-use Rattle.scenario_bases.specs.Plain.{plain_base_of, plain_entries, plain_entry, plain_subgroup}
-use Rattle.scenario_bases.proofs.Citable.{plain_is_small}
+use Rattle.announcement_train.specs.PlainBase.{plain_base_of, plain_entries, plain_entry, plain_subgroup}
+use Rattle.announcement_train.proofs.Citable.{plain_is_small}
 use Rattle.scenario_history.specs.Source.{GroupLine}
 use Rattle.scenario_history.specs.Bases.{base_from}
 

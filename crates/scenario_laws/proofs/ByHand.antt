@@ -9,7 +9,8 @@ use Rattle.group_sink.specs.Streams.{is_in}
 use Rattle.scenario_text.specs.declared.step.Step.{Step}
 use Rattle.scenario_text.specs.declared.step.Step.TheVariants as steps
 use Rattle.scenario_history.specs.Refusals.{has_beyond}
-use Rattle.scenario_history.specs.Source.{Airs, setup_of}
+use Rattle.scenario_history.specs.Source.{setup_of}
+use Rattle.source_machine.specs.Airs.{Airs}
 use Rattle.scenario_history.specs.Sinks.{tuning_of}
 use Rattle.scenario_history.specs.Steps.{chosen_steps}
 use Rattle.scenario_laws.proofs.Announced.{Announcing, announced_tuning, announced_within}

@@ -10,7 +10,8 @@ use Rattle.group_sink.specs.Streams.{closes}
 use Rattle.scenario_text.specs.declared.step.Step.{Step}
 use Rattle.scenario_text.specs.declared.step.Step.TheVariants as steps
 use Rattle.scenario_history.specs.Steps.{chosen_of, chosen_steps, is_over, steps_of_source}
-use Rattle.scenario_history.specs.Source.{Airs, event_back, is_sending, open_event, pdu_in, performed, setup_of}
+use Rattle.scenario_history.specs.Source.{event_back, is_sending, open_event, pdu_in, performed, setup_of}
+use Rattle.source_machine.specs.Airs.{Airs}
 use Rattle.scenario_history.specs.Sinks.{heard_on_air, is_lost, is_of, reaches, sink_calls, source_of, spot_at, spots_of, ticked, tuning_of, unless_lost}
 use Rattle.scenario_laws.specs.Laws.{Closed, closed_at, closed_by, closed_if, closed_in, closed_since, any_since, given_since_made, is_given, is_made, is_tuned}
 use Rattle.scenario_laws.proofs.Announced.{Announcing}

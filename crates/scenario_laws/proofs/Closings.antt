@@ -1,8 +1,8 @@
 -- Of all that is handed up by a step, what is of one sink and one source.
-use Rattle.std.proofs.Common.{ℕ, zero, suc, ◌≡◌, ◌≢◌, ◌<◌, ◌≤◌, ◌+◌, ◌==◌, ◌&&◌, cond, eqb, not, Bool, true, false, List, [], ◌∷◌, ◌++◌, map, Option, None, Some, refl, sym, ◌∙◌, ap, arith, inl, inr}
+use Rattle.std.proofs.Common.{ℕ, zero, suc, ◌≡◌, ◌≢◌, ◌≤◌, ◌+◌, ◌==◌, ◌&&◌, cond, eqb, not, Bool, true, false, List, [], ◌∷◌, ◌++◌, map, Option, None, Some, refl, sym, ◌∙◌, ap, arith, inl, inr}
 use Rattle.std.specs.Prelude.{is_some}
 use Rattle.std.specs.List.{filter, flat_map, range_with_len}
-use Rattle.std.proofs.lemmas.Bool.{cases_eq, cond-false, cond-true, eq-eqb, ne_eqb, eqb-true, false≢true}
+use Rattle.std.proofs.lemmas.Bool.{cases_eq, cond-false, cond-true, eq-eqb, ne_eqb, eqb-true, false≢true, and_right, and_left, not-false}
 use Rattle.std.proofs.lemmas.List.{append-nil, map-append}
 use Rattle.std.proofs.lemmas.List.Elements.{filter-append}
 use Rattle.std.proofs.lemmas.Option.{none-some}
@@ -14,14 +14,15 @@ use Rattle.scenario_text.specs.declared.step.Step.TheVariants as steps
 use Rattle.transcript_text.specs.declared.refusal.Refusal.TheVariants.{NoSuchSink}
 use Rattle.sink_history.specs.Lives.{Made, made_of, named_by}
 use Rattle.scenario_history.specs.Steps.{chosen_of, chosen_steps, sinks_made, steps_of_source}
-use Rattle.scenario_history.specs.Source.{Airs, event_back, open_event, pdu_in}
+use Rattle.scenario_history.specs.Source.{event_back, open_event, pdu_in}
+use Rattle.source_machine.specs.Airs.{Airs}
 use Rattle.scenario_history.specs.Sinks.{heard_on_air, is_of, reaches, sink_calls, source_of, spots_of, tuning_of, with_sink_call}
 use Rattle.scenario_history.specs.Boxes.{SinkUnit, box_after, box_of, closing, closing_at, closing_by, closing_in, handed_by, sink_numbers}
 use Rattle.scenario_history.specs.Refusals.{no_sink}
 use Rattle.scenario_laws.specs.Laws.{of_sink}
 use Rattle.scenario_laws.proofs.Legals.{Legal, Permitted, fails_not, permitted}
-use Rattle.scenario_laws.proofs.Sources.{not_false}
 use Rattle.scenario_laws.proofs.Moves.{unmoved}
+use Rattle.scenario_laws.proofs.Gifts.Citable.{flat_one}
 use Rattle.scenario_laws.proofs.Places.{air_place, end_place, same_place, tick_if_place}
 
 -- ---- a sink that is on a group has a box
@@ -60,7 +61,7 @@ unmade n (steps.Drop sink ∷ earlier) none = made_as (sink == n) (box_of n earl
 unmade n (_ ∷ earlier) none = unmade n earlier none
 
 has_box : (sink : ℕ) (earlier : List Step) → no_sink sink earlier ≡ None → is_some (box_of sink earlier) ≡ true
-has_box sink earlier none = not_false (is_some (box_of sink earlier)) (fails_not (not (is_some (box_of sink earlier))) NoSuchSink none)
+has_box sink earlier none = not-false (is_some (box_of sink earlier)) (fails_not (not (is_some (box_of sink earlier))) NoSuchSink none)
 
 housed_after : (airs : Airs) (boxes n : ℕ) (step : Step) (earlier : List Step) (calls : List Call) → Permitted airs boxes earlier step → (box_of n earlier ≡ None → place calls ≡ None)
     → box_after n step earlier (box_of n earlier) ≡ None → place (with_sink_call airs n step earlier calls) ≡ None
@@ -133,32 +134,13 @@ none_of g start (suc count) none =
     ap (λ xs. xs ++ flat_map g (range_with_len (start + 1) count)) (none start (omega arith))
     ∙ none_of g (start + 1) count (λ m least. none m (omega (arith, least)))
 
-one_of : (g : ℕ → List Handed) (n start count : ℕ) → start ≤ n → n < start + count → ((m : ℕ) → m ≢ n → g m ≡ []) → flat_map g (range_with_len start count) ≡ g n
-one_of g n start zero least below others = absurd (omega (arith, least, below))
-one_of g n start (suc count) least below others = elim (cases_eq start n) [
-  | inl same ↦
-      ap (λ xs. g start ++ xs) (none_of g (start + 1) count (λ m past. others m (λ is. omega (arith, is, past, same))))
-      ∙ append-nil (g start) ∙ ap g same
-  | inr apart ↦
-      ap (λ xs. xs ++ flat_map g (range_with_len (start + 1) count)) (others start apart)
-      ∙ one_of g n (start + 1) count (omega (arith, least, apart)) (omega (arith, below)) others
-]
-
-and_false : (a b : Bool) → b ≡ false → (a && b) ≡ false
-and_false true b is = is
-and_false false b is = refl
-
-and_false_first : (a b : Bool) → a ≡ false → (a && b) ≡ false
-and_false_first true b is = absurd (false≢true (sym is))
-and_false_first false b is = refl
-
 sink_closing : (airs : Airs) (boxes s n : ℕ) (made : List Step) (event : ℕ) → Legal airs boxes made → n ≤ 7
     → of_sink s n (closing_at airs s made (Some event)) ≡ cond (is_of s (source_of n made)) (handed_at (sink_calls airs n made) event) []
 unfolding sink_numbers
 sink_closing airs boxes s n made event legal within =
     of_sinks s n (λ m. closing_by s event m (sink_calls airs m made) (source_of m made) (box_of m made)) (range_with_len 0 8)
-    ∙ one_of (λ m. of_sink s n (closing_by s event m (sink_calls airs m made) (source_of m made) (box_of m made))) n 0 8 (omega arith) (omega (arith, within))
-    (λ m apart. other_closing s n s m event (sink_calls airs m made) (box_of m made) (is_of s (source_of m made)) (and_false (eqb s s) (eqb m n) (ne_eqb m n apart)))
+    ∙ flat_one (λ m. of_sink s n (closing_by s event m (sink_calls airs m made) (source_of m made) (box_of m made))) n 0 8 (omega arith) (omega (arith, within))
+    (λ m apart. other_closing s n s m event (sink_calls airs m made) (box_of m made) (is_of s (source_of m made)) (and_right (eqb s s) (eqb m n) (ne_eqb m n apart)))
     ∙ own_closing s n event (sink_calls airs n made) (box_of n made) (is_of s (source_of n made)) (housed airs boxes n made legal)
 
 unfold_other : (airs : Airs) (s c n : ℕ) (made : List Step) (event : ℕ) → c ≢ s → of_sink s n (closing_at airs c made (Some event)) ≡ []
@@ -166,7 +148,7 @@ unfolding sink_numbers
 unfold_other airs s c n made event apart =
     of_sinks s n (λ m. closing_by c event m (sink_calls airs m made) (source_of m made) (box_of m made)) (range_with_len 0 8)
     ∙ none_of (λ m. of_sink s n (closing_by c event m (sink_calls airs m made) (source_of m made) (box_of m made))) 0 8
-    (λ m least. other_closing s n c m event (sink_calls airs m made) (box_of m made) (is_of c (source_of m made)) (and_false_first (eqb c s) (eqb m n) (ne_eqb c s apart)))
+    (λ m least. other_closing s n c m event (sink_calls airs m made) (box_of m made) (is_of c (source_of m made)) (and_left (eqb c s) (eqb m n) (ne_eqb c s apart)))
 
 other_source : (airs : Airs) (s c n : ℕ) (made : List Step) (last_open : Option ℕ) → c ≢ s → of_sink s n (closing_at airs c made last_open) ≡ []
 other_source airs s c n made None apart = refl

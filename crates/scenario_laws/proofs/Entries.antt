@@ -1,23 +1,20 @@
 -- What is struck of units, by the numbers that they begin at: each entry is of its unit, in order.
-use Rattle.std.proofs.Common.{ℕ, zero, suc, ◌≡◌, ◌⊎◌, ◌<◌, ◌≤◌, ◌+◌, ◌-◌, ◌/◌, ◌&&◌, cond, ltb, Bool, true, false}
+use Rattle.std.proofs.Common.{ℕ, suc, ◌≡◌, ◌⊎◌, ◌<◌, ◌≤◌, ◌+◌, ◌-◌, ◌/◌, ◌&&◌, cond, ltb, Bool, true, false}
 use Rattle.std.proofs.Common.{List, [], ◌∷◌, ◌++◌, length, Option, None, Some, refl, sym, ◌∙◌, ap, subst, arith, inl, inr}
 use Rattle.std.specs.Prelude.{slice_get}
 use Rattle.std.specs.List.{AllZip, flat_map}
 use Rattle.std.proofs.lemmas.Bool.{and_parts, ltb-true}
 use Rattle.std.proofs.lemmas.Option.{none-some, same_Some}
+use Rattle.std.proofs.Math.Nat.{zero-add}
 use Rattle.unit_outlets.specs.Handed.{Handed, valid, lost}
 use Rattle.isoal_base.specs.Stays.{Stay}
 use Rattle.isoal_framed.specs.Calls.{Laying, Timed}
 use Rattle.isoal_framed.specs.Sends.{AreOf, IsOf}
 use Rattle.isoal_framed.specs.Struck.{InOrder, Sent, behind, entry_by, entry_of, first_missing, octets_in}
 use Rattle.isoal_framed.specs.Tokens.{time_of}
+use Rattle.isoal_framed.proofs.Citable.{cases_low}
+use Rattle.isoal_unframed.proofs.Citable.{all_zip_append}
 use Rattle.scenario_laws.proofs.Closes.{Climb, climb_on}
-use Rattle.scenario_laws.proofs.Shown.{zip_on}
-
-pub le_total : (a b : ℕ) → (a ≤ b) ⊎ (b < a)
-le_total zero b = inl (omega arith)
-le_total (suc a) zero = inr (omega arith)
-le_total (suc a) (suc b) = elim (le_total a b) [ inl is ↦ inl (omega (arith, is)) | inr is ↦ inr (omega (arith, is)) ]
 
 -- ---- the entry of a unit
 
@@ -121,11 +118,8 @@ numbering bn laid get base (one ∷ accepted) (unit ∷ units) at are = elim are
       (more.0, numbered_from _ base (base + 1) more.0 (unit ∷ units) (omega arith) more.1)
 ]
 
-zero_plus : (i : ℕ) → 0 + i ≡ i
-zero_plus i = omega arith
-
 pub are_numbered : (bn : ℕ) (laid : List Laying) (accepted : List Timed) (units : List Sent) → AreOf bn laid 0 accepted units → (ns : List ℕ) × Numbered (IsNumbered bn laid accepted) 0 ns units
-are_numbered bn laid accepted units are = numbering bn laid (slice_get accepted) 0 accepted units (λ i. ap (slice_get accepted) (zero_plus i)) are
+are_numbered bn laid accepted units are = numbering bn laid (slice_get accepted) 0 accepted units (λ i. ap (slice_get accepted) (zero-add i)) are
 
 -- ---- one stay after another
 
@@ -200,7 +194,7 @@ pub batch : (R : ℕ → Sent → Type 0) (E : ℕ → Handed → Type 0) (from 
 batch R E from until f gives more at low least laid [] [] all order ahead = none_batch E low until [] [] [] refl tt
 batch R E from until f gives more at low least laid (n ∷ ns) [] all order ahead = absurd all
 batch R E from until f gives more at low least laid [] (unit ∷ units) all order ahead = absurd all
-batch R E from until f gives more at low least laid (n ∷ ns) (unit ∷ units) all order ahead = elim (le_total until unit.first) [
+batch R E from until f gives more at low least laid (n ∷ ns) (unit ∷ units) all order ahead = elim (cases_low until unit.first) [
   | inl past ↦
       none_batch E low until (n ∷ ns) (unit ∷ units) (f unit ++ flat_map f units)
       (none_left R E from until f gives unit.first least laid (n ∷ ns) (unit ∷ units) all (omega arith, order.1, order.2, order.3) past)
@@ -234,7 +228,7 @@ ordered_on R E middle from until at laid f ns units entries all order gives firs
         high = next.high;
         climb = climb_on 0 before.all.numbers before.all.high next.numbers next.high before.all.climb next.climb;
         ahead = next.ahead;
-        each = zip_on E before.all.numbers next.numbers entries (flat_map f units) before.all.each next.each;
+        each = all_zip_append E before.all.numbers next.numbers entries (flat_map f units) before.all.each next.each;
       };
     }
 

@@ -1,6 +1,6 @@
 -- What a source of a framed group lays: how many events, with which anchors, and that its units fit Max_SDU.
 use Rattle.std.proofs.Common.{ℕ, zero, suc, ◌≡◌, ◌⊎◌, ◌<◌, ◌≤◌, ◌+◌, ◌*◌, ◌==◌, cond, ltb, Bool, true, false}
-use Rattle.std.proofs.Common.{List, [], ◌∷◌, ◌++◌, length, Option, None, Some, refl, sym, ◌∙◌, ap, subst, arith, inl, inr}
+use Rattle.std.proofs.Common.{List, [], ◌∷◌, ◌++◌, length, Some, refl, sym, ◌∙◌, ap, subst, arith, inl, inr}
 use Rattle.std.specs.Prelude.{slice_get, unwrap_or}
 use Rattle.std.specs.List.{AllByRecursion}
 use Rattle.std.proofs.Math.Nat.{add-mul}
@@ -14,9 +14,10 @@ use Rattle.isoal_base.specs.Air.{Air}
 use Rattle.isoal_framed.specs.Air.{IsAirOf, IsFramedAir}
 use Rattle.isoal_framed.specs.Calls.{Call as FramedCall, Laying, Timed, accept, lay, accepted, layings_of}
 use Rattle.isoal_framed.specs.Places.{Act}
-use Rattle.source_machine.specs.declared.fault.GiveFault.{GiveFault}
 use Rattle.source_machine.specs.Calls.{Setup, Call, give, event, events, framed_calls, framed_lays, laid_before, laid_with, lay_anchor}
-use Rattle.scenario_history.specs.Source.{Airs}
+use Rattle.source_machine.proofs.Citable.{timed_accepted}
+use Rattle.source_machine.specs.Airs.{Airs}
+use Rattle.scenario_laws.proofs.Gifts.Citable.{second_false}
 use Rattle.scenario_history.specs.Airs.{AreAccepted}
 
 -- ---- the events laid, by their anchors
@@ -91,18 +92,9 @@ events_in setup bis calls air is = air_long setup.info (framed_calls setup bis c
 abbrev Short : ℕ → Timed → Type 0
 Short most unit = length unit.octets ≤ most
 
-all_push : {A : Type 0} (P : A → Type 0) (xs : List A) (x : A) → AllByRecursion P xs → P x → AllByRecursion P (xs ++ x ∷ [])
+pub all_push : {A : Type 0} (P : A → Type 0) (xs : List A) (x : A) → AllByRecursion P xs → P x → AllByRecursion P (xs ++ x ∷ [])
 all_push P [] x all last = (last, tt)
 all_push P (y ∷ xs) x all last = (all.0, all_push P xs x all.1 last)
-
-lays_accept : (anchor iso count : ℕ) (calls : List FramedCall) → accepted (framed_lays anchor iso count calls) ≡ accepted calls
-lays_accept anchor iso zero calls = refl
-lays_accept anchor iso (suc count) calls = lays_accept anchor iso count calls
-
-second_false : (a b : Bool) (x y : GiveFault) (rest : Option GiveFault) → cond a (Some x) (cond b (Some y) rest) ≡ None → b ≡ false
-second_false true b x y rest none = absurd (none-some x (sym none))
-second_false false true x y rest none = absurd (none-some y (sym none))
-second_false false false x y rest none = refl
 
 all_short : (airs : Airs) (setup : Setup) (bis : ℕ) (calls : List Call) → AreAccepted airs setup calls → AllByRecursion (Short setup.info.max_sdu) (accepted (framed_calls setup bis calls))
 all_short airs setup bis [] all = tt
@@ -113,7 +105,7 @@ all_short airs setup bis (give stream time octets ∷ calls) all = elim (cases_e
   | inr other ↦ rw (ne_eqb stream bis other) (all_short airs setup bis calls all.0)
 ]
 all_short airs setup bis (event ∷ calls) all =
-    subst (AllByRecursion (Short setup.info.max_sdu)) (sym (lays_accept _ _ (laid_with setup.info calls) (framed_calls setup bis calls))) (all_short airs setup bis calls all.0)
+    subst (AllByRecursion (Short setup.info.max_sdu)) (sym (timed_accepted _ _ (laid_with setup.info calls) (framed_calls setup bis calls))) (all_short airs setup bis calls all.0)
 
 one_of : (most : ℕ) (units : List Timed) (i : ℕ) (unit : Timed) → AllByRecursion (Short most) units → slice_get units i ≡ Some unit → Short most unit
 one_of most [] i unit all is = absurd (none-some unit is)

@@ -13,11 +13,11 @@ use Rattle.iso_pdu.specs.Spelling.{pdu}
 use Rattle.isoal_base.specs.Air.{Air, pdu_at}
 use Rattle.isoal_framed.specs.Struck.{Fit, InOrder, Sent, parts_at}
 use Rattle.radio_schedule.specs.PayloadNumber.{ahead_of, payload_number}
-use Rattle.source_machine.specs.Airs.{AreAirs, IsAir, pdu_of}
+use Rattle.source_machine.specs.Airs.{AreAirs, IsAir, pdu_of, Airs}
 use Rattle.source_machine.specs.Calls.{Setup, Call as SourceCall, events, next_of}
 use Rattle.source_machine.proofs.Citable.{ahead_within, event_of_number}
 use Rattle.group_sink.specs.Calls.{Tuning}
-use Rattle.scenario_history.specs.Source.{Airs, setup_of, source_calls}
+use Rattle.scenario_history.specs.Source.{setup_of, source_calls}
 use Rattle.scenario_history.specs.Airs.{MeetAirs}
 use Rattle.scenario_laws.specs.SourceUnits.{AreSent, by_payload}
 use Rattle.scenario_laws.proofs.Below.{Below}

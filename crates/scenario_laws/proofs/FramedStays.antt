@@ -14,7 +14,8 @@ use Rattle.isoal_base.proofs.Citable.{heard_first}
 use Rattle.isoal_framed.specs.Histories.{decided, heard_in}
 use Rattle.isoal_framed.specs.Struck.{Fit, Sent, is_heard, struck}
 use Rattle.isoal_framed.specs.Tokens.{segmented}
-use Rattle.source_machine.specs.Airs.{AreAirs}
+use Rattle.isoal_framed.proofs.Citable.{opened_least}
+use Rattle.source_machine.specs.Airs.{AreAirs, Airs}
 use Rattle.source_machine.specs.Calls.{Setup, Call as SourceCall, events, framed_calls, laid_before, next_of}
 use Rattle.group_sink.specs.Calls.{Tuning}
 use Rattle.group_sink.specs.Handing.{handed_since as ticked_since, of_stream}
@@ -22,7 +23,7 @@ use Rattle.group_sink.proofs.Citable.{member_is}
 use Rattle.group_sink.specs.Streams.{stay_on, streams_of}
 use Rattle.scenario_text.specs.declared.step.Step.{Step}
 use Rattle.scenario_history.specs.Steps.{steps_of_source}
-use Rattle.scenario_history.specs.Source.{Airs, is_started, setup_of, source_calls}
+use Rattle.scenario_history.specs.Source.{is_started, setup_of, source_calls}
 use Rattle.scenario_history.specs.Airs.{MeetAirs}
 use Rattle.scenario_history.specs.Sinks.{sink_calls}
 use Rattle.scenario_laws.specs.SourceUnits.{AreSent, by_payload}
@@ -53,11 +54,6 @@ unfolding has_beyond
 taken_within num_bis which bis none taken = subst (λ b. b ≤ num_bis) taken.2 (none_beyond num_bis bis (streams_of which) taken.0 taken.1 none)
 
 -- ---- a number that is heard belongs to an event of the stay
-
-pub opened_least : (stay : Stay) (calls : List stays.Call) → stay.first ≤ opened stay calls
-opened_least stay [] = omega arith
-opened_least stay (stays.hear number octets ∷ calls) = opened_least stay calls
-opened_least stay (stays.close ∷ calls) = omega (arith, opened_least stay calls)
 
 heard_some : {A : Type 0} (o : Option A) → is_some o ≡ true → (x : A) × (o ≡ Some x)
 heard_some None is = absurd (false≢true is)

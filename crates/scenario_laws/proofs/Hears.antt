@@ -10,11 +10,11 @@ use Rattle.big_info.specs.Bounds.{Bounds}
 use Rattle.iso_pdu.specs.Layout.{Content}
 use Rattle.iso_pdu.specs.Spelling.{pdu}
 use Rattle.isoal_base.specs.Stays as stays
-use Rattle.isoal_base.specs.Stays.{Stay, opened}
+use Rattle.isoal_base.specs.Stays.{opened}
 use Rattle.isoal_unframed.specs.Slot.{laid}
 use Rattle.radio_schedule.specs.PayloadNumber.{payload_number}
 use Rattle.radio_schedule.specs.declared.air.AirFault.{AirFault}
-use Rattle.source_machine.specs.Airs.{AreAirs}
+use Rattle.source_machine.specs.Airs.{AreAirs, Airs}
 use Rattle.source_machine.specs.Calls.{Setup, Call as SourceCall, events, next_of}
 use Rattle.source_machine.specs.Faults.{air_fault}
 use Rattle.group_sink.specs.Calls.{Tuning, Call, tune, hear}
@@ -23,7 +23,7 @@ use Rattle.scenario_text.specs.declared.step.Step.{Step}
 use Rattle.scenario_text.specs.declared.step.Step.TheVariants as steps
 use Rattle.transcript_text.specs.declared.refusal.Refusal.TheVariants.{NotOnAir}
 use Rattle.scenario_history.specs.Steps.{chosen_of, chosen_steps, steps_of_source}
-use Rattle.scenario_history.specs.Source.{Airs, setup_of, source_calls, performed, event_back, is_started, pdu_in, open_event}
+use Rattle.scenario_history.specs.Source.{setup_of, source_calls, performed, event_back, is_started, pdu_in, open_event}
 use Rattle.scenario_history.specs.Airs.{MeetAirs}
 use Rattle.scenario_history.specs.Sinks.{spot_at, is_lost, is_of, hear_at, unless_lost, heard_on_air, reaches, sink_calls, source_of, spots_of, ticked, ticked_if, tuning_of}
 use Rattle.scenario_history.specs.Refusals.{air_refusal, no_place}

@@ -7,7 +7,7 @@ use Rattle.big_info.specs.declared.info.BigInfo.{BigInfo}
 use Rattle.unit_outlets.specs.Handed.{Handed}
 use Rattle.isoal_unframed.specs.Calls.{events as laid_events}
 use Rattle.isoal_unframed.specs.Histories.{units_of}
-use Rattle.source_machine.specs.Airs.{slots_of}
+use Rattle.source_machine.specs.Airs.{slots_of, Airs}
 use Rattle.source_machine.specs.Calls.{Setup, Call as SourceCall, events, stream_calls as source_stream}
 use Rattle.group_sink.specs.Calls.{Tuning, Call, tick, place}
 use Rattle.group_sink.specs.Handing.{handed_at, handed_by as ticked_by, of_stream}
@@ -16,7 +16,7 @@ use Rattle.group_sink.proofs.Citable.{is_member, member_is}
 use Rattle.scenario_text.specs.declared.step.Step.{Step}
 use Rattle.scenario_text.specs.declared.step.Step.TheVariants as steps
 use Rattle.scenario_history.specs.Steps.{chosen_of, steps_of_source}
-use Rattle.scenario_history.specs.Source.{Airs, setup_of, source_calls, open_event}
+use Rattle.scenario_history.specs.Source.{setup_of, source_calls, open_event}
 use Rattle.scenario_history.specs.Airs.{MeetAirs}
 use Rattle.scenario_history.specs.Sinks.{is_of, sink_calls, source_of, ticked}
 use Rattle.scenario_history.specs.Boxes.{SinkUnit, handed_by}

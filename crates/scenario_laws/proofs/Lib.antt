@@ -42,3 +42,4 @@ mod UnitOrder
 mod UnitsLaw
 mod Versions
 mod Wholes
+pub mod Gifts

@@ -4,16 +4,17 @@ use Rattle.std.specs.Prelude.{unwrap_or}
 use Rattle.std.specs.List.{AllByRecursion}
 use Rattle.std.proofs.lemmas.List.{append-nil}
 use Rattle.std.proofs.lemmas.Option.{none-some}
-use Rattle.octet_fields.specs.Spelling.{IsOctets}
+use Rattle.bcast_base.specs.Spelling.{IsOctets}
 use Rattle.bcast_io.specs.TextLines.{TextLine}
 use Rattle.bass_operations.specs.Layout.{spelling}
 use Rattle.bass_operations.specs.declared.operation.Operation.TheVariants as operations
-use Rattle.link_history.specs.Calls.{Call, read, served, told, born}
-use Rattle.link_history.specs.Drains.{repeated, served_out, told_out}
-use Rattle.link_history.specs.Octets.{AreOctets, IsAsked}
+use Rattle.sink_history.specs.Calls.{Call, read, served, told, born}
+use Rattle.sink_history.specs.Drains.{repeated, served_out, told_out}
+use Rattle.sink_history.specs.Octets.{AreOctets, IsAsked}
 use Rattle.scenario_text.specs.declared.step.Step.{Step}
 use Rattle.scenario_text.specs.declared.step.Step.TheVariants as steps
 use Rattle.scenario_text.specs.Ranges.{IsInRange}
+use Rattle.scenario_text.proofs.Citable.{nil_octets, cons_octets}
 use Rattle.sink_history.specs.Lives.{Made, Source, World, horizon_of, life_of, lived, lived_at, lived_by, made_by, made_of, named_by, with_drain}
 use Rattle.scenario_history.specs.Lines.{Said, a_step, nothing, unsaid, said_after, said_of, with_said}
 use Rattle.scenario_history.specs.Steps.{version_of}
@@ -82,19 +83,12 @@ octets_drained (Some made) link calls before =
     let after_tells = repeats _ (told link) (served_out link calls) tt after_serves in
     repeats _ (read link) (told_out made.setup made.mtu link (served_out link calls)) tt after_tells
 
-first_octet : (first : ℕ) (rest : List ℕ) → first < 256 → IsOctets rest → IsOctets (first ∷ rest)
-first_octet first rest small octets zero = small
-first_octet first rest small octets (suc i) = octets i
-
-no_octets : IsOctets []
-no_octets i = omega arith
-
 remove_octets : (source_id : ℕ) → source_id < 256 → IsOctets (spelling (operations.Remove source_id))
-remove_octets source_id small = first_octet 5 (source_id ∷ []) (omega arith) (first_octet source_id [] small no_octets)
+remove_octets source_id small = cons_octets 5 (source_id ∷ []) (omega arith) (cons_octets source_id [] small nil_octets)
 
 code_octets : (source_id : ℕ) (code : List ℕ) → source_id < 256 → IsOctets code → IsOctets (spelling (operations.Code source_id code))
 code_octets source_id code small octets =
-    first_octet 4 (source_id ∷ (code ++ [])) (omega arith) (first_octet source_id (code ++ []) small (subst IsOctets (sym (append-nil code)) octets))
+    cons_octets 4 (source_id ∷ (code ++ [])) (omega arith) (cons_octets source_id (code ++ []) small (subst IsOctets (sym (append-nil code)) octets))
 
 octets_by : (source : Source) (step : Step) (made : Option Made) (calls : List Call) → IsInRange step → AreOctets calls → AreOctets (lived_by source step made calls)
 octets_by source (steps.Drop sink) made calls ranged before = tt

@@ -6,15 +6,15 @@ use Rattle.std.proofs.lemmas.Bool.{ne_eqb}
 use Rattle.bcast_io.specs.TextLines.{TextLine}
 use Rattle.delegator_history.specs.LastGiven.{last_given}
 use Rattle.delegator_history.specs.Trains.{Setup}
-use Rattle.link_history.specs.Calls as links
-use Rattle.link_history.specs.Calls.{Call}
-use Rattle.link_history.specs.Drains.{NoneTells, told_and_read}
-use Rattle.link_history.specs.Links.{forging_by, is_forged, read_waits, state, view}
-use Rattle.link_history.specs.Octets.{AreOctets}
+use Rattle.sink_history.specs.Calls as links
+use Rattle.sink_history.specs.Calls.{Call}
+use Rattle.sink_history.specs.Drains.{NoneTells, told_and_read}
+use Rattle.sink_history.specs.Links.{forging_by, is_forged, read_waits, state, view}
+use Rattle.sink_history.specs.Octets.{AreOctets}
 use Rattle.sink_history.specs.Lives.{Made, made_of}
 use Rattle.scenario_history.specs.Lines.{said_of, steps_of}
-use Rattle.scenario_history.specs.Source.{Airs}
-use Rattle.gift_laws.proofs.Citable.{life_happened, made_happened}
+use Rattle.source_machine.specs.Airs.{Airs}
+use Rattle.scenario_laws.proofs.Gifts.Citable.{life_happened, made_happened}
 use Rattle.scenario_history.specs.Worlds.{life, the_world}
 use Rattle.scenario_laws.specs.Links.{AgreementLaw, Agrees}
 use Rattle.scenario_laws.proofs.Legals.{LinesInRange}

@@ -6,14 +6,14 @@ use Rattle.delegator_history.specs.declared.train_heard.TrainHeard.{TrainHeard}
 use Rattle.delegator_history.specs.Sights.{Place, Sight, idle, is_on_group, is_slot, on_group, on_train}
 use Rattle.delegator_history.specs.Trains.{Brought, Joining, Setup, Train, brought_by, by_broadcast_id, by_slot, heard, ignored, is_elsewhere, taken}
 use Rattle.group_sink.specs.Calls.{Call, leave, place, tune}
-use Rattle.link_history.specs.Calls as links
+use Rattle.sink_history.specs.Calls as links
 use Rattle.delegator_control.specs.Groups.{has_group}
 use Rattle.scenario_text.specs.declared.step.Step.{Step}
 use Rattle.scenario_text.specs.declared.step.Step.TheVariants as steps
 use Rattle.sink_history.specs.Lives.{Made, Source, made_of, named_by, own_train}
 use Rattle.sink_history.specs.Moves.{brings_by, follows, joining_of, received_by, source_by, train_by}
 use Rattle.sink_history.specs.Output.{sight_in}
-use Rattle.scenario_history.specs.Source.{Airs}
+use Rattle.source_machine.specs.Airs.{Airs}
 use Rattle.scenario_history.specs.Sinks.{moved, sink_calls, source_after, source_of, with_sink_call}
 use Rattle.scenario_history.specs.Steps.{chosen_of}
 use Rattle.scenario_history.specs.Worlds.{life, source_at}
@@ -89,9 +89,9 @@ plain_stays airs n step earlier none is same begins_not = record {
   begins_not = begins_not;
 }
 
-same_if : (hit : Bool) (calls : List Call) → cond hit calls calls ≡ calls
-same_if true calls = refl
-same_if false calls = refl
+pub same_if : {A : Type 0} (hit : Bool) (x : A) → cond hit x x ≡ x
+same_if true x = refl
+same_if false x = refl
 
 -- of a sink that doesn't live
 pub unmoved : (n : ℕ) (named : Option ℕ) (step : Step) (earlier : List Step) (calls : List Call) → made_of n earlier ≡ None → moved n named step earlier calls ≡ calls

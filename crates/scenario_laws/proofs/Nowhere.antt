@@ -9,8 +9,8 @@ use Rattle.delegator_history.specs.Steps.{after}
 use Rattle.delegator_history.specs.Trains.{Brought, Joining, Train, brought_by, done_brought, heard, ignored, taken}
 use Rattle.delegator_history.proofs.Citable.{sight_goes_on}
 use Rattle.group_sink.specs.Calls.{Tuning, Call, tune, hear, place}
-use Rattle.link_history.specs.Calls as links
-use Rattle.link_history.specs.Calls.{stepped, steps_of}
+use Rattle.sink_history.specs.Calls as links
+use Rattle.sink_history.specs.Calls.{stepped, steps_of}
 use Rattle.delegator_control.specs.Groups.{has_group}
 use Rattle.scenario_text.specs.declared.step.Step.{Step}
 use Rattle.scenario_text.specs.declared.step.Step.TheVariants as steps
@@ -18,7 +18,8 @@ use Rattle.sink_history.specs.Lives.{Made, Source, given_train, lived_at, lived_
 use Rattle.sink_history.specs.Moves.{joining_of, received_by, train_by}
 use Rattle.sink_history.specs.Output.{sight_in}
 use Rattle.scenario_history.specs.Steps.{chosen_of, chosen_steps, steps_of_source}
-use Rattle.scenario_history.specs.Source.{Airs, event_back, open_event, pdu_in}
+use Rattle.scenario_history.specs.Source.{event_back, open_event, pdu_in}
+use Rattle.source_machine.specs.Airs.{Airs}
 use Rattle.scenario_history.specs.Sinks.{heard_on_air, is_of, moved, reaches, sink_calls, source_of, spots_of, tuning_of, with_sink_call}
 use Rattle.scenario_history.specs.Worlds.{life, source_at, the_world}
 use Rattle.scenario_laws.proofs.Places.{air_place, end_place, same_place, tick_if_place}

@@ -1,10 +1,9 @@
 -- The units of an event by their numbers, and what a close hands of them.
 use Rattle.std.proofs.Common.{ℕ, zero, suc, ◌≡◌, ◌<◌, ◌≤◌, ◌+◌, ◌-◌, ◌==◌, min, cond, Bool, true, false, List}
-use Rattle.std.proofs.Common.{[], ◌∷◌, ◌++◌, length, map, Some, refl, sym, ◌∙◌, ap, subst, arith, inl, inr, append_assoc}
+use Rattle.std.proofs.Common.{[], ◌∷◌, ◌++◌, length, map, Some, refl, sym, ◌∙◌, ap, subst, arith, inl, inr}
 use Rattle.std.specs.Prelude.{slice_get}
 use Rattle.std.specs.List.{AllZip, AllByRecursion, range_with_len}
 use Rattle.std.proofs.lemmas.Bool.{cases_eq, eq-eqb, ne_eqb, false≢true}
-use Rattle.std.proofs.lemmas.List.{append-nil, length-append}
 use Rattle.std.proofs.lemmas.Option.{none-some, slice_get_within}
 use Rattle.std.proofs.lemmas.Slice.Zip.{AllZip-long}
 use Rattle.big_info.specs.declared.info.BigInfo.{BigInfo}
@@ -12,20 +11,21 @@ use Rattle.big_info.specs.Bounds.{Bounds}
 use Rattle.big_info.specs.Schedule.{per_event_of, horizon_of}
 use Rattle.unit_outlets.specs.Handed.{Handed, valid, lost}
 use Rattle.isoal_base.specs.Stays as stays
-use Rattle.isoal_base.specs.Stays.{Stay, opened}
+use Rattle.isoal_base.specs.Stays.{opened}
 use Rattle.isoal_unframed.specs.Air.{before_event}
 use Rattle.isoal_unframed.specs.Calls.{Call as StreamCall, accept, lay, lays, accepted, begun, events as laid_events}
 use Rattle.isoal_unframed.specs.Histories.{handed, unit_at, units_of}
 use Rattle.isoal_unframed.specs.Struck.{IsStruck, Place, Struck, air_at, closed_slots}
 use Rattle.isoal_unframed.specs.State.Windows.{time_of}
-use Rattle.source_machine.specs.Airs.{place_of, slots_of}
+use Rattle.isoal_unframed.proofs.Citable.{begun_within, lays_accepted, all_zip_append}
+use Rattle.source_machine.specs.Airs.{place_of, slots_of, Airs}
 use Rattle.source_machine.specs.Calls.{Setup, Call as SourceCall, give, event as perform, events, given, laid_with, next_of, stream_calls as source_stream}
+use Rattle.source_machine.proofs.Citable.{front_accepted, lays_events}
 use Rattle.group_sink.specs.Calls.{Tuning}
 use Rattle.group_sink.specs.Handing.{bis_of}
 use Rattle.group_sink.specs.Streams.{stay_on, stream_calls}
 use Rattle.scenario_text.specs.declared.step.Step.{Step}
 use Rattle.scenario_history.specs.Steps.{steps_of_source}
-use Rattle.scenario_history.specs.Source.{Airs}
 use Rattle.scenario_history.specs.Airs.{MeetAirs}
 use Rattle.scenario_history.specs.Sinks.{sink_calls}
 use Rattle.scenario_laws.specs.Laws.{injected_since, is_tuned}
@@ -39,14 +39,9 @@ use Rattle.scenario_laws.proofs.Hears.{Own, all_own}
 use Rattle.scenario_laws.proofs.Plains.{sends_own}
 use Rattle.scenario_laws.proofs.FromSources.{from_source}
 use Rattle.scenario_laws.proofs.Closes.{Climb, climb_from, climb_on}
-use Rattle.scenario_laws.proofs.Shown.{slot_time_is, zip_on}
+use Rattle.scenario_laws.proofs.Shown.{slot_time_is}
 
 -- ---- the units of the slots of a stream, by their numbers
-
-begun_within : (info : BigInfo) (calls : List StreamCall) → begun info calls ≤ length (accepted calls)
-begun_within info [] = omega arith
-begun_within info (accept octets ∷ calls) = omega (arith, begun_within info calls, length-append (accepted calls) (octets ∷ []))
-begun_within info (lay ∷ calls) = omega arith
 
 -- the number of the first unit of an event, and the number that follows the last
 abbrev pub first_in : BigInfo → List StreamCall → ℕ → ℕ
@@ -78,25 +73,10 @@ events_apart info (lay ∷ calls) e later order below = elim (cases_eq (laid_eve
       (events_apart info calls e later order (omega (arith, below, other)))
 ]
 
--- the units accepted before an event are the first of all
-accepted_more : (calls : List StreamCall) (e : ℕ) → (rest : List (List ℕ)) × (accepted calls ≡ accepted (before_event calls e) ++ rest)
-accepted_more [] e = ([], refl)
-accepted_more (accept octets ∷ calls) e =
-    let before = accepted_more calls e in
-    (before.0 ++ octets ∷ [], ap (λ xs. xs ++ octets ∷ []) before.1 ∙ append_assoc (accepted (before_event calls e)) before.0 (octets ∷ []))
-accepted_more (lay ∷ calls) e = elim (cases_eq (laid_events calls) e) [
-  | inl same ↦ rw (eq-eqb (laid_events calls) e same) ([], sym (append-nil (accepted calls)))
-  | inr other ↦ rw (ne_eqb (laid_events calls) e other) (accepted_more calls e)
-]
-
 get_more : {A : Type 0} (xs ys : List A) (i : ℕ) (x : A) → slice_get xs i ≡ Some x → slice_get (xs ++ ys) i ≡ Some x
 get_more [] ys i x is = absurd (none-some x is)
 get_more (y ∷ xs) ys zero x is = is
 get_more (y ∷ xs) ys (suc i) x is = get_more xs ys i x is
-
-lays_accepted : (calls : List StreamCall) (count : ℕ) → accepted (lays count calls) ≡ accepted calls
-lays_accepted calls zero = refl
-lays_accepted calls (suc count) = lays_accepted calls count
 
 accepted_are : (info : BigInfo) (bis : ℕ) (calls : List SourceCall) → accepted (source_stream info bis calls) ≡ given bis calls
 accepted_are info bis [] = refl
@@ -105,10 +85,6 @@ accepted_are info bis (give stream time octets ∷ calls) = elim (cases_eq strea
   | inr other ↦ rw (ne_eqb stream bis other) (accepted_are info bis calls)
 ]
 accepted_are info bis (perform ∷ calls) = lays_accepted (source_stream info bis calls) (laid_with info calls) ∙ accepted_are info bis calls
-
-lays_events : (calls : List StreamCall) (count : ℕ) → laid_events (lays count calls) ≡ count + laid_events calls
-lays_events calls zero = omega arith
-lays_events calls (suc count) = omega (arith, lays_events calls count)
 
 some_laid : (none : Bool) (h : ℕ) → 1 ≤ cond none (h + 1) 1
 some_laid true h = omega arith
@@ -173,7 +149,7 @@ batch_one setup whole bis event slot low (valid stream time octets) rest from_fi
     slice_get_within (accepted (before_event (source_stream setup.info bis whole) (event - setup.first)))
     (first_in setup.info (source_stream setup.info bis whole) (event - setup.first) + slot) octets here.2 in
     let next = more (first_in setup.info (source_stream setup.info bis whole) (event - setup.first) + slot + 1) (omega arith) (omega (arith, count, inside)) in
-    let front_of_all = accepted_more (source_stream setup.info bis whole) (event - setup.first) in
+    let front_of_all = front_accepted (source_stream setup.info bis whole) (event - setup.first) in
     let found : slice_get (given bis whole) (place_of setup whole bis event slot) ≡ Some octets =
     ap (λ units. slice_get units (place_of setup whole bis event slot)) (sym (accepted_are setup.info bis whole) ∙ front_of_all.1)
     ∙ get_more (accepted (before_event (source_stream setup.info bis whole) (event - setup.first))) front_of_all.0 (place_of setup whole bis event slot) octets here.2 in
@@ -217,7 +193,7 @@ ordered_more setup whole bis event later units more least past laid order last =
   climb = climb_on 0 order.numbers order.high last.numbers (past_in setup.info (source_stream setup.info bis whole) (event - setup.first)) order.climb
       (climb_from order.high (first_in setup.info (source_stream setup.info bis whole) (event - setup.first)) last.numbers _ (order.ahead event (omega arith) laid) last.climb);
   ahead = λ e behind within. events_apart setup.info (source_stream setup.info bis whole) (event - setup.first) (e - setup.first) (omega (arith, behind, past, least)) within;
-  given = zip_on (IsGiven setup whole bis) order.numbers last.numbers units more order.given last.given;
+  given = all_zip_append (IsGiven setup whole bis) order.numbers last.numbers units more order.given last.given;
 }
 
 -- ---- the units of a close are struck

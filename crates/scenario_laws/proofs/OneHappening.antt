@@ -11,10 +11,11 @@ use Rattle.scenario_history.specs.Gifts.{Answered, Offer, after_offer, after_off
 use Rattle.scenario_history.specs.Gifts.{handed_of, happened, offered_of, offers_at, with_gift_unless, with_gifts}
 use Rattle.scenario_history.specs.Refusals.{give_refusal, refusal_of}
 use Rattle.scenario_history.specs.Relays.{relay_of}
-use Rattle.scenario_history.specs.Source.{Airs, setup_of, source_calls, takes_units}
+use Rattle.scenario_history.specs.Source.{setup_of, source_calls, takes_units}
+use Rattle.source_machine.specs.Airs.{Airs}
 use Rattle.scenario_history.specs.Steps.{steps_of_source}
-use Rattle.gift_laws.specs.Legal.{AreSaidLegally}
-use Rattle.gift_laws.proofs.Citable.{Runs, happens_legally, left_by_offers, line_passes, runs_at, runs_still, unless_legal}
+use Rattle.scenario_laws.specs.Gifts.Legal.{AreSaidLegally}
+use Rattle.scenario_laws.proofs.Gifts.Citable.{Runs, happens_legally, left_by_offers, line_passes, runs_at, runs_still, unless_legal}
 use Rattle.scenario_laws.proofs.Legals.{Legal}
 use Rattle.scenario_laws.proofs.Sources.{lawful, takes}
 use Rattle.scenario_laws.proofs.TwoAirs.{Both, Twice, closing_same, in_order, its_same, legal_too}

@@ -3,7 +3,7 @@ use Rattle.std.proofs.Common.{ℕ, ◌≡◌, ◌+◌, ◌==◌, cond, true, Lis
 use Rattle.bcast_io.specs.TextLines.{TextLine}
 use Rattle.unit_outlets.specs.Account.{Account}
 use Rattle.scenario_history.specs.Runs.{Accepted, End, accepted_of, accepted_unless, end_of, end_unless, out, out_unless}
-use Rattle.source_machine.specs.Airs.{AreAirs, stale_of}
+use Rattle.source_machine.specs.Airs.{AreAirs, stale_of, Airs}
 use Rattle.source_machine.specs.Calls.{event as perform}
 use Rattle.source_machine.specs.Faults.{event_fault}
 use Rattle.group_sink.specs.Hearings.{hearing_of}
@@ -13,7 +13,7 @@ use Rattle.scenario_text.specs.declared.step.Step.TheVariants as steps
 use Rattle.transcript_text.specs.declared.refusal.Refusal.{Refusal}
 use Rattle.transcript_text.specs.Lines.{control_line, heard_line, pdu_line}
 use Rattle.scenario_history.specs.Steps.{chosen_of, chosen_steps}
-use Rattle.scenario_history.specs.Source.{Airs, end_pdu, event_back, is_started, setup_of, source_calls, stale_in}
+use Rattle.scenario_history.specs.Source.{end_pdu, event_back, is_started, setup_of, source_calls, stale_in}
 use Rattle.scenario_history.specs.Airs.{MeetAirs}
 use Rattle.scenario_history.specs.Gifts.{answered_by}
 use Rattle.scenario_history.specs.Sinks.{is_of, source_of}
@@ -23,7 +23,7 @@ use Rattle.scenario_history.specs.Output.{close_lines, first_lines, output_of, s
 use Rattle.scenario_history.specs.Lines.{Said, a_step, nothing, unsaid, handed_on, handed_said, output_said, refusal_said, rules_of}
 use Rattle.scenario_history.specs.Lines.{said_after, said_of, steps_of}
 use Rattle.scenario_history.specs.Transcript.{end_after, has_end, last_end_after, last_line_after, out_of, transcript_end, transcript_of, units_of}
-use Rattle.gift_laws.proofs.Citable.{line_passes}
+use Rattle.scenario_laws.proofs.Gifts.Citable.{line_passes}
 use Rattle.scenario_laws.proofs.Legals.{Legal, LinesInRange, legal, permitted, said_legally}
 use Rattle.scenario_laws.proofs.OneHappening.{answers_same, happened_same}
 use Rattle.scenario_laws.proofs.Sources.{Lawful, are_accepted, checked, group_in, hears, lawful, no_end, settled, takes}

@@ -2,7 +2,8 @@
 use Rattle.std.proofs.Common.{ℕ, zero, suc, ◌≡◌, cond, Bool, true, false, List, Option, None, Some, refl, ◌∙◌}
 use Rattle.group_sink.specs.Calls.{Call, hear, place}
 use Rattle.scenario_text.specs.declared.step.Step.{Step}
-use Rattle.scenario_history.specs.Source.{Airs, event_back, setup_of}
+use Rattle.scenario_history.specs.Source.{event_back, setup_of}
+use Rattle.source_machine.specs.Airs.{Airs}
 use Rattle.scenario_history.specs.Sinks.{heard_on_air, is_lost, spot_at, ticked, ticked_if, unless_lost}
 
 pub same_place : (mine : Bool) (more calls : List Call) → place more ≡ place calls → place (cond mine more calls) ≡ place calls

@@ -10,13 +10,13 @@ use Rattle.isoal_base.specs.Air.{Air}
 use Rattle.isoal_unframed.specs.Slot.{laid}
 use Rattle.isoal_unframed.specs.Struck.{air_at}
 use Rattle.radio_schedule.specs.PayloadNumber.{payload_number}
-use Rattle.source_machine.specs.Airs.{AreAirs, airs_of, content_at, pdu_of, slots_of}
+use Rattle.source_machine.specs.Airs.{AreAirs, airs_of, content_at, pdu_of, slots_of, Airs}
 use Rattle.source_machine.specs.Calls.{Setup, Call as SourceCall, next_of}
 use Rattle.source_machine.specs.Setups.{IsChecked}
 use Rattle.group_sink.specs.Calls.{Tuning}
 use Rattle.group_sink.specs.Streams.{stay_on}
 use Rattle.scenario_text.specs.declared.step.Step.{Step}
-use Rattle.scenario_history.specs.Source.{Airs, setup_of, source_calls, is_started}
+use Rattle.scenario_history.specs.Source.{setup_of, source_calls, is_started}
 use Rattle.scenario_history.specs.Airs.{MeetAirs}
 use Rattle.scenario_laws.proofs.Below.{Below}
 use Rattle.scenario_laws.proofs.Sources.{Lawful, Settled, checked, group_in, settled}

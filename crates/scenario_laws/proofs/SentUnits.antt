@@ -1,5 +1,5 @@
 -- The units that a framed air sends, by payload numbers: the PDU of each number is theirs.
-use Rattle.std.proofs.Common.{ℕ, zero, suc, ◌≡◌, ◌<◌, ◌≤◌, ◌+◌, ◌-◌, ◌*◌, ◌/◌, ◌%◌, ◌&&◌, cond, eqb, Bool, List}
+use Rattle.std.proofs.Common.{ℕ, ◌≡◌, ◌<◌, ◌≤◌, ◌+◌, ◌-◌, ◌*◌, ◌/◌, ◌%◌, ◌&&◌, cond, eqb, Bool, List}
 use Rattle.std.proofs.Common.{[], ◌∷◌, ◌++◌, length, map, Option, None, Some, refl, sym, ◌∙◌, ap, subst, arith, inl, inr}
 use Rattle.std.specs.Prelude.{slice_get}
 use Rattle.std.specs.List.{range_with_len}
@@ -11,15 +11,10 @@ use Rattle.iso_pdu.specs.Layout.{framed}
 use Rattle.iso_pdu.specs.Spelling.{pdu}
 use Rattle.isoal_base.specs.Air.{Air, Laid, event_at, pdu_at}
 use Rattle.isoal_framed.specs.Sends.{EventsAre}
+use Rattle.isoal_unframed.proofs.Citable.{get-range}
 use Rattle.isoal_framed.specs.Struck.{Fit, InOrder, Sent, behind, carried, is_last, part_with, parts_at}
 
 -- ---- the PDU of a number
-
-get_mapped : {A : Type 0} (f : ℕ → A) (start count i : ℕ) → i < count → slice_get (map f (range_with_len start count)) i ≡ Some (f (start + i))
-get_mapped f start zero i below = absurd (omega (arith, below))
-get_mapped f start (suc count) zero below = ap (λ n. Some (f n)) (omega arith)
-get_mapped f start (suc count) (suc i) below =
-    get_mapped f (start + 1) count i (omega (arith, below)) ∙ ap (λ n. Some (f n)) (omega arith)
 
 in_event : (info : BigInfo) (entry : Laid) (earlier : Air) (units : List Sent) (number : ℕ) → 1 ≤ info.bn → length earlier ≡ number / info.bn
     → entry.pdus ≡ map (λ n. pdu (framed (parts_at units n))) (range_with_len (length earlier * info.bn) info.bn)
@@ -27,7 +22,7 @@ in_event : (info : BigInfo) (entry : Laid) (earlier : Air) (units : List Sent) (
 in_event info entry earlier units number some here are =
     let split : number ≡ number / info.bn * info.bn + number % info.bn = sym (div-add-mod' number info.bn) in
     ap (λ pdus. slice_get pdus (number % info.bn)) are
-    ∙ get_mapped (λ n. pdu (framed (parts_at units n))) (length earlier * info.bn) info.bn (number % info.bn) (mod_below number info.bn some)
+    ∙ get-range (λ n. pdu (framed (parts_at units n))) (length earlier * info.bn) info.bn (number % info.bn) (mod_below number info.bn some)
     ∙ ap (λ e. Some (pdu (framed (parts_at units (e * info.bn + number % info.bn))))) here
     ∙ ap (λ n. Some (pdu (framed (parts_at units n)))) (sym split)
 

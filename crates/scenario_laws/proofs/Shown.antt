@@ -17,6 +17,7 @@ use Rattle.isoal_base.specs.Stays.{Stay, opened}
 use Rattle.isoal_unframed.specs.Histories.{handed, heard_in, numbers_of, unit_at, units_of}
 use Rattle.isoal_unframed.specs.Units.{unit_of}
 use Rattle.isoal_unframed.specs.State.Windows.{handed_of, time_of}
+use Rattle.isoal_unframed.proofs.Citable.{all_zip_append}
 use Rattle.source_machine.specs.Calls.{Setup, Call as SourceCall}
 use Rattle.group_sink.specs.Calls.{Tuning, Call, tick, place}
 use Rattle.group_sink.specs.Handing.{bis_of, handed_at, handed_by as ticked_by, handed_since as ticked_since, of_stream}
@@ -25,7 +26,8 @@ use Rattle.group_sink.proofs.Citable.{is_member, member_is}
 use Rattle.scenario_text.specs.declared.step.Step.{Step}
 use Rattle.scenario_text.specs.declared.step.Step.TheVariants as steps
 use Rattle.scenario_history.specs.Steps.{chosen_of, steps_of_source}
-use Rattle.scenario_history.specs.Source.{Airs, open_event, setup_of, source_calls}
+use Rattle.scenario_history.specs.Source.{open_event, setup_of, source_calls}
+use Rattle.source_machine.specs.Airs.{Airs}
 use Rattle.scenario_history.specs.Sinks.{is_of, sink_calls, source_of}
 use Rattle.scenario_history.specs.Boxes.{SinkUnit, handed_by}
 use Rattle.scenario_laws.specs.Laws.{Closed, closed_at, closed_by, closed_if, closed_in, closed_since}
@@ -89,12 +91,6 @@ pub zip_maps : {A B : Type 0} (R : A → B → Type 0) (f : ℕ → A) (g : ℕ 
 zip_maps R f g start zero each = tt
 zip_maps R f g start (suc count) each =
     (each start (omega arith), zip_maps R f g (start + 1) count (λ i below. each i (omega (arith, below))))
-
-pub zip_on : {A B : Type 0} (R : A → B → Type 0) (xs xs' : List A) (ys ys' : List B) → AllZip R xs ys → AllZip R xs' ys' → AllZip R (xs ++ xs') (ys ++ ys')
-zip_on R [] xs' [] ys' first rest = rest
-zip_on R [] xs' (y ∷ ys) ys' first rest = absurd first
-zip_on R (x ∷ xs) xs' [] ys' first rest = absurd first
-zip_on R (x ∷ xs) xs' (y ∷ ys) ys' first rest = (first.0, zip_on R xs xs' ys ys' first.1 rest)
 
 units_in_slots : (setup : Setup) (tuning : Tuning) (bis : ℕ) (calls : List stays.Call) (event : ℕ) → TunedTo setup tuning → tuning.first ≤ event
     → AllZip (IsOfSlot setup bis) (map (λ slot. record { event = event; slot = slot }) (range_with_len 0 (per_event_of setup.info)))
@@ -192,7 +188,7 @@ again_zip s n bis setup true closed more units others first rest = tt
 again_zip s n bis setup false closed more units others first rest =
     subst (λ places. AllZip (IsOfSlot setup bis) places (of_stream bis (of_sink s n (units ++ others)))) (sym (flat_map-append (slots_in setup bis) closed more))
     (subst (λ shown. AllZip (IsOfSlot setup bis) (slots_closed setup bis closed ++ slots_closed setup bis more) shown) (sym (shown_on s n bis units others))
-    (zip_on (IsOfSlot setup bis) (slots_closed setup bis closed) (slots_closed setup bis more) (of_stream bis (of_sink s n units)) (of_stream bis (of_sink s n others)) (first refl) (rest refl)))
+    (all_zip_append (IsOfSlot setup bis) (slots_closed setup bis closed) (slots_closed setup bis more) (of_stream bis (of_sink s n units)) (of_stream bis (of_sink s n others)) (first refl) (rest refl)))
 
 -- the stay that a sink is in, by what fixes the whole source
 pub on_whole : Announcing → (airs : Airs) (boxes s n : ℕ) (setup : Setup) (whole : List SourceCall) (made : List Step) → Legal airs boxes made → given_since_made n made ≡ false

@@ -2,7 +2,7 @@
 -- behind it, and what fixes it stays.
 use Rattle.std.proofs.Common.{ℕ, ◌≡◌, ◌⊎◌, ◌≤◌, ◌||◌, ◌&&◌, ◌==◌, not, cond, Bool, true, false, List, [], ◌∷◌, Option, None, Some, refl, sym, ◌∙◌, ap, subst, arith, inl, inr}
 use Rattle.std.specs.Prelude.{unwrap_or}
-use Rattle.std.proofs.lemmas.Bool.{cases_Bool, eqb-true, false≢true, or_parts}
+use Rattle.std.proofs.lemmas.Bool.{cases_Bool, eqb-true, false≢true, or_parts, not-false}
 use Rattle.std.proofs.lemmas.Option.{none-some}
 use Rattle.big_info.specs.declared.group.Group.{Group}
 use Rattle.big_info.specs.Bounds.{Bounds}
@@ -19,11 +19,14 @@ use Rattle.scenario_text.specs.Ranges.{IsInRange, GroupRanges}
 use Rattle.transcript_text.specs.declared.refusal.Refusal.TheVariants.{BaseTooLong}
 use Rattle.scenario_history.proofs.Citable.{stage_same}
 use Rattle.scenario_history.specs.Steps.{chosen_of, is_common, is_of_source, is_source_line, is_unbegun_at, stage_of, steps_of_source, version_of}
-use Rattle.scenario_history.specs.Source.{Airs, Phase, absent, checked_info, cipher_of, described, group_of, info_with, is_absent_at, is_ciphered, sending, stopped}
+use Rattle.scenario_history.specs.Source.{Phase, absent, checked_info, cipher_of, described, group_of, info_with, is_absent_at, is_ciphered, sending, stopped}
+use Rattle.source_machine.specs.Airs.{Airs}
 use Rattle.scenario_history.specs.Source.{is_described_at, is_heard, is_sending, is_sending_at, is_started, no_group, takes_units, phase_of, setup_of, source_calls, start_of, was_started_at}
 use Rattle.scenario_history.specs.Airs.{AreAccepted}
 use Rattle.scenario_history.specs.Bases.{is_base_too_long, is_last_bare}
-use Rattle.scenario_history.specs.Refusals.{counter_ends, give_refusal, group_refusal, horizon_in, is_misplaced, is_out_of_phase, refuse_if, source_refusal}
+use Rattle.scenario_history.specs.Refusals.{counter_ends, give_refusal, group_refusal, is_misplaced, is_out_of_phase, source_refusal}
+use Rattle.sink_history.specs.Refusals.{refuse_if}
+use Rattle.sink_history.specs.Lives.{horizon_in}
 use Rattle.scenario_laws.proofs.Legals.{Legal, Permitted, maps_none, neither, permitted}
 use Rattle.scenario_laws.proofs.StartGroups.{may_be_sent}
 
@@ -31,10 +34,6 @@ use Rattle.scenario_laws.proofs.StartGroups.{may_be_sent}
 
 pub true_not_false : (b : Bool) → b ≡ true → b ≡ false → ⊥
 true_not_false b holds fails = false≢true (sym fails ∙ holds)
-
-pub not_false : (b : Bool) → not b ≡ false → b ≡ true
-not_false true is = refl
-not_false false is = sym is
 
 -- ---- the phases
 
@@ -73,7 +72,7 @@ pub takes : (own : List Step) → not (takes_units own) ≡ false → is_started
 takes own is = sends own (left_fails (is_sending own) (not (is_ciphered own)) is)
 
 pub hears : (own : List Step) → not (is_heard own) ≡ false → is_started own ≡ true
-hears own is = not_false (is_started own) (left_fails (is_started own) (not (is_ciphered own)) is)
+hears own is = not-false (is_started own) (left_fails (is_started own) (not (is_ciphered own)) is)
 
 -- a step that stands before `start`, and not where something else holds
 pub not_yet : (own : List Step) (other : Bool) → (not (is_described_at (phase_of own)) || other) ≡ false → is_started own ≡ false
@@ -125,7 +124,7 @@ lawful airs boxes s (step ∷ earlier) legal =
     lawful_if airs (steps_of_source s earlier) step (is_of_source s earlier step) (lawful airs boxes s earlier legal.0)
     (its_step airs boxes s earlier step (permitted airs boxes earlier step legal.1) legal.2)
 
-horizon_greatest : (second : Bool) → cond second 31 15 ≤ 31
+pub horizon_greatest : (second : Bool) → cond second 31 15 ≤ 31
 horizon_greatest true = omega arith
 horizon_greatest false = omega arith
 
@@ -189,7 +188,7 @@ no_widths = record {
 
 begins : (own : List Step) → (is_started own ≡ true → is_unbegun_at (stage_of own) ≡ false) → not (is_unbegun_at (stage_of own)) ≡ false → is_started own ≡ false
 begins own before is = elim (cases_Bool (is_started own)) [
-  | inl started ↦ absurd (true_not_false (is_unbegun_at (stage_of own)) (not_false (is_unbegun_at (stage_of own)) is) (before started))
+  | inl started ↦ absurd (true_not_false (is_unbegun_at (stage_of own)) (not-false (is_unbegun_at (stage_of own)) is) (before started))
   | inr idle ↦ idle
 ]
 

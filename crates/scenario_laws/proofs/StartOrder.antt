@@ -12,6 +12,7 @@ use Rattle.isoal_base.specs.Stays as stays
 use Rattle.isoal_base.specs.Stays.{opened}
 use Rattle.isoal_framed.specs.Histories.{decided}
 use Rattle.isoal_framed.specs.Struck.{closed_end}
+use Rattle.isoal_framed.proofs.Citable.{opened_least}
 use Rattle.source_machine.specs.Calls.{Setup, Call as SourceCall, next_of}
 use Rattle.group_sink.specs.Calls.{Tuning}
 use Rattle.group_sink.specs.Handing.{handed_since as ticked_since, of_stream}
@@ -20,7 +21,8 @@ use Rattle.group_sink.proofs.Citable.{is_member, member_is}
 use Rattle.scenario_text.specs.declared.step.Step.{Step}
 use Rattle.scenario_text.specs.declared.step.Step.TheVariants as steps
 use Rattle.scenario_history.specs.Steps.{steps_of_source}
-use Rattle.scenario_history.specs.Source.{Airs, setup_of, source_calls}
+use Rattle.scenario_history.specs.Source.{setup_of, source_calls}
+use Rattle.source_machine.specs.Airs.{Airs}
 use Rattle.scenario_history.specs.Sinks.{sink_calls}
 use Rattle.scenario_laws.specs.Laws.{Closed, InStartOrder, IsOfStart, SegmentPlace, calls_on, given_since_made, is_given, is_made, is_tuned, shown_since}
 use Rattle.scenario_laws.proofs.Below.{Below}
@@ -28,12 +30,12 @@ use Rattle.scenario_laws.proofs.Legals.{Legal}
 use Rattle.scenario_laws.proofs.Sources.{true_not_false}
 use Rattle.scenario_laws.proofs.Wholes.{Within, next_in, within_before, within_itself}
 use Rattle.scenario_laws.proofs.Stays.{IsOn, OnSource, TunedTo, on_source, rest_not}
-use Rattle.scenario_laws.proofs.Shown.{zip_on}
 use Rattle.scenario_laws.proofs.Starts.{AtStart, Behind, RiseTo, are_in_order, behind_below, decided_told, rise_more, rise_on}
 use Rattle.scenario_laws.proofs.UnitsLaw.{since}
-use Rattle.scenario_laws.proofs.FramedStays.{heard_least, next_of_whole, opened_least, opened_within, stay_on_whole}
+use Rattle.scenario_laws.proofs.FramedStays.{heard_least, next_of_whole, opened_within, stay_on_whole}
 use Rattle.scenario_laws.proofs.UnitOrder.{event_below, start_time_is}
 use Rattle.scenario_laws.proofs.StaysInTurn.{OverStay, Turns, closed_from}
+use Rattle.isoal_unframed.proofs.Citable.{all_zip_append}
 use Rattle.scenario_laws.proofs.Turning.{over_stays}
 
 -- ---- the steps so far, as a part of all steps
@@ -198,7 +200,7 @@ over below airs boxes s n bis all source_within sink_within least greatest is_fr
           (record {
             places = claim.places ++ told.places;
             rise = rise_on 0 claim.places (tuning.first * bn) told.places (next_in own * bn) claim.rise rises;
-            each = zip_on (IsOfStart airs all s n bis) claim.places told.places entries (decided (stay_on tuning bis) calls) claim.each
+            each = all_zip_append (IsOfStart airs all s n bis) claim.places told.places entries (decided (stay_on tuning bis) calls) claim.each
                 (all_starts airs all s n bis made tuning (tuning.first * tuning.info.bn) told.places (decided (stay_on tuning bis) calls) stay told.rise told.each);
           })
     ]

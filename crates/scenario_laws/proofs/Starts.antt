@@ -2,7 +2,7 @@
 use Rattle.std.proofs.Common.{ℕ, zero, suc, ◌≡◌, ◌<◌, ◌≤◌, ◌+◌, ◌-◌, ◌*◌, ◌/◌, Bool, List, [], ◌∷◌, ◌++◌, map, Option, Some, None, refl, sym, ◌∙◌, ap, subst, arith, inl, inr, append_assoc}
 use Rattle.std.specs.Prelude.{slice_get}
 use Rattle.std.specs.List.{AllZip, flat_map, range_with_len}
-use Rattle.std.proofs.Math.Nat.{add-mul}
+use Rattle.std.proofs.Math.Nat.{add-mul, zero-add}
 use Rattle.std.proofs.lemmas.Nat.{div-mul-add}
 use Rattle.iso_pdu.specs.Layout.{Part, start, more as further}
 use Rattle.unit_outlets.specs.Handed.{Handed}
@@ -12,11 +12,11 @@ use Rattle.isoal_framed.specs.Histories.{decided, event_tokens, heard_in}
 use Rattle.isoal_framed.specs.Struck.{closed_end}
 use Rattle.isoal_framed.specs.Tokens.{Token, time_of, token_of, tokens_of}
 use Rattle.isoal_framed.specs.Units.{Fate, whole, broken, undecided, fate_at, handed_of, units}
+use Rattle.isoal_framed.proofs.Citable.{opened_least}
 use Rattle.group_sink.specs.Handing.{bis_of}
 use Rattle.scenario_laws.specs.Laws.{AreInOrder, IsBefore, SegmentPlace}
+use Rattle.isoal_unframed.proofs.Citable.{all_zip_append}
 use Rattle.scenario_laws.specs.SourceUnits.{time_in}
-use Rattle.scenario_laws.proofs.Shown.{zip_on}
-use Rattle.scenario_laws.proofs.FramedStays.{opened_least}
 
 -- ---- places in order, between two payload numbers
 
@@ -169,14 +169,11 @@ pdu_gives stay calls max_sdu event number all heard of_event segment (further co
     let later = pdu_gives stay calls max_sdu event number all heard of_event (segment + 1) parts (λ i. ap (slice_get all) (omega arith) ∙ at (suc i)) rest in
     (later.0, later.1, none_in stay calls number segment later.0 later.2)
 
-from_none : (i : ℕ) → 0 + i ≡ i
-from_none i = omega arith
-
 number_gives : (stay : Stay) (calls : List stays.Call) (max_sdu event number : ℕ) (heard : Option (List Part)) → heard_in stay calls number ≡ heard → event ≡ number / stay.info.bn
     → (rest : List Token) → PduGives stay calls max_sdu number 0 (tokens_of stay event heard) rest
 number_gives stay calls max_sdu event number None is of_event rest = ([], refl, record { places = []; order = tt; each = tt })
 number_gives stay calls max_sdu event number (Some parts) is of_event rest =
-    pdu_gives stay calls max_sdu event number parts is of_event 0 parts (λ i. ap (slice_get parts) (from_none i)) rest
+    pdu_gives stay calls max_sdu event number parts is of_event 0 parts (λ i. ap (slice_get parts) (zero-add i)) rest
 
 -- ---- the entries of events
 
@@ -193,7 +190,7 @@ told_on : (stay : Stay) (calls : List stays.Call) (low middle high : ℕ) (xs ys
 told_on stay calls low middle high xs ys first rest = record {
   places = first.places ++ rest.places;
   rise = rise_on low first.places middle rest.places high first.rise rest.rise;
-  each = zip_on (AtStart stay calls) first.places rest.places xs ys first.each rest.each;
+  each = all_zip_append (AtStart stay calls) first.places rest.places xs ys first.each rest.each;
 }
 
 pdu_told : (stay : Stay) (calls : List stays.Call) (number : ℕ) (entries : List Handed) → InPdu stay calls number 0 entries → Told stay calls number (number + 1) entries

@@ -5,7 +5,7 @@ use Rattle.group_sink.specs.Calls.{Call}
 use Rattle.scenario_text.specs.declared.step.Step.{Step}
 use Rattle.scenario_text.specs.declared.step.Step.TheVariants as steps
 use Rattle.scenario_history.specs.Steps.{chosen_of}
-use Rattle.scenario_history.specs.Source.{Airs}
+use Rattle.source_machine.specs.Airs.{Airs}
 use Rattle.scenario_history.specs.Sinks.{is_of, ticked, ticked_if}
 use Rattle.scenario_laws.proofs.Legals.{Legal}
 

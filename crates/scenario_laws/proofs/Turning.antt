@@ -8,7 +8,8 @@ use Rattle.group_sink.specs.Calls.{Tuning, tune, hear, place}
 use Rattle.scenario_text.specs.declared.step.Step.{Step}
 use Rattle.scenario_text.specs.declared.step.Step.TheVariants as steps
 use Rattle.scenario_history.specs.Steps.{chosen_of, chosen_steps, steps_of_source}
-use Rattle.scenario_history.specs.Source.{Airs, event_back, open_event, pdu_in}
+use Rattle.scenario_history.specs.Source.{event_back, open_event, pdu_in}
+use Rattle.source_machine.specs.Airs.{Airs}
 use Rattle.scenario_history.specs.Sinks.{heard_on_air, is_of, reaches, sink_calls, source_of, spots_of, tuning_of}
 use Rattle.scenario_history.specs.Boxes.{SinkUnit, handed_by}
 use Rattle.scenario_laws.specs.Laws.{Closed, closed_by, closed_since, given_since_made, handed_since, is_given, is_made, is_tuned, shown_since}

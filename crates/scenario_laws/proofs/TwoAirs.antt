@@ -1,11 +1,10 @@
 -- Two airs that meet the relation of their framing: no source, no refusal, no sink and no close tells them apart.
 use Rattle.std.proofs.Common.{ℕ, zero, suc, ◌≡◌, ◌||◌, cond, Bool, true, false, List, [], ◌∷◌, ◌++◌, Option, None, Some, refl, sym, ◌∙◌, ap}
 use Rattle.std.specs.Prelude.{unwrap_or}
-use Rattle.std.specs.List.{flat_map}
 use Rattle.std.specs.Option.{option_map, option_or}
 use Rattle.std.proofs.lemmas.Bool.{or_parts}
 use Rattle.isoal_base.specs.Air.{Air}
-use Rattle.source_machine.specs.Airs.{AreAirs, airs_of, pdu_of}
+use Rattle.source_machine.specs.Airs.{AreAirs, airs_of, pdu_of, Airs}
 use Rattle.source_machine.specs.Calls.{Setup, Call as SourceCall}
 use Rattle.source_machine.specs.Faults.{give_fault}
 use Rattle.source_machine.specs.Setups.{IsChecked}
@@ -15,13 +14,15 @@ use Rattle.scenario_text.specs.declared.step.Step.TheVariants as steps
 use Rattle.transcript_text.specs.declared.refusal.Refusal.{Refusal}
 use Rattle.transcript_text.specs.declared.refusal.Refusal.TheVariants.{Order, AfterEnd}
 use Rattle.scenario_history.specs.Steps.{chosen_of, chosen_steps, is_over, stage_of, steps_of_source}
-use Rattle.scenario_history.specs.Source.{Airs, event_back, is_started, open_event, pdu_in, setup_of, source_calls}
+use Rattle.scenario_history.specs.Source.{event_back, is_started, open_event, pdu_in, setup_of, source_calls}
 use Rattle.scenario_history.specs.Airs.{MeetAirs}
 use Rattle.scenario_history.specs.Sinks.{Spot, hear_at, heard_on_air, is_lost, reaches, sink_calls, source_of, spot_at, spots_of, unless_lost, with_sink_call}
-use Rattle.scenario_history.specs.Boxes.{SinkUnit, box_of, closing, closing_at, closing_both, closing_by, handed_by, handed_up, sink_numbers}
-use Rattle.scenario_history.specs.Refusals.{give_refusal, is_misplaced, is_out_of_phase, refusal_of, refuse_if}
+use Rattle.scenario_history.specs.Boxes.{box_of, closing, closing_at, closing_both, closing_by, handed_by, handed_up, sink_numbers}
+use Rattle.scenario_history.specs.Refusals.{give_refusal, is_misplaced, is_out_of_phase, refusal_of}
+use Rattle.sink_history.specs.Refusals.{refuse_if}
 use Rattle.scenario_laws.proofs.Legals.{Legal, permitted}
 use Rattle.scenario_laws.proofs.Sources.{Lawful, checked, group_in, hears, lawful, settled, takes}
+use Rattle.scenario_laws.proofs.Gifts.Citable.{flat_same}
 use Rattle.scenario_laws.proofs.Hears.{its_airs}
 
 -- the relation has at most one solution
@@ -117,10 +118,6 @@ sink_same airs others both boxes n (step ∷ earlier) legal =
     (record { here = legal.0; there = legal_too airs others both boxes earlier legal.0 }) legal.1
 
 -- ---- what is handed up
-
-flat_same : (f g : ℕ → List SinkUnit) (ms : List ℕ) → ((m : ℕ) → f m ≡ g m) → flat_map f ms ≡ flat_map g ms
-flat_same f g [] same = refl
-flat_same f g (m ∷ ms) same = ap (λ us. us ++ flat_map f ms) (same m) ∙ ap (λ us. g m ++ us) (flat_same f g ms same)
 
 closing_at_same : (airs others : Airs) → Both airs others → (boxes s : ℕ) (made : List Step) (last_open : Option ℕ) → Legal airs boxes made
     → closing_at airs s made last_open ≡ closing_at others s made last_open

@@ -10,11 +10,12 @@ use Rattle.big_info.specs.declared.info.BigInfo.{BigInfo}
 use Rattle.big_info.specs.Time.{iso_us_of}
 use Rattle.unit_outlets.specs.Handed.{Handed, valid, lost}
 use Rattle.isoal_base.specs.Stays as stays
-use Rattle.isoal_base.specs.Stays.{Stay, opened}
+use Rattle.isoal_base.specs.Stays.{opened}
 use Rattle.isoal_framed.specs.Calls.{Timed, accepted, layings_of}
 use Rattle.isoal_framed.specs.Sends.{IsOf}
 use Rattle.isoal_framed.specs.Struck.{Sent, closed_end, entry_of, is_heard, octets_in, struck}
 use Rattle.isoal_framed.specs.Tokens.{time_of}
+use Rattle.isoal_framed.proofs.Citable.{cases_low, opened_least}
 use Rattle.sync_reference.specs.Reference.{anchor_of, framed_reference_of, render_of}
 use Rattle.source_machine.specs.Calls.{Setup, Call as SourceCall, framed_calls, next_of}
 use Rattle.group_sink.specs.Calls.{Tuning}
@@ -23,7 +24,8 @@ use Rattle.group_sink.specs.Streams.{is_in, stay_on, streams_of}
 use Rattle.group_sink.proofs.Citable.{is_member, member_is}
 use Rattle.scenario_text.specs.declared.step.Step.{Step}
 use Rattle.scenario_history.specs.Steps.{steps_of_source}
-use Rattle.scenario_history.specs.Source.{Airs, is_started, setup_of, source_calls}
+use Rattle.scenario_history.specs.Source.{is_started, setup_of, source_calls}
+use Rattle.source_machine.specs.Airs.{Airs}
 use Rattle.scenario_history.specs.Airs.{MeetAirs}
 use Rattle.scenario_history.specs.Sinks.{sink_calls}
 use Rattle.scenario_laws.specs.SourceUnits.{InUnitOrder, IsOfUnit, anchor_in, by_payload, time_in, whole_stay}
@@ -38,8 +40,8 @@ use Rattle.scenario_laws.proofs.UnitsLaw.{since}
 use Rattle.scenario_laws.proofs.InOrder.{clean_stay}
 use Rattle.scenario_laws.proofs.FramedCalls.{laid_by}
 use Rattle.scenario_laws.proofs.FramedSends.{FramedWhole, laid_end, sent_in_order}
-use Rattle.scenario_laws.proofs.FramedStays.{heard_least, mul_least, next_of_whole, opened_least, opened_within, stay_decided, stay_on_whole, taken_within, whole_units}
-use Rattle.scenario_laws.proofs.Entries.{Gives, IsEntry, IsNumbered, Numbered, Ordered, are_numbered, has_entry, le_total, ordered_later, ordered_none, ordered_on}
+use Rattle.scenario_laws.proofs.FramedStays.{heard_least, mul_least, next_of_whole, opened_within, stay_decided, stay_on_whole, taken_within, whole_units}
+use Rattle.scenario_laws.proofs.Entries.{Gives, IsEntry, IsNumbered, Numbered, Ordered, are_numbered, has_entry, ordered_later, ordered_none, ordered_on}
 use Rattle.scenario_laws.proofs.StaysInTurn.{OverStay, Turns}
 use Rattle.scenario_laws.proofs.Turning.{over_stays}
 
@@ -80,7 +82,7 @@ event_is first bn event number least below =
     ap (λ n. n / bn) split ∙ div-mul-add (first + event) bn (number - event * bn) (omega (arith, least, below))
 
 pub event_below : (event number opens bn : ℕ) → event * bn ≤ number → number < opens * bn → event < opens
-event_below event number opens bn least below = elim (le_total opens event) [
+event_below event number opens bn least below = elim (cases_low opens event) [
   | inl past ↦
       let times : opens * bn ≤ event * bn = mul-le-mul past (omega arith) in
       absurd (omega (arith, times, least, below))
@@ -264,7 +266,7 @@ in_order below airs meets boxes s n bis made legal is_framed source_within sink_
 
 known_units : Below → (airs : Airs) → MeetAirs airs → (own : List Step) (bis : ℕ) → Lawful airs own → is_started own ≡ true → (setup_of own).info.framing ≡ 1 → 1 ≤ bis
     → Known airs (setup_of own) (source_calls own) bis (Unit {0})
-known_units below airs meets own bis legal started is_framed least = elim (le_total bis (setup_of own).info.num_bis) [
+known_units below airs meets own bis legal started is_framed least = elim (cases_low bis (setup_of own).info.num_bis) [
   | inl within ↦
       let units = whole_units below airs meets own bis legal started is_framed least within in
       let numbered = are_numbered (setup_of own).info.bn (layings_of (framed_calls (setup_of own) bis (source_calls own))) (accepted (framed_calls (setup_of own) bis (source_calls own)))

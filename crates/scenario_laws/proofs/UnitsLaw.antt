@@ -13,9 +13,8 @@ use Rattle.isoal_unframed.specs.Air.{before_event}
 use Rattle.isoal_unframed.specs.Calls.{Call as StreamCall, accept, lay, lays, accepted, begun, events as laid_events}
 use Rattle.isoal_unframed.specs.Histories.{handed}
 use Rattle.isoal_unframed.specs.Struck.{Struck, air_at}
-use Rattle.source_machine.specs.Airs.{slots_of}
+use Rattle.source_machine.specs.Airs.{slots_of, Airs}
 use Rattle.source_machine.specs.Calls.{Call as SourceCall, laid_with, stream_calls as source_stream}
-use Rattle.source_machine.specs.declared.fault.GiveFault.{GiveFault}
 use Rattle.source_machine.specs.Faults.{give_fault}
 use Rattle.group_sink.specs.Calls.{Tuning, Call, tune, hear, place}
 use Rattle.group_sink.specs.Handing.{handed_since as ticked_since, of_stream}
@@ -25,7 +24,7 @@ use Rattle.scenario_text.specs.declared.step.Step.{Step}
 use Rattle.scenario_text.specs.declared.step.Step.TheVariants as steps
 use Rattle.scenario_text.specs.Ranges.{IsInRange}
 use Rattle.scenario_history.specs.Steps.{chosen_of, chosen_steps, steps_of_source}
-use Rattle.scenario_history.specs.Source.{Airs, event_back, open_event, setup_of, source_calls}
+use Rattle.scenario_history.specs.Source.{event_back, open_event, setup_of, source_calls}
 use Rattle.scenario_history.specs.Airs.{MeetAirs}
 use Rattle.scenario_history.specs.Sinks.{heard_on_air, is_lost, is_of, reaches, sink_calls, source_of, spot_at, spots_of, ticked, ticked_if, tuning_of, unless_lost}
 use Rattle.scenario_history.specs.Boxes.{SinkUnit, handed_by}
@@ -44,7 +43,9 @@ use Rattle.scenario_laws.proofs.FromSources.{from_source}
 use Rattle.scenario_laws.proofs.FramedStays.{framed_law, taken_within}
 use Rattle.scenario_laws.proofs.Closes.{stay_within}
 use Rattle.scenario_laws.proofs.Closings.{handed_open, of_sink_on, shown_by, shown_with, step_shown}
+use Rattle.scenario_laws.proofs.Gifts.Citable.{second_false}
 use Rattle.scenario_laws.proofs.Ticks.{chosen_within, end_ticks, event_ticks}
+use Rattle.scenario_laws.proofs.FramedCalls.{all_push}
 
 -- ---- no unit is longer than Max_SDU
 
@@ -67,10 +68,6 @@ short_before most (accept octets ∷ earlier) event all = short_before most earl
 short_before most (lay ∷ earlier) event all =
     short_if most (eqb (laid_events earlier) event) earlier (before_event earlier event) all (short_before most earlier event all)
 
-all_push : {A : Type 0} (P : A → Type 0) (xs : List A) (x : A) → AllByRecursion P xs → P x → AllByRecursion P (xs ++ x ∷ [])
-all_push P [] x all last = (last, tt)
-all_push P (y ∷ xs) x all last = (all.0, all_push P xs x all.1 last)
-
 short_units : (most : ℕ) (calls : List StreamCall) → Short most calls → AllByRecursion (λ unit. length unit ≤ most) (accepted calls)
 short_units most [] all = tt
 short_units most (accept octets ∷ earlier) all = all_push (λ unit. length unit ≤ most) (accepted earlier) octets (short_units most earlier all.1) all.0
@@ -83,11 +80,6 @@ one_short most (first ∷ units) (suc i) unit all is = one_short most units i un
 
 short_none : (most : ℕ) (info : BigInfo) (bis : ℕ) (calls : List SourceCall) → calls ≡ [] → Short most (source_stream info bis calls)
 short_none most info bis calls none = subst (λ all. Short most (source_stream info bis all)) (sym none) tt
-
-second_false : (a b : Bool) (x y : GiveFault) (rest : Option GiveFault) → cond a (Some x) (cond b (Some y) rest) ≡ None → b ≡ false
-second_false true b x y rest none = absurd (none-some x (sym none))
-second_false false true x y rest none = absurd (none-some y (sym none))
-second_false false false x y rest none = refl
 
 abbrev ShortIn : ℕ → List Step → Type 0
 ShortIn bis own = Short (setup_of own).info.max_sdu (source_stream (setup_of own).info bis (source_calls own))

@@ -4,7 +4,8 @@ use Rattle.source_machine.specs.Calls.{Setup, Call as SourceCall, give, event as
 use Rattle.scenario_text.specs.declared.step.Step.{Step}
 use Rattle.scenario_text.specs.declared.step.Step.TheVariants as steps
 use Rattle.scenario_history.specs.Steps.{is_of_source, steps_of_source}
-use Rattle.scenario_history.specs.Source.{Airs, is_started, setup_of, source_calls}
+use Rattle.scenario_history.specs.Source.{is_started, setup_of, source_calls}
+use Rattle.source_machine.specs.Airs.{Airs}
 use Rattle.scenario_history.specs.Bases.{is_last_bare}
 use Rattle.scenario_laws.proofs.Legals.{Legal, permitted}
 use Rattle.scenario_laws.proofs.Sources.{Allowed, Lawful, its_step, lawful, not_yet, settled, setup_stays, started_stays}

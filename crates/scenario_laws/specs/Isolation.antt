@@ -7,8 +7,8 @@ use Rattle.bcast_io.specs.TextLines.{TextLine}
 use Rattle.unit_outlets.specs.Account.{Account}
 use Rattle.unit_outlets.specs.Handed.{Handed}
 use Rattle.scenario_history.specs.Runs.{Accepted}
-use Rattle.link_history.specs.Calls.{Call, is_joined, writes_waiting}
-use Rattle.link_history.specs.Links.{notices_waiting, read_waits, state, view}
+use Rattle.sink_history.specs.Calls.{Call, is_joined, writes_waiting}
+use Rattle.sink_history.specs.Links.{notices_waiting, read_waits, state, view}
 use Rattle.scenario_text.specs.declared.step.Step.{Step}
 use Rattle.scenario_text.specs.declared.step.Step.TheVariants.{Tuned, Event, Announce, Train, Drop, Stop, Terminate, End}
 use Rattle.sink_history.specs.Lives.{Made, made_of}
@@ -21,7 +21,8 @@ use Rattle.scenario_history.specs.Lines.{rules_of, said_of, steps_of}
 use Rattle.scenario_history.specs.Output.{output_of, stale_lines}
 use Rattle.scenario_history.specs.Relays.{has_relay}
 use Rattle.scenario_history.specs.Sinks.{sink_calls, source_of}
-use Rattle.scenario_history.specs.Source.{Airs, end_pdu, stale_in}
+use Rattle.scenario_history.specs.Source.{end_pdu, stale_in}
+use Rattle.source_machine.specs.Airs.{Airs}
 use Rattle.scenario_history.specs.Steps.{chosen_of, chosen_steps}
 use Rattle.scenario_history.specs.Worlds.{life, source_at}
 use Rattle.scenario_laws.specs.Only.{is_kept, only}

@@ -16,7 +16,7 @@ use Rattle.isoal_framed.specs.Struck.{Sent, closed_end, struck}
 use Rattle.isoal_framed.specs.Tokens.{time_of as start_time}
 use Rattle.isoal_unframed.specs.Struck.{Place, Struck}
 use Rattle.scenario_history.specs.Runs.{Accepted}
-use Rattle.source_machine.specs.Airs.{slots_of}
+use Rattle.source_machine.specs.Airs.{slots_of, Airs}
 use Rattle.source_machine.specs.Calls.{Setup, next_of}
 use Rattle.group_sink.specs.Calls.{Tuning, Call, place}
 use Rattle.group_sink.specs.Handing.{bis_of, of_stream}
@@ -27,12 +27,12 @@ use Rattle.sink_history.specs.Lives.{made_of}
 use Rattle.sink_history.specs.Moves.{brings_by}
 use Rattle.scenario_history.specs.Steps.{chosen_of, steps_of_source}
 use Rattle.scenario_history.specs.Worlds.{life, source_at}
-use Rattle.scenario_history.specs.Source.{Airs, setup_of, source_calls, open_event}
+use Rattle.scenario_history.specs.Source.{setup_of, source_calls, open_event}
 use Rattle.scenario_history.specs.Airs.{MeetAirs}
 use Rattle.scenario_history.specs.Sinks.{is_of, sink_calls, source_of}
 use Rattle.scenario_history.specs.Boxes.{SinkUnit, handed_by}
 use Rattle.scenario_history.specs.Lines.{rules_of, steps_of}
-use Rattle.gift_laws.specs.Legal.{AreLegal}
+use Rattle.scenario_laws.specs.Gifts.Legal.{AreLegal}
 use Rattle.scenario_laws.specs.SourceUnits.{AreSent, InSourceOrder, InUnitOrder, IsOfSlot, anchor_in, time_in, valid_in, whole_stay}
 
 -- ---- what comes to a sink that its source did not send

@@ -6,3 +6,4 @@ pub mod Only
 pub mod Relayed
 pub mod SourceUnits
 pub mod Versions
+pub mod Gifts

@@ -1,12 +1,12 @@
 -- What the assistants of a sink know of it, by the lines of a scenario (Broadcast Audio Scan Service 1.0, section 3.2).
 use Rattle.std.specs.Prelude.{ℕ, ◌≡◌, ◌≢◌, ◌<◌, false, List, Some}
 use Rattle.bcast_io.specs.TextLines.{TextLine}
-use Rattle.link_history.specs.Calls.{Call}
-use Rattle.link_history.specs.Drains.{IsAnew, IsApart, LeavesLink, NoneTells, told_and_read}
-use Rattle.link_history.specs.Links.{is_forged, read_waits, state, view}
+use Rattle.sink_history.specs.Calls.{Call}
+use Rattle.sink_history.specs.Drains.{IsAnew, IsApart, LeavesLink, NoneTells, told_and_read}
+use Rattle.sink_history.specs.Links.{is_forged, read_waits, state, view}
 use Rattle.sink_history.specs.Lives.{Made, made_of}
 use Rattle.scenario_history.specs.Lines.{steps_of}
-use Rattle.scenario_history.specs.Source.{Airs}
+use Rattle.source_machine.specs.Airs.{Airs}
 use Rattle.scenario_history.specs.Worlds.{life}
 
 -- a slot of a sink with this life, and what the assistant on a link knows of it: where neither a notice nor a read of the slot

@@ -17,10 +17,11 @@ use Rattle.unit_outlets.specs.Handed.{Handed, valid}
 use Rattle.scenario_history.specs.Airs.{MeetAirs}
 use Rattle.scenario_history.specs.Gifts.{happened}
 use Rattle.scenario_history.specs.Lines.{rules_of, said_of, steps_of}
-use Rattle.scenario_history.specs.Source.{Airs, setup_of, source_calls}
+use Rattle.scenario_history.specs.Source.{setup_of, source_calls}
+use Rattle.source_machine.specs.Airs.{Airs}
 use Rattle.scenario_history.specs.Steps.{steps_of_source}
-use Rattle.gift_laws.specs.Laws.{IsRelayed, offered}
-use Rattle.gift_laws.specs.Legal.{AreSaidLegally}
+use Rattle.scenario_laws.specs.Gifts.Laws.{IsRelayed, offered}
+use Rattle.scenario_laws.specs.Gifts.Legal.{AreSaidLegally}
 use Rattle.scenario_laws.specs.Laws.{injected_since, is_injected, is_made, shown_since}
 use Rattle.scenario_laws.specs.SourceUnits.{time_in}
 

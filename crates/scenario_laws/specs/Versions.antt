@@ -14,7 +14,7 @@ use Rattle.scenario_text.specs.declared.step.Step.TheVariants.{Train}
 use Rattle.transcript_text.specs.SinkLines.{sink_line}
 use Rattle.scenario_history.specs.Airs.{MeetAirs}
 use Rattle.scenario_history.specs.Lines.{a_step, rules_of, said_after}
-use Rattle.scenario_history.specs.Source.{Airs}
+use Rattle.source_machine.specs.Airs.{Airs}
 use Rattle.scenario_history.specs.Transcript.{transcript_end, transcript_of, units_of}
 
 -- ---- trains that version 2 may take otherwise

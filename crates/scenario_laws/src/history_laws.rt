@@ -2,11 +2,10 @@
 ghost use Rattle.std.specs.Prelude.{◌≡◌, List, ◌∷◌, None, length};
 ghost use Rattle.bcast_io.specs.TextLines.{TextLine};
 ghost use Rattle.unit_outlets.specs.Account.{Account};
-ghost use Rattle.source_machine.specs.Airs.{airs_of};
+ghost use Rattle.source_machine.specs.Airs.{airs_of, Airs};
 ghost use Rattle.scenario_history.specs.Airs.{MeetAirs};
 ghost use Rattle.scenario_history.specs.Gifts.{answered_by};
 ghost use Rattle.scenario_history.specs.Refusals.{line_refusal};
-ghost use Rattle.scenario_history.specs.Source.{Airs};
 ghost use Rattle.scenario_history.specs.Runs.{Accepted};
 ghost use Rattle.scenario_text.specs.declared.step.Step.{Step};
 ghost use Rattle.scenario_history.specs.Lines.{handed_on, rules_of, steps_of};

@@ -2,12 +2,17 @@
 //! is its state; what version 2 makes of a text of version 1; and that a sink is isolated from what it isn't of.
 #![tactic(auto)]
 
+mod gift_laws;
 mod history_laws;
 mod isolation_laws;
 mod link_laws;
 mod relay_laws;
 mod version_laws;
 
+pub use gift_laws::{
+    gifts_are_permitted, gifts_leave_all_else, nothing_happens_without_relays, relay_law,
+    units_are_dropped_by_name, what_is_not_dropped_is_accepted,
+};
 pub use history_laws::{one_transcript, order_law, some_airs_meet, steps_keep_order, units_law};
 pub use isolation_laws::{a_scenario_is_left, isolation_law};
 pub use link_laws::{agreement_law, links_law};

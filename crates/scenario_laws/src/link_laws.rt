@@ -1,8 +1,8 @@
 //! What the assistants of a sink come to know of it.
 ghost use Rattle.scenario_laws.specs.Links.{AgreementLaw, LinksLaw};
 
-use link_history::{agreement_law as links_agree, links_law as links_stand_apart};
 use scenario_text::a_line_says_one_step;
+use sink_history::{agreement_law as links_agree, links_law as links_stand_apart};
 
 /// The agreement law over the lines of any text (Broadcast Audio Scan Service 1.0, section 3.2): on each link of each living sink
 /// over which no notice was forged since it was joined, a slot for which neither a notice nor a read waits has its state as its

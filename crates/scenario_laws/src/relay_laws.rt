@@ -3,8 +3,7 @@ ghost use Rattle.std.specs.Prelude.{List};
 ghost use Rattle.unit_outlets.specs.Account.{Account};
 ghost use Rattle.scenario_laws.specs.Relayed.{RelayLinesLaw, RelayedUnitsLaw};
 
-use crate::steps_keep_order;
-use gift_laws::relay_law;
+use crate::{relay_law, steps_keep_order};
 use scenario_text::a_line_says_one_step;
 
 /// The relay law, of a scenario of which no line was refused: where one is `relay N B B2`, what source 1 accepted on B2 is what sink N

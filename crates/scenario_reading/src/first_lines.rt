@@ -1,22 +1,22 @@
 //! The lines that each scenario needs, behind their first words.
 ghost use Rattle.std.specs.Prelude.{◌≡◌, ◌≤◌};
-ghost use Rattle.scenario_words.specs.Reading.{GivesNext};
+ghost use Rattle.scenario_words.specs.Reading.{GivesNext, ReadsNext};
 ghost use Rattle.scenario_text.specs.Steps.{at_row};
 ghost use Rattle.scenario_text.specs.Table.{most_slots as slots_in, scenario_row, group_row, start_row, sink_row, tuned_row, unit_row, hear_row, air_row, inject_row, sniff_row, drop_row};
 
 use scenario_text::Step;
-use scenario_words::{Cursor, LineFault};
+use scenario_words::{Cursor, LineFault, Misfit};
 use std::alloc::Global;
 
-pub fn scenario(words: &mut Cursor<'_>) -> Result<Step, LineFault>
-    ensures { GivesNext (λ step. step) result words.new (at_row scenario_row words.old) }
+pub fn scenario(words: &mut Cursor<'_>) -> Result<Step, Misfit>
+    ensures { ReadsNext (λ step. step) result words.new (at_row scenario_row words.old) }
 {
     let version = words.octet(1, 2)?;
     Ok(Step::Scenario { version })
 }
 
-pub fn group(words: &mut Cursor<'_>) -> Result<Step, LineFault>
-    ensures { GivesNext (λ step. step) result words.new (at_row group_row words.old) }
+pub fn group(words: &mut Cursor<'_>) -> Result<Step, Misfit>
+    ensures { ReadsNext (λ step. step) result words.new (at_row group_row words.old) }
 {
     Ok(Step::Group {
         framing: words.framing()?,
@@ -37,8 +37,8 @@ pub fn group(words: &mut Cursor<'_>) -> Result<Step, LineFault>
     })
 }
 
-pub fn start(words: &mut Cursor<'_>) -> Result<Step, LineFault>
-    ensures { GivesNext (λ step. step) result words.new (at_row start_row words.old) }
+pub fn start(words: &mut Cursor<'_>) -> Result<Step, Misfit>
+    ensures { ReadsNext (λ step. step) result words.new (at_row start_row words.old) }
 {
     let first = words.number(0, 549_755_813_887)?;
     Ok(Step::Start { first })
@@ -52,8 +52,8 @@ fn most_slots(version: u8) -> u8
     if version == 2 { 8 } else { 4 }
 }
 
-pub fn sink(version: u8, words: &mut Cursor<'_>) -> Result<Step, LineFault>
-    ensures { GivesNext (λ step. step) result words.new (at_row (sink_row version) words.old) }
+pub fn sink(version: u8, words: &mut Cursor<'_>) -> Result<Step, Misfit>
+    ensures { ReadsNext (λ step. step) result words.new (at_row (sink_row version) words.old) }
 {
     Ok(Step::Sink {
         sink: words.octet(0, 7)?,
@@ -63,8 +63,8 @@ pub fn sink(version: u8, words: &mut Cursor<'_>) -> Result<Step, LineFault>
     })
 }
 
-pub fn tuned(words: &mut Cursor<'_>) -> Result<Step, LineFault>
-    ensures { GivesNext (λ step. step) result words.new (at_row tuned_row words.old) }
+pub fn tuned(words: &mut Cursor<'_>) -> Result<Step, Misfit>
+    ensures { ReadsNext (λ step. step) result words.new (at_row tuned_row words.old) }
 {
     Ok(Step::Tuned {
         sink: words.octet(0, 7)?,
@@ -82,8 +82,8 @@ pub fn unit(alloc: Global, words: &mut Cursor<'_>) -> Result<Step, LineFault>
     })
 }
 
-pub fn hear(words: &mut Cursor<'_>) -> Result<Step, LineFault>
-    ensures { GivesNext (λ step. step) result words.new (at_row hear_row words.old) }
+pub fn hear(words: &mut Cursor<'_>) -> Result<Step, Misfit>
+    ensures { ReadsNext (λ step. step) result words.new (at_row hear_row words.old) }
 {
     Ok(Step::Hear {
         sink: words.octet(0, 7)?,
@@ -93,8 +93,8 @@ pub fn hear(words: &mut Cursor<'_>) -> Result<Step, LineFault>
     })
 }
 
-pub fn air(words: &mut Cursor<'_>) -> Result<Step, LineFault>
-    ensures { GivesNext (λ step. step) result words.new (at_row air_row words.old) }
+pub fn air(words: &mut Cursor<'_>) -> Result<Step, Misfit>
+    ensures { ReadsNext (λ step. step) result words.new (at_row air_row words.old) }
 {
     Ok(Step::Air {
         sink: words.octet(0, 7)?,
@@ -114,8 +114,8 @@ pub fn inject(alloc: Global, words: &mut Cursor<'_>) -> Result<Step, LineFault>
     })
 }
 
-pub fn sniff(words: &mut Cursor<'_>) -> Result<Step, LineFault>
-    ensures { GivesNext (λ step. step) result words.new (at_row sniff_row words.old) }
+pub fn sniff(words: &mut Cursor<'_>) -> Result<Step, Misfit>
+    ensures { ReadsNext (λ step. step) result words.new (at_row sniff_row words.old) }
 {
     Ok(Step::Sniff {
         back: words.octet(0, 31)?,
@@ -124,8 +124,8 @@ pub fn sniff(words: &mut Cursor<'_>) -> Result<Step, LineFault>
     })
 }
 
-pub fn drop_sink(words: &mut Cursor<'_>) -> Result<Step, LineFault>
-    ensures { GivesNext (λ step. step) result words.new (at_row drop_row words.old) }
+pub fn drop_sink(words: &mut Cursor<'_>) -> Result<Step, Misfit>
+    ensures { ReadsNext (λ step. step) result words.new (at_row drop_row words.old) }
 {
     let sink = words.octet(0, 7)?;
     Ok(Step::Drop { sink })

@@ -1,14 +1,14 @@
 //! The lines of version 2 alone, behind their first words.
-ghost use Rattle.scenario_words.specs.Reading.{GivesNext};
+ghost use Rattle.scenario_words.specs.Reading.{GivesNext, ReadsNext};
 ghost use Rattle.scenario_text.specs.Steps.{at_row};
 ghost use Rattle.scenario_text.specs.Table.{assist_row, apart_row, awrite_row, aserve_row, atell_row, aread_row, adrain_row, ashow_row, source_row, relay_row};
 
 use scenario_text::Step;
-use scenario_words::{Cursor, LineFault};
+use scenario_words::{Cursor, LineFault, Misfit};
 use std::alloc::Global;
 
-pub fn assist(words: &mut Cursor<'_>) -> Result<Step, LineFault>
-    ensures { GivesNext (λ step. step) result words.new (at_row assist_row words.old) }
+pub fn assist(words: &mut Cursor<'_>) -> Result<Step, Misfit>
+    ensures { ReadsNext (λ step. step) result words.new (at_row assist_row words.old) }
 {
     Ok(Step::Assist {
         sink: words.octet(0, 7)?,
@@ -16,8 +16,8 @@ pub fn assist(words: &mut Cursor<'_>) -> Result<Step, LineFault>
     })
 }
 
-pub fn apart(words: &mut Cursor<'_>) -> Result<Step, LineFault>
-    ensures { GivesNext (λ step. step) result words.new (at_row apart_row words.old) }
+pub fn apart(words: &mut Cursor<'_>) -> Result<Step, Misfit>
+    ensures { ReadsNext (λ step. step) result words.new (at_row apart_row words.old) }
 {
     Ok(Step::Apart {
         sink: words.octet(0, 7)?,
@@ -35,8 +35,8 @@ pub fn awrite(alloc: Global, words: &mut Cursor<'_>) -> Result<Step, LineFault>
     })
 }
 
-pub fn aserve(words: &mut Cursor<'_>) -> Result<Step, LineFault>
-    ensures { GivesNext (λ step. step) result words.new (at_row aserve_row words.old) }
+pub fn aserve(words: &mut Cursor<'_>) -> Result<Step, Misfit>
+    ensures { ReadsNext (λ step. step) result words.new (at_row aserve_row words.old) }
 {
     Ok(Step::AServe {
         sink: words.octet(0, 7)?,
@@ -44,8 +44,8 @@ pub fn aserve(words: &mut Cursor<'_>) -> Result<Step, LineFault>
     })
 }
 
-pub fn atell(words: &mut Cursor<'_>) -> Result<Step, LineFault>
-    ensures { GivesNext (λ step. step) result words.new (at_row atell_row words.old) }
+pub fn atell(words: &mut Cursor<'_>) -> Result<Step, Misfit>
+    ensures { ReadsNext (λ step. step) result words.new (at_row atell_row words.old) }
 {
     Ok(Step::ATell {
         sink: words.octet(0, 7)?,
@@ -53,8 +53,8 @@ pub fn atell(words: &mut Cursor<'_>) -> Result<Step, LineFault>
     })
 }
 
-pub fn aread(words: &mut Cursor<'_>) -> Result<Step, LineFault>
-    ensures { GivesNext (λ step. step) result words.new (at_row aread_row words.old) }
+pub fn aread(words: &mut Cursor<'_>) -> Result<Step, Misfit>
+    ensures { ReadsNext (λ step. step) result words.new (at_row aread_row words.old) }
 {
     Ok(Step::ARead {
         sink: words.octet(0, 7)?,
@@ -62,8 +62,8 @@ pub fn aread(words: &mut Cursor<'_>) -> Result<Step, LineFault>
     })
 }
 
-pub fn adrain(words: &mut Cursor<'_>) -> Result<Step, LineFault>
-    ensures { GivesNext (λ step. step) result words.new (at_row adrain_row words.old) }
+pub fn adrain(words: &mut Cursor<'_>) -> Result<Step, Misfit>
+    ensures { ReadsNext (λ step. step) result words.new (at_row adrain_row words.old) }
 {
     Ok(Step::ADrain {
         sink: words.octet(0, 7)?,
@@ -71,8 +71,8 @@ pub fn adrain(words: &mut Cursor<'_>) -> Result<Step, LineFault>
     })
 }
 
-pub fn ashow(words: &mut Cursor<'_>) -> Result<Step, LineFault>
-    ensures { GivesNext (λ step. step) result words.new (at_row ashow_row words.old) }
+pub fn ashow(words: &mut Cursor<'_>) -> Result<Step, Misfit>
+    ensures { ReadsNext (λ step. step) result words.new (at_row ashow_row words.old) }
 {
     Ok(Step::AShow {
         sink: words.octet(0, 7)?,
@@ -80,15 +80,15 @@ pub fn ashow(words: &mut Cursor<'_>) -> Result<Step, LineFault>
     })
 }
 
-pub fn source(words: &mut Cursor<'_>) -> Result<Step, LineFault>
-    ensures { GivesNext (λ step. step) result words.new (at_row source_row words.old) }
+pub fn source(words: &mut Cursor<'_>) -> Result<Step, Misfit>
+    ensures { ReadsNext (λ step. step) result words.new (at_row source_row words.old) }
 {
     let source = words.octet(0, 1)?;
     Ok(Step::Source { source })
 }
 
-pub fn relay(words: &mut Cursor<'_>) -> Result<Step, LineFault>
-    ensures { GivesNext (λ step. step) result words.new (at_row relay_row words.old) }
+pub fn relay(words: &mut Cursor<'_>) -> Result<Step, Misfit>
+    ensures { ReadsNext (λ step. step) result words.new (at_row relay_row words.old) }
 {
     Ok(Step::Relay {
         sink: words.octet(0, 7)?,

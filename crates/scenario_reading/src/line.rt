@@ -1,11 +1,12 @@
 ghost use Rattle.std.specs.Prelude.{◌≡◌, ◌⊎◌, ℕ, IfOk, IfSome, IfNone, Ok, Err, Some, None};
-ghost use Rattle.scenario_words.specs.declared.fault.LineFault.TheVariants.{BadLine};
+ghost use Rattle.scenario_words.specs.declared.fault.LineFault.TheVariants.{BadLine, Memory as NoMemory};
 ghost use Rattle.scenario_words.specs.Reading.{Gives, GivesNext};
 ghost use Rattle.scenario_text.specs.Ranges.{IsInRange};
 ghost use Rattle.scenario_text.specs.Table.{row_of, first_row_of, source_row_of};
 ghost use Rattle.scenario_text.specs.Lines.{LineIs, IsBlank};
 ghost use Rattle.scenario_text.specs.Steps.{at_known, step_of as step_in, read_of};
 ghost use Rattle.scenario_text.specs.Misfits.{IsMisfit};
+ghost use Rattle.scenario_reading.specs.Taking.{LineTakes, RowTakes};
 ghost use Rattle.scenario_text.specs.declared.step.Step.{Step};
 
 use crate::{first_lines, named_of_sink, source_lines};
@@ -27,6 +28,8 @@ pub fn read_line(alloc: Global, line: &[u8]) -> Result<Option<Step>, LineFault>
     ensures misfit { (k : ℕ) → result ≡ Err (BadLine k) → IsMisfit 1 line.now k }
     // What it answers is what the line reads as.
     ensures reads { Gives (λ read. read) result (read_of 1 line.now) }
+    // Memory runs out only at a line whose step takes octets.
+    ensures memory { result ≡ Err NoMemory → LineTakes 1 line.now }
 {
     read_line_in(alloc, 1, line)
 }
@@ -46,6 +49,8 @@ pub fn read_line_in(alloc: Global, version: u8, line: &[u8]) -> Result<Option<St
     ensures misfit { (k : ℕ) → result ≡ Err (BadLine k) → IsMisfit version line.now k }
     // What it answers is what the line reads as.
     ensures reads { Gives (λ read. read) result (read_of version line.now) }
+    // Memory runs out only at a line whose step takes octets.
+    ensures memory { result ≡ Err NoMemory → LineTakes version line.now }
 {
     read(alloc, version, line)
 }
@@ -55,6 +60,7 @@ pub fn read_line_in(alloc: Global, version: u8, line: &[u8]) -> Result<Option<St
 fn read(alloc: Global, version: u8, line: &[u8]) -> Result<Option<Step>, LineFault>
     ensures blank { IsBlank line.now → result ≡ Ok None }
     ensures reads { Gives (λ read. read) result (read_of version line.now) }
+    ensures memory { result ≡ Err NoMemory → LineTakes version line.now }
 {
     match line.first() {
         None => Ok(None),
@@ -66,7 +72,8 @@ fn read(alloc: Global, version: u8, line: &[u8]) -> Result<Option<Step>, LineFau
 /// The step of a line that is neither empty nor a comment.
 #[tactic(auto, unfolding(scenario_text::specs::Steps::step_of))]
 fn step_of(alloc: Global, version: u8, line: &[u8]) -> Result<Step, LineFault>
-    ensures { Gives (λ step. step) result (step_in version line.now) }
+    ensures gives { Gives (λ step. step) result (step_in version line.now) }
+    ensures memory { result ≡ Err NoMemory → LineTakes version line.now }
 {
     let mut words = Cursor::new(line);
     let name = words.word()?;
@@ -78,7 +85,8 @@ fn step_of(alloc: Global, version: u8, line: &[u8]) -> Result<Step, LineFault>
 /// The step that the words after this first word spell.
 #[tactic(auto, unfolding(scenario_text::specs::Table::row_of))]
 fn named(alloc: Global, version: u8, name: &[u8], words: &mut Cursor<'_>) -> Result<Step, LineFault>
-    ensures { GivesNext (λ step. step) result words.new (at_known (row_of version name.now) words.old) }
+    ensures gives { GivesNext (λ step. step) result words.new (at_known (row_of version name.now) words.old) }
+    ensures memory { result ≡ Err NoMemory → RowTakes (row_of version name.now) }
 {
     if name == b"unit".as_slice() {
         return first_lines::unit(alloc, words);
@@ -87,16 +95,16 @@ fn named(alloc: Global, version: u8, name: &[u8], words: &mut Cursor<'_>) -> Res
         return Ok(Step::Event);
     }
     if name == b"hear".as_slice() {
-        return first_lines::hear(words);
+        return Ok(first_lines::hear(words)?);
     }
     if name == b"air".as_slice() {
-        return first_lines::air(words);
+        return Ok(first_lines::air(words)?);
     }
     if name == b"inject".as_slice() {
         return first_lines::inject(alloc, words);
     }
     if name == b"sniff".as_slice() {
-        return first_lines::sniff(words);
+        return Ok(first_lines::sniff(words)?);
     }
     named_of_first(alloc, version, name, words)
 }
@@ -109,25 +117,26 @@ fn named_of_first(
     name: &[u8],
     words: &mut Cursor<'_>,
 ) -> Result<Step, LineFault>
-    ensures { GivesNext (λ step. step) result words.new (at_known (first_row_of version name.now) words.old) }
+    ensures gives { GivesNext (λ step. step) result words.new (at_known (first_row_of version name.now) words.old) }
+    ensures memory { result ≡ Err NoMemory → RowTakes (first_row_of version name.now) }
 {
     if name == b"scenario".as_slice() {
-        return first_lines::scenario(words);
+        return Ok(first_lines::scenario(words)?);
     }
     if name == b"group".as_slice() {
-        return first_lines::group(words);
+        return Ok(first_lines::group(words)?);
     }
     if name == b"start".as_slice() {
-        return first_lines::start(words);
+        return Ok(first_lines::start(words)?);
     }
     if name == b"sink".as_slice() {
-        return first_lines::sink(version, words);
+        return Ok(first_lines::sink(version, words)?);
     }
     if name == b"tuned".as_slice() {
-        return first_lines::tuned(words);
+        return Ok(first_lines::tuned(words)?);
     }
     if name == b"drop".as_slice() {
-        return first_lines::drop_sink(words);
+        return Ok(first_lines::drop_sink(words)?);
     }
     if name == b"stop".as_slice() {
         return Ok(Step::Stop);
@@ -146,10 +155,11 @@ fn named_of_source(
     name: &[u8],
     words: &mut Cursor<'_>,
 ) -> Result<Step, LineFault>
-    ensures { GivesNext (λ step. step) result words.new (at_known (source_row_of version name.now) words.old) }
+    ensures gives { GivesNext (λ step. step) result words.new (at_known (source_row_of version name.now) words.old) }
+    ensures memory { result ≡ Err NoMemory → RowTakes (source_row_of version name.now) }
 {
     if name == b"ident".as_slice() {
-        return source_lines::ident(words);
+        return Ok(source_lines::ident(words)?);
     }
     if name == b"subgroup".as_slice() {
         return source_lines::subgroup(alloc, words);
@@ -161,16 +171,16 @@ fn named_of_source(
         return source_lines::bis(alloc, words);
     }
     if name == b"cipher".as_slice() {
-        return source_lines::cipher(words);
+        return Ok(source_lines::cipher(words)?);
     }
     if name == b"announce".as_slice() {
-        return source_lines::announce(words);
+        return Ok(source_lines::announce(words)?);
     }
     if name == b"train".as_slice() {
         return source_lines::train(alloc, words);
     }
     if name == b"terminate".as_slice() {
-        return source_lines::terminate(words);
+        return Ok(source_lines::terminate(words)?);
     }
     named_of_sink(alloc, version, name, words)
 }

@@ -1,12 +1,12 @@
 //! The lines of a sink and of its first link, behind their first words.
-ghost use Rattle.scenario_words.specs.Reading.{GivesNext};
+ghost use Rattle.scenario_words.specs.Reading.{GivesNext, ReadsNext};
 ghost use Rattle.scenario_text.specs.Steps.{at_row};
 ghost use Rattle.scenario_text.specs.Table.{pac_row, locate_row, context_row, write_row, add_row, modify_row, remove_row, code_row, serve_row, tell_row};
 ghost use Rattle.scenario_text.specs.Table.{read_row, drain_row, show_row, lose_row, control_row, forge_row};
 
 use bass_operations::{AddSource, ModifySource};
 use scenario_text::{BEFORE_ADD, BEFORE_MODIFY, MOST_OF_OPERATION, Step};
-use scenario_words::{Cursor, LineFault};
+use scenario_words::{Cursor, LineFault, Misfit};
 use std::alloc::Global;
 
 pub fn pac(alloc: Global, words: &mut Cursor<'_>) -> Result<Step, LineFault>
@@ -20,8 +20,8 @@ pub fn pac(alloc: Global, words: &mut Cursor<'_>) -> Result<Step, LineFault>
     })
 }
 
-pub fn locate(words: &mut Cursor<'_>) -> Result<Step, LineFault>
-    ensures { GivesNext (λ step. step) result words.new (at_row locate_row words.old) }
+pub fn locate(words: &mut Cursor<'_>) -> Result<Step, Misfit>
+    ensures { ReadsNext (λ step. step) result words.new (at_row locate_row words.old) }
 {
     Ok(Step::Locate {
         sink: words.octet(0, 7)?,
@@ -29,8 +29,8 @@ pub fn locate(words: &mut Cursor<'_>) -> Result<Step, LineFault>
     })
 }
 
-pub fn context(words: &mut Cursor<'_>) -> Result<Step, LineFault>
-    ensures { GivesNext (λ step. step) result words.new (at_row context_row words.old) }
+pub fn context(words: &mut Cursor<'_>) -> Result<Step, Misfit>
+    ensures { ReadsNext (λ step. step) result words.new (at_row context_row words.old) }
 {
     Ok(Step::Context {
         sink: words.octet(0, 7)?,
@@ -77,8 +77,8 @@ pub fn modify(alloc: Global, words: &mut Cursor<'_>) -> Result<Step, LineFault>
     Ok(Step::Modify { sink, op })
 }
 
-pub fn remove(words: &mut Cursor<'_>) -> Result<Step, LineFault>
-    ensures { GivesNext (λ step. step) result words.new (at_row remove_row words.old) }
+pub fn remove(words: &mut Cursor<'_>) -> Result<Step, Misfit>
+    ensures { ReadsNext (λ step. step) result words.new (at_row remove_row words.old) }
 {
     Ok(Step::Remove {
         sink: words.octet(0, 7)?,
@@ -86,8 +86,8 @@ pub fn remove(words: &mut Cursor<'_>) -> Result<Step, LineFault>
     })
 }
 
-pub fn code(words: &mut Cursor<'_>) -> Result<Step, LineFault>
-    ensures { GivesNext (λ step. step) result words.new (at_row code_row words.old) }
+pub fn code(words: &mut Cursor<'_>) -> Result<Step, Misfit>
+    ensures { ReadsNext (λ step. step) result words.new (at_row code_row words.old) }
 {
     Ok(Step::Code {
         sink: words.octet(0, 7)?,
@@ -96,43 +96,43 @@ pub fn code(words: &mut Cursor<'_>) -> Result<Step, LineFault>
     })
 }
 
-pub fn serve(words: &mut Cursor<'_>) -> Result<Step, LineFault>
-    ensures { GivesNext (λ step. step) result words.new (at_row serve_row words.old) }
+pub fn serve(words: &mut Cursor<'_>) -> Result<Step, Misfit>
+    ensures { ReadsNext (λ step. step) result words.new (at_row serve_row words.old) }
 {
     let sink = words.octet(0, 7)?;
     Ok(Step::Serve { sink })
 }
 
-pub fn tell(words: &mut Cursor<'_>) -> Result<Step, LineFault>
-    ensures { GivesNext (λ step. step) result words.new (at_row tell_row words.old) }
+pub fn tell(words: &mut Cursor<'_>) -> Result<Step, Misfit>
+    ensures { ReadsNext (λ step. step) result words.new (at_row tell_row words.old) }
 {
     let sink = words.octet(0, 7)?;
     Ok(Step::Tell { sink })
 }
 
-pub fn read(words: &mut Cursor<'_>) -> Result<Step, LineFault>
-    ensures { GivesNext (λ step. step) result words.new (at_row read_row words.old) }
+pub fn read(words: &mut Cursor<'_>) -> Result<Step, Misfit>
+    ensures { ReadsNext (λ step. step) result words.new (at_row read_row words.old) }
 {
     let sink = words.octet(0, 7)?;
     Ok(Step::Read { sink })
 }
 
-pub fn drain(words: &mut Cursor<'_>) -> Result<Step, LineFault>
-    ensures { GivesNext (λ step. step) result words.new (at_row drain_row words.old) }
+pub fn drain(words: &mut Cursor<'_>) -> Result<Step, Misfit>
+    ensures { ReadsNext (λ step. step) result words.new (at_row drain_row words.old) }
 {
     let sink = words.octet(0, 7)?;
     Ok(Step::Drain { sink })
 }
 
-pub fn show(words: &mut Cursor<'_>) -> Result<Step, LineFault>
-    ensures { GivesNext (λ step. step) result words.new (at_row show_row words.old) }
+pub fn show(words: &mut Cursor<'_>) -> Result<Step, Misfit>
+    ensures { ReadsNext (λ step. step) result words.new (at_row show_row words.old) }
 {
     let sink = words.octet(0, 7)?;
     Ok(Step::Show { sink })
 }
 
-pub fn lose(words: &mut Cursor<'_>) -> Result<Step, LineFault>
-    ensures { GivesNext (λ step. step) result words.new (at_row lose_row words.old) }
+pub fn lose(words: &mut Cursor<'_>) -> Result<Step, Misfit>
+    ensures { ReadsNext (λ step. step) result words.new (at_row lose_row words.old) }
 {
     let sink = words.octet(0, 7)?;
     Ok(Step::Lose { sink })

@@ -1,14 +1,14 @@
 //! The lines of a source, behind their first words.
-ghost use Rattle.scenario_words.specs.Reading.{GivesNext};
+ghost use Rattle.scenario_words.specs.Reading.{GivesNext, ReadsNext};
 ghost use Rattle.scenario_text.specs.Steps.{at_row};
 ghost use Rattle.scenario_text.specs.Table.{ident_row, subgroup_row, meta_row, bis_row, cipher_row, announce_row, train_row, terminate_row};
 
 use scenario_text::Step;
-use scenario_words::{Cursor, LineFault};
+use scenario_words::{Cursor, LineFault, Misfit};
 use std::alloc::Global;
 
-pub fn ident(words: &mut Cursor<'_>) -> Result<Step, LineFault>
-    ensures { GivesNext (λ step. step) result words.new (at_row ident_row words.old) }
+pub fn ident(words: &mut Cursor<'_>) -> Result<Step, Misfit>
+    ensures { ReadsNext (λ step. step) result words.new (at_row ident_row words.old) }
 {
     Ok(Step::Ident {
         address_type: words.octet(0, 1)?,
@@ -43,8 +43,8 @@ pub fn bis(alloc: Global, words: &mut Cursor<'_>) -> Result<Step, LineFault>
     })
 }
 
-pub fn cipher(words: &mut Cursor<'_>) -> Result<Step, LineFault>
-    ensures { GivesNext (λ step. step) result words.new (at_row cipher_row words.old) }
+pub fn cipher(words: &mut Cursor<'_>) -> Result<Step, Misfit>
+    ensures { ReadsNext (λ step. step) result words.new (at_row cipher_row words.old) }
 {
     Ok(Step::Cipher {
         giv: words.array()?,
@@ -52,8 +52,8 @@ pub fn cipher(words: &mut Cursor<'_>) -> Result<Step, LineFault>
     })
 }
 
-pub fn announce(words: &mut Cursor<'_>) -> Result<Step, LineFault>
-    ensures { GivesNext (λ step. step) result words.new (at_row announce_row words.old) }
+pub fn announce(words: &mut Cursor<'_>) -> Result<Step, Misfit>
+    ensures { ReadsNext (λ step. step) result words.new (at_row announce_row words.old) }
 {
     let sink = words.octet(0, 7)?;
     Ok(Step::Announce { sink })
@@ -71,8 +71,8 @@ pub fn train(alloc: Global, words: &mut Cursor<'_>) -> Result<Step, LineFault>
     })
 }
 
-pub fn terminate(words: &mut Cursor<'_>) -> Result<Step, LineFault>
-    ensures { GivesNext (λ step. step) result words.new (at_row terminate_row words.old) }
+pub fn terminate(words: &mut Cursor<'_>) -> Result<Step, Misfit>
+    ensures { ReadsNext (λ step. step) result words.new (at_row terminate_row words.old) }
 {
     let reason = words.octet(0, 255)?;
     Ok(Step::Terminate { reason })

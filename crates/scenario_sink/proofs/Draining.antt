@@ -5,78 +5,111 @@ use Rattle.std.proofs.lemmas.List.{length-append}
 use Rattle.std.specs.Prelude.{is_none, option_map}
 use Rattle.delegator_history.specs.Writes.{reply_of}
 use Rattle.group_sink.specs.Calls as sinks
-use Rattle.link_history.specs.Calls as calls
-use Rattle.link_history.specs.Calls.{Call, is_joined, writes_waiting}
-use Rattle.link_history.specs.Drains.{drained, repeated, served_out, told_out}
-use Rattle.link_history.specs.Links.{delivered, notices_waiting, reads_waiting}
+use Rattle.sink_history.specs.Calls as calls
+use Rattle.sink_history.specs.Calls.{Call, is_joined, writes_waiting}
+use Rattle.sink_history.specs.Drains.{drained, repeated, served_out, told_out}
+use Rattle.sink_history.specs.Links.{Told, delivered, notices_waiting, reads_waiting}
+use Rattle.sink_history.proofs.Citable.{notices_one, reads_one, writes_one}
 use Rattle.sink_history.specs.Lives.{Made}
 use Rattle.sink_history.specs.Output.{Lines, drain_lines, if_there, read_line, read_lines, serve_line, serve_lines, sight_in, stated, tell_line, tell_lines}
 use Rattle.transcript_text.specs.SinkLines.{Label, reply_line, value_line}
 use Rattle.scenario_sink.specs.declared.sink.LivingSink.{LivingSink}
 use Rattle.scenario_sink.specs.Making.{Goes, Stays, Turns, stayed}
-use Rattle.scenario_sink.specs.State.Living.{Lives}
-use Rattle.scenario_sink.proofs.Grown.{lives_stayed}
+use Rattle.scenario_sink.specs.Pasts.{SinkPast}
+use Rattle.scenario_sink.specs.State.Stands.{Lives}
 use Rattle.scenario_sink.proofs.Leaving.{StaysOff, goes_on, served_off}
+use Rattle.scenario_sink.proofs.Lives.{lives_stayed}
 use Rattle.scenario_sink.proofs.Printing.{more_put, nothing_put}
-use Rattle.link_history.proofs.Citable.{notices_one, reads_one, writes_one}
 use Rattle.scenario_sink.proofs.Queues.{no_more, one_more}
 use Rattle.scenario_sink.proofs.Turning.{none_taken, one_taken}
 
 -- ---- a kind of call
 
--- each such call takes the first that waits, puts the sink on no group, and lets nobody leave the link
-pub record IsKind {A : Type 0} (made : Made) (link : ℕ) (call : Call) (waiting : List Call → List A) : Type 0 where
-  pub each : (past : List Call) → waiting (call ∷ past) ≡ drop 1 (waiting past)
-  pub off : (past : List Call) → StaysOff made.setup past (call ∷ past)
-  pub joined : (past : List Call) → is_joined link (call ∷ past) ≡ is_joined link past
+-- each such call takes the first that waits and prints its line, puts the sink on no group, and lets nobody leave the link
+pub record Kind (A : Type 0) (made : Made) (link : ℕ) : Type 0 where
+  pub call : Call
+  pub waiting : List Call → List A
+  pub line : List Call → Lines
+  pub lines : ℕ → List Call → Lines
+  pub none : (life : List Call) → lines 0 life ≡ []
+  pub more : (count : ℕ) (life : List Call) → lines (suc count) life ≡ lines count life ++ line (repeated count call life)
+  pub each : (life : List Call) → waiting (call ∷ life) ≡ drop 1 (waiting life)
+  pub off : (life : List Call) → StaysOff made.setup life (call ∷ life)
+  pub joined : (life : List Call) → is_joined link (call ∷ life) ≡ is_joined link life
 
-pub serving : (made : Made) (link : ℕ) → IsKind made link (calls.served link) (writes_waiting link)
-serving made link = record { each = writes_one link; off = served_off made.setup link; joined = λ past. refl }
+abbrev pub serving : (label : Label) (made : Made) (link : ℕ) → Kind (List ℕ) made link
+serving label made link = record {
+  call = calls.served link;
+  waiting = writes_waiting link;
+  line = serve_line label made link;
+  lines = λ count. serve_lines label made link count;
+  none = λ life. refl;
+  more = λ count life. refl;
+  each = writes_one link;
+  off = served_off made.setup link;
+  joined = λ life. refl;
+}
 
-pub telling : (made : Made) (link : ℕ) → IsKind made link (calls.told link) (notices_waiting made.setup made.mtu link)
-telling made link = record { each = notices_one made.setup made.mtu link; off = λ calls off. off; joined = λ past. refl }
+abbrev pub telling : (label : Label) (made : Made) (link : ℕ) → Kind Told made link
+telling label made link = record {
+  call = calls.told link;
+  waiting = notices_waiting made.setup made.mtu link;
+  line = tell_line label made link;
+  lines = λ count. tell_lines label made link count;
+  none = λ life. refl;
+  more = λ count life. refl;
+  each = notices_one made.setup made.mtu link;
+  off = λ calls off. off;
+  joined = λ life. refl;
+}
 
-pub reading : (made : Made) (link : ℕ) → IsKind made link (calls.read link) (reads_waiting made.setup made.mtu link)
-reading made link = record { each = reads_one made.setup made.mtu link; off = λ calls off. off; joined = λ past. refl }
+abbrev pub reading : (label : Label) (made : Made) (link : ℕ) → Kind ℕ made link
+reading label made link = record {
+  call = calls.read link;
+  waiting = reads_waiting made.setup made.mtu link;
+  line = read_line label made link;
+  lines = λ count. read_lines label made link count;
+  none = λ life. refl;
+  more = λ count life. refl;
+  each = reads_one made.setup made.mtu link;
+  off = λ calls off. off;
+  joined = λ life. refl;
+}
 
-pub all_off : {A : Type 0} (made : Made) (link : ℕ) (call : Call) (waiting : List Call → List A) → IsKind made link call waiting → (count : ℕ) (life : List Call)
-    → StaysOff made.setup life (repeated count call life)
-all_off made link call waiting kind zero life off = off
-all_off made link call waiting kind (suc count) life off = kind.off (repeated count call life) (all_off made link call waiting kind count life off)
+pub all_off : {A : Type 0} (made : Made) (link : ℕ) (kind : Kind A made link) (count : ℕ) (life : List Call) → StaysOff made.setup life (repeated count kind.call life)
+all_off made link kind zero life off = off
+all_off made link kind (suc count) life off = kind.off (repeated count kind.call life) (all_off made link kind count life off)
 
-pub all_joined : {A : Type 0} (made : Made) (link : ℕ) (call : Call) (waiting : List Call → List A) → IsKind made link call waiting → (count : ℕ) (life : List Call)
-    → is_joined link (repeated count call life) ≡ is_joined link life
-all_joined made link call waiting kind zero life = refl
-all_joined made link call waiting kind (suc count) life = kind.joined (repeated count call life) ∙ all_joined made link call waiting kind count life
+pub all_joined : {A : Type 0} (made : Made) (link : ℕ) (kind : Kind A made link) (count : ℕ) (life : List Call) → is_joined link (repeated count kind.call life) ≡ is_joined link life
+all_joined made link kind zero life = refl
+all_joined made link kind (suc count) life = kind.joined (repeated count kind.call life) ∙ all_joined made link kind count life
 
 -- ---- one life after another
 
-pub goes_then : (made : Made) (its : Option ℕ) (before mid after : List Call) (received : List sinks.Call) (lines others : Lines) (text between told : List ℕ)
-    (first last : LivingSink) → StaysOff made.setup before mid → StaysOff made.setup mid after → Goes made its before mid received lines text between first
-    → Goes made its mid after (stayed made before mid received) others between told last → Goes made its before after received (lines ++ others) text told last
-goes_then made its before mid after received lines others text between told first last off more goes then_goes = (
-  subst (λ past. Lives made its after past last) (goes_on made.setup before mid after received off more) then_goes.0,
+pub goes_then : (past : SinkPast) (mid after : List Call) (lines others : Lines) (text between told : List ℕ) (first last : LivingSink)
+    → StaysOff past.made.setup past.life mid → StaysOff past.made.setup mid after → Goes past mid lines text between first
+    → Goes (stayed mid past) after others between told last → Goes past after (lines ++ others) text told last
+goes_then past mid after lines others text between told first last off more goes then_goes = (
+  subst (λ (received : List sinks.Call). Lives (record (stayed after past) { received = received }) last) (goes_on past.made.setup past.life mid after past.received off more) then_goes.0,
   more_put text between told lines others goes.1 then_goes.1,
 )
 
 -- ---- so many of them
 
-pub record Repeats {A : Type 0} (made : Made) (its : Option ℕ) (call : Call) (waiting : List Call → List A) (lines : ℕ → Lines) (turns : ℕ) (life : List Call)
-    (received : List sinks.Call) (text told : List ℕ) (living : LivingSink) : Type 0 where
+pub record Repeats {A : Type 0} (past : SinkPast) (link : ℕ) (kind : Kind A past.made link) (turns : ℕ) (text told : List ℕ) (living : LivingSink) : Type 0 where
   pub count : ℕ
   pub turned : turns ≤ count
-  pub within : count ≤ length (waiting life)
-  pub goes : Goes made its life (repeated count call life) received (lines count) text told living
+  pub within : count ≤ length (kind.waiting past.life)
+  pub goes : Goes past (repeated count kind.call past.life) (kind.lines count past.life) text told living
 
-pub none_yet : {A : Type 0} (made : Made) (its : Option ℕ) (call : Call) (waiting : List Call → List A) (lines : ℕ → Lines) (life : List Call) (received : List sinks.Call)
-    (text : List ℕ) (living : LivingSink) → lines 0 ≡ [] → Lives made its life received living → Repeats made its call waiting lines 0 life received text text living
-none_yet made its call waiting lines life received text living first lives = record {
+pub none_yet : {A : Type 0} (past : SinkPast) (link : ℕ) (kind : Kind A past.made link) (text : List ℕ) (living : LivingSink) → Lives past living → Repeats past link kind 0 text text living
+none_yet past link kind text living lives = record {
   count = 0;
   turned = omega arith;
   within = omega arith;
   goes = (
-    lives_stayed made its life received living lives,
-    nothing_put text ∙ ap (λ (ls : Lines). text ++ concat ls) (sym first),
+    lives_stayed past living lives,
+    nothing_put text ∙ ap (λ (ls : Lines). text ++ concat ls) (sym (kind.none past.life)),
   );
 }
 
@@ -88,53 +121,48 @@ none_is : {A : Type 0} (first : Option A) → is_none first ≡ true → first �
 none_is (Some x) is = absurd cc
 none_is None is = refl
 
--- what one such call makes of a life of the link
-abbrev pub Each : {A : Type 0} → Made → Option ℕ → ℕ → Call → (List Call → List A) → (List Call → Lines) → List ℕ → List ℕ → LivingSink → LivingSink → Bool → Type 0
-Each made its link call waiting line told next old new waited =
-    (life : List Call) (received : List sinks.Call) → Lives made its life received old → is_joined link life ≡ true
-    → Turns (slice_get (waiting life) 0) (Goes made its life (call ∷ life) received (line life) told) (Stays made its life received told) next new (Ok waited)
+-- what one such call makes of the sink with this life
+abbrev pub Each : {A : Type 0} (past : SinkPast) (link : ℕ) → Kind A past.made link → List ℕ → List ℕ → LivingSink → LivingSink → Bool → Type 0
+Each past link kind told next old new waited =
+    (life : List Call) → Lives (stayed life past) old → is_joined link life ≡ true
+    → Turns (slice_get (kind.waiting life) 0) (Goes (stayed life past) (kind.call ∷ life) (kind.line life) told) (Stays (stayed life past) told) next new (Ok waited)
 
-pub one_again : {A : Type 0} (made : Made) (its : Option ℕ) (link : ℕ) (call : Call) (waiting : List Call → List A) (lines : ℕ → Lines) (line : List Call → Lines)
-    (turns : ℕ) (life : List Call) (received : List sinks.Call) (text told next : List ℕ) (old new : LivingSink) (waited : Bool) → IsKind made link call waiting
-    → ((n : ℕ) → lines (suc n) ≡ lines n ++ line (repeated n call life)) → is_joined link life ≡ true
-    → Repeats made its call waiting lines turns life received text told old → waited ≡ true → Each made its link call waiting line told next old new waited
-    → Repeats made its call waiting lines (turns + 1) life received text next new
-one_again made its link call waiting lines line turns life received text told next old new waited kind more on r is each =
-    let past : List Call = repeated r.count call life in
-    let taken : List sinks.Call = stayed made life past received in
-    let turn = one_taken (slice_get (waiting past) 0) (Goes made its past (call ∷ past) taken (line past) told) (Stays made its past taken told) next new waited is
-    (each past taken r.goes.0 (all_joined made link call waiting kind r.count life ∙ on)) in
-    let there = some_is (slice_get (waiting past) 0) turn.0 in
-    let goes : Goes made its life (call ∷ past) received (lines r.count ++ line past) text next new =
-    goes_then made its life past (call ∷ past) received (lines r.count) (line past) text told next old new (all_off made link call waiting kind r.count life) (kind.off past) r.goes turn.1 in
+pub one_again : {A : Type 0} (past : SinkPast) (link : ℕ) (kind : Kind A past.made link) (turns : ℕ) (text told next : List ℕ) (old new : LivingSink) (waited : Bool)
+    → is_joined link past.life ≡ true → Repeats past link kind turns text told old → waited ≡ true → Each past link kind told next old new waited
+    → Repeats past link kind (turns + 1) text next new
+one_again past link kind turns text told next old new waited on r is each =
+    let life : List Call = repeated r.count kind.call past.life in
+    let turn = one_taken (slice_get (kind.waiting life) 0) (Goes (stayed life past) (kind.call ∷ life) (kind.line life) told) (Stays (stayed life past) told) next new waited is
+    (each life r.goes.0 (all_joined past.made link kind r.count past.life ∙ on)) in
+    let there = some_is (slice_get (kind.waiting life) 0) turn.0 in
+    let goes : Goes past (kind.call ∷ life) (kind.lines r.count past.life ++ kind.line life) text next new =
+    goes_then past life (kind.call ∷ life) (kind.lines r.count past.life) (kind.line life) text told next old new (all_off past.made link kind r.count past.life) (kind.off life) r.goes turn.1 in
     record {
       count = suc r.count;
       turned = omega (arith, r.turned);
-      within = one_more call waiting kind.each r.count life there.0 there.1;
-      goes = (goes.0, goes.1 ∙ ap (λ (ls : Lines). text ++ concat ls) (sym (more r.count)));
+      within = one_more kind.call kind.waiting kind.each r.count past.life there.0 there.1;
+      goes = (goes.0, goes.1 ∙ ap (λ (ls : Lines). text ++ concat ls) (sym (kind.more r.count past.life)));
     }
 
-pub all_done : {A : Type 0} (made : Made) (its : Option ℕ) (link : ℕ) (call : Call) (waiting : List Call → List A) (lines : ℕ → Lines) (line : List Call → Lines)
-    (turns : ℕ) (life : List Call) (received : List sinks.Call) (text told next : List ℕ) (old new : LivingSink) (waited : Bool) → IsKind made link call waiting
-    → is_joined link life ≡ true → Repeats made its call waiting lines turns life received text told old → waited ≡ false → Each made its link call waiting line told next old new waited
-    → Goes made its life (repeated (length (waiting life)) call life) received (lines (length (waiting life))) text next new
-all_done made its link call waiting lines line turns life received text told next old new waited kind on r is each =
-    let past : List Call = repeated r.count call life in
-    let taken : List sinks.Call = stayed made life past received in
-    let turn = none_taken (slice_get (waiting past) 0) (Goes made its past (call ∷ past) taken (line past) told) (Stays made its past taken told) next new waited is
-    (each past taken r.goes.0 (all_joined made link call waiting kind r.count life ∙ on)) in
-    let all : r.count ≡ length (waiting life) = no_more call waiting kind.each r.count life r.within (none_is (slice_get (waiting past) 0) turn.0) in
-    subst (λ n. Goes made its life (repeated n call life) received (lines n) text next new) all (turn.1.0, turn.1.1 ∙ r.goes.1)
+pub all_done : {A : Type 0} (past : SinkPast) (link : ℕ) (kind : Kind A past.made link) (turns : ℕ) (text told next : List ℕ) (old new : LivingSink) (waited : Bool)
+    → is_joined link past.life ≡ true → Repeats past link kind turns text told old → waited ≡ false → Each past link kind told next old new waited
+    → Goes past (repeated (length (kind.waiting past.life)) kind.call past.life) (kind.lines (length (kind.waiting past.life)) past.life) text next new
+all_done past link kind turns text told next old new waited on r is each =
+    let life : List Call = repeated r.count kind.call past.life in
+    let turn = none_taken (slice_get (kind.waiting life) 0) (Goes (stayed life past) (kind.call ∷ life) (kind.line life) told) (Stays (stayed life past) told) next new waited is
+    (each life r.goes.0 (all_joined past.made link kind r.count past.life ∙ on)) in
+    let all : r.count ≡ length (kind.waiting past.life) =
+    no_more kind.call kind.waiting kind.each r.count past.life r.within (none_is (slice_get (kind.waiting life) 0) turn.0) in
+    subst (λ n. Goes past (repeated n kind.call past.life) (kind.lines n past.life) text next new) all (turn.1.0, turn.1.1 ∙ r.goes.1)
 
 -- one of them waited still, and so of the life before them all
-pub some_waits : {A : Type 0} (made : Made) (its : Option ℕ) (link : ℕ) (call : Call) (waiting : List Call → List A) (lines : ℕ → Lines) (turns : ℕ) (life : List Call)
-    (received : List sinks.Call) (text told : List ℕ) (old : LivingSink) → IsKind made link call waiting → is_joined link life ≡ true
-    → Repeats made its call waiting lines turns life received text told old
-    → ((past : List Call) (taken : List sinks.Call) → Lives made its past taken old → is_joined link past ≡ true → is_none (slice_get (waiting past) 0) ≡ false) → 0 < length (waiting life)
-some_waits made its link call waiting lines turns life received text told old kind on r wants =
-    let past : List Call = repeated r.count call life in
-    let there = some_is (slice_get (waiting past) 0) (wants past (stayed made life past received) r.goes.0 (all_joined made link call waiting kind r.count life ∙ on)) in
-    omega (arith, one_more call waiting kind.each r.count life there.0 there.1)
+pub some_waits : {A : Type 0} (past : SinkPast) (link : ℕ) (kind : Kind A past.made link) (turns : ℕ) (text told : List ℕ) (old : LivingSink)
+    → is_joined link past.life ≡ true → Repeats past link kind turns text told old
+    → ((life : List Call) → Lives (stayed life past) old → is_joined link life ≡ true → is_none (slice_get (kind.waiting life) 0) ≡ false) → 0 < length (kind.waiting past.life)
+some_waits past link kind turns text told old on r wants =
+    let life : List Call = repeated r.count kind.call past.life in
+    let there = some_is (slice_get (kind.waiting life) 0) (wants life r.goes.0 (all_joined past.made link kind r.count past.life ∙ on)) in
+    omega (arith, one_more kind.call kind.waiting kind.each r.count past.life there.0 there.1)
 
 -- ---- lines of what waits
 
@@ -174,27 +202,25 @@ drain_length served told was_read = omega (arith, length-append (served ++ told)
 
 -- ---- a drain
 
-pub drain_goes : (made : Made) (its : Option ℕ) (link : ℕ) (label : Label) (life : List Call) (received : List sinks.Call) (text first mid last : List ℕ) (one two three : LivingSink)
-    → Goes made its life (served_out link life) received (serve_lines label made link (length (writes_waiting link life)) life) text first one
-    → Goes made its (served_out link life) (told_out made.setup made.mtu link (served_out link life)) (stayed made life (served_out link life) received)
-    (tell_lines label made link (length (notices_waiting made.setup made.mtu link (served_out link life))) (served_out link life)) first mid two
-    → Goes made its (told_out made.setup made.mtu link (served_out link life)) (drained made.setup made.mtu link life)
-    (stayed made (served_out link life) (told_out made.setup made.mtu link (served_out link life)) (stayed made life (served_out link life) received))
-    (read_lines label made link (length (reads_waiting made.setup made.mtu link (told_out made.setup made.mtu link (served_out link life))))
-    (told_out made.setup made.mtu link (served_out link life))) mid last three
-    → Goes made its life (drained made.setup made.mtu link life) received (drain_lines label made link life) text last three
-drain_goes made its link label life received text first mid last one two three serves tells reads =
+pub drain_goes : (past : SinkPast) (link : ℕ) (label : Label) (text first mid last : List ℕ) (one two three : LivingSink)
+    → let made : Made = past.made in let served : List Call = served_out link past.life in let told : List Call = told_out made.setup made.mtu link served in
+    Goes past served (serve_lines label made link (length (writes_waiting link past.life)) past.life) text first one
+    → Goes (stayed served past) told (tell_lines label made link (length (notices_waiting made.setup made.mtu link served)) served) first mid two
+    → Goes (stayed told (stayed served past)) (drained made.setup made.mtu link past.life)
+    (read_lines label made link (length (reads_waiting made.setup made.mtu link told)) told) mid last three
+    → Goes past (drained made.setup made.mtu link past.life) (drain_lines label made link past.life) text last three
+drain_goes past link label text first mid last one two three serves tells reads =
+    let made : Made = past.made in
+    let life : List Call = past.life in
     let served : List Call = served_out link life in
     let told : List Call = told_out made.setup made.mtu link served in
-    let writes : ℕ = length (writes_waiting link life) in
-    let notices : ℕ = length (notices_waiting made.setup made.mtu link served) in
-    let count : ℕ = length (reads_waiting made.setup made.mtu link told) in
-    let off = all_off made link (calls.served link) (writes_waiting link) (serving made link) writes life in
-    let off_told = all_off made link (calls.told link) (notices_waiting made.setup made.mtu link) (telling made link) notices served in
-    let off_read = all_off made link (calls.read link) (reads_waiting made.setup made.mtu link) (reading made link) count told in
-    subst (λ lines. Goes made its life (drained made.setup made.mtu link life) received lines text last three)
-    (sym (append_assoc (serve_lines label made link writes life) (tell_lines label made link notices served) (read_lines label made link count told)))
-    (goes_then made its life served (drained made.setup made.mtu link life) received (serve_lines label made link writes life)
-    (tell_lines label made link notices served ++ read_lines label made link count told) text first last one three off (λ none. off_read (off_told none)) serves
-    (goes_then made its served told (drained made.setup made.mtu link life) (stayed made life served received) (tell_lines label made link notices served)
-    (read_lines label made link count told) first mid last two three off_told off_read tells reads))
+    let all : List Call = drained made.setup made.mtu link life in
+    let serve_them : Lines = serve_lines label made link (length (writes_waiting link life)) life in
+    let tell_them : Lines = tell_lines label made link (length (notices_waiting made.setup made.mtu link served)) served in
+    let read_them : Lines = read_lines label made link (length (reads_waiting made.setup made.mtu link told)) told in
+    let off = all_off made link (serving label made link) (length (writes_waiting link life)) life in
+    let off_told = all_off made link (telling label made link) (length (notices_waiting made.setup made.mtu link served)) served in
+    let off_read = all_off made link (reading label made link) (length (reads_waiting made.setup made.mtu link told)) told in
+    subst (λ lines. Goes past all lines text last three) (sym (append_assoc serve_them tell_them read_them))
+    (goes_then past served all serve_them (tell_them ++ read_them) text first last one three off (λ none. off_read (off_told none)) serves
+    (goes_then (stayed served past) told all tell_them read_them first mid last two three off_told off_read tells reads))

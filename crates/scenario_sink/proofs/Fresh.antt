@@ -1,31 +1,70 @@
--- A new living sink.
-use Rattle.std.proofs.Common.{◌≡◌, [], Option, Some, None, refl}
-use Rattle.link_history.specs.Calls.{born}
-use Rattle.delegator_machine.specs.Groups.{group_calls}
-use Rattle.delegator_history.specs.States.{answered}
-use Rattle.linked_sink.specs.State.Stands.{LinkedStands}
-use Rattle.linked_sink.specs.Taken.{delegator_calls}
-use Rattle.sink_history.specs.Lives.{Made}
-use Rattle.scenario_sink.specs.declared.sink.LivingSink.{LivingSink}
-use Rattle.scenario_sink.specs.State.Living.{Lives, without_air}
-use Rattle.std.proofs.Common.{ℕ}
-use Rattle.delegator_history.specs.Trains.{Setup}
+-- An assistant that just joined.
+use Rattle.std.proofs.Common.{ℕ, true, false, List, [], ◌∷◌, replicate, Option, Some, None, refl, subst}
+use Rattle.assistant_machine.specs.Calls.{Call, all_asked, limited}
+use Rattle.assistant_machine.specs.State.Assistants.{StandsFor, joined}
+use Rattle.assistant_machine.proofs.Citable.{all_stands, fresh, length_replicate, limited_stands}
+use Rattle.assistant_machine.specs.Links as links
+use Rattle.sink_history.specs.Links.{Acts}
+use Rattle.multi_assist.specs.State.Places.{asking}
+use Rattle.multi_assist.specs.State.Terms.{joining}
+use Rattle.scenario_sink.specs.State.Links.{LinkHolds}
 
-born_life : (mtu : Option ℕ) → without_air (born mtu) ≡ born mtu
-born_life None = refl
-born_life (Some mtu) = refl
+-- it was told its MTU, where there is one
+abbrev its_calls : Option ℕ → List Call
+its_calls None = []
+its_calls (Some mtu) = limited mtu ∷ []
 
-born_alone : (setup : Setup) (mtu : Option ℕ) → group_calls setup (delegator_calls (born mtu)) ≡ []
-unfolding answered
-born_alone setup None = refl
-born_alone setup (Some mtu) = refl
+joining_stands : (slots : ℕ) (mtu : Option ℕ) → StandsFor slots (its_calls mtu) (joining slots mtu)
+joining_stands slots None = fresh slots
+joining_stands slots (Some mtu) = limited_stands slots mtu [] (joined slots) (fresh slots)
 
-pub newborn : (made : Made) (living : LivingSink) → LinkedStands made.setup made.mtu (born made.mtu) living.sink → living.source ≡ None
-    → Lives made None (born made.mtu) [] living
-newborn made living stands source = record {
-  all = born made.mtu;
-  stands = stands;
-  life_is = born_life made.mtu;
-  received_is = born_alone made.setup made.mtu;
-  source_is = source;
+asking_stands : (slots : ℕ) (mtu : Option ℕ) → StandsFor slots (all_asked ∷ its_calls mtu) (asking slots mtu).assistant
+asking_stands slots mtu =
+    subst (λ n. StandsFor slots (all_asked ∷ its_calls mtu) (record (joining slots mtu) { reads = replicate n true })) (length_replicate slots false)
+    (all_stands slots (its_calls mtu) (joining slots mtu) (joining_stands slots mtu))
+
+-- on link 0 of a new sink
+pub first_holds : (slots : ℕ) (mtu : Option ℕ) → LinkHolds slots mtu [] [] (record { waiting = []; assistant = joining slots mtu })
+first_holds slots None = record {
+  taken = [];
+  assistant = joining_stands slots None;
+  heard = tt;
+  mtu_is = refl;
+  writes_are = refl;
+  views = λ slot. refl;
+  reads = λ slot. refl;
+  notices = refl;
+}
+first_holds slots (Some mtu) = record {
+  taken = limited mtu ∷ [];
+  assistant = joining_stands slots (Some mtu);
+  heard = (tt, tt);
+  mtu_is = refl;
+  writes_are = refl;
+  views = λ slot. refl;
+  reads = λ slot. refl;
+  notices = refl;
+}
+
+-- on a link that is joined anew
+pub anew_holds : (slots : ℕ) (mtu : Option ℕ) (acts : Acts) → LinkHolds slots mtu (links.joined ∷ acts) [] (asking slots mtu)
+anew_holds slots None acts = record {
+  taken = all_asked ∷ [];
+  assistant = asking_stands slots None;
+  heard = (tt, tt);
+  mtu_is = refl;
+  writes_are = refl;
+  views = λ slot. refl;
+  reads = λ slot. refl;
+  notices = refl;
+}
+anew_holds slots (Some mtu) acts = record {
+  taken = all_asked ∷ limited mtu ∷ [];
+  assistant = asking_stands slots (Some mtu);
+  heard = (tt, (tt, tt));
+  mtu_is = refl;
+  writes_are = refl;
+  views = λ slot. refl;
+  reads = λ slot. refl;
+  notices = refl;
 }

@@ -14,8 +14,8 @@ use Rattle.delegator_history.specs.Steps.{Done, after, capability_after, encrypt
 use Rattle.delegator_history.specs.Trains.{Setup}
 use Rattle.delegator_history.specs.Writes.{cause_of, done_read, operated, slot_with}
 use Rattle.group_sink.specs.Calls as sinks
-use Rattle.link_history.specs.Calls as links
-use Rattle.link_history.specs.Calls.{Call, served, steps_of, writes_waiting}
+use Rattle.sink_history.specs.Calls as links
+use Rattle.sink_history.specs.Calls.{Call, served, steps_of, writes_waiting}
 use Rattle.delegator_control.specs.Groups.{has_group}
 
 placed_place : (given : Option Place) (encryption : Option Bool) (streams : Option (List ℕ)) (sight : Sight)

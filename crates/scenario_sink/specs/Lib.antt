@@ -1,5 +1,6 @@
 pub mod Answers
-pub mod Origins
 pub mod Making
+pub mod Origins
+pub mod Pasts
 pub mod SinkLines
 pub mod State

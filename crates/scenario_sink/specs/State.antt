@@ -1,2 +1,5 @@
--- How a living sink stands for what it took.
-pub mod Living
+-- How a sink with its links stands for what it took.
+pub mod Links
+pub mod Stands
+pub mod Taking
+pub mod Untold

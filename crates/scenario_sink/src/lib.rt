@@ -1,10 +1,11 @@
-//! One sink of a scenario: what each line that names it makes of it and of the assistants on its links, and what it prints.
+//! One sink of a scenario, a Scan Delegator with the assistants on its four links: what each line that names it makes of it, and
+//! what it prints.
 #![tactic(auto)]
 
-mod announce;
 mod drains;
 mod line;
 mod links;
+mod on_link;
 mod origin;
 mod served;
 mod settings;

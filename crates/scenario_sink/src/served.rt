@@ -1,18 +1,21 @@
 //! The first write, notice or read that waits on a link.
-ghost use Rattle.std.specs.Prelude.{ℕ, ◌≡◌, ◌∷◌, true, List, Option, slice_get};
-ghost use Rattle.group_sink.specs.Calls as sinks;
-ghost use Rattle.link_history.specs.Calls as calls;
-ghost use Rattle.link_history.specs.Calls.{Call, is_joined, writes_waiting};
-ghost use Rattle.link_history.specs.Links.{notices_waiting, reads_waiting};
-ghost use Rattle.scenario_text.specs.declared.step.Step.TheVariants.{AServe, ATell, ARead, Serve, Tell, Read};
-ghost use Rattle.sink_history.specs.Lives.{Made, Source};
+ghost use Rattle.std.specs.Prelude.{◌≡◌, ◌∷◌, true, None, slice_get};
+ghost use Rattle.std.specs.Option.{option_or};
+ghost use Rattle.sink_history.specs.Calls as calls;
+ghost use Rattle.sink_history.specs.Calls.{is_joined, writes_waiting};
+ghost use Rattle.sink_history.specs.Links.{notices_waiting, reads_waiting};
 ghost use Rattle.sink_history.specs.Output.{read_line, serve_line, tell_line};
+ghost use Rattle.sink_history.specs.Refusals.{no_notice, no_read, no_write};
 ghost use Rattle.transcript_text.specs.Labels.{label_of};
-ghost use Rattle.scenario_sink.specs.Making.{Goes, Prints, Stays, Turns, answer_if};
-ghost use Rattle.scenario_sink.specs.State.Living.{Lives};
+ghost use Rattle.scenario_sink.specs.Making.{Goes, LinkMakes, Stays, Turns, answer_if};
+ghost use Rattle.scenario_sink.specs.Pasts.{SinkPast};
+ghost use Rattle.scenario_sink.specs.State.Stands.{Lives};
 
+use crate::on_link::{deliver, next_read, take_value, take_write};
 use crate::sink::LivingSink;
 use bcast_base::{Memory, Octets};
+use delegator_history::Notice;
+use sink_history::{a_read_gives_the_state, a_step_tells_each_link, links_law};
 use transcript_text::{Label, Refusal, Stop, put_notice, put_read, put_reply};
 
 impl LivingSink {
@@ -24,15 +27,17 @@ impl LivingSink {
         label: Label,
         text: &mut Octets,
     ) -> Result<bool, Memory>
-        ensures { (made : Made) (its : Option ℕ) (life : List Call) (received : List sinks.Call) → Lives made its life received self.old
-            → is_joined link life ≡ true
-            → Turns (slice_get (writes_waiting link life) 0)
-            (Goes made its life (calls.served link ∷ life) received (serve_line (label_of label) made link life) text.old)
-            (Stays made its life received text.old) text.new self.new result }
+        ensures { (past : SinkPast) → Lives past self.old → is_joined link past.life ≡ true
+            → Turns (slice_get (writes_waiting link past.life) 0)
+            (Goes past (calls.served link ∷ past.life) (serve_line (label_of label) past.made link past.life) text.old)
+            (Stays past text.old) text.new self.new result }
     {
-        let Some(reply) = self.sink.serve(link)? else {
+        a_step_tells_each_link();
+        let Some(write) = take_write(&mut self.links, link) else {
             return Ok(false);
         };
+        let reply = self.delegator.serve(write.as_slice())?;
+        self.gather()?;
         put_reply(text, label, reply)?;
         Ok(true)
     }
@@ -45,15 +50,16 @@ impl LivingSink {
         label: Label,
         text: &mut Octets,
     ) -> Result<bool, Memory>
-        ensures { (made : Made) (its : Option ℕ) (life : List Call) (received : List sinks.Call) → Lives made its life received self.old
-            → is_joined link life ≡ true
-            → Turns (slice_get (notices_waiting made.setup made.mtu link life) 0)
-            (Goes made its life (calls.told link ∷ life) received (tell_line (label_of label) made link life) text.old)
-            (Stays made its life received text.old) text.new self.new result }
+        ensures { (past : SinkPast) → Lives past self.old → is_joined link past.life ≡ true
+            → Turns (slice_get (notices_waiting past.made.setup past.made.mtu link past.life) 0)
+            (Goes past (calls.told link ∷ past.life) (tell_line (label_of label) past.made link past.life) text.old)
+            (Stays past text.old) text.new self.new result }
     {
-        let Some(notice) = self.sink.tell(link)? else {
+        links_law();
+        let Some(notice) = self.links.next_notice(link) else {
             return Ok(false);
         };
+        deliver(&mut self.links, link, notice.slot, notice.value.as_slice())?;
         put_notice(text, label, &notice)?;
         Ok(true)
     }
@@ -66,85 +72,61 @@ impl LivingSink {
         label: Label,
         text: &mut Octets,
     ) -> Result<bool, Memory>
-        ensures { (made : Made) (its : Option ℕ) (life : List Call) (received : List sinks.Call) → Lives made its life received self.old
-            → is_joined link life ≡ true
-            → Turns (slice_get (reads_waiting made.setup made.mtu link life) 0)
-            (Goes made its life (calls.read link ∷ life) received (read_line (label_of label) made link life) text.old)
-            (Stays made its life received text.old) text.new self.new result }
+        ensures { (past : SinkPast) → Lives past self.old → is_joined link past.life ≡ true
+            → Turns (slice_get (reads_waiting past.made.setup past.made.mtu link past.life) 0)
+            (Goes past (calls.read link ∷ past.life) (read_line (label_of label) past.made link past.life) text.old)
+            (Stays past text.old) text.new self.new result }
     {
-        let Some(notice) = self.sink.read(link)? else {
+        links_law();
+        a_read_gives_the_state();
+        let Some(slot) = next_read(&mut self.links, link) else {
             return Ok(false);
         };
-        put_read(text, label, &notice)?;
+        if slot >= self.slots {
+            return Ok(false);
+        }
+        let value = self.delegator.read_state(slot)?;
+        take_value(&mut self.links, link, slot, value.as_slice())?;
+        put_read(text, label, &Notice { slot, value })?;
         Ok(true)
     }
 
-    /// `serve`: serves the first write that waits on link 0.
-    pub(crate) fn serve(&mut self, sink: u8, text: &mut Octets) -> Result<(), Stop>
-        ensures { (source : Source) (made : Made) (its : Option ℕ) (life : List Call) (received : List sinks.Call)
-            → Lives made its life received self.old
-            → Prints source (Serve sink) made its life received text.old text.new self.new result }
+    /// `serve` and `aserve`: serves the first write that waits on a link.
+    pub(crate) fn serve(&mut self, link: u8, label: Label, text: &mut Octets) -> Result<(), Stop>
+        ensures { (past : SinkPast) → Lives past self.old
+            → LinkMakes link (option_or (no_write link past.life) None) (Unit {0}) (serve_line (label_of label) past.made link past.life)
+            (calls.served link ∷ past.life) past text.old text.new self.new result }
     {
-        let waited = self.serve_next(0, Label::Plain { sink }, text)?;
-        refuse_unless(waited)
-    }
-
-    /// `tell`: delivers the first notice that waits on link 0.
-    pub(crate) fn tell(&mut self, sink: u8, text: &mut Octets) -> Result<(), Stop>
-        ensures { (source : Source) (made : Made) (its : Option ℕ) (life : List Call) (received : List sinks.Call)
-            → Lives made its life received self.old
-            → Prints source (Tell sink) made its life received text.old text.new self.new result }
-    {
-        let waited = self.tell_next(0, Label::Plain { sink }, text)?;
-        refuse_unless(waited)
-    }
-
-    /// `read`: serves the read that waits on link 0 of the lowest slot.
-    pub(crate) fn read(&mut self, sink: u8, text: &mut Octets) -> Result<(), Stop>
-        ensures { (source : Source) (made : Made) (its : Option ℕ) (life : List Call) (received : List sinks.Call)
-            → Lives made its life received self.old
-            → Prints source (Read sink) made its life received text.old text.new self.new result }
-    {
-        let waited = self.read_next(0, Label::Plain { sink }, text)?;
-        refuse_unless(waited)
-    }
-
-    /// `aserve`: as `serve`, on a link.
-    pub(crate) fn serve_on(&mut self, sink: u8, link: u8, text: &mut Octets) -> Result<(), Stop>
-        ensures { (source : Source) (made : Made) (its : Option ℕ) (life : List Call) (received : List sinks.Call)
-            → Lives made its life received self.old
-            → Prints source (AServe sink link) made its life received text.old text.new self.new result }
-    {
-        if !self.is_joined(link) {
+        if !self.links.is_joined(link) {
             return Err(Stop::Refused(Refusal::NoSuchLink));
         }
-        let waited = self.serve_next(link, Label::OnLink { sink, link }, text)?;
+        let waited = self.serve_next(link, label, text)?;
         refuse_unless(waited)
     }
 
-    /// `atell`: as `tell`, on a link.
-    pub(crate) fn tell_on(&mut self, sink: u8, link: u8, text: &mut Octets) -> Result<(), Stop>
-        ensures { (source : Source) (made : Made) (its : Option ℕ) (life : List Call) (received : List sinks.Call)
-            → Lives made its life received self.old
-            → Prints source (ATell sink link) made its life received text.old text.new self.new result }
+    /// `tell` and `atell`: delivers the first notice that waits on a link.
+    pub(crate) fn tell(&mut self, link: u8, label: Label, text: &mut Octets) -> Result<(), Stop>
+        ensures { (past : SinkPast) → Lives past self.old
+            → LinkMakes link (option_or (no_notice past.made link past.life) None) (Unit {0})
+            (tell_line (label_of label) past.made link past.life) (calls.told link ∷ past.life) past text.old text.new self.new result }
     {
-        if !self.is_joined(link) {
+        if !self.links.is_joined(link) {
             return Err(Stop::Refused(Refusal::NoSuchLink));
         }
-        let waited = self.tell_next(link, Label::OnLink { sink, link }, text)?;
+        let waited = self.tell_next(link, label, text)?;
         refuse_unless(waited)
     }
 
-    /// `aread`: as `read`, on a link.
-    pub(crate) fn read_on(&mut self, sink: u8, link: u8, text: &mut Octets) -> Result<(), Stop>
-        ensures { (source : Source) (made : Made) (its : Option ℕ) (life : List Call) (received : List sinks.Call)
-            → Lives made its life received self.old
-            → Prints source (ARead sink link) made its life received text.old text.new self.new result }
+    /// `read` and `aread`: serves the read that waits on a link of the lowest slot.
+    pub(crate) fn read(&mut self, link: u8, label: Label, text: &mut Octets) -> Result<(), Stop>
+        ensures { (past : SinkPast) → Lives past self.old
+            → LinkMakes link (option_or (no_read past.made link past.life) None) (Unit {0})
+            (read_line (label_of label) past.made link past.life) (calls.read link ∷ past.life) past text.old text.new self.new result }
     {
-        if !self.is_joined(link) {
+        if !self.links.is_joined(link) {
             return Err(Stop::Refused(Refusal::NoSuchLink));
         }
-        let waited = self.read_next(link, Label::OnLink { sink, link }, text)?;
+        let waited = self.read_next(link, label, text)?;
         refuse_unless(waited)
     }
 }

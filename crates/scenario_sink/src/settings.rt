@@ -1,17 +1,17 @@
 //! The lines of a sink's capability.
-ghost use Rattle.std.specs.Prelude.{ℕ, ◌≡◌, ◌≤◌, length, List, None, Option};
-ghost use Rattle.group_sink.specs.Calls as sinks;
-ghost use Rattle.link_history.specs.Calls.{Call};
+ghost use Rattle.std.specs.Prelude.{ℕ, ◌≡◌, ◌≤◌, length, None};
 ghost use Rattle.ltv_codec.specs.Reading.{bad_of};
-ghost use Rattle.octet_fields.specs.Spelling.{IsOctets};
+ghost use Rattle.bcast_base.specs.Spelling.{IsOctets};
 ghost use Rattle.scenario_text.specs.declared.step.Step.TheVariants.{Context, Locate, Pac};
-ghost use Rattle.sink_history.specs.Lives.{Made, Source};
+ghost use Rattle.sink_history.specs.Lives.{Source};
 ghost use Rattle.scenario_sink.specs.Making.{Does};
-ghost use Rattle.scenario_sink.specs.State.Living.{Lives};
+ghost use Rattle.scenario_sink.specs.Pasts.{SinkPast};
+ghost use Rattle.scenario_sink.specs.State.Stands.{Lives};
 
 use crate::sink::LivingSink;
 use bcast_base::Octets;
 use pacs_records::{PacRecord, PushFault};
+use sink_history::a_step_tells_each_link;
 use transcript_text::{Refusal, Stop};
 
 /// What stands in memory as octets is octets.
@@ -28,13 +28,13 @@ impl LivingSink {
         requires metadata_count { length metadata ≤ 255 }
         requires caps { bad_of caps ≡ None }
         requires metadata { bad_of metadata ≡ None }
-        ensures { (source : Source) (sink : ℕ) (made : Made) (its : Option ℕ) (life : List Call) (received : List sinks.Call)
-            → Lives made its life received self.old
-            → Does source (Pac sink codec caps metadata) made its life received self.new result }
+        ensures { (source : Source) (sink : ℕ) (past : SinkPast) → Lives past self.old
+            → Does source (Pac sink codec caps metadata) past self.new result }
     {
+        a_step_tells_each_link();
         are_octets(caps.as_slice());
         are_octets(metadata.as_slice());
-        match self.sink.add_pac(PacRecord {
+        match self.delegator.add_pac(PacRecord {
             codec,
             caps,
             metadata,
@@ -47,21 +47,21 @@ impl LivingSink {
 
     /// `locate`: sets the Sink Audio Locations (Published Audio Capabilities Service 1.0, section 3.2).
     pub(crate) fn locate(&mut self, bits: u32) -> Result<(), Stop>
-        ensures { (source : Source) (sink : ℕ) (made : Made) (its : Option ℕ) (life : List Call) (received : List sinks.Call)
-            → Lives made its life received self.old
-            → Does source (Locate sink bits) made its life received self.new result }
+        ensures { (source : Source) (sink : ℕ) (past : SinkPast) → Lives past self.old
+            → Does source (Locate sink bits) past self.new result }
     {
-        self.sink.set_locations(bits);
+        a_step_tells_each_link();
+        self.delegator.set_locations(bits);
         Ok(())
     }
 
     /// `context`: sets the Available Sink Contexts (Published Audio Capabilities Service 1.0, section 3.5).
     pub(crate) fn context(&mut self, bits: u16) -> Result<(), Stop>
-        ensures { (source : Source) (sink source_bits : ℕ) (made : Made) (its : Option ℕ) (life : List Call) (received : List sinks.Call)
-            → Lives made its life received self.old
-            → Does source (Context sink bits source_bits) made its life received self.new result }
+        ensures { (source : Source) (sink source_bits : ℕ) (past : SinkPast) → Lives past self.old
+            → Does source (Context sink bits source_bits) past self.new result }
     {
-        self.sink.set_contexts(bits);
+        a_step_tells_each_link();
+        self.delegator.set_contexts(bits);
         Ok(())
     }
 }

@@ -1,42 +1,58 @@
 //! The states of a sink, and what its assistants know of them.
-ghost use Rattle.std.specs.Prelude.{ℕ, ◌≡◌, ◌<◌, ◌++◌, ◌∷◌, [], true, codes, decimal, List, Option, OnOk};
+ghost use Rattle.std.specs.Prelude.{◌≡◌, ◌<◌, ◌++◌, ◌∷◌, [], true, codes, decimal, None, IfOk, OnOk};
 ghost use Rattle.std.specs.List.{concat};
-ghost use Rattle.group_sink.specs.Calls as sinks;
-ghost use Rattle.link_history.specs.Calls.{Call, is_joined};
-ghost use Rattle.scenario_text.specs.declared.step.Step.TheVariants.{AShow, Show};
-ghost use Rattle.sink_history.specs.Lives.{Made, Source};
+ghost use Rattle.delegator_history.specs.Values.{value};
+ghost use Rattle.sink_history.specs.Calls.{is_joined};
+ghost use Rattle.sink_history.specs.Links.{view};
+ghost use Rattle.scenario_text.specs.declared.step.Step.TheVariants.{Show};
+ghost use Rattle.sink_history.specs.Lives.{Source};
 ghost use Rattle.sink_history.specs.Output.{show_lines, view_lines, viewed};
 ghost use Rattle.transcript_text.specs.SinkLines.{value_line};
-ghost use Rattle.scenario_sink.specs.Making.{Prints, slot_lines};
-ghost use Rattle.scenario_sink.specs.State.Living.{Lives};
+ghost use Rattle.scenario_sink.specs.Making.{LineMakes, LinkMakes, slot_lines};
+ghost use Rattle.scenario_sink.specs.Pasts.{SinkPast};
+ghost use Rattle.scenario_sink.specs.State.Stands.{Lives};
 
+use crate::on_link::view_on;
 use crate::sink::LivingSink;
 use bcast_base::{Memory, Octets};
+use receive_state::read_is_state;
 use transcript_text::{Refusal, Stop, put_link_view, put_state, put_view};
 
 impl LivingSink {
+    /// The octets of what the assistant of a joined link takes for the state of a slot; none where it takes the slot for empty
+    /// (Broadcast Audio Scan Service 1.0, section 3.2).
+    fn view(&mut self, link: u8, slot: u8) -> Result<Octets, Memory>
+        requires { slot < self.old.slots }
+        ensures answer { (past : SinkPast) → Lives past self.old → is_joined link past.life ≡ true
+            → IfOk result (λ octets. octets ≡ value (view past.made.setup past.made.mtu link slot past.life)) }
+        ensures lives { (past : SinkPast) → Lives past self.old → Lives past self.new }
+        ensures slots { self.new.slots ≡ self.old.slots }
+    {
+        read_is_state();
+        view_on(self.alloc, &mut self.links, link, slot)
+    }
+
     /// Puts the state of a slot behind the text, and what the assistant on link 0 takes for it (Broadcast Audio Scan Service 1.0,
     /// section 3.2).
     fn show_slot(&mut self, sink: u8, slot: u8, text: &mut Octets) -> Result<(), Memory>
-        requires { slot < self.old.sink.slots }
-        ensures shows { (made : Made) (its : Option ℕ) (life : List Call) (received : List sinks.Call)
-            → Lives made its life received self.old
-            → OnOk result (Lives made its life received self.new × (text.new ≡ text.old ++ concat (slot_lines sink made life slot))) }
-        ensures slots { self.new.sink.slots ≡ self.old.sink.slots }
+        requires { slot < self.old.slots }
+        ensures shows { (past : SinkPast) → Lives past self.old
+            → OnOk result (Lives past self.new × (text.new ≡ text.old ++ concat (slot_lines sink past slot))) }
+        ensures slots { self.new.slots ≡ self.old.slots }
     {
-        let state = self.sink.state(slot)?;
+        let state = self.delegator.read_state(slot)?;
         put_state(text, sink, slot, state.as_slice())?;
-        let view = self.sink.view(0, slot)?;
+        let view = self.view(0, slot)?;
         put_view(text, sink, slot, view.as_slice())?;
         Ok(())
     }
 
     /// The same of all slots, rising.
     fn show_slots(&mut self, sink: u8, text: &mut Octets) -> Result<(), Memory>
-        ensures { (made : Made) (its : Option ℕ) (life : List Call) (received : List sinks.Call) → Lives made its life received self.old
-            → OnOk result (Lives made its life received self.new × (text.new ≡ text.old ++ concat (show_lines sink made life))) }
+        ensures { (past : SinkPast) → Lives past self.old
+            → OnOk result (Lives past self.new × (text.new ≡ text.old ++ concat (show_lines sink past.made past.life))) }
     {
-        'each: for slot in 0..self.sink.slots() {
+        'each: for slot in 0..self.slots {
             self.show_slot(sink, slot, text)?;
         }
         Ok(())
@@ -44,25 +60,23 @@ impl LivingSink {
 
     /// Puts what the assistant of a joined link takes for the state of a slot behind the text.
     fn show_view(&mut self, sink: u8, link: u8, slot: u8, text: &mut Octets) -> Result<(), Memory>
-        requires { slot < self.old.sink.slots }
-        ensures shows { (made : Made) (its : Option ℕ) (life : List Call) (received : List sinks.Call)
-            → Lives made its life received self.old → is_joined link life ≡ true
-            → OnOk result (Lives made its life received self.new
-            × (text.new ≡ text.old ++ value_line (codes "aview") (decimal sink ∷ decimal link ∷ []) (viewed made link life slot))) }
-        ensures slots { self.new.sink.slots ≡ self.old.sink.slots }
+        requires { slot < self.old.slots }
+        ensures shows { (past : SinkPast) → Lives past self.old → is_joined link past.life ≡ true
+            → OnOk result (Lives past self.new × (text.new
+            ≡ text.old ++ value_line (codes "aview") (decimal sink ∷ decimal link ∷ []) (viewed past.made link past.life slot))) }
+        ensures slots { self.new.slots ≡ self.old.slots }
     {
-        let view = self.sink.view(link, slot)?;
+        let view = self.view(link, slot)?;
         put_link_view(text, sink, link, slot, view.as_slice())?;
         Ok(())
     }
 
     /// The same of all slots, rising.
     fn show_views(&mut self, sink: u8, link: u8, text: &mut Octets) -> Result<(), Memory>
-        ensures { (made : Made) (its : Option ℕ) (life : List Call) (received : List sinks.Call) → Lives made its life received self.old
-            → is_joined link life ≡ true
-            → OnOk result (Lives made its life received self.new × (text.new ≡ text.old ++ concat (view_lines sink link made life))) }
+        ensures { (past : SinkPast) → Lives past self.old → is_joined link past.life ≡ true
+            → OnOk result (Lives past self.new × (text.new ≡ text.old ++ concat (view_lines sink link past.made past.life))) }
     {
-        'each: for slot in 0..self.sink.slots() {
+        'each: for slot in 0..self.slots {
             self.show_view(sink, link, slot, text)?;
         }
         Ok(())
@@ -70,9 +84,8 @@ impl LivingSink {
 
     /// `show`: shows the states of the slots, and what the assistant on link 0 takes for them.
     pub(crate) fn show(&mut self, sink: u8, text: &mut Octets) -> Result<(), Stop>
-        ensures { (source : Source) (made : Made) (its : Option ℕ) (life : List Call) (received : List sinks.Call)
-            → Lives made its life received self.old
-            → Prints source (Show sink) made its life received text.old text.new self.new result }
+        ensures { (source : Source) (past : SinkPast) → Lives past self.old
+            → LineMakes source (Show sink) past text.old text.new self.new result }
     {
         self.show_slots(sink, text)?;
         Ok(())
@@ -80,11 +93,10 @@ impl LivingSink {
 
     /// `ashow`: shows what the assistant on a link takes for the states of the slots.
     pub(crate) fn show_on(&mut self, sink: u8, link: u8, text: &mut Octets) -> Result<(), Stop>
-        ensures { (source : Source) (made : Made) (its : Option ℕ) (life : List Call) (received : List sinks.Call)
-            → Lives made its life received self.old
-            → Prints source (AShow sink link) made its life received text.old text.new self.new result }
+        ensures { (past : SinkPast) → Lives past self.old
+            → LinkMakes link None (Unit {0}) (view_lines sink link past.made past.life) past.life past text.old text.new self.new result }
     {
-        if !self.is_joined(link) {
+        if !self.links.is_joined(link) {
             return Err(Stop::Refused(Refusal::NoSuchLink));
         }
         self.show_views(sink, link, text)?;

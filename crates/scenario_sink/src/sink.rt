@@ -1,40 +1,46 @@
-ghost use Rattle.std.specs.Prelude.{ℕ, ◌≡◌, ◌+◌, ◌≤◌, ◌<◌, ◌^◌, ◌∷◌, [], List, Option, Some, None, IfOk, OnOk};
-ghost use Rattle.delegator_machine.specs.Groups.{tuning_of};
+ghost use Rattle.std.specs.Prelude.{◌≡◌, ◌+◌, ◌≤◌, ◌<◌, ◌^◌, IfOk, OnOk};
+ghost use Rattle.delegator_machine.specs.State.Halves.{StandsFor};
 ghost use Rattle.group_sink.specs.Calls as sinks;
 ghost use Rattle.group_sink.specs.Handing.{handed_at};
 ghost use Rattle.group_sink.specs.Hearings.{hearing_of};
-ghost use Rattle.isoal_unframed.specs.State.Windows.{HandsOver};
-ghost use Rattle.unit_outlets.specs.Handed.{Caused};
+ghost use Rattle.unit_outlets.specs.Handed.{HandsOver, Caused};
 ghost use Rattle.multi_assist.specs.Mtus.{IsMtu};
-ghost use Rattle.delegator_history.specs.States.{put_on};
-ghost use Rattle.delegator_history.specs.Trains.{Joining};
-ghost use Rattle.link_history.specs.Calls.{Call, stepped, born};
+ghost use Rattle.scenario_sink.specs.State.Untold.{its_mtu};
 
 use bcast_base::{Bis, BisSet, Memory};
-use big_info::Group;
+use big_info::{Group, Limits};
+use delegator_machine::Delegator;
 use isoal_base::Hearing;
-use linked_sink::LinkedSink;
+use multi_assist::Links;
+use sink_history::a_step_tells_each_link;
 use std::alloc::Global;
 use unit_outlets::{TakerFault, UnitTaker};
 
-/// A sink of a scenario, with the assistants on its links, and the source that it is of: the one of the last line that put it on a
-/// train or on a group (Basic Audio Profile 1.0, section 6.5).
+/// A sink of a scenario: a Scan Delegator with the assistants on its four links, numbered from 0, and the source that it is of:
+/// the one of the last line that put it on a train or on a group (Basic Audio Profile 1.0, section 6.5; Broadcast Audio Scan
+/// Service 1.0, section 3). Between two calls every notice of the delegator waits on the links. Link 0 is always joined.
 ///
 /// After want of memory nothing is said of it: it may be dropped, and the scenario in which it is ends.
 #[derive(Drop)]
 pub struct LivingSink {
     pub(crate) alloc: Global,
-    pub(crate) sink: LinkedSink,
+    pub(crate) delegator: Delegator,
+    pub(crate) links: Links,
+    pub(crate) slots: u8,
     pub(crate) source: Option<u8>,
+    ghost fits: { delegator.scan.setup.slots ≡ slots },
+    ghost few: { slots ≤ 8 },
 }
 
 impl LivingSink {
-    ghost use Rattle.sink_history.specs.Lives.{Made};
-    ghost use Rattle.scenario_sink.specs.State.Living.{Lives};
+    ghost use Rattle.delegator_history.specs.Trains.{Joining};
+    ghost use Rattle.sink_history.specs.Calls.{Call};
+    ghost use Rattle.scenario_sink.specs.Pasts.{SinkPast, after_tuning, new_sink, receiving};
+    ghost use Rattle.scenario_sink.specs.State.Stands.{HasStepped, Lives, Stands, after_call};
 
-    /// A sink that takes so many streams at once, 1 to 31, with so many slots, 1 to 8, on groups that send a payload at most so
-    /// many events ahead, and this MTU on every link, where it has one. It is idle and of no source, and an assistant is on
-    /// link 0 alone.
+    /// A sink that takes so many streams at once, 1 to 31, with so many slots, 1 to 8, that are empty, on groups that send a
+    /// payload at most so many events ahead, up to 31, and this MTU on every link, 23 to 517, where it has one. It is idle and of
+    /// no source, and an assistant is on link 0 alone.
     pub fn new(
         alloc: Global,
         streams: u8,
@@ -48,20 +54,30 @@ impl LivingSink {
         requires few { slots ≤ 8 }
         requires horizon { horizon ≤ 31 }
         requires mtu { IsMtu mtu }
-        ensures { IfOk result (Lives (record { setup = record { streams = streams; slots = slots; horizon = horizon }; mtu = mtu }) None
-            (born mtu) []) }
+        ensures { IfOk result (Lives (new_sink (record {
+          setup = record { streams = streams; slots = slots; horizon = horizon };
+          mtu = mtu;
+        }))) }
     {
+        let limits = Limits {
+            horizon,
+            ahead: Limits::VERSION_1.ahead,
+        };
+        a_step_tells_each_link();
+        let delegator = delegator_with(alloc, streams, slots, limits, mtu)?;
+        let links = Links::new(alloc, slots, mtu)?;
         Ok(LivingSink {
             alloc,
-            sink: LinkedSink::new(alloc, streams, slots, horizon, mtu)?,
+            delegator,
+            links,
+            slots,
             source: None,
         })
     }
 
     /// The source that it is of.
     pub fn source(&self) -> Option<u8>
-        ensures { (made : Made) (source : Option ℕ) (life : List Call) (received : List sinks.Call)
-            → Lives made source life received self.now → result ≡ source }
+        ensures { (past : SinkPast) → Lives past self.now → result ≡ past.source }
     {
         self.source
     }
@@ -81,11 +97,10 @@ impl LivingSink {
         requires anchor { anchor ≤ 2 ^ 61 + 2 ^ 23 }
         requires delay { delay < 2 ^ 24 }
         ensures { let joining : Joining = record { info = group.now.info; which = which; first = event; anchor = anchor; delay = delay } in
-            (made : Made) (before : Option ℕ) (life : List Call) (received : List sinks.Call) → Lives made before life received self.old
-            → OnOk result (Lives made (Some source) (stepped (put_on source joining) ∷ life)
-            (sinks.tune (tuning_of joining) ∷ received) self.new) }
+            (past : SinkPast) → Lives past self.old → OnOk result (Lives (after_tuning source joining past) self.new) }
     {
-        self.sink.tune(group, which, event, anchor, delay)?;
+        self.delegator.tune(group, which, event, anchor, delay)?;
+        self.gather()?;
         self.source = Some(source);
         Ok(())
     }
@@ -93,15 +108,11 @@ impl LivingSink {
     /// Hears a PDU in a subevent, from 0, of an event of a stream (Core 5.2, volume 6 part B, section 4.4.6). It takes no memory.
     pub fn hear(&mut self, event: u64, bis: Bis, subevent: u8, pdu: &[u8]) -> Hearing
         requires { event ≤ 2 ^ 39 }
-        ensures answer { (made : Made) (source : Option ℕ) (life : List Call) (received : List sinks.Call)
-            → Lives made source life received self.old
-            → result ≡ hearing_of received event bis subevent pdu.now }
-        ensures lives { (made : Made) (source : Option ℕ) (life : List Call) (received : List sinks.Call)
-            → Lives made source life received self.old
-            → Lives made source life (sinks.hear event bis subevent pdu.now ∷ received) self.new }
+        ensures answer { (past : SinkPast) → Lives past self.old → result ≡ hearing_of past.received event bis subevent pdu.now }
+        ensures lives { (past : SinkPast) → Lives past self.old → Lives (receiving (sinks.hear event bis subevent pdu.now) past) self.new }
         ensures source { self.new.source ≡ self.old.source }
     {
-        self.sink.hear(event, bis, subevent, pdu)
+        self.delegator.hear(event, bis, subevent, pdu)
     }
 
     /// All events up to this one are over: closes the open event of each stream where it is at most this event, and hands its
@@ -109,15 +120,46 @@ impl LivingSink {
     /// stream. It takes no memory.
     pub fn tick<T: UnitTaker>(&mut self, event: u64, taker: &mut T) -> Result<(), TakerFault>
         requires { event < 2 ^ 39 }
-        ensures hands { (made : Made) (source : Option ℕ) (life : List Call) (received : List sinks.Call)
-            → Lives made source life received self.old
-            → HandsOver (handed_at received event) (T.calls taker.old) (T.calls taker.new) result }
-        ensures lives { (made : Made) (source : Option ℕ) (life : List Call) (received : List sinks.Call)
-            → Lives made source life received self.old
-            → Lives made source life (sinks.tick event ∷ received) self.new }
+        ensures hands { (past : SinkPast) → Lives past self.old
+            → HandsOver (handed_at past.received event) (T.calls taker.old) (T.calls taker.new) result }
+        ensures lives { (past : SinkPast) → Lives past self.old → Lives (receiving (sinks.tick event) past) self.new }
         ensures cause { Caused (T.counts taker.old) (T.counts taker.new) result }
         ensures source { self.new.source ≡ self.old.source }
     {
-        self.sink.tick(event, taker)
+        self.delegator.tick(event, taker)
     }
+
+    // Every notice that waits at the delegator, all of one step, goes to the links.
+    pub(crate) fn gather(&mut self) -> Result<(), Memory>
+        ensures stands { (call : Call) (past : SinkPast) → HasStepped call past self.old.delegator self.old.links
+            → OnOk result (Stands (after_call call past) self.new.delegator self.new.links) }
+        ensures source { self.new.source ≡ self.old.source }
+    {
+        a_step_tells_each_link();
+        self.links.gather(&mut self.delegator)
+    }
+}
+
+/// A new delegator with an MTU, where it has one.
+fn delegator_with(
+    alloc: Global,
+    streams: u8,
+    slots: u8,
+    limits: Limits,
+    mtu: Option<u16>,
+) -> Result<Delegator, Memory>
+    requires least_streams { 1 ≤ streams }
+    requires most_streams { streams ≤ 31 }
+    requires least_slots { 1 ≤ slots }
+    requires few { slots ≤ 8 }
+    requires horizon { limits.horizon ≤ 31 }
+    requires mtu { IsMtu mtu }
+    ensures { IfOk result (StandsFor (record { streams = streams; slots = slots; horizon = limits.horizon }) (its_mtu mtu)) }
+{
+    let mut delegator = Delegator::within(alloc, streams, slots, limits)?;
+    let Some(mtu) = mtu else {
+        return Ok(delegator);
+    };
+    delegator.set_mtu(mtu);
+    Ok(delegator)
 }

@@ -1,26 +1,25 @@
 //! What puts a sink on a train or on a group, what takes it from there, and what no sink sent.
-ghost use Rattle.std.specs.Prelude.{ℕ, ◌≡◌, ◌≢◌, ◌≤◌, ◌^◌, ◌∷◌, Err, Some, false, if◌then◌else◌, List, Option, IfOk, OnOk};
+ghost use Rattle.std.specs.Prelude.{◌≡◌, ◌≢◌, ◌≤◌, ◌^◌, Err, false, IfOk, OnOk};
 ghost use Rattle.assistant_machine.specs.declared.fault.NoticeFault.TheVariants.{Memory as NoMemory};
-ghost use Rattle.delegator_machine.specs.Groups.{joining_brought, with_step};
-ghost use Rattle.delegator_history.specs.States.{train_heard};
 ghost use Rattle.delegator_history.specs.Trains.{answer_of, brought_by};
-ghost use Rattle.group_sink.specs.Calls as sinks;
-ghost use Rattle.link_history.specs.Calls.{Call, stepped};
 ghost use Rattle.scenario_text.specs.declared.step.Step.TheVariants as steps;
-ghost use Rattle.sink_history.specs.Lives.{Made, Source, given_train};
-ghost use Rattle.sink_history.specs.Moves.{follows};
+ghost use Rattle.sink_history.specs.Lives.{Source, given_train};
 ghost use Rattle.sink_history.specs.Output.{sight_in};
 ghost use Rattle.scenario_sink.specs.Answers.{is_followed};
-ghost use Rattle.scenario_sink.specs.Making.{Prints};
+ghost use Rattle.scenario_sink.specs.Making.{LineMakes};
 ghost use Rattle.scenario_sink.specs.Origins.{IsFrom};
-ghost use Rattle.scenario_sink.specs.State.Living.{Lives};
+ghost use Rattle.scenario_sink.specs.Pasts.{SinkPast, after_line};
+ghost use Rattle.scenario_sink.specs.State.Stands.{Lives};
 
+use crate::on_link::take_notice;
 use crate::origin::Origin;
 use crate::sink::LivingSink;
+use announcement_train::Train;
 use assistant_machine::{NoticeFault, NoticeTaken};
 use bcast_base::{Memory, Octets};
 use delegator_history::TrainHeard;
-use transcript_text::{Stop, put_control_heard, put_forged, put_idle, put_train_heard};
+use sink_history::links_law;
+use transcript_text::{Stop, put_control_heard, put_forged, put_idle, put_train, put_train_heard};
 
 /// The answer to a train leaves the sink on it or on its group (Basic Audio Profile 1.0, section 6.5).
 fn is_followed(heard: &TrainHeard) -> bool
@@ -58,7 +57,7 @@ fn is_memory(fault: NoticeFault) -> bool
 impl LivingSink {
     /// Hears a train of a source, at this time in µs: the data of its extended advertising, of its periodic advertising, and its
     /// additional controller data (Basic Audio Profile 1.0, sections 3.7.2 and 6.5).
-    pub(crate) fn hear_train(
+    fn hear_train(
         &mut self,
         origin: Origin,
         ext: &[u8],
@@ -67,20 +66,16 @@ impl LivingSink {
         now: u64,
     ) -> Result<TrainHeard, Memory>
         requires { now ≤ 2 ^ 61 }
-        ensures answer { (source : Source) (made : Made) (its : Option ℕ) (life : List Call) (received : List sinks.Call)
-            → IsFrom origin source → Lives made its life received self.old
-            → IfOk result (λ heard. heard ≡ answer_of (brought_by made.setup (sight_in made life)
+        ensures answer { (source : Source) (past : SinkPast) → IsFrom origin source → Lives past self.old
+            → IfOk result (λ heard. heard ≡ answer_of (brought_by past.made.setup (sight_in past.made past.life)
             (given_train source now ext.now adv.now acad.now))) }
-        ensures lives { (source : Source) (made : Made) (its : Option ℕ) (life : List Call) (received : List sinks.Call)
-            → IsFrom origin source → Lives made its life received self.old
-            → let brought = brought_by made.setup (sight_in made life) (given_train source now ext.now adv.now acad.now) in
-            let after = stepped (train_heard source.number (given_train source now ext.now adv.now acad.now)) ∷ life in
-            OnOk result (Lives made (if follows brought then Some source.number else its) after
-            (with_step (joining_brought brought) (sight_in made life) (sight_in made after) received) self.new) }
+        ensures lives { (source : Source) (past : SinkPast) → IsFrom origin source → Lives past self.old
+            → OnOk result (Lives (after_line source (steps.Train 0 now ext.now adv.now acad.now) past) self.new) }
     {
         let heard = self
-            .sink
+            .delegator
             .train(origin.address_type, origin.sid, ext, adv, acad, now)?;
+        self.gather()?;
         if !is_followed(&heard) {
             return Ok(heard);
         }
@@ -100,38 +95,60 @@ impl LivingSink {
         text: &mut Octets,
     ) -> Result<(), Stop>
         requires { time ≤ 2 ^ 61 }
-        ensures { (source : Source) (made : Made) (its : Option ℕ) (life : List Call) (received : List sinks.Call) → IsFrom origin source
-            → Lives made its life received self.old
-            → Prints source (steps.Train sink time ext.now adv.now acad.now) made its life received text.old text.new self.new result }
+        ensures { (source : Source) (past : SinkPast) → IsFrom origin source → Lives past self.old
+            → LineMakes source (steps.Train sink time ext.now adv.now acad.now) past text.old text.new self.new result }
     {
         let heard = self.hear_train(origin, ext, adv, acad, time)?;
         put_train_heard(text, sink, heard)?;
         Ok(())
     }
 
+    /// `announce`: puts the train of a source at the end of the text, hands it to the sink, which has this number, and puts the
+    /// answer behind it (Basic Audio Profile 1.0, sections 3.7.2 and 6.5). It is never refused.
+    pub fn announce(
+        &mut self,
+        sink: u8,
+        origin: Origin,
+        train: &Train,
+        text: &mut Octets,
+    ) -> Result<(), Stop>
+        requires { train.now.time ≤ 2 ^ 61 }
+        ensures { (source : Source) (past : SinkPast) → IsFrom origin source → source.announced ≡ train.now → Lives past self.old
+            → LineMakes source (steps.Announce sink) past text.old text.new self.new result }
+    {
+        put_train(text, sink, train)?;
+        let ext = train.ext.as_slice();
+        let adv = train.adv.as_slice();
+        let acad = train.acad.as_slice();
+        let heard = self.hear_train(origin, ext, adv, acad, train.time)?;
+        put_train_heard(text, sink, heard)?;
+        Ok(())
+    }
+
     /// `lose`: the train is lost, and the sink is idle.
     pub(crate) fn lose(&mut self, sink: u8, text: &mut Octets) -> Result<(), Stop>
-        ensures { (source : Source) (made : Made) (its : Option ℕ) (life : List Call) (received : List sinks.Call)
-            → Lives made its life received self.old
-            → Prints source (steps.Lose sink) made its life received text.old text.new self.new result }
+        ensures { (source : Source) (past : SinkPast) → Lives past self.old
+            → LineMakes source (steps.Lose sink) past text.old text.new self.new result }
     {
-        self.sink.lost()?;
+        self.delegator.lost()?;
+        self.gather()?;
         put_idle(text, sink)?;
         Ok(())
     }
 
     /// `control`: a PDU is heard as a control PDU (Core 5.2, volume 6 part B, section 2.6.3).
     pub(crate) fn control(&mut self, sink: u8, octets: &[u8], text: &mut Octets) -> Result<(), Stop>
-        ensures { (source : Source) (made : Made) (its : Option ℕ) (life : List Call) (received : List sinks.Call)
-            → Lives made its life received self.old
-            → Prints source (steps.Control sink octets.now) made its life received text.old text.new self.new result }
+        ensures { (source : Source) (past : SinkPast) → Lives past self.old
+            → LineMakes source (steps.Control sink octets.now) past text.old text.new self.new result }
     {
-        let heard = self.sink.control(octets)?;
+        let heard = self.delegator.control(octets)?;
+        self.gather()?;
         put_control_heard(text, sink, heard)?;
         Ok(())
     }
 
-    /// `forge`: a notice that the sink didn't send comes over link 0 (Broadcast Audio Scan Service 1.0, section 3.2).
+    /// `forge`: a notice that the sink didn't send comes over link 0, and the assistant takes it as any other (Broadcast Audio Scan
+    /// Service 1.0, section 3.2).
     pub(crate) fn forge(
         &mut self,
         sink: u8,
@@ -139,11 +156,11 @@ impl LivingSink {
         octets: &[u8],
         text: &mut Octets,
     ) -> Result<(), Stop>
-        ensures { (source : Source) (made : Made) (its : Option ℕ) (life : List Call) (received : List sinks.Call)
-            → Lives made its life received self.old
-            → Prints source (steps.Forge sink slot octets.now) made its life received text.old text.new self.new result }
+        ensures { (source : Source) (past : SinkPast) → Lives past self.old
+            → LineMakes source (steps.Forge sink slot octets.now) past text.old text.new self.new result }
     {
-        let answer = self.sink.forge(slot, octets);
+        links_law();
+        let answer = take_notice(&mut self.links, 0, slot, octets);
         if wants_memory(&answer) {
             return Err(Stop::Memory);
         }

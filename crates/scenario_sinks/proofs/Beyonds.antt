@@ -1,6 +1,7 @@
 -- A set of streams against those of a group, index by index.
 use Rattle.std.proofs.Common.{◌≡◌, ℕ, ◌+◌, ◌-◌, ◌≤◌, List, [], ◌∷◌, ◌++◌, Bool, true, false, ◌||◌, ◌&&◌, cond, nat_lt, refl, sym, ◌∙◌, ap, arith}
 use Rattle.std.specs.List.{filter, list_any, range_with_len}
+use Rattle.std.proofs.Math.Bool.{or-false}
 use Rattle.group_sink.specs.Streams.{is_in}
 use Rattle.scenario_history.specs.Refusals.{has_beyond}
 use Rattle.scenario_sinks.specs.State.Beyond.{beyond_at}
@@ -26,14 +27,10 @@ any_append num_bis which (x ∷ xs) ys =
       | false ↦ any_append num_bis which xs ys
     ]
 
-or_false : (a : Bool) → (a || false) ≡ a
-or_false true = refl
-or_false false = refl
-
 any_one : (num_bis which x : ℕ) → list_any (λ bis. nat_lt num_bis bis) (filter (is_in which) (x ∷ [])) ≡ beyond_at num_bis which x
 any_one num_bis which x =
     elim (is_in which x) as (λ b. list_any (λ bis. nat_lt num_bis bis) (cond b (x ∷ []) []) ≡ (b && nat_lt num_bis x)) [
-      | true ↦ or_false (nat_lt num_bis x)
+      | true ↦ or-false (nat_lt num_bis x)
       | false ↦ refl
     ]
 

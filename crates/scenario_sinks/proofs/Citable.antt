@@ -5,7 +5,7 @@ use Rattle.unit_outlets.specs.Account.{Account}
 use Rattle.unit_outlets.specs.Took.{TookAt}
 use Rattle.unit_outlets.specs.declared.fault.OutletFault.TheVariants.{Failed}
 use Rattle.group_sink.specs.Calls.{Call}
-use Rattle.link_history.specs.Calls as links
+use Rattle.sink_history.specs.Calls as links
 use Rattle.sink_history.specs.Lives.{Made}
 use Rattle.scenario_history.specs.Boxes.{SinkUnit, accounts_after, with_handed}
 use Rattle.scenario_history.specs.Output.{unit_line, unit_lines}

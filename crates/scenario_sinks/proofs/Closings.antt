@@ -6,14 +6,16 @@ use Rattle.std.proofs.lemmas.Grind.{flat_map-append}
 use Rattle.std.proofs.lemmas.List.{append-nil}
 use Rattle.std.proofs.lemmas.Option.{slice_get-get_or}
 use Rattle.std.proofs.lemmas.Result.{on_ok_weaker}
+use Rattle.std.proofs.lemmas.Bool.{cases_eq}
 use Rattle.unit_outlets.specs.Account.{Account}
 use Rattle.unit_outlets.specs.Handed.{Handed}
 use Rattle.group_sink.specs.Calls.{Call, tick}
 use Rattle.group_sink.specs.Handing.{handed_at}
-use Rattle.link_history.specs.Calls as links
+use Rattle.sink_history.specs.Calls as links
 use Rattle.scenario_history.specs.Sinks.{is_of, ticked_if}
 use Rattle.scenario_history.specs.Boxes.{SinkUnit, most_sinks, sink_numbers, closing_by, accounts_after}
 use Rattle.scenario_history.specs.Output.{unit_lines}
+use Rattle.scenario_history.proofs.Citable.{get_set_here, get_set_other}
 use Rattle.scenario_sinks.specs.declared.gathered.Gathered.{Gathered}
 use Rattle.scenario_sinks.specs.declared.gathered.HandedUnit.{HandedUnit}
 use Rattle.scenario_sinks.specs.declared.sink.Owner.{Owner}
@@ -24,13 +26,14 @@ use Rattle.scenario_sinks.specs.Handing.{Hands}
 use Rattle.scenario_sinks.specs.declared.sinks.Sinks.{Sinks}
 use Rattle.scenario_sinks.specs.Closing.{Closes, ClosesAt, closing_of, closings, handed_all}
 use Rattle.scenario_sinks.specs.State.Gathering.{calls_of, handed_of, units_for}
-use Rattle.scenario_sinks.specs.State.Standing.{EntryIs, EntryAt, EntriesAre, SinksStand}
+use Rattle.scenario_sinks.specs.State.Standing.{EntryIs, EntryAt, EntriesAre, SinksStand, past_of}
 use Rattle.scenario_sinks.specs.State.Between.{SinkCloses, SinkHands, AllClose, Between, EntriesFrom, OneBetween, OneCloses, Unmoved}
 use Rattle.sink_history.specs.Lives.{Made}
-use Rattle.scenario_sink.specs.State.Living.{Lives}
+use Rattle.scenario_sink.specs.State.Stands.{Lives}
 use Rattle.scenario_sinks.proofs.Entries.{OthersStay, SinkIs, entry_of, one_entry}
 use Rattle.scenario_sinks.proofs.Citable.{hands_stop, hands_then}
-use Rattle.scenario_sinks.proofs.Ranges.{range_append, get_set_here, get_set_other, nat_same}
+use Rattle.scenario_sink.specs.Pasts.{receiving}
+use Rattle.scenario_sinks.proofs.Ranges.{range_append}
 
 pub closings_more : (source event : ℕ) (past : Past) (n : ℕ)
     → closings source event past (range_with_len 0 (n + 1)) ≡ closings source event past (range_with_len 0 n) ++ closing_by source event n (past.received n) (past.sources n) (past.boxes n)
@@ -77,7 +80,7 @@ between_next past source event number sinks entry gathered next text told told2 
     let h = hands_then (closings source event past (range_with_len 0 number)) (closing_by source event number (past.received number) (past.sources number) (past.boxes number)) text told
     told2 before mid after (Ok tt) b.lines b.boxes_are s.hands in
     record {
-      done = λ n below. entry_after past source event number sinks entry n inside s.is_ticked.entry_is b.done below (nat_same n number);
+      done = λ n below. entry_after past source event number sinks entry n inside s.is_ticked.entry_is b.done below (cases_eq n number);
       left = λ n least below.
           let other : n ≢ number = λ e. omega arith in
           let Q : Option (Option Sink) → Type 0 = λ o. EntryAt past n o in
@@ -148,7 +151,7 @@ between_next_at past source event number at sinks entry gathered next text told 
 -- the sinks after a close
 pub all_closed : (past : Past) (source event : ℕ) (closed : Option ℕ) (old new : Sinks) (sinks : List (Option Sink)) (text told : List ℕ)
     (before after : List Account) (r : Result (Unit {0}) Stop)
-    → SinksStand past old → closed ≡ Some event → new.entries.items ≡ sinks → AllClose past source event sinks new.gathered text told before after r → new.outlets ≡ old.outlets
+    → SinksStand past old → closed ≡ Some event → new.entries.items ≡ sinks → AllClose past source event sinks new.gathered text told before after r → new.outlet_count ≡ old.outlet_count
     → Closes past source closed new text told before after r
 all_closed past source event closed old new sinks text told before after r stands is items c more =
     let P : Option ℕ → Type 0 = λ o. Closes past source o new text told before after r in
@@ -194,7 +197,7 @@ pub sink_hands : (box : Option ℕ) (made : Option Made) (own : Option ℕ) (lif
     (units : List Handed) (gathered : Gathered) (text told : List ℕ) (before after : List Account) (r : Result (Unit {0}) Stop)
     → (is : SinkIs box made own life received sink) → is_of owner.source own ≡ true → owner.outlet ≡ sink.outlet
     → units ≡ handed_at received event → Hands (units_for owner units) text told before after r
-    → new.outlet ≡ sink.outlet → Lives is.how own life (tick event ∷ received) new.living → OnOk r (calls_of gathered ≡ units)
+    → new.outlet ≡ sink.outlet → Lives (receiving (tick event) (past_of is.how own life received)) new.living → OnOk r (calls_of gathered ≡ units)
     → SinkHands box made own life received owner.sink owner.source event (Some new) gathered text told before after r
 sink_hands box made own life received owner event sink new units gathered text told before after r is mine at e hands outlet lives held =
     let box_at : box ≡ Some owner.outlet = is.box_is ∙ ap Some (sym at) in
@@ -357,7 +360,7 @@ one_over past first source event number end sinks now gathered text told before 
 
 -- what became of the sinks by a close of one
 pub closed_one : (past : Past) (n source event : ℕ) (old new : Sinks) (sinks : List (Option Sink)) (text told : List ℕ) (before after : List Account) (r : Result (Unit {0}) Stop)
-    → SinksStand past old → new.entries.items ≡ sinks → OneCloses past n source event sinks new.gathered text told before after r → new.outlets ≡ old.outlets
+    → SinksStand past old → new.entries.items ≡ sinks → OneCloses past n source event sinks new.gathered text told before after r → new.outlet_count ≡ old.outlet_count
     → ClosesAt past n source event new text told before after r
 closed_one past n source event old new sinks text told before after r stands items c more =
     let E : List (Option Sink) → Type 0 = λ s. EntriesAre (with_close_at n source event past) s in

@@ -2,6 +2,7 @@
 use Rattle.std.proofs.Common.{◌≡◌, ◌≢◌, ℕ, zero, suc, ◌<◌, ◌==◌, ◌∷◌, Bool, true, false, ◌&&◌, List, length, replicate, refl, sym, ◌∙◌, ap, subst, ne_eqb, slice_get, slice_set, get_or, is_some}
 use Rattle.std.proofs.Common.{arith, Option, None, Some, Result, Ok, Err, ◌⊎◌, inl, inr}
 use Rattle.std.proofs.lemmas.Option.{slice_get-get_or}
+use Rattle.std.proofs.lemmas.Bool.{cases_eq}
 use Rattle.delegator_machine.specs.Groups.{tuning_of}
 use Rattle.delegator_history.specs.States.{put_on}
 use Rattle.delegator_history.specs.Trains.{Joining}
@@ -11,20 +12,22 @@ use Rattle.isoal_base.specs.declared.hearing.Hearing.{Hearing}
 use Rattle.isoal_base.specs.declared.hearing.Hearing.TheVariants.{NotOnGroup}
 use Rattle.scenario_history.specs.Refusals.{has_beyond}
 use Rattle.scenario_history.specs.Sinks.{is_of}
-use Rattle.link_history.specs.Calls as links
-use Rattle.link_history.specs.Calls.{stepped}
+use Rattle.sink_history.specs.Calls as links
+use Rattle.sink_history.specs.Calls.{stepped}
 use Rattle.scenario_history.specs.Boxes.{most_sinks}
+use Rattle.scenario_history.proofs.Citable.{get_set_here, get_set_other}
 use Rattle.scenario_sinks.specs.declared.sink.Sink.{Sink}
 use Rattle.scenario_sinks.specs.Pasts.{Past}
-use Rattle.scenario_sinks.specs.State.Standing.{EntryIs, EntryAt, EntriesAre}
-use Rattle.scenario_sinks.specs.State.Entries.{EntryHears, EntryRuns, EntryTunes, LineMakes}
+use Rattle.scenario_sinks.specs.State.Standing.{EntryIs, EntryAt, EntriesAre, past_of}
+use Rattle.scenario_sinks.specs.State.Entries.{EntryHears, EntryRuns, EntryTunes}
 use Rattle.scenario_text.specs.declared.step.Step.{Step}
 use Rattle.sink_history.specs.Lives.{Made, Source, lived_by}
 use Rattle.sink_history.specs.Moves.{received_by, source_by}
 use Rattle.transcript_text.specs.declared.stop.Stop.{Stop}
 use Rattle.transcript_text.specs.declared.stop.Stop.TheVariants.{Refused, OutletFault, Memory}
-use Rattle.scenario_sink.specs.State.Living.{Lives}
-use Rattle.scenario_sinks.proofs.Ranges.{get_set_here, get_set_other, nat_same}
+use Rattle.scenario_sink.specs.State.Stands.{Lives}
+use Rattle.scenario_sink.specs.Pasts.{after_tuning, receiving}
+use Rattle.scenario_sink.specs.Making.{LineMakes}
 
 -- ---- the sink of one entry
 
@@ -41,7 +44,7 @@ pub record SinkIs (box : Option ℕ) (made : Option Made) (own : Option ℕ) (li
   pub box_is : box ≡ Some sink.outlet
   pub how : Made
   pub made_is : made ≡ Some how
-  pub lives : Lives how own life received sink.living
+  pub lives : Lives (past_of how own life received) sink.living
 
 some_same : {A : Type 0} (entry : Option A) (one other : A) → Some entry ≡ Some (Some one) → entry ≡ Some other → one ≡ other
 some_same entry one other e f = cc (e, f)
@@ -58,7 +61,7 @@ sink_in (Some b) made own life received entry sink is e =
       box_is = ap Some (sym is.2 ∙ ap (λ (s : Sink). s.outlet) same);
       how = is.3;
       made_is = is.4;
-      lives = subst (λ (s : Sink). Lives is.3 own life received s.living) same is.5;
+      lives = subst (λ (s : Sink). Lives (past_of is.3 own life received) s.living) same is.5;
     }
 
 pub entry_of : (box : Option ℕ) (made : Option Made) (own : Option ℕ) (life : List links.Call) (received : List Call) (sink : Sink)
@@ -131,7 +134,7 @@ pub one_entry : (n at : ℕ) (old new : Past) (sinks : List (Option Sink)) (entr
 one_entry n at old new sinks entry same within eight others entries here =
     let inside : n < length sinks = omega arith in
     let P : ℕ → Type 0 = λ i. EntriesAre new (slice_set sinks i entry) in
-    subst P (sym same) (λ m below. touched n m old new sinks entry inside below others entries here (nat_same m n))
+    subst P (sym same) (λ m below. touched n m old new sinks entry inside below others entries here (cases_eq m n))
 
 -- ---- no sinks yet
 
@@ -147,7 +150,7 @@ none_made sinks n k is below = ap (λ s. slice_get s n) is ∙ get_replicate Non
 
 pub entry_tuned : (box : Option ℕ) (made : Option Made) (own : Option ℕ) (life : List links.Call) (received : List Call) (source : ℕ) (joining : Joining)
     (sink new : Sink) (beyond : Bool) → (is : SinkIs box made own life received sink) → new.outlet ≡ sink.outlet
-    → Lives is.how (Some source) (stepped (put_on source joining) ∷ life) (tune (tuning_of joining) ∷ received) new.living
+    → Lives (after_tuning source joining (past_of is.how own life received)) new.living
     → beyond ≡ has_beyond joining.info.num_bis joining.which → beyond ≡ false
     → EntryTunes box made own life received source joining (Some new) (Ok tt)
 entry_tuned box made own life received source joining sink new beyond is outlet lives b within = (
@@ -159,7 +162,7 @@ entry_tuned box made own life received source joining sink new beyond is outlet 
 pub entry_heard : (box : Option ℕ) (made : Option Made) (own : Option ℕ) (life : List links.Call) (received : List Call) (source event bis subevent : ℕ) (octets : List ℕ)
     (sink new : Sink) (from : Option ℕ) (of : Bool) (hearing : Hearing) → (is : SinkIs box made own life received sink) → new.outlet ≡ sink.outlet → from ≡ own
     → of ≡ is_of source from → of ≡ true → hearing ≡ hearing_of received event bis subevent octets
-    → Lives is.how own life (hear event bis subevent octets ∷ received) new.living
+    → Lives (receiving (hear event bis subevent octets) (past_of is.how own life received)) new.living
     → EntryHears box made own life received source event bis subevent octets (Some new) (Some hearing)
 entry_heard box made own life received source event bis subevent octets sink new from of hearing is outlet f o t answer lives =
     let mine : is_of source own ≡ true = ap (is_of source) (sym f) ∙ sym o ∙ t in (
@@ -178,7 +181,7 @@ entry_passed box made own life received source event bis subevent octets sink fr
     (rw is.box_is refl, rw other refl, rw other (entry_of box made own life received sink is))
 
 line_ran : (box : Option ℕ) (how : Made) (own : Option ℕ) (life : List links.Call) (received : List Call) (source : Source) (line : Step) (new : Sink) (text told : List ℕ)
-    (r : Result (Unit {0}) Stop) → box ≡ Some new.outlet → LineMakes how own life received source line text told new.living r
+    (r : Result (Unit {0}) Stop) → box ≡ Some new.outlet → LineMakes source line (past_of how own life received) text told new.living r
     → EntryRuns box (Some how) own life received source line (Some new) text told r
 line_ran box how own life received source line new text told (Ok x) here makes =
     let after : List links.Call = lived_by source line (Some how) life in (
@@ -198,7 +201,7 @@ line_ran box how own life received source line new text told (Err Memory) here m
 -- a line runs on the sink
 pub entry_ran : (box : Option ℕ) (made : Option Made) (own : Option ℕ) (life : List links.Call) (received : List Call) (source : Source) (step : Step) (sink new : Sink)
     (text told : List ℕ) (r : Result (Unit {0}) Stop) → (is : SinkIs box made own life received sink) → new.outlet ≡ sink.outlet
-    → LineMakes is.how own life received source step text told new.living r → EntryRuns box made own life received source step (Some new) text told r
+    → LineMakes source step (past_of is.how own life received) text told new.living r → EntryRuns box made own life received source step (Some new) text told r
 entry_ran box made own life received source step sink new text told r is outlet makes =
     let P : Option Made → Type 0 = λ m. EntryRuns box m own life received source step (Some new) text told r in
     subst P (sym is.made_is) (line_ran box is.how own life received source step new text told r (is.box_is ∙ ap Some (sym outlet)) makes)

@@ -29,9 +29,6 @@ box_wanted place octets old new result t e =
     let took : TookAt place octets old new (Err NoMemory) = subst P e t in
     took.others ∙ set_same old place took.after (took.here ∙ ap Some (sym took.took.1))
 
-pub hands_front : (units : List SinkUnit) (text told : List ℕ) (old : List Account) → Hands units text told old old (Err Memory)
-hands_front units text told old = record { done = []; rest = units; split = refl; boxes = refl }
-
 pub hands_valid : (owner : Owner) (bis time : ℕ) (octets text : List ℕ) (old new : List Account) (stop : Stop)
     → BoxTakes owner.outlet octets old new (Err stop) → Hands (units_for owner (valid bis time octets ∷ [])) text text old new (Err stop)
 hands_valid owner bis time octets text old new (Refused reason) h = h

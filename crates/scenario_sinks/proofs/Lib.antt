@@ -9,3 +9,4 @@ pub mod SumLaws
 pub mod Beyonds
 pub mod OneSink
 pub mod SinkLines
+pub mod Routes

@@ -1,6 +1,5 @@
 -- The sinks after a call for one of them.
-use Rattle.std.proofs.Common.{◌≡◌, ℕ, ◌+◌, ◌<◌, ◌≤◌, [], true, false, List, length, refl, sym, ◌∙◌, ap, subst, is_some, slice_set, get_or, eq-eqb}
-use Rattle.link_history.specs.Calls.{born}
+use Rattle.std.proofs.Common.{◌≡◌, ℕ, ◌+◌, ◌<◌, ◌≤◌, true, false, List, length, refl, sym, ◌∙◌, ap, subst, is_some, slice_set, get_or, eq-eqb}
 use Rattle.std.proofs.Common.{arith, Option, None, Some, Result, Ok, Err}
 use Rattle.std.proofs.lemmas.Bool.{le-leb, lt-leb}
 use Rattle.delegator_history.specs.Trains.{Joining}
@@ -18,13 +17,14 @@ use Rattle.scenario_sinks.specs.Refusals.{Answers, Tunes, not_made, not_living, 
 use Rattle.scenario_sinks.specs.State.Standing.{EntryAt, EntriesAre, SinksStand}
 use Rattle.scenario_sinks.specs.State.Entries.{EntryHears, EntryTunes}
 use Rattle.sink_history.specs.Lives.{Made}
-use Rattle.scenario_sink.specs.State.Living.{Lives}
+use Rattle.scenario_sink.specs.State.Stands.{Lives}
+use Rattle.scenario_sink.specs.Pasts.{new_sink}
 use Rattle.scenario_sinks.proofs.Entries.{OthersStay, one_entry, entry_read, none_lives, lives_in, sink_in}
 
 -- the sinks where the entry of a number is new
 pub one_changed : (n at : ℕ) (past next : Past) (old new : Sinks) (entry : Option Sink) → at ≡ n → n < most_sinks → length old.entries.items ≡ most_sinks
     → OthersStay n past next → SinksStand past old → EntryAt next n (Some entry) → new.entries.items ≡ slice_set old.entries.items at entry
-    → new.outlets ≡ next.made → new.gathered ≡ old.gathered → SinksStand next new
+    → new.outlet_count ≡ next.made → new.gathered ≡ old.gathered → SinksStand next new
 one_changed n at past next old new entry same within eight others stands here set made gathered =
     let E : List (Option Sink) → Type 0 = λ sinks. EntriesAre next sinks in
     record {
@@ -45,9 +45,9 @@ make_stays n how past = record {
 }
 
 pub made : (boxes n at : ℕ) (how : Made) (past : Past) (old new : Sinks) (entry : Option Sink) (sink : Sink) → SinksStand past old → at ≡ n → n < most_sinks
-    → length old.entries.items ≡ most_sinks → entry ≡ get_or old.entries.items at entry → is_some entry ≡ false → old.outlets < boxes
-    → sink.outlet ≡ old.outlets → Lives how None (born how.mtu) [] sink.living
-    → new.entries.items ≡ slice_set old.entries.items at (Some sink) → new.outlets ≡ old.outlets + 1 → new.gathered ≡ old.gathered
+    → length old.entries.items ≡ most_sinks → entry ≡ get_or old.entries.items at entry → is_some entry ≡ false → old.outlet_count < boxes
+    → sink.outlet ≡ old.outlet_count → Lives (new_sink how) sink.living
+    → new.entries.items ≡ slice_set old.entries.items at (Some sink) → new.outlet_count ≡ old.outlet_count + 1 → new.gathered ≡ old.gathered
     → Answers (not_made (past.boxes n) past.made boxes) past (with_sink n how past) new (Ok tt)
 made boxes n at how past old new entry sink stands same within eight is none room outlet fresh set more gathered =
     let here : EntryAt past n (Some entry) = entry_read past n at old.entries.items entry same eight within is stands.entries in
@@ -69,7 +69,7 @@ taken boxes n at how past old entry stands same within eight is some =
 
 -- no box is left
 pub no_box : (boxes n at : ℕ) (how : Made) (past : Past) (old : Sinks) (entry : Option Sink) → SinksStand past old → at ≡ n → n < most_sinks
-    → length old.entries.items ≡ most_sinks → entry ≡ get_or old.entries.items at entry → is_some entry ≡ false → boxes ≤ old.outlets
+    → length old.entries.items ≡ most_sinks → entry ≡ get_or old.entries.items at entry → is_some entry ≡ false → boxes ≤ old.outlet_count
     → Answers (not_made (past.boxes n) past.made boxes) past (with_sink n how past) old (Err (Refused NoOutlet))
 no_box boxes n at how past old entry stands same within eight is none full =
     let here : EntryAt past n (Some entry) = entry_read past n at old.entries.items entry same eight within is stands.entries in
@@ -90,7 +90,7 @@ end_stays n past = record {
 
 pub ended : (n at : ℕ) (past : Past) (old new : Sinks) (sink : Sink) → SinksStand past old → at ≡ n → n < most_sinks
     → length old.entries.items ≡ most_sinks → Some sink ≡ get_or old.entries.items at (Some sink)
-    → new.entries.items ≡ slice_set old.entries.items at None → new.outlets ≡ old.outlets → new.gathered ≡ old.gathered
+    → new.entries.items ≡ slice_set old.entries.items at None → new.outlet_count ≡ old.outlet_count → new.gathered ≡ old.gathered
     → Answers (not_living (past.boxes n)) past (without n past) new (Ok tt)
 ended n at past old new sink stands same within eight is set more gathered =
     let before : EntryAt past n (Some (Some sink)) = entry_read past n at old.entries.items (Some sink) same eight within is stands.entries in
@@ -111,13 +111,13 @@ tune_stays n source joining past = record {
   received = λ m apart. rw apart refl;
 }
 
-same_stays : (n : ℕ) (past : Past) → OthersStay n past past
+pub same_stays : (n : ℕ) (past : Past) → OthersStay n past past
 same_stays n past = record { boxes = λ m apart. refl; mades = λ m apart. refl; sources = λ m apart. refl; lives = λ m apart. refl; received = λ m apart. refl }
 
 pub tuned : (n at source : ℕ) (joining : Joining) (past : Past) (old new : Sinks) (entry : Option Sink) (r : Result (Unit {0}) Stop) → SinksStand past old → at ≡ n
     → n < most_sinks → length old.entries.items ≡ most_sinks
     → EntryTunes (past.boxes n) (past.mades n) (past.sources n) (past.lives n) (past.received n) source joining entry r
-    → new.entries.items ≡ slice_set old.entries.items at entry → new.outlets ≡ old.outlets → new.gathered ≡ old.gathered
+    → new.entries.items ≡ slice_set old.entries.items at entry → new.outlet_count ≡ old.outlet_count → new.gathered ≡ old.gathered
     → Tunes (not_tuned (past.boxes n) joining.info.num_bis joining.which) past (with_tuning n source joining past) new r
 tuned n at source joining past old new entry (Ok x) stands same within eight t set more gathered =
     let here : EntryAt (with_tuning n source joining past) n (Some entry) = rw (eq-eqb n n refl) t.1 in
@@ -141,7 +141,7 @@ hear_stays n source event bis subevent octets past = record {
 pub heard : (n at source event bis subevent : ℕ) (octets : List ℕ) (past : Past) (old new : Sinks) (entry : Option Sink) (r : Option Hearing) → SinksStand past old → at ≡ n
     → n < most_sinks → length old.entries.items ≡ most_sinks
     → EntryHears (past.boxes n) (past.mades n) (past.sources n) (past.lives n) (past.received n) source event bis subevent octets entry r
-    → new.entries.items ≡ slice_set old.entries.items at entry → new.outlets ≡ old.outlets → new.gathered ≡ old.gathered
+    → new.entries.items ≡ slice_set old.entries.items at entry → new.outlet_count ≡ old.outlet_count → new.gathered ≡ old.gathered
     → Hears past n source event bis subevent octets new r
 heard n at source event bis subevent octets past old new entry None stands same within eight h set more gathered = h
 heard n at source event bis subevent octets past old new entry (Some hearing) stands same within eight h set more gathered =

@@ -2,7 +2,7 @@
 use Rattle.std.proofs.Common.{◌≡◌, ℕ, ◌<◌, ◌==◌, false, List, length, refl, sym, ◌∙◌, subst, slice_set, eq-eqb, Option, None, Some, Result, Ok, Err}
 use Rattle.delegator_history.specs.Trains.{Train}
 use Rattle.group_sink.specs.Calls.{Call}
-use Rattle.link_history.specs.Calls as links
+use Rattle.sink_history.specs.Calls as links
 use Rattle.scenario_history.specs.Boxes.{most_sinks}
 use Rattle.scenario_text.specs.declared.step.Step.{Step}
 use Rattle.sink_history.specs.Lives.{Source, lived_by}
@@ -16,7 +16,7 @@ use Rattle.scenario_sinks.specs.SinkLines.{SinkLineMakes}
 use Rattle.scenario_sinks.specs.State.Entries.{EntryRuns}
 use Rattle.scenario_sinks.specs.State.Standing.{EntryAt, EntryIs, SinksStand}
 use Rattle.scenario_sinks.proofs.Entries.{OthersStay}
-use Rattle.scenario_sinks.proofs.OneSink.{one_changed}
+use Rattle.scenario_sinks.proofs.OneSink.{one_changed, same_stays}
 
 -- ---- the source of the sink, and of the others
 
@@ -33,15 +33,6 @@ own_sourced n source line None past none =
 own_sourced n source line (Some train) past some = rw (eq-eqb n n refl) refl
 
 -- ---- the sinks
-
-none_touched : (n : ℕ) (past : Past) → OthersStay n past past
-none_touched n past = record {
-  boxes = λ m apart. refl;
-  mades = λ m apart. refl;
-  sources = λ m apart. refl;
-  lives = λ m apart. refl;
-  received = λ m apart. refl;
-}
 
 line_stays : (n : ℕ) (source : Source) (step : Step) (past : Past) → OthersStay n past (with_line n source step past)
 line_stays n source step past = record {
@@ -72,7 +63,7 @@ line_here n source step past entry is =
 pub ran : (n at : ℕ) (source : Source) (step : Step) (past : Past) (old new : Sinks) (entry : Option Sink) (text told : List ℕ) (r : Result (Unit {0}) Stop)
     → SinksStand past old → at ≡ n → n < most_sinks → length old.entries.items ≡ most_sinks
     → EntryRuns (past.boxes n) (past.mades n) (past.sources n) (past.lives n) (past.received n) source step entry text told r
-    → new.entries.items ≡ slice_set old.entries.items at entry → new.outlets ≡ old.outlets → new.gathered ≡ old.gathered
+    → new.entries.items ≡ slice_set old.entries.items at entry → new.outlet_count ≡ old.outlet_count → new.gathered ≡ old.gathered
     → SinkLineMakes past n source step new text told r
 ran n at source line past old new entry text told (Ok x) stands same within eight t set more gathered = (
   t.0,
@@ -82,7 +73,7 @@ ran n at source line past old new entry text told (Ok x) stands same within eigh
 )
 ran n at source line past old new entry text told (Err (Refused reason)) stands same within eight t set more gathered = (
   t.0,
-  one_changed n at past past old new entry same within eight (none_touched n past) stands t.1 set (more ∙ stands.made) gathered,
+  one_changed n at past past old new entry same within eight (same_stays n past) stands t.1 set (more ∙ stands.made) gathered,
   t.2,
 )
 ran n at source line past old new entry text told (Err OutletFault) stands same within eight t set more gathered = t

@@ -9,3 +9,4 @@ pub mod Hearing
 pub mod Sums
 pub mod SinkLines
 pub mod State
+pub mod RelayPasts

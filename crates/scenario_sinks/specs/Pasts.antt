@@ -7,8 +7,8 @@ use Rattle.delegator_machine.specs.Groups.{tuning_of}
 use Rattle.delegator_history.specs.States.{put_on}
 use Rattle.delegator_history.specs.Trains.{Joining, Train}
 use Rattle.group_sink.specs.Calls.{Call, tune, hear}
-use Rattle.link_history.specs.Calls as links
-use Rattle.link_history.specs.Calls.{stepped, born}
+use Rattle.sink_history.specs.Calls as links
+use Rattle.sink_history.specs.Calls.{stepped, born}
 use Rattle.scenario_history.specs.Sinks.{is_of, ticked_if}
 use Rattle.scenario_text.specs.declared.step.Step.{Step}
 use Rattle.sink_history.specs.Lives.{Made, Source, lived_by}

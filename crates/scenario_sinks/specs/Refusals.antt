@@ -4,7 +4,8 @@ use Rattle.std.specs.Prelude.{ℕ, ◌≡◌, nat_le, not, is_some, Option, None
 use Rattle.std.specs.Option.{option_or}
 use Rattle.transcript_text.specs.declared.refusal.Refusal.{Refusal}
 use Rattle.transcript_text.specs.declared.refusal.Refusal.TheVariants.{NoSuchSink, SinkTwice, NoOutlet, NoSuchBis}
-use Rattle.scenario_history.specs.Refusals.{refuse_if, has_beyond}
+use Rattle.scenario_history.specs.Refusals.{has_beyond}
+use Rattle.sink_history.specs.Refusals.{refuse_if}
 use Rattle.scenario_sinks.specs.declared.sinks.Sinks.{Sinks}
 use Rattle.transcript_text.specs.declared.stop.Stop.{Stop}
 use Rattle.transcript_text.specs.declared.stop.Stop.TheVariants.{Refused, OutletFault, Memory}

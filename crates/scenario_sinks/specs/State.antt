@@ -3,3 +3,4 @@ pub mod Standing
 pub mod Between
 pub mod Beyond
 pub mod Entries
+pub mod RelaysStand

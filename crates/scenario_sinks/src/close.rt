@@ -1,7 +1,7 @@
 //! Closing an event of a source: each of its sinks hands its units up.
 ghost use Rattle.std.specs.Prelude.{◌≡◌, ◌≤◌, ◌<◌, ◌+◌, ◌^◌, ◌&&◌, ℕ, true, false, List, [], Option, Some, is_some, length, map};
 ghost use Rattle.group_sink.specs.Calls.{Call};
-ghost use Rattle.link_history.specs.Calls as links;
+ghost use Rattle.sink_history.specs.Calls as links;
 ghost use Rattle.scenario_history.specs.Sinks as history;
 ghost use Rattle.sink_history.specs.Lives.{Made};
 ghost use Rattle.scenario_sinks.specs.Pasts.{Past};

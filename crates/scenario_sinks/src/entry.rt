@@ -1,20 +1,19 @@
 //! What comes to the sink of one number.
-ghost use Rattle.std.specs.Prelude.{◌≡◌, ◌≤◌, ◌^◌, ◌∷◌, ℕ, List, Option, Some, OnOk};
-ghost use Rattle.delegator_machine.specs.Groups.{tuning_of};
-ghost use Rattle.delegator_history.specs.States.{put_on};
-ghost use Rattle.group_sink.specs.Calls.{Call, hear, tune};
+ghost use Rattle.std.specs.Prelude.{◌≡◌, ◌≤◌, ◌^◌, ℕ, List, Option, Some, OnOk};
+ghost use Rattle.group_sink.specs.Calls.{Call, hear};
 ghost use Rattle.group_sink.specs.Hearings.{hearing_of};
-ghost use Rattle.link_history.specs.Calls as links;
-ghost use Rattle.link_history.specs.Calls.{stepped};
+ghost use Rattle.sink_history.specs.Calls as links;
 ghost use Rattle.scenario_sinks.specs.Joinings.{joining_in};
-ghost use Rattle.scenario_sinks.specs.State.Entries.{EntryHears, EntryRuns, EntryTunes, LineMakes};
+ghost use Rattle.scenario_sinks.specs.State.Entries.{EntryHears, EntryRuns, EntryTunes};
 ghost use Rattle.scenario_sinks.specs.State.Standing.{EntryIs};
 ghost use Rattle.scenario_text.specs.Ranges.{IsInRange};
 ghost use Rattle.scenario_text.specs.declared.step.Step.TheVariants.{Announce};
 ghost use Rattle.sink_history.specs.Lives.{Made, Source};
+ghost use Rattle.scenario_sink.specs.Making.{LineMakes};
 ghost use Rattle.scenario_sink.specs.Origins.{IsFrom};
+ghost use Rattle.scenario_sink.specs.Pasts.{SinkPast, after_tuning, receiving};
 ghost use Rattle.scenario_sink.specs.SinkLines.{IsSinkLine};
-ghost use Rattle.scenario_sink.specs.State.Living.{Lives};
+ghost use Rattle.scenario_sink.specs.State.Stands.{Lives};
 
 use crate::beyond::is_beyond;
 use crate::joining::Joining;
@@ -51,10 +50,8 @@ pub(crate) fn tune_entry(
 
 /// Puts a sink on the group of a source.
 fn put_on_group(sink: &mut Sink, source: u8, joining: &Joining) -> Result<(), Memory>
-    ensures lives { (made : Made) (own : Option ℕ) (life : List links.Call) (received : List Call)
-        → Lives made own life received sink.old.living
-        → OnOk result (Lives made (Some source) (stepped (put_on source (joining_in joining.now)) ∷ life)
-        (tune (tuning_of (joining_in joining.now)) ∷ received) sink.new.living) }
+    ensures lives { (past : SinkPast) → Lives past sink.old.living
+        → OnOk result (Lives (after_tuning source (joining_in joining.now) past) sink.new.living) }
     ensures outlet { sink.new.outlet ≡ sink.old.outlet }
 {
     sink.living.tune(
@@ -89,10 +86,8 @@ pub(crate) fn run_entry(
 /// Runs a line on a sink.
 fn run(sink: &mut Sink, step: Step, origin: Origin, text: &mut Octets) -> Result<(), Stop>
     requires { IsInRange step }
-    ensures makes { (source : Source) (made : Made) (own : Option ℕ) (life : List links.Call) (received : List Call) → IsFrom origin source
-        → IsSinkLine step
-        → Lives made own life received sink.old.living → LineMakes made own life received source step text.old text.new
-        sink.new.living result }
+    ensures makes { (source : Source) (past : SinkPast) → IsFrom origin source → IsSinkLine step → Lives past sink.old.living
+        → LineMakes source step past text.old text.new sink.new.living result }
     ensures outlet { sink.new.outlet ≡ sink.old.outlet }
 {
     sink.living.line(step, origin, text)
@@ -127,9 +122,8 @@ fn tell(
     text: &mut Octets,
 ) -> Result<(), Stop>
     requires { train.now.time ≤ 2 ^ 61 }
-    ensures makes { (source : Source) (made : Made) (own : Option ℕ) (life : List links.Call) (received : List Call) → IsFrom origin source
-        → source.announced ≡ train.now → Lives made own life received sink.old.living
-        → LineMakes made own life received source (Announce number) text.old text.new sink.new.living result }
+    ensures makes { (source : Source) (past : SinkPast) → IsFrom origin source → source.announced ≡ train.now
+        → Lives past sink.old.living → LineMakes source (Announce number) past text.old text.new sink.new.living result }
     ensures outlet { sink.new.outlet ≡ sink.old.outlet }
 {
     sink.living.announce(number, origin, train, text)
@@ -161,12 +155,10 @@ pub(crate) fn hear_entry(
 /// Hands a sink octets in the place of a PDU.
 fn deliver(sink: &mut Sink, event: u64, bis: Bis, subevent: u8, octets: &[u8]) -> Hearing
     requires { event ≤ 2 ^ 39 }
-    ensures answer { (made : Made) (own : Option ℕ) (life : List links.Call) (received : List Call)
-        → Lives made own life received sink.old.living
-        → result ≡ hearing_of received event bis subevent octets.now }
-    ensures lives { (made : Made) (own : Option ℕ) (life : List links.Call) (received : List Call)
-        → Lives made own life received sink.old.living
-        → Lives made own life (hear event bis subevent octets.now ∷ received) sink.new.living }
+    ensures answer { (past : SinkPast) → Lives past sink.old.living
+        → result ≡ hearing_of past.received event bis subevent octets.now }
+    ensures lives { (past : SinkPast) → Lives past sink.old.living
+        → Lives (receiving (hear event bis subevent octets.now) past) sink.new.living }
     ensures outlet { sink.new.outlet ≡ sink.old.outlet }
 {
     sink.living.hear(event, bis, subevent, octets)

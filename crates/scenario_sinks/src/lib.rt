@@ -8,10 +8,14 @@ mod gathered;
 mod hand;
 mod joining;
 mod lines;
+mod relays;
+mod route;
 mod sink;
 mod sinks;
 mod sums;
 
 pub use gathered::HandedUnit;
 pub use joining::Joining;
+pub use relays::Relays;
+pub use route::Route;
 pub use sinks::Sinks;

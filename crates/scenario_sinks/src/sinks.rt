@@ -23,7 +23,7 @@ pub struct Sinks {
     alloc: Global,
     pub(crate) entries: Vec<Option<Sink>>,
     /// How many boxes of the list were taken.
-    outlets: usize,
+    outlet_count: usize,
     gathered: Gathered,
     ghost eight: { vec_len entries ≡ 8 },
 }
@@ -49,7 +49,7 @@ impl Sinks {
         Ok(Sinks {
             alloc,
             entries: no_sinks(alloc)?,
-            outlets: 0,
+            outlet_count: 0,
             gathered: Gathered::new(alloc),
         })
     }
@@ -90,17 +90,17 @@ impl Sinks {
         if self.entries[place].is_some() {
             return Err(Stop::Refused(Refusal::SinkTwice));
         }
-        if self.outlets >= boxes {
+        if self.outlet_count >= boxes {
             return Err(Stop::Refused(Refusal::NoOutlet));
         }
         let Ok(living) = LivingSink::new(self.alloc, streams, slots, horizon, mtu) else {
             return Err(Stop::Memory);
         };
         self.entries[place] = Some(Sink {
-            outlet: self.outlets,
+            outlet: self.outlet_count,
             living,
         });
-        self.outlets += 1;
+        self.outlet_count += 1;
         Ok(())
     }
 

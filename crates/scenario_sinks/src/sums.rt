@@ -1,7 +1,7 @@
 //! The sums of the boxes in the transcript.
 ghost use Rattle.std.specs.Prelude.{◌≡◌, ◌++◌, ℕ, List, Option, Some, length, map, OnOk};
 ghost use Rattle.group_sink.specs.Calls.{Call};
-ghost use Rattle.link_history.specs.Calls as links;
+ghost use Rattle.sink_history.specs.Calls as links;
 ghost use Rattle.scenario_history.specs.Boxes.{sink_numbers};
 ghost use Rattle.scenario_sinks.specs.Pasts.{Past};
 ghost use Rattle.sink_history.specs.Lives.{Made};

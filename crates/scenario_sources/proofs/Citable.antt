@@ -8,7 +8,7 @@ use Rattle.scenario_text.specs.declared.step.Step.TheVariants as steps
 use Rattle.scenario_text.specs.declared.step.Step.TheVariants.{Scenario, Sink, Tuned, Hear, Air, Inject, Sniff, Drop, End}
 use Rattle.scenario_history.specs.Steps.{chosen_given, is_of_source, is_unbegun, is_unbegun_at, stage_of, steps_of_source, unbegun}
 use Rattle.base_grammar.specs.Layout.{endpoint}
-use Rattle.scenario_bases.specs.Lines.{subgroups_in}
+use Rattle.announcement_train.specs.BaseLines.{subgroups_in}
 use Rattle.scenario_history.specs.Bases.{base_lines, base_of}
 use Rattle.scenario_history.specs.Source.{cipher_of, group_of, ident_of, no_identity, phase_of, setup_of, source_calls}
 use Rattle.std.proofs.lemmas.Bool.{false≢true}

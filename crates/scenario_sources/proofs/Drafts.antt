@@ -15,7 +15,7 @@ use Rattle.base_grammar.specs.declared.subgroup.Subgroup.{Subgroup}
 use Rattle.transcript_text.specs.declared.refusal.Refusal.TheVariants.{NoSuchBis, Order}
 use Rattle.transcript_text.specs.declared.stop.Stop.{Stop}
 use Rattle.transcript_text.specs.declared.stop.Stop.TheVariants.{Refused}
-use Rattle.scenario_bases.proofs.Citable.{adds_to_last, describes_last}
+use Rattle.announcement_train.proofs.Citable.{adds_to_last, describes_last}
 use Rattle.scenario_text.specs.declared.step.Step.{Step}
 use Rattle.scenario_text.specs.declared.step.Step.TheVariants.{Bis, Meta, Subgroup as SubgroupStep}
 use Rattle.scenario_history.specs.Bases.{base_lines, has_bis, has_subgroup, is_last_bare, subgroups_of}
@@ -27,7 +27,7 @@ use Rattle.scenario_sources.specs.State.Phases.{Becomes, DescribedIs}
 
 -- ---- what a draft refuses
 
-has_last : (s : Subgroup) (others : List Subgroup) → is_some (last_of (s ∷ others)) ≡ true
+pub has_last : (s : Subgroup) (others : List Subgroup) → is_some (last_of (s ∷ others)) ≡ true
 has_last s [] = refl
 has_last s (other ∷ others) = has_last other others
 

@@ -1,7 +1,8 @@
 -- The sources after a step that means one of them.
-use Rattle.std.proofs.Common.{◌≡◌, ◌≢◌, ℕ, zero, suc, ◌<◌, ◌==◌, Bool, true, false, List, [], ◌∷◌, length, refl, sym, ◌∙◌, ap, subst, eq-eqb, ne_eqb, slice_get, slice_set, get_or}
+use Rattle.std.proofs.Common.{◌≡◌, ◌≢◌, ℕ, ◌<◌, ◌==◌, Bool, true, false, List, ◌∷◌, length, refl, sym, ◌∙◌, ap, subst, eq-eqb, ne_eqb, slice_get, slice_set, get_or}
 use Rattle.std.proofs.Common.{if◌then◌else◌, ◌&&◌, arith, Option, None, Some, ◌⊎◌, inl, inr, Result, Ok, Err}
 use Rattle.std.proofs.lemmas.Option.{slice_get-get_or}
+use Rattle.std.proofs.lemmas.Bool.{cases_eq}
 use Rattle.transcript_text.specs.declared.refusal.Refusal.{Refusal}
 use Rattle.transcript_text.specs.declared.refusal.Refusal.TheVariants.{IdentTwice}
 use Rattle.transcript_text.specs.declared.stop.Stop.{Stop}
@@ -10,7 +11,9 @@ use Rattle.scenario_text.specs.declared.step.Step.{Step}
 use Rattle.scenario_text.specs.declared.step.Step.TheVariants.{Event, Start, Terminate}
 use Rattle.scenario_history.specs.Steps.{chosen_given, chosen_of, chosen_steps, is_of_source, other_of, steps_of_source}
 use Rattle.scenario_history.specs.Source.{identity_of, is_started}
-use Rattle.scenario_history.specs.Refusals.{is_ident_twice, refuse_if, twin_refusal}
+use Rattle.scenario_history.specs.Refusals.{is_ident_twice, twin_refusal}
+use Rattle.scenario_history.proofs.Citable.{get_set_here, get_set_other}
+use Rattle.sink_history.specs.Refusals.{refuse_if}
 use Rattle.source_machine.specs.Setups.{are_twins}
 use Rattle.source_machine.specs.declared.setup.Identity.{Identity}
 use Rattle.scenario_sources.specs.declared.performed.Performed.{Performed}
@@ -19,27 +22,9 @@ use Rattle.scenario_sources.specs.declared.phase.Phase.{Phase}
 use Rattle.scenario_sources.specs.declared.sources.Sources.{Sources}
 use Rattle.scenario_sources.specs.Answers.{Answers, Closes, Performs, Terminates}
 use Rattle.scenario_sources.specs.Faults.{fault_in, fault_of}
-use Rattle.scenario_sources.specs.State.Phases.{Becomes, Begins, IsReady, PhaseAt, PhaseIs}
+use Rattle.scenario_sources.specs.State.Phases.{Becomes, IsReady, PhaseAt, PhaseIs}
 use Rattle.scenario_sources.specs.State.Phases as state
 use Rattle.scenario_sources.specs.State.Standing.{PhasesAre, SourcesStand}
-
-nat_same : (m n : ℕ) → (m ≡ n) ⊎ (m ≢ n)
-nat_same zero zero = inl refl
-nat_same zero (suc n) = inr (λ e. omega arith)
-nat_same (suc m) zero = inr (λ e. omega arith)
-nat_same (suc m) (suc n) = elim (nat_same m n) [ inl e ↦ inl (ap suc e) | inr other ↦ inr (λ e. other (omega arith)) ]
-
-get_set_here : {A : Type 0} (xs : List A) (i : ℕ) (x : A) → i < length xs → slice_get (slice_set xs i x) i ≡ Some x
-get_set_here [] i x h = absurd (omega arith)
-get_set_here (y ∷ xs) zero x h = refl
-get_set_here (y ∷ xs) (suc i) x h = get_set_here xs i x (omega arith)
-
-get_set_other : {A : Type 0} (xs : List A) (i j : ℕ) (x : A) → j ≢ i → slice_get (slice_set xs i x) j ≡ slice_get xs j
-get_set_other [] i j x h = refl
-get_set_other (y ∷ xs) zero zero x h = absurd (h refl)
-get_set_other (y ∷ xs) zero (suc j) x h = refl
-get_set_other (y ∷ xs) (suc i) zero x h = refl
-get_set_other (y ∷ xs) (suc i) (suc j) x h = get_set_other xs i j x (λ e. h (ap suc e))
 
 -- the phase of a source that was read
 pub phase_read : (steps : List Step) (s at : ℕ) (phases : List Phase) (phase : Phase) → at ≡ s → s < 2 → length phases ≡ 2
@@ -97,7 +82,7 @@ lifted made steps at old new phase means same within two stands here chosen set 
     record {
       chosen = chosen ∙ stands.chosen ∙ sym (chosen_stays made steps means.chooses);
       phases = subst P (sym (set ∙ ap (λ i. slice_set old.phases.items i phase) (same ∙ stands.chosen)))
-          (λ s below. phase_after made steps s old.phases.items phase means inside below stands.phases here (nat_same s (chosen_of steps)));
+          (λ s below. phase_after made steps s old.phases.items phase means inside below stands.phases here (cases_eq s (chosen_of steps)));
     }
 
 -- the phase was read and put back
@@ -122,7 +107,7 @@ again steps at old new phase same within two stands here chosen set =
     record {
       chosen = chosen ∙ stands.chosen;
       phases = subst P (sym (set ∙ ap (λ i. slice_set old.phases.items i phase) (same ∙ stands.chosen)))
-          (λ s below. again_at steps s old.phases.items phase inside below stands.phases here (nat_same s (chosen_of steps)));
+          (λ s below. again_at steps s old.phases.items phase inside below stands.phases here (cases_eq s (chosen_of steps)));
     }
 
 fault_same : (version : ℕ) (steps : List Step) (made : Step) → twin_refusal steps made ≡ None → (fault : Option Refusal) → fault_in version (chosen_steps steps) made ≡ fault

@@ -6,15 +6,15 @@ use Rattle.std.proofs.Common.{◌∙◌, ap, subst, is_some, unwrap_or, option_m
 use Rattle.base_grammar.specs.Layout.{endpoint}
 use Rattle.big_info.specs.declared.info.BigInfo.{BigInfo}
 use Rattle.big_info.specs.declared.info.Cipher.{Cipher}
-use Rattle.scenario_bases.specs.Lines.{subgroups_in}
+use Rattle.announcement_train.specs.BaseLines.{subgroups_in}
 use Rattle.source_machine.specs.Ciphers.{with_cipher, without_cipher}
 use Rattle.iso_pdu.specs.Spelling.{pdu}
 use Rattle.source_machine.specs.Airs.{airs_of, pdu_of, stale_of, waiting_of}
 use Rattle.source_machine.specs.Calls.{Call, Setup, event as perform, last_of, next_of}
 use Rattle.source_machine.specs.declared.sent.Stale.{Stale}
 use Rattle.source_machine.specs.declared.fault.GiveFault.{GiveFault}
-use Rattle.source_machine.specs.declared.fault.GiveFault.TheVariants as faults
-use Rattle.source_machine.specs.Faults.{air_fault, give_fault, has_its_time, misfit_of, refused_unit}
+use Rattle.source_machine.specs.UnitFaults as faults
+use Rattle.source_machine.specs.Faults.{air_fault, answer_of, give_fault, has_its_time, misfit_of, refused_unit}
 use Rattle.multi_source.specs.State.Broadcasts.{Broadcasting, StandsFor}
 use Rattle.transcript_text.specs.declared.refusal.Refusal.{Refusal}
 use Rattle.transcript_text.specs.declared.refusal.Refusal.TheVariants.{Order}
@@ -169,7 +169,7 @@ gives version own old new bis time octets (Err Memory) is plain identity said g 
 relayed_by : (a b c d : Bool)
     → relayed_or true (option_map give_refusal
     (if a then Some faults.NoSuchBis else (if b then Some faults.UnitTooLong else (if c then Some faults.TimeOrder else (if d then Some faults.Backlog else None)))))
-    ≡ Some (misfit_refusal_of (if a then Some faults.NoSuchBis else (if b then Some faults.UnitTooLong else (if c then Some faults.TimeOrder else None))))
+    ≡ Some (misfit_refusal_of (option_map answer_of (if a then Some faults.NoSuchBis else (if b then Some faults.UnitTooLong else (if c then Some faults.TimeOrder else None)))))
 relayed_by true b c d = refl
 relayed_by false true c d = refl
 relayed_by false false true d = refl
@@ -177,7 +177,7 @@ relayed_by false false false true = refl
 relayed_by false false false false = refl
 
 relayed_is : (setup : Setup) (calls : List Call) (airs : List Air) (bis : ℕ) (time : Option ℕ) (octets : List ℕ)
-    → relayed_or true (option_map give_refusal (give_fault setup calls airs bis time octets)) ≡ Some (misfit_refusal_of (misfit_of setup calls bis time octets))
+    → relayed_or true (option_map give_refusal (give_fault setup calls airs bis time octets)) ≡ Some (misfit_refusal_of (option_map answer_of (misfit_of setup calls bis time octets)))
 relayed_is setup calls airs bis time octets =
     relayed_by (nat_lt setup.info.num_bis bis) (nat_lt setup.info.max_sdu (length octets)) (not (has_its_time setup calls bis time)) (nat_le 16 (waiting_of calls airs bis))
 
@@ -190,12 +190,12 @@ uncoded own started is none = let plain : is_ciphered own ≡ false = ap is_some
 
 pub relays_not : (version : ℕ) (own : List Step) (started : Broadcasting) (bis : ℕ) (time : Option ℕ) (octets : List ℕ) (fault : Option GiveFault) (reason : Refusal)
     → (phase_of own ≡ sending) × StartedIs own started → is_some started.source.cipher ≡ false
-    → fault ≡ misfit_of started.source.setup (source_calls own) bis time octets → reason ≡ misfit_refusal_of fault
+    → fault ≡ option_map answer_of (misfit_of started.source.setup (source_calls own) bis time octets) → reason ≡ misfit_refusal_of fault
     → relayed_or true (fault_in version own (UnitStep bis time octets)) ≡ Some reason
 relays_not version own started bis time octets fault reason is plain fits named =
     rw (uncoded own started is plain)
     (relayed_is (setup_of own) (source_calls own) (airs_of (setup_of own) (source_calls own)) bis time octets
-    ∙ ap (λ (s : Setup). Some (misfit_refusal_of (misfit_of s (source_calls own) bis time octets))) (sym is.1.setup)
+    ∙ ap (λ (s : Setup). Some (misfit_refusal_of (option_map answer_of (misfit_of s (source_calls own) bis time octets)))) (sym is.1.setup)
     ∙ ap (λ f. Some (misfit_refusal_of f)) (sym fits) ∙ ap Some (sym named))
 
 -- both sources refuse nothing of a unit

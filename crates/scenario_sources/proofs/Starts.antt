@@ -11,8 +11,8 @@ use Rattle.big_info.specs.Rows.{first_fault}
 use Rattle.big_info.specs.declared.info.BigInfo.{BigInfo}
 use Rattle.big_info.specs.declared.fault.GroupFault.{GroupFault}
 use Rattle.big_info.specs.declared.fault.GroupFault.TheVariants as of_group
-use Rattle.scenario_bases.specs.Plain.{plain_base_of}
-use Rattle.scenario_bases.proofs.Citable.{plain_is_small}
+use Rattle.announcement_train.specs.PlainBase.{plain_base_of}
+use Rattle.announcement_train.proofs.Citable.{plain_is_small}
 use Rattle.source_machine.specs.Calls.{Call, Setup}
 use Rattle.source_machine.specs.Ciphers.{without_cipher}
 use Rattle.source_machine.specs.Faults.{ConfigureFails}
@@ -26,9 +26,12 @@ use Rattle.transcript_text.specs.declared.stop.Stop.TheVariants.{Refused, Outlet
 use Rattle.scenario_text.specs.declared.step.Step.{Step}
 use Rattle.scenario_text.specs.declared.step.Step.TheVariants.{Start}
 use Rattle.scenario_history.specs.Bases.{base_from, base_of, has_subgroup, is_base_too_long, is_last_bare, subgroups_of}
-use Rattle.scenario_history.specs.Refusals.{fault_refusal, group_refusal, horizon_in, refuse_if}
+use Rattle.scenario_history.specs.Refusals.{fault_refusal, group_refusal}
+use Rattle.sink_history.specs.Refusals.{refuse_if}
+use Rattle.sink_history.specs.Lives.{horizon_in}
 use Rattle.scenario_history.specs.Source.{GroupLine, Phase, checked_info, described, identity_of, is_ahead_in, is_described_at, no_identity, phase_of}
 use Rattle.scenario_history.specs.Steps.{is_unbegun_at, running, stage_of}
+use Rattle.scenario_history.proofs.Citable.{neither, fails_not}
 use Rattle.scenario_sources.specs.Bases.{is_long}
 use Rattle.scenario_sources.specs.Faults.{fault_in}
 use Rattle.source_machine.specs.declared.setup.Identity.{Identity}
@@ -37,6 +40,7 @@ use Rattle.scenario_sources.specs.declared.phase.Described.{Described}
 use Rattle.scenario_sources.specs.declared.phase.Phase.{Phase as Phases}
 use Rattle.scenario_sources.specs.State.Phases.{Becomes, Begins, DescribedIs, MayStart, StartedIs, line_of}
 use Rattle.scenario_sources.specs.State.Stops.{FinishStops, Finishes, StartStops}
+use Rattle.scenario_sources.proofs.Drafts.{has_last}
 
 abbrev DescribedSo : List Step → Described → Type 0
 DescribedSo own said = (phase_of own ≡ described) × DescribedIs own said
@@ -71,10 +75,6 @@ start_bad version first horizon own said bare reason h is e f g = start_fault ve
 
 -- ---- the size of its BASE
 
-last_there : (s : Subgroup) (others : List Subgroup) → is_some (last_of (s ∷ others)) ≡ true
-last_there s [] = refl
-last_there s (other ∷ others) = last_there other others
-
 long_sized : (long : Bool) → is_long (cond long (Some of_draft.TooLong) None) ≡ long
 long_sized true = refl
 long_sized false = refl
@@ -97,7 +97,7 @@ too_long group (s ∷ others) bare long =
 
 none_said : (group : GroupLine) (ss : List Subgroup) → group.info.num_bis ≤ 31 → is_some (last_of ss) ≡ false → nat_lt 252 (length (spelling (base_from group ss))) ≡ false
 none_said group [] few none = plain_is_small group.delay group.info.num_bis few
-none_said group (s ∷ others) few none = absurd (false≢true (sym none ∙ last_there s others))
+none_said group (s ∷ others) few none = absurd (false≢true (sym none ∙ has_last s others))
 
 draft_is : (own : List Step) (said : Described) → DescribedIs own said → finish_fault said.base ≡ finish_fault (endpoint said.delay (subgroups_of own))
 draft_is own said is = ap finish_fault is.base
@@ -130,7 +130,7 @@ may_start_said version first horizon own said bare long has h is e f g l n k t =
 
 no_subgroups : (group : GroupLine) (ss : List Subgroup) → is_some (last_of ss) ≡ false → base_from group ss ≡ plain_base_of group.delay group.info.num_bis
 no_subgroups group [] none = refl
-no_subgroups group (s ∷ others) none = absurd (false≢true (sym none ∙ last_there s others))
+no_subgroups group (s ∷ others) none = absurd (false≢true (sym none ∙ has_last s others))
 
 pub may_start_plain : (version first horizon : ℕ) (own : List Step) (said : Described) (bare has : Bool) (base : Endpoint) → said.info.num_bis ≤ 31 → horizon ≡ horizon_in version
     → DescribedSo own said → bare ≡ is_empty_last (last_of said.base.subgroups) → bare ≡ false → None ≡ group_refusal (first_fault horizon said.info)
@@ -146,14 +146,6 @@ may_start_plain version first horizon own said bare has base few h is e f g k n 
 
 -- ---- it begins
 
-neither_of : {A : Type 0} (a b : Option A) → option_or a b ≡ None → (a ≡ None) × (b ≡ None)
-neither_of None b none = (refl, none)
-neither_of (Some x) b none = absurd (none-some x (sym none))
-
-refused_not : (test : Bool) (reason : Refusal) → refuse_if test reason ≡ None → test ≡ false
-refused_not true reason none = absurd (none-some reason (sym none))
-refused_not false reason none = refl
-
 record Passes (version first : ℕ) (own : List Step) : Type 0 where
   closed : is_last_bare own ≡ false
   group : group_refusal (first_fault (horizon_in version) (checked_info own)) ≡ None
@@ -164,9 +156,9 @@ passes version first own phase none =
     let group : Option Refusal = group_refusal (first_fault (horizon_in version) (checked_info own)) in
     let size : Option Refusal = refuse_if (is_base_too_long own) BaseTooLong in
     let F : Phase → Type 0 = λ p. option_or (refuse_if (not (is_described_at p) || is_last_bare own) Order) (option_or group size) ≡ None in
-    let order = neither_of (refuse_if (is_last_bare own) Order) (option_or group size) (subst F phase none) in
-    let both = neither_of group size order.1 in
-    record { closed = refused_not (is_last_bare own) Order order.0; group = both.0; little = refused_not (is_base_too_long own) BaseTooLong both.1 }
+    let order = neither (refuse_if (is_last_bare own) Order) (option_or group size) (subst F phase none) in
+    let both = neither group size order.1 in
+    record { closed = fails_not (is_last_bare own) Order order.0; group = both.0; little = fails_not (is_base_too_long own) BaseTooLong both.1 }
 
 closed_none : (bare : Bool) (octets : ℕ) → bare ≡ false → nat_lt 252 octets ≡ false → size_fault (cond bare (Some of_draft.NoBis) None) octets ≡ None
 closed_none true octets f l = absurd (false≢true (sym f))

@@ -13,7 +13,8 @@ use Rattle.scenario_text.specs.declared.step.Step.TheVariants.{Event, Terminate}
 use Rattle.scenario_history.specs.Steps.{chosen_steps, is_over}
 use Rattle.scenario_history.specs.Source.{end_pdu, event_back, is_heard, is_sending, open_event, performed, setup_of, source_calls, stale_in, takes_units}
 use Rattle.scenario_history.specs.Sinks.{tuning_of}
-use Rattle.scenario_history.specs.Refusals.{no_place, refuse_if, train_ends}
+use Rattle.scenario_history.specs.Refusals.{no_place, train_ends}
+use Rattle.sink_history.specs.Refusals.{refuse_if}
 use Rattle.scenario_history.specs.Worlds.{announced_of}
 use Rattle.scenario_sources.specs.declared.performed.Performed.{Performed}
 use Rattle.scenario_sources.specs.declared.standpoint.Standpoint.{Standpoint}

@@ -10,7 +10,8 @@ use Rattle.transcript_text.specs.declared.refusal.Refusal.{Refusal}
 use Rattle.transcript_text.specs.declared.refusal.Refusal.TheVariants.{NoSuchBis, Order, Relayed, TimeOrder, UnitTooLong}
 use Rattle.scenario_text.specs.declared.step.Step.{Step}
 use Rattle.scenario_history.specs.Steps.{chosen_steps}
-use Rattle.scenario_history.specs.Refusals.{is_out_of_phase, refuse_if, source_refusal, twin_refusal}
+use Rattle.scenario_history.specs.Refusals.{is_out_of_phase, source_refusal, twin_refusal}
+use Rattle.sink_history.specs.Refusals.{refuse_if}
 use Rattle.scenario_sources.specs.declared.standpoint.Standpoint.{Standpoint}
 
 -- why a step is refused by the source that it means, whose steps these are, in a scenario of this version

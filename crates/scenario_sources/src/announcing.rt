@@ -1,6 +1,6 @@
 //! What a source announces.
 ghost use Rattle.std.specs.Prelude.{◌≤◌, ◌^◌, List, IfOk};
-ghost use Rattle.octet_fields.specs.Spelling.{IsOctets};
+ghost use Rattle.bcast_base.specs.Spelling.{IsOctets};
 ghost use Rattle.scenario_text.specs.declared.step.Step.{Step};
 ghost use Rattle.scenario_sources.specs.Answers.{AnnouncesAs};
 ghost use Rattle.scenario_sources.specs.State.Phases.{PhaseIs};

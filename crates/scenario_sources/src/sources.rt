@@ -38,7 +38,8 @@ impl Sources {
     ghost use Rattle.scenario_text.specs.declared.step.Step.{Step};
     ghost use Rattle.scenario_text.specs.declared.step.Step.TheVariants.{Ident as IdentStep, Subgroup as SubgroupStep, Meta as MetaStep, Bis as BisStep, Cipher as CipherStep};
     ghost use Rattle.scenario_text.specs.declared.step.Step.TheVariants.{Start as StartStep, Unit as UnitStep, Stop as StopStep, Source as SourceStep};
-    ghost use Rattle.scenario_history.specs.Refusals.{horizon_in, no_place, relayed_or};
+    ghost use Rattle.scenario_history.specs.Refusals.{no_place, relayed_or};
+    ghost use Rattle.sink_history.specs.Lives.{horizon_in};
     ghost use Rattle.scenario_history.specs.Source.{event_back, identity_of, is_ahead_in, is_heard, is_sending, open_event, pdu_in};
     ghost use Rattle.scenario_history.specs.Steps.{chosen_of, chosen_steps, is_over, running, stage_of, steps_of_source};
     ghost use Rattle.scenario_sources.specs.Answers.{AnnouncesAs, Answers, Closes, GroupIs, LastIs, NoPlace, Performs, StandsAt, TakesAs, Terminates};

@@ -1,4 +1,5 @@
 pub mod Citable
+mod Making
 mod MigratedLines
 mod MisfitNumbers
 mod Misfits

@@ -3,20 +3,17 @@ use Rattle.std.proofs.Common.{◌≡◌, ◌≤◌, ◌<◌, ℕ, zero, suc, Boo
 use Rattle.std.proofs.Common.{length, get_or, take, drop, Option, None, Some, refl, ap, sym, ◌∙◌, append_assoc, arith, eqb-true}
 use Rattle.std.specs.Borrow.{Bor}
 use Rattle.std.proofs.lemmas.List.{append-nil}
+use Rattle.std.proofs.lemmas.Bool.{false_from_ne_true}
 use Rattle.scenario_words.specs.Words.{onto_first}
 use Rattle.scenario_text.specs.MigratedLines.{lines_of, behind, text_of, lines_after, text_after}
 use Rattle.scenario_text.specs.Migrated.{is_blank, migrated_line, migrated_lines, migrated}
 
 -- ---- the first line ends at the first end of a line
 
-refused : (b : Bool) → (b ≡ true → ⊥) → b ≡ false
-refused true h = absurd (h refl)
-refused false h = refl
-
 pub no_end : (text : List ℕ) → ((k : ℕ) → 0 ≤ k → k < length text → nat_eq (get_or text k 0) 10 ≡ true → ⊥) → lines_of text ≡ text ∷ []
 no_end [] h = refl
 no_end (octet ∷ text) h =
-    let other : nat_eq octet 10 ≡ false = refused _ (h 0 (omega arith) (omega arith)) in
+    let other : nat_eq octet 10 ≡ false = false_from_ne_true _ (h 0 (omega arith) (omega arith)) in
     let rest : lines_of text ≡ text ∷ [] = no_end text (λ k low high. h (suc k) (omega arith) (omega arith)) in
     rw (other, rest) refl
 
@@ -25,13 +22,13 @@ pub first_end : (text : List ℕ) (end : ℕ) → end < length text → ((k : �
 first_end [] end inside before at = absurd (omega arith)
 first_end (octet ∷ text) zero inside before at = rw at refl
 first_end (octet ∷ text) (suc end) inside before at =
-    let other : nat_eq octet 10 ≡ false = refused _ (before 0 (omega arith) (omega arith)) in
+    let other : nat_eq octet 10 ≡ false = false_from_ne_true _ (before 0 (omega arith) (omega arith)) in
     let rest : lines_of text ≡ take end text ∷ lines_of (drop (suc end) text) = first_end text end (omega arith) (λ k low high. before (suc k) (omega arith) (omega arith)) at in
     rw (other, rest) refl
 
 -- ---- the text again
 
-onto_text : (octet : ℕ) (lines : List (List ℕ)) → text_of (onto_first octet lines) ≡ octet ∷ text_of lines
+pub onto_text : (octet : ℕ) (lines : List (List ℕ)) → text_of (onto_first octet lines) ≡ octet ∷ text_of lines
 onto_text octet [] = refl
 onto_text octet (line ∷ lines) = refl
 
@@ -62,7 +59,7 @@ chosen_text true octet text e rest =
     behind_some (lines_of text) (some_line text) ∙ (ap (λ (n : ℕ). n ∷ text_of (lines_of text)) (sym (eqb-true octet 10 e)) ∙ ap (λ (l : List ℕ). octet ∷ l) rest)
 chosen_text false octet text e rest = onto_text octet (lines_of text) ∙ ap (λ (l : List ℕ). octet ∷ l) rest
 
-text_again : (text : List ℕ) → text_of (lines_of text) ≡ text
+pub text_again : (text : List ℕ) → text_of (lines_of text) ≡ text
 text_again [] = refl
 text_again (octet ∷ text) = chosen_text (nat_eq octet 10) octet text refl (text_again text)
 

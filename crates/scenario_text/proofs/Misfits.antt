@@ -2,13 +2,15 @@
 use Rattle.std.proofs.Common.{◌≡◌, ◌≤◌, ◌<◌, ◌+◌, ℕ, suc, Bool, true, false, cond, ◌||◌, List, [], ◌∷◌, length, take, Option, None, Some}
 use Rattle.std.proofs.Common.{Result, Ok, Err, refl, ap, sym, subst, ◌∙◌, arith}
 use Rattle.std.proofs.lemmas.List.{take_all}
+use Rattle.std.proofs.lemmas.Option.{same_Some}
+use Rattle.std.proofs.lemmas.Bool.{and_parts}
 use Rattle.bass_operations.specs.declared.wishes.Wish.{Wish}
 use Rattle.scenario_words.specs.declared.fault.LineFault.{LineFault}
 use Rattle.scenario_words.specs.declared.fault.LineFault.TheVariants.{BadLine}
 use Rattle.scenario_words.specs.Words.{words_of}
 use Rattle.scenario_words.specs.Places.{WordPlace, between, Place, one, perhaps, rising, wishes, WordValue}
-use Rattle.octet_fields.specs.Tries.{◌>>=◌}
-use Rattle.octet_fields.proofs.Citable.{bind_ok}
+use Rattle.bcast_base.specs.Tries.{◌>>=◌}
+use Rattle.bcast_base.proofs.Citable.{bind_ok}
 use Rattle.scenario_words.specs.Reading.{Left, Gives, any_word, next_of, taken, word_in, decimal_in, with_stream, streams_of, rising_of, perhaps_of}
 use Rattle.scenario_words.specs.Reading.{wishes_of, bounded, all_wishes_of, ended}
 use Rattle.scenario_words.specs.Fitting.{FitsIndices, FitsPairs, FitsFront}
@@ -17,8 +19,8 @@ use Rattle.scenario_text.specs.declared.step.Step.{Step}
 use Rattle.scenario_text.specs.Table.{Build, Row, row_of}
 use Rattle.scenario_text.specs.Steps.{built_at, at_known, whole, line_after, step_of, read_of}
 use Rattle.scenario_text.specs.Misfits.{FitsLine, IsMisfit}
-use Rattle.scenario_text.proofs.Rows.{all_small, none_more, takes_all_last, is_word, and_parts, of_table}
-use Rattle.scenario_text.proofs.Steps.{left_of, done, ok_is, some_is, says_so, blank_is_none}
+use Rattle.scenario_text.proofs.Rows.{all_small, none_more, takes_all_last, is_word, of_table}
+use Rattle.scenario_text.proofs.Steps.{left_of, done, ok_is, says_so, blank_is_none}
 
 abbrev perhaps_bad : ℕ → Result (Option ℕ × Left) LineFault
 perhaps_bad k = Err (BadLine k)
@@ -165,7 +167,7 @@ rising_halts read k word words None is e =
     indices_first 1 read k word words None is (λ n some. absurd cc) (λ none. sym (bad_is (ℕ × Left) read k e))
 rising_halts read k word words (Some n) is e =
     indices_first 1 read k word words (Some n) is
-    (λ m some. let same : n ≡ m = some_is n m some in
+    (λ m some. let same : n ≡ m = same_Some n m some in
     indices_stop words (with_stream 0 m) (m + 1) (read + 1) k (subst (λ (x : ℕ). streams_of (with_stream 0 x) (x + 1) (read + 1) words ≡ Err (BadLine k)) same e))
     (λ none. absurd cc)
 
@@ -268,9 +270,6 @@ record LineHalts (version : ℕ) (words : List (List ℕ)) (k : ℕ) : Type 0 wh
   pub fits : FitsLine version (take k words)
   pub no_more : k < length words → FitsLine version (take (suc k) words) → ⊥
 
-some_row : (this that : Row) → Some this ≡ Some that → this ≡ that
-some_row this that e = cc
-
 in_line : (version k : ℕ) (first : List ℕ) (words : List (List ℕ)) (row : Row) → row_of version first ≡ Some row → Halts row.places words 1 k → LineHalts version (first ∷ words) k
 in_line version k first words row is it =
     let count : k ≡ suc it.0 = omega (arith, it.1) in
@@ -278,7 +277,7 @@ in_line version k first words row is it =
       within = omega (arith, it.2.within);
       fits = (row, is, it.2.front);
       no_more = λ inside fits. it.2.no_more (omega (arith, inside))
-          (subst (λ (r : Row). FitsFront r.places (take (suc it.0) words)) (some_row fits.0 row (sym fits.1 ∙ is)) fits.2);
+          (subst (λ (r : Row). FitsFront r.places (take (suc it.0) words)) (same_Some fits.0 row (sym fits.1 ∙ is)) fits.2);
     })
 
 abbrev step_bad : ℕ → Result Step LineFault

@@ -3,9 +3,9 @@ use Rattle.std.proofs.Common.{◌≤◌, ◌<◌, ◌≡◌, ℕ, zero, suc, ◌
 use Rattle.std.specs.List.{flat_map, AllByRecursion}
 use Rattle.hex.specs.Hex.{decode_of}
 use Rattle.hex.proofs.HexLemmas.{decode_of-ok}
-use Rattle.octet_fields.specs.Layout.{laid}
-use Rattle.octet_fields.specs.Spelling.{IsOctets, number}
-use Rattle.octet_fields.specs.Subgroups.{subgroup_fields}
+use Rattle.bcast_base.specs.Layout.{laid}
+use Rattle.bcast_base.specs.Spelling.{IsOctets, number}
+use Rattle.bcast_base.specs.Subgroups.{subgroup_fields}
 use Rattle.bass_operations.specs.declared.wishes.Wish.{Wish}
 use Rattle.bass_operations.specs.declared.operation.AddSource.{AddSource}
 use Rattle.bass_operations.specs.declared.operation.ModifySource.{ModifySource}
@@ -17,10 +17,10 @@ use Rattle.scenario_words.specs.Spelling.{SpellsOctets, SpellsWishes}
 abbrev pub AreOctets : List Wish → Type 0
 AreOctets wishes = AllByRecursion (λ wish. IsOctets wish.metadata) wishes
 
-nil_octets : IsOctets []
+pub nil_octets : IsOctets []
 nil_octets i = omega arith
 
-cons_octets : (first : ℕ) (rest : List ℕ) → first < 256 → IsOctets rest → IsOctets (first ∷ rest)
+pub cons_octets : (first : ℕ) (rest : List ℕ) → first < 256 → IsOctets rest → IsOctets (first ∷ rest)
 cons_octets first rest h hs zero = h
 cons_octets first rest h hs (suc i) = hs i
 

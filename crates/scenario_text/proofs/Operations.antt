@@ -2,10 +2,10 @@
 use Rattle.std.proofs.Common.{◌≡◌, ◌+◌, List, [], ◌∷◌, ◌++◌, length, refl, arith}
 use Rattle.std.specs.List.{flat_map}
 use Rattle.std.proofs.lemmas.List.{length-append}
-use Rattle.octet_fields.specs.Layout.{laid}
-use Rattle.octet_fields.specs.Subgroups.{subgroup_fields}
-use Rattle.octet_fields.proofs.Citable.{number-length}
-use Rattle.octet_fields.specs.Spelling.{number}
+use Rattle.bcast_base.specs.Layout.{laid}
+use Rattle.bcast_base.specs.Subgroups.{subgroup_fields}
+use Rattle.bcast_base.proofs.Citable.{number-length}
+use Rattle.bcast_base.specs.Spelling.{number}
 use Rattle.bass_operations.specs.declared.wishes.Wish.{Wish}
 use Rattle.bass_operations.specs.declared.operation.AddSource.{AddSource}
 use Rattle.bass_operations.specs.declared.operation.ModifySource.{ModifySource}

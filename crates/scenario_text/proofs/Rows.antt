@@ -4,6 +4,7 @@ use Rattle.std.proofs.Common.{◌≡◌, ℕ, Bool, true, false, cond, nat_eq, n
 use Rattle.std.specs.Prelude.{⊤}
 use Rattle.std.specs.Str.{bytes_eq}
 use Rattle.std.proofs.lemmas.Slice.Eq.{bytes_eq-Decides}
+use Rattle.std.proofs.lemmas.Bool.{and_parts}
 use Rattle.scenario_words.specs.Places.{Place, one, perhaps, rising, wishes}
 use Rattle.scenario_words.proofs.Citable.{is_small}
 use Rattle.scenario_text.specs.Table.{Row, row_in, event_rows, first_rows, source_rows, sink_rows, link_rows, rows_of_2, link_rows_of_2}
@@ -41,10 +42,6 @@ all_fine (row ∷ rows) = is_fine row && all_fine rows
 pub record Fine (first : List ℕ) (row : Row) : Type 0 where
   pub same : first ≡ row.first
   pub fine : is_fine row ≡ true
-
-pub and_parts : (a b : Bool) → (a && b) ≡ true → (a ≡ true) × (b ≡ true)
-and_parts true b e = (refl, e)
-and_parts false b e = absurd cc
 
 -- ---- what holds of each row holds of the one with a first word
 

@@ -1,11 +1,13 @@
 -- Steps and their lines: what is read is the step that the line says, and what a line says is read.
 use Rattle.std.proofs.Common.{◌≡◌, ◌+◌, ℕ, Bool, true, false, cond, nat_eq, ◌||◌, not, List, [], ◌∷◌, Option, None, Some, Result, Ok, Err, refl, ap, sym, subst, ◌∙◌, eqb-true}
 use Rattle.std.specs.Prelude.{IfOk, IfSome, IfNone}
+use Rattle.std.proofs.lemmas.Bool.{and_parts, not-true}
+use Rattle.std.proofs.lemmas.Option.{same_Some}
 use Rattle.scenario_words.specs.declared.fault.LineFault.{LineFault}
 use Rattle.scenario_words.specs.Words.{words_of, onto_first}
 use Rattle.scenario_words.specs.Places.{Place, one, perhaps, rising, wishes}
-use Rattle.octet_fields.specs.Tries.{◌>>=◌}
-use Rattle.octet_fields.proofs.Citable.{bind_ok}
+use Rattle.bcast_base.specs.Tries.{◌>>=◌}
+use Rattle.bcast_base.proofs.Citable.{bind_ok}
 use Rattle.scenario_words.specs.Reading.{Left, Gives, any_word, next_of, at_place, ended}
 use Rattle.scenario_words.proofs.Citable.{place_again, place_spelled, IsLast}
 use Rattle.scenario_text.specs.declared.step.Step.{Step}
@@ -13,7 +15,7 @@ use Rattle.scenario_text.specs.Ranges.{IsInRange}
 use Rattle.scenario_text.specs.Table.{Build, Row, row_of}
 use Rattle.scenario_text.specs.Lines.{Says, LineIs, IsBlank}
 use Rattle.scenario_text.specs.Steps.{built_at, at_known, whole, line_after, step_of, read_of}
-use Rattle.scenario_text.proofs.Rows.{all_small, takes_all, none_more, takes_all_last, is_word, and_parts, of_table}
+use Rattle.scenario_text.proofs.Rows.{all_small, takes_all, none_more, takes_all_last, is_word, of_table}
 use Rattle.scenario_text.proofs.Within.{row_within, says_within}
 
 abbrev pub left_of : List (List ℕ) → ℕ → Left
@@ -24,9 +26,6 @@ done x = Ok x
 
 pub ok_is : {A : Type 0} (x y : A) → done x ≡ done y → x ≡ y
 ok_is x y e = cc
-
-pub some_is : {A : Type 0} (x y : A) → Some x ≡ Some y → x ≡ y
-some_is x y e = cc
 
 -- ---- the words at the places of a row
 
@@ -120,17 +119,13 @@ first_word version first row e =
     let fine = of_table version first row e in
     rw fine.same (and_parts (is_word row.first) _ fine.fine).0
 
-not_true : (b : Bool) → not b ≡ true → b ≡ false
-not_true true e = absurd cc
-not_true false e = refl
-
 not_other : (comment space : Bool) (octet : ℕ) (line : List ℕ) → nat_eq octet 35 ≡ comment → nat_eq octet 32 ≡ space
     → is_word (head_word (cond space ([] ∷ words_of line) (onto_first octet (words_of line)))) ≡ true → comment ≡ false
 unfolding head_word
 not_other comment true octet line is sp e = absurd cc
 not_other comment false octet line is sp e =
     let negated : not comment ≡ true = ap not (sym is) ∙ (sym (onto_head octet (words_of line)) ∙ e) in
-    not_true comment negated
+    not-true comment negated
 
 no_comment : (octet : ℕ) (line : List ℕ) → is_word (head_word (words_of (octet ∷ line))) ≡ true → nat_eq octet 35 ≡ false
 unfolding head_word
@@ -150,7 +145,7 @@ line_again version (octet ∷ line) made is =
     rw (other, read) refl
 
 step_in : (r : Result Step LineFault) (made : Step) → (r >>= λ s. Ok (Some s)) ≡ Ok (Some made) → r ≡ Ok made
-step_in (Ok x) made e = ap done (some_is x made (ok_is (Some x) (Some made) e))
+step_in (Ok x) made e = ap done (same_Some x made (ok_is (Some x) (Some made) e))
 step_in (Err f) made e = absurd cc
 
 chosen_in : (b : Bool) (r : Result Step LineFault) (made : Step) → cond b (Ok None) (r >>= λ s. Ok (Some s)) ≡ Ok (Some made) → r ≡ Ok made
@@ -174,7 +169,7 @@ so_says version line made e = line_says version line made e
 
 pub one_said : (version : ℕ) (line : List ℕ) (this that : Step) → LineIs version this line → LineIs version that line → this ≡ that
 one_said version line this that is other =
-    some_is this that (ok_is (Some this) (Some that) (sym (says_so version line this is) ∙ says_so version line that other))
+    same_Some this that (ok_is (Some this) (Some that) (sym (says_so version line this is) ∙ says_so version line that other))
 
 pub said_in_range : (version : ℕ) (line : List ℕ) (made : Step) → read_of version line ≡ Ok (Some made) → IsInRange made
 said_in_range version line made e =

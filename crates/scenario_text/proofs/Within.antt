@@ -2,12 +2,13 @@
 use Rattle.std.proofs.Common.{◌≡◌, ◌≤◌, ℕ, Bool, true, false, cond, nat_eq, List, [], ◌∷◌, length, Option, None, Some, sym, ◌∙◌, subst, arith, inl, inr}
 use Rattle.std.specs.Prelude.{⊤}
 use Rattle.std.specs.Option.{ForSome}
+use Rattle.std.proofs.lemmas.Option.{same_Some}
 use Rattle.scenario_words.specs.Places.{WordPlace, between, framing_word, time_up_to, octets_up_to, octets_exactly, number_in_octets, list_up_to, Place, one}
 use Rattle.scenario_words.specs.Places.{perhaps, rising, wishes, WordValue, PlaceValue}
 use Rattle.scenario_words.specs.Spelling.{Spells, SpellsWord}
 use Rattle.ltv_codec.specs.Reading.{bad_of}
 use Rattle.scenario_words.specs.Lines.{◌▸◌}
-use Rattle.octet_fields.specs.Spelling.{IsOctets}
+use Rattle.bcast_base.specs.Spelling.{IsOctets}
 use Rattle.bass_operations.specs.Layout.{MetadataFits}
 use Rattle.scenario_text.specs.declared.step.Step.{Step}
 use Rattle.scenario_text.specs.Ranges.{IsInRange}
@@ -16,9 +17,6 @@ use Rattle.scenario_text.specs.Table.{Build, Row, row_of}
 use Rattle.scenario_text.specs.Lines.{Says}
 use Rattle.scenario_text.proofs.Rows.{EachRow, of_each_row}
 use Rattle.scenario_text.proofs.Octets.{AreOctets, decoded, are_octets, few_octets, wishes_spelled, add_octets, modify_octets}
-
-some_is : {A : Type 0} (x y : A) → Some x ≡ Some y → x ≡ y
-some_is x y e = cc
 
 abbrev pub InWord : (place : WordPlace) → WordValue place → Type 0
 InWord (between least greatest) n = (least ≤ n) × (n ≤ greatest)
@@ -55,7 +53,7 @@ in_word (list_up_to most) octets word h = (few_octets most octets word h.0, h.1,
 some_within : (least greatest : ℕ) (value : Option ℕ) (words rest : List (List ℕ)) → Spells (perhaps least greatest) value words rest → ForSome value (λ n. (least ≤ n) × (n ≤ greatest))
 some_within least greatest value words rest h n is = elim h [
   | inl none ↦ absurd (cc (sym is ∙ none.0))
-  | inr some ↦ let same : some.0 ≡ n = some_is some.0 n (sym some.1 ∙ is) in rw (← same) (some.3, some.4)
+  | inr some ↦ let same : some.0 ≡ n = same_Some some.0 n (sym some.1 ∙ is) in rw (← same) (some.3, some.4)
 ]
 
 in_place : (place : Place) (value : PlaceValue place) (words rest : List (List ℕ)) → Spells place value words rest → InPlace place value

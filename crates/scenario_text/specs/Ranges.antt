@@ -4,7 +4,7 @@
 use Rattle.std.specs.Prelude.{ℕ, ◌≡◌, ◌≤◌, ◌<◌, ◌^◌, ⊤, length, None}
 use Rattle.std.specs.Option.{ForSome}
 use Rattle.ltv_codec.specs.Reading.{bad_of}
-use Rattle.octet_fields.specs.Spelling.{IsOctets}
+use Rattle.bcast_base.specs.Spelling.{IsOctets}
 use Rattle.bass_operations.specs.Layout.{MetadataFits, spelling}
 use Rattle.bass_operations.specs.declared.operation.Operation.TheVariants as operations
 use Rattle.scenario_text.specs.declared.step.Step.{Step}

@@ -4,7 +4,7 @@ use Rattle.scenario_words.specs.declared.fault.LineFault.{LineFault}
 use Rattle.scenario_words.specs.declared.fault.LineFault.TheVariants.{BadLine}
 use Rattle.scenario_words.specs.Words.{words_of}
 use Rattle.scenario_words.specs.Places.{Place}
-use Rattle.octet_fields.specs.Tries.{◌>>=◌}
+use Rattle.bcast_base.specs.Tries.{◌>>=◌}
 use Rattle.scenario_words.specs.Reading.{Left, any_word, next, at_place, ended}
 use Rattle.scenario_text.specs.declared.step.Step.{Step}
 use Rattle.scenario_text.specs.Table.{Build, Row, row_of}

@@ -11,7 +11,7 @@ use Rattle.std.specs.Option.{unwrap_or}
 use Rattle.hex.specs.Hex.{decode_of, decode_pairs, digit_or_error, hex_digit_value, is_hex_digit, pair_value}
 use Rattle.hex.specs.declared.error.FromHexError.{FromHexError}
 use Rattle.hex.proofs.HexLemmas.{decode_of-even, decode_of-ok}
-use Rattle.hex.proofs.Pairs.{prepend, decode_done, decode_step, drop-pair}
+use Rattle.hex.proofs.Pairs.{cons_byte, prepend, decode_done, decode_pairs-ok_pair, decode_step, drop-pair}
 
 and_true : (a b : Bool) → (a && b) ≡ (a && (b && true))
 and_true a true = refl
@@ -85,3 +85,25 @@ one_pair_more word octets i octet all more room e before =
 pub all_pairs : (word octets : List ℕ) (i : ℕ) → length word % 2 ≡ 0 → length octets ≤ i → length word ≤ 2 * i
     → decode_pairs 0 word ≡ prepend (take i octets) (decode_pairs (2 * i) (drop (2 * i) word)) → decode_of word ≡ Ok octets
 all_pairs word octets i even all read before = decode_of-even word even ∙ decode_done word octets i all read before
+
+-- ---- pairs of digits spell octets
+
+byte_more : (octet i : ℕ) (rest : List ℕ) → ((octets : List ℕ) × (decode_pairs i rest ≡ Ok octets)) → (octets : List ℕ) × (cons_byte octet (decode_pairs i rest) ≡ Ok octets)
+byte_more octet i rest read = (octet ∷ read.0, rw read.1 refl)
+
+both_digits : (a b : Bool) → (a && b) ≡ true → (a ≡ true) × (b ≡ true)
+both_digits true b e = (refl, e)
+both_digits false b e = absurd cc
+
+read_all : (i : ℕ) (word : List ℕ) → length word % 2 ≡ 0 → list_all is_hex_digit word ≡ true → (octets : List ℕ) × (decode_pairs i word ≡ Ok octets)
+unfolding decode_pairs
+read_all i [] even all = ([], refl)
+read_all i (digit ∷ []) even all = absurd cc
+read_all i (a ∷ b ∷ rest) even all =
+    let first = both_digits (is_hex_digit a) (list_all is_hex_digit (b ∷ rest)) all in
+    let second = both_digits (is_hex_digit b) (list_all is_hex_digit rest) first.1 in
+    let read = byte_more _ (i + 2) rest (read_all (i + 2) rest (omega (arith, even)) second.1) in
+    (read.0, decode_pairs-ok_pair i a b _ rest (pair_reads a b i first.0 second.0) ∙ read.1)
+
+pub spelled : (word : List ℕ) → length word % 2 ≡ 0 → list_all is_hex_digit word ≡ true → (octets : List ℕ) × (decode_of word ≡ Ok octets)
+spelled word even all = let read = read_all 0 word even all in (read.0, decode_of-even word even ∙ read.1)

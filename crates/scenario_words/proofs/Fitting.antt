@@ -5,8 +5,8 @@ use Rattle.bass_operations.specs.declared.wishes.Wish.{Wish}
 use Rattle.scenario_words.specs.declared.fault.LineFault.{LineFault}
 use Rattle.scenario_words.specs.declared.fault.LineFault.TheVariants.{BadLine}
 use Rattle.scenario_words.specs.Places.{WordPlace, between, octets_up_to, number_in_octets, one}
-use Rattle.octet_fields.specs.Tries.{◌>>=◌}
-use Rattle.octet_fields.proofs.Citable.{bind_ok, ok_is}
+use Rattle.bcast_base.specs.Tries.{◌>>=◌}
+use Rattle.bcast_base.proofs.Citable.{bind_ok, ok_is}
 use Rattle.scenario_words.specs.Reading.{Left, next_of, taken, decimal_in, octets_in, number_in, word_in, with_stream, streams_of, wish_of, wishes_of}
 use Rattle.scenario_words.specs.Spelling.{SpellsWord}
 use Rattle.scenario_words.specs.Fitting.{FitsWord, FitsIndices, FitsPairs}

@@ -2,9 +2,9 @@
 use Rattle.std.proofs.Common.{◌∙◌, ◌≡◌, ℕ, ◌+◌, ◌-◌, List, [], ◌∷◌, Option, None, Some, Ok, Err, refl, ap, arith}
 use Rattle.scenario_words.specs.declared.fault.LineFault.{LineFault}
 use Rattle.scenario_words.specs.declared.fault.LineFault.TheVariants.{BadLine}
-use Rattle.octet_fields.specs.Tries.{FindsOrWants}
-use Rattle.octet_fields.proofs.Citable.{ok_is}
-use Rattle.scenario_words.specs.Reading.{Left, told, any_word, next_of, next}
+use Rattle.bcast_base.specs.Tries.{FindsOrWants}
+use Rattle.bcast_base.proofs.Citable.{ok_is}
+use Rattle.scenario_words.specs.Reading.{Left, SpellsNext, SpellsSome, told, any_word, next_of, next, octets_in}
 
 abbrev after : List (List ℕ) → ℕ → Left
 after words read = record { words = words; read = read + 1 }
@@ -39,3 +39,17 @@ misfits_of f read (word ∷ words) w new e h =
 pub misfits : {X : Type 0} (f : List ℕ → Option X) (old new : Left) (w : List ℕ) (fault : LineFault) → next any_word old ≡ Ok (w, new)
     → f w ≡ None → fault ≡ BadLine (new.read - 1) → FindsOrWants (told fault) (next f old)
 misfits f old new w fault e h is = rw is (misfits_of f old.read old.words w new e h)
+
+pub misfit : {X : Type 0} (f : List ℕ → Option X) (old new : Left) (w : List ℕ) (n : ℕ) → next any_word old ≡ Ok (w, new)
+    → f w ≡ None → n ≡ new.read - 1 → next f old ≡ Err (BadLine n)
+misfit f old new w n e h is = rw is (misfits_of f old.read old.words w new e h)
+
+-- a word that spells an octet
+spells_of : (most : ℕ) (old new : Left) (w : List ℕ) (found : Option (List ℕ)) → next any_word old ≡ Ok (w, new) → octets_in most w ≡ found
+    → SpellsSome found → SpellsNext (next (octets_in most) old)
+spells_of most old new w None e is some = absurd some
+spells_of most old new w (Some octets) e is some = rw (fits (octets_in most) old new w octets e is) some
+
+pub spells : (most : ℕ) (old new : Left) (w : List ℕ) → next any_word old ≡ Ok (w, new) → SpellsSome (octets_in most w)
+    → SpellsNext (next (octets_in most) old)
+spells most old new w e some = spells_of most old new w (octets_in most w) e refl some

@@ -5,8 +5,8 @@ use Rattle.std.proofs.lemmas.List.{append-nil, take_all}
 use Rattle.hex.specs.Hex.{decode_of, encode_with, encode_lower}
 use Rattle.hex.proofs.HexLemmas.{decode_of-encode_lower, decode_of-ok}
 use Rattle.bcast_base.specs.Numbers.{sum_from}
-use Rattle.octet_fields.specs.Spelling.{IsOctets, number}
-use Rattle.octet_fields.proofs.Citable.{number-length, number_again}
+use Rattle.bcast_base.specs.Spelling.{IsOctets, number}
+use Rattle.bcast_base.proofs.Citable.{number-length, number_again}
 
 pub digits_back : (octets : List ℕ) → IsOctets octets → decode_of (encode_lower octets) ≡ Ok octets
 digits_back octets h = decode_of-encode_lower octets h

@@ -1,5 +1,5 @@
 -- What one word spells, and the ranges that follow.
-use Rattle.std.proofs.Common.{leb, nat_eq, eqb-true, ◌≡◌, ◌≤◌, ◌<◌, ℕ, ◌*◌, ◌/◌, ◌^◌, Bool, true, false, cond, List, [], ◌∷◌, ◌++◌, take, length, Option, None}
+use Rattle.std.proofs.Common.{leb, nat_eq, eqb-true, ◌≡◌, ◌≤◌, ◌<◌, ℕ, ◌*◌, ◌/◌, ◌%◌, ◌^◌, Bool, true, false, cond, List, [], ◌∷◌, ◌++◌, take, length, Option, None}
 use Rattle.std.proofs.Common.{Some, Result, Ok, Err, refl, ap, sym, ◌∙◌, arith, decimal, ◌&&◌}
 use Rattle.std.specs.Prelude.{IsErr, is_none}
 use Rattle.std.specs.Str.{bytes_eq}
@@ -8,12 +8,14 @@ use Rattle.std.proofs.Math.Seq.{take-append_seam}
 use Rattle.std.proofs.lemmas.Slice.Eq.{bytes_eq-Decides}
 use Rattle.std.proofs.lemmas.Fmt.{digits_value-decimal, decimal_injective}
 use Rattle.std.proofs.lemmas.Bool.{leb-true, le-leb, lt-leb, eq-eqb}
-use Rattle.hex.specs.Hex.{decode_of}
+use Rattle.std.specs.List.{list_all}
+use Rattle.hex.specs.Hex.{decode_of, is_hex_digit}
 use Rattle.hex.proofs.HexLemmas.{decode_of-ok}
 use Rattle.hex.specs.declared.error.FromHexError.{FromHexError}
-use Rattle.scenario_words.specs.Reading.{decimal_in, framing_in, octets_in, within, exact_in, exactly, number_in, list_in, listed}
+use Rattle.scenario_words.proofs.DigitPairs.{spelled}
+use Rattle.scenario_words.specs.Reading.{SpellsSome, decimal_in, framing_in, octets_in, within, exact_in, exactly, number_in, list_in, listed}
 use Rattle.bcast_base.specs.Numbers.{sum_from}
-use Rattle.octet_fields.proofs.Citable.{number_below}
+use Rattle.bcast_base.proofs.Citable.{number_below}
 use Rattle.ltv_codec.specs.Reading.{bad_of}
 use Rattle.ltv_codec.specs.declared.fault.LtvBad.{LtvBad}
 use Rattle.scenario_words.proofs.Decimals.{own}
@@ -118,6 +120,13 @@ pairs most word bytes some e ok fits =
     let len = (decode_of-ok word bytes ok).2 in
     let short : length bytes ≤ most = omega arith in
     other_word most word some e ∙ rw (ok, le-leb (length bytes) most short) refl
+
+pub spells_some : (most : ℕ) (word : List ℕ) → (length word ≡ 0 → ⊥) → bytes_eq word (45 ∷ []) ≡ false → length word % 2 ≡ 0
+    → list_all is_hex_digit word ≡ true → length word / 2 ≤ most → SpellsSome (octets_in most word)
+spells_some most word some e even all fits =
+    let read = spelled word even all in
+    let len = (decode_of-ok word read.0 read.1).2 in
+    rw (pairs most word read.0 some e read.1 fits) (λ none. let no : length read.0 ≡ 0 = ap length none in some (omega (arith, len, no)))
 
 pub whole_front : (n : ℕ) (octets rest : List ℕ) → n ≡ length octets → take n (octets ++ rest) ≡ octets
 whole_front n octets rest e = rw e (take-append_seam octets rest)

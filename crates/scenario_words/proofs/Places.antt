@@ -6,8 +6,8 @@ use Rattle.std.specs.List.{AllByRecursion}
 use Rattle.std.proofs.lemmas.List.{append-nil}
 use Rattle.hex.specs.Hex.{decode_of}
 use Rattle.bcast_base.specs.Numbers.{sum_from}
-use Rattle.octet_fields.specs.Spelling.{IsOctets, number}
-use Rattle.octet_fields.proofs.Citable.{number-length, number_below}
+use Rattle.bcast_base.specs.Spelling.{IsOctets, number}
+use Rattle.bcast_base.proofs.Citable.{number-length, number_below}
 use Rattle.bass_operations.specs.declared.wishes.Wish.{Wish}
 use Rattle.printed_words.specs.Digits.{digits}
 use Rattle.scenario_words.specs.Places.{WordPlace, between, framing_word, time_up_to, octets_up_to, octets_exactly, number_in_octets, list_up_to, Place, one}

@@ -2,8 +2,8 @@
 use Rattle.std.proofs.Common.{◌≡◌, ◌<◌, ◌/◌, ◌%◌, ◌^◌, ℕ, zero, suc, Bool, true, false, not, ◌&&◌, nat_eq, List, [], ◌∷◌, ◌++◌, length, get_or, decimal, refl, ap, arith, eqb-true}
 use Rattle.std.specs.Prelude.{slice_index, ⊤}
 use Rattle.hex.specs.Hex.{encode_with, lower_digits, encode_lower}
-use Rattle.octet_fields.specs.Spelling.{IsOctets}
-use Rattle.octet_fields.proofs.Citable.{IsOctets-rest}
+use Rattle.bcast_base.specs.Spelling.{IsOctets}
+use Rattle.bcast_base.proofs.Citable.{IsOctets-rest}
 use Rattle.scenario_words.specs.Words.{words_of}
 use Rattle.scenario_words.proofs.Citable.{own}
 use Rattle.std.proofs.lemmas.Fmt.{digits_decimal}

@@ -16,8 +16,8 @@ use Rattle.scenario_words.specs.declared.fault.LineFault.{LineFault}
 use Rattle.scenario_words.specs.declared.fault.LineFault.TheVariants.{BadLine}
 use Rattle.scenario_words.specs.Places.{WordPlace, between, framing_word, time_up_to, octets_up_to, octets_exactly, number_in_octets, list_up_to, Place, one}
 use Rattle.scenario_words.specs.Places.{perhaps, rising, wishes, WordValue, PlaceValue, wishes_octets}
-use Rattle.octet_fields.specs.Tries.{◌>>=◌}
-use Rattle.octet_fields.proofs.Citable.{bind_ok, ok_is}
+use Rattle.bcast_base.specs.Tries.{◌>>=◌}
+use Rattle.bcast_base.proofs.Citable.{bind_ok, ok_is}
 use Rattle.scenario_words.specs.Reading.{Left, next_of, taken, decimal_in, framing_in, time_in, timed, octets_in, within, exact_in, number_in, numbered}
 use Rattle.scenario_words.specs.Reading.{list_in, word_in, perhaps_of, with_stream, streams_of, rising_of, wish_of, wishes_of, bounded, all_wishes_of, at_place}
 use Rattle.scenario_words.specs.Spelling.{SpellsOctets, SpellsWord, Rising, with_streams, SpellsWishes, Spells}

@@ -1,12 +1,13 @@
 -- Sets of streams bit by bit, and the indices that are left of a line.
-use Rattle.std.proofs.Common.{◌≡◌, ◌≢◌, ◌≤◌, ◌<◌, ◌↔◌, ℕ, ◌+◌, ◌-◌, ◌^◌, max, List, [], ◌∷◌, Option, None, Some, Result, Ok, refl, ap, sym, ◌∙◌, arith, inl, inr, bit_or}
+use Rattle.std.proofs.Common.{◌≡◌, ◌≢◌, ◌≤◌, ◌<◌, ◌↔◌, ℕ, ◌+◌, ◌-◌, ◌^◌, max, List, [], ◌∷◌, Option, None, Some, Result, Ok, Err, refl, ap, sym, ◌∙◌, arith, inl, inr, bit_or}
 use Rattle.std.specs.Int.{bit_at}
 use Rattle.std.proofs.lemmas.Bool.{cases_eq}
 use Rattle.std.proofs.lemmas.Nat.Bits.{bit_at_or, bit_at-pow_same, bit_at-pow_other, bit_at-lt, same_from_bits}
 use Rattle.bcast_base.specs.Bis.{Has}
 use Rattle.scenario_words.specs.declared.fault.LineFault.{LineFault}
-use Rattle.octet_fields.specs.Tries.{◌>>=◌, FindsOrWants}
-use Rattle.scenario_words.specs.Reading.{Left, told, next_of, next, taken, decimal_in, with_stream, streams_of}
+use Rattle.scenario_words.specs.declared.fault.LineFault.TheVariants.{BadLine}
+use Rattle.bcast_base.specs.Tries.{◌>>=◌, FindsOrWants}
+use Rattle.scenario_words.specs.Reading.{Left, next_of, next, taken, decimal_in, with_stream, streams_of}
 
 or_zero : (a : ℕ) → max a 0 ≡ a
 or_zero a = omega arith
@@ -62,9 +63,9 @@ pub fails_so : {A B : Type 0} (found : Option LineFault) (read : Result A LineFa
 fails_so None read whole f h e = tt
 fails_so (Some fault) read whole f h e = sym e ∙ ap (λ r. r >>= f) h
 
-pub index_fails : (set least : ℕ) (old : Left) (fault : LineFault) (whole : Result (ℕ × Left) LineFault) → old.words ≢ [] → FindsOrWants (told fault) (next (decimal_in least 31) old)
-    → streams_of set least old.read old.words ≡ whole → FindsOrWants (told fault) whole
-index_fails set least old fault whole some h so_far = fails_so (told fault) (next (decimal_in least 31) old) whole (go_on set) h (sym (streams_next set least old.read old.words some) ∙ so_far)
+pub index_fails : (set least n : ℕ) (old : Left) (whole : Result (ℕ × Left) LineFault) → old.words ≢ [] → next (decimal_in least 31) old ≡ Err (BadLine n)
+    → streams_of set least old.read old.words ≡ whole → whole ≡ Err (BadLine n)
+index_fails set least n old whole some h so_far = fails_so (Some (BadLine n)) (next (decimal_in least 31) old) whole (go_on set) h (sym (streams_next set least old.read old.words some) ∙ so_far)
 
 -- no index is left
 all_read_of : (set least read : ℕ) (words : List (List ℕ)) → words ≡ [] → streams_of set least read words ≡ Ok (set, record { words = words; read = read })

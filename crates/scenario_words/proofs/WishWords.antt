@@ -6,7 +6,7 @@ use Rattle.scenario_words.specs.declared.fault.LineFault.{LineFault}
 use Rattle.std.proofs.lemmas.Bool.{le-leb}
 use Rattle.bass_operations.specs.Layout.{MetadataFits}
 use Rattle.scenario_words.specs.Places.{wishes_octets}
-use Rattle.octet_fields.specs.Tries.{◌>>=◌, FindsOrWants}
+use Rattle.bcast_base.specs.Tries.{◌>>=◌, FindsOrWants}
 use Rattle.scenario_words.specs.Reading.{Left, told, wish_of, wishes_of, bounded, all_wishes_of}
 use Rattle.scenario_words.proofs.Streams.{fails_so}
 

@@ -1,6 +1,6 @@
 -- What the words of a line of a scenario read as, in this project's own language: they are tried from left to right, and a
 -- fault has the number of words that fit.
-use Rattle.std.specs.Prelude.{◌≡◌, ℕ, zero, suc, ◌+◌, ◌-◌, ◌^◌, ◌==◌, ◌&&◌, nat_le, if◌then◌else◌, List, [], ◌∷◌, ◌++◌, length, Option, None, Some, is_none, Result, Ok, Err, codes, bytes_eq, decimal}
+use Rattle.std.specs.Prelude.{◌≡◌, ◌≢◌, ℕ, zero, suc, ◌+◌, ◌-◌, ◌^◌, ◌==◌, ◌&&◌, nat_le, if◌then◌else◌, List, [], ◌∷◌, ◌++◌, length, Option, None, Some, is_none, Result, Ok, Err, codes, bytes_eq, decimal}
 use Rattle.std.specs.Str.Parse.{digits_value}
 use Rattle.std.specs.Int.RustNames.{bit_or}
 use Rattle.hex.specs.Hex.{decode_of}
@@ -8,9 +8,10 @@ use Rattle.hex.specs.declared.error.FromHexError.{FromHexError}
 use Rattle.bcast_base.specs.Numbers.{sum_from}
 use Rattle.bass_operations.specs.declared.wishes.Wish.{Wish}
 use Rattle.ltv_codec.specs.Reading.{bad_of}
-use Rattle.octet_fields.specs.Tries.{◌>>=◌, FindsOrWants, GivesOrWants}
+use Rattle.bcast_base.specs.Tries.{◌>>=◌, FindsOrWants, GivesOrWants}
 use Rattle.scenario_words.specs.declared.fault.LineFault.{LineFault}
 use Rattle.scenario_words.specs.declared.fault.LineFault.TheVariants.{BadLine, Memory}
+use Rattle.scenario_words.specs.declared.fault.Misfit.{Misfit}
 use Rattle.scenario_words.specs.Places.{WordPlace, between, framing_word, time_up_to, octets_up_to, octets_exactly, number_in_octets, list_up_to, Place, one}
 use Rattle.scenario_words.specs.Places.{perhaps, rising, wishes, WordValue, PlaceValue, most_wishes, wishes_octets}
 
@@ -32,6 +33,21 @@ Gives view result read = GivesOrWants told view result read
 abbrev pub GivesNext : {X Y : Type 0} → (X → Y) → Result X LineFault → Left → Result (Y × Left) LineFault → Type 0
 GivesNext view (Ok x) left read = read ≡ Ok (view x, left)
 GivesNext view (Err fault) left read = FindsOrWants (told fault) read
+
+-- the same, where nothing is taken: then memory can't run out
+abbrev pub ReadsNext : {X Y : Type 0} → (X → Y) → Result X Misfit → Left → Result (Y × Left) LineFault → Type 0
+ReadsNext view (Ok x) left read = read ≡ Ok (view x, left)
+ReadsNext view (Err misfit) left read = read ≡ Err (BadLine misfit.word)
+
+-- a word that spells an octet or more
+abbrev pub SpellsSome : Option (List ℕ) → Type 0
+SpellsSome None = ⊥
+SpellsSome (Some octets) = octets ≢ []
+
+-- the next word does
+abbrev pub SpellsNext : Result (List ℕ × Left) LineFault → Type 0
+SpellsNext (Ok octets) = octets.0 ≢ []
+SpellsNext (Err fault) = ⊥
 
 -- ---- one word
 

@@ -1,13 +1,15 @@
-ghost use Rattle.std.specs.Prelude.{◌≡◌, ◌≤◌, ◌^◌, ◌<◌, ◌+◌, ◌-◌, ◌*◌, ◌∷◌, ℕ, List, [], Some, None, length, IfOk, IfSome, IsTrue, ◌≢◌, ◌↔◌};
-ghost use Rattle.scenario_words.specs.Reading.{GivesNext, Left, next, any_word, decimal_in, framing_in, time_in, octets_in, exact_in, number_in};
-ghost use Rattle.scenario_words.specs.Reading.{list_in, wish_of, wishes_of, all_wishes_of, perhaps_of, rising_of, with_stream as stream_in, ended};
+ghost use Rattle.std.specs.Prelude.{◌≡◌, ◌≤◌, ◌^◌, ◌<◌, ◌+◌, ◌-◌, ◌*◌, ◌∷◌, ℕ, List, [], Some, None, Err, length, IfOk, IfSome, IsTrue, ◌≢◌, ◌↔◌};
+ghost use Rattle.scenario_words.specs.declared.fault.LineFault.TheVariants.{Memory as NoMemory};
+ghost use Rattle.scenario_words.specs.Reading.{GivesNext, ReadsNext, SpellsNext, Left, next, any_word};
+ghost use Rattle.scenario_words.specs.Reading.{decimal_in, framing_in, time_in, octets_in, exact_in, number_in, list_in};
+ghost use Rattle.scenario_words.specs.Reading.{wish_of, wishes_of, all_wishes_of, perhaps_of, rising_of, with_stream as stream_in, ended};
 ghost use Rattle.bass_operations.specs.Layout.{MetadataFits};
 ghost use Rattle.ltv_codec.specs.Reading.{bad_of};
 ghost use Rattle.scenario_words.specs.Places.{most_wishes, wishes_octets};
 ghost use Rattle.scenario_words.specs.Words.{words_of};
 ghost use Rattle.scenario_words.specs.Rests.{words_after, octets_after};
 
-use crate::fault::LineFault;
+use crate::fault::{LineFault, Misfit};
 use crate::word::{array_of, decimal_within, framing_of, list_of, number_of, octets_of, time_of};
 use bass_operations::{Wish, Wishes};
 use bcast_base::{Bis, BisSet, Octets};
@@ -55,8 +57,9 @@ pub fn octets_of_wishes(wishes: &Wishes) -> usize
 
 /// The words of a line that are still to be read, and how many were read before.
 ///
-/// Each call that reads a word answers BadLine with the number of that word, from 0, where it doesn't fit, and with the
-/// number of words of the line where none is left. After a fault the cursor may stand behind the word or before it.
+/// Each call that reads a word answers Misfit, or BadLine where it may want memory too, with the number of that word, from
+/// 0, where it doesn't fit, and with the number of words of the line where none is left. After a fault the cursor may stand
+/// behind the word or before it.
 #[derive(Drop)]
 pub struct Cursor<'a> {
     rest: Option<&'a [u8]>,
@@ -86,10 +89,10 @@ impl<'a> Cursor<'a> {
     }
 
     /// The fault of the word that was read last.
-    fn misfit(&self) -> LineFault
-        ensures { result ≡ LineFault.BadLine (self.now.read - 1) }
+    fn misfit(&self) -> Misfit
+        ensures { result.word ≡ self.now.read - 1 }
     {
-        LineFault::BadLine {
+        Misfit {
             word: self.read.saturating_sub(1),
         }
     }
@@ -101,12 +104,12 @@ impl<'a> Cursor<'a> {
         self.rest.is_some()
     }
 
-    /// The next word, which may be empty; BadLine where none is left.
-    pub fn word(&mut self) -> Result<&'a [u8], LineFault>
-        ensures { GivesNext (λ word. word.now) result self.new (next any_word self.old) }
+    /// The next word, which may be empty; Misfit where none is left.
+    pub fn word(&mut self) -> Result<&'a [u8], Misfit>
+        ensures { ReadsNext (λ word. word.now) result self.new (next any_word self.old) }
     {
         let Some(rest) = self.rest else {
-            return Err(LineFault::BadLine { word: self.read });
+            return Err(Misfit { word: self.read });
         };
         self.read += 1;
         let (word, rest) = split_word(rest);
@@ -115,10 +118,10 @@ impl<'a> Cursor<'a> {
     }
 
     /// A decimal from `least` to `greatest`.
-    #[tactic(auto, using(crate::proofs::NextWords::fits, crate::proofs::NextWords::misfits, crate::proofs::OneWord::decimal_range))]
-    pub fn number(&mut self, least: u64, greatest: u64) -> Result<u64, LineFault>
+    #[tactic(auto, using(crate::proofs::NextWords::fits, crate::proofs::NextWords::misfit, crate::proofs::OneWord::decimal_range))]
+    pub fn number(&mut self, least: u64, greatest: u64) -> Result<u64, Misfit>
         ensures range { IfOk result (λ n. (least ≤ n) × (n ≤ greatest)) }
-        ensures gives { GivesNext (λ n. n) result self.new (next (decimal_in least greatest) self.old) }
+        ensures gives { ReadsNext (λ n. n) result self.new (next (decimal_in least greatest) self.old) }
     {
         let word = self.word()?;
         match decimal_within(word, least, greatest) {
@@ -128,27 +131,27 @@ impl<'a> Cursor<'a> {
     }
 
     /// A decimal of at most `greatest` that is an octet.
-    pub fn octet(&mut self, least: u8, greatest: u8) -> Result<u8, LineFault>
+    pub fn octet(&mut self, least: u8, greatest: u8) -> Result<u8, Misfit>
         ensures range { IfOk result (λ n. (least ≤ n) × (n ≤ greatest)) }
-        ensures gives { GivesNext (λ n. n) result self.new (next (decimal_in least greatest) self.old) }
+        ensures gives { ReadsNext (λ n. n) result self.new (next (decimal_in least greatest) self.old) }
     {
         Ok(self.number(u64::from(least), u64::from(greatest))? as u8)
     }
 
     /// A decimal that fits a number of so many bits, at most 32.
-    pub fn bits(&mut self, width: u32) -> Result<u32, LineFault>
+    pub fn bits(&mut self, width: u32) -> Result<u32, Misfit>
         requires { width ≤ 32 }
         ensures range { IfOk result (λ n. n < 2 ^ width) }
-        ensures gives { GivesNext (λ n. n) result self.new (next (decimal_in 0 (2 ^ width - 1)) self.old) }
+        ensures gives { ReadsNext (λ n. n) result self.new (next (decimal_in 0 (2 ^ width - 1)) self.old) }
     {
         Ok(self.number(0, (1u64 << width) - 1)? as u32)
     }
 
     /// The index of a stream, from `least` to 31.
-    pub fn bis(&mut self, least: u8) -> Result<Bis, LineFault>
+    pub fn bis(&mut self, least: u8) -> Result<Bis, Misfit>
         requires { 1 ≤ least }
         ensures range { IfOk result (λ bis. (least ≤ bis) × (bis ≤ 31)) }
-        ensures gives { GivesNext (λ n. n) result self.new (next (decimal_in least 31) self.old) }
+        ensures gives { ReadsNext (λ n. n) result self.new (next (decimal_in least 31) self.old) }
     {
         let index = self.octet(least, 31)?;
         match Bis::new(index) {
@@ -158,8 +161,8 @@ impl<'a> Cursor<'a> {
     }
 
     /// A decimal from `least` to `greatest`, where a word is left.
-    pub fn perhaps(&mut self, least: u16, greatest: u16) -> Result<Option<u16>, LineFault>
-        ensures { GivesNext (λ n. n) result self.new (perhaps_of least greatest self.old.read self.old.words) }
+    pub fn perhaps(&mut self, least: u16, greatest: u16) -> Result<Option<u16>, Misfit>
+        ensures { ReadsNext (λ n. n) result self.new (perhaps_of least greatest self.old.read self.old.words) }
     {
         if !self.has_more() {
             return Ok(None);
@@ -168,8 +171,8 @@ impl<'a> Cursor<'a> {
     }
 
     /// One index or more, each above the one before.
-    pub fn rising(&mut self) -> Result<BisSet, LineFault>
-        ensures { GivesNext (λ n. n) result self.new (rising_of self.old) }
+    pub fn rising(&mut self) -> Result<BisSet, Misfit>
+        ensures { ReadsNext (λ n. n) result self.new (rising_of self.old) }
     {
         let first = self.bis(1)?;
         let mut which = with_stream(BisSet::new(), first);
@@ -183,10 +186,10 @@ impl<'a> Cursor<'a> {
     }
 
     /// `unframed` is 0 and `framed` is 1.
-    #[tactic(auto, using(crate::proofs::NextWords::fits, crate::proofs::NextWords::misfits, crate::proofs::OneWord::framing_range))]
-    pub fn framing(&mut self) -> Result<u8, LineFault>
+    #[tactic(auto, using(crate::proofs::NextWords::fits, crate::proofs::NextWords::misfit, crate::proofs::OneWord::framing_range))]
+    pub fn framing(&mut self) -> Result<u8, Misfit>
         ensures range { IfOk result (λ framing. framing ≤ 1) }
-        ensures gives { GivesNext (λ n. n) result self.new (next framing_in self.old) }
+        ensures gives { ReadsNext (λ n. n) result self.new (next framing_in self.old) }
     {
         let word = self.word()?;
         match framing_of(word) {
@@ -196,9 +199,9 @@ impl<'a> Cursor<'a> {
     }
 
     /// `-`, or a decimal of at most 2 ^ 62.
-    #[tactic(auto, using(crate::proofs::NextWords::fits, crate::proofs::NextWords::misfits))]
-    pub fn time(&mut self) -> Result<Option<u64>, LineFault>
-        ensures { GivesNext (λ n. n) result self.new (next (time_in (2 ^ 62)) self.old) }
+    #[tactic(auto, using(crate::proofs::NextWords::fits, crate::proofs::NextWords::misfit))]
+    pub fn time(&mut self) -> Result<Option<u64>, Misfit>
+        ensures { ReadsNext (λ n. n) result self.new (next (time_in (2 ^ 62)) self.old) }
     {
         let word = self.word()?;
         match time_of(word, GREATEST_TIME) {
@@ -207,25 +210,26 @@ impl<'a> Cursor<'a> {
         }
     }
 
-    /// Octets as pairs of hexadecimal digits, or `-` for none; at most `most`.
-    #[tactic(auto, using(crate::proofs::NextWords::fits, crate::proofs::NextWords::misfits))]
+    /// Octets as pairs of hexadecimal digits, or `-` for none; at most `most`. Memory comes only where the word spells an octet.
+    #[tactic(auto, using(crate::proofs::NextWords::fits, crate::proofs::NextWords::misfits, crate::proofs::NextWords::spells))]
     pub fn octets(&mut self, alloc: Global, most: usize) -> Result<Octets, LineFault>
         ensures range { IfOk result (λ octets. length octets ≤ most) }
         ensures gives { GivesNext (λ n. n) result self.new (next (octets_in most) self.old) }
+        ensures memory { result ≡ Err NoMemory → SpellsNext (next (octets_in most) self.old) }
     {
         let word = self.word()?;
         match octets_of(alloc, word, most)? {
             Some(octets) => Ok(octets),
-            None => Err(self.misfit()),
+            None => Err(LineFault::from(self.misfit())),
         }
     }
 
     /// Exactly `N` octets as pairs of hexadecimal digits.
-    #[tactic(auto, using(crate::proofs::NextWords::fits, crate::proofs::NextWords::misfits, crate::proofs::OneWord::exact_length))]
-    pub fn array<const N: usize>(&mut self) -> Result<[u8; N], LineFault>
+    #[tactic(auto, using(crate::proofs::NextWords::fits, crate::proofs::NextWords::misfit, crate::proofs::OneWord::exact_length))]
+    pub fn array<const N: usize>(&mut self) -> Result<[u8; N], Misfit>
         requires { 0 < N }
         ensures range { IfOk result (λ octets. length octets ≡ N) }
-        ensures gives { GivesNext (λ n. n) result self.new (next (exact_in N) self.old) }
+        ensures gives { ReadsNext (λ n. n) result self.new (next (exact_in N) self.old) }
     {
         let word = self.word()?;
         match array_of(word) {
@@ -235,12 +239,12 @@ impl<'a> Cursor<'a> {
     }
 
     /// The number in exactly `N` octets, the least octet first.
-    #[tactic(auto, using(crate::proofs::NextWords::fits, crate::proofs::NextWords::misfits))]
-    fn little<const N: usize>(&mut self) -> Result<u64, LineFault>
+    #[tactic(auto, using(crate::proofs::NextWords::fits, crate::proofs::NextWords::misfit))]
+    fn little<const N: usize>(&mut self) -> Result<u64, Misfit>
         requires some { 0 < N }
         requires few { N ≤ 8 }
         ensures range { IfOk result (λ n. n < 2 ^ (8 * N)) }
-        ensures gives { GivesNext (λ n. n) result self.new (next (number_in N) self.old) }
+        ensures gives { ReadsNext (λ n. n) result self.new (next (number_in N) self.old) }
     {
         let word = self.word()?;
         match number_of::<N>(word) {
@@ -250,30 +254,31 @@ impl<'a> Cursor<'a> {
     }
 
     /// The number in 2 octets.
-    pub fn two_octets(&mut self) -> Result<u16, LineFault>
-        ensures { GivesNext (λ n. n) result self.new (next (number_in 2) self.old) }
+    pub fn two_octets(&mut self) -> Result<u16, Misfit>
+        ensures { ReadsNext (λ n. n) result self.new (next (number_in 2) self.old) }
     {
         Ok(self.little::<2>()? as u16)
     }
 
     /// The number in 4 octets.
-    pub fn four_octets(&mut self) -> Result<u32, LineFault>
-        ensures { GivesNext (λ n. n) result self.new (next (number_in 4) self.old) }
+    pub fn four_octets(&mut self) -> Result<u32, Misfit>
+        ensures { ReadsNext (λ n. n) result self.new (next (number_in 4) self.old) }
     {
         Ok(self.little::<4>()? as u32)
     }
 
-    /// An LTV list of at most `most` octets.
-    #[tactic(auto, using(crate::proofs::NextWords::fits, crate::proofs::NextWords::misfits, crate::proofs::OneWord::list_range, crate::proofs::OneWord::list_ltvs))]
+    /// An LTV list of at most `most` octets. Memory comes only where the word spells an octet.
+    #[tactic(auto, using(crate::proofs::NextWords::fits, crate::proofs::NextWords::misfits, crate::proofs::NextWords::spells, crate::proofs::OneWord::list_range, crate::proofs::OneWord::list_ltvs))]
     pub fn list(&mut self, alloc: Global, most: usize) -> Result<Octets, LineFault>
         ensures range { IfOk result (λ octets. length octets ≤ most) }
         ensures ltvs { IfOk result (λ octets. bad_of octets ≡ None) }
         ensures gives { GivesNext (λ n. n) result self.new (next (list_in most) self.old) }
+        ensures memory { result ≡ Err NoMemory → SpellsNext (next (octets_in most) self.old) }
     {
         let word = self.word()?;
         match list_of(alloc, word, most)? {
             Some(octets) => Ok(octets),
-            None => Err(self.misfit()),
+            None => Err(LineFault::from(self.misfit())),
         }
     }
 
@@ -288,10 +293,11 @@ impl<'a> Cursor<'a> {
         })
     }
 
-    /// Pairs of words as long as words are left, at most 31.
+    /// Pairs of words as long as words are left, at most 31. Memory comes only where a word is left.
     fn pairs(&mut self, alloc: Global) -> Result<Wishes, LineFault>
         ensures range { IfOk result (λ wishes. (length wishes ≤ 31) × MetadataFits wishes) }
         ensures gives { GivesNext (λ n. n) result self.new (wishes_of [] most_wishes self.old.read self.old.words) }
+        ensures memory { result ≡ Err NoMemory → self.old.words ≢ [] }
     {
         let mut wishes = Wishes::new(alloc);
         'pairs: while self.has_more() {
@@ -305,9 +311,10 @@ impl<'a> Cursor<'a> {
     }
 
     /// Pairs of words as long as words are left, at most 31, which make at most `most` octets of an operation; else BadLine
-    /// has the number of words read.
+    /// has the number of words read. Memory comes only where a word is left.
     pub fn wishes(&mut self, alloc: Global, most: usize) -> Result<Wishes, LineFault>
-        ensures { GivesNext (λ n. n) result self.new (all_wishes_of most self.old) }
+        ensures gives { GivesNext (λ n. n) result self.new (all_wishes_of most self.old) }
+        ensures memory { result ≡ Err NoMemory → self.old.words ≢ [] }
     {
         let wishes = self.pairs(alloc)?;
         let fault = LineFault::BadLine { word: self.read };

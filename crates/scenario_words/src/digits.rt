@@ -40,21 +40,27 @@ fn joined(pair: u16) -> u8
     (value(pair % 256) * 16 + value(pair / 256)) as u8
 }
 
-/// Whether a word is pairs of hexadecimal digits, and what they spell.
-pub(crate) fn decodes(word: &[u8], octets: &mut [u8]) -> bool
-    requires { length octets.old ≡ length word.now / 2 }
-    ensures yes { IsTrue result → decode_of word.now ≡ Ok octets.new }
+/// Whether a word is pairs of hexadecimal digits.
+pub(crate) fn are_pairs(word: &[u8]) -> bool
+    ensures even { IsTrue result → length word.now % 2 ≡ 0 }
+    ensures digits { IsTrue result → list_all is_hex_digit word.now ≡ true }
     ensures no { ¬ IsTrue result → IsErr (decode_of word.now) }
 {
     if word.len() % 2 != 0 {
         return false;
     }
-    if !are_digits(word) {
-        return false;
-    }
+    are_digits(word)
+}
+
+/// Puts the octets that pairs of hexadecimal digits spell.
+pub(crate) fn decode(word: &[u8], octets: &mut [u8])
+    requires even { length word.now % 2 ≡ 0 }
+    requires digits { list_all is_hex_digit word.now ≡ true }
+    requires room { length octets.old ≡ length word.now / 2 }
+    ensures { decode_of word.now ≡ Ok octets.new }
+{
     let (pairs, _) = word.as_chunks::<2>();
     'pairs: for i in 0..octets.len() {
         octets[i] = joined(u16::from_le_bytes(pairs[i]));
     }
-    true
 }

@@ -11,7 +11,7 @@ mod value;
 mod word;
 
 pub use cursor::{Cursor, octets_of_wishes};
-pub use fault::LineFault;
+pub use fault::{LineFault, Misfit};
 pub use laws::values_have_words_where_some_words_spell_them;
 pub use value::{Value, all_have_words};
 pub use word::decimal_within;

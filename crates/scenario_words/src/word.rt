@@ -1,8 +1,8 @@
-ghost use Rattle.std.specs.Prelude.{◌≡◌, ◌≤◌, ◌<◌, ◌^◌, ◌*◌, IfOk, IfSome, length};
-ghost use Rattle.scenario_words.specs.Reading.{decimal_in, framing_in, time_in, octets_in, exact_in, number_in, list_in};
+ghost use Rattle.std.specs.Prelude.{◌≡◌, ◌≤◌, ◌<◌, ◌^◌, ◌*◌, IfOk, IfSome, IsErr, length};
+ghost use Rattle.scenario_words.specs.Reading.{SpellsSome, decimal_in, framing_in, time_in, octets_in, exact_in, number_in, list_in};
 
 use crate::decimal::decimal;
-use crate::digits::decodes;
+use crate::digits::{are_pairs, decode};
 use bcast_base::{Memory, Octets, read_le};
 use ltv_codec::check_ltvs;
 use std::alloc::Global;
@@ -50,9 +50,11 @@ pub fn time_of(word: &[u8], greatest: u64) -> Option<Option<u64>>
     }
 }
 
-/// At most `most` octets as pairs of hexadecimal digits, or `-` for none.
+/// At most `most` octets as pairs of hexadecimal digits, or `-` for none. Memory is wanted only for a word that spells an
+/// octet.
 pub fn octets_of(alloc: Global, word: &[u8], most: usize) -> Result<Option<Octets>, Memory>
-    ensures { IfOk result (λ octets. octets ≡ octets_in most word.now) }
+    ensures gives { IfOk result (λ octets. octets ≡ octets_in most word.now) }
+    ensures memory { IsErr result → SpellsSome (octets_in most word.now) }
 {
     if word == b"-".as_slice() {
         return Ok(Some(Octets::new(alloc)));
@@ -64,17 +66,19 @@ pub fn octets_of(alloc: Global, word: &[u8], most: usize) -> Result<Option<Octet
     if count > most {
         return Ok(None);
     }
-    let mut octets = vec![in alloc; 0u8; count]?;
-    if !decodes(word, octets.as_mut_slice()) {
+    if !are_pairs(word) {
         return Ok(None);
     }
+    let mut octets = vec![in alloc; 0u8; count]?;
+    decode(word, octets.as_mut_slice());
     Ok(Some(Octets::of(octets)))
 }
 
-/// An LTV list of at most `most` octets.
+/// An LTV list of at most `most` octets. Memory is wanted only for a word that spells an octet.
 #[tactic(auto, using(crate::proofs::OneWord::no_list, crate::proofs::OneWord::bad_list, crate::proofs::OneWord::a_list))]
 pub fn list_of(alloc: Global, word: &[u8], most: usize) -> Result<Option<Octets>, Memory>
-    ensures { IfOk result (λ octets. octets ≡ list_in most word.now) }
+    ensures gives { IfOk result (λ octets. octets ≡ list_in most word.now) }
+    ensures memory { IsErr result → SpellsSome (octets_in most word.now) }
 {
     let Some(octets) = octets_of(alloc, word, most)? else {
         return Ok(None);
@@ -108,9 +112,10 @@ pub fn array_of<const N: usize>(word: &[u8]) -> Option<[u8; N]>
     if word.len() / 2 != N {
         return None;
     }
-    let mut octets = [0; N];
-    if !decodes(word, &mut octets) {
+    if !are_pairs(word) {
         return None;
     }
+    let mut octets = [0; N];
+    decode(word, &mut octets);
     Some(octets)
 }

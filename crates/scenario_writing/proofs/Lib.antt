@@ -1,5 +1,6 @@
 mod LowFirst
 mod Putting
-mod Lines
+mod StepLines
 mod Rows
 mod Said
+mod NextLines

@@ -7,8 +7,8 @@ use Rattle.scenario_text.specs.declared.step.Step.TheVariants.{Tell, Read, Drain
 use Rattle.scenario_text.specs.declared.step.Step.TheVariants.{AServe, ATell, ARead, ADrain, AShow, Source, Relay}
 use Rattle.scenario_text.specs.Table.{Row, row_of, first_row_of, source_row_of, sink_row_of, link_row_of, row_of_2, link_row_of_2}
 use Rattle.scenario_text.specs.Written.{Parts, in_row, parts_of}
+use Rattle.scenario_text.proofs.Citable.{made}
 use Rattle.scenario_words.proofs.CitableValues.{is_unspaced}
-use Rattle.scenario_writing.proofs.Lines.{made}
 
 abbrev pub made_of : Parts → Step
 made_of (in_row row values) = made row.places row.build values

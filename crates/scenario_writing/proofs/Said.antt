@@ -1,13 +1,14 @@
 -- The line of a step says it where it fits, and a step that a line says fits.
 use Rattle.std.proofs.Common.{◌≡◌, ℕ, true, List, Some, subst}
+use Rattle.std.proofs.lemmas.Bool.{and_parts}
 use Rattle.scenario_words.specs.Lines.{all_words}
 use Rattle.scenario_words.proofs.CitableValues.{is_unspaced, joined_split, unspaced}
 use Rattle.scenario_text.specs.declared.step.Step.{Step}
 use Rattle.scenario_text.specs.Table.{row_of}
 use Rattle.scenario_text.specs.Lines.{Says, LineIs}
 use Rattle.scenario_text.specs.Written.{Parts, in_row, parts_of, placed_in, placed_line, PlacedFits, Fits, line_of}
-use Rattle.scenario_text.proofs.Citable.{all_small, and_parts, is_word, of_table, takes_all_last}
-use Rattle.scenario_writing.proofs.Lines.{says, said, all_unspaced, row_fits}
+use Rattle.scenario_text.proofs.Citable.{all_small, is_word, of_table, takes_all_last, all_unspaced, says}
+use Rattle.scenario_writing.proofs.StepLines.{said, row_fits}
 use Rattle.scenario_writing.proofs.Rows.{has_row, made_of, row_at}
 
 says_parts : (parts : Parts) (step : Step) → made_of parts ≡ step → is_unspaced (row_at parts).first ≡ true → row_of 2 (row_at parts).first ≡ Some (row_at parts)

@@ -1,6 +1,6 @@
 -- Names that open what writes, states, trains and PDUs are read by, for rows that are worked out by computing.
-use Rattle.octet_fields.specs.Spelling.{number}
-use Rattle.octet_fields.specs.Subgroups.{subgroup_in, subgroups_in, reserved_in}
+use Rattle.bcast_base.specs.Spelling.{number}
+use Rattle.bcast_base.specs.Subgroups.{subgroup_in, subgroups_in, reserved_in}
 use Rattle.ltv_codec.specs.Reading.{ltvs_from}
 use Rattle.base_grammar.specs.Reading.{base_of, count_at, entries_at, entry_at, fields_of, index_at, run_at, streams_at, subgroup_at, subgroups_at}
 use Rattle.bass_operations.specs.Reading.{add_head_in, add_in, code_in, modify_head_in, modify_in, op_in, remove_in, wishes_in}

@@ -5,3 +5,8 @@ pub mod Refusals
 pub mod Rows
 pub mod TrainRows
 pub mod WriteRows
+pub mod Calls
+pub mod Drains
+pub mod Links
+pub mod Octets
+pub mod Steps

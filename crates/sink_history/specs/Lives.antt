@@ -10,9 +10,9 @@ use Rattle.delegator_history.specs.Announced.{heard_as}
 use Rattle.delegator_history.specs.LastGiven.{last_given}
 use Rattle.delegator_history.specs.States.{record_added, locations_set, contexts_set, put_on, train_heard, train_lost, control_heard}
 use Rattle.delegator_history.specs.Trains.{Joining, Setup, Train}
-use Rattle.link_history.specs.Calls as links
-use Rattle.link_history.specs.Calls.{Call, stepped, born}
-use Rattle.link_history.specs.Drains.{drained}
+use Rattle.sink_history.specs.Calls as links
+use Rattle.sink_history.specs.Calls.{Call, stepped, born}
+use Rattle.sink_history.specs.Drains.{drained}
 use Rattle.scenario_text.specs.declared.step.Step.{Step}
 use Rattle.scenario_text.specs.declared.step.Step.TheVariants as steps
 

@@ -5,7 +5,7 @@ use Rattle.delegator_machine.specs.Groups.{joining_brought, with_step}
 use Rattle.delegator_history.specs.Sights.{Sight}
 use Rattle.delegator_history.specs.Trains.{Brought, Joining, Train, brought_by, heard, ignored, taken}
 use Rattle.group_sink.specs.Calls as sinks
-use Rattle.link_history.specs.Calls.{Call}
+use Rattle.sink_history.specs.Calls.{Call}
 use Rattle.scenario_text.specs.declared.step.Step.{Step}
 use Rattle.scenario_text.specs.declared.step.Step.TheVariants as steps
 use Rattle.sink_history.specs.Lives.{Made, Source, given_train, own_train}

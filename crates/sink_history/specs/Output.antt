@@ -11,10 +11,10 @@ use Rattle.delegator_history.specs.States.{sight_of}
 use Rattle.delegator_history.specs.Trains.{Train, answer_of, brought_by}
 use Rattle.delegator_history.specs.Values.{value}
 use Rattle.delegator_history.specs.Writes.{reply_of}
-use Rattle.link_history.specs.Calls as links
-use Rattle.link_history.specs.Calls.{Call, steps_of, writes_waiting}
-use Rattle.link_history.specs.Drains.{repeated, served_out, told_out}
-use Rattle.link_history.specs.Links.{delivered, notices_waiting, reads_waiting, state, view}
+use Rattle.sink_history.specs.Calls as links
+use Rattle.sink_history.specs.Calls.{Call, steps_of, writes_waiting}
+use Rattle.sink_history.specs.Drains.{repeated, served_out, told_out}
+use Rattle.sink_history.specs.Links.{delivered, notices_waiting, reads_waiting, state, view}
 use Rattle.scenario_text.specs.declared.step.Step.{Step}
 use Rattle.scenario_text.specs.declared.step.Step.TheVariants as steps
 use Rattle.transcript_text.specs.SinkLines.{Label, control_words, forged_line, on_link, plain, reply_line, sink_line, train_line, train_words, value_line}

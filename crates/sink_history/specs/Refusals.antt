@@ -4,8 +4,8 @@
 use Rattle.std.specs.Prelude.{ℕ, nat_lt, not, Bool, true, false, List, [], ◌∷◌, ◌++◌, length, Option, Some, None, is_none, slice_get}
 use Rattle.std.specs.Option.{option_or}
 use Rattle.pacs_records.specs.Layout.{greatest_value, value}
-use Rattle.link_history.specs.Calls.{Call, is_joined, writes_waiting}
-use Rattle.link_history.specs.Links.{notices_waiting, reads_waiting}
+use Rattle.sink_history.specs.Calls.{Call, is_joined, writes_waiting}
+use Rattle.sink_history.specs.Links.{notices_waiting, reads_waiting}
 use Rattle.scenario_text.specs.declared.step.Step.{Step}
 use Rattle.scenario_text.specs.declared.step.Step.TheVariants as steps
 use Rattle.transcript_text.specs.declared.refusal.Refusal.{Refusal}

@@ -2,5 +2,10 @@
 #![tactic(auto)]
 
 mod laws;
+mod link_laws;
 
 pub use laws::{worked_rows, worked_trains, worked_writes};
+pub use link_laws::{
+    a_drain_leaves_nothing, a_read_gives_the_state, a_step_tells_each_link, agreement_law,
+    links_law, states_are_read_back,
+};

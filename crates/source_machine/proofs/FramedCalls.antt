@@ -19,7 +19,7 @@ lays_length : (info : BigInfo) (anchor iso_us n : ℕ) (calls : List TimedCall)
 lays_length info anchor iso_us zero calls = omega arith
 lays_length info anchor iso_us (suc n) calls = omega (arith, lays_length info anchor iso_us n calls)
 
-lays_accepted : (anchor iso_us n : ℕ) (calls : List TimedCall) → accepted (framed_lays anchor iso_us n calls) ≡ accepted calls
+pub lays_accepted : (anchor iso_us n : ℕ) (calls : List TimedCall) → accepted (framed_lays anchor iso_us n calls) ≡ accepted calls
 lays_accepted anchor iso_us zero calls = refl
 lays_accepted anchor iso_us (suc n) calls = lays_accepted anchor iso_us n calls
 

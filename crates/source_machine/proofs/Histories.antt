@@ -6,13 +6,10 @@ use Rattle.big_info.specs.Schedule.{horizon_of}
 use Rattle.isoal_base.specs.Air.{begun_in, event_at}
 use Rattle.isoal_unframed.specs.Air.{unframed_air}
 use Rattle.isoal_unframed.specs.Calls.{Call as StreamCall, accept, lay, lays, accepted, begun, events as laid_events}
+use Rattle.isoal_unframed.proofs.Citable.{lays_accepted}
 use Rattle.source_machine.specs.Calls.{Call, give, event, events, given, stream_calls, laid_with}
 
-lays_accepted : (calls : List StreamCall) (n : ℕ) → accepted (lays n calls) ≡ accepted calls
-lays_accepted calls zero = refl
-lays_accepted calls (suc n) = lays_accepted calls n
-
-lays_events : (calls : List StreamCall) (n : ℕ) → laid_events (lays n calls) ≡ n + laid_events calls
+pub lays_events : (calls : List StreamCall) (n : ℕ) → laid_events (lays n calls) ≡ n + laid_events calls
 lays_events calls zero = omega arith
 lays_events calls (suc n) = omega (arith, lays_events calls n)
 

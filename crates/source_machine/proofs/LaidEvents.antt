@@ -14,6 +14,7 @@ use Rattle.isoal_base.specs.declared.laid.EventLaid.{EventLaid}
 use Rattle.isoal_base.specs.Air.{Air, Entry, laid_in}
 use Rattle.isoal_unframed.specs.Calls.{Call as PlainCall, accept, lay, lays}
 use Rattle.isoal_framed.specs.Calls.{Call as TimedCall, accept as accept_timed, lay as lay_at}
+use Rattle.isoal_framed.proofs.Citable.{flat_last}
 use Rattle.source_machine.specs.Airs.{air_after, stale_in, stale_on}
 use Rattle.source_machine.specs.Calls.{framed_calls, framed_lays, stream_calls}
 use Rattle.source_machine.specs.Setups.{IsChecked}
@@ -23,7 +24,6 @@ use Rattle.source_machine.specs.State.Streams.{Accepts, AllTell, Grows, Lays, La
 use Rattle.source_machine.specs.declared.sender.Sender.{Sender}
 use Rattle.source_machine.specs.declared.sent.Stale.{Stale}
 use Rattle.source_machine.proofs.Framings.{info_is}
-use Rattle.source_machine.proofs.Lists.{flat_more}
 
 newest_at : (entry : Entry) (air : Air) (n : ℕ) → length air ≡ n → pdus_at (entry ∷ air) n ≡ entry.event.pdus
 newest_at entry air n is = rw (eq-eqb (length air) n is) refl
@@ -156,7 +156,7 @@ all_tell anchor iso_us count olds streams i item first_told told now_told long w
     ∙ ap (λ xs. xs ++ told_by setup calls anchor iso_us count (i + 1)) (before setup calls checked are)
     ∙ append_assoc first_told (flat_map (told_by setup calls anchor iso_us count) (range_with_len 1 i)) (told_by setup calls anchor iso_us count (i + 1))
     ∙ ap (λ b. first_told ++ (flat_map (told_by setup calls anchor iso_us count) (range_with_len 1 i) ++ told_by setup calls anchor iso_us count b)) (sym at)
-    ∙ ap (λ xs. first_told ++ xs) (sym (flat_more (told_by setup calls anchor iso_us count) 1 i))
+    ∙ ap (λ xs. first_told ++ xs) (sym (flat_last (told_by setup calls anchor iso_us count) 1 i))
 
 pub accepts : {T E : Type 0} (bis : ℕ) (old new : Sender) (laid : List (List (List ℕ))) (time limit : Option ℕ) (octets : List ℕ) (r : Result T E)
     → OnOk r (HasTime old time limit × (waiting_in old < 16) × (info_of new ≡ info_of old))

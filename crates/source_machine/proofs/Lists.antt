@@ -1,9 +1,9 @@
 -- Facts of all items of lists, place by place.
-use Rattle.std.proofs.Common.{ℕ, ◌≡◌, ◌<◌, ◌≤◌, ◌+◌, zero, suc, List, [], ◌∷◌, ◌++◌, length, get_or, set, take, append_assoc, Some}
-use Rattle.std.proofs.Common.{arith, ◌∙◌, ap, sym, refl, subst, inl, inr, get_or-set_same, get_or-set_other, length-set, Result, Ok, Err}
-use Rattle.std.specs.List.{AllZip, flat_map, range_with_len, slice_get}
+use Rattle.std.proofs.Common.{ℕ, ◌≡◌, ◌<◌, ◌≤◌, ◌+◌, suc, List, [], ◌∷◌, ◌++◌, length, get_or, set, take, append_assoc, Some}
+use Rattle.std.proofs.Common.{arith, ◌∙◌, ap, sym, subst, inl, inr, get_or-set_same, get_or-set_other, length-set, Result, Ok, Err}
+use Rattle.std.specs.List.{AllZip, slice_get}
 use Rattle.std.specs.Result.{IfErr, IsErrAnd, OnErr, OnOk}
-use Rattle.std.proofs.lemmas.List.{append-nil, get_or_default, map_more}
+use Rattle.std.proofs.lemmas.List.{get_or_default, map_more}
 use Rattle.std.proofs.lemmas.Option.{none-some, same_Some, slice_get-get_or, slice_get_past}
 use Rattle.std.proofs.lemmas.Bool.{cases_eq, cases_lt}
 use Rattle.source_machine.specs.Airs.{stale_on}
@@ -20,29 +20,6 @@ zip_all R [] (y ∷ ys) same each = absurd (omega (arith, same))
 zip_all R (x ∷ xs) [] same each = absurd (omega (arith, same))
 zip_all R (x ∷ xs) (y ∷ ys) same each =
     (each 0 x (omega arith), zip_all R xs ys (omega (arith, same)) (λ k none below. each (suc k) none (omega (arith, below))))
-
--- lists joined over a range
-pub flat_same : {A : Type 0} (f g : ℕ → List A) (start n : ℕ) → ((i : ℕ) → start ≤ i → i < start + n → f i ≡ g i)
-    → flat_map f (range_with_len start n) ≡ flat_map g (range_with_len start n)
-flat_same f g start zero same = refl
-flat_same f g start (suc n) same =
-    ap (λ xs. xs ++ flat_map f (range_with_len (start + 1) n)) (same start (omega arith) (omega arith))
-    ∙ ap (λ xs. g start ++ xs) (flat_same f g (start + 1) n (λ i least below. same i (omega (arith, least)) (omega (arith, below))))
-
-flat_next : {A : Type 0} (f : ℕ → List A) (start n : ℕ)
-    → flat_map f (range_with_len start (suc n)) ≡ flat_map f (range_with_len start n) ++ f (start + n)
-flat_next f start zero = let at : start ≡ start + 0 = omega arith in append-nil (f start) ∙ ap f at
-flat_next f start (suc n) =
-    let at : start + 1 + n ≡ start + suc n = omega arith in
-    ap (λ xs. f start ++ xs) (flat_next f (start + 1) n)
-    ∙ sym (append_assoc (f start) (flat_map f (range_with_len (start + 1) n)) (f (start + 1 + n)))
-    ∙ ap (λ k. f start ++ flat_map f (range_with_len (start + 1) n) ++ f k) at
-
-pub flat_more : {A : Type 0} (f : ℕ → List A) (start n : ℕ)
-    → flat_map f (range_with_len start (n + 1)) ≡ flat_map f (range_with_len start n) ++ f (start + n)
-flat_more f start n =
-    let next : n + 1 ≡ suc n = omega arith in
-    ap (λ k. flat_map f (range_with_len start k)) next ∙ flat_next f start n
 
 -- one more unit is told
 pub stale_more : (bis : ℕ) (times : List ℕ) (i time : ℕ) (told now_told : List Stale) → now_told ≡ told ++ stale_on bis (take i times) → slice_get times i ≡ Some time

@@ -1,22 +1,18 @@
 -- The units of a stream take its slots in the order of acceptance.
-use Rattle.std.proofs.Common.{ℕ, ◌≡◌, ◌<◌, ◌≤◌, ◌+◌, min, Some, None, List, [], ◌∷◌, ◌++◌, length, arith, ◌∙◌, ap, sym, refl, inl, inr, append_assoc, length-append}
+use Rattle.std.proofs.Common.{ℕ, ◌≡◌, ◌<◌, ◌≤◌, ◌+◌, min, Some, None, List, [], ◌∷◌, ◌++◌, length, arith, ◌∙◌, ap, sym, refl, inl, inr, append_assoc}
 use Rattle.std.proofs.lemmas.Bool.{cases_eq, cases_lt, eq-eqb, ne_eqb}
 use Rattle.std.proofs.lemmas.List.{append-nil}
-use Rattle.std.proofs.lemmas.Option.{none-some, slice_get_past}
+use Rattle.std.proofs.lemmas.Option.{none-some, slice_get_within}
 use Rattle.std.specs.List.{slice_get}
 use Rattle.circular_buffer.proofs.Places.{slice_get-append_left}
 use Rattle.big_info.specs.declared.info.BigInfo.{BigInfo}
 use Rattle.big_info.specs.Schedule.{per_event_of}
 use Rattle.isoal_unframed.specs.Air.{before_event, unit_at}
 use Rattle.isoal_unframed.specs.Calls.{Call as StreamCall, accept, lay, accepted, begun, events as laid_events}
-
-begun_within : (info : BigInfo) (calls : List StreamCall) → begun info calls ≤ length (accepted calls)
-begun_within info [] = omega arith
-begun_within info (accept octets ∷ calls) = omega (arith, begun_within info calls, length-append (accepted calls) (octets ∷ []))
-begun_within info (lay ∷ calls) = omega arith
+use Rattle.isoal_unframed.proofs.Citable.{begun_within}
 
 -- what was accepted before an event is a front of all that was accepted
-front_accepted : (calls : List StreamCall) (e : ℕ) → (rest : List (List ℕ)) × (accepted calls ≡ accepted (before_event calls e) ++ rest)
+pub front_accepted : (calls : List StreamCall) (e : ℕ) → (rest : List (List ℕ)) × (accepted calls ≡ accepted (before_event calls e) ++ rest)
 front_accepted [] e = ([], refl)
 front_accepted (accept octets ∷ calls) e =
     let front = front_accepted calls e in
@@ -55,9 +51,6 @@ begun_between info (lay ∷ calls) e later order below =
           (begun_between info calls e later order (omega (arith, below, other)))
     ]
 
-is_within : {X : Type 0} (xs : List X) (i : ℕ) (x : X) → slice_get xs i ≡ Some x → i < length xs
-is_within xs i x is = elim (cases_lt i (length xs)) [ inl below ↦ below | inr past ↦ absurd (none-some x (sym (slice_get_past xs i past) ∙ is)) ]
-
 -- the unit of a slot is one of those accepted
 pub unit_is_accepted : (info : BigInfo) (calls : List StreamCall) (e slot : ℕ) (unit : List ℕ) → unit_at info calls e slot ≡ Some unit
     → slice_get (accepted calls) (begun info (before_event calls e) + slot) ≡ Some unit
@@ -65,7 +58,7 @@ unit_is_accepted info calls e slot unit is =
     let front = front_accepted calls e in
     ap (λ units. slice_get units (begun info (before_event calls e) + slot)) front.1
     ∙ slice_get-append_left (accepted (before_event calls e)) front.0 (begun info (before_event calls e) + slot)
-    (is_within (accepted (before_event calls e)) (begun info (before_event calls e) + slot) unit is)
+    (slice_get_within (accepted (before_event calls e)) (begun info (before_event calls e) + slot) unit is)
     ∙ is
 
 pub units_in_order : (info : BigInfo) (calls : List StreamCall) (e slot later behind : ℕ) (unit other : List ℕ) → e < later → slot < per_event_of info
@@ -73,7 +66,7 @@ pub units_in_order : (info : BigInfo) (calls : List StreamCall) (e slot later be
     → begun info (before_event calls e) + slot < begun info (before_event calls later) + behind
 units_in_order info calls e slot later behind unit other order has is also =
     let within : begun info (before_event calls e) + slot < length (accepted (before_event calls e)) =
-    is_within (accepted (before_event calls e)) (begun info (before_event calls e) + slot) unit is in
+    slice_get_within (accepted (before_event calls e)) (begun info (before_event calls e) + slot) unit is in
     elim (cases_lt later (laid_events calls)) [
       | inl below ↦ omega (arith, begun_between info calls e later order below)
       | inr past ↦

@@ -1,6 +1,6 @@
 -- Why a source refuses a unit, by what its stream's sender says.
 use Rattle.std.proofs.Common.{ℕ, ◌≡◌, ◌<◌, ◌≤◌, ◌-◌, Bool, true, false, not, Option, Some, None, List, length, get_or, arith, ◌∙◌, ap, sym, refl, subst, inl, inr}
-use Rattle.std.proofs.lemmas.Bool.{cases_lt, eq-eqb, ne_eqb, le-leb, lt-leb, le-ltb, lt-ltb}
+use Rattle.std.proofs.lemmas.Bool.{cases_lt, eq-eqb, ne_eqb, le-leb, lt-leb, le-ltb, lt-ltb, and_from}
 use Rattle.std.specs.Prelude.{◌&&◌, ◌||◌, nat_le, if◌then◌else◌}
 use Rattle.big_info.specs.declared.info.BigInfo.{BigInfo}
 use Rattle.sync_reference.specs.Reference.{anchor_of}
@@ -13,10 +13,10 @@ use Rattle.source_machine.specs.Airs.{AreAirs, waiting_of}
 use Rattle.source_machine.specs.Calls.{Setup, Call, framed_calls, last_time_of, next_anchor_of, stream_calls}
 use Rattle.source_machine.specs.Faults.{give_fault, has_its_time, is_above, misfit_of, of_sender, refused_unit}
 use Rattle.source_machine.specs.Setups.{IsChecked}
+use Rattle.source_machine.specs.UnitFaults as unit_faults
 use Rattle.source_machine.specs.State.Senders.{HasTime, PutStops, SenderStands, info_of, waiting_in}
 use Rattle.source_machine.specs.State.Sources.{Source, StandsFor, Stream, StreamIs}
 use Rattle.source_machine.specs.State.Streams.{IsFit, IsSource, limit_of}
-use Rattle.source_machine.specs.declared.fault.GiveFault.TheVariants as give_faults
 use Rattle.source_machine.specs.declared.sender.Sender.{Sender}
 use Rattle.source_machine.specs.declared.sender.Sender.TheVariants.{Framed, Unframed}
 use Rattle.source_machine.proofs.Framings.{airs_only, info_is, waiting_is}
@@ -34,9 +34,6 @@ past_time : (ahead : Bool) (anchor time : ℕ) → (¬ NotPast (if ahead then No
 past_time true anchor time past = absurd (past tt)
 past_time false anchor time past = elim (cases_lt anchor time) [ inl beyond ↦ lt-leb time anchor beyond | inr within ↦ absurd (past within) ]
 
-both : (one other : Bool) → one ≡ true → other ≡ true → (one && other) ≡ true
-both one other is also = rw (is, also) refl
-
 not_both : (last : Option ℕ) (ahead : Bool) (anchor time : ℕ) → (¬ (Above last time × NotPast (if ahead then None else Some anchor) time))
     → (is_above last time && (ahead || nat_le time anchor)) ≡ false
 not_both None ahead anchor time out = past_time ahead anchor time (λ within. out (tt, within))
@@ -53,7 +50,7 @@ time_taken setup calls bis (Unframed out) time stands has = rw (eq-eqb setup.inf
 time_taken setup calls bis (Framed out) None stands has = absurd has
 time_taken setup calls bis (Framed out) (Some time) stands has =
     rw (ne_eqb setup.info.framing 0 (λ none. omega (arith, none, stands.0)))
-    (both (is_above (last_time_of setup bis calls) time) (setup.ahead || nat_le time (next_anchor_of setup calls))
+    (and_from (is_above (last_time_of setup bis calls) time) (setup.ahead || nat_le time (next_anchor_of setup calls))
     (ap (λ last. is_above last time) (sym stands.1.last) ∙ above_is out.last time has.0)
     (in_time setup.ahead (next_anchor_of setup calls) time has.1))
 
@@ -91,8 +88,8 @@ here source calls airs bis octets stream stands are source_is checked fit least 
 
 fit_fault : (source : Source) (calls : List Call) (airs : List Air) (bis : ℕ) (time : Option ℕ) (octets : List ℕ) → IsFit source.setup bis octets
     → give_fault source.setup calls airs bis time octets
-    ≡ (if not (has_its_time source.setup calls bis time) then Some give_faults.TimeOrder
-    else (if nat_le 16 (waiting_of calls airs bis) then Some give_faults.Backlog else None))
+    ≡ (if not (has_its_time source.setup calls bis time) then Some unit_faults.TimeOrder
+    else (if nat_le 16 (waiting_of calls airs bis) then Some unit_faults.Backlog else None))
 fit_fault source calls airs bis time octets fit =
     rw (le-ltb source.setup.info.num_bis bis fit.has_stream, le-ltb source.setup.info.max_sdu (length octets) fit.short) refl
 
@@ -144,7 +141,7 @@ limit_same source calls stands =
     ap (λ next. if source.setup.ahead then None else Some (anchor_of source.setup.origin source.setup.first next (iso_us_of source.setup.info))) stands.next
 
 fit_misfit : (setup : Setup) (calls : List Call) (bis : ℕ) (time : Option ℕ) (octets : List ℕ) → IsFit setup bis octets
-    → misfit_of setup calls bis time octets ≡ (if not (has_its_time setup calls bis time) then Some give_faults.TimeOrder else None)
+    → misfit_of setup calls bis time octets ≡ (if not (has_its_time setup calls bis time) then Some unit_faults.TimeOrder else None)
 fit_misfit setup calls bis time octets fit = rw (le-ltb setup.info.num_bis bis fit.has_stream, le-ltb setup.info.max_sdu (length octets) fit.short) refl
 
 own_stream : (source : Source) (calls : List Call) (bis : ℕ) (octets : List ℕ) (stream : Stream) → StandsFor calls source → IsSource source
@@ -162,7 +159,7 @@ fits_then source calls bis time octets stream stands source_is fit least is has 
 
 pub late_then : (source : Source) (calls : List Call) (bis : ℕ) (time : Option ℕ) (octets : List ℕ) (stream : Stream) → StandsFor calls source → IsSource source
     → IsFit source.setup bis octets → 1 ≤ bis → stream ≡ get_or source.streams (bis - 1) stream
-    → (¬ HasTime stream.sender time (limit_of source)) → misfit_of source.setup calls bis time octets ≡ Some give_faults.TimeOrder
+    → (¬ HasTime stream.sender time (limit_of source)) → misfit_of source.setup calls bis time octets ≡ Some unit_faults.TimeOrder
 late_then source calls bis time octets stream stands source_is fit least is lacks =
     let own = own_stream source calls bis octets stream stands source_is fit least is in
     fit_misfit source.setup calls bis time octets fit

@@ -11,19 +11,20 @@ use Rattle.std.specs.Prelude.{unwrap_or}
 use Rattle.std.specs.List.{AllZip, flat_map, range_with_len, slice_get}
 use Rattle.isoal_unframed.specs.Calls.{accept}
 use Rattle.isoal_framed.specs.Calls.{accept as accept_timed}
+use Rattle.isoal_framed.proofs.Citable.{flat_same}
 use Rattle.source_machine.specs.Airs.{Sends, airs_of, stale_in, stale_of, stale_on}
 use Rattle.source_machine.specs.Calls.{Setup, Call, give, event, framed_calls, laid_before, laid_with, lay_anchor, stream_calls}
 use Rattle.source_machine.specs.Setups.{IsChecked}
 use Rattle.source_machine.specs.State.Sources.{Source, StandsFor, Stream, StreamIs, StreamStands, StreamsAre}
 use Rattle.source_machine.specs.State.Streams.{Accepts, AllTell, IsSource, Lays, LaysNext, Performs, sent_at, told_by}
 use Rattle.source_machine.specs.declared.laying.Laying.{Laying}
+use Rattle.source_machine.specs.declared.sent.Sent.{Sent}
 use Rattle.source_machine.specs.declared.sent.Stale.{Stale}
 use Rattle.source_machine.specs.declared.setup.Identity.{Identity}
 use Rattle.source_machine.proofs.Advances.{IsNext, is_next, streams_next}
 use Rattle.source_machine.proofs.FramedCalls.{timed_other, timed_same}
 use Rattle.source_machine.proofs.Framings.{air_at, airs_only}
 use Rattle.source_machine.proofs.Histories.{given_other, given_same}
-use Rattle.source_machine.proofs.Lists.{flat_same}
 use Rattle.source_machine.proofs.Sending.{event_sends, gathered_count}
 
 pub stands_new : (setup : Setup) (streams : List Stream) → ((k : ℕ) (none : Stream) → k < length streams → StreamStands setup.info (k + 1) [] [] (get_or streams k none))
@@ -121,13 +122,14 @@ pub performs : (source : Source) (laying : Laying) (new : List Stream) (pdus : L
     → LaysNext source laying → AllZip (Lays laying.anchor laying.iso_us laying.count) source.streams new
     → AllTell laying.anchor laying.iso_us laying.count source.streams (length source.streams) [] stale
     → map Some pdus ≡ map (sent_at source.setup.info new) (range_with_len 0 (source.setup.info.num_bis * source.setup.info.nse))
-    → Performs source (record source { next = source.next + 1; streams = new }) pdus stale
+    → (let sent : Sent = record { event = source.next; pdus = pdus; stale = stale } in Performs source (record source { next = source.next + 1; streams = new }) sent)
 performs source laying new pdus stale is checked next laid tells gathered = record {
+  is_next = refl;
   next = refl;
   failed = refl;
   count = gathered_count (sent_at source.setup.info new) pdus (source.setup.info.num_bis * source.setup.info.nse) gathered;
   stands = λ calls stands. stands_event source calls laying new checked stands next laid;
-  sent = λ calls airs stands are.
+  sends = λ calls airs stands are.
       let after = stands_event source calls laying new checked stands next laid in
       let long : length new ≡ source.setup.info.num_bis =
       sym (length_all_zip (Lays laying.anchor laying.iso_us laying.count) source.streams new laid) ∙ is.streams in

@@ -16,6 +16,10 @@ use Rattle.isoal_framed.specs.Filling.{framed_air}
 use Rattle.source_machine.specs.Calls.{Setup, Call, framed_calls, given, laid_with, stream_calls}
 use Rattle.source_machine.specs.declared.sent.Stale.{Stale}
 
+-- the airs of the streams of a source, by what fixes it and by the calls that it took
+abbrev pub Airs : Type 0
+Airs = Setup → List Call → List Air
+
 -- the air of a stream after these calls, by the framing of the group
 pub record IsAir (setup : Setup) (calls : List Call) (bis : ℕ) (air : Air) : Type 0 where
   pub unframed : setup.info.framing ≡ 0 → air ≡ unframed_air setup.info (stream_calls setup.info bis calls)

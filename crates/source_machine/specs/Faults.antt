@@ -11,6 +11,8 @@ use Rattle.source_machine.specs.Calls.{Setup, Call, events, last_time_of, next_a
 use Rattle.source_machine.specs.Airs.{waiting_of}
 use Rattle.big_info.specs.declared.info.BigInfo.{BigInfo}
 use Rattle.source_machine.specs.Ciphers.{IsBadFor}
+use Rattle.source_machine.specs.UnitFaults as unit_faults
+use Rattle.source_machine.specs.UnitFaults.{UnitFault}
 use Rattle.source_machine.specs.declared.fault.ConfigureFault.{ConfigureFault}
 use Rattle.source_machine.specs.declared.fault.ConfigureFault.TheVariants as configure_faults
 use Rattle.source_machine.specs.declared.fault.GiveFault.{GiveFault}
@@ -44,19 +46,19 @@ has_its_time setup calls bis time = if setup.info.framing == 0 then is_none time
 
 -- why a unit is refused: the group has no such stream, the unit has more than Max_SDU octets, it hasn't the time that its
 -- framing wants, 16 units of the stream wait
-abbrev pub give_fault : Setup → List Call → List Air → ℕ → Option ℕ → List ℕ → Option GiveFault
+abbrev pub give_fault : Setup → List Call → List Air → ℕ → Option ℕ → List ℕ → Option UnitFault
 give_fault setup calls airs bis time octets =
-    if nat_lt setup.info.num_bis bis then Some give_faults.NoSuchBis
-    else (if nat_lt setup.info.max_sdu (length octets) then Some give_faults.UnitTooLong
-    else (if not (has_its_time setup calls bis time) then Some give_faults.TimeOrder
-    else (if nat_le 16 (waiting_of calls airs bis) then Some give_faults.Backlog else None)))
+    if nat_lt setup.info.num_bis bis then Some unit_faults.NoSuchBis
+    else (if nat_lt setup.info.max_sdu (length octets) then Some unit_faults.UnitTooLong
+    else (if not (has_its_time setup calls bis time) then Some unit_faults.TimeOrder
+    else (if nat_le 16 (waiting_of calls airs bis) then Some unit_faults.Backlog else None)))
 
 -- why a unit is refused however few wait
-abbrev pub misfit_of : Setup → List Call → ℕ → Option ℕ → List ℕ → Option GiveFault
+abbrev pub misfit_of : Setup → List Call → ℕ → Option ℕ → List ℕ → Option UnitFault
 misfit_of setup calls bis time octets =
-    if nat_lt setup.info.num_bis bis then Some give_faults.NoSuchBis
-    else (if nat_lt setup.info.max_sdu (length octets) then Some give_faults.UnitTooLong
-    else (if not (has_its_time setup calls bis time) then Some give_faults.TimeOrder else None))
+    if nat_lt setup.info.num_bis bis then Some unit_faults.NoSuchBis
+    else (if nat_lt setup.info.max_sdu (length octets) then Some unit_faults.UnitTooLong
+    else (if not (has_its_time setup calls bis time) then Some unit_faults.TimeOrder else None))
 
 -- why the next event is refused: payload numbers of it or of the H events behind it would pass 2^39
 abbrev pub event_fault : Setup → List Call → Option EventFault
@@ -76,12 +78,19 @@ air_fault setup calls back bis subevent =
     else (if nat_le (events calls) back then Some NotOnAir else None))
 
 -- what an answer says was refused; want of memory is no refusal
-abbrev pub refused_unit : GiveFault → Option GiveFault
-refused_unit give_faults.NoSuchBis = Some give_faults.NoSuchBis
-refused_unit give_faults.UnitTooLong = Some give_faults.UnitTooLong
-refused_unit give_faults.TimeOrder = Some give_faults.TimeOrder
-refused_unit give_faults.Backlog = Some give_faults.Backlog
+abbrev pub refused_unit : GiveFault → Option UnitFault
+refused_unit give_faults.NoSuchBis = Some unit_faults.NoSuchBis
+refused_unit give_faults.UnitTooLong = Some unit_faults.UnitTooLong
+refused_unit give_faults.TimeOrder = Some unit_faults.TimeOrder
+refused_unit give_faults.Backlog = Some unit_faults.Backlog
 refused_unit give_faults.Memory = None
+
+-- the answer that says so
+abbrev pub answer_of : UnitFault → GiveFault
+answer_of unit_faults.NoSuchBis = give_faults.NoSuchBis
+answer_of unit_faults.UnitTooLong = give_faults.UnitTooLong
+answer_of unit_faults.TimeOrder = give_faults.TimeOrder
+answer_of unit_faults.Backlog = give_faults.Backlog
 
 abbrev pub refused_event : EventFault → Option EventFault
 refused_event event_faults.CounterEnds = Some event_faults.CounterEnds

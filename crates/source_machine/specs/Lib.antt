@@ -4,3 +4,4 @@ pub mod Ciphers
 pub mod Faults
 pub mod Setups
 pub mod State
+pub mod UnitFaults

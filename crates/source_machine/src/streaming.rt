@@ -1,4 +1,5 @@
 ghost use Rattle.std.specs.Prelude.{◌≡◌, ◌≤◌, ◌<◌, ◌+◌, ◌-◌, ◌*◌, ◌%◌, ◌^◌, ◌∷◌, ◌↔◌, ℕ, List, length, Option, Some, None, is_some, true, false, IfOk, IfErr, IsTrue, OnOk, OnErr};
+ghost use Rattle.std.specs.Option.{option_map};
 ghost use Rattle.announcement_train.specs.Layout.{IsTrain};
 ghost use Rattle.announcement_train.specs.Told.{Tells};
 ghost use Rattle.big_info.specs.Schedule.{horizon_of};
@@ -9,14 +10,13 @@ ghost use Rattle.iso_pdu.specs.Layout.{control};
 ghost use Rattle.iso_pdu.specs.Spelling.{pdu};
 ghost use Rattle.sync_reference.specs.Reference.{anchor_of};
 ghost use Rattle.isoal_base.specs.Air.{Air};
-ghost use Rattle.source_machine.specs.Airs.{AreAirs, Sends, stale_of};
-ghost use Rattle.source_machine.specs.Calls.{Call, give as gives, event as performs, next_anchor_of, next_of};
-ghost use Rattle.source_machine.specs.Faults.{announce_fault, event_fault, give_fault, misfit_of, refused_event, refused_train, refused_unit};
+ghost use Rattle.source_machine.specs.Airs.{AreAirs};
+ghost use Rattle.source_machine.specs.Calls.{Call, give as gives, next_anchor_of, next_of};
+ghost use Rattle.source_machine.specs.Faults.{announce_fault, answer_of, give_fault, misfit_of, refused_train, refused_unit};
 ghost use Rattle.source_machine.specs.Setups.{IsChecked};
-ghost use Rattle.source_machine.specs.State.Sources.{AfterFault, StandsFor, anchor_in, configured_in, group_in};
-ghost use Rattle.source_machine.specs.State.Streams.{IsFit, LaysNext, Performs, limit_of};
+ghost use Rattle.source_machine.specs.State.Sources.{StandsFor, anchor_in, configured_in, group_in};
+ghost use Rattle.source_machine.specs.State.Streams.{IsAsSetUp, IsFit, LaysNext, MayPerform, Performs, Refuses, limit_of};
 ghost use Rattle.source_machine.specs.declared.fault.AnnounceFault.TheVariants.{Memory as AnnounceMemory};
-ghost use Rattle.source_machine.specs.declared.fault.EventFault.TheVariants.{Memory as EventMemory};
 ghost use Rattle.source_machine.specs.declared.fault.GiveFault.TheVariants.{Memory as GiveMemory};
 
 use crate::configured::SourceConfigured;
@@ -114,7 +114,8 @@ impl SourceStreaming {
 
     /// Why a unit would be refused however few wait: the first of NoSuchBis, UnitTooLong and TimeOrder that holds, as `give` has them.
     pub fn misfit(&self, bis: Bis, time: Option<u64>, octets: &[u8]) -> Option<GiveFault>
-        ensures { (calls : List Call) → StandsFor calls self.now → result ≡ misfit_of self.now.setup calls bis time octets.now }
+        ensures { (calls : List Call) → StandsFor calls self.now
+            → result ≡ option_map answer_of (misfit_of self.now.setup calls bis time octets.now) }
     {
         match self.check_unit(bis, octets) {
             Ok(()) => {}
@@ -135,24 +136,10 @@ impl SourceStreaming {
     /// source of an encrypted group performs none.
     pub fn event(&mut self) -> Result<Sent, EventFault>
         requires { self.old.cipher ≡ None }
-        ensures identity { self.new.identity ≡ self.old.identity }
-        ensures announced { (self.new.base ≡ self.old.base) × (self.new.cipher ≡ self.old.cipher) }
-        ensures setup { self.new.setup ≡ self.old.setup }
-        ensures ok { OnOk result ((calls : List Call) → StandsFor calls self.old
-            → (event_fault self.old.setup calls ≡ None) × StandsFor (performs ∷ calls) self.new) }
-        ensures event { IfOk result (λ sent. (sent.event ≡ self.old.next) × (self.new.next ≡ self.old.next + 1)) }
-        ensures pdus { IfOk result (λ sent. (calls : List Call) (airs : List Air) → StandsFor calls self.old
-            → AreAirs self.old.setup (performs ∷ calls) airs
-            → Sends self.old.setup airs sent.event sent.pdus) }
-        ensures count { IfOk result (λ sent. length sent.pdus ≡ self.old.setup.info.num_bis * self.old.setup.info.nse) }
-        ensures stale { IfOk result (λ sent. (calls : List Call) (airs : List Air) → StandsFor calls self.old
-            → AreAirs self.old.setup (performs ∷ calls) airs
-            → sent.stale ≡ stale_of self.old.setup calls airs) }
-        ensures err { IfErr result (λ fault. AfterFault fault self.old self.new) }
-        ensures cause { IfErr result (λ fault. (calls : List Call) → StandsFor calls self.old
-            → event_fault self.old.setup calls ≡ refused_event fault) }
-        ensures failed { self.old.failed ≡ true → IfErr result (λ fault. fault ≡ EventMemory) }
-        ensures works { OnOk result (self.old.failed ≡ false) }
+        ensures same { IsAsSetUp self.old self.new }
+        ensures permitted { OnOk result (MayPerform self.old) }
+        ensures performed { IfOk result (λ sent. Performs self.old self.new sent) }
+        ensures refused { IfErr result (λ fault. Refuses self.old self.new fault) }
         ensures checked { IsChecked self.old.setup.info }
     {
         if self.has_failed {
@@ -290,12 +277,9 @@ impl SourceStreaming {
     /// Lays the next event and the H events behind it, and counts it.
     fn perform(&mut self) -> Result<Sent, Memory>
         requires { self.old.next < 2 ^ 39 }
-        ensures ok { IfOk result (λ sent. Performs self.old self.new sent.pdus sent.stale) }
-        ensures event { IfOk result (λ sent. sent.event ≡ self.old.next) }
-        ensures identity { self.new.identity ≡ self.old.identity }
-        ensures announced { (self.new.base ≡ self.old.base) × (self.new.cipher ≡ self.old.cipher) }
-        ensures setup { self.new.setup ≡ self.old.setup }
-        ensures same { OnErr result (self.new.next ≡ self.old.next) }
+        ensures performed { IfOk result (λ sent. Performs self.old self.new sent) }
+        ensures same { IsAsSetUp self.old self.new }
+        ensures uncounted { OnErr result (self.new.next ≡ self.old.next) }
     {
         let laying = self.next_laying();
         let mut stale = StaleList::new(self.alloc);
@@ -311,9 +295,9 @@ impl SourceStreaming {
     fn check_unit(&self, bis: Bis, octets: &[u8]) -> Result<(), GiveFault>
         ensures ok { OnOk result (IsFit self.now.setup bis octets.now) }
         ensures err { IfErr result (λ fault. (calls : List Call) (airs : List Air) (time : Option ℕ)
-            → (give_fault self.now.setup calls airs bis time octets.now ≡ Some fault) × (refused_unit fault ≡ Some fault)) }
+            → give_fault self.now.setup calls airs bis time octets.now ≡ refused_unit fault) }
         ensures misfit { IfErr result (λ fault. (calls : List Call) (time : Option ℕ)
-            → misfit_of self.now.setup calls bis time octets.now ≡ Some fault) }
+            → Some fault ≡ option_map answer_of (misfit_of self.now.setup calls bis time octets.now)) }
     {
         if bis.get() > self.plan.group.info.num_bis {
             return Err(GiveFault::NoSuchBis);

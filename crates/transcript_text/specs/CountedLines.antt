@@ -1,10 +1,7 @@
 -- The lines of a text, each with the octet that ends it. What stands behind the last of these is a line too, without an end.
 -- The transcript and its summary are this project's own.
 use Rattle.std.specs.Prelude.{ℕ, ◌≡◌, ◌==◌, List, [], ◌∷◌, ◌++◌, if◌then◌else◌}
-
--- the octet that ends a line
-abbrev pub newline : ℕ
-newline = 10
+use Rattle.transcript_text.specs.Lines.{newline}
 
 -- an octet at the front of the first line
 abbrev pub onto_first : ℕ → List (List ℕ) → List (List ℕ)

@@ -1,20 +1,11 @@
--- Calls of a receiver as a history.
-use Rattle.std.specs.Prelude.{ℕ, ◌≤◌, ◌≡◌, List, [], ◌∷◌, ◌++◌, length, take}
+-- Where a receiver stands whose taker failed in a list of calls.
+use Rattle.std.specs.Prelude.{ℕ, ◌≤◌, ◌≡◌, List, ◌++◌, length, take}
 use Rattle.unit_outlets.specs.Handed.{Handed}
-use Rattle.isoal_base.specs.Stays.{Call, hear, close}
+use Rattle.isoal_base.specs.Runs.{after_all}
+use Rattle.isoal_base.specs.Stays.{Call}
 use Rattle.isoal_framed.specs.Histories.{decided}
 use Rattle.isoal_framed.specs.State.Windows.{Window, Stands}
-use Rattle.isoal_framed.specs.declared.in_call.InCall.{InCall}
-use Rattle.isoal_framed.specs.declared.in_call.InCall.TheVariants.{Hear, Close}
-
-abbrev pub call_of : InCall → Call
-call_of (Hear number pdu) = hear number pdu.now
-call_of Close = close
-
--- the history after these calls, the oldest of them first
-abbrev pub after_all : List InCall → List Call → List Call
-after_all [] past = past
-after_all (call ∷ calls) past = after_all calls (call_of call ∷ past)
+use Rattle.isoal_base.specs.declared.in_call.InCall.{InCall}
 
 -- a fault of the taker: some first calls were made, and a front of what they hand was handed
 pub record Stopped (calls : List InCall) (past : List Call) (before : List Handed) (window : Window) (now : List Handed) : Type 0 where

@@ -1,8 +1,8 @@
 -- What a receiver of a framed stream holds, and what it hands as an event is closed.
-use Rattle.std.specs.Prelude.{ℕ, ◌+◌, ◌<◌, ◌≡◌, List, ◌++◌, length, take, drop, replicate, Option, None, Result, Ok, Err}
+use Rattle.std.specs.Prelude.{ℕ, ◌+◌, ◌≡◌, List, ◌++◌, take, drop, replicate, Option, None, Result, Ok, Err}
 use Rattle.std.specs.List.{flat_map}
 use Rattle.iso_pdu.specs.Layout.{Part}
-use Rattle.unit_outlets.specs.Handed.{Handed, Counts, Caused}
+use Rattle.unit_outlets.specs.Handed.{Handed, HandsOver, Counts, Caused}
 use Rattle.unit_outlets.specs.declared.fault.TakerFault.{TakerFault}
 use Rattle.isoal_base.specs.Stays.{Stay, Call, StandsFor}
 use Rattle.isoal_base.specs.Hearing.{read_as, kept_after}
@@ -42,11 +42,6 @@ after_close window = record window {
 
 abbrev pub owed : Window → List Handed
 owed window = hands window.stay.info.max_sdu window.stay.bis window.run (tokens_in window)
-
--- all units were handed; after a fault of the taker, all before the unit that it refused
-abbrev pub HandsOver : List Handed → List Handed → List Handed → Result (Unit {0}) TakerFault → Type 0
-HandsOver units old new (Ok _) = new ≡ old ++ units
-HandsOver units old new (Err fault) = (n : ℕ) × (n < length units) × (new ≡ old ++ take n units)
 
 -- the same where the taker was called before: once it has refused a unit it is not called any more
 abbrev pub HandsOn : List Handed → Result (Unit {0}) TakerFault → List Handed → List Handed → Result (Unit {0}) TakerFault → Type 0

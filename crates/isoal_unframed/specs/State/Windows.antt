@@ -1,13 +1,12 @@
 -- What a receiver of an unframed stream holds, and what it hands up as an event is closed (Core 5.2, volume 6 part G,
 -- sections 2.1 and 3.2).
-use Rattle.std.specs.Prelude.{ℕ, ◌+◌, ◌*◌, ◌<◌, ◌≡◌, List, ◌++◌, length, map, take, drop, replicate, Option, Some, None, Result, Ok, Err}
+use Rattle.std.specs.Prelude.{ℕ, ◌+◌, ◌*◌, List, ◌++◌, map, take, drop, replicate, Option, Some, None}
 use Rattle.std.specs.List.{range_with_len, sum}
 use Rattle.big_info.specs.Schedule.{per_event_of, per_unit_of}
 use Rattle.big_info.specs.Time.{iso_us_of}
 use Rattle.iso_pdu.specs.Layout.{Content}
 use Rattle.sync_reference.specs.Reference.{anchor_of, unframed_reference_of, render_of}
 use Rattle.unit_outlets.specs.Handed.{Handed, valid, lost}
-use Rattle.unit_outlets.specs.declared.fault.TakerFault.{TakerFault}
 use Rattle.isoal_base.specs.Stays.{Stay, Call, StandsFor}
 use Rattle.isoal_base.specs.Hearing.{read_as, kept_after}
 use Rattle.isoal_unframed.specs.Units.{unframed, unit_of, held_in}
@@ -56,11 +55,6 @@ owed_of stay event kept = map (owed_at stay event kept) (range_with_len 0 (per_e
 
 abbrev pub owed : Window → List Handed
 owed window = owed_of window.stay window.event window.kept
-
--- all that was owed was handed; after a fault of the taker, all before the unit that it refused
-abbrev pub HandsOver : List Handed → List Handed → List Handed → Result (Unit {0}) TakerFault → Type 0
-HandsOver units old new (Ok _) = new ≡ old ++ units
-HandsOver units old new (Err fault) = (n : ℕ) × (n < length units) × (new ≡ old ++ take n units)
 
 -- the octets held of the units of the open event
 abbrev pub held_at : Stay → List (Option Content) → ℕ → ℕ

@@ -4,10 +4,10 @@ use Rattle.std.specs.Prelude.{ℕ, ◌≡◌, ◌≤◌, ◌⊎◌, true, List, 
 use Rattle.std.specs.Borrow.{MutBor}
 use Rattle.bcast_base.specs.declared.unit.Unit.{Unit as AudioUnit}
 use Rattle.isoal_base.specs.Air.{Air}
-use Rattle.source_machine.specs.Airs.{AreAirs}
+use Rattle.source_machine.specs.Airs.{AreAirs, Airs}
 use Rattle.source_machine.specs.Calls.{Call}
 use Rattle.source_machine.specs.State.Sources.{Source, StandsFor}
-use Rattle.relay_role.specs.Relayed.{Airs, MeetAfter, Second, stopped, streaming, after_offers, dropped_from, refusal_of, taken_unless, told}
+use Rattle.relay_role.specs.Relayed.{MeetAfter, Second, stopped, streaming, after_offers, dropped_from, refusal_of, taken_unless, told}
 use Rattle.relay_role.specs.State.Relays.{Relay}
 use Rattle.relay_role.specs.declared.dropped.DropName.{DropName}
 use Rattle.relay_role.specs.declared.dropped.DropName.TheVariants.{NotStreaming}

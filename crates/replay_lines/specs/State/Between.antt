@@ -20,6 +20,7 @@ use Rattle.replay_lines.specs.declared.ending.Ending.TheVariants as endings
 use Rattle.replay_steps.specs.LineMeets.{LinesStand}
 use Rattle.replay_lines.specs.Replayed.{TextRead, Comes, ReadsAhead}
 use Rattle.replay_lines.specs.Ended.{Ended}
+use Rattle.replay_lines.specs.Heard.{as_told}
 
 -- A run took so many octets from its source that the reader passed these lines, and nothing of the next: whatever
 -- follows, the lines of all are these and then those that the reader gives.
@@ -73,8 +74,15 @@ abbrev pub StepRuns : List Account → List TextLine → Option (List ℕ) → O
 StepRuns starts lines left left' kept kept' machine accounts None = RunTo starts lines kept kept' machine accounts
 StepRuns starts lines left left' kept kept' machine accounts (Some ending) = Ended airs_of ending starts accounts left left' kept kept'
 
--- the next line was read and run, or the run ended
-abbrev pub LineRuns : List Account → List TextLine → Option (List ℕ) → Option (List ℕ) → Option (List ℕ) → Option (List ℕ) → Reading → Machine → List Account → Option Ending → Type 0
-LineRuns starts lines left left' kept kept' reader machine accounts None =
+-- the same beside a listener that may fail (`true`) or may not
+abbrev pub StepHeard : Bool → List Account → List TextLine → Option (List ℕ) → Option (List ℕ) → Option (List ℕ) → Option (List ℕ) → Machine → List Account → Option Ending → Type 0
+StepHeard may_fail starts lines left left' kept kept' machine accounts None = RunTo starts lines kept kept' machine accounts
+StepHeard may_fail starts lines left left' kept kept' machine accounts (Some ending) =
+    Ended airs_of (as_told may_fail ending) starts accounts left left' kept kept'
+
+-- the next line was read and run beside such a listener, or the run ended
+abbrev pub LineRuns : Bool → List Account → List TextLine → Option (List ℕ) → Option (List ℕ) → Option (List ℕ) → Option (List ℕ) → Reading → Machine → List Account → Option Ending → Type 0
+LineRuns may_fail starts lines left left' kept kept' reader machine accounts None =
     (line : TextLine) × ReadTo left left' (line ∷ lines) reader × RunTo starts (line ∷ lines) kept kept' machine accounts
-LineRuns starts lines left left' kept kept' reader machine accounts (Some ending) = Ended airs_of ending starts accounts left left' kept kept'
+LineRuns may_fail starts lines left left' kept kept' reader machine accounts (Some ending) =
+    Ended airs_of (as_told may_fail ending) starts accounts left left' kept kept'

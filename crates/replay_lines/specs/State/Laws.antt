@@ -2,11 +2,10 @@
 use Rattle.std.specs.Prelude.{◌≡◌, List, ◌∷◌}
 use Rattle.bcast_io.specs.TextLines.{TextLine}
 use Rattle.unit_outlets.specs.Account.{Account}
-use Rattle.source_machine.specs.Airs.{airs_of}
+use Rattle.source_machine.specs.Airs.{airs_of, Airs}
 use Rattle.scenario_history.specs.Runs.{Accepted}
 use Rattle.scenario_history.specs.Airs.{MeetAirs}
 use Rattle.scenario_history.specs.Lines.{handed_on, rules_of}
-use Rattle.scenario_history.specs.Source.{Airs}
 use Rattle.scenario_history.specs.Transcript.{end_after, out_of, transcript_end, transcript_of, units_of}
 use Rattle.scenario_laws.specs.Isolation.{IsolationLaw}
 use Rattle.scenario_laws.specs.Versions.{MigrationLaw}

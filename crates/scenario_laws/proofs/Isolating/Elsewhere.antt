@@ -1,19 +1,20 @@
 -- A line that means another source, and puts the sink on no train and no group, changes nothing of the sink and of the source.
 use Rattle.std.proofs.Common.{ℕ, ◌≡◌, ◌≢◌, ◌==◌, ◌&&◌, ◌||◌, ◌∙◌, cond, not, Bool, true, false, List, [], ◌∷◌, Option, None, Some, refl}
 use Rattle.std.proofs.Common.{sym, ap}
-use Rattle.std.proofs.lemmas.Bool.{and_right, false≢true, ne_eqb}
+use Rattle.std.proofs.lemmas.Bool.{and_right, false≢true, ne_eqb, cond-false}
 use Rattle.delegator_machine.specs.Groups.{joining_brought, with_leave, with_step}
 use Rattle.delegator_history.specs.States.{train_heard}
 use Rattle.delegator_history.specs.Sights.{Sight}
 use Rattle.delegator_history.specs.Trains.{Brought, Train, brought_by, heard, ignored, taken}
 use Rattle.group_sink.specs.Calls.{Call, hear, tune}
-use Rattle.link_history.specs.Calls as links
+use Rattle.sink_history.specs.Calls as links
 use Rattle.delegator_control.specs.Groups.{has_group}
 use Rattle.scenario_text.specs.declared.step.Step.{Step}
 use Rattle.scenario_text.specs.declared.step.Step.TheVariants as steps
 use Rattle.scenario_history.specs.Boxes.{box_of, handed_by}
 use Rattle.scenario_history.specs.Sinks.{hear_at, heard_on_air, is_of, sink_calls, source_of, spots_of, ticked_if, tuning_of}
-use Rattle.scenario_history.specs.Source.{Airs, event_back, open_event}
+use Rattle.scenario_history.specs.Source.{event_back, open_event}
+use Rattle.source_machine.specs.Airs.{Airs}
 use Rattle.scenario_history.specs.Steps.{chosen_given, chosen_of, chosen_steps, is_common, is_of_source, is_source_line}
 use Rattle.scenario_history.specs.Worlds.{life, source_at}
 use Rattle.sink_history.specs.Lives.{Made, Source, given_train, lived_by, made_of, own_train, version_given}
@@ -25,20 +26,13 @@ use Rattle.scenario_laws.proofs.Isolating.Left.{Leaves, lives_equal, lives_itsel
 use Rattle.scenario_laws.proofs.Isolating.Said.{said_elsewhere}
 use Rattle.scenario_laws.proofs.Isolating.Same.{LivesAlike}
 use Rattle.scenario_laws.proofs.Isolating.Units.{closing_none}
+use Rattle.scenario_laws.proofs.Moves.{same_if}
 
 -- ---- tests
 
-miss : {A : Type 0} (hit : Bool) (x y : A) → hit ≡ false → cond hit x y ≡ y
-miss true x y other = absurd (false≢true (sym other))
-miss false x y other = refl
-
 miss_both : {A : Type 0} (hit more : Bool) (x y : A) → (hit && more) ≡ false → cond hit (cond more x y) y ≡ y
-miss_both true more x y other = miss more x y other
+miss_both true more x y other = cond-false more x y other
 miss_both false more x y other = refl
-
-if_same : {A : Type 0} (hit : Bool) (x : A) → cond hit x x ≡ x
-if_same true x = refl
-if_same false x = refl
 
 -- ---- a source line is no common step, and neither makes nor drops a sink
 
@@ -102,18 +96,18 @@ life_stays : (n : ℕ) (step : Step) (made : List Step) → is_source_line step 
     → LivesAlike (made_of n made) (life n (step ∷ made)) (life n made)
 life_stays n (steps.Tuned sink which) made is not =
     lives_equal (made_of n made) (life n (steps.Tuned sink which ∷ made)) (life n made)
-    (miss (sink == n) (lived_by (source_at made) (steps.Tuned sink which) (made_of n made) (life n made)) (life n made) not)
+    (cond-false (sink == n) (lived_by (source_at made) (steps.Tuned sink which) (made_of n made) (life n made)) (life n made) not)
 life_stays n (steps.Announce sink) made is not =
     train_lives (sink == n) (source_at made) (own_train (source_at made)) (made_of n made) (life n made) not
 life_stays n (steps.Train sink time ext adv acad) made is not =
     train_lives (sink == n) (source_at made) (given_train (source_at made) time ext adv acad) (made_of n made) (life n made) not
 life_stays n (steps.Hear sink back bis subevent) made is not =
-    lives_equal (made_of n made) (life n (steps.Hear sink back bis subevent ∷ made)) (life n made) (if_same (sink == n) (life n made))
+    lives_equal (made_of n made) (life n (steps.Hear sink back bis subevent ∷ made)) (life n made) (same_if (sink == n) (life n made))
 life_stays n (steps.Air sink lose) made is not =
-    lives_equal (made_of n made) (life n (steps.Air sink lose ∷ made)) (life n made) (if_same (sink == n) (life n made))
+    lives_equal (made_of n made) (life n (steps.Air sink lose ∷ made)) (life n made) (same_if (sink == n) (life n made))
 life_stays n (steps.Inject sink back bis subevent octets) made is not =
     lives_equal (made_of n made) (life n (steps.Inject sink back bis subevent octets ∷ made)) (life n made)
-    (if_same (sink == n) (life n made))
+    (same_if (sink == n) (life n made))
 life_stays n (steps.Group framing origin delay iso sdu max_sdu max_pdu num_bis bn nse irc pto sub spacing phy) made is not =
     lives_itself (made_of n made) (life n made)
 life_stays n (steps.Ident address_type address sid broadcast_id) made is not = lives_itself (made_of n made) (life n made)
@@ -135,7 +129,7 @@ source_stays : (n : ℕ) (step : Step) (made : List Step) → is_source_line ste
     → source_of n (step ∷ made) ≡ source_of n made
 source_stays n (steps.Sink sink streams slots mtu) made is not = absurd (false≢true is)
 source_stays n (steps.Drop sink) made is not = absurd (false≢true is)
-source_stays n (steps.Tuned sink which) made is not = miss (sink == n) (Some (chosen_of made)) (source_of n made) not
+source_stays n (steps.Tuned sink which) made is not = cond-false (sink == n) (Some (chosen_of made)) (source_of n made) not
 source_stays n (steps.Announce sink) made is not =
     miss_both (sink == n) (is_followed n made (steps.Announce sink)) (Some (chosen_of made)) (source_of n made) not
 source_stays n (steps.Train sink time ext adv acad) made is not =
@@ -152,7 +146,7 @@ close_stays airs n made apart = ap (λ its. ticked_if its (open_event (chosen_st
 calls_stay : (airs : Airs) (n : ℕ) (step : Step) (made : List Step) → is_source_line step ≡ true → puts n made step ≡ false
     → is_of (chosen_of made) (source_of n made) ≡ false → sink_calls airs n (step ∷ made) ≡ sink_calls airs n made
 calls_stay airs n (steps.Tuned sink which) made is not apart =
-    miss (sink == n) (tune (tuning_of (chosen_steps made) which) ∷ sink_calls airs n made) (sink_calls airs n made) not
+    cond-false (sink == n) (tune (tuning_of (chosen_steps made) which) ∷ sink_calls airs n made) (sink_calls airs n made) not
 calls_stay airs n (steps.Announce sink) made is not apart =
     train_received (sink == n) (source_at made) (steps.Announce sink) (own_train (source_at made)) (made_of n made) (life n made)
     (lived_by (source_at made) (steps.Announce sink) (made_of n made) (life n made)) (sink_calls airs n made) refl not
@@ -163,16 +157,16 @@ calls_stay airs n (steps.Train sink time ext adv acad) made is not apart =
     (lived_by (source_at made) (steps.Train sink time ext adv acad) (made_of n made) (life n made)) (sink_calls airs n made) refl not
     (life_stays n (steps.Train sink time ext adv acad) made is not)
 calls_stay airs n (steps.Hear sink back bis subevent) made is not apart =
-    miss ((sink == n) && is_of (chosen_of made) (source_of n made))
+    cond-false ((sink == n) && is_of (chosen_of made) (source_of n made))
     (hear_at airs (chosen_steps made) (event_back (chosen_steps made) back)
     (record { bis = bis; subevent = subevent }) ∷ sink_calls airs n made) (sink_calls airs n made)
     (and_right (sink == n) (is_of (chosen_of made) (source_of n made)) apart)
 calls_stay airs n (steps.Air sink lose) made is not apart =
-    miss ((sink == n) && is_of (chosen_of made) (source_of n made))
+    cond-false ((sink == n) && is_of (chosen_of made) (source_of n made))
     (heard_on_air airs (chosen_steps made) lose (spots_of (chosen_steps made)) (sink_calls airs n made)) (sink_calls airs n made)
     (and_right (sink == n) (is_of (chosen_of made) (source_of n made)) apart)
 calls_stay airs n (steps.Inject sink back bis subevent octets) made is not apart =
-    miss ((sink == n) && is_of (chosen_of made) (source_of n made))
+    cond-false ((sink == n) && is_of (chosen_of made) (source_of n made))
     (hear (event_back (chosen_steps made) back) bis subevent octets ∷ sink_calls airs n made)
     (sink_calls airs n made) (and_right (sink == n) (is_of (chosen_of made) (source_of n made)) apart)
 calls_stay airs n steps.Event made is not apart = close_stays airs n made apart

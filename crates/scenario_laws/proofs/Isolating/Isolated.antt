@@ -1,16 +1,16 @@
 -- The isolation law: by one induction over the steps, each of which is kept in both lists or left out of one.
 use Rattle.std.proofs.Common.{ℕ, ◌≡◌, ◌≢◌, ◌⊎◌, ◌==◌, ◌&&◌, ◌||◌, ◌∙◌, cond, not, Bool, true, false, List, [], ◌∷◌, ◌++◌, Option, None}
 use Rattle.std.proofs.Common.{Some, refl, sym, ap, subst, inl, inr}
-use Rattle.std.proofs.lemmas.Bool.{and_parts, eq-eqb, eqb-true, false≢true}
+use Rattle.std.proofs.lemmas.Bool.{and_parts, eq-eqb, eqb-true, false≢true, not-true}
 use Rattle.delegator_history.specs.Values.{state_at}
-use Rattle.link_history.specs.Calls.{Call}
-use Rattle.link_history.specs.Links.{language}
+use Rattle.sink_history.specs.Calls.{Call}
+use Rattle.sink_history.specs.Links.{language}
 use Rattle.assistant_machine.specs.Links.{view_of, waits_of}
 use Rattle.scenario_text.specs.declared.step.Step.{Step}
 use Rattle.scenario_text.specs.declared.step.Step.TheVariants as steps
 use Rattle.unit_outlets.specs.Account.{Account}
 use Rattle.scenario_history.specs.Lines.{steps_of}
-use Rattle.scenario_history.specs.Source.{Airs}
+use Rattle.source_machine.specs.Airs.{Airs}
 use Rattle.scenario_history.specs.Steps.{chosen_of, is_common, is_source_line}
 use Rattle.scenario_history.specs.Worlds.{life}
 use Rattle.sink_history.specs.Lives.{Made}
@@ -22,7 +22,7 @@ use Rattle.scenario_laws.proofs.Isolating.Left.{another_sink, left_out}
 use Rattle.scenario_laws.proofs.Isolating.Lines.{replied_same}
 use Rattle.scenario_laws.proofs.Isolating.Lives.{Alike, notices_same, waiting_same}
 use Rattle.scenario_laws.proofs.Isolating.Same.{LivesAlike, Same}
-use Rattle.scenario_laws.proofs.Isolating.Printed.{lines_same}
+use Rattle.scenario_laws.proofs.Isolating.Printed.{lines_same, append_same}
 
 -- ---- why a step is left out
 
@@ -87,15 +87,11 @@ means s n step made is line =
     (means_by (is_common step || chooses step) (is_source_line step) (chosen_of made == s) (is_other n (sink_in step))
     (is_sink n (sink_in step)) is (no_line step) line)
 
-true_not : (b : Bool) → not b ≡ true → b ≡ false
-true_not true is = absurd (false≢true is)
-true_not false is = refl
-
 names_by : (common line chosen other its : Bool) → cond common true (cond line (chosen && not other) its) ≡ true
     → (common ≡ true → other ≡ false) → (its ≡ true → other ≡ false)
     → other ≡ false
 names_by true line chosen other its is common_not its_not = common_not refl
-names_by false true chosen other its is common_not its_not = true_not other (and_parts chosen (not other) is).1
+names_by false true chosen other its is common_not its_not = not-true other (and_parts chosen (not other) is).1
 names_by false false chosen other its is common_not its_not = its_not is
 
 names_none : (n : ℕ) (step : Step) → (is_common step || chooses step) ≡ true → is_other n (sink_in step) ≡ false
@@ -148,9 +144,6 @@ same_of airs s n (step ∷ made) puts_not =
     same_if airs s n step made (is_kept s n made step) refl puts_not.1 (same_of airs s n made puts_not.0)
 
 -- ---- what the kept steps print
-
-append_same : (xs ys xs' ys' : List ℕ) → xs ≡ xs' → ys ≡ ys' → xs ++ ys ≡ xs' ++ ys'
-append_same xs ys xs' ys' first rest = ap (λ ls. ls ++ ys) first ∙ ap (λ ls. xs' ++ ls) rest
 
 lines_if : (airs : Airs) (s n : ℕ) (step : Step) (made : List Step) (hit : Bool) → is_kept s n made step ≡ hit
     → Same airs s n made (only s n made)

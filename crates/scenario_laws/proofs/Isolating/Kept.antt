@@ -10,7 +10,8 @@ use Rattle.scenario_text.specs.declared.step.Step.TheVariants as steps
 use Rattle.scenario_history.specs.Boxes.{box_of, closing, handed_by, handed_up}
 use Rattle.scenario_history.specs.Sinks.{Spot, hear_at, heard_on_air, is_of, reaches, sink_calls, source_of, spots_of, ticked_by, ticked_if}
 use Rattle.scenario_history.specs.Sinks.{tuning_of}
-use Rattle.scenario_history.specs.Source.{Airs, event_back, open_event}
+use Rattle.scenario_history.specs.Source.{event_back, open_event}
+use Rattle.source_machine.specs.Airs.{Airs}
 use Rattle.scenario_history.specs.Steps.{chosen_given, chosen_of, chosen_steps, is_source_line, sinks_made, steps_of_source}
 use Rattle.scenario_history.specs.Worlds.{life, source_at}
 use Rattle.sink_history.specs.Lives.{made_of, named_by, horizon_of, version_given}

@@ -7,16 +7,17 @@ use Rattle.std.proofs.lemmas.Bool.{false≢true}
 use Rattle.std.proofs.lemmas.List.{append-nil}
 use Rattle.delegator_history.specs.LastGiven.{last_given as last_of}
 use Rattle.group_sink.specs.Calls.{Call, hear, tune}
-use Rattle.link_history.specs.Calls as links
+use Rattle.sink_history.specs.Calls as links
 use Rattle.scenario_text.specs.declared.step.Step.{Step}
 use Rattle.scenario_text.specs.declared.step.Step.TheVariants as steps
 use Rattle.scenario_history.specs.Boxes.{box_of, handed_by, handed_up}
 use Rattle.scenario_history.specs.Sinks.{hear_at, heard_on_air, is_of, moved, sink_calls, source_of, spots_of, tuning_of}
-use Rattle.scenario_history.specs.Source.{Airs, event_back}
+use Rattle.scenario_history.specs.Source.{event_back}
+use Rattle.source_machine.specs.Airs.{Airs}
 use Rattle.scenario_history.specs.Steps.{chosen_given, chosen_of, chosen_steps, last_given, sinks_made, steps_of_source}
 use Rattle.scenario_history.specs.Worlds.{life, source_at, the_world}
 use Rattle.sink_history.specs.Lives.{Made, horizon_of, lived_at, lived_by, made_of, named_by, version_given}
-use Rattle.link_history.specs.Calls.{born}
+use Rattle.sink_history.specs.Calls.{born}
 use Rattle.sink_history.specs.Moves.{received_by, source_by}
 use Rattle.scenario_laws.specs.Isolation.{units_by}
 use Rattle.scenario_laws.specs.Only.{is_other, sink_in}

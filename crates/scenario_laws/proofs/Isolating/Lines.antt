@@ -6,10 +6,10 @@ use Rattle.delegator_history.specs.Controls as controls
 use Rattle.delegator_history.specs.Trains.{Train, answer_of, brought_by}
 use Rattle.delegator_history.specs.Values.{state_at, value}
 use Rattle.delegator_history.specs.Writes.{reply_of}
-use Rattle.link_history.specs.Calls as links
-use Rattle.link_history.specs.Calls.{Call, writes_waiting}
-use Rattle.link_history.specs.Drains.{repeated, served_out, told_out}
-use Rattle.link_history.specs.Links.{delivered, language, notices_waiting, reads_waiting}
+use Rattle.sink_history.specs.Calls as links
+use Rattle.sink_history.specs.Calls.{Call, writes_waiting}
+use Rattle.sink_history.specs.Drains.{repeated, served_out, told_out}
+use Rattle.sink_history.specs.Links.{delivered, language, notices_waiting, reads_waiting}
 use Rattle.assistant_machine.specs.Links.{view_of}
 use Rattle.scenario_text.specs.declared.step.Step.{Step}
 use Rattle.scenario_text.specs.declared.step.Step.TheVariants as steps

@@ -12,10 +12,10 @@ use Rattle.delegator_history.specs.States.{Step, done_by, sight_of, train_heard,
 use Rattle.delegator_history.specs.Steps.{after, nothing}
 use Rattle.delegator_history.specs.Trains.{Brought, Setup, Train, brought_by, done_brought, heard, ignored, taken}
 use Rattle.delegator_history.specs.Values.{value_at}
-use Rattle.link_history.specs.Calls as links
-use Rattle.link_history.specs.Calls.{Call, is_joined, joining_by, served_of, step_by, steps_of, with_step, writes, writes_waiting}
-use Rattle.link_history.specs.Drains.{drained, read_out, repeated, served_out, told_out}
-use Rattle.link_history.specs.Links.{Acts, acts_by, acts_of, language, made_all, notices_waiting, reads_waiting}
+use Rattle.sink_history.specs.Calls as links
+use Rattle.sink_history.specs.Calls.{Call, is_joined, joining_by, served_of, step_by, steps_of, with_step, writes, writes_waiting}
+use Rattle.sink_history.specs.Drains.{drained, read_out, repeated, served_out, told_out}
+use Rattle.sink_history.specs.Links.{Acts, acts_by, acts_of, language, made_all, notices_waiting, reads_waiting}
 use Rattle.assistant_machine.specs.Links.{reads_of, waiting_of}
 use Rattle.sink_history.specs.Moves.{follows}
 

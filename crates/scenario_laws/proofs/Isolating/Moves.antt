@@ -7,8 +7,8 @@ use Rattle.delegator_machine.specs.Groups.{with_step}
 use Rattle.delegator_history.specs.States.{contexts_set, control_heard, locations_set, put_on, record_added, train_heard, train_lost}
 use Rattle.delegator_history.specs.Trains.{Train, brought_by}
 use Rattle.group_sink.specs.Calls as sinks
-use Rattle.link_history.specs.Calls as links
-use Rattle.link_history.specs.Calls.{Call, born}
+use Rattle.sink_history.specs.Calls as links
+use Rattle.sink_history.specs.Calls.{Call, born}
 use Rattle.scenario_text.specs.declared.step.Step.{Step}
 use Rattle.scenario_text.specs.declared.step.Step.TheVariants as steps
 use Rattle.scenario_history.specs.Sinks.{moved}

@@ -1,7 +1,7 @@
 -- What a step prints that is kept: the same over both lists of steps.
-use Rattle.std.proofs.Common.{ℕ, ◌≡◌, ◌==◌, ◌∙◌, not, Bool, true, false, List, ◌++◌, refl, sym, ap}
+use Rattle.std.proofs.Common.{ℕ, ◌≡◌, ◌==◌, ◌∙◌, not, false, List, ◌++◌, refl, sym, ap}
 use Rattle.std.specs.List.{concat, flat_map}
-use Rattle.std.proofs.lemmas.Bool.{eqb-true, false≢true}
+use Rattle.std.proofs.lemmas.Bool.{eqb-true, not-false}
 use Rattle.group_sink.specs.Hearings.{hearing_of}
 use Rattle.isoal_base.specs.declared.hearing.Hearing.TheVariants.{NotOnGroup}
 use Rattle.scenario_text.specs.declared.step.Step.{Step}
@@ -10,7 +10,8 @@ use Rattle.transcript_text.specs.Lines.{control_line, handed_line, heard_line, p
 use Rattle.scenario_history.specs.Boxes.{closing}
 use Rattle.scenario_history.specs.Output.{injected_hearing, stale_lines}
 use Rattle.scenario_history.specs.Sinks.{is_of, sink_calls, source_of}
-use Rattle.scenario_history.specs.Source.{Airs, end_pdu, event_back, pdu_in, stale_in}
+use Rattle.scenario_history.specs.Source.{end_pdu, event_back, pdu_in, stale_in}
+use Rattle.source_machine.specs.Airs.{Airs}
 use Rattle.scenario_history.specs.Steps.{chosen_of, chosen_steps}
 use Rattle.scenario_history.specs.Worlds.{life, source_at}
 use Rattle.sink_history.specs.Lives.{made_of}
@@ -23,13 +24,9 @@ use Rattle.scenario_laws.proofs.Isolating.Said.{back_same, end_same, pdu_back_sa
 use Rattle.scenario_laws.proofs.Isolating.Same.{Same, chosen_alike, own_alike}
 use Rattle.scenario_laws.proofs.Isolating.Units.{both_alike}
 
-not_false : (b : Bool) → not b ≡ false → b ≡ true
-not_false true is = refl
-not_false false is = absurd (false≢true (sym is))
-
 -- a step that names no other sink names this one
 this_one : (sink n : ℕ) → not (sink == n) ≡ false → sink ≡ n
-this_one sink n is = eqb-true sink n (not_false (sink == n) is)
+this_one sink n is = eqb-true sink n (not-false (sink == n) is)
 
 -- ---- units
 
@@ -37,7 +34,7 @@ closing_lines : (airs : Airs) (s n : ℕ) (made others : List Step) → Same air
     → unit_lines_by n (closing airs (chosen_of made) made) ≡ unit_lines_by n (closing airs (chosen_of others) others)
 closing_lines airs s n made others same = ap (flat_map (handed_line n)) (chosen_closing airs s n made others same)
 
-append_same : (xs ys xs' ys' : List ℕ) → xs ≡ xs' → ys ≡ ys' → xs ++ ys ≡ xs' ++ ys'
+pub append_same : (xs ys xs' ys' : List ℕ) → xs ≡ xs' → ys ≡ ys' → xs ++ ys ≡ xs' ++ ys'
 append_same xs ys xs' ys' first rest = ap (λ ls. ls ++ ys) first ∙ ap (λ ls. xs' ++ ls) rest
 
 -- ---- a PDU that is injected

@@ -10,11 +10,12 @@ use Rattle.group_sink.specs.Calls.{Call, Tuning, hear}
 use Rattle.iso_pdu.specs.Control.{terminate}
 use Rattle.iso_pdu.specs.Layout.{control}
 use Rattle.iso_pdu.specs.Spelling.{pdu}
-use Rattle.scenario_bases.specs.Lines.{BaseLine, subgroups_in}
+use Rattle.announcement_train.specs.BaseLines.{BaseLine, subgroups_in}
 use Rattle.scenario_text.specs.declared.step.Step.{Step}
 use Rattle.scenario_history.specs.Bases.{base_from, base_lines, with_base_line}
 use Rattle.scenario_history.specs.Sinks.{Spot, hear_at, heard_on_air, is_lost, spot_at, spots_of, tuning_of, unless_lost}
-use Rattle.scenario_history.specs.Source.{Airs, GroupLine, Phase, absent, cipher_given, cipher_of, end_pdu, event_back, group_given}
+use Rattle.scenario_history.specs.Source.{GroupLine, Phase, absent, cipher_given, cipher_of, end_pdu, event_back, group_given}
+use Rattle.source_machine.specs.Airs.{Airs, pdu_of, stale_of}
 use Rattle.scenario_history.specs.Source.{group_of, ident_of, identity_given}
 use Rattle.scenario_history.specs.Source.{is_ahead_in, is_sending_at, no_group, no_identity, open_event, pdu_in, phase_given, setup_from}
 use Rattle.scenario_history.specs.Source.{setup_of, source_calls}
@@ -23,7 +24,6 @@ use Rattle.scenario_history.specs.Steps.{Stage, chosen_of, chosen_steps, is_comm
 use Rattle.scenario_history.specs.Steps.{stage_after, stage_of, steps_of_source, version_at}
 use Rattle.scenario_history.specs.Worlds.{source_at}
 use Rattle.sink_history.specs.Lives.{Source}
-use Rattle.source_machine.specs.Airs.{pdu_of, stale_of}
 use Rattle.source_machine.specs.Calls.{Setup, Call as SourceCall, event as perform, events, next_anchor_of, next_of}
 use Rattle.source_machine.specs.Ciphers.{with_cipher}
 use Rattle.source_machine.specs.declared.setup.Identity.{Identity}

@@ -2,11 +2,11 @@
 use Rattle.std.proofs.Common.{ℕ, ◌≡◌, ◌≢◌, false, List, Option, None, Some, is_some, ap}
 use Rattle.std.specs.Prelude.{unwrap_or}
 use Rattle.delegator_history.specs.LastGiven.{last_given as last_of}
-use Rattle.link_history.specs.Calls.{Call}
+use Rattle.sink_history.specs.Calls.{Call}
 use Rattle.scenario_text.specs.declared.step.Step.{Step}
 use Rattle.scenario_history.specs.Boxes.{box_of, handed_up}
 use Rattle.scenario_history.specs.Sinks.{is_of, sink_calls, source_of}
-use Rattle.scenario_history.specs.Source.{Airs}
+use Rattle.source_machine.specs.Airs.{Airs}
 use Rattle.scenario_history.specs.Steps.{chosen_given, chosen_of, chosen_steps, last_given, steps_of_source}
 use Rattle.scenario_history.specs.Worlds.{life, source_at}
 use Rattle.sink_history.specs.Lives.{Made, horizon_in, horizon_of, made_of, version_given}

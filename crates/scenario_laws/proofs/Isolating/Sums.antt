@@ -15,7 +15,8 @@ use Rattle.scenario_history.proofs.Citable.{box_was_made, valid_append}
 use Rattle.scenario_history.specs.Boxes.{SinkUnit, box_of, closing, closing_at, closing_by, closing_in, handed_by, handed_up}
 use Rattle.scenario_history.specs.Boxes.{onto_valid, sink_numbers, valid_for}
 use Rattle.scenario_history.specs.Sinks.{is_of, sink_calls, source_of}
-use Rattle.scenario_history.specs.Source.{Airs, open_event}
+use Rattle.scenario_history.specs.Source.{open_event}
+use Rattle.source_machine.specs.Airs.{Airs}
 use Rattle.scenario_history.specs.Steps.{chosen_of, sinks_made, sinks_made_by, steps_of_source}
 use Rattle.scenario_laws.specs.Isolation.{units_by}
 

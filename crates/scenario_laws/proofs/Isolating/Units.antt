@@ -11,10 +11,12 @@ use Rattle.group_sink.specs.Handing.{handed_at}
 use Rattle.scenario_text.specs.declared.step.Step.{Step}
 use Rattle.scenario_history.specs.Boxes.{SinkUnit, box_of, closing, closing_at, closing_both, closing_by, closing_in, sink_numbers}
 use Rattle.scenario_history.specs.Sinks.{is_of, sink_calls, source_of}
-use Rattle.scenario_history.specs.Source.{Airs, open_event}
+use Rattle.scenario_history.specs.Source.{open_event}
+use Rattle.source_machine.specs.Airs.{Airs}
 use Rattle.scenario_history.specs.Steps.{steps_of_source}
 use Rattle.scenario_laws.specs.Isolation.{units_by}
 use Rattle.scenario_laws.proofs.Isolating.Said.{open_same}
+use Rattle.scenario_laws.proofs.Gifts.Citable.{flat_same}
 use Rattle.scenario_laws.proofs.Isolating.Same.{Same}
 
 -- ---- lists
@@ -28,10 +30,6 @@ units_append n us vs =
 units_flat : (n : ℕ) (f : ℕ → List SinkUnit) (ms : List ℕ) → units_by n (flat_map f ms) ≡ flat_map (λ m. units_by n (f m)) ms
 units_flat n f [] = refl
 units_flat n f (m ∷ ms) = units_append n (f m) (flat_map f ms) ∙ ap (λ us. units_by n (f m) ++ us) (units_flat n f ms)
-
-flat_same : (f g : ℕ → List Handed) (ms : List ℕ) → ((m : ℕ) → f m ≡ g m) → flat_map f ms ≡ flat_map g ms
-flat_same f g [] same = refl
-flat_same f g (m ∷ ms) same = ap (λ us. us ++ flat_map f ms) (same m) ∙ ap (λ us. g m ++ us) (flat_same f g ms same)
 
 flat_none : (f : ℕ → List Handed) (ms : List ℕ) → ((m : ℕ) → f m ≡ []) → flat_map f ms ≡ []
 flat_none f [] none = refl

@@ -15,8 +15,8 @@ use Rattle.unit_outlets.specs.Handed.{Handed}
 use Rattle.scenario_history.specs.Gifts.{happened}
 use Rattle.scenario_history.specs.Source.{setup_of, source_calls}
 use Rattle.scenario_history.specs.Steps.{steps_of_source}
-use Rattle.gift_laws.proofs.Citable.{had_happened, happens_legally, has_had, settled}
-use Rattle.gift_laws.specs.Laws.{RelayLaw, offered}
+use Rattle.scenario_laws.proofs.Gifts.Citable.{had_happened, happens_legally, has_had, settled}
+use Rattle.scenario_laws.specs.Gifts.Laws.{RelayLaw, offered}
 use Rattle.scenario_laws.specs.Laws.{StepsInOrder, is_made, shown_since}
 use Rattle.scenario_laws.specs.Relayed.{InFirstOrder, InRelayOrder, IsOfFirst, IsOfOffered, RelayedUnits}
 use Rattle.scenario_laws.proofs.Relaying.Numbered.{Numbered}

@@ -16,16 +16,17 @@ use Rattle.transcript_text.specs.declared.refusal.Refusal.{Refusal}
 use Rattle.transcript_text.specs.declared.refusal.Refusal.TheVariants as refusals
 use Rattle.scenario_history.specs.Boxes.{SinkUnit, box_of, handed_by}
 use Rattle.scenario_history.proofs.Citable.{fails_not, neither, permitted}
-use Rattle.scenario_history.specs.Refusals.{line_refusal, refusal_of, refuse_if}
-use Rattle.scenario_history.specs.Source.{Airs}
+use Rattle.scenario_history.specs.Refusals.{line_refusal, refusal_of}
+use Rattle.sink_history.specs.Refusals.{refuse_if}
+use Rattle.source_machine.specs.Airs.{Airs}
 use Rattle.scenario_history.specs.Steps.{last_given, sinks_made}
 use Rattle.scenario_laws.specs.Laws.{handed_since, is_made, of_sink}
-use Rattle.gift_laws.proofs.Citable.{OneStands, contains_cases, first_free, had_happened, happens_legally, has_had, is_free}
-use Rattle.gift_laws.proofs.Citable.{left_by_gifts, line_passes, not_yet, one_stands}
+use Rattle.scenario_laws.proofs.Gifts.Citable.{OneStands, contains_cases, first_free, had_happened, happens_legally, has_had, is_free}
+use Rattle.scenario_laws.proofs.Gifts.Citable.{left_by_gifts, line_passes, not_yet, one_stands}
 use Rattle.scenario_history.specs.Gifts.{Offer, after_offer, after_offers, dropped_for, happened, offers_before, units_on, valid_on}
 use Rattle.scenario_history.specs.Gifts.{with_gift_unless, with_gifts}
-use Rattle.gift_laws.specs.Laws.{handed_on, is_route, offered}
-use Rattle.gift_laws.specs.Legal.{AreLegal, AreSaidLegally}
+use Rattle.scenario_laws.specs.Gifts.Laws.{handed_on, is_route, offered}
+use Rattle.scenario_laws.specs.Gifts.Legal.{AreLegal, AreSaidLegally}
 use Rattle.scenario_history.specs.Relays.{Route, had_relay, relay_given, relay_of}
 use Rattle.scenario_laws.specs.Relayed.{EndsWith}
 

@@ -13,7 +13,7 @@ use Rattle.isoal_framed.specs.Calls.{Call as FramedCall, accept, accepted}
 use Rattle.source_machine.specs.Calls.{Call, Setup, event, framed_calls, given, give}
 use Rattle.unit_outlets.specs.Handed.{Handed, lost, valid}
 use Rattle.scenario_laws.specs.SourceUnits.{InSourceOrder, InUnitOrder, IsGiven, IsOfUnit, is_valid, valid_in}
-use Rattle.gift_laws.proofs.Citable.{event_accepts_none}
+use Rattle.scenario_laws.proofs.Gifts.Citable.{event_accepts_none}
 use Rattle.scenario_history.specs.Gifts.{units_on}
 use Rattle.scenario_laws.proofs.Relaying.Order.{place, place_by, place_gets, place_rises}
 

@@ -16,11 +16,12 @@ use Rattle.scenario_history.specs.Airs.{MeetAirs}
 use Rattle.scenario_history.specs.Gifts.{Offer, after_offer, after_offers, dropped_for, happened, offers_before, units_on}
 use Rattle.scenario_history.specs.Gifts.{with_gift_unless, with_gifts}
 use Rattle.scenario_history.specs.Relays.{Route, relay_of}
-use Rattle.scenario_history.specs.Source.{Airs, setup_of, source_calls}
+use Rattle.scenario_history.specs.Source.{setup_of, source_calls}
+use Rattle.source_machine.specs.Airs.{Airs}
 use Rattle.scenario_history.specs.Steps.{is_of_source, steps_of_source}
-use Rattle.gift_laws.proofs.Citable.{contains_cases, happens_legally, in_range, left_by_gifts}
-use Rattle.gift_laws.specs.Laws.{handed_on, is_route, offered}
-use Rattle.gift_laws.specs.Legal.{AreLegal, AreSaidLegally}
+use Rattle.scenario_laws.proofs.Gifts.Citable.{contains_cases, happens_legally, in_range, left_by_gifts}
+use Rattle.scenario_laws.specs.Gifts.Laws.{handed_on, is_route, offered}
+use Rattle.scenario_laws.specs.Gifts.Legal.{AreLegal, AreSaidLegally}
 use Rattle.scenario_laws.specs.Laws.{StepsInOrder, any_since, given_since_made, handed_since, injected_since, is_given, is_injected, is_made}
 use Rattle.scenario_laws.specs.Laws.{of_sink}
 use Rattle.scenario_laws.specs.Relayed.{EndsWith}

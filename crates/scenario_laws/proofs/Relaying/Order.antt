@@ -12,12 +12,13 @@ use Rattle.source_machine.specs.Calls.{Call, Setup, framed_calls}
 use Rattle.unit_outlets.specs.Handed.{Handed}
 use Rattle.scenario_text.specs.declared.step.Step.{Step}
 use Rattle.scenario_text.specs.declared.step.Step.TheVariants as steps
-use Rattle.scenario_history.specs.Source.{Airs, setup_of, source_calls}
+use Rattle.scenario_history.specs.Source.{setup_of, source_calls}
+use Rattle.source_machine.specs.Airs.{Airs}
 use Rattle.scenario_history.specs.Steps.{steps_of_source}
-use Rattle.gift_laws.specs.Legal.{AreSaidLegally}
+use Rattle.scenario_laws.specs.Gifts.Legal.{AreSaidLegally}
 use Rattle.scenario_laws.specs.SourceUnits.{InUnitOrder, IsOfUnit, anchor_in}
 use Rattle.scenario_history.specs.Gifts.{Answered, all_answered, happened, offered_to, passed}
-use Rattle.gift_laws.specs.Laws.{RelayLaw, offered}
+use Rattle.scenario_laws.specs.Gifts.Laws.{RelayLaw, offered}
 use Rattle.scenario_laws.specs.Relayed.{InRelayOrder, IsOfOffered}
 
 -- ---- the places of what passes a test

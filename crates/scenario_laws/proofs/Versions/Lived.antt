@@ -4,8 +4,8 @@ use Rattle.std.proofs.Common.{ℕ, ◌≡◌, ◌≤◌, ◌==◌, cond, Bool, t
 use Rattle.std.proofs.lemmas.Bool.{eqb-true}
 use Rattle.delegator_history.specs.Octets.{train_of}
 use Rattle.announcement_train.specs.declared.train.Train.{Train as Announced}
-use Rattle.link_history.specs.Calls.{Call, born}
-use Rattle.link_history.specs.Drains.{drained}
+use Rattle.sink_history.specs.Calls.{Call, born}
+use Rattle.sink_history.specs.Drains.{drained}
 use Rattle.source_machine.specs.Calls.{Setup, Call as SourceCall, next_anchor_of, next_of}
 use Rattle.source_machine.specs.declared.setup.Identity.{Identity}
 use Rattle.scenario_text.specs.declared.step.Step.{Step}

@@ -8,10 +8,10 @@ use Rattle.delegator_history.specs.Sights.{Sight}
 use Rattle.delegator_history.specs.States.{Answered, Step, answered, done_by, sight_in, sight_of, train_heard, written}
 use Rattle.delegator_history.specs.Steps.{Done}
 use Rattle.delegator_history.specs.Trains.{Setup, brought_by, done_brought}
-use Rattle.link_history.specs.Calls as links
-use Rattle.link_history.specs.Calls.{Call, step_by, steps_of, with_step, writes_waiting}
-use Rattle.link_history.specs.Drains.{drained, repeated, served_out, told_and_read, told_out}
-use Rattle.link_history.specs.Links.{Acts, Told, acts_by, acts_of, changed, language, made_all, notices_waiting, reads_waiting}
+use Rattle.sink_history.specs.Calls as links
+use Rattle.sink_history.specs.Calls.{Call, step_by, steps_of, with_step, writes_waiting}
+use Rattle.sink_history.specs.Drains.{drained, repeated, served_out, told_and_read, told_out}
+use Rattle.sink_history.specs.Links.{Acts, Told, acts_by, acts_of, changed, language, made_all, notices_waiting, reads_waiting}
 use Rattle.assistant_machine.specs.Links.{reads_of, waiting_of}
 use Rattle.scenario_laws.proofs.Versions.Trains.{BringsNear, brought_same, reaching}
 

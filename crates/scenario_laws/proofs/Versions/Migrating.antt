@@ -11,7 +11,7 @@ use Rattle.scenario_history.specs.Runs.{refused, through}
 use Rattle.scenario_history.proofs.Citable.{reverse_onto}
 use Rattle.scenario_text.specs.Migrated.{is_blank, migrated}
 use Rattle.source_machine.specs.Airs.{airs_of}
-use Rattle.octet_fields.specs.Tries.{◌>>=◌}
+use Rattle.bcast_base.specs.Tries.{◌>>=◌}
 use Rattle.scenario_words.specs.Reading.{decimal_in}
 use Rattle.scenario_text.specs.Steps.{read_of, step_of}
 use Rattle.scenario_text.specs.Table.{first_row_of, row_of}

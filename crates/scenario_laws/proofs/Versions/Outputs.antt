@@ -1,11 +1,11 @@
 -- What the steps of a scenario in version 2 hand up and print: the same, where no train was answered `BadGroup 11`. Lists of
 -- steps have the newest first; where a list is called `own` its steps are those of one source.
 use Rattle.std.proofs.Common.{ℕ, ◌≡◌, cond, false, List, [], ◌∷◌, ◌++◌, Option, None, Some, refl, sym, ◌∙◌, ap, ap₂}
-use Rattle.std.specs.List.{concat, flat_map}
+use Rattle.std.specs.List.{concat}
 use Rattle.unit_outlets.specs.Account.{Account}
 use Rattle.isoal_base.specs.declared.hearing.Hearing.TheVariants.{NotOnGroup}
 use Rattle.group_sink.specs.Hearings.{hearing_of}
-use Rattle.link_history.specs.Calls.{Call}
+use Rattle.sink_history.specs.Calls.{Call}
 use Rattle.source_machine.specs.Airs.{airs_of}
 use Rattle.scenario_text.specs.declared.step.Step.{Step}
 use Rattle.scenario_text.specs.declared.step.Step.TheVariants as steps
@@ -21,7 +21,7 @@ use Rattle.scenario_history.specs.Sinks.{is_of, sink_calls, source_of}
 use Rattle.scenario_history.specs.Source.{end_pdu, event_back, open_event, pdu_in, stale_in}
 use Rattle.scenario_history.specs.Steps.{chosen_of, chosen_steps, steps_of_source}
 use Rattle.scenario_history.specs.Worlds.{life, source_at, the_world}
-use Rattle.gift_laws.proofs.Citable.{plain_close, plain_end}
+use Rattle.scenario_laws.proofs.Gifts.Citable.{plain_close, plain_end, flat_same}
 use Rattle.scenario_laws.proofs.Versions.Lived.{AreCalm, AreFar, IsCalm, QuietLife, is_quiet, life_same, made_far, quiet_life, source_same}
 use Rattle.scenario_laws.proofs.Versions.Printed.{printed_same}
 use Rattle.scenario_laws.proofs.Versions.Received.{HeardNear, of_chosen, sink_calls_same, source_of_same}
@@ -31,10 +31,6 @@ use Rattle.scenario_laws.proofs.Versions.Seconds.{at_second, chosen_same, own_sa
 use Rattle.scenario_laws.proofs.Versions.Sources.{end_same, event_same, open_same, pdu_same, stale_same}
 
 -- ---- what is handed up
-
-flat_same : {A : Type 0} (f g : ℕ → List A) (ns : List ℕ) → ((n : ℕ) → f n ≡ g n) → flat_map f ns ≡ flat_map g ns
-flat_same f g [] same = refl
-flat_same f g (n ∷ ns) same = ap₂ (λ one others. one ++ others) (same n) (flat_same f g ns same)
 
 closing_at_same : (s : ℕ) (made : List Step) (last_open : Option ℕ) → AreCalm made
     → closing_at airs_of s (seconds made) last_open ≡ closing_at airs_of s made last_open

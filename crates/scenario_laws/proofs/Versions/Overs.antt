@@ -4,12 +4,11 @@ use Rattle.bcast_io.specs.TextLines.{TextLine, lines_of}
 use Rattle.unit_outlets.specs.Account.{Account}
 use Rattle.scenario_history.specs.Runs.{Accepted}
 use Rattle.scenario_text.specs.Migrated.{migrated}
-use Rattle.source_machine.specs.Airs.{airs_of}
+use Rattle.source_machine.specs.Airs.{airs_of, Airs}
 use Rattle.scenario_text.specs.declared.step.Step.TheVariants as steps
 use Rattle.scenario_history.specs.Airs.{MeetAirs}
 use Rattle.scenario_history.specs.Lines.{output_said, rules_of, steps_of}
 use Rattle.scenario_history.specs.Output.{sink_lines}
-use Rattle.scenario_history.specs.Source.{Airs}
 use Rattle.scenario_history.specs.Transcript.{transcript_end, transcript_of, units_of}
 use Rattle.scenario_laws.specs.Versions.{EndsLasting, IsLastingText, MigrationLaw, PrintsTooFar}
 use Rattle.scenario_laws.proofs.Versions.Migrating.{LinesAlike, text_alike}

@@ -7,7 +7,7 @@ use Rattle.std.specs.Prelude.{slice_index, unwrap_or}
 use Rattle.std.proofs.lemmas.Bool.{eqb-true, false≢true, ltb-false, not-false}
 use Rattle.std.proofs.lemmas.Option.{same_Some}
 use Rattle.delegator_history.specs.Octets.{MayAnnounce, train_of}
-use Rattle.delegator_history.proofs.Citable.{info_read}
+use Rattle.big_info.proofs.Citable.{info_read}
 use Rattle.announcement_train.specs.declared.train.Train.{Train}
 use Rattle.announcement_train.specs.Layout.{IsTrain}
 use Rattle.announcement_train.specs.Told.{Tells, TellsInfo, numbers_of}
@@ -24,10 +24,12 @@ use Rattle.source_machine.specs.Calls.{next_anchor_of, next_of}
 use Rattle.scenario_text.specs.declared.step.Step.{Step}
 use Rattle.scenario_text.specs.declared.step.Step.TheVariants as steps
 use Rattle.transcript_text.specs.declared.refusal.Refusal.TheVariants.{BaseTooLong}
-use Rattle.sink_history.specs.Lives.{Made, horizon_of, made_of, own_train}
+use Rattle.sink_history.specs.Lives.{Made, horizon_of, made_of, own_train, horizon_in}
 use Rattle.scenario_history.specs.Bases.{base_of, is_base_too_long}
-use Rattle.scenario_history.specs.Refusals.{group_refusal, horizon_in, refusal_of, refuse_if, source_refusal}
-use Rattle.scenario_history.specs.Source.{Airs, checked_info, cipher_of, group_of, identity_of, is_sending, is_started, no_group, setup_of}
+use Rattle.scenario_history.specs.Refusals.{group_refusal, refusal_of, source_refusal}
+use Rattle.sink_history.specs.Refusals.{refuse_if}
+use Rattle.scenario_history.specs.Source.{checked_info, cipher_of, group_of, identity_of, is_sending, is_started, no_group, setup_of}
+use Rattle.source_machine.specs.Airs.{Airs}
 use Rattle.scenario_history.specs.Source.{source_calls}
 use Rattle.scenario_history.specs.Steps.{chosen_of, chosen_steps, is_of_source, is_unbegun_at, stage_of, steps_of_source, version_of}
 use Rattle.scenario_history.specs.Worlds.{announced_of, life, source_at}
@@ -181,7 +183,7 @@ reads_near setup train heard broadcast_id base info event anchor same tells with
     let list : Some told.octets ≡ big_info_in heard.acad =
     sym (ap big_info_in same ∙ ap (found_in (first_of 0x2C)) told.list ∙ told.found) in
     let read : its ≡ tells.read = read_as octets told.octets its tells.read (list
-    ∙ found) is (info_read tells.read told.is.0 told.octets told.is.1) in
+    ∙ found) is (info_read told.octets tells.read told.is.0 told.is.1) in
     within_near setup.horizon its (subst (λ (group : BigInfo). reach_of group ≤ setup.horizon) (sym read)
     (subst (λ reach. reach ≤ setup.horizon) (sym (same_reach tells.read info tells.numbers)) within))
 

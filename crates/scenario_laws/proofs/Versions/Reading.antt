@@ -6,7 +6,7 @@ use Rattle.std.specs.Prelude.{bytes_eq, decimal, nat_eq}
 use Rattle.std.specs.Str.Parse.{digits_value}
 use Rattle.std.proofs.lemmas.Bool.{le-leb, leb-true}
 use Rattle.bcast_io.specs.TextLines.{TextLine, plain, too_long, past}
-use Rattle.octet_fields.specs.Tries.{◌>>=◌}
+use Rattle.bcast_base.specs.Tries.{◌>>=◌}
 use Rattle.scenario_words.specs.declared.fault.LineFault.{LineFault}
 use Rattle.scenario_words.specs.declared.fault.LineFault.TheVariants.{BadLine as Misfit, Memory as NoMemory}
 use Rattle.scenario_words.specs.Places.{one, between}

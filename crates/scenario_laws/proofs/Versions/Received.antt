@@ -7,7 +7,7 @@ use Rattle.std.proofs.lemmas.Bool.{eqb-true}
 use Rattle.delegator_machine.specs.Groups.{joining_brought, with_step}
 use Rattle.delegator_history.specs.Trains.{Train, brought_by}
 use Rattle.group_sink.specs.Calls.{Call as SinkCall, hear, tune}
-use Rattle.link_history.specs.Calls.{Call}
+use Rattle.sink_history.specs.Calls.{Call}
 use Rattle.source_machine.specs.Airs.{airs_of}
 use Rattle.source_machine.specs.Calls.{next_anchor_of, next_of}
 use Rattle.scenario_text.specs.declared.step.Step.{Step}

@@ -12,21 +12,21 @@ use Rattle.source_machine.specs.Airs.{airs_of, waiting_of}
 use Rattle.source_machine.specs.Calls.{Setup, Call, framed_calls, next_anchor_of}
 use Rattle.source_machine.specs.Faults.{air_fault, announce_fault, event_fault, give_fault, has_its_time, is_above, is_in_time}
 use Rattle.source_machine.specs.Setups.{are_twins}
-use Rattle.source_machine.specs.declared.fault.GiveFault.{GiveFault}
-use Rattle.source_machine.specs.declared.fault.GiveFault.TheVariants as give_faults
-use Rattle.link_history.specs.Calls as links
+use Rattle.source_machine.specs.UnitFaults.{UnitFault}
+use Rattle.source_machine.specs.UnitFaults as give_faults
+use Rattle.sink_history.specs.Calls as links
 use Rattle.scenario_text.specs.declared.step.Step.{Step}
 use Rattle.scenario_text.specs.declared.step.Step.TheVariants as steps
 use Rattle.transcript_text.specs.declared.refusal.Refusal.{Refusal}
 use Rattle.transcript_text.specs.declared.refusal.Refusal.TheVariants.{AfterEnd, BaseTooLong, IdentTwice, NoOutlet, NoSuchBis, NoSuchSink}
 use Rattle.transcript_text.specs.declared.refusal.Refusal.TheVariants.{NotOnAir, Order, RelayTaken, SinkTwice}
-use Rattle.sink_history.specs.Lives.{Made, made_of, named_by}
-use Rattle.sink_history.specs.Refusals.{refused_at, refused_by, refused_where}
+use Rattle.sink_history.specs.Lives.{Made, made_of, named_by, horizon_in}
+use Rattle.sink_history.specs.Refusals.{refused_at, refused_by, refused_where, refuse_if}
 use Rattle.scenario_history.specs.Bases.{is_base_too_long}
 use Rattle.scenario_history.specs.Boxes.{box_after, box_of}
-use Rattle.scenario_history.specs.Refusals.{air_refusal, counter_ends, give_refusal, group_refusal, has_beyond, horizon_in, is_ident_twice}
+use Rattle.scenario_history.specs.Refusals.{air_refusal, counter_ends, give_refusal, group_refusal, has_beyond, is_ident_twice}
 use Rattle.scenario_history.specs.Refusals.{is_misplaced, is_out_of_order, is_out_of_phase}
-use Rattle.scenario_history.specs.Refusals.{no_place, no_sink, own_refusal, refusal_of, refuse_if, sink_refusal}
+use Rattle.scenario_history.specs.Refusals.{no_place, no_sink, own_refusal, refusal_of, sink_refusal}
 use Rattle.scenario_history.specs.Refusals.{relay_refusal, source_refusal, train_ends, twin_refusal}
 use Rattle.scenario_history.specs.Source.{GroupLine, checked_info, identity_of, is_absent_at}
 use Rattle.scenario_history.specs.Source.{is_described_at, is_started, setup_of, source_calls}
@@ -96,7 +96,7 @@ in_time_stays ahead setup calls bis false (Some time) stays is =
     stays is
 
 -- why a unit is refused, by the tests in their order
-abbrev fault_by : (beyond long timed waits : Bool) → Option GiveFault
+abbrev fault_by : (beyond long timed waits : Bool) → Option UnitFault
 fault_by beyond long timed waits =
     cond beyond (Some give_faults.NoSuchBis)
     (cond long (Some give_faults.UnitTooLong) (cond (not timed) (Some give_faults.TimeOrder) (cond waits (Some give_faults.Backlog) None)))

@@ -28,7 +28,7 @@ use Rattle.scenario_history.specs.Lines.{Said, a_step, nothing, unsaid, output_s
 use Rattle.scenario_history.specs.Lines.{steps_of, with_said}
 use Rattle.scenario_history.specs.Refusals.{is_misplaced, line_refusal, refusal_of}
 use Rattle.scenario_history.specs.Relays.{has_relay}
-use Rattle.gift_laws.proofs.Citable.{SaidNever, line_passes, none_relayed, nothing_else, plain_after, says_no_relay}
+use Rattle.scenario_laws.proofs.Gifts.Citable.{SaidNever, line_passes, none_relayed, nothing_else, plain_after, says_no_relay}
 use Rattle.scenario_history.specs.Steps.{is_over, is_unbegun_at, stage_after, stage_of, version_of}
 use Rattle.scenario_history.specs.Worlds.{life, source_at}
 use Rattle.scenario_laws.proofs.Citable.{Legal, LinesInRange, legal, permitted}

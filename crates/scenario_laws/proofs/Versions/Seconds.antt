@@ -15,6 +15,7 @@ use Rattle.scenario_history.specs.Source.{start_given, start_of, with_source_cal
 use Rattle.scenario_history.specs.Steps.{Stage, unbegun, running, over, chosen_given, chosen_of, chosen_steps, is_common, is_of_source}
 use Rattle.scenario_history.specs.Steps.{is_over, is_source_line}
 use Rattle.scenario_history.specs.Steps.{is_over_at, is_unbegun_at, last_given, sinks_made, sinks_made_by, stage_after, stage_of}
+use Rattle.scenario_laws.proofs.Sources.{horizon_greatest}
 use Rattle.scenario_history.specs.Steps.{steps_of_source, version_at, version_of}
 
 abbrev pub second : Step → Step
@@ -169,13 +170,9 @@ unbegun_same made = unbegun_later (stage_of made) (stage_of (seconds made)) (sta
 
 -- ---- what a version bounds
 
-least_horizon : (second : Bool) → cond second 31 15 ≤ 31
-least_horizon true = omega arith
-least_horizon false = omega arith
-
 pub horizon_grows : (version later : ℕ) → IsLater version later → horizon_in version ≤ horizon_in later
 horizon_grows version later (inl same) = subst (λ v. horizon_in version ≤ horizon_in v) (sym same) (omega arith)
-horizon_grows version later (inr two) = subst (λ v. horizon_in version ≤ horizon_in v) (sym two) (least_horizon (version == 2))
+horizon_grows version later (inr two) = subst (λ v. horizon_in version ≤ horizon_in v) (sym two) (horizon_greatest (version == 2))
 
 pub ahead_stays : (version later : ℕ) → IsLater version later → is_ahead_in version ≡ true → is_ahead_in later ≡ true
 ahead_stays version later (inl same) is = ap is_ahead_in same ∙ is

@@ -16,7 +16,7 @@ use Rattle.source_machine.specs.Airs.{air_after, air_of, airs_of, pdu_of, stale_
 use Rattle.source_machine.specs.Calls.{Setup, Call, give, event as perform, events, framed_calls, framed_lays, laid_before, laid_with}
 use Rattle.source_machine.specs.Calls.{lay_anchor, next_of, stream_calls}
 use Rattle.source_machine.specs.Ciphers.{with_cipher}
-use Rattle.scenario_bases.specs.Lines.{subgroups_in}
+use Rattle.announcement_train.specs.BaseLines.{subgroups_in}
 use Rattle.scenario_text.specs.declared.step.Step.{Step}
 use Rattle.scenario_history.specs.Bases.{base_from, base_of, has_bis, has_subgroup, is_base_too_long, is_last_bare}
 use Rattle.scenario_history.specs.Source.{GroupLine, checked_info, end_pdu, event_back, group_of, identity_of, is_ahead_in, is_ciphered}

@@ -4,7 +4,7 @@ use Rattle.std.proofs.Common.{ℕ, suc, ◌≡◌, ◌⊎◌, ◌≤◌, ◌<◌
 use Rattle.std.proofs.Common.{sym, ◌∙◌, ap, ap₂, subst, append_assoc, inl, inr, arith}
 use Rattle.std.specs.Prelude.{bytes_eq, codes}
 use Rattle.std.specs.List.{AllByRecursion}
-use Rattle.std.proofs.lemmas.Bool.{cases_lt, eqb-true, le-leb, lt-leb}
+use Rattle.std.proofs.lemmas.Bool.{cases_lt, le-leb, lt-leb}
 use Rattle.std.proofs.lemmas.List.{append-nil}
 use Rattle.std.proofs.lemmas.Slice.Eq.{bytes_eq-Decides}
 use Rattle.bcast_io.specs.TextLines.{TextLine, plain, past, line_of, lines_from, newline, text_limit}
@@ -12,6 +12,7 @@ use Rattle.bcast_io.specs.TextLines.{lines_of as text_lines}
 use Rattle.scenario_words.specs.Words.{onto_first}
 use Rattle.scenario_text.specs.MigratedLines.{behind, lines_of, text_of}
 use Rattle.scenario_text.specs.Migrated.{is_blank, migrated, migrated_line, migrated_lines}
+use Rattle.scenario_text.proofs.Citable.{text_again}
 
 abbrev pub first_version : List ℕ
 first_version = codes "scenario 1"
@@ -203,29 +204,6 @@ lines_turn (line ∷ lines) taken clean within =
     blank_or (is_blank line) taken line lines clean.0 within refl (λ taken' within'. lines_turn lines taken' clean.1 within')
 
 -- ---- the text again
-
-onto_text : (octet : ℕ) (lines : List (List ℕ)) → text_of (onto_first octet lines) ≡ octet ∷ text_of lines
-onto_text octet [] = refl
-onto_text octet (line ∷ lines) = refl
-
-behind_chosen : (b : Bool) (octet : ℕ) (lines : List (List ℕ))
-    → behind (cond b ([] ∷ lines) (onto_first octet lines)) ≡ newline ∷ text_of (cond b ([] ∷ lines) (onto_first octet lines))
-behind_chosen true octet lines = refl
-behind_chosen false octet [] = refl
-behind_chosen false octet (line ∷ lines) = refl
-
-behind_text : (text : List ℕ) → behind (lines_of text) ≡ newline ∷ text_of (lines_of text)
-behind_text [] = refl
-behind_text (octet ∷ text) = behind_chosen (octet == newline) octet (lines_of text)
-
-again_if : (b : Bool) (octet : ℕ) (text : List ℕ) → (octet == newline) ≡ b → text_of (lines_of text) ≡ text
-    → text_of (cond b ([] ∷ lines_of text) (onto_first octet (lines_of text))) ≡ octet ∷ text
-again_if true octet text is again = behind_text text ∙ ap₂ (λ first (rest : List ℕ). first ∷ rest) (sym (eqb-true octet newline is)) again
-again_if false octet text is again = onto_text octet (lines_of text) ∙ ap (λ (rest : List ℕ). octet ∷ rest) again
-
-text_again : (text : List ℕ) → text_of (lines_of text) ≡ text
-text_again [] = refl
-text_again (octet ∷ text) = again_if (octet == newline) octet text refl (text_again text)
 
 pub text_turn : (text : List ℕ) → TurnOn (text_lines true text) (text_lines true (migrated text))
 unfolding migrated

@@ -3,7 +3,7 @@ use Rattle.std.specs.Prelude.{ℕ, ◌≡◌, ◌≤◌, ◌<◌, ◌+◌, ◌�
 use Rattle.std.specs.List.{range_with_len}
 use Rattle.unit_outlets.specs.Account.{Account}
 use Rattle.group_sink.specs.Calls.{Call}
-use Rattle.link_history.specs.Calls as links
+use Rattle.sink_history.specs.Calls as links
 use Rattle.scenario_history.specs.Boxes.{most_sinks, accounts_after, closing_by}
 use Rattle.scenario_history.specs.Sinks.{is_of, ticked_if}
 use Rattle.scenario_history.specs.Output.{unit_lines}

@@ -7,18 +7,16 @@ use Rattle.delegator_history.specs.States.{put_on}
 use Rattle.delegator_history.specs.Trains.{Joining}
 use Rattle.group_sink.specs.Calls.{Call, tune, hear}
 use Rattle.isoal_base.specs.declared.hearing.Hearing.{Hearing}
-use Rattle.link_history.specs.Calls as links
-use Rattle.link_history.specs.Calls.{stepped}
+use Rattle.sink_history.specs.Calls as links
+use Rattle.sink_history.specs.Calls.{stepped}
 use Rattle.scenario_history.specs.Sinks.{is_of}
 use Rattle.scenario_sinks.specs.declared.sink.Sink.{Sink}
 use Rattle.scenario_text.specs.declared.step.Step.{Step}
 use Rattle.sink_history.specs.Lives.{Made, Source, lived_by}
 use Rattle.sink_history.specs.Moves.{received_by, source_by}
-use Rattle.sink_history.specs.Output.{printed_of, printed_where}
-use Rattle.sink_history.specs.Refusals.{refused_by, refused_where}
-use Rattle.scenario_sink.specs.Making.{Makes, Takes}
-use Rattle.scenario_sink.specs.State.Living.{Lives}
-use Rattle.scenario_sink.specs.declared.sink.LivingSink.{LivingSink}
+use Rattle.sink_history.specs.Output.{printed_where}
+use Rattle.sink_history.specs.Refusals.{refused_where}
+use Rattle.scenario_sink.specs.Making.{Takes}
 use Rattle.transcript_text.specs.declared.stop.Stop.{Stop}
 use Rattle.transcript_text.specs.declared.stop.Stop.TheVariants.{Refused, OutletFault, Memory}
 use Rattle.scenario_sinks.specs.Hearing.{hearing_by}
@@ -41,13 +39,6 @@ EntryHears box made own life received source event bis subevent octets entry Non
 EntryHears box made own life received source event bis subevent octets entry (Some hearing) =
     (is_some box ≡ true) × (hearing ≡ hearing_by own received source event bis subevent octets)
     × EntryIs box made own life (if is_of source own then hear event bis subevent octets ∷ received else received) (Some entry)
-
--- a line on a living sink that was made so, which means this source
-abbrev pub LineMakes : Made → Option ℕ → List links.Call → List Call → Source → Step → (text told : List ℕ) → LivingSink → Result (Unit {0}) Stop → Type 0
-LineMakes made own life received source step text told living result =
-    Makes (refused_by step made life) (Takes step (printed_of source step made life)) (printed_of source step made life)
-    (Lives made (source_by source step (Some made) life own) (lived_by source step (Some made) life)
-    (received_by source step (Some made) life (lived_by source step (Some made) life) received)) (Lives made own life received) text told living result
 
 -- a line names it, which means this source: it is refused and the entry is as before, or else it prints its lines behind a text, or
 -- memory ran out, of a line that isn't refused and takes some

@@ -2,14 +2,18 @@
 use Rattle.std.specs.Prelude.{ℕ, ◌≡◌, ◌<◌, List, [], Option, None, Some, slice_get}
 use Rattle.unit_outlets.specs.Handed.{Handed}
 use Rattle.group_sink.specs.Calls.{Call}
-use Rattle.link_history.specs.Calls as links
+use Rattle.sink_history.specs.Calls as links
 use Rattle.scenario_history.specs.Boxes.{most_sinks}
 use Rattle.scenario_sinks.specs.declared.sink.Sink.{Sink}
 use Rattle.scenario_sinks.specs.declared.sinks.Sinks.{Sinks}
 use Rattle.scenario_sinks.specs.Pasts.{Past}
 use Rattle.scenario_sinks.specs.State.Gathering.{calls_of}
 use Rattle.sink_history.specs.Lives.{Made}
-use Rattle.scenario_sink.specs.State.Living.{Lives}
+use Rattle.scenario_sink.specs.Pasts.{SinkPast}
+use Rattle.scenario_sink.specs.State.Stands.{Lives}
+
+abbrev pub past_of : Made → Option ℕ → List links.Call → List Call → SinkPast
+past_of made source life received = record { made = made; source = source; life = life; received = received }
 
 -- the entry of a number with this box, or none where no sink lives; the sink was made so, is of this source, has this life, and
 -- its receivers took these calls
@@ -17,7 +21,7 @@ abbrev pub EntryIs : Option ℕ → Option Made → Option ℕ → List links.Ca
 EntryIs None made source life received entry = (entry ≡ Some None) × (made ≡ None)
 EntryIs (Some box) made source life received entry =
     (sink : Sink) × (entry ≡ Some (Some sink)) × (sink.outlet ≡ box)
-    × (how : Made) × (made ≡ Some how) × Lives how source life received sink.living
+    × (how : Made) × (made ≡ Some how) × Lives (past_of how source life received) sink.living
 
 abbrev pub EntryAt : Past → ℕ → Option (Option Sink) → Type 0
 EntryAt past n entry = EntryIs (past.boxes n) (past.mades n) (past.sources n) (past.lives n) (past.received n) entry
@@ -28,11 +32,11 @@ EntriesAre past sinks = (n : ℕ) → n < most_sinks → EntryAt past n (slice_g
 -- the sinks are as their past left them, and lend these units
 pub record SinksLend (past : Past) (units : List Handed) (sinks : Sinks) : Type 0 where
   pub entries : EntriesAre past sinks.entries.items
-  pub made : sinks.outlets ≡ past.made
+  pub made : sinks.outlet_count ≡ past.made
   pub held : calls_of sinks.gathered ≡ units
 
 -- the sinks are as their past left them
 pub record SinksStand (past : Past) (sinks : Sinks) : Type 0 where
   pub entries : EntriesAre past sinks.entries.items
-  pub made : sinks.outlets ≡ past.made
+  pub made : sinks.outlet_count ≡ past.made
   pub empty : sinks.gathered.units.items ≡ []

@@ -1,5 +1,5 @@
 -- What is true of every source and of each of its streams, and what laying events does to a stream.
-use Rattle.std.specs.Prelude.{ℕ, ◌+◌, ◌-◌, ◌*◌, ◌/◌, ◌%◌, ◌^◌, ◌≡◌, ◌≤◌, ◌<◌, min, List, ◌∷◌, ◌++◌, length, All, if◌then◌else◌, Option, None, Some, unwrap_or, slice_get, option_and_then}
+use Rattle.std.specs.Prelude.{ℕ, ◌+◌, ◌-◌, ◌*◌, ◌/◌, ◌%◌, ◌^◌, ◌≡◌, ◌≤◌, ◌<◌, min, true, false, List, ◌∷◌, ◌++◌, length, All, if◌then◌else◌, Option, None, Some, unwrap_or, slice_get, option_and_then}
 use Rattle.std.specs.List.{flat_map, range_with_len}
 use Rattle.big_info.specs.declared.info.BigInfo.{BigInfo}
 use Rattle.big_info.specs.Schedule.{horizon_of}
@@ -11,10 +11,14 @@ use Rattle.isoal_framed.specs.Calls.{Call as TimedCall, accept as accept_timed, 
 use Rattle.radio_schedule.specs.PayloadNumber.{ahead_of}
 use Rattle.source_machine.specs.Airs.{AreAirs, Sends, air_after, stale_in, stale_of, stale_on}
 use Rattle.source_machine.specs.Calls.{Setup, Call as SourceCall, event, framed_calls, framed_lays, stream_calls}
+use Rattle.source_machine.specs.Faults.{event_fault, refused_event}
 use Rattle.source_machine.specs.Setups.{IsChecked}
 use Rattle.source_machine.specs.State.Senders.{HasTime, waiting_in}
-use Rattle.source_machine.specs.State.Sources.{Source, StandsFor, Stream, StreamStands, StreamsAre, info_in, kept_of}
+use Rattle.source_machine.specs.State.Sources.{AfterFault, Source, StandsFor, Stream, StreamStands, StreamsAre, info_in, kept_of}
+use Rattle.source_machine.specs.declared.fault.EventFault.{EventFault}
+use Rattle.source_machine.specs.declared.fault.EventFault.TheVariants.{Memory}
 use Rattle.source_machine.specs.declared.laying.Laying.{Laying}
+use Rattle.source_machine.specs.declared.sent.Sent.{Sent}
 use Rattle.source_machine.specs.declared.sent.Stale.{Stale}
 
 -- what a stream keeps: whole events, at most as many as there is room for
@@ -117,11 +121,32 @@ pub record Accepts (time limit : Option ℕ) (octets : List ℕ) (old new : Stre
   pub stands : (info : BigInfo) (bis : ℕ) (plain : List PlainCall) (timed : List TimedCall) → StreamStands info bis plain timed old
       → StreamStands info bis (accept octets ∷ plain) (accept_timed (unwrap_or time 0) octets ∷ timed) new
 
--- the next event was performed, sends these PDUs and tells these units, whatever calls came before it
-pub record Performs (old new : Source) (pdus : List (List ℕ)) (stale : List Stale) : Type 0 where
+-- what no event changes: who the source is, what it announces, and its setup
+pub record IsAsSetUp (old new : Source) : Type 0 where
+  pub identity : new.identity ≡ old.identity
+  pub base : new.base ≡ old.base
+  pub cipher : new.cipher ≡ old.cipher
+  pub setup : new.setup ≡ old.setup
+
+-- the next event may be performed: the source works, and no fault of these calls keeps it from the event
+pub record MayPerform (source : Source) : Type 0 where
+  pub works : source.failed ≡ false
+  pub permitted : (calls : List SourceCall) → StandsFor calls source → event_fault source.setup calls ≡ None
+
+-- the next event was performed and counted, and sends these PDUs and tells these units that it left out, whatever calls came before it
+pub record Performs (old new : Source) (sent : Sent) : Type 0 where
+  pub is_next : sent.event ≡ old.next
   pub next : new.next ≡ old.next + 1
   pub failed : new.failed ≡ old.failed
-  pub count : length pdus ≡ old.setup.info.num_bis * old.setup.info.nse
+  pub count : length sent.pdus ≡ old.setup.info.num_bis * old.setup.info.nse
   pub stands : (calls : List SourceCall) → StandsFor calls old → StandsFor (event ∷ calls) new
-  pub sent : (calls : List SourceCall) (airs : List Air) → StandsFor calls old → AreAirs old.setup (event ∷ calls) airs → Sends old.setup airs old.next pdus
-  pub told : (calls : List SourceCall) (airs : List Air) → StandsFor calls old → AreAirs old.setup (event ∷ calls) airs → stale ≡ stale_of old.setup calls airs
+  pub sends : (calls : List SourceCall) (airs : List Air) → StandsFor calls old → AreAirs old.setup (event ∷ calls) airs
+      → Sends old.setup airs old.next sent.pdus
+  pub told : (calls : List SourceCall) (airs : List Air) → StandsFor calls old → AreAirs old.setup (event ∷ calls) airs
+      → sent.stale ≡ stale_of old.setup calls airs
+
+-- the next event was refused: why, and what that leaves
+pub record Refuses (old new : Source) (fault : EventFault) : Type 0 where
+  pub cause : (calls : List SourceCall) → StandsFor calls old → event_fault old.setup calls ≡ refused_event fault
+  pub leaves : AfterFault fault old new
+  pub failed : old.failed ≡ true → fault ≡ Memory

@@ -1,6 +1,6 @@
 use Rattle.std.proofs.Common.{◌++◌, ap, length, arith, ◌∙◌, length-append}
-use Rattle.octet_fields.specs.Spelling.{number}
-use Rattle.octet_fields.proofs.Citable.{number-length}
+use Rattle.bcast_base.specs.Spelling.{number}
+use Rattle.bcast_base.proofs.Citable.{number-length}
 use Rattle.announcement_train.proofs.train.service_list.Goals as goal
 
 pub one_structure-requires : goal.one_structure-requires

@@ -1,5 +1,5 @@
 use Rattle.std.proofs.Common.{arith, subst}
-use Rattle.octet_fields.specs.Tries.{Answers}
+use Rattle.bcast_base.specs.Tries.{Answers}
 use Rattle.base_grammar.specs.Reading.{told}
 use Rattle.base_grammar.proofs.Again.{base_again, found_base}
 use Rattle.base_grammar.proofs.Firsts.{found_fault}

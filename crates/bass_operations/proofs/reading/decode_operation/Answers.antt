@@ -1,5 +1,5 @@
 use Rattle.std.proofs.Common.{arith, subst}
-use Rattle.octet_fields.specs.Tries.{Answers}
+use Rattle.bcast_base.specs.Tries.{Answers}
 use Rattle.bass_operations.specs.Reading.{told}
 use Rattle.bass_operations.proofs.Causes.{gave_operation, gave_metadata, gave_fault}
 use Rattle.bass_operations.proofs.Judged.{is_read}

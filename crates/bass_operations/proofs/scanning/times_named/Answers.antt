@@ -1,5 +1,5 @@
 use Rattle.std.proofs.Common.{arith, sym, ◌∙◌, true, false}
-use Rattle.octet_fields.specs.Subgroups.{Subgroup}
+use Rattle.bcast_base.specs.Subgroups.{Subgroup}
 use Rattle.bass_operations.proofs.Loops.{named_next, named_short, named_end}
 use Rattle.bass_operations.proofs.scanning.times_named.Goals as goal
 use Rattle.bass_operations.proofs.scanning.times_named.Goals.{then-names, else-names}

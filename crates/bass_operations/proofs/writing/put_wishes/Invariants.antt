@@ -1,6 +1,6 @@
 use Rattle.std.proofs.Common.{◌≡◌, ◌++◌, ◌<◌, ◌^◌, take}
 use Rattle.std.specs.List.{flat_map, AllByRecursion}
-use Rattle.octet_fields.specs.Layout.{laid}
+use Rattle.bcast_base.specs.Layout.{laid}
 use Rattle.bass_operations.proofs.Spelled.{wish_fields}
 use Rattle.bass_operations.proofs.writing.put_wishes.Given as goal
 

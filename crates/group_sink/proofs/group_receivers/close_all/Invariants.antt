@@ -1,7 +1,6 @@
 use Rattle.std.proofs.Common.{◌≡◌, ◌++◌, length, map, take, drop}
 use Rattle.std.specs.List.{flat_map}
-use Rattle.unit_outlets.specs.Handed.{Caused}
-use Rattle.isoal_unframed.specs.State.Windows.{HandsOver}
+use Rattle.unit_outlets.specs.Handed.{Caused, HandsOver}
 use Rattle.group_sink.specs.State.Steps.{owed_by, tick_at}
 use Rattle.group_sink.proofs.group_receivers.close_all.Given as goal
 

@@ -1,9 +1,10 @@
 use Rattle.std.proofs.Common.{ℕ, ◌+◌, ◌≡◌, ◌++◌, ◌∷◌, ◌∙◌, subst, sym, ap, take, get_or, arith}
 use Rattle.isoal_framed.specs.Histories.{decided}
-use Rattle.isoal_framed.specs.State.Runs.{call_of, after_all}
-use Rattle.isoal_framed.specs.declared.in_call.InCall.TheVariants.{Close}
+use Rattle.isoal_base.specs.Runs.{call_of, after_all}
+use Rattle.isoal_base.specs.declared.in_call.InCall.TheVariants.{Close}
 use Rattle.isoal_framed.specs.State.Windows.{Stands}
-use Rattle.isoal_framed.proofs.Runs.{after_more, stopped_err}
+use Rattle.isoal_base.proofs.Citable.{after_more}
+use Rattle.isoal_framed.proofs.Runs.{stopped_err}
 use Rattle.isoal_framed.proofs.run.run_calls.Goals as goal
 
 pub calls-preserved : goal.calls-preserved

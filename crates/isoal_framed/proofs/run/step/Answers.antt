@@ -1,7 +1,7 @@
 use Rattle.std.proofs.Common.{ℕ, take, ap, ◌∙◌, ◌≡◌, ◌++◌, ◌∷◌, subst, sym}
 use Rattle.std.specs.Prelude.{OnOk, OnErr}
 use Rattle.isoal_framed.specs.Histories.{decided, gained}
-use Rattle.isoal_framed.specs.State.Runs.{call_of}
+use Rattle.isoal_base.specs.Runs.{call_of}
 use Rattle.isoal_framed.specs.State.Windows.{Stands}
 use Rattle.isoal_framed.proofs.Runs.{hands_ok, hands_front}
 use Rattle.isoal_framed.proofs.run.step.Goals as goal

@@ -2,10 +2,11 @@ use Rattle.std.proofs.Common.{ℕ, ◌+◌, ◌≡◌, ◌++◌, ◌∷◌, ◌�
 use Rattle.std.proofs.lemmas.Option.{slice_get-get_or}
 use Rattle.isoal_base.specs.Stays.{opened}
 use Rattle.isoal_unframed.specs.Histories.{handed, units_of}
-use Rattle.isoal_unframed.specs.State.Runs.{call_of, after_all}
-use Rattle.isoal_unframed.specs.declared.in_call.InCall.TheVariants.{Close}
+use Rattle.isoal_base.specs.Runs.{call_of, after_all}
+use Rattle.isoal_base.specs.declared.in_call.InCall.TheVariants.{Close}
 use Rattle.isoal_unframed.specs.State.Windows.{Stands}
-use Rattle.isoal_unframed.proofs.Runs.{after_more, stopped_err}
+use Rattle.isoal_base.proofs.Citable.{after_more}
+use Rattle.isoal_unframed.proofs.Runs.{stopped_err}
 use Rattle.isoal_unframed.proofs.run.run_calls.Goals as goal
 
 pub calls-preserved : goal.calls-preserved

@@ -2,7 +2,7 @@ use Rattle.std.proofs.Common.{◌≡◌, ◌≤◌, ◌+◌, ◌++◌, List, tak
 use Rattle.unit_outlets.specs.Handed.{Handed}
 use Rattle.isoal_base.specs.Stays.{Call}
 use Rattle.isoal_unframed.specs.Histories.{handed}
-use Rattle.isoal_unframed.specs.State.Runs.{after_all}
+use Rattle.isoal_base.specs.Runs.{after_all}
 use Rattle.isoal_unframed.specs.State.Windows.{Stands}
 use Rattle.isoal_unframed.proofs.run.run_calls.Given as goal
 

@@ -1,8 +1,8 @@
-use Rattle.std.proofs.Common.{ℕ, take, ◌≡◌, ◌++◌, ◌∷◌, subst, sym}
-use Rattle.std.specs.Prelude.{OnOk, OnErr}
+use Rattle.std.proofs.Common.{◌≡◌, ◌++◌, ◌∷◌, subst, sym}
+use Rattle.std.specs.Prelude.{OnOk}
 use Rattle.isoal_base.specs.Stays.{opened}
 use Rattle.isoal_unframed.specs.Histories.{handed, units_of}
-use Rattle.isoal_unframed.specs.State.Runs.{call_of}
+use Rattle.isoal_base.specs.Runs.{call_of}
 use Rattle.isoal_unframed.proofs.Runs.{hands_ok, hands_front}
 use Rattle.isoal_unframed.proofs.run.step.Goals as goal
 

@@ -2,7 +2,8 @@ use Rattle.std.proofs.Common.{refl, ◌∙◌, ◌+◌, ◌≤◌, ◌≡◌, �
 use Rattle.isoal_unframed.specs.State.Streams.{stay_of}
 use Rattle.big_info.specs.Schedule.{per_unit_of}
 use Rattle.isoal_unframed.specs.Units.{unit_of}
-use Rattle.isoal_unframed.specs.State.Windows.{HandsOver, handed_of, owed_of}
+use Rattle.isoal_unframed.specs.State.Windows.{handed_of, owed_of}
+use Rattle.unit_outlets.specs.Handed.{HandsOver}
 use Rattle.isoal_unframed.specs.State.Rings.{kept_of}
 use Rattle.isoal_unframed.proofs.Places.{places_fit}
 use Rattle.isoal_unframed.proofs.Handing.{front_more, behind_more, owed_more, owed_stops, owed_all}

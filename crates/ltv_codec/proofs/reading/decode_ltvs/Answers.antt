@@ -1,5 +1,5 @@
 use Rattle.std.proofs.Common.{arith, subst}
-use Rattle.octet_fields.specs.Tries.{Answers}
+use Rattle.bcast_base.specs.Tries.{Answers}
 use Rattle.ltv_codec.specs.Reading.{told}
 use Rattle.ltv_codec.proofs.Lists.{list_read}
 use Rattle.ltv_codec.proofs.Loops.{decoded_list, decoded_cut}

@@ -1,5 +1,4 @@
 use Rattle.std.proofs.Common.{subst, ap, Some}
-use Rattle.source_machine.specs.Airs.{Sends}
 use Rattle.multi_source.specs.State.Fields.{Sending}
 use Rattle.multi_source.specs.declared.field.Begun.{Begun}
 use Rattle.multi_source.proofs.Starting.{performed, tells}
@@ -8,12 +7,12 @@ use Rattle.multi_source.proofs.field.perform.Goals as goal
 pub returns-in-Ok-clause-ok : goal.returns-in-Ok-clause-ok
 returns-in-Ok-clause-ok c = λ setup calls sending.
     performed setup calls c.in-Some.source c.event.new.self c.in-Some-since.begun c.put.new.self c.in-Ok.sent.pdus
-    c.event.ensures.checked c.event.ensures.setup (ap (λ (b : Begun). b.air) c.put.ensures) c.in-Ok.ensures.ok
-    (λ calls airs stands are. subst (λ at. Sends c.in-Some.source.setup airs at c.in-Ok.sent.pdus) c.in-Ok.ensures.event.0 (c.in-Ok.ensures.pdus calls airs stands are))
+    c.event.ensures.checked c.event.ensures.same.setup (ap (λ (b : Begun). b.air) c.put.ensures)
+    (λ calls stands. (c.in-Ok.ensures.permitted.permitted calls stands, c.in-Ok.ensures.performed.stands calls stands)) c.in-Ok.ensures.performed.sends
     (subst (λ since. Sending setup calls (Some c.in-Some.source) since) c.in-Some-since.is
     (subst (λ place. Sending setup calls place c.args.since.now) c.in-Some.is sending))
 
 pub returns-in-Ok-clause-stale : goal.returns-in-Ok-clause-stale
 returns-in-Ok-clause-stale c = λ setup calls airs sending are.
-    tells setup calls airs c.in-Some.source c.args.since.now c.in-Ok.sent.stale c.in-Ok.ensures.stale
+    tells setup calls airs c.in-Some.source c.args.since.now c.in-Ok.sent.stale c.in-Ok.ensures.performed.told
     (subst (λ place. Sending setup calls place c.args.since.now) c.in-Some.is sending) are

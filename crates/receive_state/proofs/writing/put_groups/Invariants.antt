@@ -1,7 +1,7 @@
 use Rattle.std.proofs.Common.{◌≡◌, ◌++◌, take, map}
 use Rattle.std.specs.List.{flat_map, AllByRecursion}
-use Rattle.octet_fields.specs.Layout.{laid}
-use Rattle.octet_fields.specs.Subgroups.{Fits, subgroup_fields}
+use Rattle.bcast_base.specs.Layout.{laid}
+use Rattle.bcast_base.specs.Subgroups.{Fits, subgroup_fields}
 use Rattle.receive_state.specs.Layout.{group_of}
 use Rattle.receive_state.proofs.writing.put_groups.Given as goal
 

@@ -1,5 +1,5 @@
 use Rattle.std.proofs.Common.{◌+◌, ◌∷◌, ◌∙◌, ap, sym, map, refl, arith, length, Ok}
-use Rattle.scenario_generator.specs.Generated.{generated_lines}
+use Rattle.scenario_writing.specs.Generated.{generated_lines}
 use Rattle.replay_generated.specs.Generated.{lines_made}
 use Rattle.replay_generated.proofs.EndLines.{made_end}
 use Rattle.replay_generated.proofs.GeneratedText.{generated_count, generated_read}

@@ -1,38 +1,53 @@
-use Rattle.std.proofs.Common.{◌∙◌, ap, Ok}
+use Rattle.std.proofs.Common.{◌∙◌, ap, map, Ok}
 use Rattle.bcast_io.specs.TextLines.{plain}
+use Rattle.source_machine.specs.Airs.{airs_of}
 use Rattle.replay_lines.proofs.Endings.{ends_faulted}
+use Rattle.replay_lines.proofs.Hearing.{ended_told}
 use Rattle.replay_lines.proofs.LineSteps.{next_at, line_past, line_long, line_read, line_comes, line_ahead, step_line}
+use Rattle.replay_lines.specs.declared.ending.Ending.TheVariants as endings
 use Rattle.replay_lines.proofs.lines.run_line.Goals as goal
 
 pub returns-in-Err-clause-runs : goal.returns-in-Err-clause-runs
 returns-in-Err-clause-runs g c =
     λ starts lines left kept e read run.
-    ends_faulted starts lines left (g.S.ByteSource.left c.read_next.new.source) kept (g.K.ByteSink.contents c.args.sink.now) c.args.machine.now _
-    (next_at left (g.S.ByteSource.left c.read_next.new.source) lines c.read_next.new.reader _ _ (c.read_next.ensures.next left lines read) c.in-Err.is) run
+    let boxes = map (λ b. (goal.Outlet-dyn g (b.vtable, b.value)).account b.value) c.args.outlets.now.items in
+    let left' = g.S.ByteSource.left c.read_next.new.source in
+    ended_told airs_of starts boxes left left' kept (g.K.ByteSink.contents c.args.sink.now) g.L.Listener.may_fail endings.ReadFault
+    (ends_faulted starts lines left left' kept (g.K.ByteSink.contents c.args.sink.now) c.args.machine.now boxes
+    (next_at left left' lines c.read_next.new.reader _ _ (c.read_next.ensures.next left lines read) c.in-Err.is) run)
 
 pub returns-in-Ok-End-clause-runs : goal.returns-in-Ok-End-clause-runs
 returns-in-Ok-End-clause-runs g c =
     λ starts lines left kept e read run.
-    c.end_text.ensures.ends starts lines left (g.S.ByteSource.left c.read_next.new.source) kept _ e
-    (next_at left (g.S.ByteSource.left c.read_next.new.source) lines c.read_next.new.reader _ _ (c.read_next.ensures.next left lines read) (c.in-Ok-End.is ∙ ap Ok c.in-Ok-End.field-0-is)) run
+    let boxes = map (λ b. (goal.Outlet-dyn g (b.vtable, b.value)).account b.value) c.args.outlets.now.items in
+    let left' = g.S.ByteSource.left c.read_next.new.source in
+    ended_told airs_of starts boxes left left' kept (g.K.ByteSink.contents c.end_text.new.sink) g.L.Listener.may_fail c.end_text.result
+    (c.end_text.ensures.ends starts lines left left' kept boxes e
+    (next_at left left' lines c.read_next.new.reader _ _ (c.read_next.ensures.next left lines read) (c.in-Ok-End.is ∙ ap Ok c.in-Ok-End.field-0-is)) run)
 
 pub returns-in-Ok-TextTooLong-clause-runs : goal.returns-in-Ok-TextTooLong-clause-runs
 returns-in-Ok-TextTooLong-clause-runs g c =
     λ starts lines left kept e read run.
-    line_past starts lines left (g.S.ByteSource.left c.read_next.new.source) kept (g.K.ByteSink.contents c.args.sink.now) (g.K.ByteSink.contents c.refuse.new.sink)
-    c.args.machine.now _ c.args.number c.read_next.new.reader e run c.refuse.result
-    (next_at left (g.S.ByteSource.left c.read_next.new.source) lines c.read_next.new.reader _ _ (c.read_next.ensures.next left lines read)
+    let boxes = map (λ b. (goal.Outlet-dyn g (b.vtable, b.value)).account b.value) c.args.outlets.now.items in
+    let left' = g.S.ByteSource.left c.read_next.new.source in
+    ended_told airs_of starts boxes left left' kept (g.K.ByteSink.contents c.refuse.new.sink) g.L.Listener.may_fail c.refuse.result
+    (line_past starts lines left left' kept (g.K.ByteSink.contents c.args.sink.now) (g.K.ByteSink.contents c.refuse.new.sink)
+    c.args.machine.now boxes c.args.number c.read_next.new.reader e run c.refuse.result
+    (next_at left left' lines c.read_next.new.reader _ _ (c.read_next.ensures.next left lines read)
     (c.in-Ok-TextTooLong.is ∙ ap Ok c.in-Ok-TextTooLong.field-0-is))
-    c.refuse.ensures.refuses
+    c.refuse.ensures.refuses)
 
 pub returns-in-Ok-LineTooLong-clause-runs : goal.returns-in-Ok-LineTooLong-clause-runs
 returns-in-Ok-LineTooLong-clause-runs g c =
     λ starts lines left kept e read run.
-    line_long starts lines left (g.S.ByteSource.left c.read_next.new.source) kept (g.K.ByteSink.contents c.args.sink.now) (g.K.ByteSink.contents c.refuse-in-Ok-LineTooLong.new.sink)
-    c.args.machine.now _ c.args.number c.read_next.new.reader e run c.refuse-in-Ok-LineTooLong.result
-    (next_at left (g.S.ByteSource.left c.read_next.new.source) lines c.read_next.new.reader _ _ (c.read_next.ensures.next left lines read)
+    let boxes = map (λ b. (goal.Outlet-dyn g (b.vtable, b.value)).account b.value) c.args.outlets.now.items in
+    let left' = g.S.ByteSource.left c.read_next.new.source in
+    ended_told airs_of starts boxes left left' kept (g.K.ByteSink.contents c.refuse-in-Ok-LineTooLong.new.sink) g.L.Listener.may_fail c.refuse-in-Ok-LineTooLong.result
+    (line_long starts lines left left' kept (g.K.ByteSink.contents c.args.sink.now) (g.K.ByteSink.contents c.refuse-in-Ok-LineTooLong.new.sink)
+    c.args.machine.now boxes c.args.number c.read_next.new.reader e run c.refuse-in-Ok-LineTooLong.result
+    (next_at left left' lines c.read_next.new.reader _ _ (c.read_next.ensures.next left lines read)
     (c.in-Ok-LineTooLong.is ∙ ap Ok c.in-Ok-LineTooLong.field-0-is))
-    c.refuse-in-Ok-LineTooLong.ensures.refuses
+    c.refuse-in-Ok-LineTooLong.ensures.refuses)
 
 pub returns-in-Ok-Line-clause-runs : goal.returns-in-Ok-Line-clause-runs
 returns-in-Ok-Line-clause-runs g c =
@@ -40,8 +55,8 @@ returns-in-Ok-Line-clause-runs g c =
     let at = line_read left (g.S.ByteSource.left c.read_next.new.source) lines c.read_next.new.reader c.line.result.now
     (next_at left (g.S.ByteSource.left c.read_next.new.source) lines c.read_next.new.reader _ _ (c.read_next.ensures.next left lines read) (c.in-Ok-Line.is ∙ ap Ok c.in-Ok-Line.field-0-is))
     c.line.ensures.value in
-    step_line starts lines (plain c.line.result.now) left (g.S.ByteSource.left c.read_next.new.source) kept (g.K.ByteSink.contents c.run_step.new.sink)
-    c.read_next.new.reader c.run_step.new.machine _ c.run_step.result at
-    (c.run_step.ensures.runs starts lines left (g.S.ByteSource.left c.read_next.new.source) kept e
+    step_line g.L.Listener.may_fail starts lines (plain c.line.result.now) left (g.S.ByteSource.left c.read_next.new.source) kept (g.K.ByteSink.contents c.hear_step.new.sink)
+    c.read_next.new.reader c.hear_step.new.machine _ c.hear_step.result at
+    (c.hear_step.ensures.runs starts lines left (g.S.ByteSource.left c.read_next.new.source) kept e
     (line_comes left (g.S.ByteSource.left c.read_next.new.source) lines c.read_next.new.reader (plain c.line.result.now) at)
     (line_ahead left (g.S.ByteSource.left c.read_next.new.source) lines c.read_next.new.reader (plain c.line.result.now) c.args.number e at) run)

@@ -1,7 +1,9 @@
 use Rattle.std.proofs.Common.{◌+◌, ◌∙◌, true, map, refl, arith}
 use Rattle.bcast_io.specs.TextLines.{lines_of}
 use Rattle.replay_steps.proofs.Citable.{none_run}
+use Rattle.source_machine.specs.Airs.{airs_of}
 use Rattle.replay_lines.proofs.Endings.{ends_at_once}
+use Rattle.replay_lines.proofs.Hearing.{wanted_told}
 use Rattle.replay_lines.proofs.ReadingOn.{none_within}
 use Rattle.replay_lines.proofs.LineSteps.{running_none, bound_none, running_more, running_ends}
 use Rattle.replay_lines.proofs.Untaken.{untaken_at}
@@ -9,11 +11,17 @@ use Rattle.replay_lines.proofs.lines.run_lines.Goals as goal
 
 pub returns-in_default-clause-ended : goal.returns-in_default-clause-ended
 returns-in_default-clause-ended g c =
-    ends_at_once (map (λ b. (goal.Outlet-dyn g (b.vtable, b.value)).account b.value) c.args.outlets.now.items) (g.S.ByteSource.left c.args.source.now) (g.K.ByteSink.contents c.args.sink.now)
+    let boxes = map (λ b. (goal.Outlet-dyn g (b.vtable, b.value)).account b.value) c.args.outlets.now.items in
+    let left = g.S.ByteSource.left c.args.source.now in
+    let kept = g.K.ByteSink.contents c.args.sink.now in
+    wanted_told airs_of boxes boxes left left kept kept g.L.Listener.may_fail (ends_at_once boxes left kept)
 
 pub returns-in_default-new-clause-ended : goal.returns-in_default-new-clause-ended
 returns-in_default-new-clause-ended g c =
-    ends_at_once (map (λ b. (goal.Outlet-dyn g (b.vtable, b.value)).account b.value) c.args.outlets.now.items) (g.S.ByteSource.left c.args.source.now) (g.K.ByteSink.contents c.args.sink.now)
+    let boxes = map (λ b. (goal.Outlet-dyn g (b.vtable, b.value)).account b.value) c.args.outlets.now.items in
+    let left = g.S.ByteSource.left c.args.source.now in
+    let kept = g.K.ByteSink.contents c.args.sink.now in
+    wanted_told airs_of boxes boxes left left kept kept g.L.Listener.may_fail (ends_at_once boxes left kept)
 
 pub returns-in_default-clause-within : goal.returns-in_default-clause-within
 returns-in_default-clause-within g c = none_within (g.S.ByteSource.left c.args.source.now)
@@ -36,7 +44,7 @@ lines-init g c = record {
 
 pub lines-preserved : goal.lines-preserved
 lines-preserved g c = record {
-  running = running_more c.args.outlets.now.items c.lines.outlets.items c.run_line.new.outlets.items (map (λ b. (goal.Outlet-dyn g (b.vtable, b.value)).account b.value) c.args.outlets.now.items)
+  running = running_more g.L.Listener.may_fail c.args.outlets.now.items c.lines.outlets.items c.run_line.new.outlets.items (map (λ b. (goal.Outlet-dyn g (b.vtable, b.value)).account b.value) c.args.outlets.now.items)
       (map (λ b. (goal.Outlet-dyn g (b.vtable, b.value)).account b.value) c.lines.outlets.items)
       (map (λ b. (goal.Outlet-dyn g (b.vtable, b.value)).account b.value) c.run_line.new.outlets.items)
       (g.S.ByteSource.left c.args.source.now) (g.S.ByteSource.left c.lines.source) (g.S.ByteSource.left c.run_line.new.source)
@@ -54,7 +62,7 @@ lines-preserved g c = record {
 
 pub returns-in-Some-clause-ended : goal.returns-in-Some-clause-ended
 returns-in-Some-clause-ended g c =
-    running_ends c.args.outlets.now.items c.lines.outlets.items (map (λ b. (goal.Outlet-dyn g (b.vtable, b.value)).account b.value) c.args.outlets.now.items)
+    running_ends g.L.Listener.may_fail c.args.outlets.now.items c.lines.outlets.items (map (λ b. (goal.Outlet-dyn g (b.vtable, b.value)).account b.value) c.args.outlets.now.items)
     (map (λ b. (goal.Outlet-dyn g (b.vtable, b.value)).account b.value) c.lines.outlets.items)
     (map (λ b. (goal.Outlet-dyn g (b.vtable, b.value)).account b.value) c.run_line.new.outlets.items)
     (g.S.ByteSource.left c.args.source.now) (g.S.ByteSource.left c.lines.source) (g.S.ByteSource.left c.run_line.new.source)

@@ -1,5 +1,5 @@
 use Rattle.std.proofs.Common.{◌≡◌, ◌∙◌, Err, ap, subst, sym}
-use Rattle.scenario_relays.specs.declared.route.Route.{Route}
+use Rattle.scenario_sinks.specs.declared.route.Route.{Route}
 use Rattle.transcript_text.specs.declared.stop.Stop.{Stop}
 use Rattle.replay_steps.specs.Machines.{relays_past}
 use Rattle.replay_steps.specs.Relaying.{GivesSecond}

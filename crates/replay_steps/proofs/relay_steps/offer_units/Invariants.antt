@@ -2,7 +2,7 @@ use Rattle.std.proofs.Common.{◌≡◌, List, map, take, Some, Ok}
 use Rattle.scenario_text.specs.declared.step.Step.{Step}
 use Rattle.scenario_history.specs.Gifts.{offered_of}
 use Rattle.scenario_history.specs.Relays.{Route}
-use Rattle.scenario_relays.specs.State.Standing.{RelaysStand}
+use Rattle.scenario_sinks.specs.State.RelaysStand.{RelaysStand}
 use Rattle.scenario_sinks.specs.State.Gathering.{handed_of}
 use Rattle.scenario_sources.specs.State.Standing.{SourcesStand}
 use Rattle.replay_steps.specs.Machines.{lent, relays_past}

@@ -2,6 +2,7 @@ use Rattle.std.proofs.Common.{ap, refl, sym, map, Some}
 use Rattle.scenario_sinks.specs.State.Gathering.{handed_of}
 use Rattle.scenario_sinks.proofs.Closings.{gathered_are, sink_hands}
 use Rattle.scenario_sinks.proofs.Entries.{sink_in}
+use Rattle.scenario_sinks.specs.State.Standing.{past_of}
 use Rattle.scenario_sinks.proofs.close.hand_living.Goals as goal
 
 pub returns-in-Err-hand_units-clause-hands : goal.returns-in-Err-hand_units-clause-hands
@@ -10,8 +11,8 @@ returns-in-Err-hand_units-clause-hands g c box made own life received entry mine
     sink_hands box made own life received c.args.owner c.args.event c.args.sink.now _ (map handed_of c.as_slice.result.now) _
     c.args.text.now c.hand_units.new.text _ _ _ was mine outlet
     (gathered_are c.args.gathered.now.units.items c.tick.new.taker.units.items c.as_slice.result.now _ empty
-    (c.in-Ok.ensures.hands was.how own life received was.lives) c.as_slice.ensures.value)
-    c.in-Err-hand_units.ensures.hands refl (c.in-Ok.ensures.lives was.how own life received was.lives) tt
+    (c.in-Ok.ensures.hands (past_of was.how own life received) was.lives) c.as_slice.ensures.value)
+    c.in-Err-hand_units.ensures.hands refl (c.in-Ok.ensures.lives (past_of was.how own life received) was.lives) tt
 
 pub returns-clause-hands : goal.returns-clause-hands
 returns-clause-hands g c box made own life received entry mine outlet empty =
@@ -19,6 +20,6 @@ returns-clause-hands g c box made own life received entry mine outlet empty =
     sink_hands box made own life received c.args.owner c.args.event c.args.sink.now _ (map handed_of c.as_slice.result.now) _
     c.args.text.now c.hand_units.new.text _ _ _ was mine outlet
     (gathered_are c.args.gathered.now.units.items c.tick.new.taker.units.items c.as_slice.result.now _ empty
-    (c.in-Ok.ensures.hands was.how own life received was.lives) c.as_slice.ensures.value)
-    c.in-Ok-hand_units.ensures.hands refl (c.in-Ok.ensures.lives was.how own life received was.lives)
+    (c.in-Ok.ensures.hands (past_of was.how own life received) was.lives) c.as_slice.ensures.value)
+    c.in-Ok-hand_units.ensures.hands refl (c.in-Ok.ensures.lives (past_of was.how own life received) was.lives)
     (ap (map handed_of) (sym c.as_slice.ensures.value))

@@ -1,8 +1,9 @@
 use Rattle.std.proofs.Common.{◌≡◌, ◌<◌, ◌∙◌, ap, sym, subst, refl, true, Some}
+use Rattle.std.proofs.lemmas.Option.{same_Some}
 use Rattle.delegator_history.specs.Sights.{Sight, on_group, slot_of}
 use Rattle.delegator_history.specs.Steps.{joined}
 use Rattle.delegator_control.specs.State.Machines.{Machine, machine}
-use Rattle.delegator_control.proofs.Followed.{group_status, near_itself, same_some, went_to}
+use Rattle.delegator_control.proofs.Followed.{group_status, near_itself, went_to}
 use Rattle.delegator_control.proofs.scan_delegator.ScanDelegator.go_on_group.Goals as goal
 
 pub returns-clause-step : goal.returns-clause-step
@@ -20,5 +21,5 @@ returns-clause-step c =
 pub invariant_of-self-clause-within : goal.invariant_of-self-clause-within
 invariant_of-self-clause-within c slot is =
     let mid : Machine = machine c.note_status.new.self in
-    let here : c.args.slot ≡ slot = same_some c.args.slot slot (sym (ap (λ (s : Sight). slot_of s.place) (c.join_group.ensures mid.sight)) ∙ is) in
+    let here : c.args.slot ≡ slot = same_Some c.args.slot slot (sym (ap (λ (s : Sight). slot_of s.place) (c.join_group.ensures mid.sight)) ∙ is) in
     subst (λ k. k < mid.setup.slots) here (subst (λ (a : Machine). c.args.slot < a.setup.slots) (sym c.in_ok-note_status.ensures.ok) c.requires.within)

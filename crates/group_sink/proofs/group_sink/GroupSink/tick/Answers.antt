@@ -1,5 +1,5 @@
 use Rattle.std.proofs.Common.{◌∷◌, ◌∙◌, Some, subst, sym}
-use Rattle.isoal_unframed.specs.State.Windows.{HandsOver}
+use Rattle.unit_outlets.specs.Handed.{HandsOver}
 use Rattle.group_sink.specs.Calls.{tick}
 use Rattle.group_sink.specs.State.Sinks.{StandsFor}
 use Rattle.group_sink.proofs.Standing.{some_hands, some_ticks}

@@ -1,6 +1,7 @@
 use Rattle.std.proofs.Common.{◌∷◌, sym, subst}
 use Rattle.isoal_base.specs.Stays.{close}
-use Rattle.isoal_framed.specs.State.Windows.{Stands, HandsOver}
+use Rattle.isoal_framed.specs.State.Windows.{Stands}
+use Rattle.unit_outlets.specs.Handed.{HandsOver}
 use Rattle.isoal_framed.proofs.Closed.{close_stands, close_gains, owed_is}
 use Rattle.isoal_framed.proofs.framed_in.FramedIn.close.Goals as goal
 

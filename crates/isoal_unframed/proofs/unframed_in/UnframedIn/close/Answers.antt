@@ -1,6 +1,7 @@
 use Rattle.std.proofs.Common.{◌∷◌, sym, subst}
 use Rattle.isoal_base.specs.Stays.{close}
-use Rattle.isoal_unframed.specs.State.Windows.{Stands, HandsOver}
+use Rattle.isoal_unframed.specs.State.Windows.{Stands}
+use Rattle.unit_outlets.specs.Handed.{HandsOver}
 use Rattle.isoal_unframed.proofs.Stands.{close_stands, owed_is}
 use Rattle.isoal_unframed.proofs.unframed_in.UnframedIn.close.Goals as goal
 

@@ -2,7 +2,8 @@ use Rattle.std.proofs.Common.{ap, sym, ◌∙◌, ◌≡◌, ◌≤◌, ◌+◌,
 use Rattle.isoal_base.specs.Stays.{window_of}
 use Rattle.isoal_unframed.specs.State.Rings.{kept_of}
 use Rattle.isoal_unframed.specs.State.Streams.{stay_of, place_of}
-use Rattle.isoal_unframed.specs.State.Windows.{HandsOver, owed, after_close}
+use Rattle.isoal_unframed.specs.State.Windows.{owed, after_close}
+use Rattle.unit_outlets.specs.Handed.{HandsOver}
 use Rattle.isoal_unframed.proofs.Kept.{length-kept}
 use Rattle.isoal_unframed.proofs.Windows.{place_within, owed-turned, closed_kept}
 use Rattle.isoal_unframed.proofs.unframed_in.UnframedIn.hand_units.Goals as goal

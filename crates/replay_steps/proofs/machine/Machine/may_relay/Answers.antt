@@ -1,4 +1,4 @@
-use Rattle.scenario_relays.specs.Pasts.{is_idle}
+use Rattle.scenario_sinks.specs.RelayPasts.{is_idle}
 use Rattle.replay_steps.specs.Machines.{relays_past}
 use Rattle.replay_steps.proofs.Idle.{relays_known}
 use Rattle.replay_steps.proofs.machine.Machine.may_relay.Goals as goal

@@ -1,20 +1,23 @@
-use Rattle.std.proofs.Common.{None, ap, sym, ◌∙◌}
-use Rattle.link_history.specs.Calls.{parted}
-use Rattle.scenario_sink.proofs.Grown.{its_joined, lives_more}
-use Rattle.scenario_sink.proofs.Turning.{link_refusal}
+use Rattle.std.proofs.Common.{None, sym, ◌∙◌}
+use Rattle.sink_history.specs.Calls.{is_joined}
+use Rattle.scenario_sink.proofs.Calls.{parts_one}
+use Rattle.scenario_sink.proofs.Turning.{no_link, past_link}
 use Rattle.scenario_sink.proofs.sink.LivingSink.apart.Goals as goal
 
+pub part-requires-clause-joined : goal.part-requires-clause-joined
+part-requires-clause-joined c = sym c.is_joined.ensures ∙ c.if-not-is_joined.false
+
 pub returns-then-not-is_joined : goal.returns-then-not-is_joined
-returns-then-not-is_joined c source sink made its life received lives =
-    let there = c.is_joined.ensures made its life received lives in
-    (ap (λ b. link_refusal b None) (sym there.0 ∙ c.if-not-is_joined.true), there.1)
+returns-then-not-is_joined c source sink past lives = (
+  no_link (is_joined c.args.link past.life) None (sym (lives.stands.each c.args.link).joined_is ∙ sym c.is_joined.ensures ∙ c.if-not-is_joined.true),
+  lives,
+)
 
 pub returns : goal.returns
-returns c source sink made its life received lives =
-    let there = c.is_joined.ensures made its life received lives in
-    let joined = sym there.0 ∙ c.if-not-is_joined.false in
-    let here = there.1 in (
-      ap (λ b. link_refusal b None) joined,
-      lives_more made its its (parted c.args.link) life received c.is_joined.new.self _ tt here
-          (c.part.ensures.stands made.setup made.mtu here.all here.stands (its_joined c.args.link made its life received c.is_joined.new.self here ∙ joined)) here.source_is,
-    )
+returns c source sink past lives = (
+  past_link (is_joined c.args.link past.life) None (sym (lives.stands.each c.args.link).joined_is ∙ sym c.is_joined.ensures ∙ c.if-not-is_joined.false),
+  record {
+    stands = parts_one c.links_law.ensures.apart c.args.link past _ c.args.self.now.links _ lives.stands c.requires.least c.requires.most c.part.ensures.terms c.part.ensures.links;
+    source_is = lives.source_is;
+  },
+)

@@ -1,27 +1,31 @@
-use Rattle.std.proofs.Common.{Err, refl, ap, sym, ◌∙◌}
-use Rattle.link_history.specs.Calls.{is_joined, joined}
-use Rattle.scenario_sink.proofs.Grown.{its_joined, lives_more, lives_on}
+use Rattle.std.proofs.Common.{Err, None, sym, ◌∙◌, ap}
+use Rattle.std.specs.Prelude.{slice_index_or}
+use Rattle.scenario_sink.proofs.Calls.{joins_one}
 use Rattle.scenario_sink.proofs.Joins.{not_twice, twice_refusal, wants_not_twice}
+use Rattle.scenario_sink.proofs.Stands.{unchanged}
 use Rattle.scenario_sink.proofs.sink.LivingSink.assist.Goals as goal
 
 pub returns-in-Ok : goal.returns-in-Ok
-returns-in-Ok c source sink made its life received lives =
-    let twice = c.assist.ensures.twice made.setup made.mtu lives.all lives.stands in (
-      ap twice_refusal (sym (its_joined c.args.link made its life received c.args.self.now lives) ∙ not_twice (is_joined c.args.link lives.all) c.assist.result twice c.in-Ok.is),
-      lives_more made its its (joined c.args.link) life received c.args.self.now _ tt lives (c.in-Ok.ensures.stands made.setup made.mtu lives.all lives.stands) lives.source_is,
-    )
+returns-in-Ok c source sink past lives = (
+  ap twice_refusal (sym (lives.stands.each c.args.link).joined_is ∙ not_twice _ c.assist.result c.assist.ensures.twice c.in-Ok.is),
+  record {
+    stands = joins_one c.links_law.ensures.apart c.args.link past _ c.args.self.now.links _ lives.stands c.requires c.assist.ensures.terms c.in-Ok.ensures.ok;
+    source_is = lives.source_is;
+  },
+)
 
 pub returns-in-Err-LinkTwice : goal.returns-in-Err-LinkTwice
-returns-in-Err-LinkTwice c source sink made its life received lives = (
-  ap twice_refusal (sym (its_joined c.args.link made its life received c.args.self.now lives)
-      ∙ (c.assist.ensures.twice made.setup made.mtu lives.all lives.stands).0 (c.in-Err-LinkTwice.is ∙ ap Err c.in-Err-LinkTwice.field-0-is)),
-  lives_on made its life received c.args.self.now _ lives (c.in-Err-LinkTwice.ensures.err made.setup made.mtu lives.all lives.stands) refl,
+returns-in-Err-LinkTwice c source sink past lives = (
+  ap twice_refusal (sym (lives.stands.each c.args.link).joined_is ∙ c.assist.ensures.twice.0 (c.in-Err-LinkTwice.is ∙ ap Err c.in-Err-LinkTwice.field-0-is)),
+  record {
+    stands = unchanged past _ c.args.self.now.links _ lives.stands c.assist.ensures.terms (λ link. ap (λ ons. slice_index_or ons link None) c.in-Err-LinkTwice.ensures.err);
+    source_is = lives.source_is;
+  },
 )
 
 pub returns-in-Err-Memory : goal.returns-in-Err-Memory
-returns-in-Err-Memory c source sink made its life received lives =
-    let twice = c.assist.ensures.twice made.setup made.mtu lives.all lives.stands in (
-      ap twice_refusal (sym (its_joined c.args.link made its life received c.args.self.now lives)
-          ∙ wants_not_twice (is_joined c.args.link lives.all) c.assist.result twice (c.in-Err-Memory.is ∙ ap Err c.in-Err-Memory.field-0-is)),
-      tt,
-    )
+returns-in-Err-Memory c source sink past lives = (
+  ap twice_refusal (sym (lives.stands.each c.args.link).joined_is
+      ∙ wants_not_twice _ c.assist.result c.assist.ensures.twice (c.in-Err-Memory.is ∙ ap Err c.in-Err-Memory.field-0-is)),
+  tt,
+)

@@ -1,19 +1,20 @@
-use Rattle.std.proofs.Common.{◌∷◌, ap, ◌∙◌}
+use Rattle.std.proofs.Common.{◌∙◌, refl, ap}
+use Rattle.delegator_machine.specs.Calls.{hear}
 use Rattle.group_sink.specs.Calls as sinks
 use Rattle.group_sink.specs.Hearings.{hearing_of}
-use Rattle.link_history.specs.Calls.{heard}
+use Rattle.scenario_sink.proofs.Stands.{receives}
 use Rattle.scenario_sink.proofs.sink.LivingSink.hear.Goals as goal
 
 pub returns-clause-answer : goal.returns-clause-answer
-returns-clause-answer c made source life received lives =
-    c.hear.ensures.answer made.setup made.mtu lives.all lives.stands
-    ∙ ap (λ past. hearing_of past c.args.event c.args.bis c.args.subevent c.args.pdu.now) lives.received_is
+returns-clause-answer c past lives =
+    let took = lives.stands.took in
+    c.hear.ensures.answer past.made.setup took.taken took.stands
+    ∙ ap (λ calls. hearing_of calls c.args.event c.args.bis c.args.subevent c.args.pdu.now) took.received_is
 
 pub returns-clause-lives : goal.returns-clause-lives
-returns-clause-lives c made source life received lives = record {
-  all = heard c.args.event c.args.bis c.args.subevent c.args.pdu.now ∷ lives.all;
-  stands = c.hear.ensures.stands made.setup made.mtu lives.all lives.stands;
-  life_is = lives.life_is;
-  received_is = ap (λ past. sinks.hear c.args.event c.args.bis c.args.subevent c.args.pdu.now ∷ past) lives.received_is;
-  source_is = lives.source_is;
-}
+returns-clause-lives c past lives =
+    let took = lives.stands.took in record {
+      stands = receives (hear c.args.event c.args.bis c.args.subevent c.args.pdu.now) (sinks.hear c.args.event c.args.bis c.args.subevent c.args.pdu.now) past
+          c.args.self.now.delegator _ _ (λ taken. refl) (λ taken. refl) lives.stands (c.hear.ensures.stands past.made.setup took.taken took.stands) c.hear.ensures.settings;
+      source_is = lives.source_is;
+    }

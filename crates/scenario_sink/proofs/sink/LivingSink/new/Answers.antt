@@ -1,7 +1,10 @@
 use Rattle.std.proofs.Common.{refl}
-use Rattle.scenario_sink.proofs.Fresh.{newborn}
+use Rattle.scenario_sink.proofs.Born.{born_stands}
 use Rattle.scenario_sink.proofs.sink.LivingSink.new.Goals as goal
 
 pub returns : goal.returns
-returns c =
-    newborn (record { setup = record { streams = c.args.streams; slots = c.args.slots; horizon = c.args.horizon }; mtu = c.args.mtu }) _ c.in_ok-new.ensures.stands refl
+returns c = record {
+  stands = born_stands c.a_step_tells_each_link.ensures (record { streams = c.args.streams; slots = c.args.slots; horizon = c.args.horizon }) c.args.mtu _ _
+      c.in_ok-delegator.ensures c.in_ok-links.ensures.terms.0 c.in_ok-links.ensures.terms.1 c.in_ok-links.ensures.links;
+  source_is = refl;
+}

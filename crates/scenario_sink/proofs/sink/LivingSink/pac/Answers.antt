@@ -1,12 +1,19 @@
-use Rattle.std.proofs.Common.{refl, subst}
-use Rattle.delegator_history.specs.States.{record_added, sight_of}
-use Rattle.link_history.specs.Calls.{stepped, steps_of}
+use Rattle.std.proofs.Common.{◌≤◌, ◌∷◌, ◌++◌, [], length, refl, sym, subst}
+use Rattle.bcast_base.specs.Spelling.{IsOctets}
 use Rattle.ltv_codec.proofs.Citable.{are_read}
-use Rattle.octet_fields.specs.Spelling.{IsOctets}
+use Rattle.delegator_history.specs.Sights.{Sight}
+use Rattle.delegator_history.specs.States.{record_added, sight_of}
+use Rattle.delegator_machine.specs.Calls.{steps_of}
+use Rattle.delegator_machine.specs.State.Halves.{Halves}
+use Rattle.pacs_records.specs.Layout.{greatest_value, value}
 use Rattle.pacs_records.specs.Pushes.{RefusesPush}
+use Rattle.pacs_records.specs.declared.fault.PushFault.TheVariants.{Memory, TooLong}
 use Rattle.sink_history.specs.Lives.{record_of}
-use Rattle.scenario_sink.proofs.Grown.{its_same, lives_more, lives_on}
+use Rattle.sink_history.specs.Output.{sight_in}
+use Rattle.scenario_sink.specs.State.Stands.{Stands}
 use Rattle.scenario_sink.proofs.Recorded.{has_room, no_room}
+use Rattle.scenario_sink.proofs.Stands.{sets}
+use Rattle.scenario_sink.proofs.Untold.{its_sight}
 use Rattle.scenario_sink.proofs.sink.LivingSink.pac.Goals as goal
 
 pub add_pac-requires-clause-caps : goal.add_pac-requires-clause-caps
@@ -16,29 +23,37 @@ pub add_pac-requires-clause-metadata : goal.add_pac-requires-clause-metadata
 add_pac-requires-clause-metadata c = are_read c.args.metadata (subst IsOctets c.as_slice-2.ensures c.are_octets-2.ensures) c.requires.metadata
 
 pub returns-in-Ok : goal.returns-in-Ok
-returns-in-Ok c source sink made its life received lives =
-    let same = its_same made its life received c.args.self.now lives in
+returns-in-Ok c source sink past lives =
+    let took = lives.stands.took in
     let entry = record_of c.args.codec c.args.caps c.args.metadata in (
-      has_room made entry lives.all life same (c.in-Ok.ensures.fits made.setup made.mtu lives.all lives.stands),
-      lives_more made its its (stepped (record_added entry)) life received c.args.self.now _ tt lives (c.in-Ok.ensures.stands made.setup made.mtu lives.all lives.stands) lives.source_is,
+      has_room (length (value ((sight_in past.made past.life).capability.entries ++ entry ∷ [])))
+          (subst (λ (s : Sight). length (value (s.capability.entries ++ entry ∷ [])) ≤ greatest_value) (its_sight past _ _ took)
+          (c.in-Ok.ensures.fits past.made.setup took.taken took.stands)),
+      record {
+        stands = sets c.a_step_tells_each_link.ensures (record_added entry) past c.args.self.now.delegator _ _ refl tt (λ sight i. refl) lives.stands
+            (c.in-Ok.ensures.stands past.made.setup took.taken took.stands) c.add_pac.ensures.settings;
+        source_is = lives.source_is;
+      },
     )
 
 pub returns-in-Err-TooLong : goal.returns-in-Err-TooLong
-returns-in-Err-TooLong c source sink made its life received lives =
-    let same = its_same made its life received c.args.self.now lives in
+returns-in-Err-TooLong c source sink past lives =
+    let took = lives.stands.took in
     let entry = record_of c.args.codec c.args.caps c.args.metadata in (
-      no_room made entry lives.all life same
-          (subst (λ fault. RefusesPush fault (sight_of made.setup (steps_of lives.all)).capability.entries entry) c.in-Err-TooLong.field-0-is
-          (c.in-Err-TooLong.ensures.refused made.setup made.mtu lives.all lives.stands)),
-      lives_on made its life received c.args.self.now _ lives (c.in-Err-TooLong.ensures.err made.setup made.mtu lives.all lives.stands) refl,
+      no_room (length (value ((sight_in past.made past.life).capability.entries ++ entry ∷ [])))
+          (subst (λ (s : Sight). RefusesPush TooLong s.capability.entries entry) (its_sight past _ _ took)
+          (subst (λ fault. RefusesPush fault (sight_of past.made.setup (steps_of took.taken)).capability.entries entry) c.in-Err-TooLong.field-0-is
+          (c.in-Err-TooLong.ensures.refused past.made.setup took.taken took.stands))),
+      record { stands = subst (λ (d : Halves). Stands past d c.args.self.now.links) (sym c.in-Err-TooLong.ensures.err) lives.stands; source_is = lives.source_is },
     )
 
 pub returns-in-Err-Memory : goal.returns-in-Err-Memory
-returns-in-Err-Memory c source sink made its life received lives =
-    let same = its_same made its life received c.args.self.now lives in
+returns-in-Err-Memory c source sink past lives =
+    let took = lives.stands.took in
     let entry = record_of c.args.codec c.args.caps c.args.metadata in (
-      has_room made entry lives.all life same
-          (subst (λ fault. RefusesPush fault (sight_of made.setup (steps_of lives.all)).capability.entries entry) c.in-Err-Memory.field-0-is
-          (c.in-Err-Memory.ensures.refused made.setup made.mtu lives.all lives.stands)),
+      has_room (length (value ((sight_in past.made past.life).capability.entries ++ entry ∷ [])))
+          (subst (λ (s : Sight). RefusesPush Memory s.capability.entries entry) (its_sight past _ _ took)
+          (subst (λ fault. RefusesPush fault (sight_of past.made.setup (steps_of took.taken)).capability.entries entry) c.in-Err-Memory.field-0-is
+          (c.in-Err-Memory.ensures.refused past.made.setup took.taken took.stands))),
       tt,
     )

@@ -1,10 +1,15 @@
-use Rattle.std.proofs.Common.{◌∙◌}
-use Rattle.link_history.specs.Calls.{asked}
-use Rattle.scenario_sink.proofs.Grown.{its_joined, lives_more}
+use Rattle.std.proofs.Common.{arith}
+use Rattle.bcast_base.specs.Spelling.{IsOctets}
+use Rattle.scenario_sink.proofs.Calls.{Here, asks, here, its_assistant}
 use Rattle.scenario_sink.proofs.Results.{on_ok}
 use Rattle.scenario_sink.proofs.sink.LivingSink.put_write.Goals as goal
 
 pub returns : goal.returns
-returns c made its life received lives joined =
-    on_ok c.ask.result (λ stands. lives_more made its its (asked c.args.link c.args.octets.now) life received c.args.self.now _ tt lives stands lives.source_is)
-    (c.ask.ensures.stands made.setup made.mtu lives.all lives.stands (its_joined c.args.link made its life received c.args.self.now lives ∙ joined))
+returns c past lives on =
+    let old = c.args.self.now in
+    let h : Here c.args.link past old.links = here c.args.link past old.delegator old.links lives.stands on in
+    let octets : IsOctets c.args.octets.now = λ i. omega (arith, c.type_inv.octets i) in
+    on_ok c.put.result (λ took. record {
+      stands = asks c.links_law.ensures.apart c.args.link c.args.octets.now past old.delegator old.links _ lives.stands on octets took;
+      source_is = lives.source_is;
+    }) (c.put.ensures h.on.assistant (its_assistant c.args.link past old.links h))

@@ -1,14 +1,11 @@
-use Rattle.std.proofs.Common.{ℕ, ◌≡◌, true, List, Option}
-use Rattle.group_sink.specs.Calls as sinks
-use Rattle.link_history.specs.Calls.{Call, is_joined, read}
-use Rattle.link_history.specs.Links.{reads_waiting}
-use Rattle.sink_history.specs.Lives.{Made}
-use Rattle.sink_history.specs.Output.{read_lines}
+use Rattle.std.proofs.Common.{◌≡◌, true}
+use Rattle.sink_history.specs.Calls.{is_joined}
 use Rattle.transcript_text.specs.Labels.{label_of}
-use Rattle.scenario_sink.specs.State.Living.{Lives}
-use Rattle.scenario_sink.proofs.Draining.{Repeats}
+use Rattle.scenario_sink.specs.Pasts.{SinkPast}
+use Rattle.scenario_sink.specs.State.Stands.{Lives}
+use Rattle.scenario_sink.proofs.Draining.{Repeats, reading}
 use Rattle.scenario_sink.proofs.sink.LivingSink.read_all.Given as goal
 
 abbrev pub invariant-reads : goal.invariant-reads
-invariant-reads l = (made : Made) (its : Option ℕ) (life : List Call) (received : List sinks.Call) → Lives made its life received l.fn.self → is_joined l.link life ≡ true
-    → Repeats made its (read l.link) (reads_waiting made.setup made.mtu l.link) (λ n. read_lines (label_of l.label) made l.link n life) l.counter life received l.fn.text l.text l.self
+invariant-reads l = (past : SinkPast) → Lives past l.fn.self → is_joined l.link past.life ≡ true
+    → Repeats past l.link (reading (label_of l.label) past.made l.link) l.counter l.fn.text l.text l.self

@@ -1,52 +1,81 @@
-use Rattle.std.proofs.Common.{Ok, slice_get, refl, sym, ap, ◌∙◌}
-use Rattle.std.proofs.lemmas.Result.{err_from_is_err_and}
+use Rattle.std.proofs.Common.{◌≡◌, ◌<◌, ◌∷◌, [], List, ℕ, Some, option_map, slice_get, refl, sym, ◌∙◌, ap, subst, arith}
 use Rattle.std.specs.Prelude.{is_none}
-use Rattle.link_history.specs.Links.{language, reads_waiting}
-use Rattle.assistant_machine.specs.Links.{reads_of}
+use Rattle.std.proofs.lemmas.Result.{err_from_is_err_and}
+use Rattle.assistant_machine.specs.Calls.{read}
+use Rattle.delegator_history.specs.Values.{value_at}
 use Rattle.sink_history.specs.Output.{stated, was_read}
-use Rattle.link_history.specs.Calls as calls
 use Rattle.transcript_text.specs.Labels.{label_of}
 use Rattle.transcript_text.specs.SinkLines.{value_line}
-use Rattle.scenario_sink.proofs.Grown.{its_joined, its_same, lives_more, lives_on}
-use Rattle.scenario_sink.proofs.Turning.{its_line, none_there, some_there, wanted_some, was_read_same}
+use Rattle.scenario_sink.specs.State.Taking.{Takes}
+use Rattle.scenario_sink.proofs.Calls.{Here, here, its_assistant, kept, no_read, reads_one, slot_there, slots_there, which_read}
+use Rattle.scenario_sink.proofs.Shown.{with_value}
+use Rattle.scenario_sink.proofs.Turning.{its_line}
+use Rattle.scenario_sink.proofs.Untold.{its_sight}
 use Rattle.scenario_sink.proofs.sink.LivingSink.read_next.Goals as goal
 
 pub returns-in_default : goal.returns-in_default
-returns-in_default c made its life received lives on =
-    let same = its_same made its life received c.args.self.now lives in
-    let there = its_joined c.args.link made its life received c.args.self.now lives ∙ on in
-    let answer = sym c.in_default.is ∙ c.in_ok-notice.ensures.answer made.setup made.mtu lives.all lives.stands there ∙ was_read_same made c.args.link lives.all life same in (
-      none_there (stated made life) (slice_get (reads_waiting made.setup made.mtu c.args.link life) 0) answer,
-      (lives_on made its life received c.args.self.now _ lives (c.in_ok-notice.ensures.none made.setup made.mtu lives.all lives.stands there (ap Ok c.in_default.is)) refl, refl),
+returns-in_default c past lives on =
+    let old = c.args.self.now in
+    let h : Here c.args.link past old.links = here c.args.link past old.delegator old.links lives.stands on in
+    let none = c.in_default.ensures.none h.on.assistant (its_assistant c.args.link past old.links h) in (
+      ap (λ (reads : List ℕ). is_none (slice_get reads 0)) (no_read c.args.link past old.links h none.0),
+      (record { stands = kept c.args.link past old.delegator old.links _ lives.stands on none.1; source_is = lives.source_is }, refl),
     )
 
+pub returns-then-slot-self : goal.returns-then-slot-self
+returns-then-slot-self c past lives on =
+    let old = c.args.self.now in
+    let h : Here c.args.link past old.links = here c.args.link past old.delegator old.links lives.stands on in
+    let some = c.in-Some.ensures.some h.on.assistant (its_assistant c.args.link past old.links h) in
+    let within : c.in-Some.slot < past.made.setup.slots = slot_there c.args.link past old.links h c.in-Some.slot some.0 in
+    let same : past.made.setup.slots ≡ old.slots = slots_there past old.delegator old.links old.slots lives.stands old.fits in
+    absurd (omega (arith, within, same, c.if-slot-self.true))
+
 pub returns : goal.returns
-returns c made its life received lives on =
-    let same = its_same made its life received c.args.self.now lives in
-    let there = its_joined c.args.link made its life received c.args.self.now lives ∙ on in
-    let answer = sym c.in-Some.is ∙ c.in_ok-notice.ensures.answer made.setup made.mtu lives.all lives.stands there ∙ was_read_same made c.args.link lives.all life same in (
-      some_there (stated made life) (slice_get (reads_waiting made.setup made.mtu c.args.link life) 0) c.in-Some.notice answer,
+returns c past lives on =
+    let old = c.args.self.now in
+    let took = lives.stands.took in
+    let h : Here c.args.link past old.links = here c.args.link past old.delegator old.links lives.stands on in
+    let some = c.in-Some.ensures.some h.on.assistant (its_assistant c.args.link past old.links h) in
+    let first = which_read c.args.link past old.links h c.in-Some.slot some.0 in
+    let few : past.made.setup.slots < 256 =
+    let same : past.made.setup.slots ≡ old.slots = slots_there past old.delegator old.links old.slots lives.stands old.fits in omega (arith, same, old.few) in
+    let value = c.in_ok-value.ensures.value past.made.setup took.taken took.stands ∙ ap (λ s. value_at s c.in-Some.slot) (its_sight past old.delegator old.links took) in
+    let answer = ap (λ (octets : List ℕ). Some (with_value c.in-Some.slot octets)) value ∙ ap (option_map (stated past.made past.life)) (sym first) in (
+      ap is_none first,
       (
-        lives_more made its its (calls.read c.args.link) life received c.args.self.now _ tt lives (c.in_ok-notice.ensures.stands made.setup made.mtu lives.all lives.stands there) lives.source_is,
-        its_line (value_line (label_of c.args.label).read (label_of c.args.label).numbers) (was_read made c.args.link life) c.in-Some.notice c.args.text.now c.put_read.new.text answer
-            c.in_ok-put_read.ensures,
+        record {
+          stands = reads_one c.links_law.ensures.apart c.a_read_gives_the_state.ensures c.args.link c.in-Some.slot c.in_ok-value.value past old.delegator old.links c.next_read.new.links _
+              lives.stands on few some.0 value some.1
+              (λ before is. subst (λ octets. Takes (read c.in-Some.slot octets ∷ []) c.args.link before c.next_read.new.links c.take_value.new.links) c.as_slice.ensures
+              (c.in_ok-take_value.ensures before is));
+          source_is = lives.source_is;
+        },
+        its_line (value_line (label_of c.args.label).read (label_of c.args.label).numbers) (was_read past.made c.args.link past.life)
+            (with_value c.in-Some.slot c.in_ok-value.value) c.args.text.now c.put_read.new.text answer c.in_ok-put_read.ensures,
       ),
     )
 
-pub returns-in_err-notice : goal.returns-in_err-notice
-returns-in_err-notice c made its life received lives on =
-    let same = its_same made its life received c.args.self.now lives in
-    let there = its_joined c.args.link made its life received c.args.self.now lives ∙ on in
+pub returns-in_err-value : goal.returns-in_err-value
+returns-in_err-value c past lives on =
+    let old = c.args.self.now in
+    let h : Here c.args.link past old.links = here c.args.link past old.delegator old.links lives.stands on in
+    let some = c.in-Some.ensures.some h.on.assistant (its_assistant c.args.link past old.links h) in
     let p = err_from_is_err_and c.from_residual.result c.from_residual.ensures.1 in
-    rw p.1
-    (ap (λ acts. is_none (slice_get (reads_of (language made.mtu) made.setup.slots acts) 0)) (sym (same.acts made.setup made.mtu c.args.link))
-    ∙ wanted_some (slice_get (reads_waiting made.setup made.mtu c.args.link lives.all) 0) (c.in_err-notice.ensures.memory made.setup made.mtu lives.all lives.stands there))
+    rw p.1 (ap is_none (which_read c.args.link past old.links h c.in-Some.slot some.0))
+
+pub returns-in_err-take_value : goal.returns-in_err-take_value
+returns-in_err-take_value c past lives on =
+    let old = c.args.self.now in
+    let h : Here c.args.link past old.links = here c.args.link past old.delegator old.links lives.stands on in
+    let some = c.in-Some.ensures.some h.on.assistant (its_assistant c.args.link past old.links h) in
+    let p = err_from_is_err_and c.from_residual-in_err-take_value.result c.from_residual-in_err-take_value.ensures.1 in
+    rw p.1 (ap is_none (which_read c.args.link past old.links h c.in-Some.slot some.0))
 
 pub returns-in_err-put_read : goal.returns-in_err-put_read
-returns-in_err-put_read c made its life received lives on =
-    let same = its_same made its life received c.args.self.now lives in
-    let there = its_joined c.args.link made its life received c.args.self.now lives ∙ on in
+returns-in_err-put_read c past lives on =
+    let old = c.args.self.now in
+    let h : Here c.args.link past old.links = here c.args.link past old.delegator old.links lives.stands on in
+    let some = c.in-Some.ensures.some h.on.assistant (its_assistant c.args.link past old.links h) in
     let p = err_from_is_err_and c.from_residual-in_err-put_read.result c.from_residual-in_err-put_read.ensures.1 in
-    rw p.1
-    (some_there (stated made life) (slice_get (reads_waiting made.setup made.mtu c.args.link life) 0) c.in-Some.notice
-    (sym c.in-Some.is ∙ c.in_ok-notice.ensures.answer made.setup made.mtu lives.all lives.stands there ∙ was_read_same made c.args.link lives.all life same))
+    rw p.1 (ap is_none (which_read c.args.link past old.links h c.in-Some.slot some.0))

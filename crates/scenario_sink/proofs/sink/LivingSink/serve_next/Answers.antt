@@ -1,51 +1,73 @@
-use Rattle.std.proofs.Common.{Ok, slice_get, refl, sym, ap, ◌∙◌}
+use Rattle.std.proofs.Common.{◌∷◌, Some, option_map, refl, sym, ◌∙◌, ap, slice_get, subst}
+use Rattle.std.specs.Prelude.{is_none}
 use Rattle.std.proofs.lemmas.Result.{err_from_is_err_and}
-use Rattle.std.specs.Prelude.{IsOk, is_none}
-use Rattle.bass_operations.specs.Reading.{op_of}
+use Rattle.delegator_history.specs.States.{written}
 use Rattle.delegator_history.specs.Writes.{reply_of}
+use Rattle.delegator_machine.specs.Calls.{control}
+use Rattle.delegator_machine.specs.State.Halves.{StandsFor}
+use Rattle.sink_history.specs.Calls.{served}
 use Rattle.sink_history.specs.Output.{replied, sight_in}
-use Rattle.link_history.specs.Calls.{writes_waiting}
 use Rattle.transcript_text.specs.Labels.{label_of}
 use Rattle.transcript_text.specs.SinkLines.{reply_line}
-use Rattle.scenario_sink.proofs.Grown.{its_joined, its_same, lives_on, lives_served}
-use Rattle.scenario_sink.proofs.Turning.{its_line, none_there, replied_same, some_there, wanted_there}
-use Rattle.scenario_sink.proofs.Air.{waiting_same}
+use Rattle.scenario_sink.proofs.Calls.{Here, first_write, here, its_assistant, kept, no_write, serves}
+use Rattle.scenario_sink.proofs.Lives.{served_stays}
+use Rattle.scenario_sink.proofs.Turning.{its_line}
+use Rattle.scenario_sink.proofs.Untold.{its_sight}
 use Rattle.scenario_sink.proofs.sink.LivingSink.serve_next.Goals as goal
 
 pub returns-in_default : goal.returns-in_default
-returns-in_default c made its life received lives on =
-    let same = its_same made its life received c.args.self.now lives in
-    let there = its_joined c.args.link made its life received c.args.self.now lives ∙ on in
-    let answer = sym c.in_default.is ∙ c.in_ok-reply.ensures.answer made.setup made.mtu lives.all lives.stands there ∙ replied_same made c.args.link lives.all life same in (
-      none_there (reply_of (sight_in made life)) (slice_get (writes_waiting c.args.link life) 0) answer,
-      (lives_on made its life received c.args.self.now _ lives (c.in_ok-reply.ensures.none made.setup made.mtu lives.all lives.stands there (ap Ok c.in_default.is)) refl, refl),
+returns-in_default c past lives on =
+    let old = c.args.self.now in
+    let h : Here c.args.link past old.links = here c.args.link past old.delegator old.links lives.stands on in
+    let none = c.in_default.ensures.none h.on.assistant (its_assistant c.args.link past old.links h) in (
+      ap (λ writes. is_none (slice_get writes 0)) (no_write c.args.link past old.links h none.0),
+      (record { stands = kept c.args.link past old.delegator old.links _ lives.stands on none.1; source_is = lives.source_is }, refl),
     )
 
 pub returns : goal.returns
-returns c made its life received lives on =
-    let same = its_same made its life received c.args.self.now lives in
-    let there = its_joined c.args.link made its life received c.args.self.now lives ∙ on in
-    let answer = sym c.in-Some.is ∙ c.in_ok-reply.ensures.answer made.setup made.mtu lives.all lives.stands there ∙ replied_same made c.args.link lives.all life same in (
-      some_there (reply_of (sight_in made life)) (slice_get (writes_waiting c.args.link life) 0) c.in-Some.reply answer,
+returns c past lives on =
+    let old = c.args.self.now in
+    let took = lives.stands.took in
+    let h : Here c.args.link past old.links = here c.args.link past old.delegator old.links lives.stands on in
+    let some = c.in-Some.ensures.some h.on.assistant (its_assistant c.args.link past old.links h) in
+    let first = first_write c.args.link past old.links h c.in-Some.write some.0 in
+    let sight = its_sight past old.delegator old.links took in
+    let answer = ap Some (c.in_ok-reply.ensures.answer past.made.setup took.taken took.stands ∙ (λ i. reply_of (sight i) (c.as_slice.ensures i)))
+    ∙ ap (option_map (reply_of (sight_in past.made past.life))) (sym first) in (
+      ap is_none first,
       (
-        lives_served made its c.args.link life received c.args.self.now _ lives (c.in_ok-reply.ensures.stands made.setup made.mtu lives.all lives.stands there) refl,
-        its_line (reply_line (label_of c.args.label)) (replied made c.args.link life) c.in-Some.reply c.args.text.now c.put_reply.new.text answer c.in_ok-put_reply.ensures,
+        record {
+          stands = served_stays c.args.link past _ _ (c.in_ok-gather.ensures.stands (served c.args.link) past
+              (serves c.args.link c.in-Some.write past old.delegator _ old.links _ lives.stands on some.0 some.1
+              (subst (λ write. StandsFor past.made.setup (control (written c.args.link write) ∷ took.taken) c.serve.new.self) c.as_slice.ensures
+              (c.in_ok-reply.ensures.stands past.made.setup took.taken c.args.link took.stands)) c.serve.ensures.settings));
+          source_is = c.gather.ensures.source ∙ lives.source_is;
+        },
+        its_line (reply_line (label_of c.args.label)) (replied past.made c.args.link past.life) c.in_ok-reply.reply c.args.text.now c.put_reply.new.text answer
+            c.in_ok-put_reply.ensures,
       ),
     )
 
 pub returns-in_err-reply : goal.returns-in_err-reply
-returns-in_err-reply c made its life received lives on =
-    let there = its_joined c.args.link made its life received c.args.self.now lives ∙ on in
+returns-in_err-reply c past lives on =
+    let old = c.args.self.now in
+    let h : Here c.args.link past old.links = here c.args.link past old.delegator old.links lives.stands on in
+    let some = c.in-Some.ensures.some h.on.assistant (its_assistant c.args.link past old.links h) in
     let p = err_from_is_err_and c.from_residual.result c.from_residual.ensures.1 in
-    rw p.1
-    (ap (λ ws. is_none (slice_get ws 0)) (sym (waiting_same c.args.link lives.all life (its_same made its life received c.args.self.now lives)))
-    ∙ wanted_there (slice_get (writes_waiting c.args.link lives.all) 0) (λ write. IsOk (op_of write)) (c.in_err-reply.ensures.memory made.setup made.mtu lives.all lives.stands there))
+    rw p.1 (ap is_none (first_write c.args.link past old.links h c.in-Some.write some.0))
+
+pub returns-in_err-gather : goal.returns-in_err-gather
+returns-in_err-gather c past lives on =
+    let old = c.args.self.now in
+    let h : Here c.args.link past old.links = here c.args.link past old.delegator old.links lives.stands on in
+    let some = c.in-Some.ensures.some h.on.assistant (its_assistant c.args.link past old.links h) in
+    let p = err_from_is_err_and c.from_residual-in_err-gather.result c.from_residual-in_err-gather.ensures.1 in
+    rw p.1 (ap is_none (first_write c.args.link past old.links h c.in-Some.write some.0))
 
 pub returns-in_err-put_reply : goal.returns-in_err-put_reply
-returns-in_err-put_reply c made its life received lives on =
-    let same = its_same made its life received c.args.self.now lives in
-    let there = its_joined c.args.link made its life received c.args.self.now lives ∙ on in
+returns-in_err-put_reply c past lives on =
+    let old = c.args.self.now in
+    let h : Here c.args.link past old.links = here c.args.link past old.delegator old.links lives.stands on in
+    let some = c.in-Some.ensures.some h.on.assistant (its_assistant c.args.link past old.links h) in
     let p = err_from_is_err_and c.from_residual-in_err-put_reply.result c.from_residual-in_err-put_reply.ensures.1 in
-    rw p.1
-    (some_there (reply_of (sight_in made life)) (slice_get (writes_waiting c.args.link life) 0) c.in-Some.reply
-    (sym c.in-Some.is ∙ c.in_ok-reply.ensures.answer made.setup made.mtu lives.all lives.stands there ∙ replied_same made c.args.link lives.all life same))
+    rw p.1 (ap is_none (first_write c.args.link past old.links h c.in-Some.write some.0))

@@ -1,14 +1,14 @@
 use Rattle.std.proofs.Common.{refl}
 use Rattle.std.proofs.lemmas.Result.{err_from_is_err_and}
-use Rattle.scenario_sink.proofs.Grown.{lives_stayed}
+use Rattle.scenario_sink.proofs.Lives.{lives_stayed}
 use Rattle.scenario_sink.proofs.sink.LivingSink.show.Goals as goal
 
 pub returns : goal.returns
-returns c source made its life received lives =
-    let shown = c.in_ok-show_slots.ensures made its life received lives in
-    (refl, lives_stayed made its life received _ shown.0, shown.1)
+returns c source past lives =
+    let shown = c.in_ok-show_slots.ensures past lives in
+    (refl, lives_stayed past _ shown.0, shown.1)
 
 pub returns-in_err-show_slots : goal.returns-in_err-show_slots
-returns-in_err-show_slots c source made its life received lives =
+returns-in_err-show_slots c source past lives =
     let p = err_from_is_err_and c.from_residual.result c.from_residual.ensures.1 in
     rw (p.1, p.2) (refl, tt)

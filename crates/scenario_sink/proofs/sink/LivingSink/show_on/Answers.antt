@@ -1,24 +1,25 @@
-use Rattle.std.proofs.Common.{None, refl, sym, ap, ◌∙◌}
+use Rattle.std.proofs.Common.{None, refl, sym, ◌∙◌}
 use Rattle.std.proofs.lemmas.Result.{err_from_is_err_and}
-use Rattle.link_history.specs.Calls.{is_joined}
-use Rattle.scenario_sink.proofs.Grown.{lives_stayed}
-use Rattle.scenario_sink.proofs.Turning.{link_refusal, no_link}
+use Rattle.sink_history.specs.Calls.{is_joined}
+use Rattle.scenario_sink.proofs.Lives.{lives_stayed}
+use Rattle.scenario_sink.proofs.Turning.{no_link, past_link}
 use Rattle.scenario_sink.proofs.sink.LivingSink.show_on.Goals as goal
 
 pub returns-then-not-is_joined : goal.returns-then-not-is_joined
-returns-then-not-is_joined c source made its life received lives =
-    let there = c.is_joined.ensures made its life received lives in
-    (no_link (is_joined c.args.link life) None (sym there.0 ∙ c.if-not-is_joined.true), there.1, refl)
+returns-then-not-is_joined c past lives = (
+  no_link (is_joined c.args.link past.life) None (sym (lives.stands.each c.args.link).joined_is ∙ sym c.is_joined.ensures ∙ c.if-not-is_joined.true),
+  lives,
+  refl,
+)
 
 pub returns : goal.returns
-returns c source made its life received lives =
-    let there = c.is_joined.ensures made its life received lives in
-    let joined = sym there.0 ∙ c.if-not-is_joined.false in
-    let shown = c.in_ok-show_views.ensures made its life received there.1 joined in
-    (ap (λ b. link_refusal b None) joined, lives_stayed made its life received _ shown.0, shown.1)
+returns c past lives =
+    let on = sym (lives.stands.each c.args.link).joined_is ∙ sym c.is_joined.ensures ∙ c.if-not-is_joined.false in
+    let shown = c.in_ok-show_views.ensures past lives on in
+    (past_link (is_joined c.args.link past.life) None on, lives_stayed past _ shown.0, shown.1)
 
 pub returns-in_err-show_views : goal.returns-in_err-show_views
-returns-in_err-show_views c source made its life received lives =
-    let there = c.is_joined.ensures made its life received lives in
+returns-in_err-show_views c past lives =
+    let on = sym (lives.stands.each c.args.link).joined_is ∙ sym c.is_joined.ensures ∙ c.if-not-is_joined.false in
     let p = err_from_is_err_and c.from_residual.result c.from_residual.ensures.1 in
-    rw (p.1, p.2) (ap (λ b. link_refusal b None) (sym there.0 ∙ c.if-not-is_joined.false), tt)
+    rw (p.1, p.2) (past_link (is_joined c.args.link past.life) None on, tt)

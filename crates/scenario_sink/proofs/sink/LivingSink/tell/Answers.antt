@@ -1,20 +1,30 @@
-use Rattle.std.proofs.Common.{◌∷◌, ap, slice_get}
+use Rattle.std.proofs.Common.{◌∷◌, slice_get, refl, sym, ◌∙◌}
+use Rattle.std.specs.Prelude.{is_none}
 use Rattle.std.proofs.lemmas.Result.{err_from_is_err_and}
-use Rattle.link_history.specs.Calls as calls
-use Rattle.link_history.specs.Links.{notices_waiting}
+use Rattle.sink_history.specs.Calls as calls
+use Rattle.sink_history.specs.Calls.{is_joined}
+use Rattle.sink_history.specs.Links.{notices_waiting}
 use Rattle.sink_history.specs.Output.{tell_line}
-use Rattle.transcript_text.specs.SinkLines.{plain}
-use Rattle.scenario_sink.proofs.Grown.{first_joined}
-use Rattle.scenario_sink.proofs.Turning.{idle_refusal, turned}
+use Rattle.transcript_text.specs.Labels.{label_of}
+use Rattle.scenario_sink.proofs.Turning.{idle_refusal, no_link, some_wait, turned}
 use Rattle.scenario_sink.proofs.sink.LivingSink.tell.Goals as goal
 
+pub returns-then-not-is_joined : goal.returns-then-not-is_joined
+returns-then-not-is_joined c past lives = (
+  no_link (is_joined c.args.link past.life) (idle_refusal (is_none (slice_get (notices_waiting past.made.setup past.made.mtu c.args.link past.life) 0)))
+      (sym (lives.stands.each c.args.link).joined_is ∙ sym c.is_joined.ensures ∙ c.if-not-is_joined.true),
+  lives,
+  refl,
+)
+
 pub returns : goal.returns
-returns c source made its life received lives =
-    turned made its life (calls.told 0 ∷ life) received (slice_get (notices_waiting made.setup made.mtu 0 life) 0) (tell_line (plain c.args.sink) made 0 life) c.args.text.now
-    c.tell_next.new.text c.tell_next.new.self c.in_ok-waited.waited c.refuse_unless.result c.refuse_unless.ensures
-    (c.in_ok-waited.ensures made its life received lives (first_joined made its life received c.args.self.now lives))
+returns c past lives =
+    let on = sym (lives.stands.each c.args.link).joined_is ∙ sym c.is_joined.ensures ∙ c.if-not-is_joined.false in
+    turned c.args.link past (calls.told c.args.link ∷ past.life) (slice_get (notices_waiting past.made.setup past.made.mtu c.args.link past.life) 0) (tell_line (label_of c.args.label) past.made c.args.link past.life) c.args.text.now
+    c.tell_next.new.text c.tell_next.new.self c.in_ok-waited.waited c.refuse_unless.result on c.refuse_unless.ensures (c.in_ok-waited.ensures past lives on)
 
 pub returns-in_err-waited : goal.returns-in_err-waited
-returns-in_err-waited c source made its life received lives =
+returns-in_err-waited c past lives =
+    let on = sym (lives.stands.each c.args.link).joined_is ∙ sym c.is_joined.ensures ∙ c.if-not-is_joined.false in
     let p = err_from_is_err_and c.from_residual.result c.from_residual.ensures.1 in
-    rw (p.1, p.2) (ap idle_refusal (c.in_err-waited.ensures made its life received lives (first_joined made its life received c.args.self.now lives)), tt)
+    rw (p.1, p.2) (some_wait (is_joined c.args.link past.life) (is_none (slice_get (notices_waiting past.made.setup past.made.mtu c.args.link past.life) 0)) on (c.in_err-waited.ensures past lives on), tt)

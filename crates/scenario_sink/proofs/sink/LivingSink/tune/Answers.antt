@@ -1,13 +1,19 @@
 use Rattle.std.proofs.Common.{Some, refl}
 use Rattle.delegator_history.specs.States.{put_on}
 use Rattle.delegator_history.specs.Trains.{Joining}
-use Rattle.link_history.specs.Calls.{stepped}
-use Rattle.scenario_sink.proofs.Grown.{lives_more}
+use Rattle.sink_history.specs.Calls.{stepped}
+use Rattle.scenario_sink.specs.State.Stands.{after_call}
+use Rattle.scenario_sink.proofs.Lives.{of_source}
+use Rattle.scenario_sink.proofs.Stands.{steps}
 use Rattle.scenario_sink.proofs.sink.LivingSink.tune.Goals as goal
 
 pub returns : goal.returns
-returns c made before life received lives =
+returns c past lives =
     let joining : Joining =
     record { info = c.args.group.now.info; which = c.args.which; first = c.args.event; anchor = c.args.anchor; delay = c.args.delay } in
-    lives_more made before (Some c.args.source) (stepped (put_on c.args.source joining)) life received c.args.self.now _ tt lives
-    (c.in_ok-tune.ensures.stands made.setup made.mtu lives.all c.args.source lives.stands) refl
+    let its = lives.stands in record {
+      stands = of_source (Some c.args.source) (after_call (stepped (put_on c.args.source joining)) past) _ _ (c.in_ok-gather.ensures.stands (stepped (put_on c.args.source joining)) past
+          (steps (put_on c.args.source joining) past c.args.self.now.delegator _ _ refl tt its
+          (c.in_ok-tune.ensures.stands past.made.setup its.took.taken c.args.source its.took.stands) c.tune.ensures.settings));
+      source_is = refl;
+    }

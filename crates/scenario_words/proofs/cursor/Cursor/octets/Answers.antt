@@ -3,4 +3,4 @@ use Rattle.scenario_words.proofs.OneWord.{octets_range}
 use Rattle.scenario_words.proofs.cursor.Cursor.octets.Goals as goal
 
 pub returns-in-Some-clause-range : goal.returns-in-Some-clause-range
-returns-in-Some-clause-range c = octets_range c.args.most c.in_ok-word.word.now c.in-Some.octets (sym c.in_ok-octets.ensures ∙ c.in-Some.is)
+returns-in-Some-clause-range c = octets_range c.args.most c.in_ok-word.word.now c.in-Some.octets (sym c.in_ok-octets.ensures.gives ∙ c.in-Some.is)

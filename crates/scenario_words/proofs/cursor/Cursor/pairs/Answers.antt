@@ -17,6 +17,12 @@ returns-in_err-wish-clause-gives c =
     rw (p.1, p.2)
     (wish_fails c.pairs.wishes c.pairs.self c.in_err-wish.field-0.0 (wishes_of [] 31 c.args.self.now.read c.args.self.now.words) few more c.in_err-wish.ensures.gives c.pairs.invariant.rest)
 
+pub returns-in_err-wish-clause-memory : goal.returns-in_err-wish-clause-memory
+returns-in_err-wish-clause-memory c = λ memory. c.pairs.invariant.some (c.has_more.ensures.0 c.pairs-test.true)
+
+pub returns-in_err-push-clause-memory : goal.returns-in_err-push-clause-memory
+returns-in_err-push-clause-memory c = λ memory. c.pairs.invariant.some (c.has_more.ensures.0 c.pairs-test.true)
+
 pub pairs-preserved : goal.pairs-preserved
 pairs-preserved c =
     let more : c.pairs.self.words ≢ [] = c.has_more.ensures.0 c.pairs-test.true in
@@ -27,6 +33,7 @@ pairs-preserved c =
     record {
       few = rw c.in_ok-push.ensures.ok (omega arith);
       short = rw c.in_ok-push.ensures.ok (metadata_more c.pairs.wishes c.in_ok-wish.wish c.pairs.invariant.short c.in_ok-wish.ensures.range);
+      some = λ left. c.pairs.invariant.some more;
       rest = rw c.in_ok-push.ensures.ok next;
     }
 

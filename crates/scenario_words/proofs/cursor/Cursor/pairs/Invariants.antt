@@ -1,4 +1,4 @@
-use Rattle.std.proofs.Common.{◌≡◌, ◌≤◌, ◌-◌, length, []}
+use Rattle.std.proofs.Common.{◌≡◌, ◌≢◌, ◌≤◌, ◌-◌, length, []}
 use Rattle.bass_operations.specs.Layout.{MetadataFits}
 use Rattle.scenario_words.specs.Reading.{wishes_of}
 use Rattle.scenario_words.proofs.cursor.Cursor.pairs.Given as goal
@@ -7,6 +7,7 @@ abbrev pub invariant-pairs : goal.invariant-pairs
 invariant-pairs l = record {
   few : length l.wishes ≤ 31;
   short : MetadataFits l.wishes;
+  some : l.self.words ≢ [] → l.fn.self.words ≢ [];
   rest : wishes_of l.wishes (31 - length l.wishes) l.self.read l.self.words ≡ wishes_of [] 31 l.fn.self.read l.fn.self.words;
 }
 

@@ -8,7 +8,7 @@ pub returns-in_err-bis : goal.returns-in_err-bis
 returns-in_err-bis c =
     let more : c.indices.self.words ≢ [] = c.has_more.ensures.0 c.indices-test.true in
     let p = err_from_is_err_and c.from_residual-in_err-bis.result c.from_residual-in_err-bis.ensures.1 in
-    rw (p.1, p.2) (index_fails c.indices.which (c.indices.last + 1) c.indices.self c.in_err-bis.field-0.0 (rising_of c.args.self.now) more c.in_err-bis.ensures.gives c.indices.invariant.rest)
+    rw (p.1, p.2) (index_fails c.indices.which (c.indices.last + 1) c.in_err-bis.field-0.0.word c.indices.self (rising_of c.args.self.now) more c.in_err-bis.ensures.gives c.indices.invariant.rest)
 
 pub indices-preserved : goal.indices-preserved
 indices-preserved c =

@@ -23,8 +23,8 @@ invariant_of-self-2 c =
     let below = rw (← c.self.view_is) at c.requires in
     source_next _ c.next_laying-laying.result c.lay_all.new.streams.items c.self.invariant below next c.in_ok-lay_all.ensures.ok
 
-pub returns-clause-ok : goal.returns-clause-ok
-returns-clause-ok c =
+pub returns-clause-performed : goal.returns-clause-performed
+returns-clause-performed c =
     let next = rw (← c.self.view_is) at c.next_laying-laying.ensures in
     let laying = c.next_laying-laying.result in
     let told = subst (λ first. AllTell laying.anchor laying.iso_us laying.count c.self.inside.streams.items (length c.self.inside.streams.items) first c.lay_all.new.stale)

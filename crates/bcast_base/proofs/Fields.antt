@@ -1,0 +1,158 @@
+-- A field that is read is the field that was written, and what was written is read again.
+use Rattle.std.proofs.Common.{◌≡◌, ℕ, zero, suc, ◌+◌, ◌-◌, ◌*◌, ◌/◌, ◌%◌, ◌^◌, ◌<◌, ◌≤◌, Bool, true, false, cond, ltb, List, [], ◌∷◌, ◌++◌, length, take, drop, Some, None, refl}
+use Rattle.std.proofs.Common.{sym, ap, subst, ◌∙◌, append_assoc, arith, inl, inr}
+use Rattle.std.proofs.lemmas.Bool.{cases_lt, ltb-false, le-ltb}
+use Rattle.std.proofs.lemmas.List.{take_at, drop_at, take-append-drop, length-append, length-take, get_or-drop, get_or-take, get_or_past}
+use Rattle.std.proofs.lemmas.Nat.{pow-add}
+use Rattle.std.proofs.lemmas.Option.{some_pair_parts}
+use Rattle.std.specs.Int.{w64, to_le_bytes}
+use Rattle.bcast_base.specs.Numbers.{sum_from}
+use Rattle.bcast_base.proofs.Places.{sum_from-cons}
+use Rattle.bcast_base.specs.Reading.{octet_in, octets_in, number_in, counted_in, Takes}
+use Rattle.bcast_base.specs.Spelling.{IsOctets, octet, number, counted}
+
+pub IsOctets-drop : (n : ℕ) (octets : List ℕ) → IsOctets octets → IsOctets (drop n octets)
+IsOctets-drop n octets h i = rw get_or-drop (h (n + i))
+
+pub IsOctets-take : (n : ℕ) (octets : List ℕ) → IsOctets octets → IsOctets (take n octets)
+IsOctets-take n octets h i =
+    elim (cases_lt i n) [
+      | inl lt ↦ rw (get_or-take n octets i 0 lt) (h i)
+      | inr le ↦ rw (get_or_past (take n octets) i 0 (omega (arith, length-take n octets))) (omega arith)
+    ]
+
+pub IsOctets-rest : (first : ℕ) (octets : List ℕ) → IsOctets (first ∷ octets) → IsOctets octets
+IsOctets-rest first octets h i = h (suc i)
+
+pub IsOctets-front : (front rest : List ℕ) → IsOctets (front ++ rest) → IsOctets front
+IsOctets-front front rest h = subst IsOctets (take_at front rest (length front) refl) (IsOctets-take (length front) (front ++ rest) h)
+
+-- a test that did not fail
+pub guard_some : {A : Type 0} (b : Bool) (x y : A) → cond b None (Some x) ≡ Some y → (b ≡ false) × (x ≡ y)
+guard_some true x y e = absurd cc
+guard_some false x y e = (refl, cc)
+
+-- what was taken first and what was taken next, together
+pub Takes-then : (a x b y c : List ℕ) → Takes a x b → Takes b y c → Takes a (x ++ y) c
+Takes-then a x b y c p q = record { parts = p.parts ∙ ap (λ (t : List ℕ). x ++ t) q.parts ∙ sym (append_assoc x y c); fits = λ h. q.fits (p.fits h) }
+
+-- ---- one octet
+
+pub octet_takes : (from : List ℕ) (value : ℕ) (rest : List ℕ) → octet_in from ≡ Some (value, rest) → Takes from (octet value) rest
+octet_takes [] value rest e = absurd cc
+octet_takes (first ∷ others) value rest e =
+    let same = some_pair_parts first value others rest e in
+    rw (← same.0, ← same.1) (record { parts = refl; fits = IsOctets-rest first others })
+
+-- ---- octets as they are
+
+pub octets_take : (k : ℕ) (from value rest : List ℕ) → octets_in k from ≡ Some (value, rest) → Takes from value rest × (length value ≡ k)
+octets_take k from value rest e =
+    let g = guard_some (ltb (length from) k) (take k from, drop k from) (value, rest) e in
+    let long : k ≤ length from = ltb-false _ _ g.0 in
+    let taken : Takes from (take k from) (drop k from) = record { parts = sym (take-append-drop k from); fits = IsOctets-drop k from } in
+    subst (λ (p : List ℕ × List ℕ). Takes from p.0 p.1 × (length p.0 ≡ k)) g.1 (taken, omega (arith, length-take k from))
+
+pub octets_again : (value rest : List ℕ) → octets_in (length value) (value ++ rest) ≡ Some (value, rest)
+octets_again value rest =
+    let long : ltb (length (value ++ rest)) (length value) ≡ false = le-ltb _ _ (omega (arith, length-append value rest)) in
+    rw (long, take_at value rest (length value) refl, drop_at value rest (length value) refl) refl
+
+-- ---- octets behind their count
+
+pub counted_takes : (from value rest : List ℕ) → counted_in from ≡ Some (value, rest) → Takes from (counted value) rest
+counted_takes [] value rest e = absurd cc
+counted_takes (count ∷ others) value rest e =
+    let t = octets_take count others value rest e in
+    record { parts = rw t.1 (ap (λ (x : List ℕ). count ∷ x) t.0.parts); fits = λ h. t.0.fits (IsOctets-rest count others h) }
+
+pub counted_again : (value rest : List ℕ) → counted_in (counted value ++ rest) ≡ Some (value, rest)
+counted_again value rest = octets_again value rest
+
+-- ---- numbers
+
+one_wider : (k : ℕ) → 2 ^ (8 * suc k) ≡ 256 * 2 ^ (8 * k)
+one_wider k =
+    let e : 8 * suc k ≡ 8 + 8 * k = omega arith in
+    ap (λ n. 2 ^ n) e ∙ pow-add 2 8 (8 * k)
+
+pub number-length : (k value : ℕ) → length (number k value) ≡ k
+unfolding number
+number-length zero value = refl
+number-length (suc k) value = ap suc (number-length k (value / 256))
+
+pub number_below : (octets : List ℕ) → IsOctets octets → sum_from 0 octets < 2 ^ (8 * length octets)
+number_below [] h = omega arith
+number_below (first ∷ octets) h =
+    let rest : sum_from 0 octets < 2 ^ (8 * length octets) = number_below octets (IsOctets-rest first octets h) in
+    omega (arith, sum_from-cons first octets, one_wider (length octets), h 0)
+
+pub number_back : (octets : List ℕ) → IsOctets octets → number (length octets) (sum_from 0 octets) ≡ octets
+unfolding number
+number_back [] h = refl
+number_back (first ∷ octets) h =
+    let low : sum_from 0 (first ∷ octets) % 256 ≡ first = omega (arith, sum_from-cons first octets, h 0) in
+    let high : sum_from 0 (first ∷ octets) / 256 ≡ sum_from 0 octets = omega (arith, sum_from-cons first octets, h 0) in
+    let rest : number (length octets) (sum_from 0 octets) ≡ octets = number_back octets (IsOctets-rest first octets h) in
+    ap (λ (n : ℕ). n ∷ number (length octets) (sum_from 0 (first ∷ octets) / 256)) low ∙ ap (λ (n : ℕ). first ∷ number (length octets) n) high ∙ ap (λ (x : List ℕ). first ∷ x) rest
+
+pub number_sum : (k value : ℕ) → value < 2 ^ (8 * k) → sum_from 0 (number k value) ≡ value
+unfolding number
+number_sum zero value lt = omega (arith, lt)
+number_sum (suc k) value lt =
+    let small : value / 256 < 2 ^ (8 * k) = omega (arith, lt, one_wider k) in
+    let rest : sum_from 0 (number k (value / 256)) ≡ value / 256 = number_sum k (value / 256) small in
+    omega (arith, sum_from-cons (value % 256) (number k (value / 256)), rest)
+
+take_number : (k more value : ℕ) → take k (number (k + more) value) ≡ number k value
+unfolding number
+take_number zero more value = refl
+take_number (suc k) more value =
+    let e : suc k + more ≡ suc (k + more) = omega arith in
+    ap (λ (n : ℕ). take (suc k) (number n value)) e ∙ ap (λ (x : List ℕ). (value % 256) ∷ x) (take_number k more (value / 256))
+
+eight_octets : (value : ℕ) → to_le_bytes w64 value ≡ number 8 value
+unfolding number
+eight_octets value =
+    let at2 : value / 256 / 256 ≡ value / 65536 = omega arith in
+    let at3 : value / 65536 / 256 ≡ value / 16777216 = omega arith in
+    let at4 : value / 16777216 / 256 ≡ value / 4294967296 = omega arith in
+    let at5 : value / 4294967296 / 256 ≡ value / 1099511627776 = omega arith in
+    let at6 : value / 1099511627776 / 256 ≡ value / 281474976710656 = omega arith in
+    let at7 : value / 281474976710656 / 256 ≡ value / 72057594037927936 = omega arith in
+    rw (at2, at3, at4, at5, at6, at7) refl
+
+pub front_of_eight : (k value : ℕ) → k ≤ 8 → take k (to_le_bytes w64 value) ≡ number k value
+front_of_eight k value h =
+    let e : 8 ≡ k + (8 - k) = omega arith in
+    ap (take k) (eight_octets value) ∙ ap (λ (n : ℕ). take k (number n value)) e ∙ take_number k (8 - k) value
+
+-- the octets of a number are those that spell it
+pub number_once : (k value : ℕ) (octets : List ℕ) → IsOctets octets → length octets ≡ k → value ≡ sum_from 0 octets → octets ≡ number k value
+number_once k value octets h long e = rw (e, ← long) (sym (number_back octets h))
+
+pub number_takes : (k : ℕ) (from : List ℕ) (value : ℕ) (rest : List ℕ) → IsOctets from → number_in k from ≡ Some (value, rest) → Takes from (number k value) rest × (value < 2 ^ (8 * k))
+number_takes k from value rest h e =
+    let g = guard_some (ltb (length from) k) (sum_from 0 (take k from), drop k from) (value, rest) e in
+    let long : k ≤ length from = ltb-false _ _ g.0 in
+    let fits = IsOctets-take k from h in
+    let len : length (take k from) ≡ k = omega (arith, length-take k from) in
+    let front : take k from ≡ number k (sum_from 0 (take k from)) = number_once k (sum_from 0 (take k from)) (take k from) fits len refl in
+    let parts : from ≡ number k (sum_from 0 (take k from)) ++ drop k from = sym (take-append-drop k from) ∙ ap (λ (x : List ℕ). x ++ drop k from) front in
+    let taken : Takes from (number k (sum_from 0 (take k from))) (drop k from) = record { parts = parts; fits = IsOctets-drop k from } in
+    let small : sum_from 0 (take k from) < 2 ^ (8 * k) = subst (λ (n : ℕ). sum_from 0 (take k from) < 2 ^ (8 * n)) len (number_below (take k from) fits) in
+    subst (λ (p : ℕ × List ℕ). Takes from (number k p.0) p.1 × (p.0 < 2 ^ (8 * k))) g.1 (taken, small)
+
+pub number_again : (k value : ℕ) (rest : List ℕ) → value < 2 ^ (8 * k) → number_in k (number k value ++ rest) ≡ Some (value, rest)
+number_again k value rest lt =
+    let len : length (number k value) ≡ k = number-length k value in
+    let long : ltb (length (number k value ++ rest)) k ≡ false = le-ltb _ _ (omega (arith, length-append (number k value) rest)) in
+    rw (long, take_at (number k value) rest k len, drop_at (number k value) rest k len, number_sum k value lt) refl
+
+-- the number of the octets that were taken has room in as many
+pub octets_below : (k : ℕ) (from value rest : List ℕ) (n : ℕ) → IsOctets from → octets_in k from ≡ Some (value, rest) → n ≡ sum_from 0 value → n < 2 ^ (8 * k)
+octets_below k from value rest n h e spelled =
+    let t = octets_take k from value rest e in
+    let fits : IsOctets value = IsOctets-front value rest (subst IsOctets t.0.parts h) in
+    let small : sum_from 0 value < 2 ^ (8 * k) = subst (λ (m : ℕ). sum_from 0 value < 2 ^ (8 * m)) t.1 (number_below value fits) in
+    omega (arith, spelled, small)

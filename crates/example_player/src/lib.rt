@@ -1,0 +1,10 @@
+//! An example of how the crates are used: a player that stays on one framed stream and keeps, in order, what it hears.
+#![tactic(auto)]
+
+mod player;
+mod playlist;
+#[cfg(test)]
+mod tests;
+
+pub use player::Player;
+pub use playlist::{Entry, Playlist};

@@ -1,0 +1,12 @@
+use Rattle.explained_rows.specs.Told.{told_at}
+use Rattle.explain_command.proofs.explain.explain.Goals as goal
+
+pub returns-clause-told : goal.returns-clause-told
+returns-clause-told g c = record {
+  ran = c.run_heard-ran.result;
+  taken = told_at c.run_heard-ran.new.sink.place (g.W.ByteSink.contents c.run_heard-ran.new.sink.inner);
+  writes = g.W.ByteSink.faults c.run_heard-ran.new.sink.inner;
+  run = c.run_heard-ran.ensures.heard;
+  kept = c.close.ensures.kept;
+  ends = c.close.ensures.ends;
+}

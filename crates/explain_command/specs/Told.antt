@@ -1,0 +1,40 @@
+-- What an explanation promises of the outside before it and after it, by how it ended. Of a world's `taken` it tells what the sink's
+-- octets tell of a transcript. The program is this project's own.
+use Rattle.std.specs.Prelude.{ℕ, ◌≡◌, ◌⊎◌, List, Option}
+use Rattle.std.specs.Io.KnownBytes.{Keeps}
+use Rattle.bcast_base.specs.Counts.{Rose}
+use Rattle.explained_rows.specs.Told.{Rows, told_at}
+use Rattle.replay_lines.specs.Heard.{Heard}
+use Rattle.replay_lines.specs.World.{World}
+use Rattle.unit_outlets.specs.Account.{Account}
+use Rattle.replay_lines.specs.declared.ending.Ending.{Ending}
+use Rattle.replay_lines.specs.declared.ending.Ending.TheVariants.{WriteFault, Memory}
+
+-- the outside of an explanation: what the source has left and its count of faults, the rows, by what their sink tells, and the boxes
+abbrev pub told_world : {W : Type 0} → Option (List ℕ) → ℕ → (W → Option (List ℕ)) → (W → ℕ) → Rows W → List Account → World
+told_world left reads taken writes rows boxes = record {
+  left = left;
+  reads = reads;
+  taken = told_at rows.place (taken rows.inner);
+  writes = writes rows.inner;
+  boxes = boxes;
+}
+
+-- The explanation ends as its run did, unless the notes behind its last line could not be written: `writes` and `writes'` are the sink's
+-- counts of faults before and after that.
+abbrev pub EndsSo : Ending → Ending → ℕ → ℕ → Type 0
+EndsSo ran ending writes writes' =
+    ((ending ≡ ran) × (writes' ≡ writes)) ⊎ ((ending ≡ WriteFault) × Rose writes writes') ⊎ ((ending ≡ Memory) × (writes' ≡ writes))
+
+pub record Told (old new : World) (ending : Ending) : Type 0 where
+  -- how the run of the lines ended
+  pub ran : Ending
+  -- what the sink was seen to have taken of the transcript then, and its count of faults
+  pub taken : Option (List ℕ)
+  pub writes : ℕ
+  -- The run did what is promised of a run with a listener: the sink took the transcript of the text, or the part of it that this ending
+  -- tells.
+  pub run : Heard old (record { left = new.left; reads = new.reads; taken = taken; writes = writes; boxes = new.boxes }) ran
+  -- the notes behind the last line leave that
+  pub kept : Keeps taken new.taken
+  pub ends : EndsSo ran ending writes new.writes

@@ -1,0 +1,68 @@
+//! The call that the program makes.
+ghost use Rattle.std.specs.Prelude.{◌≡◌, ℕ, List, Some, length, map, true, IfOk};
+ghost use Rattle.bcast_io.specs.TextLines.{lines_of};
+ghost use Rattle.unit_outlets.specs.Account.{Account};
+ghost use Rattle.scenario_history.specs.Airs.{MeetAirs};
+ghost use Rattle.source_machine.specs.Airs.{Airs};
+ghost use Rattle.replay_steps.specs.Untaken.{UntakenBy};
+ghost use Rattle.explain_command.specs.Told.{Told, told_world};
+
+use crate::explainer::Explainer;
+use bcast_base::Memory;
+use bcast_io::{ByteSink, ByteSource};
+use explained_rows::ExplainedRows;
+use replay_lines::{Ending, run_heard};
+use std::alloc::Global;
+use unit_outlets::{Outlet, Tally};
+
+/// How many boxes the program has.
+const BOXES: usize = 8;
+
+/// Runs the scenario that the source gives, a step a line, and explains it: each line is written behind its number, then the rows of
+/// the transcript that it brings, each behind two blanks, and then notes, each behind two blanks and `# `. Each `sink` line takes the
+/// next box of the list. Lines that are too long are not written. What a line brings is written before the next line is read, and its
+/// notes with the next line or at the end.
+///
+/// The rows of the transcript are those of `replay`, whatever the notes say: where the sink tells its octets, and those that it has are
+/// whole rows, they are what `run_text` writes. `Done` and `Refused` come where they come of `run_text`. `ReadFault`, `WriteFault` and
+/// `OutletFault` come only where the count of the source, of the sink or of a box rose. After `WriteFault` and `Memory` a front of
+/// the transcript was written, or all of it.
+pub fn explain<S: ByteSource, W: ByteSink + Drop>(
+    alloc: Global,
+    source: &mut S,
+    sink: &mut ExplainedRows<W>,
+    outlets: &mut Vec<Box<dyn Outlet>>,
+) -> Ending
+    ensures told { Told (told_world (S.left source.old) (S.faults source.old) W.contents W.faults sink.old (map account outlets.old.items))
+        (told_world (S.left source.new) (S.faults source.new) W.contents W.faults sink.new (map account outlets.new.items)) result }
+    // A box that no accepted `sink` line takes stays the same.
+    ensures untaken { (text : List ℕ) (airs : Airs) → S.left source.old ≡ Some text → MeetAirs airs
+        → UntakenBy airs (map account outlets.old.items) (lines_of true text) outlets.old.items outlets.new.items }
+{
+    let mut explainer = Explainer::new(alloc);
+    let ran = run_heard(alloc, source, sink, &mut explainer, outlets);
+    explainer.close(ran, sink)
+}
+
+/// The same with eight boxes that took nothing yet: one for each sink that may live.
+pub(crate) fn explain_with_tallies<S: ByteSource, W: ByteSink + Drop>(
+    alloc: Global,
+    source: &mut S,
+    sink: &mut ExplainedRows<W>,
+) -> Result<Ending, Memory>
+    ensures { IfOk result (λ ending. (starts : List Account) × (ends : List Account) × (length starts ≡ 8)
+        × Told (told_world (S.left source.old) (S.faults source.old) W.contents W.faults sink.old starts)
+        (told_world (S.left source.new) (S.faults source.new) W.contents W.faults sink.new ends) ending) }
+{
+    let mut outlets: Vec<Box<dyn Outlet>> = Vec::new(alloc);
+    'boxes: for _ in 0..BOXES {
+        match Box::new(alloc, Tally::new()) {
+            Ok(tally) => match outlets.push(tally) {
+                Ok(()) => continue 'boxes,
+                Err(_) => return Err(Memory),
+            },
+            Err(_) => return Err(Memory),
+        }
+    }
+    Ok(explain(alloc, source, sink, &mut outlets))
+}

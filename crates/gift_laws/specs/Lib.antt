@@ -1,3 +1,0 @@
-pub mod Dropped
-pub mod Laws
-pub mod Legal

@@ -1,5 +1,0 @@
-mod Fields
-mod Layouts
-mod Groups
-mod Tries
-pub mod Citable

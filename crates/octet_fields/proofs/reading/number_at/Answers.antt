@@ -1,7 +1,0 @@
-use Rattle.std.proofs.Common.{arith}
-use Rattle.octet_fields.proofs.Fields.{octets_below}
-use Rattle.octet_fields.proofs.reading.number_at.Goals as goal
-
-pub returns-clause-below : goal.returns-clause-below
-returns-clause-below c =
-    octets_below c.args.k c.args.from.now c.in_ok-octets.octets.now c.in_ok-octets.rest.now c.read_le.result (λ i. omega (arith, c.type_inv.from i)) c.in_ok-octets.ensures c.read_le.ensures

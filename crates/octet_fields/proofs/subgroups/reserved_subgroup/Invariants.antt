@@ -1,6 +1,0 @@
-use Rattle.std.proofs.Common.{◌≡◌, ◌≤◌, ◌-◌, length}
-use Rattle.octet_fields.specs.Subgroups.{reserved_in}
-use Rattle.octet_fields.proofs.subgroups.reserved_subgroup.Given as goal
-
-abbrev pub invariant-subgroups : goal.invariant-subgroups
-invariant-subgroups l = (length l.rest ≤ length l.whole) × (reserved_in l.whole (l.count - l.counter) l.rest ≡ reserved_in l.whole l.count l.octets)

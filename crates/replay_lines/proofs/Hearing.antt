@@ -1,0 +1,116 @@
+-- What a listener changes at a line: nothing where it goes on, and where it fails the run ends before the line.
+use Rattle.std.proofs.Common.{◌≡◌, ◌≢◌, ◌∙◌, Bool, false, true, List, refl, ap, inl, Option, None, Some, ℕ}
+use Rattle.std.specs.Io.KnownBytes.{Appends, Keeps}
+use Rattle.bcast_base.specs.Counts.{Rose}
+use Rattle.bcast_io.specs.TextLines.{TextLine}
+use Rattle.unit_outlets.specs.Account.{Account}
+use Rattle.source_machine.specs.Airs.{airs_of}
+use Rattle.scenario_history.specs.Lines.{rules_of}
+use Rattle.scenario_history.specs.Runs.{brought}
+use Rattle.source_machine.specs.Airs.{Airs}
+use Rattle.replay_steps.specs.declared.machine.Machine.{Machine}
+use Rattle.replay_lines.specs.declared.ending.Ending.{Ending}
+use Rattle.replay_lines.specs.declared.ending.Ending.TheVariants as endings
+use Rattle.replay_lines.specs.Ended.{Ended}
+use Rattle.replay_lines.specs.Heard.{Heard, as_told}
+use Rattle.replay_lines.specs.Replayed.{Broken, Comes, ReadsAtMost, read_limit}
+use Rattle.replay_lines.specs.State.Between.{RunTo, StepRuns, StepHeard}
+use Rattle.replay_lines.specs.State.Laws.{Laws}
+use Rattle.replay_lines.specs.World.{World}
+use Rattle.replay_lines.proofs.LineEndings.{step_memory}
+use Rattle.replay_lines.proofs.Promises.{promised_run}
+
+kept_on : (a b c : Option (List ℕ)) (xs : List ℕ) → Appends a b xs → Keeps b c → Appends a c xs
+kept_on None b c xs p q = tt
+kept_on (Some x) None c xs p q = absurd p
+kept_on (Some x) (Some y) None xs p q = absurd q
+kept_on (Some x) (Some y) (Some z) xs p q = q ∙ p
+
+-- the lines so far were run, and the sink kept what they brought
+pub run_kept : (starts : List Account) (history : List TextLine) (kept mid kept' : Option (List ℕ)) (machine : Machine) (accounts : List Account)
+    → RunTo starts history kept mid machine accounts → Keeps mid kept' → RunTo starts history kept kept' machine accounts
+run_kept starts history kept mid kept' machine accounts run keeps = record {
+  accepted = run.accepted;
+  written = kept_on kept mid kept' (brought (rules_of airs_of starts) history) run.written keeps;
+  stands = run.stands;
+}
+
+-- what an ending says, it says beside a listener too
+module _ (airs : Airs) (starts ends : List Account) (left left' kept kept' : Option (List ℕ)) where
+  pub ended_told : (may_fail : Bool) (ending : Ending) → Ended airs ending starts ends left left' kept kept'
+      → Ended airs (as_told may_fail ending) starts ends left left' kept kept'
+  ended_told false ending e = e
+  ended_told true endings.Done e = e
+  ended_told true (endings.Refused line reason) e = e
+  ended_told true endings.ReadFault e = e
+  ended_told true endings.WriteFault e = e.0
+  ended_told true endings.OutletFault e = e
+  ended_told true endings.Memory e = e
+
+  -- whatever may be told of the listener, it may fail
+  pub told_more : (may_fail : Bool) (ending : Ending) → Ended airs (as_told may_fail ending) starts ends left left' kept kept'
+      → Ended airs (as_told true ending) starts ends left left' kept kept'
+  told_more false ending e = ended_told true ending e
+  told_more true ending e = e
+
+  -- it failed
+  pub failed_told : (may_fail : Bool) → may_fail ≡ true → Broken airs starts ends left left' kept kept'
+      → Ended airs (as_told may_fail endings.WriteFault) starts ends left left' kept kept'
+  failed_told false may broken = absurd cc
+  failed_told true may broken = broken
+
+  -- it wanted memory
+  pub wanted_told : (may_fail : Bool) → Broken airs starts ends left left' kept kept'
+      → Ended airs (as_told may_fail endings.Memory) starts ends left left' kept kept'
+  wanted_told false broken = broken
+  wanted_told true broken = broken
+
+-- a line was run
+pub step_told : (may_fail : Bool) (starts : List Account) (lines : List TextLine) (left left' kept kept' : Option (List ℕ)) (machine : Machine)
+    (accounts : List Account) (result : Option Ending) → StepRuns starts lines left left' kept kept' machine accounts result
+    → StepHeard may_fail starts lines left left' kept kept' machine accounts result
+step_told may_fail starts lines left left' kept kept' machine accounts None s = s
+step_told may_fail starts lines left left' kept kept' machine accounts (Some ending) s =
+    ended_told airs_of starts accounts left left' kept kept' may_fail ending s
+
+-- the run ends before a line
+pub broken_before : (starts : List Account) (history : List TextLine) (line : TextLine) (left left' kept mid kept' : Option (List ℕ)) (machine : Machine)
+    (accounts : List Account) → Comes left left' history line → RunTo starts history kept mid machine accounts → Keeps mid kept'
+    → Broken airs_of starts accounts left left' kept kept'
+broken_before starts history line left left' kept mid kept' machine accounts comes run keeps =
+    step_memory starts history line left left' kept kept' accounts accounts comes run.accepted
+    (kept_on kept mid kept' (brought (rules_of airs_of starts) history) run.written keeps) run.stands.boxes (inl refl)
+
+-- ---- what is promised
+
+never_write : (ending : Ending) → as_told true ending ≢ endings.WriteFault
+never_write endings.Done is = cc
+never_write (endings.Refused line reason) is = cc
+never_write endings.ReadFault is = cc
+never_write endings.WriteFault is = cc
+never_write endings.OutletFault is = cc
+never_write endings.Memory is = cc
+
+read_told : (ending : Ending) → as_told true ending ≡ endings.ReadFault → ending ≡ endings.ReadFault
+read_told endings.Done is = is
+read_told (endings.Refused line reason) is = is
+read_told endings.ReadFault is = refl
+read_told endings.WriteFault is = absurd cc
+read_told endings.OutletFault is = is
+read_told endings.Memory is = is
+
+pub heard_run : (may_fail : Bool) (old new : World) (ending : Ending)
+    → Ended airs_of (as_told may_fail ending) old.boxes new.boxes old.left new.left old.taken new.taken
+    → ReadsAtMost old.left new.left read_limit
+    → (ending ≡ endings.ReadFault → Rose old.reads new.reads) → (ending ≢ endings.ReadFault → new.reads ≡ old.reads)
+    → (ending ≡ endings.WriteFault → Rose old.writes new.writes) → (ending ≢ endings.WriteFault → new.writes ≡ old.writes)
+    → Laws old.boxes → Heard old new ending
+heard_run may_fail old new ending e within read no_read write no_write laws = record {
+  run = promised_run old (record { left = new.left; reads = new.reads; taken = new.taken; writes = old.writes; boxes = new.boxes })
+      (as_told true ending)
+      (told_more airs_of old.boxes new.boxes old.left new.left old.taken new.taken may_fail ending e) within
+      (λ is. read (read_told ending is)) (λ other. no_read (λ is. other (ap (as_told true) is)))
+      (λ is. absurd (never_write ending is)) (λ other. refl) laws;
+  write_fault = write;
+  no_write_fault = no_write;
+}

@@ -1,0 +1,32 @@
+-- What a line hands up comes behind what the lines before it did, and the boxes took it.
+use Rattle.std.proofs.Common.{◌≡◌, ◌+◌, List, ◌∷◌, ◌++◌, sym, subst}
+use Rattle.std.proofs.lemmas.List.{append-nil}
+use Rattle.bcast_io.specs.TextLines.{TextLine}
+use Rattle.unit_outlets.specs.Account.{Account}
+use Rattle.source_machine.specs.Airs.{airs_of, Airs}
+use Rattle.scenario_text.specs.declared.step.Step.{Step}
+use Rattle.scenario_history.specs.Boxes.{SinkUnit, handed_up, Took}
+use Rattle.scenario_history.specs.Gifts.{happened}
+use Rattle.scenario_laws.proofs.Gifts.Citable.{handed_happened}
+use Rattle.scenario_history.specs.Lines.{Said, a_step, nothing, unsaid, said_of, steps_of, said_after, handed_on, handed_said, with_said}
+use Rattle.scenario_history.proofs.Citable.{took_all}
+use Rattle.replay_steps.specs.Meets.{BoxesStand}
+
+handed_with : (airs : Airs) (earlier : List Step) (said : Said)
+    → handed_up airs (happened airs (with_said said earlier)) ≡ handed_up airs (happened airs earlier) ++ handed_said airs (happened airs earlier) said
+handed_with airs earlier (a_step next) = handed_happened airs earlier next
+handed_with airs earlier nothing = sym (append-nil (handed_up airs (happened airs earlier)))
+handed_with airs earlier (unsaid reason) = sym (append-nil (handed_up airs (happened airs earlier)))
+
+-- the units of a line come behind those of the lines before it
+pub handed_line : (airs : Airs) (history : List TextLine) (line : TextLine) → handed_up airs (steps_of airs (line ∷ history)) ≡ handed_up airs (steps_of airs history) ++ handed_on airs history line
+handed_line airs history line = handed_with airs (said_of history) (said_after history line)
+
+-- the boxes took the units of the history
+pub took_history : (starts accounts : List Account) (history : List TextLine) → BoxesStand starts (steps_of airs_of history) accounts → Took starts accounts (handed_up airs_of (steps_of airs_of history))
+took_history starts accounts history b =
+    let P : List Account → Type 0 = λ a. Took starts a (handed_up airs_of (steps_of airs_of history)) in
+    subst P (sym b.accounts_are) (took_all starts (handed_up airs_of (steps_of airs_of history)))
+
+pub took_as : (starts accounts : List Account) (us vs : List SinkUnit) → us ≡ vs → Took starts accounts us → Took starts accounts vs
+took_as starts accounts us vs e t = let P : List SinkUnit → Type 0 = λ u. Took starts accounts u in subst P e t

@@ -1,3 +1,0 @@
-mod PlainBases
-mod Lines
-pub mod Citable

@@ -1,9 +1,0 @@
-use Rattle.std.proofs.Common.{ap, sym, ◌∙◌}
-use Rattle.std.proofs.lemmas.Option.{none-some}
-use Rattle.base_grammar.specs.Draft.{finish_fault}
-use Rattle.scenario_bases.proofs.PlainBases.{plain_finishes}
-use Rattle.scenario_bases.proofs.plain.plain_base.Goals as goal
-
-pub wanting-requires : goal.wanting-requires
-wanting-requires c = absurd (none-some c.in-Err.kept.fault
-    (sym (ap finish_fault c.in_ok-draft.ensures ∙ plain_finishes c.args.delay c.args.count c.requires.least c.requires.greatest) ∙ c.in-Err.ensures.refuses.0))

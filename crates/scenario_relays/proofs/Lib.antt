@@ -1,2 +1,0 @@
--- What is proved of the relays.
-pub mod Routes

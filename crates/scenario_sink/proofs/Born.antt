@@ -1,0 +1,83 @@
+-- A new sink.
+use Rattle.std.proofs.Common.{ℕ, zero, suc, ◌≡◌, [], ◌∷◌, List, Option, Some, None, refl, sym, ◌∙◌, subst}
+use Rattle.std.specs.Prelude.{slice_index_or}
+use Rattle.std.proofs.lemmas.Bool.{ne_eqb}
+use Rattle.delegator_machine.specs.State.Halves.{Halves, StandsFor}
+use Rattle.delegator_history.specs.States.{answered, mtu_set}
+use Rattle.delegator_history.specs.Trains.{Setup}
+use Rattle.delegator_history.proofs.Citable.{waiting_goes_on}
+use Rattle.group_sink.specs.Calls as sinks
+use Rattle.sink_history.specs.Calls.{is_joined, stepped}
+use Rattle.multi_assist.specs.State.Links.{link_at, linked, mtu_of, slots_of}
+use Rattle.multi_assist.specs.State.Places.{Linked}
+use Rattle.multi_assist.specs.State.Terms.{joining}
+use Rattle.multi_assist.specs.declared.links.Links.{Links}
+use Rattle.sink_history.specs.Lives.{Made}
+use Rattle.scenario_sink.specs.Pasts.{SinkPast, new_sink}
+use Rattle.scenario_sink.specs.State.Links.{OnLink}
+use Rattle.scenario_sink.specs.State.Stands.{HasStepped, Stands, after_call}
+use Rattle.scenario_sink.specs.State.Untold.{its_mtu}
+use Rattle.scenario_sink.proofs.Fresh.{first_holds}
+use Rattle.scenario_sink.proofs.Stands.{Tells, no_notices, on_none, on_some, settled, waiting_is}
+
+-- link 0 is joined, and no other
+abbrev its_links : ℕ → Option ℕ → List (Option Linked)
+its_links slots mtu = Some (record { waiting = []; assistant = joining slots mtu }) ∷ None ∷ None ∷ None ∷ []
+
+fresh : (slots : ℕ) (mtu : Option ℕ) (link : ℕ) → OnLink slots mtu (is_joined link []) [] [] (slice_index_or (its_links slots mtu) link None)
+fresh slots mtu zero = on_some refl (first_holds slots mtu)
+fresh slots mtu (suc zero) = on_none refl
+fresh slots mtu (suc (suc zero)) = on_none refl
+fresh slots mtu (suc (suc (suc zero))) = on_none refl
+fresh slots mtu (suc (suc (suc (suc link)))) = on_none (ne_eqb (suc (suc (suc (suc link)))) 0 (λ e. absurd cc))
+
+on_each : (made : Made) (links : Links) → linked links ≡ its_links made.setup.slots made.mtu → (link : ℕ)
+    → OnLink made.setup.slots made.mtu (is_joined link []) [] [] (link_at links link)
+on_each made links are link =
+    subst (λ ons. OnLink made.setup.slots made.mtu (is_joined link []) [] [] (slice_index_or ons link None)) (sym are) (fresh made.setup.slots made.mtu link)
+
+-- before its MTU was set
+abbrev unset : Setup → Option ℕ → SinkPast
+unset setup mtu = record { made = record { setup = setup; mtu = mtu }; source = None; life = []; received = [] }
+
+alone : (setup : Setup) (mtu : ℕ) → (after_call (stepped (mtu_set mtu)) (unset setup (Some mtu))).received ≡ []
+unfolding answered
+alone setup mtu = refl
+
+pub born_stands : Tells → (setup : Setup) (mtu : Option ℕ) (d : Halves) (links : Links) → StandsFor setup (its_mtu mtu) d
+    → slots_of links ≡ setup.slots → mtu_of links ≡ mtu → linked links ≡ its_links setup.slots mtu → Stands (new_sink (record { setup = setup; mtu = mtu })) d links
+born_stands tells setup None d links stands slots_are mtu_are are = record {
+  took = record {
+    taken = [];
+    stands = stands;
+    own = refl;
+    received_is = refl;
+    mtu_is = stands.steps.mtu;
+    links_slots = slots_are;
+    links_mtu = mtu_are;
+    octets = tt;
+    first = refl;
+  };
+  none_waits = waiting_is setup [] d stands;
+  each = on_each (record { setup = setup; mtu = None }) links are;
+}
+born_stands tells setup (Some mtu) d links stands slots_are mtu_are are =
+    let no_value = no_notices setup (mtu_set mtu) [] (λ i. refl) in
+    let so : HasStepped (stepped (mtu_set mtu)) (unset setup (Some mtu)) d links = record {
+      took = record {
+        taken = its_mtu (Some mtu);
+        stands = stands;
+        own = refl;
+        received_is = refl;
+        mtu_is = stands.steps.mtu;
+        links_slots = slots_are;
+        links_mtu = mtu_are;
+        octets = (tt, tt);
+        first = refl;
+      };
+      is_step = tt;
+      waiting = waiting_is setup (its_mtu (Some mtu)) d stands ∙ waiting_goes_on setup (mtu_set mtu) [];
+      each = on_each (record { setup = setup; mtu = Some mtu }) links are;
+    } in
+    subst (λ (past : List sinks.Call). Stands (record (new_sink (record { setup = setup; mtu = Some mtu })) { received = past }) d links) (alone setup mtu)
+    (settled tells (stepped (mtu_set mtu)) (unset setup (Some mtu)) d links so (so.waiting ∙ no_value))

@@ -1,0 +1,43 @@
+-- The assistant that is lent is the one on the link.
+use Rattle.std.proofs.Common.{ℕ, ◌≡◌, List, [], ◌∷◌, ◌++◌, drop, Option, Some, None, refl, sym, ap, ◌∙◌, subst}
+use Rattle.std.specs.Prelude.{IfSome, OnSome, option_map, option_to_list}
+use denote.Ref.{MutBor}
+use Rattle.assistant_machine.specs.Calls.{Call, asked, sent}
+use Rattle.assistant_machine.specs.State.Assistants.{Assistant, IsLowest, StandsFor}
+use Rattle.multi_assist.specs.State.Links.{with_assistant_on}
+use Rattle.multi_assist.specs.declared.links.Links.{Links}
+use Rattle.scenario_sink.specs.State.Taking.{Takes}
+
+pub its_own : (lent : Option (MutBor Assistant)) (it : MutBor Assistant) (before : Assistant) → lent ≡ Some it → option_map (λ (r : MutBor Assistant). r.now) lent ≡ Some before → it.now ≡ before
+its_own lent it before is holds = let same : Some it.now ≡ Some before = sym (ap (option_map (λ (r : MutBor Assistant). r.now)) is) ∙ holds in cc
+
+-- a write was taken
+pub sent_so : (result : Option (List ℕ)) (lent before now : Assistant) (link : ℕ) (links : Links) → lent ≡ before → lent.writes ≡ option_to_list result ++ now.writes
+    → OnSome result ((slots : ℕ) (taken : List Call) → StandsFor slots taken lent → StandsFor slots (sent ∷ taken) now)
+    → IfSome result (λ write. (before.writes ≡ write ∷ drop 1 before.writes) × Takes (sent ∷ []) link before links (with_assistant_on links link now))
+sent_so None lent before now link links same writes stands = tt
+sent_so (Some write) lent before now link links same writes stands =
+    let all : before.writes ≡ write ∷ now.writes = ap (λ (a : Assistant). a.writes) (sym same) ∙ writes in (
+      all ∙ ap (λ ws. write ∷ ws) (sym (ap (drop 1) all)),
+      record {
+        heard = (tt, tt);
+        after = now;
+        links = refl;
+        stands = λ slots taken stood. stands slots taken (subst (StandsFor slots taken) (sym same) stood);
+      },
+    )
+
+-- a read was
+pub asked_so : (result : Option ℕ) (lent before now : Assistant) (link : ℕ) (links : Links) → lent ≡ before → IfSome result (λ slot. IsLowest lent.reads slot)
+    → IfSome result (λ slot. (slots : ℕ) (taken : List Call) → StandsFor slots taken lent → StandsFor slots (asked slot ∷ taken) now)
+    → IfSome result (λ slot. IsLowest before.reads slot × Takes (asked slot ∷ []) link before links (with_assistant_on links link now))
+asked_so None lent before now link links same lowest stands = tt
+asked_so (Some slot) lent before now link links same lowest stands = (
+  subst (λ (a : Assistant). IsLowest a.reads slot) same lowest,
+  record {
+    heard = (tt, tt);
+    after = now;
+    links = refl;
+    stands = λ slots taken stood. stands slots taken (subst (StandsFor slots taken) (sym same) stood);
+  },
+)

@@ -1,0 +1,233 @@
+-- The octets that a slot has as its value are read as its state.
+use Rattle.std.proofs.Common.{ℕ, zero, suc, ◌≡◌, ◌↔◌, ◌+◌, ◌<◌, ◌≤◌, ◌^◌, Bool, true, false, List, [], ◌∷◌, ◌++◌}
+use Rattle.std.proofs.Common.{length, map, drop, get_or, slice_get, Option, Some, None, option_map, Ok, refl, sym, ap, subst, arith}
+use Rattle.std.specs.Prelude.{nat_lt, ◌==◌, ◌&&◌, not, if◌then◌else◌}
+use Rattle.std.specs.List.{AllByRecursion, flat_map}
+use Rattle.std.proofs.lemmas.Bool.{le-ltb}
+use Rattle.bcast_base.specs.Layout.{NoneReserved, laid}
+use Rattle.bcast_base.specs.Spelling.{IsOctets, number}
+use Rattle.bcast_base.specs.Subgroups.{Fits, subgroup_fields, is_reserved, all_bits}
+use Rattle.bass_operations.specs.declared.operation.Operation.{Operation}
+use Rattle.bass_operations.specs.declared.wishes.Wish.{Wish}
+use Rattle.bass_operations.specs.Layout.{OpIs}
+use Rattle.bass_operations.specs.Reading.{op_of}
+use Rattle.receive_state.specs.declared.state.ReceiveState.{ReceiveState}
+use Rattle.receive_state.specs.Layout.{IsSpelled, StateIs, code_of, code_width, group_of, number_of, spelling}
+use Rattle.receive_state.specs.Reading.{state_of}
+use Rattle.assistant_machine.specs.Views.{reading_of, told_of}
+use Rattle.delegator_history.specs.declared.train_heard.ControlHeard.{ControlHeard}
+use Rattle.delegator_history.specs.declared.train_heard.ControlHeard.TheVariants.{NotOnGroup, Malformed, NotControl, UnknownOpcode, ControlLength, MapIgnored, Left}
+use Rattle.delegator_history.specs.Controls.{control_heard, done_heard}
+use Rattle.delegator_history.specs.Sights.{Entry, Sight, is_on_group, entry_at}
+use Rattle.delegator_history.specs.States.{Step, record_added, locations_set, contexts_set, mtu_set, put_on, written, train_heard}
+use Rattle.delegator_history.specs.States.{train_lost, control_heard as control, told, answered, done_by, entry_in, sight_of}
+use Rattle.delegator_history.specs.Trains.{Setup}
+use Rattle.delegator_history.specs.Values.{Status, encryption_of, groups_from, received, state_at, status_of, value}
+use Rattle.delegator_history.specs.Writes.{cause_of}
+use Rattle.delegator_history.proofs.Citable.{sight_goes_on}
+use Rattle.sink_history.specs.Calls.{Call, stepped, joined, asked, served, served_of, steps_of, with_step, writes, writes_waiting}
+use Rattle.sink_history.specs.Octets.{AreOctets, IsWritten}
+use Rattle.sink_history.proofs.Fitting.{AreSets, DoneIs, EntryIs, MetadataIs, SightIs, SlotIs, after_is, entries_count, entry_is, no_entries, operation_is, read_done_is}
+use Rattle.sink_history.proofs.OctetLists.{joined_octets, no_octets, number_octets, one_more}
+use Rattle.sink_history.proofs.Trains.{train_is}
+
+-- that octets are an operation exactly where they are read as it, and a state
+abbrev pub ReadsOperations : Type 0
+ReadsOperations = (op : Operation) (octets : List ℕ) → IsOctets octets → (op_of octets ≡ Ok op) ↔ OpIs op octets
+
+abbrev pub ReadsStates : Type 0
+ReadsStates = (state : Option ReceiveState) (octets : List ℕ) → IsOctets octets → (state_of octets ≡ Ok state) ↔ StateIs state octets
+
+-- ---- the states of a sink that fits
+
+set_at : (bits : List ℕ) → AreSets bits → (place : ℕ) → get_or bits place 0 < 2 ^ 31
+set_at [] are place = omega arith
+set_at (set ∷ bits) are zero = are.0
+set_at (set ∷ bits) are (suc place) = set_at bits are.1 place
+
+not_reserved : (set : ℕ) → set < 2 ^ 31 → is_reserved set ≡ false
+not_reserved set small = ap (λ b. b && not (set == all_bits)) (le-ltb 2147483647 set (omega (arith, small)))
+
+none_reserved : (place : ℕ) (bits : List ℕ) (wishes : List Wish) → AreSets bits
+    → NoneReserved (flat_map subgroup_fields (map group_of (groups_from place bits wishes)))
+none_reserved place bits [] are = tt
+none_reserved place bits (wish ∷ wishes) are =
+    (not_reserved (get_or bits place 0) (set_at bits are place), (refl, (refl, none_reserved (place + 1) bits wishes are)))
+
+groups_fit : (place : ℕ) (bits : List ℕ) (wishes : List Wish) → AreSets bits → AllByRecursion MetadataIs wishes
+    → AllByRecursion Fits (map group_of (groups_from place bits wishes))
+groups_fit place bits [] are fit = tt
+groups_fit place bits (wish ∷ wishes) are fit =
+    let small : get_or bits place 0 < 2 ^ 31 = set_at bits are place in
+    (record { bits = omega (arith, small); metadata = omega (arith, fit.0.0) }, groups_fit (place + 1) bits wishes are fit.1)
+
+groups_count : (place : ℕ) (bits : List ℕ) (wishes : List Wish) → length (map group_of (groups_from place bits wishes)) ≡ length wishes
+groups_count place bits [] = refl
+groups_count place bits (wish ∷ wishes) = ap suc (groups_count (place + 1) bits wishes)
+
+groups_octets : (place : ℕ) (bits : List ℕ) (wishes : List Wish) → AllByRecursion MetadataIs wishes
+    → IsOctets (laid (flat_map subgroup_fields (map group_of (groups_from place bits wishes))))
+groups_octets place bits [] fit = no_octets
+groups_octets place bits (wish ∷ wishes) fit =
+    let rest : List ℕ = laid (flat_map subgroup_fields (map group_of (groups_from (place + 1) bits wishes))) in
+    joined_octets (number 4 (get_or bits place 0)) (length wish.metadata ∷ (wish.metadata ++ rest)) (number_octets 4 (get_or bits place 0))
+    (one_more (length wish.metadata) (wish.metadata ++ rest) (omega (arith, fit.0.0))
+    (joined_octets wish.metadata rest fit.0.1 (groups_octets (place + 1) bits wishes fit.1)))
+
+synced_small : (b : Bool) → nat_lt 4 (if b then 2 else 0) ≡ false
+synced_small true = refl
+synced_small false = refl
+
+synced_octet : (b : Bool) → (if b then 2 else 0) < 256
+synced_octet true = omega arith
+synced_octet false = omega arith
+
+encryption_small : (b : Bool) → nat_lt 3 (number_of (encryption_of b)) ≡ false
+encryption_small true = refl
+encryption_small false = refl
+
+code_fits : (b : Bool) → length (code_of (encryption_of b)) ≡ code_width (number_of (encryption_of b))
+code_fits true = refl
+code_fits false = refl
+
+encryption_octets : (b : Bool) (rest : List ℕ) → IsOctets rest → IsOctets (number_of (encryption_of b) ∷ (code_of (encryption_of b) ++ rest))
+encryption_octets true rest are = one_more 1 rest (omega arith) are
+encryption_octets false rest are = one_more 0 rest (omega arith) are
+
+state_octets : (status : Status) (entry : Entry) → EntryIs entry → IsOctets (spelling (received status entry))
+state_octets status entry is =
+    let s = entry.source in
+    let groups : List ℕ = laid (flat_map subgroup_fields (map group_of (groups_from 0 status.bits entry.wanted.wishes))) in
+    let count : ℕ = length (map group_of (groups_from 0 status.bits entry.wanted.wishes)) in
+    let few : count ≡ length entry.wanted.wishes = groups_count 0 status.bits entry.wanted.wishes in
+    let counted : IsOctets (count ∷ groups) = one_more count groups (omega (arith, few, is.wishes.few)) (groups_octets 0 status.bits entry.wanted.wishes is.wishes.metadata) in
+    let key : List ℕ = number_of (encryption_of status.is_encrypted) ∷ (code_of (encryption_of status.is_encrypted) ++ (count ∷ groups)) in
+    let keyed : IsOctets key = encryption_octets status.is_encrypted (count ∷ groups) counted in
+    let sync : List ℕ = (if status.is_synced then 2 else 0) ∷ key in
+    let synced : IsOctets sync = one_more (if status.is_synced then 2 else 0) key (synced_octet status.is_synced) keyed in
+    let id : List ℕ = s.broadcast_id ++ sync in
+    let identified : IsOctets id = joined_octets s.broadcast_id sync is.source.broadcast_id_octets synced in
+    let at_sid : IsOctets (s.sid ∷ id) = one_more s.sid id (omega (arith, is.source.sid)) identified in
+    let address : List ℕ = s.address ++ (s.sid ∷ id) in
+    let addressed : IsOctets address = joined_octets s.address (s.sid ∷ id) is.source.address_octets at_sid in
+    one_more s.source_id (s.address_type ∷ address) is.source.source_id
+    (one_more s.address_type address (omega (arith, is.source.address_type)) addressed)
+
+state_spelled : (status : Status) (entry : Entry) → AreSets status.bits → EntryIs entry → IsSpelled (received status entry) (spelling (received status entry))
+state_spelled status entry sets is = record {
+  widths = record {
+    address = is.source.address;
+    broadcast_id = is.source.broadcast_id;
+    bad_code = code_fits status.is_encrypted;
+    few = subst (λ n. n ≤ 255) (sym (groups_count 0 status.bits entry.wanted.wishes)) is.wishes.few;
+    groups = groups_fit 0 status.bits entry.wanted.wishes sets is.wishes.metadata;
+  };
+  values = (
+    refl,
+    (
+      le-ltb 1 entry.source.address_type is.source.address_type,
+      (
+        refl,
+        (
+          le-ltb 15 entry.source.sid is.source.sid,
+          (
+            refl,
+            (synced_small status.is_synced, (encryption_small status.is_encrypted, (refl, (refl, none_reserved 0 status.bits entry.wanted.wishes sets)))),
+          ),
+        ),
+      ),
+    ),
+  );
+  spelled = refl;
+}
+
+entry_back : ReadsStates → (status : Status) (entry : Option Entry) → AreSets status.bits → SlotIs entry
+    → reading_of (value (option_map (received status) entry)) ≡ Some (option_map (received status) entry)
+entry_back reads status None sets is = refl
+entry_back reads status (Some entry) sets is =
+    ap told_of ((reads (Some (received status entry)) (spelling (received status entry)) (state_octets status entry is)).1 (state_spelled status entry sets is))
+
+bits_are : (b : Bool) (taken : List ℕ) → AreSets taken → AreSets (if b then taken else [])
+bits_are true taken are = are
+bits_are false taken are = tt
+
+pub sight_back : ReadsStates → (n : ℕ) (sight : Sight) (slot : ℕ) → SightIs n sight → reading_of (value (state_at sight slot)) ≡ Some (state_at sight slot)
+sight_back reads n sight slot is =
+    entry_back reads (status_of sight.place sight.encrypted sight.taken slot) (entry_at sight.slots slot) (bits_are (is_on_group sight.place slot) sight.taken is.taken)
+    (entry_is sight.slots slot is.slots)
+
+-- ---- a sink fits after each step
+
+control_is : (answer : ControlHeard) → DoneIs (done_heard answer)
+control_is NotOnGroup = tt
+control_is (Malformed fault) = tt
+control_is NotControl = tt
+control_is UnknownOpcode = tt
+control_is ControlLength = tt
+control_is MapIgnored = tt
+control_is Left = tt
+
+done_is : ReadsOperations → (setup : Setup) (sight : Sight) (step : Step) → length sight.slots ≡ setup.slots → setup.slots < 256 → IsWritten step
+    → DoneIs (done_by setup sight step)
+done_is reads setup sight (record_added entry) count few octets = tt
+done_is reads setup sight (locations_set locations) count few octets = tt
+done_is reads setup sight (contexts_set contexts) count few octets = tt
+done_is reads setup sight (mtu_set mtu) count few octets = tt
+done_is reads setup sight (put_on source joining) count few octets = tt
+done_is reads setup sight (written link write) count few octets =
+    read_done_is setup.slots sight (op_of write) (cause_of sight write) count few (λ op is. operation_is op write octets ((reads op write octets).0 is))
+done_is reads setup sight (train_heard source train) count few octets = train_is setup sight train
+done_is reads setup sight train_lost count few octets = tt
+done_is reads setup sight (control heard) count few octets = control_is (control_heard sight.place heard)
+done_is reads setup sight told count few octets = tt
+
+new_is : (setup : Setup) → SightIs setup.slots (sight_of setup [])
+unfolding answered
+new_is setup = record { count = entries_count (entry_in []) 0 setup.slots; slots = no_entries (entry_in []) 0 setup.slots (λ i. refl); taken = tt }
+
+pub sight_is : ReadsOperations → (setup : Setup) (steps : List Step) → setup.slots < 256 → AllByRecursion IsWritten steps → SightIs setup.slots (sight_of setup steps)
+sight_is reads setup [] few are = new_is setup
+sight_is reads setup (step ∷ steps) few are =
+    let is : SightIs setup.slots (sight_of setup steps) = sight_is reads setup steps few are.1 in
+    subst (SightIs setup.slots) (sym (sight_goes_on setup step steps))
+    (after_is setup.slots (done_by setup (sight_of setup steps) step) (sight_of setup steps) (done_is reads setup (sight_of setup steps) step is.count few are.0) is)
+
+-- ---- what is written over the links
+
+put_is : (b : Bool) (octets : List ℕ) (before : List (List ℕ)) → IsOctets octets → AllByRecursion IsOctets before
+    → AllByRecursion IsOctets (if b then before ++ octets ∷ [] else before)
+put_is false octets before is are = are
+put_is true octets [] is are = (is, tt)
+put_is true octets (first ∷ before) is are = (are.0, put_is true octets before is are.1)
+
+anew_is : (b : Bool) (before : List (List ℕ)) → AllByRecursion IsOctets before → AllByRecursion IsOctets (if b then [] else before)
+anew_is true before are = tt
+anew_is false before are = are
+
+writes_are : (link : ℕ) (calls : List Call) → AreOctets calls → AllByRecursion IsOctets (writes link calls)
+writes_are link [] are = tt
+writes_are link (joined at ∷ earlier) are = anew_is (at == link) (writes link earlier) (writes_are link earlier are.1)
+writes_are link (asked at octets ∷ earlier) are = put_is (at == link) octets (writes link earlier) are.0 (writes_are link earlier are.1)
+writes_are link (_ ∷ earlier) are = writes_are link earlier are.1
+
+behind_are : (n : ℕ) (all : List (List ℕ)) → AllByRecursion IsOctets all → AllByRecursion IsOctets (drop n all)
+behind_are zero all are = are
+behind_are (suc n) [] are = tt
+behind_are (suc n) (first ∷ all) are = behind_are n all are.1
+
+served_is : (link : ℕ) (waiting : List (List ℕ)) (steps : List Step) → AllByRecursion IsOctets waiting → AllByRecursion IsWritten steps
+    → AllByRecursion IsWritten (with_step (option_map (written link) (slice_get waiting 0)) steps)
+served_is link [] steps waits are = are
+served_is link (first ∷ waiting) steps waits are = (waits.0, are)
+
+pub steps_are : (calls : List Call) → AreOctets calls → AllByRecursion IsWritten (steps_of calls)
+steps_are [] are = tt
+steps_are (stepped step ∷ earlier) are = (are.0, steps_are earlier are.1)
+steps_are (served link ∷ earlier) are =
+    served_is link (writes_waiting link earlier) (steps_of earlier) (behind_are (served_of link earlier) (writes link earlier) (writes_are link earlier are.1)) (steps_are earlier are.1)
+steps_are (_ ∷ earlier) are = steps_are earlier are.1
+
+pub states_back : ReadsOperations → ReadsStates → (setup : Setup) (slot : ℕ) (calls : List Call) → setup.slots < 256 → AreOctets calls
+    → reading_of (value (state_at (sight_of setup (steps_of calls)) slot)) ≡ Some (state_at (sight_of setup (steps_of calls)) slot)
+states_back operations states setup slot calls few are =
+    sight_back states setup.slots (sight_of setup (steps_of calls)) slot (sight_is operations setup (steps_of calls) few (steps_are calls are))

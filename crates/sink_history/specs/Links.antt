@@ -1,0 +1,101 @@
+-- What happens on one link of a sink (Broadcast Audio Scan Service 1.0, section 3.2; Core 5.2, volume 3 part F, section
+-- 3.4.7): each value that a slot gets is to be told, and what the assistant does on the link is as it says. All that waits on
+-- the link, and the views of its assistant, begin anew as it is joined.
+use Rattle.std.specs.Prelude.{ℕ, ◌==◌, Bool, true, false, List, [], ◌∷◌, Option, Some, None, unwrap_or, if◌then◌else◌}
+use Rattle.receive_state.specs.declared.state.ReceiveState.{ReceiveState}
+use Rattle.assistant_machine.specs.Views.{reading_of}
+use Rattle.assistant_machine.specs.Cuts.{cut}
+use Rattle.assistant_machine.specs.Links as links
+use Rattle.assistant_machine.specs.Links.{Act, Language, reads_of, view_of, waiting_of, waits_of}
+use Rattle.delegator_history.specs.declared.notice.Notice.{Notice}
+use Rattle.delegator_history.specs.LastGiven.{last_given}
+use Rattle.delegator_history.specs.Notices.{changes}
+use Rattle.delegator_history.specs.Sights.{Sight}
+use Rattle.delegator_history.specs.States.{Step, sight_of}
+use Rattle.delegator_history.specs.Trains.{Setup}
+use Rattle.delegator_history.specs.Values.{state_at, value}
+use Rattle.sink_history.specs.Calls.{Call, stepped, joined, served, told, read, forged, steps_of}
+
+-- the value of a slot is a state or no source
+abbrev pub language : Option ℕ → Language (Option ReceiveState)
+language mtu = record { spell = value; reading = reading_of; empty = None; mtu = mtu }
+
+abbrev pub Acts : Type 0
+Acts = List (Act (Option ReceiveState))
+
+-- a notice that waits, with the state that it tells of
+abbrev pub Told : Type 0
+Told = links.Notice (Option ReceiveState)
+
+-- ---- what happens on a link
+
+-- each slot that is to be told of got the state that it has now
+abbrev pub made_all : Sight → List Notice → Acts → Acts
+made_all now [] acts = acts
+made_all now (notice ∷ notices) acts = made_all now notices (links.made notice.slot (state_at now notice.slot) ∷ acts)
+
+-- what steps of the delegator change
+abbrev pub changed : Setup → List Step → List Step → Acts → Acts
+changed setup before now acts = made_all (sight_of setup now) (changes setup.slots (sight_of setup before) (sight_of setup now)) acts
+
+-- the first notice is delivered, where one waits
+abbrev pub told_first : List Told → Acts → Acts
+told_first [] acts = acts
+told_first (notice ∷ rest) acts = links.told ∷ acts
+
+-- the first read is served, where one waits
+abbrev pub read_first : List ℕ → Acts → Acts
+read_first [] acts = acts
+read_first (slot ∷ rest) acts = links.served slot ∷ acts
+
+-- what a call adds, of which the steps of the delegator were those before and are these now
+abbrev pub acts_by : Setup → Option ℕ → ℕ → Call → List Step → List Step → Acts → Acts
+acts_by setup mtu link (stepped step) before now acts = changed setup before now acts
+acts_by setup mtu link (served at) before now acts = changed setup before now acts
+acts_by setup mtu link (joined at) before now acts = if at == link then links.joined ∷ acts else acts
+acts_by setup mtu link (told at) before now acts = if at == link then told_first (waiting_of acts) acts else acts
+acts_by setup mtu link (read at) before now acts = if at == link then read_first (reads_of (language mtu) setup.slots acts) acts else acts
+acts_by setup mtu link (forged slot octets) before now acts = if link == 0 then links.forged slot octets ∷ acts else acts
+acts_by setup mtu link _ before now acts = acts
+
+abbrev pub acts_of : Setup → Option ℕ → ℕ → List Call → Acts
+acts_of setup mtu link [] = []
+acts_of setup mtu link (call ∷ earlier) = acts_by setup mtu link call (steps_of earlier) (steps_of (call ∷ earlier)) (acts_of setup mtu link earlier)
+
+-- ---- what waits on it, and what its assistant knows
+
+-- the notices since it was joined, without those that were delivered
+abbrev pub notices_waiting : Setup → Option ℕ → ℕ → List Call → List Told
+notices_waiting setup mtu link calls = waiting_of (acts_of setup mtu link calls)
+
+-- what is delivered of a notice
+abbrev pub delivered : Option ℕ → Told → Notice
+delivered mtu notice = record { slot = notice.slot; value = cut mtu (value notice.value) }
+
+-- a read of the slot waits: a value that may have been cut came for it, or a link other than 0 was joined, and no read of it
+-- was served since
+abbrev pub read_waits : Setup → Option ℕ → ℕ → ℕ → List Call → Bool
+read_waits setup mtu link slot calls = waits_of (language mtu) slot (acts_of setup mtu link calls)
+
+-- the slots of which a read waits, rising
+abbrev pub reads_waiting : Setup → Option ℕ → ℕ → List Call → List ℕ
+reads_waiting setup mtu link calls = reads_of (language mtu) setup.slots (acts_of setup mtu link calls)
+
+-- the last value of the slot that told or was read since it was joined
+abbrev pub view : Setup → Option ℕ → ℕ → ℕ → List Call → Option ReceiveState
+view setup mtu link slot calls = view_of (language mtu) slot (acts_of setup mtu link calls)
+
+-- the state of a slot
+abbrev pub state : Setup → ℕ → List Call → Option ReceiveState
+state setup slot calls = state_at (sight_of setup (steps_of calls)) slot
+
+-- ---- notices that the delegator did not send
+
+abbrev pub forging_by : ℕ → Call → Option Bool
+forging_by link (forged slot octets) = if link == 0 then Some true else None
+forging_by link (joined at) = if at == link then Some false else None
+forging_by link _ = None
+
+-- one came over the link since it was joined
+abbrev pub is_forged : ℕ → List Call → Bool
+is_forged link calls = unwrap_or (last_given (forging_by link) calls) false

@@ -1,0 +1,223 @@
+//! What each sink can take, as its lines said it, and why it takes no stream of a BASE.
+ghost use Rattle.std.specs.Prelude.{◌<◌, length, vec_len, IfSome, IsTrue};
+ghost use Rattle.ltv_codec.specs.Layout.{AreLtvs};
+
+use crate::note::put_note;
+use base_grammar::{Base, decode_base, service_data};
+use bcast_base::{Bis, Memory, Octets};
+use ltv_codec::check_ltvs;
+use pacs_records::{Capability, NotTaken, PacRecord, PushFault, Records, takes};
+use printed_words::Word;
+use scenario_text::Step;
+use std::alloc::Global;
+
+/// Of the Basic Audio Announcement Service (Basic Audio Profile 1.0, section 3.7.2.2).
+const BASIC_AUDIO_ANNOUNCEMENT: u16 = 0x1851;
+
+/// The contexts that are available at first: all.
+const ALL_CONTEXTS: u16 = 0xffff;
+
+/// A sink.
+#[derive(Drop)]
+struct Ear {
+    sink: u8,
+    capability: Capability,
+}
+
+/// The sinks that live.
+#[derive(Drop)]
+pub(crate) struct Ears {
+    alloc: Global,
+    ears: Vec<Ear>,
+}
+
+impl Ears {
+    /// None.
+    pub(crate) fn new(alloc: Global) -> Ears {
+        Ears {
+            alloc,
+            ears: Vec::new(alloc),
+        }
+    }
+
+    /// Where a sink stands.
+    fn place_of(&self, sink: u8) -> Option<usize>
+        ensures { IfSome result (λ place. place < vec_len self.now.ears) }
+    {
+        self.ears.iter().position(|ear| ear.sink == sink)
+    }
+
+    /// Notes a step that was made.
+    pub(crate) fn made(&mut self, step: Step) -> Result<(), Memory> {
+        match step {
+            Step::Sink { sink, .. } => self.add(sink),
+            Step::Drop { sink } => {
+                self.remove(sink);
+                Ok(())
+            }
+            Step::Pac {
+                sink,
+                codec,
+                caps,
+                metadata,
+            } => self.pac(
+                sink,
+                PacRecord {
+                    codec,
+                    caps,
+                    metadata,
+                },
+            ),
+            Step::Locate { sink, bits } => {
+                if let Some(place) = self.place_of(sink) {
+                    self.ears[place].capability.locations = bits;
+                }
+                Ok(())
+            }
+            Step::Context {
+                sink,
+                sink_bits,
+                ..
+            } => {
+                if let Some(place) = self.place_of(sink) {
+                    self.ears[place].capability.contexts = sink_bits;
+                }
+                Ok(())
+            }
+            _ => Ok(()),
+        }
+    }
+
+    /// A new sink.
+    fn add(&mut self, sink: u8) -> Result<(), Memory> {
+        let capability = Capability {
+            entries: Records::new(self.alloc),
+            locations: 0,
+            contexts: ALL_CONTEXTS,
+        };
+        match self.ears.push(Ear { sink, capability }) {
+            Ok(()) => Ok(()),
+            Err(_) => Err(Memory),
+        }
+    }
+
+    /// A sink that lives no more.
+    fn remove(&mut self, sink: u8) {
+        if let Some(place) = self.place_of(sink) {
+            drop(self.ears.remove(place));
+        }
+    }
+
+    /// A record of a sink.
+    fn pac(&mut self, sink: u8, record: PacRecord) -> Result<(), Memory> {
+        let Some(place) = self.place_of(sink) else {
+            return Ok(());
+        };
+        push_record(&mut self.ears[place].capability.entries, record)
+    }
+
+    /// Puts why a sink takes no stream of the BASE in these octets of advertising data: for each stream the first row of the match that
+    /// its last record doesn't meet (Published Audio Capabilities Service 1.0).
+    pub(crate) fn put_reasons(
+        &self,
+        rows: &mut Octets,
+        sink: u8,
+        advertised: &[u8],
+    ) -> Result<(), Memory> {
+        let Some(place) = self.place_of(sink) else {
+            return Ok(());
+        };
+        let Ok(Some(octets)) = service_data(advertised, BASIC_AUDIO_ANNOUNCEMENT) else {
+            return Ok(());
+        };
+        let Ok(base) = decode_base(self.alloc, octets) else {
+            return Ok(());
+        };
+        put_streams(rows, &self.ears[place].capability, &base)
+    }
+}
+
+/// Whether octets are an LTV list that a record may have.
+fn is_list(octets: &[u8]) -> bool
+    ensures list { IsTrue result → AreLtvs octets.now }
+    ensures short { IsTrue result → length octets.now < 256 }
+{
+    if octets.len() > 255 {
+        return false;
+    }
+    check_ltvs(octets).is_ok()
+}
+
+/// Adds a record that fits.
+fn push_record(records: &mut Records, record: PacRecord) -> Result<(), Memory> {
+    if !is_list(record.caps.as_slice()) {
+        return Ok(());
+    }
+    if !is_list(record.metadata.as_slice()) {
+        return Ok(());
+    }
+    match records.push(record) {
+        Err(PushFault::Memory) => Err(Memory),
+        Ok(()) | Err(PushFault::TooLong) => Ok(()),
+    }
+}
+
+/// Puts a note for each stream of a BASE.
+fn put_streams(rows: &mut Octets, capability: &Capability, base: &Base) -> Result<(), Memory> {
+    if capability.entries.count() == 0 {
+        return put_note(
+            rows,
+            &[Word::Text(b"the sink has no record: no `pac` line names it, so no stream fits")],
+        );
+    }
+    'streams: for number in 1..32u8 {
+        if let Some(bis) = Bis::new(number) {
+            put_stream(rows, capability, base, bis)?;
+        }
+    }
+    Ok(())
+}
+
+/// Puts the note of a stream.
+fn put_stream(
+    rows: &mut Octets,
+    capability: &Capability,
+    base: &Base,
+    bis: Bis,
+) -> Result<(), Memory> {
+    let Some(_effective) = base.effective(bis) else {
+        return Ok(());
+    };
+    let row = match takes(capability, base, bis) {
+        Ok(()) => "a record fits; so the slot doesn't want it, or it is above NUMBIS",
+        Err(reason) => row_of(reason),
+    };
+    put_note(
+        rows,
+        &[
+            Word::Text(b"stream"),
+            Word::Number(u64::from(bis.get())),
+            Word::Text(b"is not taken:"),
+            Word::Text(row.as_bytes()),
+        ],
+    )
+}
+
+/// The row of the match that is not met.
+fn row_of(reason: NotTaken) -> &'static str {
+    match reason {
+        NotTaken::Codec => "Codec: CODEC of its subgroup is not that of the record",
+        NotTaken::Frequency =>
+            "Frequency: its sampling frequency is left out, or not among those of the record",
+        NotTaken::Duration =>
+            "Duration: its frame duration is left out, or not among those of the record",
+        NotTaken::FrameOctets =>
+            "FrameOctets: the octets of a frame are left out, or not from the least to the greatest of the record",
+        NotTaken::Channels => "Channels: its number of channels is not among those of the record",
+        NotTaken::FramesPerSdu =>
+            "FramesPerSdu: blocks x channels is above the frames of the record",
+        NotTaken::Location =>
+            "Location: its locations and those of `locate` share no bit: another ear",
+        NotTaken::Context => "Context: the contexts of `meta` and those of `context` share no bit",
+    }
+}

@@ -1,0 +1,186 @@
+//! What is kept of a scenario for its notes, and the notes of a line.
+ghost use Rattle.std.specs.Prelude.{◌≡◌, ◌⊎◌};
+
+use crate::ears::Ears;
+use crate::group::{NONE, Numbers, numbers_of, put_fault};
+use crate::misfits::put_misfit;
+use crate::note::{digit_of, octets_at, put_note, word_at};
+use crate::phases::{ABSENT, Source, order_of};
+use crate::refusals::row_of;
+use crate::rows::put_row_note;
+use bcast_base::{Memory, Octets};
+use printed_words::Word;
+use scenario_reading::read_line_in;
+use scenario_text::Step;
+use std::alloc::Global;
+use transcript_text::Refusal;
+
+/// The place of ADV in a `train` line.
+const ADVERTISED: u64 = 4;
+
+/// The notes of the lines of a scenario, line by line. It keeps no step: of each source how far it has come and the numbers of its
+/// group, and of each sink what it can take.
+#[derive(Drop)]
+pub struct Notes {
+    alloc: Global,
+    is_begun: bool,
+    is_second: bool,
+    /// Whether source 1 is chosen.
+    is_other: bool,
+    first: Source,
+    second: Source,
+    first_group: Numbers,
+    second_group: Numbers,
+    ears: Ears,
+}
+
+impl Notes {
+    /// Before the first line. It takes no memory.
+    pub fn new(alloc: Global) -> Notes {
+        Notes {
+            alloc,
+            is_begun: false,
+            is_second: false,
+            is_other: false,
+            first: ABSENT,
+            second: ABSENT,
+            first_group: NONE,
+            second_group: NONE,
+            ears: Ears::new(alloc),
+        }
+    }
+
+    /// Puts the notes of a line that was run: `text` has the rows of the transcript that it brought, and `refused` why it was refused.
+    /// The lines before it were told in their order. After Memory a front of the notes may stand there.
+    pub fn put(
+        &mut self,
+        rows: &mut Octets,
+        line: &[u8],
+        text: &[u8],
+        refused: Option<Refusal>,
+    ) -> Result<(), Memory> {
+        let step = match read_line_in(self.alloc, version_of(self.is_second), line) {
+            Ok(step) => step,
+            Err(_) => None,
+        };
+        match refused {
+            Some(reason) => self.put_refusal(rows, line, step, reason),
+            None => {
+                self.put_rows(rows, line, text)?;
+                self.made(step)
+            }
+        }
+    }
+
+    /// The chosen source.
+    fn chosen(&self) -> &Source {
+        if self.is_other {
+            &self.second
+        } else {
+            &self.first
+        }
+    }
+
+    /// Puts why a line is refused.
+    fn put_refusal(
+        &self,
+        rows: &mut Octets,
+        line: &[u8],
+        step: Option<Step>,
+        reason: Refusal,
+    ) -> Result<(), Memory> {
+        match (reason, step) {
+            (Refusal::BadLine { word }, _) => put_misfit(rows, line, word),
+            (Refusal::BadGroup { fault }, _) => {
+                let group = if self.is_other {
+                    &self.second_group
+                } else {
+                    &self.first_group
+                };
+                put_fault(rows, fault, group, self.chosen().has_cipher)
+            }
+            (Refusal::Order, Some(step)) => {
+                let order = order_of(
+                    &step,
+                    self.is_begun,
+                    self.chosen(),
+                    &self.first,
+                    &self.second,
+                );
+                put_note(rows, &[Word::Text(order.as_bytes())])
+            }
+            (_, _) => put_note(rows, &[Word::Text(row_of(reason).as_bytes())]),
+        }
+    }
+
+    /// Puts the notes of the rows that a line brought.
+    fn put_rows(&self, rows: &mut Octets, line: &[u8], text: &[u8]) -> Result<(), Memory> {
+        let mut start = 0;
+        let mut train = line;
+        for end in 0..text.len() {
+            if text[end] == b'\n' {
+                let row = &text[start..end];
+                if row.starts_with(b"train ") {
+                    train = row;
+                }
+                put_row_note(rows, row)?;
+                self.put_none_taken(rows, row, train)?;
+                start = end + 1;
+            }
+        }
+        Ok(())
+    }
+
+    /// Puts why a sink took no stream, where the row says that it took none of this train: a `train` line or a row of that form.
+    fn put_none_taken(&self, rows: &mut Octets, row: &[u8], train: &[u8]) -> Result<(), Memory> {
+        if !row.starts_with(b"sink ") || !row.ends_with(b" NoneTaken") {
+            return Ok(());
+        }
+        let sink = digit_of(word_at(row, 1).unwrap_or(b""));
+        match octets_at(self.alloc, train, ADVERTISED) {
+            Some(advertised) => self.ears.put_reasons(rows, sink, advertised.as_slice()),
+            None => Ok(()),
+        }
+    }
+
+    /// Notes a step that was made.
+    fn made(&mut self, step: Option<Step>) -> Result<(), Memory> {
+        let Some(step) = step else {
+            return Ok(());
+        };
+        match &step {
+            Step::Scenario { version } => {
+                self.is_begun = true;
+                self.is_second = *version == 2;
+            }
+            Step::Source { source } => self.is_other = *source == 1,
+            _ => {
+                if self.is_other {
+                    self.second.made(&step);
+                } else {
+                    self.first.made(&step);
+                }
+                self.numbered(&step);
+            }
+        }
+        self.ears.made(step)
+    }
+
+    /// Keeps the numbers of a group.
+    fn numbered(&mut self, step: &Step) {
+        if let Some(numbers) = numbers_of(step) {
+            if self.is_other {
+                self.second_group = numbers;
+            } else {
+                self.first_group = numbers;
+            }
+        }
+    }
+}
+
+/// The number of a version.
+fn version_of(is_second: bool) -> u8
+    ensures { (result ≡ 1) ⊎ (result ≡ 2) }
+{
+    if is_second { 2 } else { 1 }
+}

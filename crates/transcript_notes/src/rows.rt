@@ -1,0 +1,37 @@
+//! Notes of the rows of the transcript that a line brought.
+use crate::answers::{of_dropped, of_forged, of_heard, of_reply, of_train};
+use crate::note::{put_note, word_at};
+use bcast_base::{Memory, Octets};
+use printed_words::Word;
+
+/// The meaning of a row, where there is one to tell.
+pub(crate) fn meaning_of(row: &[u8]) -> Option<&'static [u8]> {
+    let name = word_at(row, 0)?;
+    if name == b"sink".as_slice() {
+        return of_train(word_at(row, 2)?);
+    }
+    if name == b"reply".as_slice() {
+        return of_reply(word_at(row, 3)?);
+    }
+    if name == b"areply".as_slice() {
+        return of_reply(word_at(row, 4)?);
+    }
+    if name == b"heard".as_slice() {
+        return of_heard(word_at(row, 2)?);
+    }
+    if name == b"forged".as_slice() {
+        return of_forged(word_at(row, 2)?);
+    }
+    if name == b"relay".as_slice() {
+        return of_dropped(word_at(row, 4)?);
+    }
+    None
+}
+
+/// Puts the note of a row.
+pub(crate) fn put_row_note(rows: &mut Octets, row: &[u8]) -> Result<(), Memory> {
+    match meaning_of(row) {
+        Some(comes) => put_note(rows, &[Word::Text(comes)]),
+        None => Ok(()),
+    }
+}

@@ -1,0 +1,139 @@
+"""The sinks of a run: on which group each is, what was handed to it, and what became of the PDUs of a unit. timeline.py uses it."""
+from dataclasses import dataclass, field
+
+ADD, MODIFY, REMOVE = 2, 3, 5
+END_OF_NUMBERS = 2 ** 39
+
+
+def octets_of(word):
+    return b'' if word == '-' else bytes.fromhex(word)
+
+
+@dataclass
+class Stay:
+    """A sink on a group. `open` is its open event; `fates` has what each PDU handed to it was, by stream, event and subevent."""
+    source: object
+    streams: list[int]
+    first: int
+    slot: int | None
+    is_told: bool  # by `train`, whose octets may give other numbers than the source has
+    open: int = 0
+    kept: set = field(default_factory=set)
+    fates: dict = field(default_factory=dict)
+    had: set = field(default_factory=set)  # the units that had a row, by their index
+
+    def __post_init__(self):
+        self.open = self.first
+
+    def hand(self, stream, event, subevent):
+        """Hands the sink a PDU of its source."""
+        group = self.source.group
+        number = group.number(event, subevent)
+        if stream not in self.streams or number >= END_OF_NUMBERS:
+            return
+        if number // group.bn < self.open:
+            fate = 'late'
+        elif (stream, number) in self.kept:
+            fate = 'repeated'
+        else:
+            fate = 'heard'
+            self.kept.add((stream, number))
+        self.fates.setdefault((stream, event, subevent), fate)
+
+    def inject(self, stream, event, subevent, answer):
+        """Takes the answer to octets that were handed in the place of a PDU."""
+        if answer == 'Kept':
+            self.kept.add((stream, self.source.group.number(event, subevent)))
+        if answer in ('Kept', 'Repeat', 'Late'):
+            self.fates.setdefault((stream, event, subevent), 'injected')
+
+    def begun(self, given):
+        """The framed unit, or None where a row is not of it, but of a start of the same time that was injected: its own start was not
+        heard, or it had a row."""
+        if given is None or given.index in self.had or (given.stream, *given.numbers[:1]) not in self.kept:
+            return None
+        self.had.add(given.index)
+        return given
+
+    def copies(self, stream, number):
+        """Each PDU with this payload: its number, event, subevent, when it is sent, and what it was to the sink."""
+        for event, subevent in self.source.group.copies(number):
+            if event < self.source.first:
+                continue
+            yield [number, event, subevent, self.source.sent_at(event, stream, subevent), self.fate(stream, event, subevent)]
+
+    def fate(self, stream, event, subevent):
+        if (stream, event, subevent) in self.fates:
+            return self.fates[stream, event, subevent]
+        if not self.source.is_performed(event):
+            return 'not sent'
+        return 'before it joined' if event < self.first else 'missed'
+
+
+@dataclass
+class Slot:
+    """What a slot of receive states has that decides where the sink is."""
+    ident: tuple
+    wishes: list[bytes]
+
+
+class Sink:
+    """A sink as the lines and the answers describe it."""
+
+    def __init__(self, number):
+        self.number, self.stay, self.relay = number, None, None
+        self.slots, self.writes = {}, {}
+
+    def write(self, link, octets):
+        self.writes.setdefault(link, []).append(octets)
+
+    def reply(self, link, is_accepted):
+        """Takes the answer to the first write that waits on a link."""
+        octets = self.writes[link].pop(0)
+        if is_accepted:
+            self.accept(octets)
+
+    def accept(self, octets):
+        if octets[0] == ADD:
+            number = min(set(range(256)) - set(self.slots))
+            self.slots[number] = Slot((str(octets[1]), str(octets[8]), octets[9:12].hex()), wishes_in(octets[15:]))
+        elif octets[0] == REMOVE:
+            self.slots.pop(octets[1], None)
+        elif octets[0] == MODIFY:
+            slot, wishes = self.slots[octets[1]], wishes_in(octets[5:])
+            if self.stay and self.stay.slot == octets[1] and (octets[2] == 0 or wishes != slot.wishes):
+                self.stay = None
+            slot.wishes = wishes
+
+    def join(self, source, streams, is_tuned, is_told):
+        slots = [] if is_tuned else [number for number, slot in self.slots.items() if slot.ident == source.ident]
+        self.stay = Stay(source, streams, source.next, next(iter(slots), None), is_told)
+
+
+def wishes_in(octets):
+    """The BISSYNC of each subgroup, behind their number."""
+    wishes, rest = [], octets[1:]
+    for _ in range(octets[0]):
+        wishes.append(rest[:4])
+        rest = rest[5 + rest[4]:]
+    return wishes
+
+
+def written_octets(words):
+    """The operation that a line writes: its octets, or those fields of it that are read here, in their places."""
+    kind, rest = words[0], words[2:]
+    if kind in ('write', 'awrite'):
+        return octets_of(words[-1])
+    if kind == 'add':
+        front = bytes([ADD, int(rest[0])]) + octets_of(rest[1]) + bytes([int(rest[2])]) + octets_of(rest[3])
+        return front + wished_octets(rest[4:])
+    if kind == 'modify':
+        return bytes([MODIFY, int(rest[0])]) + wished_octets(rest[1:])
+    return bytes([REMOVE if kind == 'remove' else 4, int(rest[0])])
+
+
+def wished_octets(words):
+    octets = bytes([int(words[0])]) + int(words[1]).to_bytes(2, 'little') + bytes([len(words[2:]) // 2])
+    for streams, metadata in zip(words[2::2], words[3::2]):
+        octets += octets_of(streams) + bytes([len(octets_of(metadata))]) + octets_of(metadata)
+    return octets
