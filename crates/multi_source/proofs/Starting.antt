@@ -11,7 +11,7 @@ use Rattle.source_machine.specs.Airs.{AreAirs, Sends, stale_of}
 use Rattle.source_machine.specs.declared.sent.Stale.{Stale}
 use Rattle.source_machine.specs.Faults.{event_fault}
 use Rattle.multi_source.specs.declared.field.Begun.{Begun}
-use Rattle.multi_source.specs.State.Broadcasts.{IsOfGroup, IsOnAir}
+use Rattle.multi_source.specs.State.Airs.{IsOfGroup, IsOnAir}
 use Rattle.multi_source.specs.State.Fields.{Sending, Starts}
 use Rattle.multi_source.proofs.Airing.{event_on_air, silent}
 

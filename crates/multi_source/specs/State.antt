@@ -1,3 +1,3 @@
 -- How the state of sources stands for their calls.
-pub mod Broadcasts
+pub mod Airs
 pub mod Fields

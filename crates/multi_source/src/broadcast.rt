@@ -9,75 +9,65 @@ ghost use Rattle.source_machine.specs.Airs.{AreAirs, pdu_of, stale_of};
 ghost use Rattle.source_machine.specs.Calls.{Call, give as gives, event as performs, last_of, next_anchor_of, next_of};
 ghost use Rattle.source_machine.specs.Faults.{air_fault, announce_fault, answer_of, event_fault, give_fault, misfit_of, refused_event, refused_train, refused_unit};
 ghost use Rattle.source_machine.specs.Setups.{IsChecked, started};
-ghost use Rattle.source_machine.specs.State.Sources.{anchor_in, group_in};
-ghost use Rattle.multi_source.specs.State.Broadcasts.{AfterFault, StandsFor};
+ghost use Rattle.source_machine.specs.State.Sources.{AfterFault, StandsFor, anchor_in, group_in};
 
 use announcement_train::Train;
 use bcast_base::{Bis, Memory};
 use big_info::Group;
-use radio_schedule::{Air, AirFault};
+use radio_schedule::AirFault;
 use source_machine::{
     AnnounceFault, EventFault, GiveFault, Identity, SourceConfigured, SourceStreaming, StaleList,
 };
-use std::alloc::Global;
 use std::marker::Model;
 
-/// A source since its start, and the air that it is heard through (Core 5.2, volume 6 part B, section 4.4.6).
+/// A source since its start, which is heard until it is dropped (Core 5.2, volume 6 part B, section 4.4.6).
 #[derive(Drop)]
 pub struct Broadcast {
     source: SourceStreaming,
     first: u64,
-    air: Air,
 }
 
 impl Model for Broadcast {
     ghost use Rattle.std.specs.Prelude.{◌≡◌};
-    ghost use Rattle.multi_source.specs.State.Broadcasts.{Broadcasting, IsOfGroup};
+    ghost use Rattle.source_machine.specs.State.Sources.{Source};
 
-    ghost Value = { Broadcasting };
+    ghost Value = { Source };
 
-    ghost view = { λ b. record { source = b.source; air = b.air } };
+    ghost view = { λ b. b.source };
 
-    ghost invariant = { λ b. (b.first ≡ b.source.setup.first) × IsOfGroup b.source.setup b.air };
+    ghost invariant = { λ b. b.first ≡ b.source.setup.first };
 }
 
 impl Broadcast {
     /// Starts a source, whose next event is `first`. Nothing is on the air.
-    pub fn start(
-        alloc: Global,
-        configured: SourceConfigured,
-        first: u64,
-    ) -> Result<Broadcast, Memory>
+    pub fn start(configured: SourceConfigured, first: u64) -> Result<Broadcast, Memory>
         requires { first < 2 ^ 39 }
-        ensures started { IfOk result (λ broadcast. (broadcast.source.identity ≡ configured.identity)
-            × (broadcast.source.setup ≡ started configured first) × StandsFor [] broadcast) }
-        ensures announced { IfOk result (λ broadcast. (broadcast.source.base ≡ configured.base)
-            × (broadcast.source.cipher ≡ configured.cipher)) }
+        ensures started { IfOk result (λ broadcast. (broadcast.identity ≡ configured.identity)
+            × (broadcast.setup ≡ started configured first) × StandsFor [] broadcast) }
+        ensures announced { IfOk result (λ broadcast. (broadcast.base ≡ configured.base)
+            × (broadcast.cipher ≡ configured.cipher)) }
     {
         match configured.start(first) {
-            Ok(source) => {
-                let air = Air::new(alloc, source.group())?;
-                Ok(Broadcast { source, first, air })
-            }
+            Ok(source) => Ok(Broadcast { source, first }),
             Err(kept) => Err(kept.fault),
         }
     }
 
     /// Gives a unit to a stream, as `SourceStreaming::give` does.
     pub fn give(&mut self, bis: Bis, time: Option<u64>, octets: &[u8]) -> Result<(), GiveFault>
-        requires { self.old.source.cipher ≡ None }
-        ensures identity { self.new.source.identity ≡ self.old.source.identity }
-        ensures announced { (self.new.source.base ≡ self.old.source.base) × (self.new.source.cipher ≡ self.old.source.cipher) }
-        ensures setup { self.new.source.setup ≡ self.old.source.setup }
+        requires { self.old.cipher ≡ None }
+        ensures identity { self.new.identity ≡ self.old.identity }
+        ensures announced { (self.new.base ≡ self.old.base) × (self.new.cipher ≡ self.old.cipher) }
+        ensures setup { self.new.setup ≡ self.old.setup }
         ensures ok { OnOk result ((calls : List Call) → StandsFor calls self.old → StandsFor (gives bis time octets.now ∷ calls) self.new) }
         ensures accepted { OnOk result ((calls : List Call) (airs : List StreamAir) → StandsFor calls self.old
-            → AreAirs self.old.source.setup calls airs
-            → give_fault self.old.source.setup calls airs bis time octets.now ≡ None) }
+            → AreAirs self.old.setup calls airs
+            → give_fault self.old.setup calls airs bis time octets.now ≡ None) }
         ensures err { OnErr result (self.new ≡ self.old) }
         ensures cause { IfErr result (λ fault. (calls : List Call) (airs : List StreamAir) → StandsFor calls self.old
-            → AreAirs self.old.source.setup calls airs
-            → give_fault self.old.source.setup calls airs bis time octets.now ≡ refused_unit fault) }
-        ensures checked { IsChecked self.old.source.setup.info }
+            → AreAirs self.old.setup calls airs
+            → give_fault self.old.setup calls airs bis time octets.now ≡ refused_unit fault) }
+        ensures checked { IsChecked self.old.setup.info }
     {
         self.source.give(bis, time, octets)
     }
@@ -85,46 +75,40 @@ impl Broadcast {
     /// Why a unit would be refused however few wait, as `SourceStreaming::misfit` says.
     pub fn misfit(&self, bis: Bis, time: Option<u64>, octets: &[u8]) -> Option<GiveFault>
         ensures { (calls : List Call) → StandsFor calls self.now
-            → result ≡ option_map answer_of (misfit_of self.now.source.setup calls bis time octets.now) }
+            → result ≡ option_map answer_of (misfit_of self.now.setup calls bis time octets.now) }
     {
         self.source.misfit(bis, time, octets)
     }
 
-    /// Performs the next event, as `SourceStreaming::event` does, and puts it on the air.
+    /// Performs the next event, as `SourceStreaming::advance` does.
     pub fn event(&mut self) -> Result<StaleList, EventFault>
-        requires { self.old.source.cipher ≡ None }
-        ensures identity { self.new.source.identity ≡ self.old.source.identity }
-        ensures announced { (self.new.source.base ≡ self.old.source.base) × (self.new.source.cipher ≡ self.old.source.cipher) }
-        ensures setup { self.new.source.setup ≡ self.old.source.setup }
+        requires { self.old.cipher ≡ None }
+        ensures identity { self.new.identity ≡ self.old.identity }
+        ensures announced { (self.new.base ≡ self.old.base) × (self.new.cipher ≡ self.old.cipher) }
+        ensures setup { self.new.setup ≡ self.old.setup }
         ensures ok { OnOk result ((calls : List Call) → StandsFor calls self.old
-            → (event_fault self.old.source.setup calls ≡ None) × StandsFor (performs ∷ calls) self.new) }
+            → (event_fault self.old.setup calls ≡ None) × StandsFor (performs ∷ calls) self.new) }
         ensures stale { IfOk result (λ stale. (calls : List Call) (airs : List StreamAir) → StandsFor calls self.old
-            → AreAirs self.old.source.setup (performs ∷ calls) airs
-            → stale ≡ stale_of self.old.source.setup calls airs) }
+            → AreAirs self.old.setup (performs ∷ calls) airs
+            → stale ≡ stale_of self.old.setup calls airs) }
         ensures cause { IfErr result (λ fault. (calls : List Call) → StandsFor calls self.old
-            → event_fault self.old.source.setup calls ≡ refused_event fault) }
+            → event_fault self.old.setup calls ≡ refused_event fault) }
         ensures err { IfErr result (λ fault. AfterFault fault self.old self.new) }
-        ensures next { OnOk result (self.new.source.next ≡ self.old.source.next + 1) }
-        ensures same { OnErr result (self.new.source.next ≡ self.old.source.next) }
-        ensures checked { IsChecked self.old.source.setup.info }
+        ensures next { OnOk result (self.new.next ≡ self.old.next + 1) }
+        ensures same { OnErr result (self.new.next ≡ self.old.next) }
+        ensures checked { IsChecked self.old.setup.info }
     {
-        match self.source.event() {
-            Ok(sent) => {
-                self.air.push(sent.pdus);
-                Ok(sent.stale)
-            }
-            Err(fault) => Err(fault),
-        }
+        self.source.advance()
     }
 
     /// Announces the next event, as `SourceStreaming::announce` does.
     pub fn announce(&self) -> Result<Train, AnnounceFault>
-        ensures train { IfOk result (λ train. IsTrain self.now.source.identity.broadcast_id self.now.source.base
-            (group_in self.now.source) self.now.source.next
-            (anchor_in self.now.source) train) }
-        ensures ok { OnOk result ((calls : List Call) → StandsFor calls self.now → announce_fault self.now.source.setup calls ≡ None) }
+        ensures train { IfOk result (λ train. IsTrain self.now.identity.broadcast_id self.now.base
+            (group_in self.now) self.now.next
+            (anchor_in self.now) train) }
+        ensures ok { OnOk result ((calls : List Call) → StandsFor calls self.now → announce_fault self.now.setup calls ≡ None) }
         ensures cause { IfErr result (λ fault. (calls : List Call) → StandsFor calls self.now
-            → announce_fault self.now.source.setup calls ≡ refused_train fault) }
+            → announce_fault self.now.setup calls ≡ refused_train fault) }
         ensures greatest { IfOk result (λ train. train.time ≤ 2 ^ 61) }
     {
         let _anchor = self.source.next_anchor();
@@ -138,48 +122,47 @@ impl Broadcast {
     pub fn heard_at(&self, back: u8, bis: Bis, subevent: u8) -> Result<&[u8], AirFault>
         requires { back ≤ 31 }
         ensures ok { IfOk result (λ pdu. (calls : List Call) (airs : List StreamAir) → StandsFor calls self.now
-            → AreAirs self.now.source.setup calls airs
-            → (air_fault self.now.source.setup calls back bis subevent ≡ None)
-            × (pdu_of self.now.source.setup airs (next_of self.now.source.setup calls - 1 - back) bis subevent ≡ Some pdu.now)) }
+            → AreAirs self.now.setup calls airs
+            → (air_fault self.now.setup calls back bis subevent ≡ None)
+            × (pdu_of self.now.setup airs (next_of self.now.setup calls - 1 - back) bis subevent ≡ Some pdu.now)) }
         ensures err { IfErr result (λ fault. (calls : List Call) → StandsFor calls self.now
-            → air_fault self.now.source.setup calls back bis subevent ≡ Some fault) }
-        ensures checked { IsChecked self.now.source.setup.info }
+            → air_fault self.now.setup calls back bis subevent ≡ Some fault) }
+        ensures checked { IsChecked self.now.setup.info }
     {
-        let _group = self.source.group();
-        self.air.heard_at(back, bis, subevent)
+        self.source.heard_at(back, bis, subevent)
     }
 
     /// Who the source is.
     pub fn identity(&self) -> Identity
-        ensures { result ≡ self.now.source.identity }
+        ensures { result ≡ self.now.identity }
     {
         self.source.identity()
     }
 
     /// Whether the group is encrypted. Such a source is announced alone.
     pub fn is_ciphered(&self) -> bool
-        ensures { result ≡ is_some self.now.source.cipher }
+        ensures { result ≡ is_some self.now.cipher }
     {
         self.source.is_ciphered()
     }
 
     /// The PDU that ends the group for this reason at the next event.
     pub fn terminate_pdu(&self, reason: u8) -> [u8; 6]
-        ensures { result ≡ pdu (control (terminate reason (self.now.source.next % 2 ^ 16))) }
+        ensures { result ≡ pdu (control (terminate reason (self.now.next % 2 ^ 16))) }
     {
         self.source.terminate_pdu(reason)
     }
 
     /// The group.
     pub fn group(&self) -> &Group
-        ensures { result.now.info ≡ self.now.source.setup.info }
+        ensures { result.now.info ≡ self.now.setup.info }
     {
         self.source.group()
     }
 
     /// The presentation delay in µs.
     pub fn delay(&self) -> u32
-        ensures delay { result ≡ self.now.source.setup.delay }
+        ensures delay { result ≡ self.now.setup.delay }
         ensures within { result < 2 ^ 24 }
     {
         self.source.delay()
@@ -187,9 +170,9 @@ impl Broadcast {
 
     /// The next event.
     pub fn next_event(&self) -> u64
-        ensures next { result ≡ self.now.source.next }
-        ensures calls { (calls : List Call) → StandsFor calls self.now → result ≡ next_of self.now.source.setup calls }
-        ensures least { self.now.source.setup.first ≤ result }
+        ensures next { result ≡ self.now.next }
+        ensures calls { (calls : List Call) → StandsFor calls self.now → result ≡ next_of self.now.setup calls }
+        ensures least { self.now.setup.first ≤ result }
         ensures greatest { result ≤ 2 ^ 39 }
     {
         self.source.next_event()
@@ -197,7 +180,7 @@ impl Broadcast {
 
     /// The anchor of the next event, in µs.
     pub fn next_anchor(&self) -> u64
-        ensures calls { (calls : List Call) → StandsFor calls self.now → result ≡ next_anchor_of self.now.source.setup calls }
+        ensures calls { (calls : List Call) → StandsFor calls self.now → result ≡ next_anchor_of self.now.setup calls }
         ensures greatest { result ≤ 2 ^ 61 }
     {
         self.source.next_anchor()
@@ -205,8 +188,8 @@ impl Broadcast {
 
     /// The last event that was performed; `None` exactly where none was.
     pub fn last_event(&self) -> Option<u64>
-        ensures calls { (calls : List Call) → StandsFor calls self.now → result ≡ last_of self.now.source.setup calls }
-        ensures last { IfSome result (λ event. event + 1 ≡ self.now.source.next) }
+        ensures calls { (calls : List Call) → StandsFor calls self.now → result ≡ last_of self.now.setup calls }
+        ensures last { IfSome result (λ event. event + 1 ≡ self.now.next) }
         ensures greatest { IfSome result (λ event. event < 2 ^ 39) }
     {
         let next = self.source.next_event();

@@ -1,7 +1,8 @@
 -- A line that is put piece by piece: what was put so far is a front of it, and what is left is its rest.
-use Rattle.std.proofs.Common.{◌≡◌, ◌<◌, ℕ, suc, List, [], ◌∷◌, ◌++◌, length, get_or, map, take, drop, Result, Ok, Err, refl, ap, sym, ◌∙◌, append_assoc, arith}
+use Rattle.std.proofs.Common.{◌≡◌, ◌<◌, ◌+◌, ℕ, suc, List, [], ◌∷◌, ◌++◌, length, get_or, map, take, drop, Result, Ok, Err, refl, ap, sym, ◌∙◌, append_assoc, arith, decimal}
 use Rattle.std.specs.Prelude.{OnErr}
 use Rattle.std.proofs.Math.Seq.{drop-cons}
+use Rattle.std.proofs.lemmas.Fmt.{decimal_digit}
 use Rattle.std.proofs.lemmas.List.{take-append-drop, append-nil}
 use Rattle.hex.specs.Hex.{encode_with, encode_lower, lower_digits}
 use Rattle.printed_words.specs.Fronts.{AFront}
@@ -60,6 +61,10 @@ word_front old now space_put new line words i none inside so_far more part =
     let word = spelled (get_or words i none) in
     front_of old space_put new line (word ++ rest) word rest
     (put_more old now space_put line (behind (map spelled (drop i words))) (space ∷ []) (word ++ rest) so_far (next_word words i none inside) more) refl part
+
+-- a number below 10 is one digit
+pub digit_put : (old new : List ℕ) (number : ℕ) → number < 10 → new ≡ old ++ (48 + number) ∷ [] → new ≡ old ++ decimal number
+digit_put old new number small put = put ∙ ap (λ (l : List ℕ). old ++ l) (sym (decimal_digit number small))
 
 pub on_err : {A E : Type 0} (r : Result A E) (P : Type 0) → P → OnErr r P
 on_err (Ok x) P p = tt

@@ -21,10 +21,15 @@ pub enum Word<'a> {
     Digits(&'a [u8]),
 }
 
+/// Puts a number in decimal.
+#[tactic(auto, using(crate::proofs::Putting::digit_put))]
 fn put_number(text: &mut Octets, number: u64) -> Result<(), Memory>
     ensures ok { OnOk result (text.new ≡ text.old ++ decimal number) }
     ensures err { OnErr result (text.new ≡ text.old) }
 {
+    if number < 10 {
+        return text.push(b'0' + number as u8);
+    }
     let mut buffer = Buffer::new();
     text.append(buffer.format(number).as_bytes())
 }

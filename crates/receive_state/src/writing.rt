@@ -9,6 +9,9 @@ use crate::state::{Encryption, GroupState, ReceiveState};
 use bcast_base::{Memory, Octets, put_subgroup};
 use std::alloc::Global;
 
+/// The octets that are taken for a state at once: more than most have.
+const ROOM: usize = 64;
+
 /// The octets of a receive state that fits, or none where there is no source (Broadcast Audio Scan Service 1.0, section
 /// 3.2).
 pub fn encode_state(alloc: Global, state: Option<&ReceiveState>) -> Result<Octets, Memory>
@@ -28,7 +31,7 @@ fn write_state(alloc: Global, state: &ReceiveState) -> Result<Octets, Memory>
 {
     let address = state.address;
     let broadcast_id = state.broadcast_id;
-    let mut out = Octets::new(alloc);
+    let mut out = Octets::of(Vec::with_capacity(alloc, ROOM)?);
     out.push(state.source_id)?;
     out.push(state.address_type)?;
     out.append(&address)?;

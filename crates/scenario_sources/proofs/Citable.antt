@@ -2,7 +2,7 @@
 use Rattle.std.proofs.Common.{◌≡◌, ℕ, Bool, true, false, List, ◌∷◌, if◌then◌else◌, refl, sym, ◌∙◌, ap, subst, slice_get, unwrap_or, Option, None, Some}
 use Rattle.source_machine.specs.Calls.{Call}
 use Rattle.source_machine.specs.declared.setup.Identity.{Identity}
-use Rattle.multi_source.specs.State.Broadcasts.{Broadcasting, StandsFor}
+use Rattle.source_machine.specs.State.Sources.{Source, StandsFor}
 use Rattle.scenario_text.specs.declared.step.Step.{Step}
 use Rattle.scenario_text.specs.declared.step.Step.TheVariants as steps
 use Rattle.scenario_text.specs.declared.step.Step.TheVariants.{Scenario, Sink, Tuned, Hear, Air, Inject, Sniff, Drop, End}
@@ -37,7 +37,7 @@ pub record SaysNothing (made : Step) : Type 0 where
 base_stays : (made : Step) (own : List Step) → SaysNothing made → base_of (made ∷ own) ≡ base_of own
 base_stays made own nothing = rw (nothing.group own, nothing.lines own) refl
 
-started_stays : (made : Step) (own : List Step) (started : Broadcasting) → SaysNothing made → StartedIs own started → StartedIs (made ∷ own) started
+started_stays : (made : Step) (own : List Step) (started : Source) → SaysNothing made → StartedIs own started → StartedIs (made ∷ own) started
 started_stays made own started nothing is = record {
   identity = is.identity ∙ sym (ap (λ (o : Option Identity). unwrap_or o no_identity) (nothing.ident own));
   setup = is.setup ∙ sym (nothing.setup own is.under_way);

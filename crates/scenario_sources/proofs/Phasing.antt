@@ -15,7 +15,7 @@ use Rattle.source_machine.specs.declared.sent.Stale.{Stale}
 use Rattle.source_machine.specs.declared.fault.GiveFault.{GiveFault}
 use Rattle.source_machine.specs.UnitFaults as faults
 use Rattle.source_machine.specs.Faults.{air_fault, answer_of, give_fault, has_its_time, misfit_of, refused_unit}
-use Rattle.multi_source.specs.State.Broadcasts.{Broadcasting, StandsFor}
+use Rattle.source_machine.specs.State.Sources.{Source, StandsFor}
 use Rattle.transcript_text.specs.declared.refusal.Refusal.{Refusal}
 use Rattle.transcript_text.specs.declared.refusal.Refusal.TheVariants.{Order}
 use Rattle.transcript_text.specs.declared.stop.Stop.{Stop}
@@ -119,17 +119,17 @@ heard own setup back bis subevent pdu same both =
 
 -- ---- unit
 
-pub gives_not : (old new : Broadcasting) (bis : ℕ) (time : Option ℕ) (octets : List ℕ) (fault : GiveFault) (stop : Stop) → new ≡ old
-    → ((calls : List Call) → StandsFor calls old → give_fault old.source.setup calls (airs_of old.source.setup calls) bis time octets ≡ refused_unit fault)
+pub gives_not : (old new : Source) (bis : ℕ) (time : Option ℕ) (octets : List ℕ) (fault : GiveFault) (stop : Stop) → new ≡ old
+    → ((calls : List Call) → StandsFor calls old → give_fault old.setup calls (airs_of old.setup calls) bis time octets ≡ refused_unit fault)
     → GiveStops fault stop → GivesTo old bis time octets new (Err stop)
 gives_not old new bis time octets fault (Refused reason) same cause g =
     (same, λ calls stands. ap (option_map give_refusal) (cause calls stands) ∙ g)
 gives_not old new bis time octets fault OutletFault same cause g = g
 gives_not old new bis time octets fault Memory same cause g = tt
 
-pub gives : (version : ℕ) (own : List Step) (old new : Broadcasting) (bis : ℕ) (time : Option ℕ) (octets : List ℕ) (r : Result (Unit {0}) Stop)
-    → (phase_of own ≡ sending) × StartedIs own old → is_some old.source.cipher ≡ false → new.source.identity ≡ old.source.identity
-    → (new.source.base ≡ old.source.base) × (new.source.cipher ≡ old.source.cipher)
+pub gives : (version : ℕ) (own : List Step) (old new : Source) (bis : ℕ) (time : Option ℕ) (octets : List ℕ) (r : Result (Unit {0}) Stop)
+    → (phase_of own ≡ sending) × StartedIs own old → is_some old.cipher ≡ false → new.identity ≡ old.identity
+    → (new.base ≡ old.base) × (new.cipher ≡ old.cipher)
     → GivesTo old bis time octets new r → Becomes version own (UnitStep bis time octets) (phases.Sending new) r
 gives version own old new bis time octets (Ok x) is plain identity said g =
     let given = g.1 (source_calls own) is.1.calls in let uncoded : is_ciphered own ≡ false = ap is_some (sym is.1.cipher) ∙ plain in (
@@ -154,11 +154,11 @@ gives version own old new bis time octets (Err (Refused reason)) is plain identi
     is.0,
     record {
       identity = identity ∙ is.1.identity;
-      setup = ap (λ (s : Broadcasting). s.source.setup) g.0 ∙ is.1.setup;
+      setup = ap (λ (s : Source). s.setup) g.0 ∙ is.1.setup;
       under_way = is.1.under_way;
       base = said.0 ∙ is.1.base;
       cipher = said.1 ∙ is.1.cipher;
-      calls = let P : Broadcasting → Type 0 = λ s. StandsFor (source_calls own) s in subst P (sym g.0) is.1.calls;
+      calls = let P : Source → Type 0 = λ s. StandsFor (source_calls own) s in subst P (sym g.0) is.1.calls;
     },
   ),
 )
@@ -182,15 +182,15 @@ relayed_is setup calls airs bis time octets =
     relayed_by (nat_lt setup.info.num_bis bis) (nat_lt setup.info.max_sdu (length octets)) (not (has_its_time setup calls bis time)) (nat_le 16 (waiting_of calls airs bis))
 
 -- the group is encrypted
-pub coded : (own : List Step) (started : Broadcasting) → (phase_of own ≡ sending) × StartedIs own started → is_some started.source.cipher ≡ true → takes_units own ≡ false
+pub coded : (own : List Step) (started : Source) → (phase_of own ≡ sending) × StartedIs own started → is_some started.cipher ≡ true → takes_units own ≡ false
 coded own started is some = let stands : is_ciphered own ≡ true = ap is_some (sym is.1.cipher) ∙ some in rw (is.0, stands) refl
 
-pub uncoded : (own : List Step) (started : Broadcasting) → (phase_of own ≡ sending) × StartedIs own started → is_some started.source.cipher ≡ false → takes_units own ≡ true
+pub uncoded : (own : List Step) (started : Source) → (phase_of own ≡ sending) × StartedIs own started → is_some started.cipher ≡ false → takes_units own ≡ true
 uncoded own started is none = let plain : is_ciphered own ≡ false = ap is_some (sym is.1.cipher) ∙ none in rw (is.0, plain) refl
 
-pub relays_not : (version : ℕ) (own : List Step) (started : Broadcasting) (bis : ℕ) (time : Option ℕ) (octets : List ℕ) (fault : Option GiveFault) (reason : Refusal)
-    → (phase_of own ≡ sending) × StartedIs own started → is_some started.source.cipher ≡ false
-    → fault ≡ option_map answer_of (misfit_of started.source.setup (source_calls own) bis time octets) → reason ≡ misfit_refusal_of fault
+pub relays_not : (version : ℕ) (own : List Step) (started : Source) (bis : ℕ) (time : Option ℕ) (octets : List ℕ) (fault : Option GiveFault) (reason : Refusal)
+    → (phase_of own ≡ sending) × StartedIs own started → is_some started.cipher ≡ false
+    → fault ≡ option_map answer_of (misfit_of started.setup (source_calls own) bis time octets) → reason ≡ misfit_refusal_of fault
     → relayed_or true (fault_in version own (UnitStep bis time octets)) ≡ Some reason
 relays_not version own started bis time octets fault reason is plain fits named =
     rw (uncoded own started is plain)

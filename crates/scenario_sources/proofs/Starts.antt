@@ -18,7 +18,7 @@ use Rattle.source_machine.specs.Ciphers.{without_cipher}
 use Rattle.source_machine.specs.Faults.{ConfigureFails}
 use Rattle.source_machine.specs.declared.fault.ConfigureFault.{ConfigureFault}
 use Rattle.source_machine.specs.declared.fault.ConfigureFault.TheVariants.{BadGroup as Misfit, Memory as NoMemory}
-use Rattle.multi_source.specs.State.Broadcasts.{Broadcasting, StandsFor}
+use Rattle.source_machine.specs.State.Sources.{Source, StandsFor}
 use Rattle.transcript_text.specs.declared.refusal.Refusal.{Refusal}
 use Rattle.transcript_text.specs.declared.refusal.Refusal.TheVariants.{BadGroup, BaseTooLong, Order}
 use Rattle.transcript_text.specs.declared.stop.Stop.{Stop}
@@ -236,17 +236,17 @@ pub identity_is : (own : List Step) (said : Described) (identity : Identity) →
     → identity ≡ identity_of own
 identity_is own said identity is e = e ∙ ap (λ (o : Option Identity). unwrap_or o no_identity) is.ident
 
-pub begins : (version first : ℕ) (ahead : Bool) (own : List Step) (said : Described) (plain : Option Endpoint) (base : Endpoint) (started : Broadcasting) → ahead ≡ is_ahead_in version
+pub begins : (version first : ℕ) (ahead : Bool) (own : List Step) (said : Described) (plain : Option Endpoint) (base : Endpoint) (started : Source) → ahead ≡ is_ahead_in version
     → stage_of own ≡ running version → DescribedSo own said → MayStart version first own plain → Finishes said.base plain base
-    → started.source.identity ≡ identity_or_none said.identity
-    → (let setup : Setup = record { info = without_cipher said.info; origin = said.origin; delay = base.delay; first = first; ahead = ahead } in started.source.setup ≡ setup)
-    → started.source.base ≡ base → started.source.cipher ≡ said.info.cipher → StandsFor [] started → StartedIs (Start first ∷ own) started
+    → started.identity ≡ identity_or_none said.identity
+    → (let setup : Setup = record { info = without_cipher said.info; origin = said.origin; delay = base.delay; first = first; ahead = ahead } in started.setup ≡ setup)
+    → started.base ≡ base → started.cipher ≡ said.info.cipher → StandsFor [] started → StartedIs (Start first ∷ own) started
 begins version first ahead own said plain base started a stage is may finishes identity setup b c stands =
     let same : base ≡ base_of own = based version first own said plain base is may finishes in
     let delay : base.delay ≡ said.delay =
     ap (λ (v : Endpoint). v.delay) (same ∙ base_is own said is.1) ∙ delay_from (line_of said) (subgroups_of own) in
     record {
-      identity = identity_is own said started.source.identity is.1 identity;
+      identity = identity_is own said started.identity is.1 identity;
       setup = setup
           ∙ setup_same (without_cipher said.info) (without_cipher said.info) said.origin said.origin base.delay said.delay first ahead (is_ahead_in version) refl refl delay a
           ∙ rw (is.1.group, stage) refl;

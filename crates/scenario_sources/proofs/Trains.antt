@@ -12,7 +12,7 @@ use Rattle.source_machine.specs.Faults.{announce_fault}
 use Rattle.source_machine.specs.State.Sources.{anchor_in, group_in}
 use Rattle.source_machine.specs.declared.fault.AnnounceFault.TheVariants.{CounterEnds as NumbersEnd}
 use Rattle.source_machine.specs.declared.setup.Identity.{Identity}
-use Rattle.multi_source.specs.State.Broadcasts.{Broadcasting}
+use Rattle.source_machine.specs.State.Sources.{Source}
 use Rattle.transcript_text.specs.declared.refusal.Refusal.TheVariants.{CounterEnds}
 use Rattle.transcript_text.specs.declared.stop.Stop.TheVariants.{Refused}
 use Rattle.scenario_text.specs.declared.step.Step.{Step}
@@ -22,24 +22,24 @@ use Rattle.scenario_sources.specs.Answers.{AnnouncesAs}
 use Rattle.scenario_sources.specs.State.Phases.{StartedIs}
 
 -- the group that it announces is the one that its lines say
-group_is : (own : List Step) (started : Broadcasting) → StartedIs own started → group_in started.source ≡ checked_info own
+group_is : (own : List Step) (started : Source) → StartedIs own started → group_in started ≡ checked_info own
 group_is own started is =
-    ap (λ (s : Setup). with_cipher s.info started.source.cipher) is.setup ∙ ap (with_cipher (setup_of own).info) is.cipher
+    ap (λ (s : Setup). with_cipher s.info started.cipher) is.setup ∙ ap (with_cipher (setup_of own).info) is.cipher
 
-next_is : (own : List Step) (started : Broadcasting) → StartedIs own started → started.source.next ≡ next_of (setup_of own) (source_calls own)
-next_is own started is = is.calls.source.next ∙ ap (λ s. next_of s (source_calls own)) is.setup
+next_is : (own : List Step) (started : Source) → StartedIs own started → started.next ≡ next_of (setup_of own) (source_calls own)
+next_is own started is = is.calls.next ∙ ap (λ s. next_of s (source_calls own)) is.setup
 
-anchor_is : (own : List Step) (started : Broadcasting) → StartedIs own started → anchor_in started.source ≡ next_anchor_of (setup_of own) (source_calls own)
+anchor_is : (own : List Step) (started : Source) → StartedIs own started → anchor_in started ≡ next_anchor_of (setup_of own) (source_calls own)
 anchor_is own started is =
-    ap (λ (s : Setup). anchor_of s.origin s.first started.source.next (iso_us_of s.info)) is.setup
+    ap (λ (s : Setup). anchor_of s.origin s.first started.next (iso_us_of s.info)) is.setup
     ∙ ap (λ n. anchor_of (setup_of own).origin (setup_of own).first n (iso_us_of (setup_of own).info)) (next_is own started is)
 
 same_train : (i j : List ℕ) (b d : Endpoint) (g h : BigInfo) (n m a c : ℕ) → i ≡ j → b ≡ d → g ≡ h → n ≡ m → a ≡ c → train_of i b g n a ≡ train_of j d h m c
 same_train i j b d g h n m a c e f k l o = rw (e, f, k, l, o) refl
 
-pub announces : (own : List Step) (started : Broadcasting) (train : Train) → (phase_of own ≡ sending) × StartedIs own started
-    → announce_fault started.source.setup (source_calls own) ≡ None
-    → train ≡ train_of started.source.identity.broadcast_id started.source.base (group_in started.source) started.source.next (anchor_in started.source)
+pub announces : (own : List Step) (started : Source) (train : Train) → (phase_of own ≡ sending) × StartedIs own started
+    → announce_fault started.setup (source_calls own) ≡ None
+    → train ≡ train_of started.identity.broadcast_id started.base (group_in started) started.next (anchor_in started)
     → AnnouncesAs own (Ok train)
 announces own started train is none same = (
   rw is.0 refl,
@@ -48,6 +48,6 @@ announces own started train is none same = (
       ∙ same_train _ _ _ _ _ _ _ _ _ _ (ap (λ (i : Identity). i.broadcast_id) is.1.identity) is.1.base (group_is own started is.1) (next_is own started is.1) (anchor_is own started is.1),
 )
 
-pub announces_no_more : (own : List Step) (started : Broadcasting) → (phase_of own ≡ sending) × StartedIs own started
-    → announce_fault started.source.setup (source_calls own) ≡ Some NumbersEnd → AnnouncesAs own (Err (Refused CounterEnds))
+pub announces_no_more : (own : List Step) (started : Source) → (phase_of own ≡ sending) × StartedIs own started
+    → announce_fault started.setup (source_calls own) ≡ Some NumbersEnd → AnnouncesAs own (Err (Refused CounterEnds))
 announces_no_more own started is ends = rw is.0 (ap (λ s. train_ends (announce_fault s (source_calls own))) (sym is.1.setup) ∙ ap train_ends ends)

@@ -45,9 +45,9 @@ pub(crate) fn give(
 /// Gives a source that was started a unit of a stream.
 #[inline(always)]
 fn give_to(started: &mut Broadcast, bis: Bis, time: Option<u64>, octets: &[u8]) -> Result<(), Stop>
-    requires { started.old.source.cipher ≡ None }
-    ensures identity { started.new.source.identity ≡ started.old.source.identity }
-    ensures announced { (started.new.source.base ≡ started.old.source.base) × (started.new.source.cipher ≡ started.old.source.cipher) }
+    requires { started.old.cipher ≡ None }
+    ensures identity { started.new.identity ≡ started.old.identity }
+    ensures announced { (started.new.base ≡ started.old.base) × (started.new.cipher ≡ started.old.cipher) }
     ensures source { GivesTo started.old bis time octets.now started.new result }
 {
     match started.give(bis, time, octets) {

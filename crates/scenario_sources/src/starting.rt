@@ -174,7 +174,7 @@ fn begin_with(
         Ok(configured) => configured,
         Err(kept) => return Err(start_stop(kept.fault)),
     };
-    match Broadcast::start(alloc, configured, first) {
+    match Broadcast::start(configured, first) {
         Ok(started) => Ok(started),
         Err(_) => Err(Stop::Memory),
     }

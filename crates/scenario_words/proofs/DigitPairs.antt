@@ -91,7 +91,7 @@ all_pairs word octets i even all read before = decode_of-even word even ∙ deco
 byte_more : (octet i : ℕ) (rest : List ℕ) → ((octets : List ℕ) × (decode_pairs i rest ≡ Ok octets)) → (octets : List ℕ) × (cons_byte octet (decode_pairs i rest) ≡ Ok octets)
 byte_more octet i rest read = (octet ∷ read.0, rw read.1 refl)
 
-both_digits : (a b : Bool) → (a && b) ≡ true → (a ≡ true) × (b ≡ true)
+pub both_digits : (a b : Bool) → (a && b) ≡ true → (a ≡ true) × (b ≡ true)
 both_digits true b e = (refl, e)
 both_digits false b e = absurd cc
 

@@ -4,6 +4,7 @@ pub mod Decimals
 pub mod DigitPairs
 mod Fitting
 mod Given
+pub mod LastWord
 pub mod MoreWords
 pub mod NextWords
 mod Octets

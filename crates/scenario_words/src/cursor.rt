@@ -1,4 +1,4 @@
-ghost use Rattle.std.specs.Prelude.{◌≡◌, ◌≤◌, ◌^◌, ◌<◌, ◌+◌, ◌-◌, ◌*◌, ◌∷◌, ℕ, List, [], Some, None, Err, length, IfOk, IfSome, IsTrue, ◌≢◌, ◌↔◌};
+ghost use Rattle.std.specs.Prelude.{◌≡◌, ◌≤◌, ◌^◌, ◌<◌, ◌+◌, ◌-◌, ◌*◌, ◌∷◌, ℕ, List, [], Some, None, Ok, Err, length, IfOk, IfSome, IsErr, IsNone, IsTrue, ◌≢◌, ◌↔◌};
 ghost use Rattle.scenario_words.specs.declared.fault.LineFault.TheVariants.{Memory as NoMemory};
 ghost use Rattle.scenario_words.specs.Reading.{GivesNext, ReadsNext, SpellsNext, Left, next, any_word};
 ghost use Rattle.scenario_words.specs.Reading.{decimal_in, framing_in, time_in, octets_in, exact_in, number_in, list_in};
@@ -12,7 +12,7 @@ ghost use Rattle.scenario_words.specs.Rests.{words_after, octets_after};
 use crate::fault::{LineFault, Misfit};
 use crate::word::{array_of, decimal_within, framing_of, list_of, number_of, octets_of, time_of};
 use bass_operations::{Wish, Wishes};
-use bcast_base::{Bis, BisSet, Octets};
+use bcast_base::{Bis, BisSet, Memory, Octets};
 use memchr::memchr;
 use std::alloc::Global;
 use std::marker::Model;
@@ -210,13 +210,37 @@ impl<'a> Cursor<'a> {
         }
     }
 
+    /// All that is left of the line, read as one word that spells at most `most` octets. Where it spells none such, the answer is
+    /// None, and no word is read.
+    fn last_octets(&mut self, alloc: Global, most: usize) -> Result<Option<Octets>, Memory>
+        ensures last { IfOk result (λ found. IfSome found (λ octets.
+            (next (octets_in most) self.old ≡ Ok (octets, self.new)) × (length octets ≤ most))) }
+        ensures other { IfOk result (λ found. IsNone found → self.new ≡ self.old) }
+        ensures memory { IsErr result → SpellsNext (next (octets_in most) self.old) }
+    {
+        let Some(rest) = self.rest else {
+            return Ok(None);
+        };
+        let Some(octets) = octets_of(alloc, rest, most)? else {
+            return Ok(None);
+        };
+        self.rest = None;
+        self.read += 1;
+        Ok(Some(octets))
+    }
+
     /// Octets as pairs of hexadecimal digits, or `-` for none; at most `most`. Memory comes only where the word spells an octet.
+    ///
+    /// Mostly it is the last word of its line: so all that is left is tried before its end is looked for.
     #[tactic(auto, using(crate::proofs::NextWords::fits, crate::proofs::NextWords::misfits, crate::proofs::NextWords::spells))]
     pub fn octets(&mut self, alloc: Global, most: usize) -> Result<Octets, LineFault>
         ensures range { IfOk result (λ octets. length octets ≤ most) }
         ensures gives { GivesNext (λ n. n) result self.new (next (octets_in most) self.old) }
         ensures memory { result ≡ Err NoMemory → SpellsNext (next (octets_in most) self.old) }
     {
+        if let Some(last) = self.last_octets(alloc, most)? {
+            return Ok(last);
+        }
         let word = self.word()?;
         match octets_of(alloc, word, most)? {
             Some(octets) => Ok(octets),

@@ -29,7 +29,7 @@ stream_next : (setup : Setup) (next anchor iso_us count : ℕ) (old new : Stream
     → (next ≡ setup.first → count ≡ horizon_of setup.info + 1) → (setup.first < next → count ≡ 1)
     → IsReady setup next old → Lays anchor iso_us count old new → IsReady setup (next + 1) new
 stream_next setup next anchor iso_us count old new order first later ready laying =
-    let room : kept_of (info_in old) ≡ horizon_of setup.info + 1 = ap kept_of ready.info in
+    let room : kept_of (info_in old) ≡ horizon_of setup.info + 32 = ap kept_of ready.info in
     record {
       info = laying.grows.info ∙ ready.info;
       kept = λ some. elim (cases_lt setup.first next) [
@@ -132,7 +132,7 @@ source_laid source laying new is laid = source_grown source new is (grown_by lay
 
 -- each stream has the next event and the H events behind it
 pub streams_laid : (source : Source) (laying : Laying) (new : List Stream) → IsSource source → LaysNext source laying
-    → AllZip (Lays laying.anchor laying.iso_us laying.count) source.streams new → All (IsLaid source.setup.info) new
+    → AllZip (Lays laying.anchor laying.iso_us laying.count) source.streams new → All (IsLaid source.setup.info 0) new
 streams_laid source laying new is next laid = λ k none within.
     let ready = ready_of source laying new is next laid k none within in
-    record { group = ready.info; kept = ready.kept (omega (arith, is.first)) }
+    record { group = ready.info; kept = omega (arith, is.first, ready.kept (omega (arith, is.first))) }

@@ -3,6 +3,7 @@ mod AirLaws
 mod Ciphers
 mod FramedCalls
 mod Framings
+mod HeardEvents
 mod Histories
 mod LaidEvents
 mod Lists

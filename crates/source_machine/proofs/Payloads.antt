@@ -45,35 +45,35 @@ last_laid_at count air i event within at =
     ∙ ap (λ pdus. Some pdus) (get_or-map-range_with_len (pdus_at air) (length air - count) (min count (length air)) i event [] within at)
 
 -- what a stream keeps, by its group
-sent_kept : (info : BigInfo) (stream : Stream) (subevent : ℕ) → info_in stream ≡ info
-    → sent_of stream subevent ≡ option_and_then (λ pdus. slice_get pdus (subevent % info.bn))
-    (slice_get stream.laid (length stream.laid + ahead_of info (subevent / info.bn) - kept_of info))
-sent_kept info stream subevent is =
+sent_kept : (info : BigInfo) (stream : Stream) (back subevent : ℕ) → info_in stream ≡ info
+    → sent_of stream back subevent ≡ option_and_then (λ pdus. slice_get pdus (subevent % info.bn))
+    (slice_get stream.laid (length stream.laid + ahead_of info (subevent / info.bn) - (horizon_of info + 1 + back)))
+sent_kept info stream back subevent is =
     ap (λ (i : BigInfo). option_and_then (λ pdus. slice_get pdus (subevent % i.bn))
-    (slice_get stream.laid (length stream.laid + ahead_of i (subevent / i.bn) - kept_of i))) is
+    (slice_get stream.laid (length stream.laid + ahead_of i (subevent / i.bn) - (horizon_of i + 1 + back)))) is
 
--- a stream that performed an event keeps it with the H events behind it
-pub sent_is : (setup : Setup) (calls : List Call) (bis subevent : ℕ) (stream : Stream) (pdu : List ℕ) → 1 ≤ setup.info.bn
-    → 1 ≤ bis → bis ≤ setup.info.num_bis → 0 < events calls
+-- a stream keeps the last 32 events that were performed with the H events behind them
+pub sent_is : (setup : Setup) (calls : List Call) (back bis subevent : ℕ) (stream : Stream) (pdu : List ℕ) → 1 ≤ setup.info.bn
+    → 1 ≤ bis → bis ≤ setup.info.num_bis → back < events calls → back < 32
     → ahead_of setup.info (subevent / setup.info.bn) ≤ horizon_of setup.info
-    → StreamIs setup calls bis stream → sent_of stream subevent ≡ Some pdu
-    → pdu_of setup (airs_of setup calls) (next_of setup calls - 1) bis subevent ≡ Some pdu
-sent_is setup calls bis subevent stream pdu some least within performed ahead stands is =
+    → StreamIs setup calls bis stream → sent_of stream back subevent ≡ Some pdu
+    → pdu_of setup (airs_of setup calls) (next_of setup calls - 1 - back) bis subevent ≡ Some pdu
+sent_is setup calls back bis subevent stream pdu some least within performed near ahead stands is =
     let info = setup.info in
     let bn = info.bn in
     let air = air_of setup calls bis in
     let kept = kept_of info in
-    let e : ℕ = next_of setup calls - 1 - setup.first in
+    let e : ℕ = next_of setup calls - 1 - back - setup.first in
     let a : ℕ = ahead_of info (subevent / bn) in
     let own : option_and_then (λ pdus. slice_get pdus (subevent % bn))
-    (slice_get (last_laid kept air) (length (last_laid kept air) + a - kept)) ≡ Some pdu =
-    ap (λ laid. option_and_then (λ pdus. slice_get pdus (subevent % bn)) (slice_get laid (length laid + a - kept))) (sym stands.laid)
-    ∙ sym (sent_kept info stream subevent (info_is info (stream_calls info bis calls) (framed_calls setup bis calls) stream.sender stands.sender)) ∙ is in
+    (slice_get (last_laid kept air) (length (last_laid kept air) + a - (horizon_of info + 1 + back))) ≡ Some pdu =
+    ap (λ laid. option_and_then (λ pdus. slice_get pdus (subevent % bn)) (slice_get laid (length laid + a - (horizon_of info + 1 + back)))) (sym stands.laid)
+    ∙ sym (sent_kept info stream back subevent (info_is info (stream_calls info bis calls) (framed_calls setup bis calls) stream.sender stands.sender)) ∙ is in
     let place : subevent % bn ≡ payload_number info e subevent % bn = sym (place_of_number info e subevent some) in
     let length_is : length air ≡ events calls + horizon_of info = laid_count setup calls bis (omega arith) in
     let long : length (last_laid kept air) ≡ min kept (length air) = length-map-range_with_len (pdus_at air) (length air - kept) (min kept (length air)) in
     let there : payload_number info e subevent / bn ≡ e + a = event_of_number info e subevent some in
-    let i : ℕ = length (last_laid kept air) + a - kept in
+    let i : ℕ = length (last_laid kept air) + a - (horizon_of info + 1 + back) in
     let event : slice_get (last_laid kept air) i ≡ Some (pdus_at air (payload_number info e subevent / bn)) =
     last_laid_at kept air i (payload_number info e subevent / bn) (omega arith) (omega arith) in
     let sent : slice_get (pdus_at air (payload_number info e subevent / bn)) (payload_number info e subevent % bn) ≡ Some pdu =

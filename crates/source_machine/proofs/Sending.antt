@@ -9,7 +9,7 @@ use Rattle.std.specs.Option.{option_and_then, option_map}
 use Rattle.big_info.specs.declared.info.BigInfo.{BigInfo}
 use Rattle.big_info.specs.Schedule.{group_count}
 use Rattle.isoal_base.proofs.Citable.{map_append}
-use Rattle.source_machine.specs.Airs.{Sends, airs_of}
+use Rattle.source_machine.specs.Airs.{Sends, airs_of, pdu_of}
 use Rattle.source_machine.specs.Calls.{Setup, Call, events, next_of}
 use Rattle.source_machine.specs.State.Sources.{Stream, StreamIs, StreamsAre}
 use Rattle.source_machine.specs.State.Streams.{sent_at, sent_of}
@@ -63,23 +63,25 @@ event_sends setup calls streams pdus some whole performed all are gathered =
           let place : ℕ = (bis - 1) * info.nse + subevent in
           let inside : place < info.num_bis * info.nse = omega (arith, mul-add-lt (bis - 1) info.nse subevent info.num_bis (omega arith) below) in
           let stream : slice_get streams (bis - 1) ≡ Some own = slice_get-get_or streams (bis - 1) none (omega arith) in
-          let sent : slice_get pdus place ≡ sent_of own subevent =
+          let sent : slice_get pdus place ≡ sent_of own 0 subevent =
           gathered_at (sent_at info streams) pdus (info.num_bis * info.nse) place gathered inside
-          ∙ ap (λ k. option_and_then (λ s. sent_of s (place % info.nse)) (slice_get streams k)) (div-mul-add (bis - 1) info.nse subevent below)
-          ∙ ap (λ k. option_and_then (λ s. sent_of s k) (slice_get streams (bis - 1))) (mod-mul-add (bis - 1) info.nse subevent below)
-          ∙ ap (option_and_then (λ s. sent_of s subevent)) stream in
+          ∙ ap (λ k. option_and_then (λ s. sent_of s 0 (place % info.nse)) (slice_get streams k)) (div-mul-add (bis - 1) info.nse subevent below)
+          ∙ ap (λ k. option_and_then (λ s. sent_of s 0 k) (slice_get streams (bis - 1))) (mod-mul-add (bis - 1) info.nse subevent below)
+          ∙ ap (option_and_then (λ s. sent_of s 0 subevent)) stream in
+          let last : next_of setup calls - 1 - 0 ≡ next_of setup calls - 1 = omega arith in
           let there : slice_get pdus place ≡ Some (get_or pdus place []) = slice_get-get_or pdus place [] (omega arith) in
-          there ∙ sym (sent_is setup calls bis subevent own (get_or pdus place []) some least within performed
-          (ahead_within info subevent some whole below) stands (sym sent ∙ there));
+          there ∙ sym (sent_is setup calls 0 bis subevent own (get_or pdus place []) some least within performed (omega arith)
+          (ahead_within info subevent some whole below) stands (sym sent ∙ there))
+          ∙ ap (λ e. pdu_of setup (airs_of setup calls) e bis subevent) last;
     }
 
 -- a place of the list of an event, by the stream that it is of and the subevent
 pub sent_here : (info : BigInfo) (streams : List Stream) (place nse index : ℕ) (stream : Stream) (octets pdu : List ℕ) → nse ≡ info.nse → index ≡ place / nse
-    → index < length streams → stream ≡ get_or streams index stream → sent_of stream (place % nse) ≡ Some octets → pdu ≡ octets
+    → index < length streams → stream ≡ get_or streams index stream → sent_of stream 0 (place % nse) ≡ Some octets → pdu ≡ octets
     → sent_at info streams place ≡ Some pdu
 sent_here info streams place nse index stream octets pdu nse_is index_is within is sent same =
     let at : slice_get streams (place / info.nse) ≡ Some stream =
     ap (λ n. slice_get streams (place / n)) (sym nse_is) ∙ ap (slice_get streams) (sym index_is)
     ∙ slice_get-get_or streams index stream within ∙ ap Some (sym is) in
-    ap (option_and_then (λ s. sent_of s (place % info.nse))) at
-    ∙ ap (λ n. sent_of stream (place % n)) (sym nse_is) ∙ sent ∙ ap Some (sym same)
+    ap (option_and_then (λ s. sent_of s 0 (place % info.nse))) at
+    ∙ ap (λ n. sent_of stream 0 (place % n)) (sym nse_is) ∙ sent ∙ ap Some (sym same)

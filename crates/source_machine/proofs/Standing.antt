@@ -16,7 +16,7 @@ use Rattle.source_machine.specs.Airs.{Sends, airs_of, stale_in, stale_of, stale_
 use Rattle.source_machine.specs.Calls.{Setup, Call, give, event, framed_calls, laid_before, laid_with, lay_anchor, stream_calls}
 use Rattle.source_machine.specs.Setups.{IsChecked}
 use Rattle.source_machine.specs.State.Sources.{Source, StandsFor, Stream, StreamIs, StreamStands, StreamsAre}
-use Rattle.source_machine.specs.State.Streams.{Accepts, AllTell, IsSource, Lays, LaysNext, Performs, sent_at, told_by}
+use Rattle.source_machine.specs.State.Streams.{Accepts, Advances, AllTell, IsSource, Lays, LaysNext, Performs, sent_at, told_by}
 use Rattle.source_machine.specs.declared.laying.Laying.{Laying}
 use Rattle.source_machine.specs.declared.sent.Sent.{Sent}
 use Rattle.source_machine.specs.declared.sent.Stale.{Stale}
@@ -118,25 +118,39 @@ told_is setup calls laying streams stale checked next long are tells =
     ∙ ap (λ air. stale_on bis (stale_in (laid_with setup.info calls) (unwrap_or air []))) (sym (air_at setup (event ∷ calls) bis least (omega (arith, below)))))
 
 -- the next event was performed, where each stream laid these events
+pub advances : (source : Source) (laying : Laying) (new : List Stream) (stale : List Stale) → IsSource source → IsChecked source.setup.info
+    → LaysNext source laying → AllZip (Lays laying.anchor laying.iso_us laying.count) source.streams new
+    → AllTell laying.anchor laying.iso_us laying.count source.streams (length source.streams) [] stale
+    → Advances source (record source { next = source.next + 1; streams = new }) stale
+advances source laying new stale is checked next laid tells = record {
+  next = refl;
+  failed = refl;
+  stands = λ calls stands. stands_event source calls laying new checked stands next laid;
+  told = λ calls airs stands are.
+      told_is source.setup calls laying source.streams stale checked (is_next source calls laying stands.next next) is.streams stands.streams tells
+      ∙ ap (stale_of source.setup calls) (sym (airs_only source.setup (event ∷ calls) airs checked are));
+}
+
+-- and it sends what is gathered from them
 pub performs : (source : Source) (laying : Laying) (new : List Stream) (pdus : List (List ℕ)) (stale : List Stale) → IsSource source → IsChecked source.setup.info
     → LaysNext source laying → AllZip (Lays laying.anchor laying.iso_us laying.count) source.streams new
     → AllTell laying.anchor laying.iso_us laying.count source.streams (length source.streams) [] stale
     → map Some pdus ≡ map (sent_at source.setup.info new) (range_with_len 0 (source.setup.info.num_bis * source.setup.info.nse))
     → (let sent : Sent = record { event = source.next; pdus = pdus; stale = stale } in Performs source (record source { next = source.next + 1; streams = new }) sent)
-performs source laying new pdus stale is checked next laid tells gathered = record {
-  is_next = refl;
-  next = refl;
-  failed = refl;
-  count = gathered_count (sent_at source.setup.info new) pdus (source.setup.info.num_bis * source.setup.info.nse) gathered;
-  stands = λ calls stands. stands_event source calls laying new checked stands next laid;
-  sends = λ calls airs stands are.
-      let after = stands_event source calls laying new checked stands next laid in
-      let long : length new ≡ source.setup.info.num_bis =
-      sym (length_all_zip (Lays laying.anchor laying.iso_us laying.count) source.streams new laid) ∙ is.streams in
-      subst (λ list. Sends source.setup list source.next pdus) (sym (airs_only source.setup (event ∷ calls) airs checked are))
-      (subst (λ at. Sends source.setup (airs_of source.setup (event ∷ calls)) at pdus) (omega (arith, stands.next))
-      (event_sends source.setup (event ∷ calls) new pdus checked.bounds.bn checked.bounds.whole_groups (omega arith) long after.streams gathered));
-  told = λ calls airs stands are.
-      told_is source.setup calls laying source.streams stale checked (is_next source calls laying stands.next next) is.streams stands.streams tells
-      ∙ ap (stale_of source.setup calls) (sym (airs_only source.setup (event ∷ calls) airs checked are));
-}
+performs source laying new pdus stale is checked next laid tells gathered =
+    let counted = advances source laying new stale is checked next laid tells in
+    record {
+      is_next = refl;
+      next = refl;
+      failed = refl;
+      count = gathered_count (sent_at source.setup.info new) pdus (source.setup.info.num_bis * source.setup.info.nse) gathered;
+      stands = counted.stands;
+      sends = λ calls airs stands are.
+          let after = stands_event source calls laying new checked stands next laid in
+          let long : length new ≡ source.setup.info.num_bis =
+          sym (length_all_zip (Lays laying.anchor laying.iso_us laying.count) source.streams new laid) ∙ is.streams in
+          subst (λ list. Sends source.setup list source.next pdus) (sym (airs_only source.setup (event ∷ calls) airs checked are))
+          (subst (λ at. Sends source.setup (airs_of source.setup (event ∷ calls)) at pdus) (omega (arith, stands.next))
+          (event_sends source.setup (event ∷ calls) new pdus checked.bounds.bn checked.bounds.whole_groups (omega arith) long after.streams gathered));
+      told = counted.told;
+    }

@@ -4,6 +4,7 @@
 mod checking;
 mod configured;
 mod fault;
+mod hearing;
 mod laws;
 mod laying;
 mod sender;

@@ -16,7 +16,10 @@ use radio_schedule::events_ahead;
 use std::alloc::Global;
 use std::marker::Model;
 
-/// A stream of a source: its sender, and the event that was performed last with the H events laid behind it.
+/// How many events that were performed a stream keeps.
+const EVENTS: u32 = 32;
+
+/// A stream of a source: its sender, and the last 32 events that were performed with the H events laid behind them.
 #[derive(Drop)]
 pub(crate) struct Stream {
     bis: Bis,
@@ -44,7 +47,7 @@ impl Stream {
         Ok(Stream {
             bis,
             sender: Sender::new(alloc, group),
-            laid: HeapCircularBuffer::with_capacity(alloc, (group.horizon() + 1) as usize)?,
+            laid: HeapCircularBuffer::with_capacity(alloc, (group.horizon() + EVENTS) as usize)?,
         })
     }
 
@@ -60,7 +63,7 @@ impl Stream {
         Ok(())
     }
 
-    /// Lays the next event, whose anchor this is. Where H + 1 events are kept, the oldest is dropped.
+    /// Lays the next event, whose anchor this is. Where H + 32 events are kept, the oldest is dropped.
     fn lay_one(&mut self, anchor: u64, stale: &mut StaleList) -> Result<(), Memory>
         ensures ok { OnOk result (LaysOne anchor self.old self.new stale.old stale.new) }
         ensures err { OnErr result (Grows self.old self.new) }
@@ -91,14 +94,14 @@ impl Stream {
         self.sender.has_time(time, limit)
     }
 
-    /// The PDU that a subevent, from 0, carries in the oldest event that is kept.
-    fn sent(&self, group: &Group, subevent: u8) -> &[u8]
-        requires laid { IsLaid group.now.info self.now }
+    /// The PDU that a subevent, from 0, carries in the event `back` events before the one that has the newest H events behind it.
+    pub(crate) fn sent(&self, group: &Group, back: u8, subevent: u8) -> &[u8]
+        requires laid { IsLaid group.now.info back self.now }
         requires subevent { subevent < group.now.info.nse }
-        ensures { sent_of self.now subevent ≡ Some result.now }
+        ensures { sent_of self.now back subevent ≡ Some result.now }
     {
-        let ahead = events_ahead(group, subevent);
-        let pdus = self.laid.nth_front(ahead as usize).unwrap();
+        let behind = u64::from(group.horizon()) - events_ahead(group, subevent) + u64::from(back);
+        let pdus = self.laid.nth_back(behind as usize).unwrap();
         pdus.item(usize::from(subevent % group.info.bn)).as_slice()
     }
 }
@@ -140,14 +143,14 @@ fn lay_each(streams: &mut [Stream], laying: Laying, stale: &mut StaleList) -> Re
     Ok(())
 }
 
-/// The PDUs of the oldest event that the streams keep: that of stream b and subevent n stands at place (b - 1) × NSE + n.
+/// The PDUs of the event that has the newest H events behind it: that of stream b and subevent n stands at place (b - 1) × NSE + n.
 pub(crate) fn sent_pdus(
     alloc: Global,
     group: &Group,
     streams: &[Stream],
 ) -> Result<EventPdus, Memory>
     requires count { length streams.now ≡ group.now.info.num_bis }
-    requires laid { All (IsLaid group.now.info) streams.now }
+    requires laid { All (IsLaid group.now.info 0) streams.now }
     ensures { IfOk result (λ pdus. map Some pdus ≡ map (sent_at group.now.info streams.now)
         (range_with_len 0 (group.now.info.num_bis * group.now.info.nse))) }
 {
@@ -156,7 +159,7 @@ pub(crate) fn sent_pdus(
     let mut pdus = EventPdus::new(alloc);
     'places: for place in 0..count {
         let stream = &streams[usize::from(place / nse)];
-        let pdu = stream.sent(group, (place % nse) as u8);
+        let pdu = stream.sent(group, 0, (place % nse) as u8);
         pdus.push(Octets::copy(alloc, pdu)?)?;
     }
     Ok(pdus)

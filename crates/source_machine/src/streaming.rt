@@ -320,7 +320,7 @@ impl SourceStreaming {
     }
 
     /// Whether the payload counter has numbers for the next event and the H events behind it.
-    fn has_numbers(&self) -> bool
+    pub(crate) fn has_numbers(&self) -> bool
         ensures numbers { IsTrue result ↔ ((self.now.next + horizon_of self.now.setup.info + 1) * self.now.setup.info.bn ≤ 2 ^ 39) }
         ensures next { IsTrue result → self.now.next < 2 ^ 39 }
     {
@@ -329,7 +329,7 @@ impl SourceStreaming {
     }
 
     /// The events that are laid with the next one.
-    fn next_laying(&self) -> Laying
+    pub(crate) fn next_laying(&self) -> Laying
         requires { self.now.next < 2 ^ 39 }
         ensures { LaysNext self.now result }
     {

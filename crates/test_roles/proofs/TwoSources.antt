@@ -3,7 +3,7 @@ use Rattle.std.proofs.Common.{◌≡◌, true, Option, None, Some, Result, Ok, E
 use Rattle.std.specs.Result.{OnOk}
 use Rattle.source_machine.specs.Calls.{Setup}
 use Rattle.source_machine.specs.State.Sources.{Source}
-use Rattle.multi_source.specs.State.Broadcasts.{IsOfGroup}
+use Rattle.multi_source.specs.State.Airs.{IsOfGroup}
 use Rattle.multi_source.specs.State.Fields.{HasOwnAir, IsPlain}
 use Rattle.multi_source.specs.declared.field.Begun.{Begun}
 

@@ -85,9 +85,9 @@ fn streaming(alloc: Global, info: BigInfo, first: u64) -> Result<SourceStreaming
 fn started(alloc: Global, info: BigInfo, first: u64) -> Result<Broadcast, &'static str>
     requires widths { FitsWidths info }
     requires first { first < 2 ^ 39 }
-    ensures { IfOk result (λ broadcast. broadcast.source.cipher ≡ info.cipher) }
+    ensures { IfOk result (λ broadcast. broadcast.cipher ≡ info.cipher) }
 {
-    let Ok(source) = Broadcast::start(alloc, configured(alloc, info, 20000)?, first) else {
+    let Ok(source) = Broadcast::start(configured(alloc, info, 20000)?, first) else {
         return Err("no memory");
     };
     Ok(source)
@@ -95,8 +95,8 @@ fn started(alloc: Global, info: BigInfo, first: u64) -> Result<Broadcast, &'stat
 
 /// Gives these units to a stream.
 fn given(source: &mut Broadcast, bis: Bis, units: &[&[u8]]) -> bool
-    requires { source.old.source.cipher ≡ None }
-    ensures { source.new.source.cipher ≡ None }
+    requires { source.old.cipher ≡ None }
+    ensures { source.new.cipher ≡ None }
 {
     'units: for unit in units {
         if source.give(bis, None, unit).is_err() {
@@ -108,8 +108,8 @@ fn given(source: &mut Broadcast, bis: Bis, units: &[&[u8]]) -> bool
 
 /// Gives these units to a stream and performs an event.
 fn sends(source: &mut Broadcast, bis: Bis, units: &[&[u8]]) -> bool
-    requires { source.old.source.cipher ≡ None }
-    ensures { source.new.source.cipher ≡ None }
+    requires { source.old.cipher ≡ None }
+    ensures { source.new.cipher ≡ None }
 {
     given(source, bis, units) && source.event().is_ok()
 }

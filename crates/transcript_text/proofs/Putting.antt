@@ -16,9 +16,3 @@ line_put old one two new first words more a b c =
     let all : two ≡ old ++ (first ++ behind (words ++ more)) =
     b ∙ (ap (λ (l : List ℕ). l ++ behind more) a ∙ (append_assoc old (first ++ behind words) (behind more) ∙ ap (λ (l : List ℕ). old ++ l) (sym behind_first))) in
     c ∙ (ap (λ (l : List ℕ). l ++ 10 ∷ []) all ∙ append_assoc old (first ++ behind (words ++ more)) (10 ∷ []))
-
--- the first word, then some words, then others, then the end of the line
-pub words_put : (old front one two new first : List ℕ) (words more : List (List ℕ)) → front ≡ old ++ first → one ≡ front ++ behind words → two ≡ one ++ behind more
-    → new ≡ two ++ 10 ∷ [] → new ≡ old ++ ((first ++ behind (words ++ more)) ++ 10 ∷ [])
-words_put old front one two new first words more a b c d =
-    line_put old one two new first words more (b ∙ (ap (λ (l : List ℕ). l ++ behind words) a ∙ append_assoc old first (behind words))) c d

@@ -7,7 +7,6 @@ mod heard;
 mod hearing;
 mod label;
 mod line;
-mod pieces;
 mod refusal;
 mod reply;
 mod stop;

@@ -1,9 +1,10 @@
 ghost use Rattle.std.specs.Prelude.{◌≡◌, ◌++◌, OnOk};
+ghost use Rattle.delegator_history.specs.declared.replies.Reply.TheVariants.{Accepted, Refused};
 ghost use Rattle.transcript_text.specs.Labels.{label_of};
 ghost use Rattle.transcript_text.specs.SinkLines.{cause_name, reply_line};
 
 use crate::label::Label;
-use crate::pieces::put_linked;
+use crate::put_line;
 use bcast_base::{Memory, Octets};
 use delegator_history::{Cause, Reply};
 use printed_words::Word;
@@ -37,6 +38,40 @@ fn first_word(label: Label) -> &'static [u8]
     }
 }
 
+/// Puts the line of the reply to a write that was accepted.
+fn put_accepted(text: &mut Octets, label: Label) -> Result<(), Memory>
+    ensures { OnOk result (text.new ≡ text.old ++ reply_line (label_of label) Accepted) }
+{
+    let first = first_word(label);
+    let ok = Word::Text(b"ok");
+    match label {
+        Label::Plain { sink } => put_line(text, first, &[Word::Number(u64::from(sink)), ok]),
+        Label::OnLink { sink, link } => {
+            let sink = Word::Number(u64::from(sink));
+            put_line(text, first, &[sink, Word::Number(u64::from(link)), ok])
+        }
+    }
+}
+
+/// Puts the line of the reply to a write that was refused.
+fn put_refused(text: &mut Octets, label: Label, code: u8, cause: Cause) -> Result<(), Memory>
+    ensures { OnOk result (text.new ≡ text.old ++ reply_line (label_of label) (Refused code cause)) }
+{
+    let first = first_word(label);
+    let name = Word::Text(name_of(cause));
+    match label {
+        Label::Plain { sink } => {
+            let sink = Word::Number(u64::from(sink));
+            put_line(text, first, &[sink, Word::Octets(&[code]), name])
+        }
+        Label::OnLink { sink, link } => {
+            let sink = Word::Number(u64::from(sink));
+            let link = Word::Number(u64::from(link));
+            put_line(text, first, &[sink, link, Word::Octets(&[code]), name])
+        }
+    }
+}
+
 /// Puts the line of the reply to a write: `ok`, or the error code in two digits and the cause of the refusal.
 ///
 /// After Memory a part of the line may stand at the end of the text.
@@ -44,12 +79,7 @@ pub fn put_reply(text: &mut Octets, label: Label, reply: Reply) -> Result<(), Me
     ensures { OnOk result (text.new ≡ text.old ++ reply_line (label_of label) reply) }
 {
     match reply {
-        Reply::Accepted => put_linked(text, first_word(label), label, &[Word::Text(b"ok")]),
-        Reply::Refused { code, cause } => put_linked(
-            text,
-            first_word(label),
-            label,
-            &[Word::Octets(&[code]), Word::Text(name_of(cause))],
-        ),
+        Reply::Accepted => put_accepted(text, label),
+        Reply::Refused { code, cause } => put_refused(text, label, code, cause),
     }
 }

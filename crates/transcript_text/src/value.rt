@@ -3,7 +3,7 @@ ghost use Rattle.transcript_text.specs.Labels.{label_of};
 ghost use Rattle.transcript_text.specs.SinkLines.{value_line};
 
 use crate::label::Label;
-use crate::pieces::put_linked;
+use crate::put_line;
 use bcast_base::{Memory, Octets};
 use delegator_history::Notice;
 use printed_words::Word;
@@ -19,12 +19,19 @@ fn put_value(
     ensures { OnOk result (text.new ≡ text.old ++ value_line first.now (label_of label).numbers
         (record { slot = slot; value = value.now })) }
 {
-    put_linked(
-        text,
-        first,
-        label,
-        &[Word::Number(u64::from(slot)), Word::Octets(value)],
-    )
+    let slot = Word::Number(u64::from(slot));
+    let value = Word::Octets(value);
+    match label {
+        Label::Plain { sink } => {
+            let sink = Word::Number(u64::from(sink));
+            put_line(text, first, &[sink, slot, value])
+        }
+        Label::OnLink { sink, link } => {
+            let sink = Word::Number(u64::from(sink));
+            let link = Word::Number(u64::from(link));
+            put_line(text, first, &[sink, link, slot, value])
+        }
+    }
 }
 
 /// The first word of the line of a notice.

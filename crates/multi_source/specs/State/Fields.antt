@@ -16,7 +16,7 @@ use Rattle.multi_source.specs.declared.field.Begun.{Begun}
 use Rattle.multi_source.specs.declared.field.Field.{Field}
 use Rattle.multi_source.specs.declared.field.FieldFault.{FieldFault}
 use Rattle.multi_source.specs.declared.field.FieldFault.TheVariants.{BadGroup, IdentTwice, Memory}
-use Rattle.multi_source.specs.State.Broadcasts.{IsOfGroup, IsOnAir}
+use Rattle.multi_source.specs.State.Airs.{IsOfGroup, IsOnAir}
 
 -- a source between its start and its stop
 abbrev pub source_of : Field → ℕ → Option Source

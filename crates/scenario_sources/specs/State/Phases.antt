@@ -3,7 +3,7 @@ use Rattle.std.specs.Prelude.{ℕ, ◌≡◌, ◌∷◌, true, false, List, [], 
 use Rattle.base_grammar.specs.Layout.{Endpoint, endpoint}
 use Rattle.source_machine.specs.Airs.{airs_of}
 use Rattle.source_machine.specs.Ciphers.{without_cipher}
-use Rattle.multi_source.specs.State.Broadcasts.{Broadcasting, StandsFor}
+use Rattle.source_machine.specs.State.Sources.{Source, StandsFor}
 use Rattle.transcript_text.specs.declared.stop.Stop.{Stop}
 use Rattle.transcript_text.specs.declared.stop.Stop.TheVariants.{Refused, OutletFault, Memory}
 use Rattle.scenario_text.specs.declared.step.Step.{Step}
@@ -23,12 +23,12 @@ abbrev pub line_of : Described → GroupLine
 line_of said = record { info = without_cipher said.info; origin = said.origin; delay = said.delay }
 
 -- a source that was started is as its steps leave it
-pub record StartedIs (own : List Step) (started : Broadcasting) : Type 0 where
-  pub identity : started.source.identity ≡ identity_of own
-  pub setup : started.source.setup ≡ setup_of own
+pub record StartedIs (own : List Step) (started : Source) : Type 0 where
+  pub identity : started.identity ≡ identity_of own
+  pub setup : started.setup ≡ setup_of own
   pub under_way : is_unbegun own ≡ false
-  pub base : started.source.base ≡ base_of own
-  pub cipher : started.source.cipher ≡ cipher_of own
+  pub base : started.base ≡ base_of own
+  pub cipher : started.cipher ≡ cipher_of own
   pub calls : StandsFor (source_calls own) started
 
 -- a source that was not is described by its steps
@@ -100,7 +100,7 @@ IsReady version first own (Err OutletFault) = ⊥
 IsReady version first own (Err Memory) = Unit {0}
 
 -- it is started
-abbrev pub Begins : ℕ → List Step → Result Broadcasting Stop → Type 0
+abbrev pub Begins : ℕ → List Step → Result Source Stop → Type 0
 Begins first own (Ok started) = StartedIs (Start first ∷ own) started
 Begins first own (Err (Refused reason)) = ⊥
 Begins first own (Err OutletFault) = ⊥

@@ -8,7 +8,7 @@ use Rattle.source_machine.specs.declared.fault.GiveFault.{GiveFault}
 use Rattle.source_machine.specs.Airs.{airs_of}
 use Rattle.source_machine.specs.Calls.{Call, give}
 use Rattle.source_machine.specs.Faults.{give_fault, refused_unit}
-use Rattle.multi_source.specs.State.Broadcasts.{Broadcasting, StandsFor}
+use Rattle.source_machine.specs.State.Sources.{Source, StandsFor}
 use Rattle.source_machine.specs.declared.fault.ConfigureFault.{ConfigureFault}
 use Rattle.source_machine.specs.declared.fault.ConfigureFault.TheVariants.{BadGroup, Memory as NoMemory}
 use Rattle.transcript_text.specs.declared.refusal.Refusal.TheVariants.{BadGroup as BadGroupHere}
@@ -32,13 +32,13 @@ StartStops (BadGroup fault) Memory = ⊥
 StartStops NoMemory Memory = Unit {0}
 
 -- what became of a source that was given a unit
-abbrev pub GivesTo : Broadcasting → ℕ → Option ℕ → List ℕ → Broadcasting → Result (Unit {0}) Stop → Type 0
+abbrev pub GivesTo : Source → ℕ → Option ℕ → List ℕ → Source → Result (Unit {0}) Stop → Type 0
 GivesTo old bis time octets new (Ok _) =
-    (new.source.setup ≡ old.source.setup) × ((calls : List Call) → StandsFor calls old
-    → (give_fault old.source.setup calls (airs_of old.source.setup calls) bis time octets ≡ None) × StandsFor (give bis time octets ∷ calls) new)
+    (new.setup ≡ old.setup) × ((calls : List Call) → StandsFor calls old
+    → (give_fault old.setup calls (airs_of old.setup calls) bis time octets ≡ None) × StandsFor (give bis time octets ∷ calls) new)
 GivesTo old bis time octets new (Err (Refused reason)) =
     (new ≡ old) × ((calls : List Call) → StandsFor calls old
-    → option_map give_refusal (give_fault old.source.setup calls (airs_of old.source.setup calls) bis time octets) ≡ Some reason)
+    → option_map give_refusal (give_fault old.setup calls (airs_of old.setup calls) bis time octets) ≡ Some reason)
 GivesTo old bis time octets new (Err OutletFault) = ⊥
 GivesTo old bis time octets new (Err Memory) = Unit {0}
 

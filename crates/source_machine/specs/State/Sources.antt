@@ -83,9 +83,9 @@ pdus_at air event = pdus_in (event_at air event)
 abbrev pub last_laid : ℕ → Air → List (List (List ℕ))
 last_laid count air = map (pdus_at air) (range_with_len (length air - count) (min count (length air)))
 
--- how many events that are laid a stream keeps: the last one that was performed, and the H events behind it
+-- how many events that are laid a stream keeps: the last 32 that were performed, and the H events behind them
 abbrev pub kept_of : BigInfo → ℕ
-kept_of info = horizon_of info + 1
+kept_of info = horizon_of info + 32
 
 -- the stream of this index is as these calls of its sender leave it
 pub record StreamStands (info : BigInfo) (bis : ℕ) (plain : List PlainCall) (timed : List TimedCall) (stream : Stream) : Type 0 where

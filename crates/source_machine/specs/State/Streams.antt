@@ -27,15 +27,16 @@ pub record Keeps (info : BigInfo) (capacity : ℕ) (laid : List (List (List ℕ)
   pub within : length laid ≤ capacity
   pub whole : All (λ pdus. length pdus ≡ info.bn) laid
 
--- the stream is of the group, and keeps the event that was performed last and the H events behind it
+-- the stream is of the group, and keeps the last 32 events that were performed, or all where there are fewer, and the H
+-- events behind them
 pub record IsReady (setup : Setup) (next : ℕ) (stream : Stream) : Type 0 where
   pub info : info_in stream ≡ setup.info
-  pub kept : setup.first < next → horizon_of setup.info < length stream.laid
+  pub kept : setup.first < next → horizon_of setup.info + min 32 (next - setup.first) ≤ length stream.laid
 
--- the stream is of the group, and keeps an event with the H events behind it
-pub record IsLaid (info : BigInfo) (stream : Stream) : Type 0 where
+-- the stream is of the group, and keeps the event `back` events before the one that has the newest H events behind it
+pub record IsLaid (info : BigInfo) (back : ℕ) (stream : Stream) : Type 0 where
   pub group : info_in stream ≡ info
-  pub kept : horizon_of info < length stream.laid
+  pub kept : horizon_of info + back < length stream.laid
 
 pub record IsSource (source : Source) : Type 0 where
   pub origin : source.setup.origin ≤ 2 ^ 48
@@ -58,16 +59,16 @@ pub record LaysNext (source : Source) (laying : Laying) : Type 0 where
   pub later : source.setup.first < source.next
       → (laying.count ≡ 1) × (laying.anchor ≡ source.setup.origin + (source.next - source.setup.first + horizon_of source.setup.info) * iso_us_of source.setup.info)
 
--- the PDU that a subevent carries in an event, where this event is the oldest that is kept, and the H events behind it are
--- laid
-abbrev pub sent_of : Stream → ℕ → Option (List ℕ)
-sent_of stream subevent =
+-- the PDU that a subevent carries in the event `back` events before the one that has the newest H events behind it
+abbrev pub sent_of : Stream → (back subevent : ℕ) → Option (List ℕ)
+sent_of stream back subevent =
     option_and_then (λ pdus. slice_get pdus (subevent % (info_in stream).bn))
-    (slice_get stream.laid (length stream.laid + ahead_of (info_in stream) (subevent / (info_in stream).bn) - kept_of (info_in stream)))
+    (slice_get stream.laid
+    (length stream.laid + ahead_of (info_in stream) (subevent / (info_in stream).bn) - (horizon_of (info_in stream) + 1 + back)))
 
--- the PDU at a place of the list of an event
+-- the PDU at a place of the list of the event that has the newest H events behind it
 abbrev pub sent_at : BigInfo → List Stream → ℕ → Option (List ℕ)
-sent_at info streams place = option_and_then (λ stream. sent_of stream (place % info.nse)) (slice_get streams (place / info.nse))
+sent_at info streams place = option_and_then (λ stream. sent_of stream 0 (place % info.nse)) (slice_get streams (place / info.nse))
 
 -- a unit that the group has a stream for, and room in a slot or in segments
 pub record IsFit (setup : Setup) (bis : ℕ) (octets : List ℕ) : Type 0 where
@@ -133,7 +134,15 @@ pub record MayPerform (source : Source) : Type 0 where
   pub works : source.failed ≡ false
   pub permitted : (calls : List SourceCall) → StandsFor calls source → event_fault source.setup calls ≡ None
 
--- the next event was performed and counted, and sends these PDUs and tells these units that it left out, whatever calls came before it
+-- the next event was performed and counted, and tells these units that it left out, whatever calls came before it
+pub record Advances (old new : Source) (stale : List Stale) : Type 0 where
+  pub next : new.next ≡ old.next + 1
+  pub failed : new.failed ≡ old.failed
+  pub stands : (calls : List SourceCall) → StandsFor calls old → StandsFor (event ∷ calls) new
+  pub told : (calls : List SourceCall) (airs : List Air) → StandsFor calls old → AreAirs old.setup (event ∷ calls) airs
+      → stale ≡ stale_of old.setup calls airs
+
+-- the same of an event that sends these PDUs
 pub record Performs (old new : Source) (sent : Sent) : Type 0 where
   pub is_next : sent.event ≡ old.next
   pub next : new.next ≡ old.next + 1

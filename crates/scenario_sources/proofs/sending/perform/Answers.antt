@@ -17,7 +17,7 @@ event-requires c = none_of _ (sym c.is_ciphered.ensures ∙ c.if-is_ciphered.fal
 
 pub returns-in-Ok-clause-performs : goal.returns-in-Ok-clause-performs
 returns-in-Ok-clause-performs c = λ version own is.
-    let setup = c.in-Sending.started.source.setup in
+    let setup = c.in-Sending.started.setup in
     let calls = source_calls own in
     let here = rw c.in-Sending.is at is in
     let plain : is_ciphered own ≡ false = ap is_some (sym here.1.cipher) ∙ sym c.is_ciphered.ensures ∙ c.if-is_ciphered.false in

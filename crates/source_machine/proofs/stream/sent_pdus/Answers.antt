@@ -7,7 +7,7 @@ use Rattle.source_machine.proofs.stream.sent_pdus.Goals as goal
 pub sent-pdu-requires-clause-laid : goal.sent-pdu-requires-clause-laid
 sent-pdu-requires-clause-laid c =
     let below : c.places.place / c.from-nse.result < c.from.result = (div-lt_iff_lt-mul (omega (arith, c.args.group.now.bounds.nse))).1 c.places-test.true in
-    subst (IsLaid c.args.group.now.info) (sym c.index-streams-from.is)
+    subst (IsLaid c.args.group.now.info 0) (sym c.index-streams-from.is)
     (c.requires.laid c.from-in-places.result c.index-streams-from.result (omega (arith, below)))
 
 pub places-preserved : goal.places-preserved

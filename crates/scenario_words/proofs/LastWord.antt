@@ -1,0 +1,53 @@
+-- A line that spells octets is one word: no digit is a space.
+use Rattle.std.proofs.Common.{eqb-true, nat_eq, ◌≡◌, ◌+◌, ℕ, Bool, true, false, cond, List, [], ◌∷◌, Option, None, Some, Result, Ok, Err, refl, sym}
+use Rattle.std.specs.Borrow.{Bor}
+use Rattle.std.specs.List.{list_all}
+use Rattle.std.specs.Str.{bytes_eq}
+use Rattle.std.proofs.lemmas.List.Sums.{list_all-from_AllPass}
+use Rattle.std.proofs.lemmas.Slice.Eq.{bytes_eq-Decides}
+use Rattle.hex.specs.Hex.{decode_of, is_hex_digit}
+use Rattle.hex.specs.declared.error.FromHexError.{FromHexError}
+use Rattle.hex.proofs.HexLemmas.{decode_of-ok}
+use Rattle.scenario_words.proofs.DigitPairs.{both_digits}
+use Rattle.scenario_words.specs.Reading.{SpellsNext, SpellsSome, next, octets_in, within}
+use Rattle.scenario_words.specs.Rests.{words_after}
+use Rattle.scenario_words.specs.Words.{words_of}
+
+no_space_at : (octet : ℕ) (b : Bool) → nat_eq octet 32 ≡ b → is_hex_digit octet ≡ true → b ≡ false
+no_space_at octet true e digit = let space : octet ≡ 32 = eqb-true octet 32 e in absurd (cc (rw space at digit))
+no_space_at octet false e digit = refl
+
+digits_one : (line : List ℕ) → list_all is_hex_digit line ≡ true → words_of line ≡ line ∷ []
+digits_one [] all = refl
+digits_one (x ∷ line) all =
+    let both = both_digits (is_hex_digit x) (list_all is_hex_digit line) all in
+    let other : nat_eq x 32 ≡ false = no_space_at x (nat_eq x 32) refl both.0 in
+    let rest : words_of line ≡ line ∷ [] = digits_one line both.1 in
+    rw (other, rest) refl
+
+within_digits : (most : ℕ) (line octets : List ℕ) (read : Result (List ℕ) FromHexError) → decode_of line ≡ read → within most read ≡ Some octets → list_all is_hex_digit line ≡ true
+within_digits most line octets (Ok bytes) e some = list_all-from_AllPass is_hex_digit line (decode_of-ok line bytes e).1
+within_digits most line octets (Err fault) e some = absurd cc
+
+chosen_one : (b : Bool) (most : ℕ) (line octets : List ℕ) → bytes_eq line (45 ∷ []) ≡ b → cond b (Some []) (within most (decode_of line)) ≡ Some octets → words_of line ≡ line ∷ []
+chosen_one true most line octets same e = rw ((bytes_eq-Decides line (45 ∷ [])).0 same) refl
+chosen_one false most line octets other e = digits_one line (within_digits most line octets (decode_of line) refl e)
+
+one_word : (most : ℕ) (line octets : List ℕ) → octets_in most line ≡ Some octets → words_of line ≡ line ∷ []
+unfolding octets_in
+one_word most [] octets e = absurd cc
+one_word most (x ∷ line) octets e = chosen_one (bytes_eq (x ∷ line) (45 ∷ [])) most (x ∷ line) octets refl e
+
+-- all that is left of the line is the next word
+pub last_fits : (most read : ℕ) (rest : Option (Bor (List ℕ))) (line : Bor (List ℕ)) (octets : List ℕ) → rest ≡ Some line → Some octets ≡ octets_in most line.now
+    → next (octets_in most) (record { words = words_after rest; read = read }) ≡ Ok (octets, record { words = []; read = read + 1 })
+last_fits most read rest line octets is e = rw (is, one_word most line.now octets (sym e), ← e) refl
+
+spells_of : (most read : ℕ) (line : Bor (List ℕ)) (found : Option (List ℕ)) → found ≡ octets_in most line.now → SpellsSome found
+    → SpellsNext (next (octets_in most) (record { words = words_after (Some line); read = read }))
+spells_of most read line None e some = absurd some
+spells_of most read line (Some octets) e some = rw (last_fits most read (Some line) line octets refl e) some
+
+pub last_spells : (most read : ℕ) (rest : Option (Bor (List ℕ))) (line : Bor (List ℕ)) → rest ≡ Some line → SpellsSome (octets_in most line.now)
+    → SpellsNext (next (octets_in most) (record { words = words_after rest; read = read }))
+last_spells most read rest line is some = rw is (spells_of most read line (octets_in most line.now) refl some)
