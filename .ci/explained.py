@@ -2,12 +2,15 @@
 """explained.py REPLAY EXPLAIN: runs both built programs on the examples, the worked rows and the scenarios of corpus/.
 
 The rows of the transcript in what `explain` writes, without their blanks, are what `replay` writes, the exit status and what is said on
-standard error are the same, and each line stands there with its number, up to the last that is run. Behind them come mistakes, each
-with words that a note has of it, and the ends of the program."""
+standard error are the same, and each line stands there with its number, up to the last that is run. Each `unit` row has its note, and the
+counts at the ends of sinks and scenarios are those of the rows. Behind them come mistakes, each with words that a note has of it, runs with
+all notes of their units, and the ends of the program."""
 import concurrent.futures
 import os
+import re
 import subprocess
 import sys
+from collections import Counter
 
 sys.dont_write_bytecode = True
 sys.path.insert(0, os.path.dirname(os.path.abspath(__file__)))
@@ -49,6 +52,54 @@ MISTAKES = [
     ('a refused write', [*HEARD, 'remove 0 7', 'serve 0', 'end'], 'no slot has this Source_ID'),
     ('no such sink', ['scenario 1', 'serve 3'], 'no sink of this number lives'),
 ]
+# A unit takes two PDUs, a payload each: those of event e are 2e and 2e + 1. 20000 + 400 + (4 + 11) x 4 + 40000 = 60460.
+HALVES = ['scenario 1', 'group unframed 20000 40000 8 10000 8 4 1 2 2 1 0 400 0 1', 'sink 0 1 1', 'start 0', 'tuned 0 1']
+# The payload of event e is sent in subevent 2 of e - 1 and in the subevents 0 and 1 of e: 20000 + 2 x 400 + 60 + 40000 = 60860.
+COPIES = ['scenario 1', 'group unframed 20000 40000 8 10000 4 4 1 1 3 2 1 400 0 1', 'sink 0 1 1', 'start 0', 'tuned 0 1']
+# A unit comes at its time + (20 + 11) x 4 + 10000 + 10000 + 40000, and a PDU has room for two short ones.
+FRAMED = ['scenario 1', 'group framed 70000 40000 8 10000 20 20 1 1 1 1 0 0 0 1', 'sink 0 1 1', 'start 0', 'tuned 0 1']
+# a run, its lines, and all notes of its units and their counts
+UNITS = [
+    ('the second half of a unit', [*HALVES, 'unit 1 - 0011223344', 'event', 'hear 0 0 1 0', 'event', 'stop', 'end'], [
+        'unit 0 1 at 60460: source 0 event 0 slot 0',
+        'unit 0 1 at 60460: payload 1 was not heard, sent in event 0 subevent 1',
+        'unit 0 1 at 70460: source 0 event 1 slot 0, for which no unit was given',
+        'sink 0 stream 1 of source 0: units 0 valid, 1 lost, 0 never begun, 1 slots without a unit; '
+        'PDUs 1 heard, 0 repeated, 0 late, 3 missed']),
+    ('a short unit without its padding', [*HALVES, 'unit 1 - 00', 'event', 'hear 0 0 1 0', 'end'], [
+        'unit 0 1 at 60460: source 0 event 0 slot 0',
+        'sink 0 stream 1 of source 0: units 1 valid, 0 lost, 0 never begun, 0 slots without a unit; '
+        'PDUs 1 heard, 0 repeated, 0 late, 1 missed']),
+    ('a payload of three PDUs', [*COPIES, 'unit 1 - 00', 'unit 1 - 11', 'event', 'air 0 0', 'event', 'hear 0 1 1 0', 'event', 'air 0 3',
+                                 'drop 0', 'end'], [
+        'unit 0 1 at 60860: source 0 event 0 slot 0',
+        'unit 0 1 at 70860: source 0 event 1 slot 0',
+        'sink 0 stream 1 of source 0: units 2 valid, 0 lost, 0 never begun, 0 slots without a unit; '
+        'PDUs 3 heard, 2 repeated, 1 late, 4 missed']),
+    ('an early copy that was missed too', [*COPIES, 'unit 1 - 00', 'unit 1 - 11', 'event', 'hear 0 0 1 1', 'event', 'end'], [
+        'unit 0 1 at 60860: source 0 event 0 slot 0',
+        'unit 0 1 at 70860: source 0 event 1 slot 0',
+        'unit 0 1 at 70860: payload 1 was not heard, sent in event 0 subevent 2 and event 1 subevent 0 and event 1 subevent 1',
+        'sink 0 stream 1 of source 0: units 1 valid, 1 lost, 0 never begun, 0 slots without a unit; '
+        'PDUs 1 heard, 0 repeated, 0 late, 5 missed']),
+    ('two starts in a PDU that was missed', [*FRAMED, 'unit 1 65000 a0', 'unit 1 66000 b0', 'event', 'event', 'air 0 0', 'end'], [
+        'unit 0 1 at 125124: never begun, source 0 event 0 start in payload 0',
+        'unit 0 1 at 125124: payload 0 was not heard, sent in event 0 subevent 0',
+        'unit 0 1 at 126124: never begun, source 0 event 0 start in payload 0',
+        'unit 0 1 at 126124: payload 0 was not heard, sent in event 0 subevent 0',
+        'sink 0 stream 1 of source 0: units 0 valid, 0 lost, 2 never begun, 0 slots without a unit; '
+        'PDUs 1 heard, 0 repeated, 0 late, 1 missed']),
+    ('the end of a framed unit', [*FRAMED, 'unit 1 65000 ' + 20 * 'c0', 'event', 'air 0 0', 'event', 'event', 'end'], [
+        'unit 0 1 at 125124: source 0 event 0 start in payload 0',
+        'unit 0 1 at 125124: payload 1 was not heard, sent in event 1 subevent 0',
+        'sink 0 stream 1 of source 0: units 0 valid, 1 lost, 0 never begun, 0 slots without a unit; '
+        'PDUs 1 heard, 0 repeated, 0 late, 2 missed']),
+    ('octets in the place of a PDU', [*FRAMED, 'unit 1 65000 a0', 'event', 'inject 0 0 1 0 0200', 'event', 'end'], [
+        'sink 0 stream 1 of source 0: units 0 valid, 0 lost, 0 never begun, 0 slots without a unit; '
+        'PDUs 1 heard, 0 repeated, 0 late, 1 missed']),
+]
+PLACED = re.compile(rb'  # unit (\d) (\d+) at (\d+): source \d')
+COUNTED = re.compile(rb'  # sink (\d) stream (\d+) of source \d: units (\d+) valid, (\d+) lost, \d+ never begun, (\d+) slots')
 # a name, the words, the text, what is written, the exit status, and what is said on standard error
 ENDS = [
     ('words', ['--toml'], b'scenario 1\nend\n', b'', 2, b'usage: explain\n'),
@@ -77,6 +128,25 @@ def lines_in(octets):
     return [it[2] for it in numbered] if [it[0] for it in numbered] == [b'%d' % (place + 1) for place in range(len(rows))] else None
 
 
+def notes_differ(octets, is_done):
+    """What of the notes of units differs from their rows, or None. Only a run that is done counts all of them."""
+    rows = octets.split(b'\n')
+    units = [it.split(b' ')[2:7] for it in rows if it.startswith(b'  unit ')]
+    placed = [match.groups() for match in map(PLACED.match, rows) if match]
+    if placed != [(sink, stream, time) for _, sink, stream, _, time in (it[:5] for it in units)]:
+        return f'its notes are of the units {placed}'
+    wanted, counts = Counter(), Counter()
+    for row in rows:
+        words, match = row.split(b' '), COUNTED.match(row)
+        if row.startswith(b'  unit '):
+            wanted[words[3], words[4], words[7]] += 1
+        elif match:
+            sink, stream, valid, *others = match.groups()
+            counts[sink, stream, b'valid'] += int(valid)
+            counts[sink, stream, b'lost'] += sum(map(int, others))
+    return f'its counts are {+counts}, not {wanted}' if is_done and +counts != wanted else None
+
+
 def difference(replay, explain, text):
     """What differs, or None."""
     try:
@@ -90,7 +160,7 @@ def difference(replay, explain, text):
     lines, lent = lines_in(got.stdout), text.split(b'\n')
     if lines is None or lines != lent[:len(lines)] or wanted.returncode == 0 and lines != lent[:-1] + [it for it in lent[-1:] if it]:
         return 'its lines are not those of the text'
-    return None
+    return notes_differ(got.stdout, wanted.returncode == 0)
 
 
 def texts():
@@ -106,6 +176,15 @@ def mistakes(explain):
         got = run(explain, '\n'.join([*lines, '']).encode(), stdout=subprocess.PIPE).stdout.decode()
         if not any(row.startswith('  # ') and words in row for row in got.split('\n')):
             yield f'{name}: no note has {words!r}:\n{got}'
+
+
+def unit_notes(explain):
+    """Each run whose notes of units are others."""
+    for name, lines, wanted in UNITS:
+        got = run(explain, '\n'.join([*lines, '']).encode(), stdout=subprocess.PIPE).stdout.decode()
+        notes = [row[4:] for row in got.split('\n') if row.startswith(('  # unit ', '  # sink 0 stream '))]
+        if notes != wanted:
+            yield f'{name}: the notes are {notes}'
 
 
 def ends(explain):
@@ -126,10 +205,10 @@ def main():
     with concurrent.futures.ThreadPoolExecutor(os.cpu_count()) as pool:
         results = list(pool.map(lambda it: difference(replay, explain, it[2]), found))
     failed = [f'{file}: {name}: {it}' for (file, name, _), it in zip(found, results) if it]
-    failed += [*mistakes(explain), *ends(explain)]
+    failed += [*mistakes(explain), *unit_notes(explain), *ends(explain)]
     for it in failed:
         print(it[:1500])
-    print(f'explained: {len(found)} scenarios, {len(MISTAKES)} mistakes and {len(ENDS) + 1} ends, {len(failed)} differ')
+    print(f'explained: {len(found)} scenarios, {len(MISTAKES)} mistakes, {len(UNITS)} runs and {len(ENDS) + 1} ends, {len(failed)} differ')
     return 1 if failed or not found else 0
 
 

@@ -1,9 +1,9 @@
 #!/usr/bin/env python3
 """memory.py PROGRAM: counts the allocations of the built program, and refuses one.
 
-Nothing is allocated by reading a line, by handing a sink a PDU, and by closing an event, but for what the program itself keeps of a
-valid unit until it goes to its box, its octets: runs that differ only in how often they do so make as many allocations. A run whose
-first allocation is refused ends with status 6, says so and writes nothing."""
+Nothing is allocated by reading a line, by handing a sink a PDU, by closing an event, once the memory is there that a valid unit has
+until it goes to its box, and by laying one, once the streams keep all events that they may: runs that differ only in how often they do
+so make as many allocations. A run whose first allocation is refused ends with status 6, says so and writes nothing."""
 import os
 import sys
 import tempfile
@@ -12,6 +12,7 @@ sys.path.insert(0, os.path.join(os.path.dirname(os.path.abspath(__file__)), '..'
 from allocations import Allocator  # noqa: E402
 
 TIMES = [10, 300]
+KEPT = 40  # more events than a stream of these groups keeps
 UNFRAMED = 'scenario 1\ngroup unframed 20000 40000 8 10000 8 4 1 2 2 1 0 400 0 1\n{}start 0\n{}'
 FRAMED = 'scenario 1\ngroup framed 20000 40000 8 10884 8 10 1 2 2 1 0 400 0 1\n{}start 0\n{}'
 SINK = 'sink 0 1 1\n', 'tuned 0 1\n'
@@ -36,6 +37,11 @@ def hears(group, unit):
     return lambda times: group.format(*SINK) + unit(0) + HEAR * times + 'end\n'
 
 
+def lays(group):
+    """A text in which a source lays so many events more than its streams keep."""
+    return lambda times: group.format('', '') + 'event\n' * (KEPT + times) + 'end\n'
+
+
 def closes(count, group, unit, heard):
     """How many allocations more so many events take where a sink closes them than where none is there."""
     def more(times):
@@ -55,20 +61,22 @@ def differences(allocator):
         ('long comments', lines('#' + 'x' * 8999 + '\n')),
         ('PDUs of an unframed stream', hears(UNFRAMED, unframed_unit)),
         ('PDUs of a framed stream', hears(FRAMED, framed_unit)),
+        ('events of an unframed source', lays(UNFRAMED)),
+        ('events of a framed source', lays(FRAMED)),
     ]:
-        yield name, [count(text(times)) for times in TIMES], 0
+        yield name, [count(text(times)) for times in TIMES]
     for name, group, unit in [('unframed', UNFRAMED, unframed_unit), ('framed', FRAMED, framed_unit)]:
-        for heard, each in [('', 0), ('hear 0 0 1 0\n', 0), ('air 0 0\n', 1)]:
+        for heard in ['', 'hear 0 0 1 0\n', 'air 0 0\n']:
             more = closes(count, group, unit, heard)
-            yield f'closes of a {name} stream after {heard!r}', [more(times) for times in TIMES], each
+            yield f'closes of a {name} stream after {heard!r}', [more(times) for times in TIMES]
 
 
 def main():
     failed = 0
     with tempfile.TemporaryDirectory() as folder:
         allocator = Allocator(sys.argv[1], folder)
-        for name, counts, each in differences(allocator):
-            if counts[1] - counts[0] != each * (TIMES[1] - TIMES[0]):
+        for name, counts in differences(allocator):
+            if counts[1] != counts[0]:
                 failed += 1
                 print(f'{name}: {counts} allocations for {TIMES} times')
         ran = allocator.refusing(b'scenario 1\nend\n', 1)

@@ -2,7 +2,8 @@
 """timeline.py EXPLAIN: makes pages of runs by tools/timeline.py and prints each in which something is wrong.
 
 What a page embeds of a few runs is compared with values worked out by hand. Of each worked row, example and scenario of corpus/ each unit
-is valid exactly where each payload that carries it was heard in time. Where a Chromium is, the pages are opened in it, and what it drew
+is valid exactly where each payload that carries it was heard in time, and the notes of `explain` on units and its counts are what the page
+works out of the lines. Where a Chromium is, the pages are opened in it, and what it drew
 and told after a click is compared too."""
 import concurrent.futures
 import os
@@ -19,11 +20,13 @@ TOP = os.path.dirname(HERE)
 sys.path[:0] = [os.path.join(TOP, 'tools'), HERE]
 import scenarios  # noqa: E402
 from timeline_page import page_of, read_data  # noqa: E402
-from timeline_reading import OCTETS, RunFault  # noqa: E402
+from timeline_reading import OCTETS, RunFault, read_lines  # noqa: E402
 
 BROWSERS = ('chromium', 'chromium-browser', 'google-chrome')
 MOST_OCTETS = 1000000  # of the page of 3 s of stereo
 HEARD = ('heard', 'injected')
+MISSED = re.compile(r'unit (\d) (\d+) at (\d+): payload (\d+) was not heard, sent in event (.*)')
+COUNTED = re.compile(r'sink (\d) stream (\d+) of source (\d): units (\d+) valid, (\d+) lost, (\d+) never begun, (\d+) slots')
 
 
 def hundred():
@@ -179,6 +182,41 @@ def differs_from_pdus(data):
     return None
 
 
+def notes_differ(data, text):
+    """What of the notes on units and of the counts is not what the page works out, or None."""
+    lines = read_lines(text)
+    missed, counts = {}, Counter()
+    for line in lines:
+        for note in line.notes:
+            found = MISSED.fullmatch(note)
+            if found:
+                places = [tuple(map(int, it.split(' subevent '))) for it in found[5].split(' and event ')]
+                missed.setdefault((line.number, *map(int, found.groups()[:3])), {})[int(found[4])] = places
+            found = COUNTED.match(note)
+            if found:
+                sink, stream, source, *units = map(int, found.groups())
+                counts.update({(sink, source, stream, fate): count for fate, count in zip(('valid', 'lost', 'unbegun', 'empty'), units)})
+    wanted = Counter()
+    for unit in data['units']:
+        sink, stream = map(int, re.fullmatch(r'sink (\d), stream (\d+)', lane_of(data, unit)).groups())
+        wanted[sink, unit['source'], stream, unit['fate']] += 1
+        if unit['fate'] in ('lost', 'unbegun') and not any(it[4] == 'injected' for it in unit['pdus']):
+            told = missed.get((unit['line'], sink, stream, unit['at']), {})
+            if told != missed_in(data, unit):
+                return f'{unit}: told as missed is {told}'
+    return f'the counts are {+counts}, not {wanted}' if not data['refusal'] and +counts != wanted else None
+
+
+def missed_in(data, unit):
+    """The payloads of a unit that weren't heard, each with the events and subevents in which it was sent: of a framed one the first."""
+    heard = {it[0] for it in unit['pdus'] if it[4] in HEARD}
+    missed = {}
+    for number, event, subevent, *_ in unit['pdus']:
+        if number not in heard:
+            missed.setdefault(number, []).append((event, subevent))
+    return missed if unit['slot'] is not None else dict(sorted(missed.items())[:1])
+
+
 def over_all(explain):
     """Each text of the repository whose page can't be made, or has a unit that its PDUs don't bear out; and how many were tried."""
     found = [(f'{file}: {it.name}', it.text) for file, it in [*scenarios.rows(), *scenarios.examples(), *scenarios.corpus()]
@@ -186,9 +224,11 @@ def over_all(explain):
 
     def tried(case):
         try:
-            wrong = differs_from_pdus(read_data(explained(explain, case[1])))
+            text = explained(explain, case[1])
+            data = read_data(text)
         except RunFault as fault:
             return f'{case[0]}: {fault}'
+        wrong = differs_from_pdus(data) or notes_differ(data, text)
         return wrong and f'{case[0]}: {wrong}'
     with concurrent.futures.ThreadPoolExecutor(os.cpu_count()) as pool:
         return [it for it in pool.map(tried, found) if it], len(found)

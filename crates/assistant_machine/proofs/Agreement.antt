@@ -4,7 +4,8 @@ use Rattle.std.specs.Prelude.{◌&&◌, ◌==◌, ◌-◌, not, if◌then◌else
 use Rattle.std.specs.Option.{option_or}
 use Rattle.std.specs.List.{AllByRecursion}
 use Rattle.std.proofs.lemmas.Bool.{false≢true, leb-false}
-use Rattle.assistant_machine.specs.Cuts.{asks, cut}
+use Rattle.assistant_machine.specs.Cuts.{asks}
+use Rattle.receive_state.specs.Cuts.{cut}
 use Rattle.assistant_machine.specs.Links.{Act, made, told, served, joined, forged, Language, Notice, Agrees, AreFounded, AreReadBack, IsReadBack}
 use Rattle.assistant_machine.specs.Links.{delivered_of, first_asked, first_told, if_its, is_forged, notices_of, value_of, view_of, waiting_of, waits_of}
 

@@ -3,7 +3,8 @@
 -- acts have the newest first; what waits has the oldest first.
 use Rattle.std.specs.Prelude.{ℕ, zero, suc, ◌≡◌, ◌<◌, ◌==◌, ◌&&◌, not, Bool, true, false, List, [], ◌∷◌, ◌++◌, length, drop, Option, Some, None, if◌then◌else◌, unwrap_or}
 use Rattle.std.specs.List.{AllByRecursion, filter, range_with_len}
-use Rattle.assistant_machine.specs.Cuts.{asks, cut}
+use Rattle.assistant_machine.specs.Cuts.{asks}
+use Rattle.receive_state.specs.Cuts.{cut}
 
 -- how values are spelled and read, the value that a slot has before any other, and the MTU of the link, where it has one
 pub record Language (V : Type 0) : Type 0 where

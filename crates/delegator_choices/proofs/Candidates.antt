@@ -1,8 +1,8 @@
 -- The candidates of the subgroups that are wanted.
-use Rattle.std.proofs.Common.{ℕ, zero, suc, ◌≡◌, ◌+◌, ◌-◌, ◌<◌, ◌≤◌, ◌^◌, Bool, true, List, [], ◌∷◌, length, map, take, drop, Some, refl, sym, ap, ◌∙◌, subst, arith}
-use Rattle.std.specs.Prelude.{◌==◌, ◌||◌, ◌&&◌, slice_get}
-use Rattle.std.specs.List.{list_any}
-use Rattle.std.proofs.lemmas.Bool.{and_parts, leb-true, or_left, or_right}
+use Rattle.std.proofs.Common.{ℕ, zero, suc, ◌≡◌, ◌+◌, ◌-◌, ◌<◌, ◌≤◌, ◌^◌, Bool, true, List, [], ◌∷◌, length, map, take, drop, Some, refl, sym, ap, ◌∙◌, subst, inl, inr, arith}
+use Rattle.std.specs.Prelude.{◌==◌, ◌||◌, ◌&&◌, nat_le, slice_get}
+use Rattle.std.specs.List.{filter, list_any, range_with_len}
+use Rattle.std.proofs.lemmas.Bool.{and_parts, cases_Bool, cond-false, le-leb, leb-true, or_left, or_right}
 use Rattle.std.proofs.lemmas.Nat.{pow_pos}
 use Rattle.std.proofs.lemmas.List.Folds.{list_any-append}
 use Rattle.std.proofs.lemmas.List.{drop_all}
@@ -12,6 +12,8 @@ use Rattle.base_grammar.specs.Layout.{Endpoint, bis_of, indices, stands_in}
 use Rattle.bass_operations.specs.declared.wishes.Wish.{Wish}
 use Rattle.pacs_records.specs.declared.capability.Capability.{Capability}
 use Rattle.delegator_history.specs.Trains.{candidates, first_candidates, is_candidate, set_with, sets_with}
+use Rattle.delegator_choices.specs.declared.choosing.Choice.{Choice}
+use Rattle.delegator_choices.specs.State.Choices.{is_chosen, left_of}
 use Rattle.delegator_choices.proofs.Taken.{below_all, below_each, chooses_last, Chooses, filter_below, first_below, first_of_all, sets_below}
 use Rattle.delegator_choices.proofs.Streams.{drop_get}
 
@@ -67,6 +69,26 @@ within a b c d bis num_bis all = (and_parts c d (and_parts b (c && d) (and_parts
 
 pub candidate_within : (capability : Capability) (base : Endpoint) (num_bis bits : ℕ) (subgroup : Subgroup) (bis : ℕ) → is_candidate capability base num_bis bits subgroup bis ≡ true → bis ≤ num_bis
 candidate_within capability base num_bis bits subgroup bis is = leb-true bis num_bis (within _ _ _ _ bis num_bis is)
+
+-- a stream of the group
+pub is_within : (bis num_bis : ℕ) → bis ≤ num_bis → nat_le bis num_bis ≡ true
+is_within bis num_bis within = le-leb bis num_bis within
+
+-- past them there is no candidate
+none_from : (test : ℕ → Bool) (n start count : ℕ) → ((bis : ℕ) → test bis ≡ true → bis ≤ n) → n < start → filter test (range_with_len start count) ≡ []
+none_from test n start zero within past = refl
+none_from test n start (suc count) within past =
+    elim (cases_Bool (test start)) [
+      | inl is ↦ absurd (omega (arith, within start is, past))
+      | inr fails ↦
+          cond-false (test start) (start ∷ filter test (range_with_len (start + 1) count)) (filter test (range_with_len (start + 1) count)) fails
+          ∙ none_from test n (start + 1) count within (omega (arith, past))
+    ]
+
+pub left_none : (choice : Choice) (index : ℕ) → choice.num_bis < index → left_of choice index ≡ []
+left_none choice index past =
+    none_from (is_chosen choice) choice.num_bis index (32 - index)
+    (candidate_within choice.capability.now choice.base.now choice.num_bis choice.wanted choice.subgroup.now) past
 
 pub candidates_below : (capability : Capability) (base : Endpoint) (num_bis bits : ℕ) (subgroup : Subgroup) → below_all num_bis (candidates capability base num_bis bits subgroup)
 candidates_below capability base num_bis bits subgroup =

@@ -1,29 +1,9 @@
 //! What a train brings.
-ghost use Rattle.std.specs.Prelude.{◌≡◌, ◌≤◌, ◌<◌, ◌+◌, ◌^◌};
+ghost use Rattle.std.specs.Prelude.{◌≡◌};
 
 use crate::taken_bits::TakenBits;
-use bcast_base::BisSet;
-use big_info::Group;
 use delegator_history::TrainHeard;
-
-/// How a train puts the sink on the group of its source.
-#[derive(Clone, Copy)]
-pub struct Joining {
-    pub group: Group,
-    /// The streams that the sink takes.
-    pub which: BisSet,
-    /// The first event.
-    pub first: u64,
-    /// Its anchor in µs.
-    pub anchor: u64,
-    /// The presentation delay in µs.
-    pub delay: u32,
-    pub ghost some: { 0 < which },
-    pub ghost within: { which < 2 ^ group.info.num_bis },
-    pub ghost first_is: { first ≤ 2 ^ 39 },
-    pub ghost anchor_is: { anchor ≤ 2 ^ 61 + 2 ^ 23 },
-    pub ghost delay_is: { delay < 2 ^ 24 },
-}
+use sync_reference::Joining;
 
 /// What a train brings, with the slot that it is of.
 #[derive(Drop)]
@@ -49,15 +29,16 @@ pub enum Brought {
 }
 
 impl Brought {
-    ghost use Rattle.std.specs.Prelude.{option_map};
-    ghost use Rattle.delegator_choices.specs.State.Brings.{brought_of, joining_by, joining_in};
+    ghost use Rattle.std.specs.Prelude.{option_copied};
+    ghost use Rattle.delegator_history.specs.Trains.{joining_in};
+    ghost use Rattle.delegator_choices.specs.State.Brings.{brought_of};
 
     /// How it puts the sink on a group; `None` exactly where it doesn't.
-    pub fn joining(&self) -> Option<Joining>
-        ensures { option_map joining_by result ≡ joining_in (brought_of self.now) }
+    pub fn joining(&self) -> Option<&Joining>
+        ensures { option_copied result ≡ joining_in (brought_of self.now) }
     {
         match self {
-            Brought::Taken { joining, .. } => Some(*joining),
+            Brought::Taken { joining, .. } => Some(joining),
             _ => None,
         }
     }

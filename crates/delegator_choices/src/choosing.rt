@@ -96,11 +96,12 @@ pub fn choose(
 
 /// Takes the candidates of a subgroup, rising, while there is room.
 fn take_of(choice: &Choice<'_>, first: Taking) -> Taking
+    requires greatest { choice.now.num_bis ≤ 31 }
     requires part { IsPart choice.now.subgroup.now choice.now.base.now }
     ensures { Takes (chosen_of choice.now) first result }
 {
     let mut taking = first;
-    'indices: for index in 1..32u8 {
+    'indices: for index in 1..choice.num_bis + 1 {
         taking = take_index(choice, index, taking);
     }
     taking
@@ -111,6 +112,7 @@ fn take_index(choice: &Choice<'_>, index: u8, taking: Taking) -> Taking
     requires part { IsPart choice.now.subgroup.now choice.now.base.now }
     requires least { 1 ≤ index }
     requires greatest { index ≤ 31 }
+    requires within { index ≤ choice.now.num_bis }
     ensures { GoesOn choice.now index taking result }
 {
     let Some(bis) = Bis::new(index) else {
@@ -152,14 +154,15 @@ fn with_bit(bits: u32, bis: Bis) -> u32
     bits | (1 << (bis.get() - 1))
 }
 
-/// Whether the stream is a candidate.
+/// Whether the stream, one of the group, is a candidate.
+#[tactic(auto, using(crate::proofs::Candidates::is_within))]
 fn is_candidate(choice: &Choice<'_>, bis: Bis) -> bool
-    requires { IsPart choice.now.subgroup.now choice.now.base.now }
+    requires part { IsPart choice.now.subgroup.now choice.now.base.now }
+    requires within { bis ≤ choice.now.num_bis }
     ensures { result ≡ is_chosen choice.now bis }
 {
     has_stream(choice.subgroup, bis)
         && has_bit(choice.wanted, bis)
-        && bis.get() <= choice.num_bis
         && is_taken(choice.capability, choice.base, bis)
 }
 

@@ -2,20 +2,17 @@
 ghost use Rattle.std.specs.Prelude.{◌≡◌, ◌≤◌, ◌<◌, ◌+◌, ◌/◌, ◌^◌};
 ghost use Rattle.big_info.specs.Widths.{FitsWidths};
 ghost use Rattle.delegator_history.specs.Trains.{offset_of};
-ghost use Rattle.delegator_choices.specs.State.Brings.{joining_by};
 
-use crate::brought::Joining;
 use bcast_base::BisSet;
 use big_info::{BigInfo, Group};
+use sync_reference::Joining;
 
 /// How a train that is heard at this time in µs puts the sink on its group, with these streams and this presentation delay
 /// in µs: from the event that the BIGInfo names, whose anchor it tells (Core 5.2, volume 6 part B, section 4.4.6.11).
 pub fn joining_at(group: &Group, which: BisSet, delay: u32, heard_at: u64) -> Joining
-    requires some { 0 < which }
-    requires within { which < 2 ^ group.now.info.num_bis }
     requires delay { delay < 2 ^ 24 }
     requires time { heard_at ≤ 2 ^ 61 }
-    ensures { joining_by result ≡ record {
+    ensures { result ≡ record {
       info = group.now.info;
       which = which;
       first = group.now.info.bis_payload_count / group.now.info.bn;

@@ -9,7 +9,7 @@ mod search;
 mod slot;
 mod taken_bits;
 
-pub use brought::{Brought, Joining};
+pub use brought::Brought;
 pub use choosing::{Chosen, choose};
 pub use joining::joining_at;
 pub use refusals::{cause_of, refused};

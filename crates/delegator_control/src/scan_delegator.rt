@@ -37,7 +37,7 @@ impl ScanDelegator {
     ghost use Rattle.delegator_history.specs.Sights.{entry_at, slot_of};
     ghost use Rattle.delegator_history.specs.States.{Step, control_heard as controlled, put_on, told, train_lost, written};
     ghost use Rattle.delegator_history.specs.Steps.{lost, tuned};
-    ghost use Rattle.delegator_history.specs.Trains.{Joining};
+    ghost use Rattle.sync_reference.specs.Joining.{Joining};
     ghost use Rattle.delegator_history.specs.Controls.{control_heard, done_by_control};
     ghost use Rattle.delegator_history.specs.Values.{value_at};
     ghost use Rattle.delegator_history.specs.Writes.{reply_of, done_by_write};

@@ -18,16 +18,11 @@ use Rattle.delegator_history.specs.declared.train_heard.TrainHeard.{TrainHeard}
 use Rattle.delegator_history.specs.declared.train_heard.TrainHeard.TheVariants as answers
 use Rattle.delegator_history.specs.Sights.{Sight, entry_at, is_on_group}
 use Rattle.delegator_history.specs.Steps.{wishes_at}
-use Rattle.delegator_history.specs.Trains.{Brought, Joining, Setup, Train, heard, ignored, taken, base_in, big_info_in, brought_by, by_base, by_big_info, by_broadcast_id, by_endpoint}
-use Rattle.delegator_history.specs.Trains.{are_none, by_group, by_info, by_slot, by_streams, first_candidates, is_elsewhere, is_wanted, joining_of, set_with, sets_with}
+use Rattle.delegator_history.specs.Trains.{Brought, Setup, Train, heard, ignored, taken, base_in, big_info_in, brought_by, by_base, by_big_info, by_broadcast_id, by_endpoint}
+use Rattle.sync_reference.specs.Joining.{Joining}
+use Rattle.delegator_history.specs.Trains.{are_none, by_group, by_info, by_slot, by_streams, first_candidates, is_elsewhere, is_wanted, joining_in, joining_of, set_with, sets_with}
 use Rattle.delegator_history.specs.Writes.{slot_where}
 use Rattle.delegator_history.proofs.Citable.{none_set}
-
--- the group that a train puts the sink on
-abbrev pub joining_in : Brought → Option Joining
-joining_in (ignored answer) = None
-joining_in (heard slot answer encrypted) = None
-joining_in (taken slot bits encrypted joining) = Some joining
 
 -- a BASE, a BIGInfo of which no row of the group check holds, and some streams that are taken
 pub record Carries (horizon : ℕ) (train : Train) (joining : Joining) : Type 0 where

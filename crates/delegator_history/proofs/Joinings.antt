@@ -14,7 +14,8 @@ use Rattle.big_info.specs.Layout.{Spells}
 use Rattle.big_info.specs.Rows.{first_fault, has_fault}
 use Rattle.announcement_train.specs.declared.train.Train.{Train}
 use Rattle.announcement_train.specs.Told.{Tells, numbers_of}
-use Rattle.delegator_history.specs.Trains.{Joining, base_in, big_info_in, found_in, offset_of}
+use Rattle.delegator_history.specs.Trains.{base_in, big_info_in, found_in, offset_of}
+use Rattle.sync_reference.specs.Joining.{Joining}
 use Rattle.delegator_history.specs.Announced.{IsOnGroup, heard_as, numbers_alone}
 use Rattle.delegator_history.proofs.Brought.{Carries}
 use Rattle.delegator_history.proofs.Delays.{delay_read}

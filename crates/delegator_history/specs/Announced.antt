@@ -4,7 +4,8 @@ use Rattle.std.specs.Prelude.{ℕ, ◌≡◌, ◌≤◌, ◌<◌, ◌^◌, None}
 use Rattle.base_grammar.specs.Layout.{Endpoint}
 use Rattle.big_info.specs.declared.info.BigInfo.{BigInfo}
 use Rattle.announcement_train.specs.declared.train.Train.{Train as Announced}
-use Rattle.delegator_history.specs.Trains.{Joining, Train}
+use Rattle.delegator_history.specs.Trains.{Train}
+use Rattle.sync_reference.specs.Joining.{Joining}
 
 -- a train of a source of this address type and SID, as it is heard
 abbrev pub heard_as : ℕ → ℕ → Announced → Train

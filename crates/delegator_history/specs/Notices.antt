@@ -1,6 +1,6 @@
 -- Notifications (Broadcast Audio Scan Service 1.0, section 3.2): one for each change of a slot's value, with the whole
 -- value, in order. A notification has at most the octets of the MTU but three.
-use Rattle.std.specs.Prelude.{ℕ, ◌+◌, ◌-◌, List, [], ◌∷◌, ◌++◌, length, drop, take, min, Option, Some, None, if◌then◌else◌}
+use Rattle.std.specs.Prelude.{ℕ, ◌+◌, List, [], ◌∷◌, ◌++◌, length, drop, min, Option, Some, None, if◌then◌else◌}
 use Rattle.std.specs.List.{flat_map, range_with_len}
 use Rattle.std.specs.Str.{bytes_eq}
 use Rattle.delegator_history.specs.declared.notice.Notice.{Notice}
@@ -9,6 +9,7 @@ use Rattle.delegator_history.specs.Sights.{Sight}
 use Rattle.delegator_history.specs.States.{Step, mtu_set, told, sight_of}
 use Rattle.delegator_history.specs.Trains.{Setup}
 use Rattle.delegator_history.specs.Values.{value_at}
+use Rattle.receive_state.specs.Cuts.{cut}
 
 -- the notice of a slot whose value changed
 abbrev pub change : ℕ → List ℕ → List ℕ → List Notice
@@ -47,10 +48,6 @@ mtu_by _ = None
 abbrev pub mtu_in : List Step → Option ℕ
 mtu_in steps = last_given mtu_by steps
 
--- what is handed out of a value
-abbrev pub cut_to : Option ℕ → List ℕ → List ℕ
-cut_to None octets = octets
-cut_to (Some mtu) octets = take (mtu - 3) octets
-
+-- what is handed out of a notice
 abbrev pub handed_out : Option ℕ → Notice → Notice
-handed_out mtu notice = record notice { value = cut_to mtu notice.value }
+handed_out mtu notice = record notice { value = cut mtu notice.value }

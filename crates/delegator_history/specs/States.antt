@@ -9,7 +9,8 @@ use Rattle.delegator_history.specs.Controls.{done_by_control}
 use Rattle.delegator_history.specs.LastGiven.{last_given}
 use Rattle.delegator_history.specs.Sights.{Wanted, Entry, Place, idle, on_group, Sight, slot_of, is_on}
 use Rattle.delegator_history.specs.Steps.{Done, nothing, added, modified, removed, tuned, lost, recorded, located, opened, place_given, place_after, encryption_given, taken_given}
-use Rattle.delegator_history.specs.Trains.{Joining, Setup, Train, brought_by, done_brought}
+use Rattle.delegator_history.specs.Trains.{Setup, Train, brought_by, done_brought}
+use Rattle.sync_reference.specs.Joining.{Joining}
 use Rattle.delegator_history.specs.Writes.{done_by_write}
 
 -- a call; each write names the link that it came over, 0 to 3, and a train and a group the source that they are of

@@ -19,6 +19,7 @@ use Rattle.ltv_codec.specs.declared.ltvs.Ltv.{Ltv}
 use Rattle.ltv_codec.specs.Values.{first_of}
 use Rattle.pacs_records.specs.declared.capability.Capability.{Capability}
 use Rattle.pacs_records.specs.Reasons.{stream_not_taken}
+use Rattle.sync_reference.specs.Joining.{Joining}
 use Rattle.delegator_history.specs.declared.train_heard.TrainHeard.{TrainHeard}
 use Rattle.delegator_history.specs.declared.train_heard.TrainHeard.TheVariants as answers
 use Rattle.delegator_history.specs.Sights.{Entry, Place, Sight, idle, on_train, on_group, is_on_group, entry_at}
@@ -40,14 +41,6 @@ pub record Setup : Type 0 where
   pub streams : ℕ
   pub slots : ℕ
   pub horizon : ℕ
-
--- the group that the sink is on then: its streams, first event, that event's anchor in µs, and Presentation_Delay in µs
-pub record Joining : Type 0 where
-  pub info : BigInfo
-  pub which : ℕ
-  pub first : ℕ
-  pub anchor : ℕ
-  pub delay : ℕ
 
 -- what a train brings, with the slot that it is of
 pub data Brought : Type 0 where
@@ -166,6 +159,12 @@ by_broadcast_id setup sight train (Some id) = by_slot setup sight train (slot_wh
 -- what a train brings
 abbrev pub brought_by : Setup → Sight → Train → Brought
 brought_by setup sight train = by_broadcast_id setup sight train (broadcast_id_of train.ext)
+
+-- the group that it puts the sink on
+abbrev pub joining_in : Brought → Option Joining
+joining_in (ignored answer) = None
+joining_in (heard slot answer encrypted) = None
+joining_in (taken slot bits encrypted joining) = Some joining
 
 abbrev pub answer_of : Brought → TrainHeard
 answer_of (ignored answer) = answer

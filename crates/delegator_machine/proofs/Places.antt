@@ -12,10 +12,11 @@ use Rattle.delegator_history.specs.Controls.{control_heard as answer_to, done_he
 use Rattle.delegator_history.specs.Sights.{Place, idle, on_train, on_group, Sight, entry_at, is_on, is_on_group}
 use Rattle.delegator_history.specs.States.{Step, record_added, locations_set, contexts_set, mtu_set, put_on, written, train_heard, train_lost, control_heard, told, done_by}
 use Rattle.delegator_history.specs.Steps.{Done, after, capability_after, encryption_given, place_given, place_left, placed, same_streams, slots_after, taken_given, wishes_at}
-use Rattle.delegator_history.specs.Trains.{Brought, Joining, Setup, ignored, heard, taken, brought_by, done_brought}
+use Rattle.delegator_history.specs.Trains.{Brought, Setup, ignored, heard, taken, brought_by, done_brought, joining_in}
+use Rattle.sync_reference.specs.Joining.{Joining}
 use Rattle.delegator_history.specs.Writes.{cause_of, done_read, operated, slot_with}
 use Rattle.delegator_control.specs.Groups.{has_group}
-use Rattle.delegator_machine.specs.Groups.{joining_brought, joining_given}
+use Rattle.delegator_machine.specs.Groups.{joining_given}
 use Rattle.delegator_machine.proofs.Trains.{brings_none}
 
 placed_place : (given : Option Place) (encryption : Option Bool) (streams : Option (List ℕ)) (sight : Sight)
@@ -88,7 +89,7 @@ stays_off setup sight train_lost none off = refl
 stays_off setup sight (control_heard octets) none off = heard_off (answer_to sight.place octets) sight off
 stays_off setup sight told none off = off
 
-brought_on : (brought : Brought) (sight : Sight) (joining : Joining) → joining_brought brought ≡ Some joining
+brought_on : (brought : Brought) (sight : Sight) (joining : Joining) → joining_in brought ≡ Some joining
     → has_group (after (done_brought brought) sight).place ≡ true
 brought_on (ignored answer) sight joining is = absurd cc
 brought_on (heard slot answer encrypted) sight joining is = absurd cc

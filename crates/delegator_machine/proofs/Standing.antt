@@ -2,13 +2,14 @@
 use Rattle.std.proofs.Common.{◌≡◌, Bool, true, false, List, ◌∷◌, Option, Some, None, refl, sym, ◌∙◌, ap, subst}
 use Rattle.delegator_history.specs.Sights.{Sight}
 use Rattle.delegator_history.specs.States.{Step, sight_of}
-use Rattle.delegator_history.specs.Trains.{Joining, Setup}
+use Rattle.delegator_history.specs.Trains.{Setup}
+use Rattle.sync_reference.specs.Joining.{Joining}
 use Rattle.group_sink.specs.Calls as sinks
 use Rattle.group_sink.specs.State.Sinks.{OnGroup, StandsFor as SinkStands}
 use Rattle.delegator_control.specs.Groups.{has_group}
 use Rattle.delegator_control.specs.State.Machines.{Machine, StandsFor as ScanStands}
 use Rattle.delegator_machine.specs.Calls.{Call, control, steps_of}
-use Rattle.delegator_machine.specs.Groups.{joining_given, tuning_of, with_leave, with_step, group_calls}
+use Rattle.delegator_machine.specs.Groups.{joining_given, by_numbers, with_leave, with_step, group_calls}
 use Rattle.delegator_machine.specs.State.Halves.{Halves, StandsFor}
 
 -- what the control half has
@@ -25,7 +26,7 @@ after_is setup step calls old new same steps stands =
 -- that puts the sink on a group
 pub stands_joined : (setup : Setup) (step : Step) (calls : List Call) (old new : Halves) (joining : Joining)
     → joining_given setup (sight_of setup (steps_of calls)) step ≡ Some joining → new.scan.setup ≡ old.scan.setup
-    → ScanStands (step ∷ steps_of calls) new.scan → SinkStands (sinks.tune (tuning_of joining) ∷ group_calls setup calls) new.sink
+    → ScanStands (step ∷ steps_of calls) new.scan → SinkStands (sinks.tune (by_numbers joining) ∷ group_calls setup calls) new.sink
     → StandsFor setup calls old → StandsFor setup (control step ∷ calls) new
 stands_joined setup step calls old new joining is same steps sink stands = record {
   setup_is = same ∙ stands.setup_is;

@@ -7,22 +7,18 @@ use Rattle.delegator_history.specs.declared.train_heard.TrainHeard.TheVariants a
 use Rattle.delegator_history.specs.Sights.{Place, idle, on_train, on_group, Sight, entry_at, is_on_group}
 use Rattle.delegator_history.specs.States.{train_heard, sight_of}
 use Rattle.delegator_history.specs.Steps.{nothing, after, wishes_at}
-use Rattle.delegator_history.specs.Trains as trains
-use Rattle.delegator_history.specs.Trains.{Brought, Setup, Train, ignored, heard, taken, base_in, brought_by, by_base, by_broadcast_id, by_slot, done_brought, is_elsewhere, is_wanted}
+use Rattle.delegator_history.specs.Trains.{Brought, Setup, Train, ignored, heard, taken, base_in, brought_by, by_base, by_broadcast_id, by_slot, done_brought, is_elsewhere, is_wanted, joining_in}
 use Rattle.delegator_history.specs.Writes.{slot_where}
 use Rattle.group_sink.specs.Calls as sinks
-use Rattle.group_sink.specs.Calls.{Tuning}
+use Rattle.sync_reference.specs.Joining.{Joining}
 use Rattle.group_sink.specs.State.Sinks.{OnGroup, StandsFor as SinkStands}
 use Rattle.group_sink.specs.State.Steps.{fresh_on}
-use Rattle.delegator_choices.specs.declared.brought.Joining.{Joining}
-use Rattle.delegator_choices.specs.State.Brings.{joining_by, joining_in}
 use Rattle.delegator_control.specs.Following.{has_base, is_followed}
 use Rattle.delegator_control.specs.Groups.{has_group}
 use Rattle.delegator_control.specs.State.Machines.{Machine, moved, StandsFor as ScanStands}
 use Rattle.delegator_machine.specs.Calls.{Call, control, steps_of}
-use Rattle.delegator_machine.specs.Groups.{group_calls, joining_brought, tuning_of}
+use Rattle.delegator_machine.specs.Groups.{group_calls, by_numbers}
 use Rattle.delegator_machine.specs.State.Halves.{Halves, StandsFor}
-use Rattle.delegator_machine.specs.State.Joined.{made_for}
 use Rattle.delegator_machine.proofs.Standing.{sight_is, stands_joined, stands_quiet}
 
 -- ---- of a sink that is on a group a train changes nothing
@@ -48,13 +44,13 @@ by_id_kept setup sight train other (Some id) at =
 
 -- ---- a train that brings no group
 
-off_then : (brought : Brought) (sight : Sight) → joining_brought brought ≡ None → has_group sight.place ≡ false
+off_then : (brought : Brought) (sight : Sight) → joining_in brought ≡ None → has_group sight.place ≡ false
     → has_group (after (done_brought brought) sight).place ≡ false
 off_then (ignored answer) sight none off = off
 off_then (heard slot answer encrypted) sight none off = refl
 off_then (taken slot bits encrypted joining) sight none off = absurd cc
 
-pub brings_none : (setup : Setup) (sight : Sight) (train : Train) → joining_brought (brought_by setup sight train) ≡ None
+pub brings_none : (setup : Setup) (sight : Sight) (train : Train) → joining_in (brought_by setup sight train) ≡ None
     → has_group (after (done_brought (brought_by setup sight train)) sight).place ≡ has_group sight.place
 brings_none setup sight train none = at sight.place refl
   where
@@ -63,37 +59,26 @@ brings_none setup sight train none = at sight.place refl
     at idle is = let off : has_group sight.place ≡ false = ap has_group is in off_then (brought_by setup sight train) sight none off ∙ sym off
     at (on_train slot) is = let off : has_group sight.place ≡ false = ap has_group is in off_then (brought_by setup sight train) sight none off ∙ sym off
 
--- ---- as the code tells it
-
-pub same_joining : (brought : Brought) → joining_in brought ≡ joining_brought brought
-same_joining (ignored answer) = refl
-same_joining (heard slot answer encrypted) = refl
-same_joining (taken slot bits encrypted joining) = refl
-
-pub made_is : (joining : Option Joining) → option_map made_for joining ≡ option_map (λ given. fresh_on (tuning_of given)) (option_map joining_by joining)
-made_is None = refl
-made_is (Some joining) = refl
-
 -- ---- the step
 
-pub stands_trained : (setup : Setup) (train : Train) (source : ℕ) (calls : List Call) (old new : Halves) (given : Option trains.Joining) (made : Option OnGroup)
-    → given ≡ joining_brought (brought_by old.scan.setup old.scan.sight train) → made ≡ option_map (λ joining. fresh_on (tuning_of joining)) given
+pub stands_trained : (setup : Setup) (train : Train) (source : ℕ) (calls : List Call) (old new : Halves) (given : Option Joining) (made : Option OnGroup)
+    → given ≡ joining_in (brought_by old.scan.setup old.scan.sight train) → made ≡ option_map (λ joining. fresh_on (by_numbers joining)) given
     → (made ≡ None → new.sink ≡ old.sink)
-    → ((tuning : Tuning) → (past : List sinks.Call) → made ≡ Some (fresh_on tuning) → SinkStands (sinks.tune tuning ∷ past) new.sink)
+    → ((tuning : Joining) → (past : List sinks.Call) → made ≡ Some (fresh_on tuning) → SinkStands (sinks.tune tuning ∷ past) new.sink)
     → new.scan ≡ moved (done_brought (brought_by old.scan.setup old.scan.sight train)) old.scan
     → ScanStands (train_heard source train ∷ steps_of calls) new.scan
     → StandsFor setup calls old → StandsFor setup (control (train_heard source train) ∷ calls) new
 stands_trained setup train source calls old new None made is makes quiet puts step steps stands =
-    let none : joining_brought (brought_by old.scan.setup old.scan.sight train) ≡ None = sym is in
-    let same : joining_brought (brought_by old.scan.setup old.scan.sight train) ≡ joining_brought (brought_by setup (sight_of setup (steps_of calls)) train) =
-    λ i. joining_brought (brought_by (stands.setup_is i) (sight_is setup calls old stands i) train) in
+    let none : joining_in (brought_by old.scan.setup old.scan.sight train) ≡ None = sym is in
+    let same : joining_in (brought_by old.scan.setup old.scan.sight train) ≡ joining_in (brought_by setup (sight_of setup (steps_of calls)) train) =
+    λ i. joining_in (brought_by (stands.setup_is i) (sight_is setup calls old stands i) train) in
     stands_quiet setup (train_heard source train) calls old new (sym same ∙ none) (ap (λ (m : Machine). m.setup) step) steps
     (ap (λ (m : Machine). has_group m.sight.place) step ∙ brings_none old.scan.setup old.scan.sight train none) (quiet makes) stands
 stands_trained setup train source calls old new (Some joining) made is makes quiet puts step steps stands =
-    let same : joining_brought (brought_by old.scan.setup old.scan.sight train) ≡ joining_brought (brought_by setup (sight_of setup (steps_of calls)) train) =
-    λ i. joining_brought (brought_by (stands.setup_is i) (sight_is setup calls old stands i) train) in
+    let same : joining_in (brought_by old.scan.setup old.scan.sight train) ≡ joining_in (brought_by setup (sight_of setup (steps_of calls)) train) =
+    λ i. joining_in (brought_by (stands.setup_is i) (sight_is setup calls old stands i) train) in
     stands_joined setup (train_heard source train) calls old new joining (sym same ∙ sym is) (ap (λ (m : Machine). m.setup) step) steps
-    (puts (tuning_of joining) (group_calls setup calls) makes) stands
+    (puts (by_numbers joining) (group_calls setup calls) makes) stands
 
 -- ---- where memory may be wanted
 
@@ -102,7 +87,7 @@ base_followed (ignored answer) is = absurd cc
 base_followed (heard slot answer encrypted) is = refl
 base_followed (taken slot bits encrypted joining) is = refl
 
-pub joined_followed : (joining : Option Joining) (brought : Brought) → option_map joining_by joining ≡ joining_in brought → is_some joining ≡ true → is_followed brought ≡ true
+pub joined_followed : (joining : Option Joining) (brought : Brought) → joining ≡ joining_in brought → is_some joining ≡ true → is_followed brought ≡ true
 joined_followed None brought is some = absurd cc
 joined_followed (Some joining) (ignored answer) is some = absurd cc
 joined_followed (Some joining) (heard slot answer encrypted) is some = refl

@@ -5,13 +5,14 @@ use Rattle.std.specs.Prelude.{is_some, if◌then◌else◌}
 use Rattle.delegator_history.specs.Sights.{Sight}
 use Rattle.delegator_history.specs.States.{Step, answered, sight_of}
 use Rattle.delegator_history.specs.Steps.{after}
-use Rattle.delegator_history.specs.Trains.{Joining, Setup}
+use Rattle.delegator_history.specs.Trains.{Setup}
+use Rattle.sync_reference.specs.Joining.{Joining}
 use Rattle.delegator_history.proofs.Citable.{sight_goes_on}
 use Rattle.group_sink.specs.Calls as sinks
-use Rattle.group_sink.specs.Calls.{Tuning, place}
+use Rattle.group_sink.specs.Calls.{place}
 use Rattle.delegator_control.specs.Groups.{has_group}
 use Rattle.delegator_machine.specs.Calls.{Call, control, hear, tick, steps_of}
-use Rattle.delegator_machine.specs.Groups.{joining_given, last_joining, tuning_of, with_leave, with_step, group_calls}
+use Rattle.delegator_machine.specs.Groups.{joining_given, last_joining, by_numbers, with_leave, with_step, group_calls}
 use Rattle.delegator_machine.proofs.Places.{comes_on, stays_off}
 
 -- ---- one step
@@ -29,20 +30,20 @@ step_both : (given : Option Joining) (before after : Sight) (past : List sinks.C
 step_both None before after past both off on = leaves_both (has_group before.place) (has_group after.place) past both (off refl)
 step_both (Some joining) before after past both off on = sym (on joining refl)
 
-leaves_where : (was is : Bool) (past : List sinks.Call) (last : Option Joining) → place past ≡ (if was then option_map tuning_of last else None)
-    → (was ≡ false → is ≡ false) → place (with_leave was is past) ≡ (if is then option_map tuning_of last else None)
+leaves_where : (was is : Bool) (past : List sinks.Call) (last : Option Joining) → place past ≡ (if was then option_map by_numbers last else None)
+    → (was ≡ false → is ≡ false) → place (with_leave was is past) ≡ (if is then option_map by_numbers last else None)
 leaves_where true true past last before off = before
 leaves_where true false past last before off = refl
-leaves_where false is past last before off = before ∙ ap (λ on. if on then option_map tuning_of last else None) (sym (off refl))
+leaves_where false is past last before off = before ∙ ap (λ on. if on then option_map by_numbers last else None) (sym (off refl))
 
 step_where : (given : Option Joining) (before after : Sight) (past : List sinks.Call) (last : Option Joining)
-    → place past ≡ (if has_group before.place then option_map tuning_of last else None)
+    → place past ≡ (if has_group before.place then option_map by_numbers last else None)
     → (given ≡ None → has_group before.place ≡ false → has_group after.place ≡ false)
     → ((joining : Joining) → given ≡ Some joining → has_group after.place ≡ true)
-    → place (with_step given before after past) ≡ (if has_group after.place then option_map tuning_of (option_or given last) else None)
+    → place (with_step given before after past) ≡ (if has_group after.place then option_map by_numbers (option_or given last) else None)
 step_where None before after past last is off on = leaves_where (has_group before.place) (has_group after.place) past last is (off refl)
 step_where (Some joining) before after past last is off on =
-    ap (λ there. if there then Some (tuning_of joining) else None) (sym (on joining refl))
+    ap (λ there. if there then Some (by_numbers joining) else None) (sym (on joining refl))
 
 -- ---- all calls
 
@@ -70,8 +71,8 @@ both_on setup (hear event bis subevent octets ∷ calls) = both_on setup calls
 both_on setup (tick event ∷ calls) = both_on setup calls
 
 pub where_it_is : (setup : Setup) (calls : List Call)
-    → place (group_calls setup calls) ≡ (if has_group (sight_of setup (steps_of calls)).place then option_map tuning_of (last_joining setup (steps_of calls)) else None)
-where_it_is setup [] = ap (λ on. if on then option_map tuning_of (last_joining setup []) else None) (sym (idle_first setup))
+    → place (group_calls setup calls) ≡ (if has_group (sight_of setup (steps_of calls)).place then option_map by_numbers (last_joining setup (steps_of calls)) else None)
+where_it_is setup [] = ap (λ on. if on then option_map by_numbers (last_joining setup []) else None) (sym (idle_first setup))
 where_it_is setup (control step ∷ calls) =
     let earlier : List Step = steps_of calls in
     step_where (joining_given setup (sight_of setup earlier) step) (sight_of setup earlier) (sight_of setup (step ∷ earlier)) (group_calls setup calls)

@@ -4,27 +4,22 @@ use Rattle.std.specs.Prelude.{◌&&◌, not, Bool, List, [], ◌∷◌, Option, 
 use Rattle.std.specs.Option.{option_or}
 use Rattle.delegator_history.specs.Sights.{Sight}
 use Rattle.delegator_history.specs.States.{Step, put_on, train_heard, sight_of}
-use Rattle.delegator_history.specs.Trains.{Brought, taken, Joining, Setup, brought_by}
+use Rattle.delegator_history.specs.Trains.{Setup, brought_by, joining_in}
+use Rattle.sync_reference.specs.Joining.{Joining}
 use Rattle.group_sink.specs.Calls as sinks
-use Rattle.group_sink.specs.Calls.{Tuning}
 use Rattle.delegator_control.specs.Groups.{has_group}
 use Rattle.delegator_machine.specs.Calls.{Call, control, hear, tick, steps_of}
 use Rattle.delegator_history.specs.Announced.{numbers_alone}
 
--- the group that a train brings that is taken
-abbrev pub joining_brought : Brought → Option Joining
-joining_brought (taken slot bits encrypted joining) = Some joining
-joining_brought _ = None
-
 -- the group that a step puts a sink on that has this
 abbrev pub joining_given : Setup → Sight → Step → Option Joining
 joining_given setup sight (put_on source joining) = Some joining
-joining_given setup sight (train_heard source train) = joining_brought (brought_by setup sight train)
+joining_given setup sight (train_heard source train) = joining_in (brought_by setup sight train)
 joining_given setup sight _ = None
 
-abbrev pub tuning_of : Joining → Tuning
-tuning_of joining =
-    record { info = numbers_alone joining.info; which = joining.which; first = joining.first; anchor = joining.anchor; delay = joining.delay }
+-- the receivers go by the numbers of the group alone
+abbrev pub by_numbers : Joining → Joining
+by_numbers joining = record joining { info = numbers_alone joining.info }
 
 -- ---- what the receivers take
 
@@ -34,7 +29,7 @@ with_leave was is calls = if was && not is then sinks.leave ∷ calls else calls
 
 -- a step puts the sink on a group, or may take it off one
 abbrev pub with_step : Option Joining → Sight → Sight → List sinks.Call → List sinks.Call
-with_step (Some joining) before after calls = sinks.tune (tuning_of joining) ∷ calls
+with_step (Some joining) before after calls = sinks.tune (by_numbers joining) ∷ calls
 with_step None before after calls = with_leave (has_group before.place) (has_group after.place) calls
 
 abbrev pub group_calls : Setup → List Call → List sinks.Call

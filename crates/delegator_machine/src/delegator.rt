@@ -27,6 +27,7 @@ use group_sink::GroupSink;
 use isoal_base::Hearing;
 use std::alloc::Global;
 use std::marker::Model;
+use sync_reference::Joining;
 use unit_outlets::{TakerFault, UnitTaker};
 
 /// A Scan Delegator: a Broadcast Sink that is told by assistants which sources to receive (Basic Audio Profile 1.0, section
@@ -107,9 +108,23 @@ impl Delegator {
         ensures settings { settings_of self.new ≡ settings_of self.old }
         ensures err { OnErr result (self.new ≡ self.old) }
     {
-        let receivers = self
-            .sink
-            .receivers(&by_numbers(group), which, event, anchor, delay)?;
+        self.put_on(&Joining {
+            group: *group,
+            which,
+            first: event,
+            anchor,
+            delay,
+        })
+    }
+
+    /// Puts the sink on a group of no slot: `tune` with its arguments as one. After want of memory all is as before.
+    pub fn put_on(&mut self, joining: &Joining) -> Result<(), Memory>
+        ensures stands { (setup : Setup) (calls : List Call) (source : ℕ) → StandsFor setup calls self.old
+            → OnOk result (StandsFor setup (control (put_on source joining.now) ∷ calls) self.new) }
+        ensures settings { settings_of self.new ≡ settings_of self.old }
+        ensures err { OnErr result (self.new ≡ self.old) }
+    {
+        let receivers = self.sink.receivers(&by_numbers(joining))?;
         self.scan.tune()?;
         self.sink.put_on(receivers);
         Ok(())
@@ -182,6 +197,15 @@ impl Delegator {
         ensures settings { settings_of self.new ≡ settings_of self.old }
     {
         self.sink.hear(event, bis, subevent, pdu)
+    }
+
+    /// What `hear` would answer. It changes nothing.
+    pub fn would_answer(&self, event: u64, bis: Bis, subevent: u8, pdu: &[u8]) -> Hearing
+        requires { event ≤ 2 ^ 39 }
+        ensures { (setup : Setup) (calls : List Call) → StandsFor setup calls self.now
+            → result ≡ hearing_of (group_calls setup calls) event bis subevent pdu.now }
+    {
+        self.sink.would_answer(event, bis, subevent, pdu)
     }
 
     /// All events up to this one are over: closes the open event of each stream where it is at most this event, and hands its

@@ -8,7 +8,7 @@ ghost use Rattle.group_sink.specs.Calls.{place};
 ghost use Rattle.receive_state.specs.declared.state.ReceiveState.{ReceiveState};
 ghost use Rattle.delegator_control.specs.Groups.{has_group};
 ghost use Rattle.delegator_machine.specs.Calls.{Call, steps_of};
-ghost use Rattle.delegator_machine.specs.Groups.{group_calls, last_joining, tuning_of};
+ghost use Rattle.delegator_machine.specs.Groups.{group_calls, last_joining, by_numbers};
 
 use delegator_history::bits_stand_on_the_group;
 
@@ -18,7 +18,7 @@ pub fn the_sink_is_where_its_steps_put_it()
     ensures both { (setup : Setup) (calls : List Call) → is_some (place (group_calls setup calls))
         ≡ has_group (sight_of setup (steps_of calls)).place }
     ensures group { (setup : Setup) (calls : List Call)
-        → place (group_calls setup calls) ≡ (if has_group (sight_of setup (steps_of calls)).place then option_map tuning_of
+        → place (group_calls setup calls) ≡ (if has_group (sight_of setup (steps_of calls)).place then option_map by_numbers
         (last_joining setup (steps_of calls)) else None) }
 {}
 

@@ -1,10 +1,25 @@
 ghost use Rattle.std.specs.Prelude.{◌≡◌};
 ghost use Rattle.delegator_history.specs.Announced.{numbers_alone};
+ghost use Rattle.delegator_machine.specs.Groups.{by_numbers};
 
 use big_info::{BigInfo, Group};
+use sync_reference::Joining;
 
-/// The group by the numbers that a receiver goes by.
-pub(crate) fn by_numbers(group: &Group) -> Group
+/// The same with the numbers of the group that a receiver goes by.
+pub(crate) fn by_numbers(joining: &Joining) -> Joining
+    ensures { result ≡ by_numbers joining.now }
+{
+    Joining {
+        group: alone(&joining.group),
+        which: joining.which,
+        first: joining.first,
+        anchor: joining.anchor,
+        delay: joining.delay,
+    }
+}
+
+/// The group by these numbers.
+fn alone(group: &Group) -> Group
     ensures { result.info ≡ numbers_alone group.now.info }
 {
     Group {

@@ -1,23 +1,23 @@
 //! A train that is heard.
-ghost use Rattle.std.specs.Prelude.{◌≡◌, ◌≤◌, ◌^◌, ◌∷◌, ℕ, List, option_map, true, None, Some, IfOk, IsSome, OnOk, OnErr};
+ghost use Rattle.std.specs.Prelude.{◌≡◌, ◌≤◌, ◌^◌, ◌∷◌, ℕ, List, option_copied, option_map, true, None, Some, IfOk, IsSome, OnOk, OnErr};
 ghost use Rattle.delegator_history.specs.States.{sight_of, train_heard};
 ghost use Rattle.delegator_history.specs.Trains.{Setup, Train, answer_of, brought_by};
 ghost use Rattle.group_sink.specs.Calls as sinks;
-ghost use Rattle.group_sink.specs.Calls.{Tuning};
+ghost use Rattle.sync_reference.specs.Joining.{Joining};
 ghost use Rattle.group_sink.specs.State.Sinks.{StandsFor as SinkStands};
 ghost use Rattle.group_sink.specs.State.Steps.{fresh_on};
 ghost use Rattle.delegator_control.specs.Following.{is_followed};
 ghost use Rattle.delegator_machine.specs.Calls.{Call, control, steps_of};
+ghost use Rattle.delegator_machine.specs.Groups.{by_numbers};
 ghost use Rattle.delegator_machine.specs.State.Halves.{StandsFor, settings_of};
-ghost use Rattle.delegator_machine.specs.State.Joined.{made_for};
 ghost use Rattle.delegator_machine.specs.Trains.{train_of};
 
 use crate::delegator::Delegator;
 use crate::numbers::by_numbers;
 use bcast_base::Memory;
-use delegator_choices::Joining;
 use delegator_history::TrainHeard;
 use group_sink::{GroupReceivers, GroupSink};
+use sync_reference::Joining;
 
 impl Delegator {
     /// Hears a train, at this time in µs: the data of its extended advertising, of its periodic advertising, and its additional
@@ -47,8 +47,7 @@ impl Delegator {
             → OnErr result (is_followed (brought_by setup (sight_of setup (steps_of calls)) train) ≡ true) }
     {
         let brought = self.scan.bring(address_type, sid, ext, adv, acad, now)?;
-        let joining = brought.joining();
-        let made = receivers_of(&self.sink, joining)?;
+        let made = receivers_of(&self.sink, brought.joining())?;
         let heard = self.scan.follow(brought)?;
         join(&mut self.sink, made);
         Ok(heard)
@@ -58,29 +57,23 @@ impl Delegator {
 /// The receivers of a group that a train brings.
 fn receivers_of(
     sink: &GroupSink,
-    joining: Option<Joining>,
+    joining: Option<&Joining>,
 ) -> Result<Option<GroupReceivers>, Memory>
-    ensures made { IfOk result (λ made. made ≡ option_map made_for joining) }
-    ensures memory { OnErr result (IsSome joining) }
+    ensures made { IfOk result (λ made. made ≡ option_map (λ joining. fresh_on (by_numbers joining)) (option_copied joining.entry)) }
+    ensures memory { OnErr result (IsSome (option_copied joining.entry)) }
 {
     let Some(joining) = joining else {
         return Ok(None);
     };
-    let made = sink.receivers(
-        &by_numbers(&joining.group),
-        joining.which,
-        joining.first,
-        joining.anchor,
-        joining.delay,
-    )?;
+    let made = sink.receivers(&by_numbers(joining))?;
     Ok(Some(made))
 }
 
 /// Puts the sink on the group of these receivers, where there are any.
 fn join(sink: &mut GroupSink, made: Option<GroupReceivers>)
     ensures none { made ≡ None → sink.new ≡ sink.old }
-    ensures some { (tuning : Tuning) (calls : List sinks.Call) → made ≡ Some (fresh_on tuning)
-        → SinkStands (sinks.tune tuning ∷ calls) sink.new }
+    ensures some { (joining : Joining) (calls : List sinks.Call) → made ≡ Some (fresh_on joining)
+        → SinkStands (sinks.tune joining ∷ calls) sink.new }
 {
     if let Some(receivers) = made {
         sink.put_on(receivers);

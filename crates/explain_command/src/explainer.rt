@@ -75,10 +75,10 @@ impl<W: ByteSink + Drop> Listener<ExplainedRows<W>> for Explainer {
         &mut self,
         number: u64,
         line: &[u8],
-        _machine: &Machine,
+        machine: &Machine,
         sink: &mut ExplainedRows<W>,
     ) -> Result<(), SinkFault> {
-        if self.put_line(number, line).is_err() {
+        if self.put_line(number, line).is_err() || self.notes.begin(line, machine).is_err() {
             return Err(SinkFault::Memory);
         }
         let told = sink.tell(self.rows.as_slice());
@@ -86,10 +86,16 @@ impl<W: ByteSink + Drop> Listener<ExplainedRows<W>> for Explainer {
         told
     }
 
-    fn end_line(&mut self, line: &[u8], _machine: &Machine, text: &Octets, ended: Option<Ending>) {
+    fn end_line(&mut self, line: &[u8], machine: &Machine, text: &Octets, ended: Option<Ending>) {
         if self
             .notes
-            .put(&mut self.rows, line, text.as_slice(), refusal_of(ended))
+            .put(
+                &mut self.rows,
+                line,
+                machine,
+                text.as_slice(),
+                refusal_of(ended),
+            )
             .is_err()
         {
             self.lacks_memory = true;

@@ -2,7 +2,8 @@
 use Rattle.std.proofs.Common.{ℕ, ◌≡◌, ◌+◌, Bool, true, false, cond, eqb, leb, List, [], ◌∷◌, Option, Some, None, refl, ap, ◌∙◌, arith}
 use Rattle.isoal_base.specs.Stays as stays
 use Rattle.isoal_base.specs.Stays.{Stay, opened}
-use Rattle.group_sink.specs.Calls.{Tuning, Call, tune, hear, tick, leave}
+use Rattle.group_sink.specs.Calls.{Call, tune, hear, tick, leave}
+use Rattle.sync_reference.specs.Joining.{Joining}
 use Rattle.group_sink.specs.Streams.{closes, number_of, stay_on, stream_calls, with_hear}
 
 -- a hear opens no event
@@ -21,16 +22,16 @@ closed_once : (stay : Stay) (first count : ℕ) (calls : List stays.Call) (test 
 closed_once stay first count calls true is = omega (arith, is)
 closed_once stay first count calls false is = is
 
-pub opened_is : (tuning : Tuning) (calls : List Call) (bis : ℕ)
-    → opened (stay_on tuning bis) (stream_calls (stay_on tuning bis) calls) ≡ tuning.first + closes tuning calls
-opened_is tuning [] bis = omega arith
-opened_is tuning (tune other ∷ calls) bis = omega arith
-opened_is tuning (hear event other subevent octets ∷ calls) bis =
-    either_same (stay_on tuning bis) (eqb other bis) (number_of tuning.info event subevent) octets (stream_calls (stay_on tuning bis) calls)
-    ∙ opened_is tuning calls bis
-opened_is tuning (tick event ∷ calls) bis =
-    let before : opened (stay_on tuning bis) (stream_calls (stay_on tuning bis) calls) ≡ tuning.first + closes tuning calls = opened_is tuning calls bis in
-    closed_once (stay_on tuning bis) tuning.first (closes tuning calls) (stream_calls (stay_on tuning bis) calls)
-    (leb (opened (stay_on tuning bis) (stream_calls (stay_on tuning bis) calls)) event) before
-    ∙ ap (λ n. tuning.first + cond (leb n event) (closes tuning calls + 1) (closes tuning calls)) before
-opened_is tuning (leave ∷ calls) bis = omega arith
+pub opened_is : (joining : Joining) (calls : List Call) (bis : ℕ)
+    → opened (stay_on joining bis) (stream_calls (stay_on joining bis) calls) ≡ joining.first + closes joining calls
+opened_is joining [] bis = omega arith
+opened_is joining (tune other ∷ calls) bis = omega arith
+opened_is joining (hear event other subevent octets ∷ calls) bis =
+    either_same (stay_on joining bis) (eqb other bis) (number_of joining.info event subevent) octets (stream_calls (stay_on joining bis) calls)
+    ∙ opened_is joining calls bis
+opened_is joining (tick event ∷ calls) bis =
+    let before : opened (stay_on joining bis) (stream_calls (stay_on joining bis) calls) ≡ joining.first + closes joining calls = opened_is joining calls bis in
+    closed_once (stay_on joining bis) joining.first (closes joining calls) (stream_calls (stay_on joining bis) calls)
+    (leb (opened (stay_on joining bis) (stream_calls (stay_on joining bis) calls)) event) before
+    ∙ ap (λ n. joining.first + cond (leb n event) (closes joining calls + 1) (closes joining calls)) before
+opened_is joining (leave ∷ calls) bis = omega arith

@@ -1,26 +1,18 @@
 -- The calls that a sink took, the newest first, and the group that it is on (Core 5.2, volume 6 part B, section 4.4.6: a
 -- synchronized receiver takes some of the streams of a group).
 use Rattle.std.specs.Prelude.{ℕ, List, [], ◌∷◌, Option, Some, None}
-use Rattle.big_info.specs.declared.info.BigInfo.{BigInfo}
-
--- a group that a sink is put on
-pub record Tuning : Type 0 where
-  pub info : BigInfo
-  pub which : ℕ  -- the streams that it takes: bit n stands for index n + 1
-  pub first : ℕ  -- the first event
-  pub anchor : ℕ  -- its anchor in µs
-  pub delay : ℕ  -- Presentation_Delay in µs
+use Rattle.sync_reference.specs.Joining.{Joining}
 
 pub data Call : Type 0 where
-  tune : (tuning : Tuning) → Call  -- the sink is put on a group
+  tune : (joining : Joining) → Call  -- the sink is put on a group
   hear : (event bis subevent : ℕ) (octets : List ℕ) → Call  -- a PDU is heard in a subevent, from 0, of a stream
   tick : (event : ℕ) → Call  -- all events up to this one are over
   leave : Call  -- the sink leaves its group
 
 -- the group that the sink is on: the last one that it was put on, where it didn't leave since
-abbrev pub place : List Call → Option Tuning
+abbrev pub place : List Call → Option Joining
 place [] = None
-place (tune tuning ∷ calls) = Some tuning
+place (tune joining ∷ calls) = Some joining
 place (hear event bis subevent octets ∷ calls) = place calls
 place (tick event ∷ calls) = place calls
 place (leave ∷ calls) = None

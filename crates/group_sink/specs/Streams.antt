@@ -7,7 +7,8 @@ use Rattle.big_info.specs.declared.info.BigInfo.{BigInfo}
 use Rattle.radio_schedule.specs.PayloadNumber.{payload_number}
 use Rattle.isoal_base.specs.Stays as stays
 use Rattle.isoal_base.specs.Stays.{Stay, opened}
-use Rattle.group_sink.specs.Calls.{Tuning, Call, tune, hear, tick, leave}
+use Rattle.group_sink.specs.Calls.{Call, tune, hear, tick, leave}
+use Rattle.sync_reference.specs.Joining.{Joining}
 
 -- the stream of this index is in the set
 abbrev pub is_in : ℕ → ℕ → Bool
@@ -18,13 +19,13 @@ abbrev pub streams_of : ℕ → List ℕ
 streams_of set = filter (is_in set) (range_with_len 1 31)
 
 -- the stay on a stream
-abbrev pub stay_on : Tuning → ℕ → Stay
-stay_on tuning bis = record {
-  info = tuning.info;
+abbrev pub stay_on : Joining → ℕ → Stay
+stay_on joining bis = record {
+  info = joining.info;
   bis = bis;
-  first = tuning.first;
-  origin = tuning.anchor;
-  delay = tuning.delay;
+  first = joining.first;
+  origin = joining.anchor;
+  delay = joining.delay;
 }
 
 -- the payload number of a subevent of an event: none where the group has no such subevent or the number reaches 2^39
@@ -45,7 +46,7 @@ with_tick stay event calls = if nat_le (opened stay calls) event then stays.clos
 -- what a stream took since the sink was put on the group, or left it
 abbrev pub stream_calls : Stay → List Call → List stays.Call
 stream_calls stay [] = []
-stream_calls stay (tune tuning ∷ calls) = []
+stream_calls stay (tune joining ∷ calls) = []
 stream_calls stay (hear event bis subevent octets ∷ calls) =
     if bis == stay.bis then with_hear (number_of stay.info event subevent) octets (stream_calls stay calls)
     else stream_calls stay calls
@@ -54,9 +55,10 @@ stream_calls stay (leave ∷ calls) = []
 
 -- how many events were closed since the sink was put on the group, or left it: the ticks that found the open event at most
 -- theirs
-abbrev pub closes : Tuning → List Call → ℕ
-closes tuning [] = 0
-closes tuning (tune other ∷ calls) = 0
-closes tuning (hear event bis subevent octets ∷ calls) = closes tuning calls
-closes tuning (tick event ∷ calls) = if nat_le (tuning.first + closes tuning calls) event then closes tuning calls + 1 else closes tuning calls
-closes tuning (leave ∷ calls) = 0
+abbrev pub closes : Joining → List Call → ℕ
+closes joining [] = 0
+closes joining (tune other ∷ calls) = 0
+closes joining (hear event bis subevent octets ∷ calls) = closes joining calls
+closes joining (tick event ∷ calls) =
+    if nat_le (joining.first + closes joining calls) event then closes joining calls + 1 else closes joining calls
+closes joining (leave ∷ calls) = 0

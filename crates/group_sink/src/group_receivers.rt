@@ -1,61 +1,56 @@
-ghost use Rattle.std.specs.Prelude.{◌≡◌, ◌+◌, ◌≤◌, ◌<◌, ◌^◌, map, vec_len, IfOk};
+ghost use Rattle.std.specs.Prelude.{◌≡◌, ◌≤◌, ◌<◌, ◌^◌, map, IfOk};
 ghost use Rattle.std.specs.List.{flat_map};
 ghost use Rattle.big_info.specs.Bounds.{Bounds};
 ghost use Rattle.unit_outlets.specs.Handed.{Caused, HandsOver};
-ghost use Rattle.group_sink.specs.State.Steps.{answer_on, fresh_on, hear_on, owed_by, owed_on, tick_at, tick_on};
+ghost use Rattle.group_sink.specs.State.Steps.{answer_on, fresh_on, hear_on, owed_by, owed_on, place_on, tick_at, tick_on};
 
 use crate::receiver::Receiver;
-use crate::streams::{close_by, hear_in, skip_by, stream_of};
-use bcast_base::{Bis, BisSet, Memory};
+use crate::streams::{answer_in, close_by, hear_in, skip_by, stream_of};
+use bcast_base::{Bis, Memory};
 use big_info::Group;
 use isoal_base::Hearing;
 use std::alloc::Global;
 use std::marker::Model;
+use sync_reference::Joining;
 use unit_outlets::{TakerFault, UnitTaker};
 
-/// The receivers of a sink that is on a group: at place n stands that of the stream of index n + 1, where it takes it.
+/// The receivers of a sink that is on a group: one for each stream that it takes, by rising index.
 #[derive(Drop)]
 pub struct GroupReceivers {
     group: Group,
-    streams: Vec<Option<Receiver>>,
+    /// At n the place of the receiver of the stream of index n + 1: 31, where none stands, if the stream isn't taken.
+    places: [u8; 31],
+    streams: Vec<Receiver>,
 }
 
 impl Model for GroupReceivers {
-    ghost use Rattle.std.specs.Prelude.{◌≡◌, vec_len};
     ghost use Rattle.group_sink.specs.State.Sinks.{OnGroup};
 
     ghost Value = { OnGroup };
 
-    ghost view = { λ a. record { info = a.group.info; streams = a.streams.items } };
-
-    ghost invariant = { λ a. vec_len a.streams ≡ 31 };
+    ghost view = { λ a. record { info = a.group.info; places = a.places; streams = a.streams.items } };
 }
 
 impl GroupReceivers {
     /// Receivers that heard nothing yet.
-    pub(crate) fn new(
-        alloc: Global,
-        group: &Group,
-        which: BisSet,
-        event: u64,
-        anchor: u64,
-        delay: u32,
-    ) -> Result<GroupReceivers, Memory>
-        requires event { event ≤ 2 ^ 39 }
-        requires anchor { anchor ≤ 2 ^ 61 + 2 ^ 23 }
-        requires delay { delay < 2 ^ 24 }
-        ensures { IfOk result (λ on. on
-            ≡ fresh_on (record { info = group.now.info; which = which; first = event; anchor = anchor; delay = delay })) }
+    pub(crate) fn new(alloc: Global, joining: &Joining) -> Result<GroupReceivers, Memory>
+        ensures { IfOk result (λ on. on ≡ fresh_on joining.now) }
     {
-        let mut streams = Vec::with_capacity(alloc, 31)?;
+        let mut places = [31; 31];
+        let mut streams = Vec::with_capacity(alloc, joining.which.count() as usize)?;
         'indices: for index in 1..32u8 {
             let Some(bis) = Bis::new(index) else {
                 continue;
             };
-            streams.push(stream_of(alloc, group, which, bis, event, anchor, delay)?)?;
+            let Some(stream) = stream_of(alloc, joining, bis)? else {
+                continue;
+            };
+            places[usize::from(index - 1)] = streams.len() as u8;
+            streams.push(stream)?;
         }
         Ok(GroupReceivers {
-            group: *group,
+            group: joining.group,
+            places,
             streams,
         })
     }
@@ -69,8 +64,26 @@ impl GroupReceivers {
         ensures greatest { bis ≤ 31 }
         ensures bounds { Bounds self.old.info }
     {
-        let place = usize::from(bis.get() - 1);
-        hear_in(&mut self.streams[place], &self.group, event, subevent, pdu)
+        let place = self.place(bis);
+        hear_in(&mut self.streams, place, &self.group, event, subevent, pdu)
+    }
+
+    /// The place of the receiver of a stream.
+    fn place(&self, bis: Bis) -> usize
+        ensures { result ≡ place_on bis self.now }
+    {
+        usize::from(self.places[usize::from(bis.get() - 1)])
+    }
+
+    /// What would be answered to a PDU in a subevent of an event of a stream.
+    pub(crate) fn would_answer(&self, event: u64, bis: Bis, subevent: u8, pdu: &[u8]) -> Hearing
+        requires { event ≤ 2 ^ 39 }
+        ensures answer { result ≡ answer_on event bis subevent pdu.now self.now }
+        ensures least { 1 ≤ bis }
+        ensures greatest { bis ≤ 31 }
+    {
+        let place = self.place(bis);
+        answer_in(&self.streams, place, &self.group, event, subevent, pdu)
     }
 
     /// Closes the open event of each stream where it is at most this event.
@@ -87,12 +100,11 @@ impl GroupReceivers {
 
 /// Closes the open event of each stream where it is at most this event. The units are handed up to the first refusal.
 fn close_all<T: UnitTaker>(
-    streams: &mut Vec<Option<Receiver>>,
+    streams: &mut Vec<Receiver>,
     event: u64,
     taker: &mut T,
 ) -> Result<(), TakerFault>
     requires { event < 2 ^ 39 }
-    ensures places { vec_len streams.new ≡ vec_len streams.old }
     ensures step { streams.new.items ≡ map (tick_at event) streams.old.items }
     ensures hands { HandsOver (flat_map (owed_by event) streams.old.items) (T.calls taker.old) (T.calls taker.new) result }
     ensures cause { Caused (T.counts taker.old) (T.counts taker.new) result }

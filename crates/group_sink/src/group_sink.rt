@@ -1,17 +1,18 @@
-ghost use Rattle.std.specs.Prelude.{◌≡◌, ◌+◌, ◌≤◌, ◌<◌, ◌^◌, List, [], ◌∷◌, IfOk, OnOk, OnErr};
+ghost use Rattle.std.specs.Prelude.{◌≡◌, ◌≤◌, ◌<◌, ◌^◌, List, [], ◌∷◌, IfOk, OnOk, OnErr};
 ghost use Rattle.unit_outlets.specs.Handed.{Caused, HandsOver};
-ghost use Rattle.group_sink.specs.Calls.{Call, Tuning, tune, hear, tick, leave};
+ghost use Rattle.group_sink.specs.Calls.{Call, tune, hear, tick, leave};
+ghost use Rattle.sync_reference.specs.Joining.{Joining};
 ghost use Rattle.group_sink.specs.Handing.{handed_at};
 ghost use Rattle.group_sink.specs.Hearings.{hearing_of};
 ghost use Rattle.group_sink.specs.State.Sinks.{StandsFor};
 ghost use Rattle.group_sink.specs.State.Steps.{AreFor};
 
 use crate::group_receivers::GroupReceivers;
-use bcast_base::{Bis, BisSet, Memory};
-use big_info::Group;
+use bcast_base::{Bis, Memory};
 use isoal_base::Hearing;
 use std::alloc::Global;
 use std::marker::Model;
+use sync_reference::Joining;
 use unit_outlets::{TakerFault, UnitTaker};
 
 /// A sink. It is idle, or on a group.
@@ -38,34 +39,17 @@ impl GroupSink {
         GroupSink { alloc, group: None }
     }
 
-    /// The receivers of a group that the sink is to be put on, with this event as the first one, whose anchor is given in µs,
-    /// and this presentation delay in µs.
-    pub fn receivers(
-        &self,
-        group: &Group,
-        which: BisSet,
-        event: u64,
-        anchor: u64,
-        delay: u32,
-    ) -> Result<GroupReceivers, Memory>
-        requires event { event ≤ 2 ^ 39 }
-        requires anchor { anchor ≤ 2 ^ 61 + 2 ^ 23 }
-        requires delay { delay < 2 ^ 24 }
-        ensures { IfOk result (λ receivers. AreFor (record {
-          info = group.now.info;
-          which = which;
-          first = event;
-          anchor = anchor;
-          delay = delay;
-        }) receivers) }
+    /// The receivers of a group that the sink is to be put on.
+    pub fn receivers(&self, joining: &Joining) -> Result<GroupReceivers, Memory>
+        ensures { IfOk result (λ receivers. AreFor joining.now receivers) }
     {
-        GroupReceivers::new(self.alloc, group, which, event, anchor, delay)
+        GroupReceivers::new(self.alloc, joining)
     }
 
     /// Puts the sink on the group that these receivers are for. It leaves what it was on, and what it held is dropped. It takes
     /// no memory.
     pub fn put_on(&mut self, receivers: GroupReceivers)
-        ensures { (tuning : Tuning) (calls : List Call) → AreFor tuning receivers → StandsFor (tune tuning ∷ calls) self.new }
+        ensures { (joining : Joining) (calls : List Call) → AreFor joining receivers → StandsFor (tune joining ∷ calls) self.new }
     {
         self.group = Some(receivers);
     }
@@ -77,27 +61,14 @@ impl GroupSink {
         self.group = None;
     }
 
-    /// Puts the sink on a group, with this event as the first one, whose anchor is given in µs, and this
-    /// presentation delay in µs. It leaves what it was on, and what it held is dropped.
+    /// Puts the sink on a group. It leaves what it was on, and what it held is dropped.
     ///
     /// After want of memory the sink is as before.
-    pub fn tune(
-        &mut self,
-        group: &Group,
-        which: BisSet,
-        event: u64,
-        anchor: u64,
-        delay: u32,
-    ) -> Result<(), Memory>
-        requires event { event ≤ 2 ^ 39 }
-        requires anchor { anchor ≤ 2 ^ 61 + 2 ^ 23 }
-        requires delay { delay < 2 ^ 24 }
-        ensures stands { (calls : List Call) → OnOk result
-            (StandsFor (tune (record { info = group.now.info; which = which; first = event; anchor = anchor; delay = delay }) ∷ calls)
-            self.new) }
+    pub fn tune(&mut self, joining: &Joining) -> Result<(), Memory>
+        ensures stands { (calls : List Call) → OnOk result (StandsFor (tune joining.now ∷ calls) self.new) }
         ensures err { OnErr result (self.new ≡ self.old) }
     {
-        let receivers = self.receivers(group, which, event, anchor, delay)?;
+        let receivers = self.receivers(joining)?;
         self.put_on(receivers);
         Ok(())
     }
@@ -114,6 +85,17 @@ impl GroupSink {
             return Hearing::NotOnGroup;
         };
         on.hear(event, bis, subevent, pdu)
+    }
+
+    /// What `hear` would answer. It changes nothing.
+    pub fn would_answer(&self, event: u64, bis: Bis, subevent: u8, pdu: &[u8]) -> Hearing
+        requires { event ≤ 2 ^ 39 }
+        ensures { (calls : List Call) → StandsFor calls self.now → result ≡ hearing_of calls event bis subevent pdu.now }
+    {
+        let Some(on) = &self.group else {
+            return Hearing::NotOnGroup;
+        };
+        on.would_answer(event, bis, subevent, pdu)
     }
 
     /// All events up to this one are over: closes the open event of each stream where it is at most this event, and hands

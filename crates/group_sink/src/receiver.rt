@@ -1,14 +1,15 @@
 //! The receiver of a stream, of either framing.
-ghost use Rattle.std.specs.Prelude.{◌≡◌, ◌+◌, ◌≤◌, ◌<◌, ◌^◌, IfOk};
+ghost use Rattle.std.specs.Prelude.{◌≡◌, ◌≤◌, ◌<◌, ◌^◌, IfOk};
 ghost use Rattle.unit_outlets.specs.Handed.{Caused, HandsOver};
 ghost use Rattle.group_sink.specs.State.Receivers.{answer_by, closed, fresh, hear_by, open_of, owed_of};
+ghost use Rattle.group_sink.specs.Streams.{stay_on};
 
 use bcast_base::{Bis, Memory};
-use big_info::Group;
 use isoal_base::Heard;
 use isoal_framed::FramedIn;
 use isoal_unframed::UnframedIn;
 use std::alloc::Global;
+use sync_reference::Joining;
 use unit_outlets::{TakerFault, UnitTaker};
 
 /// What receives a stream, by the framing of its group.
@@ -20,25 +21,21 @@ pub(crate) enum Receiver {
 
 impl Receiver {
     /// A receiver that heard nothing yet.
-    pub(crate) fn new(
-        alloc: Global,
-        group: &Group,
-        bis: Bis,
-        event: u64,
-        anchor: u64,
-        delay: u32,
-    ) -> Result<Receiver, Memory>
-        requires event { event ≤ 2 ^ 39 }
-        requires anchor { anchor ≤ 2 ^ 61 + 2 ^ 23 }
-        requires delay { delay < 2 ^ 24 }
-        ensures { IfOk result (λ receiver. receiver ≡ fresh
-            (record { info = group.now.info; bis = bis; first = event; origin = anchor; delay = delay })) }
+    pub(crate) fn new(alloc: Global, joining: &Joining, bis: Bis) -> Result<Receiver, Memory>
+        ensures { IfOk result (λ receiver. receiver ≡ fresh (stay_on joining.now bis)) }
     {
+        let Joining {
+            group,
+            first,
+            anchor,
+            delay,
+            ..
+        } = joining;
         if group.info.framing == 0 {
-            let unframed = UnframedIn::new(alloc, group, bis, event, anchor, delay)?;
+            let unframed = UnframedIn::new(alloc, group, bis, *first, *anchor, *delay)?;
             return Ok(Receiver::Unframed(unframed));
         }
-        let framed = FramedIn::new(alloc, group, bis, event, anchor, delay)?;
+        let framed = FramedIn::new(alloc, group, bis, *first, *anchor, *delay)?;
         Ok(Receiver::Framed(framed))
     }
 
@@ -61,6 +58,16 @@ impl Receiver {
         match self {
             Receiver::Unframed(unframed) => unframed.hear(number, pdu),
             Receiver::Framed(framed) => framed.hear(number, pdu),
+        }
+    }
+
+    /// What it would answer a PDU under its payload number.
+    pub(crate) fn would_answer(&self, number: u64, pdu: &[u8]) -> Heard
+        ensures { result ≡ answer_by number pdu.now self.now }
+    {
+        match self {
+            Receiver::Unframed(unframed) => unframed.would_answer(number, pdu),
+            Receiver::Framed(framed) => framed.would_answer(number, pdu),
         }
     }
 

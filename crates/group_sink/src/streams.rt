@@ -1,58 +1,82 @@
-//! The place of a stream at a sink: its receiver, where the sink takes it.
-ghost use Rattle.std.specs.Prelude.{◌≡◌, ◌+◌, ◌≤◌, ◌<◌, ◌^◌, IfOk};
+//! What a sink does with the receiver of a stream.
+ghost use Rattle.std.specs.Prelude.{◌≡◌, ◌≤◌, ◌<◌, ◌^◌, Some, slice_get, IfOk};
 ghost use Rattle.unit_outlets.specs.Handed.{Caused, HandsOver};
-ghost use Rattle.group_sink.specs.State.Steps.{answer_at, fresh_at, hear_at, owed_by, tick_at};
+ghost use Rattle.group_sink.specs.State.Steps.{answer_at, fresh_at, hear_at, heard_at, owed_by, tick_at};
 ghost use Rattle.group_sink.specs.Streams.{number_of};
 
 use crate::receiver::Receiver;
 use crate::refuser::Refuser;
-use bcast_base::{Bis, BisSet, Memory};
+use bcast_base::{Bis, Memory};
 use big_info::Group;
 use isoal_base::Hearing;
 use radio_schedule::payload_of;
 use std::alloc::Global;
+use sync_reference::Joining;
 use unit_outlets::{TakerFault, UnitTaker};
 
-/// The place of a stream on which nothing was heard yet.
+/// The receiver of a stream on which nothing was heard yet, where the sink takes it.
 pub(crate) fn stream_of(
     alloc: Global,
-    group: &Group,
-    which: BisSet,
+    joining: &Joining,
     bis: Bis,
-    event: u64,
-    anchor: u64,
-    delay: u32,
 ) -> Result<Option<Receiver>, Memory>
-    requires event { event ≤ 2 ^ 39 }
-    requires anchor { anchor ≤ 2 ^ 61 + 2 ^ 23 }
-    requires delay { delay < 2 ^ 24 }
-    ensures { IfOk result (λ stream. stream
-        ≡ fresh_at (record { info = group.now.info; which = which; first = event; anchor = anchor; delay = delay }) bis) }
+    ensures { IfOk result (λ stream. stream ≡ fresh_at joining.now bis) }
 {
-    if !which.has(bis) {
+    if !joining.which.has(bis) {
         return Ok(None);
     }
-    let stream = Receiver::new(alloc, group, bis, event, anchor, delay)?;
+    let stream = Receiver::new(alloc, joining, bis)?;
     Ok(Some(stream))
 }
 
-/// Hears a PDU in a subevent of an event.
+/// Hears a PDU in a subevent of an event, where a receiver stands at the place.
 pub(crate) fn hear_in(
-    stream: &mut Option<Receiver>,
+    streams: &mut Vec<Receiver>,
+    place: usize,
     group: &Group,
     event: u64,
     subevent: u8,
     pdu: &[u8],
 ) -> Hearing
     requires { event ≤ 2 ^ 39 }
-    ensures answer { result ≡ answer_at (number_of group.now.info event subevent) pdu.now stream.old }
-    ensures step { stream.new ≡ hear_at (number_of group.now.info event subevent) pdu.now stream.old }
+    ensures answer { result ≡ answer_at (number_of group.now.info event subevent) pdu.now (slice_get streams.old.items place) }
+    ensures step { streams.new.items
+        ≡ heard_at (number_of group.now.info event subevent) pdu.now place (slice_get streams.old.items place) streams.old.items }
 {
-    match stream {
+    match streams.get_mut(place) {
+        None => Hearing::NotTaken,
+        Some(receiver) => hear_under(receiver, number(group, event, subevent), pdu),
+    }
+}
+
+/// Hears a PDU under its payload number, where it has one.
+fn hear_under(receiver: &mut Receiver, number: Option<u64>, pdu: &[u8]) -> Hearing
+    ensures answer { result ≡ answer_at number pdu.now (Some receiver.old) }
+    ensures step { receiver.new ≡ hear_at number pdu.now receiver.old }
+{
+    match number {
+        None => Hearing::NoNumber,
+        Some(number) => Hearing::Heard(receiver.hear(number, pdu)),
+    }
+}
+
+/// What would be answered to a PDU in a subevent of an event, where a receiver stands at the place.
+pub(crate) fn answer_in(
+    streams: &Vec<Receiver>,
+    place: usize,
+    group: &Group,
+    event: u64,
+    subevent: u8,
+    pdu: &[u8],
+) -> Hearing
+    requires { event ≤ 2 ^ 39 }
+    ensures { result ≡ answer_at (number_of group.now.info event subevent) pdu.now (slice_get streams.now.items place) }
+{
+    match streams.get(place) {
         None => Hearing::NotTaken,
         Some(receiver) => match number(group, event, subevent) {
             None => Hearing::NoNumber,
-            Some(number) => Hearing::Heard(receiver.hear(number, pdu)),
+            Some(number) => Hearing::Heard(receiver.would_answer(number, pdu)),
         },
     }
 }
@@ -68,31 +92,26 @@ fn number(group: &Group, event: u64, subevent: u8) -> Option<u64>
 
 /// Closes the open event where it is at most this event, and hands its units.
 pub(crate) fn close_by<T: UnitTaker>(
-    stream: &mut Option<Receiver>,
+    receiver: &mut Receiver,
     event: u64,
     taker: &mut T,
 ) -> Result<(), TakerFault>
     requires { event < 2 ^ 39 }
-    ensures step { stream.new ≡ tick_at event stream.old }
-    ensures hands { HandsOver (owed_by event stream.old) (T.calls taker.old) (T.calls taker.new) result }
+    ensures step { receiver.new ≡ tick_at event receiver.old }
+    ensures hands { HandsOver (owed_by event receiver.old) (T.calls taker.old) (T.calls taker.new) result }
     ensures cause { Caused (T.counts taker.old) (T.counts taker.new) result }
 {
-    match stream {
-        None => Ok(()),
-        Some(receiver) => {
-            if receiver.open_event() <= event {
-                receiver.close(taker)
-            } else {
-                Ok(())
-            }
-        }
+    if receiver.open_event() <= event {
+        receiver.close(taker)
+    } else {
+        Ok(())
     }
 }
 
 /// Closes the open event where it is at most this event, and drops its units.
-pub(crate) fn skip_by(stream: &mut Option<Receiver>, event: u64)
+pub(crate) fn skip_by(receiver: &mut Receiver, event: u64)
     requires { event < 2 ^ 39 }
-    ensures { stream.new ≡ tick_at event stream.old }
+    ensures { receiver.new ≡ tick_at event receiver.old }
 {
-    let _refused = close_by(stream, event, &mut Refuser);
+    let _refused = close_by(receiver, event, &mut Refuser);
 }

@@ -10,6 +10,7 @@ use iso_pdu::PduFault;
 use isoal_base::{Heard, Hearing};
 use std::alloc::Global;
 use std::test::Fail;
+use sync_reference::Joining;
 use unit_outlets::{TakerFault, UnitTaker};
 
 /// Units of at most 4 octets every 10 ms on LE 2M, each in one PDU, sent once, on one stream.
@@ -90,7 +91,13 @@ fn the_first_pdu_heard_counts(rt: HostRuntime) -> Result<(), Fail> {
     let other = Bis::new(2).ok_or("no stream")?;
     let mut sink = GroupSink::new(rt.alloc());
     assert_eq!(rt; sink.hear(0, first, 0, &[0, 0]), Hearing::NotOnGroup);
-    sink.tune(&group, BisSet::new().with(first), 0, 20000, 40000)?;
+    sink.tune(&Joining {
+        group,
+        which: BisSet::new().with(first),
+        first: 0,
+        anchor: 20000,
+        delay: 40000,
+    })?;
     assert_eq!(rt; sink.hear(0, other, 0, &[0, 0]), Hearing::NotTaken);
     assert_eq!(rt; sink.hear(0, first, 1, &[0, 0]), Hearing::NoNumber);
     assert_eq!(rt;
@@ -139,7 +146,13 @@ fn a_framed_unit_over_two_events_has_the_time_of_its_start(rt: HostRuntime) -> R
     let group = check_group(&info)?;
     let first = Bis::new(1).ok_or("no stream")?;
     let mut sink = GroupSink::new(rt.alloc());
-    sink.tune(&group, BisSet::new().with(first), 1, 30000, 40000)?;
+    sink.tune(&Joining {
+        group,
+        which: BisSet::new().with(first),
+        first: 1,
+        anchor: 30000,
+        delay: 40000,
+    })?;
     let mut taken = Taken {
         alloc: rt.alloc(),
         units: Vec::new(rt.alloc()),
@@ -180,13 +193,13 @@ fn a_refusal_closes_the_event_of_each_stream(rt: HostRuntime) -> Result<(), Fail
     let first = Bis::new(1).ok_or("no stream")?;
     let other = Bis::new(2).ok_or("no stream")?;
     let mut sink = GroupSink::new(rt.alloc());
-    sink.tune(
-        &group,
-        BisSet::new().with(first).with(other),
-        0,
-        20000,
-        40000,
-    )?;
+    sink.tune(&Joining {
+        group,
+        which: BisSet::new().with(first).with(other),
+        first: 0,
+        anchor: 20000,
+        delay: 40000,
+    })?;
     assert_eq!(rt; sink.tick(0, &mut Refuser), Err(TakerFault::Failed));
     assert_eq!(rt;
         sink.hear(0, first, 0, &[0, 0]),

@@ -9,7 +9,7 @@ ghost use Rattle.isoal_framed.specs.State.Windows.{Stands, after_hear, after_clo
 
 use crate::close::take_places;
 use crate::joining::Joining;
-use crate::keep::keep;
+use crate::keep::{answer_at, keep};
 use crate::place::Places;
 use crate::store::Store;
 use crate::stream::Stream;
@@ -106,6 +106,19 @@ impl FramedIn {
         ensures decides { (calls : List Call) → decided self.old.stay (hear number pdu.now ∷ calls) ≡ decided self.old.stay calls }
     {
         self.take_in(number, pdu)
+    }
+
+    /// What `hear` would answer.
+    pub fn would_answer(&self, number: u64, pdu: &[u8]) -> Heard
+        ensures { result ≡ answer_of segmented self.now.stay.info self.now.event self.now.kept number pdu.now }
+    {
+        match read_pdu(pdu, self.stream.group.info.max_pdu) {
+            Err(fault) => Heard::Malformed(fault),
+            Ok(Pdu::Framed(_)) => {
+                answer_at(&self.stream, self.event, &self.store.places, number)
+            }
+            Ok(_) => Heard::WrongKind,
+        }
     }
 
     /// Closes the open event: hands each start that is decided by its segments and wasn't before, in order, with the time

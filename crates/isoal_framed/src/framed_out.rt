@@ -4,13 +4,13 @@ ghost use Rattle.isoal_base.specs.Air.{Air, laid_in};
 ghost use Rattle.isoal_framed.specs.Air.{IsEvent, event_of, IsFramedAir};
 ghost use Rattle.isoal_framed.specs.Calls.{Call, Timed, accept, lay};
 ghost use Rattle.isoal_framed.specs.Places.{Act, ends, done, sent as sent_by, room};
-ghost use Rattle.isoal_framed.specs.State.Senders.{Above, InOrder, NotPast, MayWait, PutFaultIs, StandsFor, waiting, with_unit};
+ghost use Rattle.isoal_framed.specs.State.Senders.{Above, InOrder, IsPartly, NotPast, MayWait, PutFaultIs, StandsFor, waiting, with_unit};
 
 use crate::packing::{Packing, pack_pdus};
-use bcast_base::{Memory, Octets, Times, Unit};
+use bcast_base::{Memory, Times, Unit};
 use big_info::Group;
 use iso_pdu::FramedPdu;
-use isoal_base::{EventLaid, PutFault};
+use isoal_base::{EventLaid, LaidPdus, PutFault, SpareOctets};
 use std::alloc::Global;
 use std::collections::VecDeque;
 use std::marker::Model;
@@ -25,6 +25,7 @@ pub struct FramedOut {
     alloc: Global,
     group: Group,
     queue: VecDeque<Unit>,
+    spares: SpareOctets,
     sent: usize,
     last: Option<u64>,
 }
@@ -50,6 +51,7 @@ impl FramedOut {
             alloc,
             group: *group,
             queue: VecDeque::new(alloc),
+            spares: SpareOctets::new(alloc),
             sent: 0,
             last: None,
         }
@@ -100,7 +102,7 @@ impl FramedOut {
         }
         let unit = Unit {
             time,
-            octets: Octets::copy(self.alloc, octets)?,
+            octets: self.spares.copy(octets)?,
         };
         self.queue.push_back(unit)?;
         self.last = Some(time);
@@ -140,6 +142,35 @@ impl FramedOut {
         self.pack_next(anchor)
     }
 
+    /// Lays the next event as `pack_event` does, its PDUs in the place of others, and answers the times of the units that were left
+    /// out of it as stale. Want of memory changes nothing but the PDUs.
+    pub fn pack_event_in(&mut self, anchor: u64, pdus: &mut LaidPdus) -> Result<Times, Memory>
+        ensures info { self.new.info ≡ self.old.info }
+        ensures err { OnErr result (self.new ≡ self.old) }
+        ensures count { OnOk result (length pdus.new ≡ self.old.info.bn) }
+        ensures laid { (info : BigInfo) (calls : List Call) (air : Air) → StandsFor info calls air self.old
+            → IfOk result (λ stale. (begun : ℕ) × StandsFor info (lay anchor ∷ calls)
+            (record { event = record { pdus = pdus.new; stale = stale }; begun = begun } ∷ air) self.new) }
+    {
+        self.pack_next_in(anchor, pdus)
+    }
+
+    fn pack_next_in(&mut self, anchor: u64, pdus: &mut LaidPdus) -> Result<Times, Memory>
+        ensures info { self.new.info ≡ self.old.info }
+        ensures err { OnErr result (self.new ≡ self.old) }
+        ensures count { OnOk result (length pdus.new ≡ self.old.info.bn) }
+        ensures laid { (units : List Timed) (earlier : List Act) → self.old.units ≡ drop (done earlier) units
+            → self.old.sent ≡ sent_by earlier
+            → room self.old.info.max_pdu earlier ≡ self.old.info.max_pdu
+            → IfOk result (λ stale. (own : List Act) × IsEvent self.old.info units anchor earlier own
+            × (event_of units anchor earlier (ends ∷ own) ≡ record { pdus = pdus.new; stale = stale })
+            × (self.new ≡ record self.old { units = drop (done (own ++ earlier)) units; sent = sent_by (own ++ earlier) })) }
+    {
+        let mut packing = self.packing();
+        pack_pdus(&self.group, &self.queue, anchor, &mut packing, pdus)?;
+        Ok(self.take_packed(packing))
+    }
+
     fn pack_next(&mut self, anchor: u64) -> Result<EventLaid, Memory>
         ensures info { self.new.info ≡ self.old.info }
         ensures err { OnErr result (self.new ≡ self.old) }
@@ -151,28 +182,55 @@ impl FramedOut {
             × (laid_in event ≡ event_of units anchor earlier (ends ∷ own))
             × (self.new ≡ record self.old { units = drop (done (own ++ earlier)) units; sent = sent_by (own ++ earlier) })) }
     {
-        let mut packing = Packing {
+        let mut laid = LaidPdus::new(self.alloc);
+        let mut packing = self.packing();
+        pack_pdus(&self.group, &self.queue, anchor, &mut packing, &mut laid)?;
+        let pdus = laid.copied()?;
+        let stale = self.take_packed(packing);
+        Ok(EventLaid { pdus, stale })
+    }
+
+    /// Takes what was laid out of the queue, and answers the times of the units that were left out.
+    fn take_packed(&mut self, packing: Packing) -> Times
+        requires { IsPartly packing.sent (drop packing.past self.old.units) }
+        ensures stale { result ≡ packing.stale }
+        ensures left { self.new ≡ record self.old { units = drop packing.past self.old.units; sent = packing.sent } }
+    {
+        pop_units(&mut self.queue, packing.past, &mut self.spares);
+        self.sent = packing.sent;
+        packing.stale
+    }
+
+    /// An event that begins to be laid.
+    fn packing(&self) -> Packing
+        ensures past { result.past ≡ 0 }
+        ensures sent { result.sent ≡ self.now.sent }
+        ensures stale { result.stale ≡ [] }
+    {
+        Packing {
             pdu: FramedPdu::new(self.group.info.max_pdu),
             past: 0,
             sent: self.sent,
             stale: Times::new(self.alloc),
-        };
-        let pdus = pack_pdus(self.alloc, &self.group, &self.queue, anchor, &mut packing)?;
-        pop_units(&mut self.queue, packing.past);
-        self.sent = packing.sent;
-        Ok(EventLaid {
-            pdus,
-            stale: packing.stale,
-        })
+        }
     }
 }
 
-/// Takes the first `count` units out of the queue.
-fn pop_units(queue: &mut VecDeque<Unit>, count: usize)
+/// Takes the first `count` units out of the queue, and keeps the memory of their octets.
+fn pop_units(queue: &mut VecDeque<Unit>, count: usize, spares: &mut SpareOctets)
     ensures { queue.new.items ≡ drop count queue.old.items }
 {
     'units: for _ in 0..count {
-        let _ = queue.pop_front();
+        pop_unit(queue, spares);
+    }
+}
+
+/// Takes the first unit out of the queue, where there is one, and keeps the memory of its octets.
+fn pop_unit(queue: &mut VecDeque<Unit>, spares: &mut SpareOctets)
+    ensures { queue.new.items ≡ drop 1 queue.old.items }
+{
+    if let Some(unit) = queue.pop_front() {
+        spares.keep(unit.octets);
     }
 }
 

@@ -8,6 +8,25 @@ use crate::place::Places;
 use crate::stream::Stream;
 use isoal_base::Heard;
 
+/// What a framed PDU would be answered under this payload number.
+pub(crate) fn answer_at(stream: &Stream, event: u64, places: &Places, number: u64) -> Heard
+    requires room { length places.now.ring.items ≡ window_of stream.now.group.info }
+    requires event { event ≤ 2 ^ 39 }
+    ensures { result ≡ placing stream.now.group.info event (kept_of places.now) number }
+{
+    let first = event * u64::from(stream.group.info.bn);
+    if number < first {
+        return Heard::Late;
+    }
+    if number >= first + stream.window() as u64 {
+        return Heard::Beyond;
+    }
+    if !places.is_empty((number - first) as usize) {
+        return Heard::Repeat;
+    }
+    Heard::Kept
+}
+
 /// Keeps a framed PDU under its payload number, if it is of the window and none of that number is kept.
 pub(crate) fn keep(
     stream: &Stream,

@@ -1,5 +1,5 @@
 //! How the PDUs of an event are filled.
-ghost use Rattle.std.specs.Prelude.{◌≡◌, ◌≤◌, ◌<◌, ◌+◌, ◌-◌, ◌^◌, ◌++◌, ◌∷◌, [], List, ℕ, true, false, length, drop, slice_get, option_copied, IsSome, IfOk};
+ghost use Rattle.std.specs.Prelude.{◌≡◌, ◌≤◌, ◌<◌, ◌+◌, ◌-◌, ◌^◌, ◌∷◌, [], List, true, false, length, drop, slice_get, option_copied, IsSome, IfOk, OnOk};
 ghost use Rattle.iso_pdu.specs.State.Packing.{room_in};
 ghost use Rattle.isoal_framed.specs.Air.{pdus_ended};
 ghost use Rattle.isoal_framed.specs.Calls.{Timed};
@@ -8,10 +8,10 @@ ghost use Rattle.isoal_framed.specs.State.Packings.{Carried, Placed};
 ghost use Rattle.isoal_framed.specs.State.Senders.{Going, IsPartly};
 
 use crate::next::{Next, next_act};
-use bcast_base::{EventPdus, Memory, Octets, Times, Unit};
+use bcast_base::{Memory, Times, Unit};
 use big_info::Group;
 use iso_pdu::FramedPdu;
-use std::alloc::Global;
+use isoal_base::LaidPdus;
 use std::collections::VecDeque;
 
 /// An event that is being laid: the PDU that is filled, how many units of the queue are wholly sent or left out, how many
@@ -84,56 +84,55 @@ fn carry(unit: &Unit, anchor: u64, count: usize, complete: bool, packing: &mut P
     }
 }
 
-/// Fills a PDU, and answers its octets.
+/// Fills a PDU, and puts it behind the others.
 pub(crate) fn pack_pdu(
-    alloc: Global,
     max_pdu: u8,
     queue: &VecDeque<Unit>,
     anchor: u64,
     packing: &mut Packing,
-) -> Result<Octets, Memory>
+    pdus: &mut LaidPdus,
+) -> Result<(), Memory>
     requires max_pdu { max_pdu ≤ 251 }
     requires within { packing.old.past ≤ length queue.now.items }
     requires partly { IsPartly packing.old.sent (drop packing.old.past queue.now.items) }
     ensures within { packing.new.past ≤ length queue.now.items }
     ensures partly { IsPartly packing.new.sent (drop packing.new.past queue.now.items) }
-    ensures packed { (units : List Timed) (earlier acts : List Act) (pdus : List (List ℕ)) → queue.now.items ≡ drop (done earlier) units
-        → Going max_pdu units anchor earlier acts packing.old.past packing.old.sent max_pdu [] pdus packing.old.stale
-        → IfOk result (λ pdu. (own : List Act) × (pdus_ended own ≡ pdus_ended acts)
-        × Going max_pdu units anchor earlier (ends ∷ own) packing.new.past packing.new.sent max_pdu []
-        (pdus ++ pdu ∷ []) packing.new.stale) }
+    ensures count { OnOk result (length pdus.new ≡ length pdus.old + 1) }
+    ensures packed { (units : List Timed) (earlier acts : List Act) → queue.now.items ≡ drop (done earlier) units
+        → Going max_pdu units anchor earlier acts packing.old.past packing.old.sent max_pdu [] pdus.old packing.old.stale
+        → OnOk result ((own : List Act) × (pdus_ended own ≡ pdus_ended acts)
+        × Going max_pdu units anchor earlier (ends ∷ own) packing.new.past packing.new.sent max_pdu [] pdus.new packing.new.stale) }
 {
     packing.pdu = FramedPdu::new(max_pdu);
     'acts: while put_next(queue, anchor, packing)? {}
     let mut octets = [0u8; 253];
     let count = packing.pdu.write(&mut octets);
-    Octets::copy(alloc, &octets[..count])
+    pdus.push(&octets[..count])
 }
 
-/// Fills the PDUs of an event, one behind the other.
+/// Fills the PDUs of an event, one behind the other, in the place of others.
 pub(crate) fn pack_pdus(
-    alloc: Global,
     group: &Group,
     queue: &VecDeque<Unit>,
     anchor: u64,
     packing: &mut Packing,
-) -> Result<EventPdus, Memory>
+    pdus: &mut LaidPdus,
+) -> Result<(), Memory>
     requires within { packing.old.past ≤ length queue.now.items }
     requires partly { IsPartly packing.old.sent (drop packing.old.past queue.now.items) }
     ensures within { packing.new.past ≤ length queue.now.items }
     ensures partly { IsPartly packing.new.sent (drop packing.new.past queue.now.items) }
-    ensures count { IfOk result (λ pdus. length pdus ≡ group.now.info.bn) }
+    ensures count { OnOk result (length pdus.new ≡ group.now.info.bn) }
     ensures packed { (units : List Timed) (earlier : List Act) → queue.now.items ≡ drop (done earlier) units
         → Going group.now.info.max_pdu units anchor earlier [] packing.old.past packing.old.sent group.now.info.max_pdu [] []
         packing.old.stale
-        → IfOk result (λ pdus. (own : List Act) × (pdus_ended (ends ∷ own) ≡ group.now.info.bn)
+        → OnOk result ((own : List Act) × (pdus_ended (ends ∷ own) ≡ group.now.info.bn)
         × Going group.now.info.max_pdu units anchor earlier
-        (ends ∷ own) packing.new.past packing.new.sent group.now.info.max_pdu [] pdus packing.new.stale) }
+        (ends ∷ own) packing.new.past packing.new.sent group.now.info.max_pdu [] pdus.new packing.new.stale) }
 {
-    let mut pdus = EventPdus::new(alloc);
+    pdus.clear();
     'pdus: for _ in 0..group.info.bn {
-        let pdu = pack_pdu(alloc, group.info.max_pdu, queue, anchor, packing)?;
-        pdus.push(pdu)?;
+        pack_pdu(group.info.max_pdu, queue, anchor, packing, pdus)?;
     }
-    Ok(pdus)
+    Ok(())
 }

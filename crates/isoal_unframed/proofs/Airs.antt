@@ -7,7 +7,7 @@ use Rattle.isoal_unframed.proofs.Events.{next_event_is}
 use Rattle.isoal_base.specs.Air.{Laid}
 use Rattle.isoal_unframed.specs.Air.{unframed_air}
 use Rattle.isoal_unframed.specs.Calls.{Call, accept, lay, accepted, begun, lays}
-use Rattle.isoal_unframed.specs.State.Sender.{Sender, StandsFor, after_event, event_pdus, with_unit}
+use Rattle.isoal_unframed.specs.State.Sender.{IsSender, Sender, StandsFor, after_event, event_pdus, with_unit}
 
 -- no more units have their slot than were accepted
 pub begun_within : (info : BigInfo) (calls : List Call) → begun info calls ≤ length (accepted calls)
@@ -54,3 +54,14 @@ newest_is info calls sender event whole stands is =
     is ∙ ap (λ i. record { pdus = event_pdus i sender.waiting; stale = [] }) stands.group in
     let bn : info.bn ≡ per_event_of info * per_unit_of info = rw (sym stands.group) whole in
     ap (λ (e : Laid). record { event = e; begun = begun info (lay ∷ calls) } ∷ unframed_air info calls) (next_event_is info calls sender bn stands ∙ sym now)
+
+pub laid_event : (event : Laid) (pdus : List (List ℕ)) → event.pdus ≡ pdus → event.stale ≡ [] → event ≡ record { pdus = pdus; stale = [] }
+laid_event event pdus pdus_are none =
+    ap (λ (own : List (List ℕ)). record { pdus = own; stale = event.stale }) pdus_are ∙ ap (λ (times : List ℕ). record { pdus = pdus; stale = times }) none
+
+-- no more units wait behind those that are taken
+pub sender_left : (info : BigInfo) (n : ℕ) (units left : List (List ℕ)) → IsSender info units → left ≡ drop n units → IsSender info left
+sender_left info n units left is rest = record {
+  unframed = is.unframed;
+  few = let count : length left ≡ length units - n = ap length rest ∙ length-drop n units in omega (arith, is.few);
+}

@@ -1,29 +1,27 @@
 //! The PDUs of the slots of an event.
-ghost use Rattle.std.specs.Prelude.{◌≡◌, ◌≤◌, ◌++◌, length, slice_get, option_copied, IfOk, OnOk};
+ghost use Rattle.std.specs.Prelude.{◌≡◌, ◌≤◌, ◌++◌, take, slice_get, option_copied, OnOk};
 ghost use Rattle.big_info.specs.Schedule.{per_unit_of};
-ghost use Rattle.iso_pdu.specs.Layout.{fragment as a_fragment, end as an_end};
-ghost use Rattle.iso_pdu.specs.Spelling.{pdu as spelled};
 ghost use Rattle.isoal_unframed.specs.State.Sender.{Begins, event_pdus, slot_pdus};
 
-use bcast_base::{EventPdus, Memory, Octets};
+use bcast_base::{Memory, Octets};
 use big_info::Group;
 use iso_pdu::{write_end, write_fragment};
-use std::alloc::Global;
+use isoal_base::LaidPdus;
 use std::collections::VecDeque;
 
-/// The PDUs of the next event: each of its slots takes the next unit that waits.
+/// Lays the PDUs of the next event in the place of others: each of its slots takes the next unit that waits.
 pub(crate) fn lay_slots(
-    alloc: Global,
     group: &Group,
     waiting: &VecDeque<Octets>,
-) -> Result<EventPdus, Memory>
-    ensures { IfOk result (λ pdus. pdus ≡ event_pdus group.now.info waiting.now.items) }
+    pdus: &mut LaidPdus,
+) -> Result<(), Memory>
+    ensures { OnOk result (pdus.new ≡ event_pdus group.now.info waiting.now.items) }
 {
-    let mut pdus = EventPdus::new(alloc);
+    pdus.clear();
     'slots: for slot in 0..group.per_event() as usize {
-        lay_slot(alloc, group, unit_of(waiting, slot), &mut pdus)?;
+        lay_slot(group, unit_of(waiting, slot), pdus)?;
     }
-    Ok(pdus)
+    Ok(())
 }
 
 /// The unit that waits at this place of the queue.
@@ -34,61 +32,38 @@ fn unit_of(waiting: &VecDeque<Octets>, place: usize) -> Option<&[u8]>
 }
 
 /// Lays the PDUs of a slot: full fragments, the end, and then padding; padding alone where there is no unit.
-fn lay_slot(
-    alloc: Global,
-    group: &Group,
-    unit: Option<&[u8]>,
-    pdus: &mut EventPdus,
-) -> Result<(), Memory>
+fn lay_slot(group: &Group, unit: Option<&[u8]>, pdus: &mut LaidPdus) -> Result<(), Memory>
     ensures { OnOk result (pdus.new ≡ pdus.old ++ slot_pdus group.now.info.max_pdu (per_unit_of group.now.info)
         (option_copied unit.entry)) }
 {
     let mut left = unit;
+    let mut room = [0u8; 253];
     'places: for _ in 0..group.per_unit() {
-        let (pdu, rest) = next_pdu(alloc, group.info.max_pdu, left)?;
-        pdus.push(pdu)?;
+        let (count, rest) = write_next(group.info.max_pdu, left, &mut room);
+        pdus.push(&room[..count])?;
         left = rest;
     }
     Ok(())
 }
 
-/// The next PDU of a slot of which `left` isn't laid yet, and what is left behind it.
-fn next_pdu<'a>(
-    alloc: Global,
+/// Writes the next PDU of a slot of which `left` isn't laid yet, and answers how many octets it has and what is left behind it.
+fn write_next<'a>(
     max_pdu: u8,
     left: Option<&'a [u8]>,
-) -> Result<(Octets, Option<&'a [u8]>), Memory>
+    room: &mut [u8; 253],
+) -> (usize, Option<&'a [u8]>)
     requires least { 1 ≤ max_pdu }
     requires greatest { max_pdu ≤ 251 }
-    ensures { IfOk result (λ next. Begins max_pdu (option_copied left.entry) next.0 (option_copied next.1)) }
+    ensures count { result.0 ≤ 253 }
+    ensures begins { Begins max_pdu (option_copied left.entry) (take result.0 room.new) (option_copied result.1) }
 {
     let Some(octets) = left else {
-        return Ok((fragment(alloc, &[])?, None));
+        return (write_fragment(&[], room), None);
     };
-    let room = usize::from(max_pdu);
-    if octets.len() <= room {
-        return Ok((end(alloc, octets)?, None));
+    let most = usize::from(max_pdu);
+    if octets.len() <= most {
+        return (write_end(octets, room), None);
     }
-    let (part, rest) = octets.split_at(room);
-    Ok((fragment(alloc, part)?, Some(rest)))
-}
-
-/// The PDU of a fragment of at most 251 octets.
-fn fragment(alloc: Global, part: &[u8]) -> Result<Octets, Memory>
-    requires { length part.now ≤ 251 }
-    ensures { IfOk result (λ octets. octets ≡ spelled (a_fragment part.now)) }
-{
-    let mut room = [0u8; 253];
-    let count = write_fragment(part, &mut room);
-    Octets::copy(alloc, &room[..count])
-}
-
-/// The PDU of an end of at most 251 octets.
-fn end(alloc: Global, part: &[u8]) -> Result<Octets, Memory>
-    requires { length part.now ≤ 251 }
-    ensures { IfOk result (λ octets. octets ≡ spelled (an_end part.now)) }
-{
-    let mut room = [0u8; 253];
-    let count = write_end(part, &mut room);
-    Octets::copy(alloc, &room[..count])
+    let (part, rest) = octets.split_at(most);
+    (write_fragment(part, room), Some(rest))
 }

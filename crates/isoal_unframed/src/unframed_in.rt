@@ -10,7 +10,7 @@ ghost use Rattle.isoal_unframed.specs.State.Windows.{Stands, after_hear, after_c
 
 use crate::ring::Ring;
 use crate::stream::Stream;
-use crate::window::{hand_event, held, keep};
+use crate::window::{answer_at, hand_event, held, keep};
 use bcast_base::{Bis, Memory};
 use big_info::Group;
 use iso_pdu::{Pdu, read_pdu};
@@ -98,6 +98,18 @@ impl UnframedIn {
         ensures stands { (calls : List Call) → Stands calls self.old → Stands (hear number pdu.now ∷ calls) self.new }
     {
         self.take_in(number, pdu)
+    }
+
+    /// What `hear` would answer.
+    pub fn would_answer(&self, number: u64, pdu: &[u8]) -> Heard
+        ensures { result ≡ answer_of unframed self.now.stay.info self.now.event self.now.kept number pdu.now }
+    {
+        match read_pdu(pdu, self.stream.group.info.max_pdu) {
+            Err(fault) => Heard::Malformed(fault),
+            Ok(Pdu::Fragment(_)) => answer_at(&self.stream, self.event, &self.ring, number),
+            Ok(Pdu::End(_)) => answer_at(&self.stream, self.event, &self.ring, number),
+            Ok(_) => Heard::WrongKind,
+        }
     }
 
     /// Hands the units of the open event to the taker, and opens the next event. After a fault of the taker the event is

@@ -1,4 +1,4 @@
-ghost use Rattle.std.specs.Prelude.{◌≡◌, ◌≤◌, ◌*◌, ◌∷◌, List, [], length, drop, IfOk, IfErr, OnOk, OnErr};
+ghost use Rattle.std.specs.Prelude.{◌≡◌, ◌*◌, ◌∷◌, List, [], length, drop, IfOk, IfErr, OnOk, OnErr};
 ghost use Rattle.big_info.specs.Schedule.{per_event_of, per_unit_of};
 ghost use Rattle.big_info.specs.declared.info.BigInfo.{BigInfo};
 ghost use Rattle.isoal_unframed.specs.Air.{unframed_air};
@@ -7,9 +7,9 @@ ghost use Rattle.isoal_base.specs.Air.{laid_in};
 ghost use Rattle.isoal_unframed.specs.State.Sender.{MayWait, PutFaultIs, StandsFor, after_event, event_pdus, with_unit};
 
 use crate::slots::lay_slots;
-use bcast_base::{EventPdus, Memory, Octets, Times};
+use bcast_base::{Memory, Octets, Times};
 use big_info::Group;
-use isoal_base::{EventLaid, PutFault};
+use isoal_base::{EventLaid, LaidPdus, PutFault, SpareOctets};
 use std::alloc::Global;
 use std::collections::VecDeque;
 use std::marker::Model;
@@ -24,16 +24,17 @@ pub struct UnframedOut {
     alloc: Global,
     group: Group,
     waiting: VecDeque<Octets>,
-    ghost unframed: { group.info.framing ≡ 0 },
-    ghost few: { length waiting.items ≤ 16 },
+    spares: SpareOctets,
 }
 
 impl Model for UnframedOut {
-    ghost use Rattle.isoal_unframed.specs.State.Sender.{Sender};
+    ghost use Rattle.isoal_unframed.specs.State.Sender.{IsSender, Sender};
 
     ghost Value = { Sender };
 
     ghost view = { λ s. record { info = s.group.info; waiting = s.waiting.items } };
+
+    ghost invariant = { λ s. IsSender s.group.info s.waiting.items };
 }
 
 impl UnframedOut {
@@ -47,6 +48,7 @@ impl UnframedOut {
             alloc,
             group: *group,
             waiting: VecDeque::new(alloc),
+            spares: SpareOctets::new(alloc),
         }
     }
 
@@ -76,7 +78,7 @@ impl UnframedOut {
         if self.waiting.len() >= BACKLOG {
             return Err(PutFault::Backlog);
         }
-        self.waiting.push_back(Octets::copy(self.alloc, octets)?)?;
+        self.waiting.push_back(self.spares.copy(octets)?)?;
         Ok(())
     }
 
@@ -96,32 +98,73 @@ impl UnframedOut {
         self.lay_next()
     }
 
+    /// Lays the next event as `lay_event` does, its PDUs in the place of others, and answers the times of the units that were left
+    /// out of it: none. Want of memory changes nothing but the PDUs.
+    pub fn lay_event_in(&mut self, pdus: &mut LaidPdus) -> Result<Times, Memory>
+        ensures ok { IfOk result (λ stale. (pdus.new ≡ event_pdus self.old.info self.old.waiting) × (stale ≡ [])
+            × (self.new ≡ after_event self.old)) }
+        ensures err { OnErr result (self.new ≡ self.old) }
+        ensures count { OnOk result (length pdus.new ≡ self.old.info.bn) }
+        ensures stands { OnOk result ((info : BigInfo) (calls : List Call) → StandsFor info calls self.old
+            → StandsFor info (lay ∷ calls) self.new) }
+        ensures laid { IfOk result (λ stale. (info : BigInfo) (calls : List Call) → StandsFor info calls self.old
+            → unframed_air info (lay ∷ calls) ≡ record {
+              event = record { pdus = pdus.new; stale = stale };
+              begun = begun info (lay ∷ calls);
+            } ∷ unframed_air info calls) }
+    {
+        self.lay_next_in(pdus)
+    }
+
+    fn lay_next_in(&mut self, pdus: &mut LaidPdus) -> Result<Times, Memory>
+        ensures whole { self.old.info.bn ≡ per_event_of self.old.info * per_unit_of self.old.info }
+        ensures ok { IfOk result (λ stale. (pdus.new ≡ event_pdus self.old.info self.old.waiting) × (stale ≡ [])
+            × (self.new ≡ after_event self.old)) }
+        ensures err { OnErr result (self.new ≡ self.old) }
+    {
+        lay_slots(&self.group, &self.waiting, pdus)?;
+        self.pop_slots();
+        Ok(Times::new(self.alloc))
+    }
+
     fn lay_next(&mut self) -> Result<EventLaid, Memory>
         ensures whole { self.old.info.bn ≡ per_event_of self.old.info * per_unit_of self.old.info }
         ensures ok { IfOk result (λ event. (laid_in event ≡ record { pdus = event_pdus self.old.info self.old.waiting; stale = [] })
             × (self.new ≡ after_event self.old)) }
         ensures err { OnErr result (self.new ≡ self.old) }
     {
-        let pdus = self.next_pdus()?;
-        pop_units(&mut self.waiting, self.group.per_event());
+        let mut laid = LaidPdus::new(self.alloc);
+        lay_slots(&self.group, &self.waiting, &mut laid)?;
+        let pdus = laid.copied()?;
+        self.pop_slots();
         Ok(EventLaid {
             pdus,
             stale: Times::new(self.alloc),
         })
     }
 
-    fn next_pdus(&self) -> Result<EventPdus, Memory>
-        ensures { IfOk result (λ pdus. pdus ≡ event_pdus self.now.info self.now.waiting) }
+    /// Takes the units out of the queue that the slots of an event took.
+    fn pop_slots(&mut self)
+        ensures { self.new ≡ after_event self.old }
     {
-        lay_slots(self.alloc, &self.group, &self.waiting)
+        pop_units(&mut self.waiting, self.group.per_event(), &mut self.spares);
     }
 }
 
-/// Takes the first `count` units out of the queue, or all where there are fewer.
-fn pop_units(waiting: &mut VecDeque<Octets>, count: u32)
+/// Takes the first `count` units out of the queue, or all where there are fewer, and keeps their memory.
+fn pop_units(waiting: &mut VecDeque<Octets>, count: u32, spares: &mut SpareOctets)
     ensures { waiting.new.items ≡ drop count waiting.old.items }
 {
     'units: for _ in 0..count {
-        let _ = waiting.pop_front();
+        pop_unit(waiting, spares);
+    }
+}
+
+/// Takes the first unit out of the queue, where there is one, and keeps its memory.
+fn pop_unit(waiting: &mut VecDeque<Octets>, spares: &mut SpareOctets)
+    ensures { waiting.new.items ≡ drop 1 waiting.old.items }
+{
+    if let Some(unit) = waiting.pop_front() {
+        spares.keep(unit);
     }
 }

@@ -48,6 +48,27 @@ pub(crate) fn keep(
     Heard::Kept
 }
 
+/// What a part would be answered under this payload number.
+pub(crate) fn answer_at(stream: &Stream, event: u64, ring: &Ring, number: u64) -> Heard
+    requires room { vec_len ring.now.cells ≡ window_of stream.now.group.info }
+    requires event { event ≤ 2 ^ 39 }
+    ensures { result ≡ placing stream.now.group.info event
+        (turned (place_of stream.now.group.info event) (kept_of ring.now)) number }
+{
+    let first = event * u64::from(stream.group.info.bn);
+    if number < first {
+        return Heard::Late;
+    }
+    if number >= first + stream.window() as u64 {
+        return Heard::Beyond;
+    }
+    let place = stream.place_at(event, (number - first) as usize);
+    if !ring.is_empty(place) {
+        return Heard::Repeat;
+    }
+    Heard::Kept
+}
+
 /// Hands the units of an event, in the order of its slots.
 pub(crate) fn hand_event<T: UnitTaker>(
     stream: &Stream,

@@ -1,4 +1,4 @@
-ghost use Rattle.std.specs.Prelude.{◌≡◌, ◌≤◌, ◌<◌, ◌+◌, ◌-◌, ◌%◌, ◌^◌, ◌∷◌, [], List, Some, None, is_some, IfOk, IfErr, IfSome, OnOk, OnErr};
+ghost use Rattle.std.specs.Prelude.{◌≡◌, ◌≤◌, ◌<◌, ◌+◌, ◌-◌, ◌%◌, ◌^◌, ◌∷◌, [], List, Some, None, false, is_some, IfOk, IfErr, IfSome, OnOk, OnErr};
 ghost use Rattle.std.specs.Option.{option_map};
 ghost use Rattle.announcement_train.specs.Layout.{IsTrain};
 ghost use Rattle.iso_pdu.specs.Control.{terminate};
@@ -118,7 +118,7 @@ impl Broadcast {
     /// The PDU of a stream that was sent in a subevent, from 0, of the event `back` events before the last one.
     ///
     /// The first refusal that holds is answered: NoSuchBis and NoSuchSubevent where the group has no such stream or
-    /// subevent, NotOnAir where fewer than `back` + 1 events were performed.
+    /// subevent, NotOnAir where fewer than `back` + 1 events were performed, or the source has failed.
     pub fn heard_at(&self, back: u8, bis: Bis, subevent: u8) -> Result<&[u8], AirFault>
         requires { back ≤ 31 }
         ensures ok { IfOk result (λ pdu. (calls : List Call) (airs : List StreamAir) → StandsFor calls self.now
@@ -127,6 +127,7 @@ impl Broadcast {
             × (pdu_of self.now.setup airs (next_of self.now.setup calls - 1 - back) bis subevent ≡ Some pdu.now)) }
         ensures err { IfErr result (λ fault. (calls : List Call) → StandsFor calls self.now
             → air_fault self.now.setup calls back bis subevent ≡ Some fault) }
+        ensures works { OnOk result (self.now.failed ≡ false) }
         ensures checked { IsChecked self.now.setup.info }
     {
         self.source.heard_at(back, bis, subevent)

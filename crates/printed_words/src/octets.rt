@@ -6,7 +6,7 @@ ghost use Rattle.printed_words.specs.Digits.{digits};
 use bcast_base::{Memory, Octets};
 
 /// The most octets that are put at once as digits.
-const CHUNK: usize = 256;
+const CHUNK: usize = 128;
 
 /// The lower-case digit of a number below 16.
 fn digit(number: u8) -> u8
@@ -31,9 +31,9 @@ fn write_digits(octets: &[u8], digits: &mut [u8])
     }
 }
 
-/// At most 256 octets in lower-case digits.
+/// At most 128 octets in lower-case digits.
 fn put_chunk(text: &mut Octets, octets: &[u8]) -> Result<(), Memory>
-    requires { length octets.now ≤ 256 }
+    requires { length octets.now ≤ 128 }
     ensures ok { OnOk result (text.new ≡ text.old ++ encode_lower octets.now) }
     ensures err { OnErr result (text.new ≡ text.old) }
 {

@@ -1,4 +1,5 @@
 mod GeneratedText
+mod Comings
 mod EndLines
 mod SinkOutputs
 mod Outputs

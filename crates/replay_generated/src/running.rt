@@ -8,8 +8,10 @@ ghost use Rattle.scenario_history.specs.Lines.{steps_of};
 ghost use Rattle.source_machine.specs.Airs.{airs_of};
 ghost use Rattle.replay_steps.specs.Untaken.{UntakenSame};
 ghost use Rattle.replay_generated.specs.State.Between.{Counted, Ran, Refuses, RunTo, LineRuns};
+ghost use Rattle.replay_generated.specs.State.Comings.{IsComing, IsInRange};
 ghost use Rattle.replay_steps.specs.Untaken.{UntakenRun};
 
+use crate::coming::{Coming, next_of, run_coming};
 use bcast_base::{Memory, Octets};
 use replay_steps::Machine;
 use scenario_writing::Lines;
@@ -53,13 +55,15 @@ pub(crate) fn run_lines(
     let mut text = Octets::new(alloc);
     let mut number: u64 = 0;
     'lines: loop {
-        match lines.next_line(&mut line) {
+        let coming = match next_of(alloc, &mut lines, &mut line) {
             Err(_) => return Ending::Memory,
-            Ok(false) => return Ending::Through,
-            Ok(true) => number += 1,
-        }
+            Ok(None) => return Ending::Through,
+            Ok(Some(coming)) => coming,
+        };
+        number += 1;
         match run_line(
             number,
+            coming,
             line.as_slice(),
             &mut machine,
             &mut text,
@@ -72,26 +76,28 @@ pub(crate) fn run_lines(
     }
 }
 
-/// Runs the line of this number, and counts what it prints: how the run ends, where it is the last.
+/// Runs the line of this number, which comes so, and counts what it prints: how the run ends, where it is the last.
 fn run_line(
     number: u64,
+    coming: Coming,
     line: &[u8],
     machine: &mut Machine,
     text: &mut Octets,
     counts: &mut Counts,
     outlets: &mut Vec<Box<dyn Outlet>>,
 ) -> Option<Ending>
-    requires { length line.now < 2 ^ 64 }
-    ensures runs { (starts : List Account) (lines : List TextLine) → number ≡ length lines + 1
-        → RunTo starts lines counts.old machine.old (map account outlets.old.items)
-        → LineRuns starts lines (plain line.now) counts.new machine.new (map account outlets.old.items)
+    requires fits { length line.now < 2 ^ 64 }
+    requires in_range { IsInRange coming }
+    ensures runs { (starts : List Account) (lines : List TextLine) (made : List ℕ) → number ≡ length lines + 1
+        → IsComing coming line.now made → RunTo starts lines counts.old machine.old (map account outlets.old.items)
+        → LineRuns starts lines (plain made) counts.new machine.new (map account outlets.old.items)
         (map account outlets.new.items) result }
     ensures untaken { (starts : List Account) (lines : List TextLine)
         → RunTo starts lines counts.old machine.old (map account outlets.old.items)
         → UntakenSame (steps_of airs_of lines) outlets.old.items outlets.new.items }
 {
     text.clear();
-    match machine.line(line, outlets, text) {
+    match run_coming(machine, coming, line, outlets, text) {
         Ok(()) => count(text, counts),
         Err(Stop::Refused(reason)) => Some(refuse(number, reason, text, counts)),
         Err(Stop::OutletFault) => Some(Ending::OutletFault),

@@ -21,7 +21,7 @@ use Rattle.scenario_text.specs.declared.step.Step.{Step}
 use Rattle.scenario_text.specs.declared.step.Step.TheVariants.{Air, Hear, Inject, Sniff}
 use Rattle.scenario_history.specs.Steps.{chosen_of, chosen_steps, running, sinks_made, stage_of}
 use Rattle.scenario_history.specs.Source.{event_back, is_heard, pdu_in, performed, setup_of, source_calls}
-use Rattle.scenario_history.specs.Sinks.{Spot, hear_at, heard_on_air, is_lost, reaches, sink_calls, source_of, spot_at, spots_of, unless_lost}
+use Rattle.scenario_history.specs.Sinks.{hear_at, heard_on_air, is_lost, reaches, sink_calls, source_of, spot_at, spots_of, unless_lost}
 use Rattle.scenario_history.specs.Boxes.{box_of}
 use Rattle.scenario_history.specs.Output.{injected_hearing}
 use Rattle.scenario_history.specs.Worlds.{life}
@@ -284,14 +284,13 @@ heard_next steps n lose i source event bis subevent pdu sinks o kept lives chose
     }) (subst S s (subst B b heard)))
 
 -- what was computed of a spot is what is said of it
-pub lost_as : (steps : List Step) (n event lose i nse nse2 : ℕ) (r b : Bool) (group : Group) → OnAir steps n event group → nse ≡ group.info.nse → nse2 ≡ group.info.nse
-    → (let spot : Spot = record { bis = i / nse + 1; subevent = i % nse2 } in r ≡ is_lost group.info event lose spot) → r ≡ b
+pub lost_at : (steps : List Step) (n event lose i : ℕ) (r b : Bool) (group : Group) → OnAir steps n event group
+    → r ≡ is_lost group.info event lose (spot_at group.info i) → r ≡ b
     → is_lost (setup_of (chosen_steps steps)).info (event_back (chosen_steps steps) 0) lose (spot_at (setup_of (chosen_steps steps)).info i) ≡ b
-lost_as steps n event lose i nse nse2 r b group on p q is e =
+lost_at steps n event lose i r b group on is e =
     let own : List Step = chosen_steps steps in
-    let at : ℕ → ℕ → Spot = λ k l. record { bis = i / k + 1; subevent = i % l } in
-    sym (is ∙ ap (λ k. is_lost group.info event lose (at k nse2)) p ∙ ap (λ k. is_lost group.info event lose (at group.info.nse k)) q
-    ∙ ap (λ (info : BigInfo). is_lost info event lose (spot_at info i)) on.info ∙ ap (λ d. is_lost (setup_of own).info d lose (spot_at (setup_of own).info i)) on.event_is) ∙ e
+    sym (is ∙ ap (λ (info : BigInfo). is_lost info event lose (spot_at info i)) on.info
+    ∙ ap (λ d. is_lost (setup_of own).info d lose (spot_at (setup_of own).info i)) on.event_is) ∙ e
 
 pub no_place_there : (own : List Step) (bis subevent : ℕ) (stop : Stop) → bis ≤ (setup_of own).info.num_bis → subevent < (setup_of own).info.nse → 0 < performed own
     → NoPlace own 0 bis subevent stop → ⊥

@@ -1,7 +1,9 @@
+pub mod Asked
 pub mod Citable
 pub mod Stepping
 pub mod SinkLines
 pub mod Airing
+pub mod Spots
 pub mod Closing
 pub mod Ending
 pub mod StepLaws

@@ -3,11 +3,11 @@ use Rattle.std.proofs.Common.{◌≡◌, ℕ, ◌==◌, List, [], ◌∷◌, tru
 use Rattle.std.specs.Option.{option_or}
 use Rattle.source_machine.specs.Airs.{airs_of}
 use Rattle.big_info.specs.declared.info.BigInfo.{BigInfo}
-use Rattle.delegator_machine.specs.Groups.{tuning_of as tuning_to}
+use Rattle.delegator_machine.specs.Groups.{by_numbers}
 use Rattle.delegator_history.specs.Announced.{numbers_alone}
 use Rattle.delegator_history.specs.LastGiven.{last_given}
-use Rattle.delegator_history.specs.Trains.{Joining}
-use Rattle.group_sink.specs.Calls.{Tuning, tune}
+use Rattle.sync_reference.specs.Joining.{Joining}
+use Rattle.group_sink.specs.Calls.{tune}
 use Rattle.transcript_text.specs.declared.refusal.Refusal.{Refusal}
 use Rattle.transcript_text.specs.declared.refusal.Refusal.TheVariants.{NoSuchBis, Order}
 use Rattle.transcript_text.specs.declared.stop.Stop.{Stop}
@@ -16,7 +16,6 @@ use Rattle.scenario_text.specs.declared.step.Step.{Step}
 use Rattle.scenario_text.specs.declared.step.Step.TheVariants.{End, Group, Scenario, Sink, Source, Tuned}
 use Rattle.scenario_history.specs.Steps.{Stage, chosen_of, chosen_steps, running, stage_after, stage_of, version_at}
 use Rattle.scenario_history.specs.Source.{group_of, no_group, setup_of, takes_units}
-use Rattle.scenario_history.specs.Sinks.{tuning_of}
 use Rattle.scenario_history.specs.Boxes.{box_of}
 use Rattle.scenario_history.specs.Worlds.{joining_on}
 use Rattle.sink_history.specs.Lives.{Made, horizon_of, version_given, horizon_in}
@@ -212,30 +211,27 @@ plain_in : (own : List Step) → numbers_alone (unwrap_or (group_of own) no_grou
 plain_in [] = refl
 plain_in (step ∷ own) = plain_by step own (plain_in own)
 
--- the group that the source stands before, and the one that its receivers go by
-abbrev joined_by : Tuning → Joining
-joined_by tuning = record { info = tuning.info; which = tuning.which; first = tuning.first; anchor = tuning.anchor; delay = tuning.delay }
-
-tuned_to : (own : List Step) (which : ℕ) → tuning_of own which ≡ tuning_to (joining_on own which)
-tuned_to own which = ap (λ (info : BigInfo). record (tuning_of own which) { info = info }) (sym (plain_in own))
+-- the group that the source stands before is the one that its receivers go by
+tuned_to : (own : List Step) (which : ℕ) → joining_on own which ≡ by_numbers (joining_on own which)
+tuned_to own which = ap (λ (info : BigInfo). record (joining_on own which) { info = info }) (sym (plain_in own))
 
 -- the sink is put on a group, and its receivers go by this one
-abbrev with_both : ℕ → ℕ → Joining → Tuning → Past → Past
+abbrev with_both : ℕ → ℕ → Joining → Joining → Past → Past
 with_both n source joining tuning past =
     record (with_tuning n source joining past) { received = λ m. if n == m then tune tuning ∷ past.received m else past.received m }
 
-pub tuned_meets : (boxes version n source which : ℕ) (steps : List Step) (tuning : Tuning) (old new : Machine) (r : Result (Unit {0}) Stop) → Stands steps old
-    → stage_of steps ≡ running version → takes_units (chosen_steps steps) ≡ true → source ≡ chosen_of steps → tuning ≡ tuning_of (chosen_steps steps) which
+pub tuned_meets : (boxes version n source which : ℕ) (steps : List Step) (tuning : Joining) (old new : Machine) (r : Result (Unit {0}) Stop) → Stands steps old
+    → stage_of steps ≡ running version → takes_units (chosen_steps steps) ≡ true → source ≡ chosen_of steps → tuning ≡ joining_on (chosen_steps steps) which
     → new.stage ≡ old.stage → new.sources ≡ old.sources → new.relays ≡ old.relays
-    → sinks.Tunes (not_tuned (box_of n steps) tuning.info.num_bis tuning.which) (past_of steps) (with_tuning n source (joined_by tuning) (past_of steps)) new.sinks r
+    → sinks.Tunes (not_tuned (box_of n steps) tuning.info.num_bis tuning.which) (past_of steps) (with_tuning n source tuning (past_of steps)) new.sinks r
     → Quiet boxes steps (Tuned n which) new r
 tuned_meets boxes version n source which steps tuning old new r stands e going chosen is stage same held a =
     let own : List Step = chosen_steps steps in
     let fault : phase_refusal airs_of boxes steps (Tuned n which) ≡ not_tuned (box_of n steps) tuning.info.num_bis tuning.which =
     rw (e, going) (ap (option_or (no_sink n steps)) (or_none (refuse_if (has_beyond (setup_of own).info.num_bis which) NoSuchBis))
-    ∙ ap (λ (t : Tuning). not_tuned (box_of n steps) t.info.num_bis t.which) (sym is)) in
-    sinks_meet boxes steps (Tuned n which) (not_tuned (box_of n steps) tuning.info.num_bis tuning.which) (with_tuning n source (joined_by tuning) (past_of steps)) old new r stands fault
+    ∙ ap (λ (t : Joining). not_tuned (box_of n steps) t.info.num_bis t.which) (sym is)) in
+    sinks_meet boxes steps (Tuned n which) (not_tuned (box_of n steps) tuning.info.num_bis tuning.which) (with_tuning n source tuning (past_of steps)) old new r stands fault
     (tuned_says n which) refl
-    (ap (λ (t : Tuning). with_both n (chosen_of steps) (joining_on own which) t (past_of steps)) (tuned_to own which)
+    (ap (λ (t : Joining). with_both n (chosen_of steps) (joining_on own which) t (past_of steps)) (tuned_to own which)
     ∙ ap (λ s. with_tuning n s (joining_on own which) (past_of steps)) (sym chosen)
-    ∙ ap (λ (t : Tuning). with_tuning n source (joined_by t) (past_of steps)) (sym is)) stage same refl held a
+    ∙ ap (λ (t : Joining). with_tuning n source t (past_of steps)) (sym is)) stage same refl held a

@@ -4,6 +4,7 @@ pub mod Failing
 pub mod Meets
 pub mod LineMeets
 pub mod Airing
+pub mod Spots
 pub mod Untaken
 pub mod Relaying
 pub mod Between

@@ -1,20 +1,21 @@
 //! The steps that bring PDUs of the air to the sinks and to the transcript.
-ghost use Rattle.std.specs.Prelude.{◌≡◌, ◌≤◌, ◌<◌, ◌+◌, ◌*◌, ◌^◌, ◌∷◌, ℕ, List};
+ghost use Rattle.std.specs.Prelude.{◌≡◌, ◌≤◌, ◌<◌, ◌+◌, ◌-◌, ◌*◌, ◌^◌, ◌∷◌, ℕ, List};
 ghost use Rattle.unit_outlets.specs.Account.{Account};
-ghost use Rattle.big_info.specs.Widths.{FitsWidths};
+ghost use Rattle.big_info.specs.declared.group.Group.{Group as Described};
 ghost use Rattle.scenario_text.specs.declared.step.Step.{Step};
 ghost use Rattle.scenario_text.specs.declared.step.Step.TheVariants.{Hear as HearStep, Air as AirStep, Inject as InjectStep, Sniff as SniffStep};
 ghost use Rattle.scenario_history.specs.Steps.{running, stage_of};
-ghost use Rattle.scenario_history.specs.Sinks.{is_lost as lost_by};
 ghost use Rattle.scenario_sources.specs.State.Standing.{SourcesStand};
 ghost use Rattle.scenario_sinks.specs.State.Standing.{SinksStand};
 ghost use Rattle.replay_steps.specs.Airing.{OnAir, Reaches, past_on_air};
 ghost use Rattle.replay_steps.specs.Machines.{Stands, past_of};
 ghost use Rattle.replay_steps.specs.Meets.{Quiet, Tells};
+ghost use Rattle.replay_steps.specs.Spots.{IsSpot};
 
 use crate::machine::Machine;
+use crate::spot::Spot;
 use bcast_base::{Bis, Octets};
-use big_info::{BigInfo, Group};
+use big_info::Group;
 use scenario_sinks::Sinks;
 use scenario_sources::{Place, Sources};
 use transcript_text::{Refusal, Stop, put_heard, put_pdu};
@@ -59,6 +60,7 @@ impl Machine {
     }
 
     /// `air`: hands a sink all PDUs of the last event but those that are lost.
+    #[inline(always)]
     pub(crate) fn air(&mut self, sink: u8, lose: u8) -> Result<(), Stop>
         requires { sink ≤ 7 }
         ensures { (boxes version : ℕ) (steps : List Step) → Stands steps self.old → stage_of steps ≡ running version
@@ -134,6 +136,7 @@ impl Machine {
 }
 
 /// Hands a sink the PDUs of the last event, by rising index and subevent, but those that are lost.
+#[tactic(auto, using(crate::proofs::Spots::stream_within, crate::proofs::Spots::subevent_within))]
 fn hear_all(sources: &Sources, sinks: &mut Sinks, sink: u8, group: &Group, event: u64, lose: u8)
     requires sink { sink ≤ 7 }
     requires event { event < 2 ^ 39 }
@@ -141,59 +144,39 @@ fn hear_all(sources: &Sources, sinks: &mut Sinks, sink: u8, group: &Group, event
         → SinksStand (past_of (AirStep sink lose ∷ steps)) sinks.new }
 {
     let count = u16::from(group.info.num_bis) * u16::from(group.info.nse);
-    'spots: for spot in 0..count {
-        hear_spot(sources, sinks, sink, group, event, spot, lose);
+    let mut spot = Spot::first(&group.info, event, lose);
+    'spots: for number in 0..count {
+        hear_spot(sources, sinks, sink, event, spot, lose);
+        spot = spot.next(group.info.nse, lose);
     }
 }
 
-/// Hands a sink the PDU at a spot of the last event, from 0, unless it is lost.
-fn hear_spot(
-    sources: &Sources,
-    sinks: &mut Sinks,
-    sink: u8,
-    group: &Group,
-    event: u64,
-    spot: u16,
-    lose: u8,
-)
+/// Hands a sink the PDU at a spot of the last event, unless it is lost.
+fn hear_spot(sources: &Sources, sinks: &mut Sinks, sink: u8, event: u64, spot: Spot, lose: u8)
     requires sink { sink ≤ 7 }
     requires event { event < 2 ^ 39 }
-    requires spot { spot < group.now.info.num_bis * group.now.info.nse }
-    ensures { (steps : List Step) → OnAir steps sink event group.now → SourcesStand steps sources.now
-        → SinksStand (past_on_air steps sink lose spot) sinks.old
-        → SinksStand (past_on_air steps sink lose (spot + 1)) sinks.new }
+    requires stream { spot.stream < 31 }
+    requires since { spot.since ≤ lose - 1 }
+    ensures { (steps : List Step) (group : Described) (n : ℕ) → n < group.info.num_bis * group.info.nse → IsSpot group.info event lose n spot
+        → OnAir steps sink event group → SourcesStand steps sources.now
+        → SinksStand (past_on_air steps sink lose n) sinks.old
+        → SinksStand (past_on_air steps sink lose (n + 1)) sinks.new }
 {
-    let stream = spot / u16::from(group.info.nse);
-    let subevent = spot % u16::from(group.info.nse);
-    if is_lost(&group.info, event, lose, stream, subevent) {
+    if spot.is_lost(lose) {
         return;
     }
-    let Some(bis) = Bis::new(stream as u8 + 1) else {
+    let Some(bis) = Bis::new(spot.stream + 1) else {
         return;
     };
     let place = Place {
         back: 0,
         bis,
-        subevent: subevent as u8,
+        subevent: spot.subevent,
     };
     match sources.heard_at(place) {
         Ok(pdu) => {
-            let _ = sinks.hear(sink, sources.chosen(), event, bis, subevent as u8, pdu);
+            let _ = sinks.hear(sink, sources.chosen(), event, bis, spot.subevent, pdu);
         }
         Err(_) => {}
     }
-}
-
-/// Whether the PDU of a stream, from 0, and a subevent is lost, where of each `lose` PDUs the last one is.
-fn is_lost(info: &BigInfo, event: u64, lose: u8, stream: u16, subevent: u16) -> bool
-    requires widths { FitsWidths info.now }
-    requires event { event < 2 ^ 39 }
-    ensures { result ≡ lost_by info.now event lose (record { bis = stream + 1; subevent = subevent }) }
-{
-    if lose == 0 {
-        return false;
-    }
-    let before = event * u64::from(info.num_bis) + u64::from(stream);
-    let count = before * u64::from(info.nse) + u64::from(subevent);
-    count % u64::from(lose) == u64::from(lose) - 1
 }

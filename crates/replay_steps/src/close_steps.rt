@@ -18,6 +18,7 @@ use unit_outlets::Outlet;
 
 impl Machine {
     /// `event`: closes the open event of the chosen source, performs the next one, and prints the units that it left out.
+    #[inline(always)]
     pub(crate) fn event(
         &mut self,
         outlets: &mut Vec<Box<dyn Outlet>>,

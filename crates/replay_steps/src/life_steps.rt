@@ -12,7 +12,6 @@ ghost use Rattle.replay_steps.specs.Versions.{number_of};
 use crate::machine::Machine;
 use crate::version::Version;
 use bcast_base::{BisSet, Octets};
-use scenario_sinks::Joining;
 use transcript_text::{Refusal, Stop};
 use unit_outlets::Outlet;
 
@@ -50,15 +49,8 @@ impl Machine {
         ensures { (boxes version : ℕ) (steps : List Step) → Stands steps self.old → stage_of steps ≡ running version
             → Quiet boxes steps (TunedStep sink which) self.new result }
     {
-        let Some(at) = self.sources.standpoint() else {
+        let Some(joining) = self.sources.joining(which) else {
             return Err(Stop::Refused(Refusal::Order));
-        };
-        let joining = Joining {
-            group: at.group,
-            which,
-            event: at.event,
-            anchor: at.anchor,
-            delay: at.delay,
         };
         self.sinks.tune(sink, self.sources.chosen(), &joining)
     }

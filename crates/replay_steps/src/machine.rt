@@ -1,12 +1,15 @@
-ghost use Rattle.std.specs.Prelude.{◌≡◌, ◌<◌, ◌^◌, IfOk, List, [], map, length};
+ghost use Rattle.std.specs.Prelude.{◌≡◌, ◌<◌, ◌^◌, ℕ, IfOk, List, [], map, length};
 ghost use Rattle.bcast_io.specs.TextLines.{TextLine, plain};
 ghost use Rattle.unit_outlets.specs.Account.{Account};
+ghost use Rattle.scenario_text.specs.Lines.{LineIs};
+ghost use Rattle.scenario_text.specs.Ranges.{IsInRange};
 
 use crate::version::Stage;
 use bcast_base::{Memory, Octets};
 use scenario_reading::{LineFault, read_line_in};
 use scenario_sinks::{Relays, Sinks};
 use scenario_sources::Sources;
+use scenario_text::{Step, a_line_says_one_step};
 use std::alloc::Global;
 use transcript_text::{Refusal, Stop};
 use unit_outlets::Outlet;
@@ -72,5 +75,25 @@ impl Machine {
             Err(LineFault::BadLine { word }) => Err(Stop::Refused(Refusal::BadLine { word })),
             Err(LineFault::Memory) => Err(Stop::Memory),
         }
+    }
+
+    /// Makes the step that a line says in each version, as `line` does for that line.
+    pub fn say(
+        &mut self,
+        step: Step,
+        outlets: &mut Vec<Box<dyn Outlet>>,
+        text: &mut Octets,
+    ) -> Result<(), Stop>
+        requires { IsInRange step }
+        ensures meets { (starts : List Account) (lines : List TextLine) (line : List ℕ)
+            → LinesStand starts lines self.old (map account outlets.old.items) → ((version : ℕ) → LineIs version step line)
+            → LineMeets starts lines (plain line) self.new text.old text.new (map account outlets.old.items)
+            (map account outlets.new.items) result }
+        ensures untaken { (starts : List Account) (lines : List TextLine) (accounts : List Account)
+            → LinesStand starts lines self.old accounts
+            → UntakenSame (steps_of airs_of lines) outlets.old.items outlets.new.items }
+    {
+        a_line_says_one_step();
+        self.step(step, outlets, text)
     }
 }

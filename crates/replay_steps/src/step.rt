@@ -21,6 +21,7 @@ use unit_outlets::Outlet;
 
 impl Machine {
     /// Makes a step that is not the first, and follows no `end`.
+    #[inline(always)]
     fn later_step(
         &mut self,
         version: Version,
@@ -178,7 +179,8 @@ impl Machine {
         }
     }
 
-    /// Makes a step.
+    /// Makes a step. It stands in each of its two callers, so that no step is copied for a call.
+    #[inline(always)]
     pub(crate) fn step(
         &mut self,
         step: Step,

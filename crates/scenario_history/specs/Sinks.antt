@@ -4,15 +4,14 @@
 -- called `own` its steps are those of one source.
 use Rattle.std.specs.Prelude.{ℕ, zero, suc, ◌+◌, ◌-◌, ◌*◌, ◌/◌, ◌%◌, ◌==◌, ◌&&◌, nat_lt, Bool, true, false, List, [], ◌∷◌, Option, None, Some, if◌then◌else◌}
 use Rattle.big_info.specs.declared.info.BigInfo.{BigInfo}
-use Rattle.source_machine.specs.Calls.{next_of, next_anchor_of}
-use Rattle.group_sink.specs.Calls.{Tuning, Call, tune, hear, tick}
+use Rattle.group_sink.specs.Calls.{Call, tune, hear, tick}
 use Rattle.scenario_text.specs.declared.step.Step.{Step}
 use Rattle.scenario_text.specs.declared.step.Step.TheVariants.{Sink, Tuned, Event, Hear, Air, Inject, Announce, Train, Drop, Stop, Terminate, End}
 use Rattle.scenario_history.specs.Steps.{chosen_of, chosen_steps, steps_of_source}
 use Rattle.sink_history.specs.Lives.{made_of, named_by}
 use Rattle.sink_history.specs.Moves.{received_by, source_by}
-use Rattle.scenario_history.specs.Worlds.{life, source_at}
-use Rattle.scenario_history.specs.Source.{setup_of, source_calls, event_back, pdu_in, open_event}
+use Rattle.scenario_history.specs.Worlds.{joining_on, life, source_at}
+use Rattle.scenario_history.specs.Source.{setup_of, event_back, pdu_in, open_event}
 use Rattle.source_machine.specs.Airs.{Airs}
 
 -- ---- the source of a sink
@@ -77,16 +76,6 @@ heard_on_air airs own lose (suc i) calls =
 abbrev pub spots_of : List Step → ℕ
 spots_of own = (setup_of own).info.num_bis * (setup_of own).info.nse
 
--- on these streams from the next event on
-abbrev pub tuning_of : List Step → ℕ → Tuning
-tuning_of own which = record {
-  info = (setup_of own).info;
-  which = which;
-  first = next_of (setup_of own) (source_calls own);
-  anchor = next_anchor_of (setup_of own) (source_calls own);
-  delay = (setup_of own).delay;
-}
-
 -- what is heard of the chosen source by a sink reaches the sink of this number: it is that sink, and it is of the source
 abbrev pub reaches : ℕ → ℕ → List Step → Bool
 reaches sink n earlier = (sink == n) && is_of (chosen_of earlier) (source_of n earlier)
@@ -116,7 +105,7 @@ abbrev pub with_sink_call : Airs → ℕ → Step → List Step → List Call �
 with_sink_call airs n (Sink sink streams slots mtu) earlier calls = if sink == n then [] else calls
 with_sink_call airs n (Drop sink) earlier calls = if sink == n then [] else calls
 with_sink_call airs n (Tuned sink which) earlier calls =
-    if sink == n then tune (tuning_of (chosen_steps earlier) which) ∷ calls else calls
+    if sink == n then tune (joining_on (chosen_steps earlier) which) ∷ calls else calls
 with_sink_call airs n (Hear sink back bis subevent) earlier calls =
     if reaches sink n earlier
     then hear_at airs (chosen_steps earlier) (event_back (chosen_steps earlier) back) (record { bis = bis; subevent = subevent }) ∷ calls

@@ -4,7 +4,7 @@
 use Rattle.std.specs.Prelude.{ℕ, List}
 use Rattle.delegator_history.specs.Octets.{train_of}
 use Rattle.announcement_train.specs.declared.train.Train.{Train}
-use Rattle.delegator_history.specs.Trains.{Joining}
+use Rattle.sync_reference.specs.Joining.{Joining}
 use Rattle.sink_history.specs.Calls.{Call}
 use Rattle.scenario_text.specs.declared.step.Step.{Step}
 use Rattle.sink_history.specs.Lives.{Source, World, life_of}

@@ -12,9 +12,9 @@ use Rattle.announcement_train.specs.Told.{Tells}
 use Rattle.delegator_history.specs.Announced.{IsOnGroup, heard_as, numbers_alone}
 use Rattle.delegator_history.specs.Octets.{MayAnnounce, train_of}
 use Rattle.delegator_history.specs.Sights.{Sight}
-use Rattle.delegator_history.specs.Trains.{Brought, Joining, Setup as SinkSetup, brought_by, heard, ignored, taken}
-use Rattle.delegator_machine.specs.Groups.{joining_brought, tuning_of as tuning_joined}
-use Rattle.group_sink.specs.Calls.{Tuning}
+use Rattle.delegator_history.specs.Trains.{Brought, Setup as SinkSetup, brought_by, heard, ignored, taken, joining_in}
+use Rattle.sync_reference.specs.Joining.{Joining}
+use Rattle.delegator_machine.specs.Groups.{by_numbers}
 use Rattle.source_machine.specs.Calls.{next_anchor_of, next_of}
 use Rattle.source_machine.specs.Ciphers.{with_cipher}
 use Rattle.scenario_text.specs.declared.step.Step.{Step}
@@ -23,11 +23,10 @@ use Rattle.sink_history.specs.Lives.{Made, own_train}
 use Rattle.sink_history.specs.Moves.{joining_of}
 use Rattle.sink_history.specs.Output.{sight_in}
 use Rattle.scenario_history.specs.Bases.{base_from, base_of, subgroups_of}
-use Rattle.scenario_history.specs.Sinks.{tuning_of}
 use Rattle.scenario_history.specs.Source.{GroupLine, checked_info, group_of, identity_of, no_group, setup_of, source_calls}
 use Rattle.source_machine.specs.Airs.{Airs}
 use Rattle.scenario_history.specs.Steps.{chosen_of, chosen_steps}
-use Rattle.scenario_history.specs.Worlds.{announced_of, life, source_at}
+use Rattle.scenario_history.specs.Worlds.{announced_of, joining_on, life, source_at}
 use Rattle.scenario_laws.proofs.Announcers.{Tellable, may_announce, tellable}
 use Rattle.scenario_laws.proofs.Legals.{Legal, Permitted}
 use Rattle.scenario_laws.proofs.Sources.{Lawful, Settled, bounds_in, lawful, sends, settled}
@@ -53,7 +52,7 @@ record Taken (brought : Brought) (joining : Joining) : Type 0 where
   encrypted : Bool
   is : brought ≡ taken slot bits encrypted joining
 
-it_was_taken : (brought : Brought) (joining : Joining) → joining_brought brought ≡ Some joining → Taken brought joining
+it_was_taken : (brought : Brought) (joining : Joining) → joining_in brought ≡ Some joining → Taken brought joining
 it_was_taken (ignored answer) joining is = absurd (none-some joining is)
 it_was_taken (heard slot answer encrypted) joining is = absurd (none-some joining is)
 it_was_taken (taken slot bits encrypted other) joining is = record { slot = slot; bits = bits; encrypted = encrypted; is = ap (λ found. taken slot bits encrypted (unwrap_or found other)) is }
@@ -69,7 +68,7 @@ its_numbers own is tells plain =
     ap (λ cipher. numbers_alone (with_cipher (unwrap_or (group_of own) no_group).info cipher)) plain
     ∙ ap numbers_alone is.uncoded ∙ tells.bare
 
-abbrev tuning_with : BigInfo → (which first anchor delay : ℕ) → Tuning
+abbrev tuning_with : BigInfo → (which first anchor delay : ℕ) → Joining
 tuning_with info which first anchor delay = record { info = info; which = which; first = first; anchor = anchor; delay = delay }
 
 -- what the source announces for its next event
@@ -87,7 +86,7 @@ abbrev pub IsOn : List Step → Joining → Type 0
 IsOn own joining =
     IsOnGroup (base_of own) (checked_info own) (next_of (setup_of own) (source_calls own)) (next_anchor_of (setup_of own) (source_calls own)) joining
 
-same_tuning : (own : List Step) (joining : Joining) → Settled own → Tellable own → IsOn own joining → tuning_joined joining ≡ tuning_of own joining.which
+same_tuning : (own : List Step) (joining : Joining) → Settled own → Tellable own → IsOn own joining → by_numbers joining ≡ joining_on own joining.which
 same_tuning own joining is tells on =
     ap (λ info. tuning_with info joining.which joining.first joining.anchor joining.delay) (on.group_is ∙ its_numbers own is tells on.plain)
     ∙ ap (λ first. tuning_with (setup_of own).info joining.which first joining.anchor joining.delay) on.first_is
@@ -114,7 +113,7 @@ announced_on laws airs boxes n earlier made joining legal permits is =
 pub announced_tuning : Announcing → (airs : Airs) (boxes n : ℕ) (earlier : List Step) (made : Made) (joining : Joining) → Legal airs boxes earlier
     → Permitted airs boxes earlier (steps.Announce n)
     → joining_of made (sight_in made (life n earlier)) (Some (own_train (source_at earlier))) ≡ Some joining
-    → tuning_joined joining ≡ tuning_of (chosen_steps earlier) joining.which
+    → by_numbers joining ≡ joining_on (chosen_steps earlier) joining.which
 announced_tuning laws airs boxes n earlier made joining legal permits is =
     let legal_own : Lawful airs (chosen_steps earlier) = lawful airs boxes (chosen_of earlier) earlier legal in
     same_tuning (chosen_steps earlier) joining (settled airs (chosen_steps earlier) legal_own) (tellable airs (chosen_steps earlier) legal_own)

@@ -5,14 +5,16 @@ use Rattle.std.specs.List.Sorted.{IsStrictlyIncreasing}
 use Rattle.std.proofs.lemmas.Bool.{cases_Bool, eq-eqb, eqb-true, eqb-false, false≢true, leb-true, or_parts}
 use Rattle.std.proofs.lemmas.Option.{none-some, same_Some}
 use Rattle.delegator_machine.specs.Groups as machine
-use Rattle.group_sink.specs.Calls.{Tuning, Call, tune, hear, tick, place}
+use Rattle.group_sink.specs.Calls.{Call, tune, hear, tick, place}
+use Rattle.sync_reference.specs.Joining.{Joining}
 use Rattle.group_sink.specs.Streams.{closes}
 use Rattle.scenario_text.specs.declared.step.Step.{Step}
 use Rattle.scenario_text.specs.declared.step.Step.TheVariants as steps
 use Rattle.scenario_history.specs.Steps.{chosen_of, chosen_steps, is_over, steps_of_source}
 use Rattle.scenario_history.specs.Source.{event_back, is_sending, open_event, pdu_in, performed, setup_of}
 use Rattle.source_machine.specs.Airs.{Airs}
-use Rattle.scenario_history.specs.Sinks.{heard_on_air, is_lost, is_of, reaches, sink_calls, source_of, spot_at, spots_of, ticked, tuning_of, unless_lost}
+use Rattle.scenario_history.specs.Sinks.{heard_on_air, is_lost, is_of, reaches, sink_calls, source_of, spot_at, spots_of, ticked, unless_lost}
+use Rattle.scenario_history.specs.Worlds.{joining_on}
 use Rattle.scenario_laws.specs.Laws.{Closed, closed_at, closed_by, closed_if, closed_in, closed_since, any_since, given_since_made, is_given, is_made, is_tuned}
 use Rattle.scenario_laws.proofs.Announced.{Announcing}
 use Rattle.scenario_laws.proofs.ByHand.{as_by_hand}
@@ -56,11 +58,11 @@ abbrev pub event_of : Closed → ℕ
 event_of closed = closed.event
 
 -- the stay of a sink with a source, where it is of the source
-abbrev pub stay_if : Bool → List Call → Option Tuning
+abbrev pub stay_if : Bool → List Call → Option Joining
 stay_if mine calls = cond mine (place calls) None
 
 -- the open event of the stay, or the next event of the source
-abbrev pub front_of : Option Tuning → List Call → ℕ → ℕ
+abbrev pub front_of : Option Joining → List Call → ℕ → ℕ
 front_of None calls next = next
 front_of (Some tuning) calls next = tuning.first + closes tuning calls
 
@@ -72,11 +74,11 @@ pub record Moves (mine : Bool) (calls : List Call) (next : ℕ) (closed : List C
   pub climbs_on : Climb (front mine calls next) (map event_of closed) (front mine' calls' next')
   pub within : front mine' calls' next' ≤ next'
 
-later_next : (p : Option Tuning) (calls : List Call) (next next' : ℕ) → next ≤ next' → front_of p calls next ≤ front_of p calls next'
+later_next : (p : Option Joining) (calls : List Call) (next next' : ℕ) → next ≤ next' → front_of p calls next ≤ front_of p calls next'
 later_next None calls next next' more = more
 later_next (Some tuning) calls next next' more = omega arith
 
-later_within : (p : Option Tuning) (calls : List Call) (next next' : ℕ) → next ≤ next' → front_of p calls next ≤ next → front_of p calls next' ≤ next'
+later_within : (p : Option Joining) (calls : List Call) (next next' : ℕ) → next ≤ next' → front_of p calls next ≤ next → front_of p calls next' ≤ next'
 later_within None calls next next' more within = omega arith
 later_within (Some tuning) calls next next' more within = omega (arith, more, within)
 
@@ -91,29 +93,29 @@ gone_moves : (s : ℕ) (gone : Bool) (calls : List Call) (source : Option ℕ) (
 gone_moves s true calls source next next' more within = record { climbs_on = omega (arith, within, more); within = omega arith }
 gone_moves s false calls source next next' more within = stay_moves (is_of s source) calls next next' more within
 
-on_moves : (mine its : Bool) (on : Tuning) (calls : List Call) (next next' : ℕ) → next ≤ next' → (its ≡ true → on.first ≡ next) → front mine calls next ≤ next
+on_moves : (mine its : Bool) (on : Joining) (calls : List Call) (next next' : ℕ) → next ≤ next' → (its ≡ true → on.first ≡ next) → front mine calls next ≤ next
     → Moves mine calls next [] its (tune on ∷ calls) next'
 on_moves mine true on calls next next' more is within = record { climbs_on = omega (arith, is refl, within); within = omega (arith, is refl, more) }
 on_moves mine false on calls next next' more is within = record { climbs_on = omega (arith, within, more); within = omega arith }
 
-put_moves : (s : ℕ) (put : Bool) (on : Tuning) (chosen : ℕ) (calls : List Call) (source : Option ℕ) (next next' : ℕ) → next ≤ next' → ((chosen == s) ≡ true → on.first ≡ next)
+put_moves : (s : ℕ) (put : Bool) (on : Joining) (chosen : ℕ) (calls : List Call) (source : Option ℕ) (next next' : ℕ) → next ≤ next' → ((chosen == s) ≡ true → on.first ≡ next)
     → front (is_of s source) calls next ≤ next
     → Moves (is_of s source) calls next [] (is_of s (cond put (Some chosen) source)) (cond put (tune on ∷ calls) calls) next'
 put_moves s true on chosen calls source next next' more is within = on_moves (is_of s source) (chosen == s) on calls next next' more is within
 put_moves s false on chosen calls source next next' more is within = stay_moves (is_of s source) calls next next' more within
 
 -- calls that neither put the sink anywhere nor close an event
-front_again : (calls more : List Call) (next : ℕ) (p : Option Tuning) → ((tuning : Tuning) → closes tuning more ≡ closes tuning calls)
+front_again : (calls more : List Call) (next : ℕ) (p : Option Joining) → ((tuning : Joining) → closes tuning more ≡ closes tuning calls)
     → front_of p more next ≡ front_of p calls next
 front_again calls more next None same = refl
 front_again calls more next (Some tuning) same = ap (λ count. tuning.first + count) (same tuning)
 
-same_front : (mine : Bool) (calls more : List Call) (next : ℕ) → place more ≡ place calls → ((tuning : Tuning) → closes tuning more ≡ closes tuning calls)
+same_front : (mine : Bool) (calls more : List Call) (next : ℕ) → place more ≡ place calls → ((tuning : Joining) → closes tuning more ≡ closes tuning calls)
     → front mine more next ≡ front mine calls next
 same_front mine calls more next there same =
     ap (λ p. front_of (cond mine p None) more next) there ∙ front_again calls more next (stay_if mine calls) same
 
-more_moves : (mine hit : Bool) (more calls : List Call) (next next' : ℕ) → next ≤ next' → place more ≡ place calls → ((tuning : Tuning) → closes tuning more ≡ closes tuning calls)
+more_moves : (mine hit : Bool) (more calls : List Call) (next next' : ℕ) → next ≤ next' → place more ≡ place calls → ((tuning : Joining) → closes tuning more ≡ closes tuning calls)
     → front mine calls next ≤ next → Moves mine calls next [] mine (cond hit more calls) next'
 more_moves mine true more calls next next' later there same within =
     let is : front mine more next' ≡ front mine calls next' = same_front mine calls more next' there same in
@@ -121,12 +123,12 @@ more_moves mine true more calls next next' later there same within =
     record { climbs_on = omega (arith, is, moved.climbs_on); within = omega (arith, is, moved.within) }
 more_moves mine false more calls next next' later there same within = stay_moves mine calls next next' later within
 
-lost_closes : (gone : Bool) (event bis subevent : ℕ) (octets : List ℕ) (calls : List Call) (tuning : Tuning)
+lost_closes : (gone : Bool) (event bis subevent : ℕ) (octets : List ℕ) (calls : List Call) (tuning : Joining)
     → closes tuning (unless_lost gone (hear event bis subevent octets) calls) ≡ closes tuning calls
 lost_closes true event bis subevent octets calls tuning = refl
 lost_closes false event bis subevent octets calls tuning = refl
 
-air_closes : (airs : Airs) (own : List Step) (lose count : ℕ) (calls : List Call) (tuning : Tuning) → closes tuning (heard_on_air airs own lose count calls) ≡ closes tuning calls
+air_closes : (airs : Airs) (own : List Step) (lose count : ℕ) (calls : List Call) (tuning : Joining) → closes tuning (heard_on_air airs own lose count calls) ≡ closes tuning calls
 air_closes airs own lose zero calls tuning = refl
 air_closes airs own lose (suc i) calls tuning =
     lost_closes (is_lost (setup_of own).info (event_back own 0) lose (spot_at (setup_of own).info i)) _ _ _ _ (heard_on_air airs own lose i calls) tuning
@@ -152,7 +154,7 @@ left_moves mine mine' calls later next next' more its left within = elim left [
 ]
 
 -- an event of the source is over
-closed_one : (tuning : Tuning) (calls : List Call) (event next next' : ℕ) (over : Bool) → leb (tuning.first + closes tuning calls) event ≡ over
+closed_one : (tuning : Joining) (calls : List Call) (event next next' : ℕ) (over : Bool) → leb (tuning.first + closes tuning calls) event ≡ over
     → event < next → next ≤ next' → tuning.first + closes tuning calls ≤ next
     → (Climb (tuning.first + closes tuning calls) (map event_of (cond over (record { event = tuning.first + closes tuning calls; which = tuning.which } ∷ []) []))
     (tuning.first + cond over (closes tuning calls + 1) (closes tuning calls)))
@@ -162,7 +164,7 @@ closed_one tuning calls event next next' true is past more within =
     ((omega arith, omega arith), omega (arith, least, past, more))
 closed_one tuning calls event next next' false is past more within = (omega arith, omega (arith, within, more))
 
-tick_on_moves : (p : Option Tuning) (calls : List Call) (event next next' : ℕ) → place calls ≡ p → event < next → next ≤ next' → front_of p calls next ≤ next
+tick_on_moves : (p : Option Joining) (calls : List Call) (event next next' : ℕ) → place calls ≡ p → event < next → next ≤ next' → front_of p calls next ≤ next
     → Climb (front_of p calls next) (map event_of (closed_in p calls event)) (front_of p (tick event ∷ calls) next') × (front_of p (tick event ∷ calls) next' ≤ next')
 tick_on_moves None calls event next next' is past more within = (more, omega arith)
 tick_on_moves (Some tuning) calls event next next' is past more within =
@@ -225,8 +227,8 @@ announced_moves laws airs boxes s n sink earlier next' legal permits more within
         off_moves (mine_in s n earlier) (mine_in s n (steps.Announce sink ∷ earlier)) (sink_calls airs n earlier) (sink_calls airs n (steps.Announce sink ∷ earlier))
         (next_in (steps_of_source s earlier)) next' more (ap place follows.same ∙ follows.nowhere) within
     | inr put ↦
-        let on : Tuning = machine.tuning_of put.joining in
-        let first_is : on.first ≡ next_in (chosen_steps earlier) = ap (λ (t : Tuning). t.first) (as_by_hand laws airs boxes n sink earlier put.joining legal permits put.brings).0 in
+        let on : Joining = machine.by_numbers put.joining in
+        let first_is : on.first ≡ next_in (chosen_steps earlier) = ap (λ (t : Joining). t.first) (as_by_hand laws airs boxes n sink earlier put.joining legal permits put.brings).0 in
         subst (λ calls. Moves (mine_in s n earlier) (sink_calls airs n earlier) (next_in (steps_of_source s earlier)) [] (mine_in s n (steps.Announce sink ∷ earlier)) calls next') (sym put.calls_is)
         (subst (λ source. Moves (mine_in s n earlier) (sink_calls airs n earlier) (next_in (steps_of_source s earlier)) [] (is_of s source) (tune on ∷ sink_calls airs n earlier) next')
         (sym put.source_is)
@@ -244,7 +246,7 @@ moves_by laws airs boxes s n (steps.Sink sink streams slots mtu) earlier next' l
 moves_by laws airs boxes s n (steps.Drop sink) earlier next' legal permits ungiven least more within =
     gone_moves s (sink == n) (sink_calls airs n earlier) (source_of n earlier) (next_in (steps_of_source s earlier)) next' more within
 moves_by laws airs boxes s n (steps.Tuned sink which) earlier next' legal permits ungiven least more within =
-    put_moves s (sink == n) (tuning_of (chosen_steps earlier) which) (chosen_of earlier) (sink_calls airs n earlier) (source_of n earlier) (next_in (steps_of_source s earlier)) next' more
+    put_moves s (sink == n) (joining_on (chosen_steps earlier) which) (chosen_of earlier) (sink_calls airs n earlier) (source_of n earlier) (next_in (steps_of_source s earlier)) next' more
     (λ same. ap (λ t. next_in (steps_of_source t earlier)) (eqb-true (chosen_of earlier) s same)) within
 moves_by laws airs boxes s n (steps.Hear sink back bis subevent) earlier next' legal permits ungiven least more within =
     more_moves (mine_in s n earlier) (reaches sink n earlier)
@@ -339,14 +341,14 @@ closes_rise laws airs boxes s n made legal ungiven least =
 
 -- ---- the open event of one stay
 
-stay_front : (airs : Airs) (s n : ℕ) (made : List Step) (tuning : Tuning) → IsOn airs s n made tuning → its_front airs s n made ≡ tuning.first + closes tuning (sink_calls airs n made)
+stay_front : (airs : Airs) (s n : ℕ) (made : List Step) (tuning : Joining) → IsOn airs s n made tuning → its_front airs s n made ≡ tuning.first + closes tuning (sink_calls airs n made)
 stay_front airs s n made tuning is =
     ap (λ source. front (is_of s source) (sink_calls airs n made) (next_in (steps_of_source s made))) is.source_is
     ∙ ap (λ b. front b (sink_calls airs n made) (next_in (steps_of_source s made))) (eq-eqb s s refl)
     ∙ ap (λ p. front_of p (sink_calls airs n made) (next_in (steps_of_source s made))) is.place_is
 
 -- the open event of a stay is at most the source's next one
-pub stay_within : Announcing → (airs : Airs) (boxes s n : ℕ) (made : List Step) (tuning : Tuning) → Legal airs boxes made → s ≤ 1 → IsOn airs s n made tuning
+pub stay_within : Announcing → (airs : Airs) (boxes s n : ℕ) (made : List Step) (tuning : Joining) → Legal airs boxes made → s ≤ 1 → IsOn airs s n made tuning
     → tuning.first + closes tuning (sink_calls airs n made) ≤ next_in (steps_of_source s made)
 stay_within laws airs boxes s n [] tuning legal least is = absurd (none-some tuning is.place_is)
 stay_within laws airs boxes s n (step ∷ earlier) tuning legal least is = elim (on_before airs s n step earlier tuning is) [

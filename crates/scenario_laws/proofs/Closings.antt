@@ -7,7 +7,8 @@ use Rattle.std.proofs.lemmas.List.{append-nil, map-append}
 use Rattle.std.proofs.lemmas.List.Elements.{filter-append}
 use Rattle.std.proofs.lemmas.Option.{none-some}
 use Rattle.unit_outlets.specs.Handed.{Handed}
-use Rattle.group_sink.specs.Calls.{Tuning, Call, tune, hear, place}
+use Rattle.group_sink.specs.Calls.{Call, tune, hear, place}
+use Rattle.sync_reference.specs.Joining.{Joining}
 use Rattle.group_sink.specs.Handing.{handed_at, handed_by as ticked_by}
 use Rattle.scenario_text.specs.declared.step.Step.{Step}
 use Rattle.scenario_text.specs.declared.step.Step.TheVariants as steps
@@ -16,7 +17,8 @@ use Rattle.sink_history.specs.Lives.{Made, made_of, named_by}
 use Rattle.scenario_history.specs.Steps.{chosen_of, chosen_steps, sinks_made, steps_of_source}
 use Rattle.scenario_history.specs.Source.{event_back, open_event, pdu_in}
 use Rattle.source_machine.specs.Airs.{Airs}
-use Rattle.scenario_history.specs.Sinks.{heard_on_air, is_of, reaches, sink_calls, source_of, spots_of, tuning_of, with_sink_call}
+use Rattle.scenario_history.specs.Sinks.{heard_on_air, is_of, reaches, sink_calls, source_of, spots_of, with_sink_call}
+use Rattle.scenario_history.specs.Worlds.{joining_on}
 use Rattle.scenario_history.specs.Boxes.{SinkUnit, box_after, box_of, closing, closing_at, closing_by, closing_in, handed_by, sink_numbers}
 use Rattle.scenario_history.specs.Refusals.{no_sink}
 use Rattle.scenario_laws.specs.Laws.{of_sink}
@@ -39,7 +41,7 @@ is_none : (box : Option ℕ) → is_some box ≡ true → box ≡ None → ⊥
 is_none None has none = false≢true has
 is_none (Some box) has none = none-some box (sym none)
 
-put_housed : (n sink : ℕ) (on : Tuning) (earlier : List Step) (calls : List Call) → is_some (box_of sink earlier) ≡ true → (box_of n earlier ≡ None → place calls ≡ None)
+put_housed : (n sink : ℕ) (on : Joining) (earlier : List Step) (calls : List Call) → is_some (box_of sink earlier) ≡ true → (box_of n earlier ≡ None → place calls ≡ None)
     → box_of n earlier ≡ None → (put : Bool) → eqb sink n ≡ put → place (cond put (tune on ∷ calls) calls) ≡ None
 put_housed n sink on earlier calls has before none true is =
     absurd (is_none (box_of sink earlier) has (ap (λ m. box_of m earlier) (eqb-true sink n is) ∙ none))
@@ -68,7 +70,7 @@ housed_after : (airs : Airs) (boxes n : ℕ) (step : Step) (earlier : List Step)
 housed_after airs boxes n (steps.Sink sink streams slots mtu) earlier calls permits before none = made_housed (sink == n) (sinks_made earlier) (box_of n earlier) calls before none
 housed_after airs boxes n (steps.Drop sink) earlier calls permits before none = gone_housed (sink == n) (box_of n earlier) calls before none
 housed_after airs boxes n (steps.Tuned sink which) earlier calls permits before none =
-    put_housed n sink (tuning_of (chosen_steps earlier) which) earlier calls (has_box sink earlier permits.by_sinks) before none (sink == n) refl
+    put_housed n sink (joining_on (chosen_steps earlier) which) earlier calls (has_box sink earlier permits.by_sinks) before none (sink == n) refl
 housed_after airs boxes n (steps.Hear sink back bis subevent) earlier calls permits before none =
     same_place (reaches sink n earlier)
     (hear (event_back (chosen_steps earlier) back) bis subevent (pdu_in airs (chosen_steps earlier) (event_back (chosen_steps earlier) back) bis subevent) ∷ calls) calls refl ∙ before none

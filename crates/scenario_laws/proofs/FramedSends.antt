@@ -16,7 +16,7 @@ use Rattle.radio_schedule.specs.PayloadNumber.{ahead_of, payload_number}
 use Rattle.source_machine.specs.Airs.{AreAirs, IsAir, pdu_of, Airs}
 use Rattle.source_machine.specs.Calls.{Setup, Call as SourceCall, events, next_of}
 use Rattle.source_machine.proofs.Citable.{ahead_within, event_of_number}
-use Rattle.group_sink.specs.Calls.{Tuning}
+use Rattle.sync_reference.specs.Joining.{Joining}
 use Rattle.scenario_history.specs.Source.{setup_of, source_calls}
 use Rattle.scenario_history.specs.Airs.{MeetAirs}
 use Rattle.scenario_laws.specs.SourceUnits.{AreSent, by_payload}
@@ -92,7 +92,7 @@ pub record FramedWhole (airs : Airs) (setup : Setup) (whole : List SourceCall) (
   pub has : HasAir setup whole bis (airs setup whole)
   pub sent : AreSent setup whole bis has.air units
 
-pub framed_sends : Below → (airs : Airs) → MeetAirs airs → (setup : Setup) (whole : List SourceCall) (tuning : Tuning) (bis : ℕ) (units : List Sent) → FramedWhole airs setup whole bis units
+pub framed_sends : Below → (airs : Airs) → MeetAirs airs → (setup : Setup) (whole : List SourceCall) (tuning : Joining) (bis : ℕ) (units : List Sent) → FramedWhole airs setup whole bis units
     → tuning.info ≡ setup.info → WholeSends airs setup whole (laid_of units) tuning bis
 framed_sends below airs meets setup whole tuning bis units all same own legal started within event subevent least past bis_least bis_within inside =
     let is : Settled own = settled airs own legal in

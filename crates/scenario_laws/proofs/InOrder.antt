@@ -9,7 +9,8 @@ use Rattle.isoal_unframed.specs.Calls.{events as laid_events}
 use Rattle.isoal_unframed.specs.Histories.{units_of}
 use Rattle.source_machine.specs.Airs.{slots_of, Airs}
 use Rattle.source_machine.specs.Calls.{Setup, Call as SourceCall, events, stream_calls as source_stream}
-use Rattle.group_sink.specs.Calls.{Tuning, Call, tick, place}
+use Rattle.group_sink.specs.Calls.{Call, tick, place}
+use Rattle.sync_reference.specs.Joining.{Joining}
 use Rattle.group_sink.specs.Handing.{handed_at, handed_by as ticked_by, of_stream}
 use Rattle.group_sink.specs.Streams.{closes, is_in, stay_on, stream_calls}
 use Rattle.group_sink.proofs.Citable.{is_member, member_is}
@@ -37,7 +38,7 @@ use Rattle.scenario_laws.proofs.Numbers.{laid_least, Ordered, ordered_none, orde
 
 -- ---- no PDU was injected into the sink
 
-pub clean_stay : (airs : Airs) (s n : ℕ) (made : List Step) (tuning : Tuning) → IsOn airs s n made tuning → given_since_made n made ≡ false → injected_since (is_made n) n made ≡ false
+pub clean_stay : (airs : Airs) (s n : ℕ) (made : List Step) (tuning : Joining) → IsOn airs s n made tuning → given_since_made n made ≡ false → injected_since (is_made n) n made ≡ false
     → injected_since (is_tuned n) n made ≡ false
 clean_stay airs s n made tuning is ungiven clean = not_in_stay (is_injected n) airs s n made tuning (record { place_is = is.place_is; source_is = is.source_is }) ungiven clean
 
@@ -79,7 +80,7 @@ cond_true_more first count false is = absurd (false≢true is)
 
 -- the open event is closed
 closed_orders : Below → (airs : Airs) → MeetAirs airs → (boxes s n bis : ℕ) (setup : Setup) (whole : List SourceCall) (made : List Step) → Ready airs boxes s n bis setup whole made
-    → (event : ℕ) → event < next_in (steps_of_source s made) → (tuning : Tuning) → IsOn airs s n made tuning → (later : ℕ) → tuning.first + closes tuning (sink_calls airs n made) < later
+    → (event : ℕ) → event < next_in (steps_of_source s made) → (tuning : Joining) → IsOn airs s n made tuning → (later : ℕ) → tuning.first + closes tuning (sink_calls airs n made) < later
     → tuning.first + closes tuning (sink_calls airs n made) ≤ event → (units : List Handed) → Ordered setup whole bis (tuning.first + closes tuning (sink_calls airs n made)) units
     → of_stream bis (handed_at (sink_calls airs n made) event)
     ≡ units_of (stay_on tuning bis) (stream_calls (stay_on tuning bis) (sink_calls airs n made)) (tuning.first + closes tuning (sink_calls airs n made))
@@ -101,13 +102,13 @@ closed_orders below airs meets boxes s n bis setup whole made ready event before
     (omega (arith, on.first)) past (omega (arith, over, before, same, more, laid, on.first)) order last)
 
 tuned_plain : Announcing → (airs : Airs) (boxes s n bis : ℕ) (setup : Setup) (whole : List SourceCall) (made : List Step) → Ready airs boxes s n bis setup whole made
-    → (tuning : Tuning) → place (sink_calls airs n made) ≡ Some tuning → source_of n made ≡ Some s → tuning.info.framing ≡ 0
+    → (tuning : Joining) → place (sink_calls airs n made) ≡ Some tuning → source_of n made ≡ Some s → tuning.info.framing ≡ 0
 tuned_plain laws airs boxes s n bis setup whole made ready tuning is its =
     ap (λ (i : BigInfo). i.framing)
     (on_whole laws airs boxes s n setup whole made ready.legal_is ready.ungiven ready.within (ap (is_of s) its ∙ eq-eqb s s refl) tuning is).info ∙ ready.plain
 
 event_orders : Below → (airs : Airs) → MeetAirs airs → (boxes s n bis : ℕ) (setup : Setup) (whole : List SourceCall) (made : List Step) → Ready airs boxes s n bis setup whole made
-    → (event : ℕ) → event < next_in (steps_of_source s made) → source_of n made ≡ Some s → (p : Option Tuning) → place (sink_calls airs n made) ≡ p → (next later : ℕ)
+    → (event : ℕ) → event < next_in (steps_of_source s made) → source_of n made ≡ Some s → (p : Option Joining) → place (sink_calls airs n made) ≡ p → (next later : ℕ)
     → next_in (steps_of_source s made) ≤ next → front_of p (tick event ∷ sink_calls airs n made) next ≤ later → (units : List Handed)
     → Ordered setup whole bis (front_of p (sink_calls airs n made) (next_in (steps_of_source s made))) units
     → Ordered setup whole bis later (units ++ valid_in (of_stream bis (handed_at (sink_calls airs n made) event)))

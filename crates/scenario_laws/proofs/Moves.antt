@@ -1,10 +1,11 @@
 -- What a line makes of a sink that it names by its control or by its links: its receivers stay or leave, or a train puts them on
 -- a group; and a sink that follows a train on no group may be of another source then.
 use Rattle.std.proofs.Common.{ℕ, ◌≡◌, ◌⊎◌, ◌==◌, ◌&&◌, not, cond, Bool, true, false, List, ◌∷◌, Option, None, Some, is_some, refl, sym, ◌∙◌, ap, subst, inl, inr}
-use Rattle.delegator_machine.specs.Groups.{joining_brought, tuning_of, with_leave, with_step}
+use Rattle.delegator_machine.specs.Groups.{by_numbers, with_leave, with_step}
 use Rattle.delegator_history.specs.declared.train_heard.TrainHeard.{TrainHeard}
 use Rattle.delegator_history.specs.Sights.{Place, Sight, idle, is_on_group, is_slot, on_group, on_train}
-use Rattle.delegator_history.specs.Trains.{Brought, Joining, Setup, Train, brought_by, by_broadcast_id, by_slot, heard, ignored, is_elsewhere, taken}
+use Rattle.delegator_history.specs.Trains.{Brought, Setup, Train, brought_by, by_broadcast_id, by_slot, heard, ignored, is_elsewhere, taken, joining_in}
+use Rattle.sync_reference.specs.Joining.{Joining}
 use Rattle.group_sink.specs.Calls.{Call, leave, place, tune}
 use Rattle.sink_history.specs.Calls as links
 use Rattle.delegator_control.specs.Groups.{has_group}
@@ -43,7 +44,7 @@ pub record Follows (chosen : ℕ) (begins : Bool) (calls later : List Call) (sou
 pub record Put (Brings : Joining → Type 0) (chosen : ℕ) (begins : Bool) (calls later : List Call) (source' : Option ℕ) : Type 0 where
   pub joining : Joining
   pub brings : Brings joining
-  pub calls_is : later ≡ tune (tuning_of joining) ∷ calls
+  pub calls_is : later ≡ tune (by_numbers joining) ∷ calls
   pub source_is : source' ≡ Some chosen
   pub begins_is : begins ≡ true
 
@@ -139,7 +140,7 @@ pub record BroughtTo (source : Source) (lives : List links.Call) (joining : Join
 
 by_train : (source : Source) (lives : List links.Call) (made : Made) (later : Sight) (calls : List Call) (its_source : Option ℕ)
     → (has_group (sight_in made lives).place ≡ false → place calls ≡ None) → (brought : Brought) → brought_by made.setup (sight_in made lives) (own_train source) ≡ brought
-    → Went (BroughtTo source lives) source.number (is_some (joining_brought brought)) calls (with_step (joining_brought brought) (sight_in made lives) later calls)
+    → Went (BroughtTo source lives) source.number (is_some (joining_in brought)) calls (with_step (joining_in brought) (sight_in made lives) later calls)
     its_source (cond (follows brought) (Some source.number) its_source)
 by_train source lives made later calls its_source nowhere (ignored answer) is =
     inl (record { left = left_or_not (has_group (sight_in made lives).place) (has_group later.place) calls; same = refl; begins_not = refl })
@@ -152,7 +153,7 @@ by_train source lives made later calls its_source nowhere (heard slot answer enc
       begins_not = refl;
     }))
 by_train source lives made later calls its_source nowhere (taken slot bits encrypted joining) is =
-    inr (inr (record { joining = joining; brings = record { made = made; is = ap joining_brought is }; calls_is = refl; source_is = refl; begins_is = refl }))
+    inr (inr (record { joining = joining; brings = record { made = made; is = ap joining_in is }; calls_is = refl; source_is = refl; begins_is = refl }))
 
 by_made : (source : Source) (n : ℕ) (here there : List links.Call) (made : Option Made) (calls : List Call) (its_source : Option ℕ) → Nowhere made here calls
     → Went (BroughtTo source here) source.number (brings_by source (steps.Announce n) made here) calls (received_by source (steps.Announce n) made here there calls)

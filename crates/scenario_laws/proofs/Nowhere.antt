@@ -2,13 +2,14 @@
 use Rattle.std.proofs.Common.{ℕ, ◌≡◌, ◌==◌, cond, Bool, true, false, List, [], ◌∷◌, Option, None, Some, refl, sym, ◌∙◌, ap, subst}
 use Rattle.std.proofs.lemmas.Bool.{false≢true}
 use Rattle.std.proofs.lemmas.Option.{none-some, same_Some}
-use Rattle.delegator_machine.specs.Groups.{joining_brought, with_leave, with_step}
+use Rattle.delegator_machine.specs.Groups.{with_leave, with_step}
 use Rattle.delegator_history.specs.Sights.{Sight}
 use Rattle.delegator_history.specs.States.{put_on, train_heard}
 use Rattle.delegator_history.specs.Steps.{after}
-use Rattle.delegator_history.specs.Trains.{Brought, Joining, Train, brought_by, done_brought, heard, ignored, taken}
+use Rattle.delegator_history.specs.Trains.{Brought, Train, brought_by, done_brought, heard, ignored, taken, joining_in}
+use Rattle.sync_reference.specs.Joining.{Joining}
 use Rattle.delegator_history.proofs.Citable.{sight_goes_on}
-use Rattle.group_sink.specs.Calls.{Tuning, Call, tune, hear, place}
+use Rattle.group_sink.specs.Calls.{Call, tune, hear, place}
 use Rattle.sink_history.specs.Calls as links
 use Rattle.sink_history.specs.Calls.{stepped, steps_of}
 use Rattle.delegator_control.specs.Groups.{has_group}
@@ -20,8 +21,8 @@ use Rattle.sink_history.specs.Output.{sight_in}
 use Rattle.scenario_history.specs.Steps.{chosen_of, chosen_steps, steps_of_source}
 use Rattle.scenario_history.specs.Source.{event_back, open_event, pdu_in}
 use Rattle.source_machine.specs.Airs.{Airs}
-use Rattle.scenario_history.specs.Sinks.{heard_on_air, is_of, moved, reaches, sink_calls, source_of, spots_of, tuning_of, with_sink_call}
-use Rattle.scenario_history.specs.Worlds.{life, source_at, the_world}
+use Rattle.scenario_history.specs.Sinks.{heard_on_air, is_of, moved, reaches, sink_calls, source_of, spots_of, with_sink_call}
+use Rattle.scenario_history.specs.Worlds.{joining_on, life, source_at, the_world}
 use Rattle.scenario_laws.proofs.Places.{air_place, end_place, same_place, tick_if_place}
 
 -- a living sink that is on no group by its life has receivers on none
@@ -33,7 +34,7 @@ Nowhere made lives calls = (m : Made) → made ≡ Some m → has_group (sight_i
 put_comes : (m : Made) (number : ℕ) (joining : Joining) (lives : List links.Call) → has_group (sight_in m (stepped (put_on number joining) ∷ lives)).place ≡ true
 put_comes m number joining lives = ap (λ (s : Sight). has_group s.place) (sight_goes_on m.setup (put_on number joining) (steps_of lives))
 
-brought_on : (brought : Brought) (sight : Sight) (joining : Joining) → joining_brought brought ≡ Some joining → has_group (after (done_brought brought) sight).place ≡ true
+brought_on : (brought : Brought) (sight : Sight) (joining : Joining) → joining_in brought ≡ Some joining → has_group (after (done_brought brought) sight).place ≡ true
 brought_on (ignored answer) sight joining is = absurd (none-some joining is)
 brought_on (heard slot answer encrypted) sight joining is = absurd (none-some joining is)
 brought_on (taken slot bits encrypted brought) sight joining is = refl
@@ -91,7 +92,7 @@ gone_off : (gone : Bool) (anew made : Option Made) (born lives : List links.Call
 gone_off true anew made born lives calls before m is off = refl
 gone_off false anew made born lives calls before m is off = before m is off
 
-put_off : (put : Bool) (made : Option Made) (number : ℕ) (joining : Joining) (lives : List links.Call) (on : Tuning) (calls : List Call) → Nowhere made lives calls
+put_off : (put : Bool) (made : Option Made) (number : ℕ) (joining : Joining) (lives : List links.Call) (on : Joining) (calls : List Call) → Nowhere made lives calls
     → Nowhere made (cond put (stepped (put_on number joining) ∷ lives) lives) (cond put (tune on ∷ calls) calls)
 put_off true made number joining lives on calls before m is off = absurd (false≢true (sym off ∙ put_comes m number joining lives))
 put_off false made number joining lives on calls before m is off = before m is off
@@ -106,7 +107,7 @@ off_after : (airs : Airs) (n : ℕ) (step : Step) (earlier : List Step) (calls :
 off_after airs n (steps.Sink sink streams slots mtu) earlier calls before = gone_off (sink == n) _ (made_of n earlier) _ (life n earlier) calls before
 off_after airs n (steps.Drop sink) earlier calls before = gone_off (sink == n) None (made_of n earlier) [] (life n earlier) calls before
 off_after airs n (steps.Tuned sink which) earlier calls before =
-    put_off (sink == n) (made_of n earlier) (chosen_of earlier) ((source_at earlier).joining which) (life n earlier) (tuning_of (chosen_steps earlier) which) calls before
+    put_off (sink == n) (made_of n earlier) (chosen_of earlier) ((source_at earlier).joining which) (life n earlier) (joining_on (chosen_steps earlier) which) calls before
 off_after airs n (steps.Hear sink back bis subevent) earlier calls before =
     hear_off (sink == n) (reaches sink n earlier) (made_of n earlier) (life n earlier)
     (hear (event_back (chosen_steps earlier) back) bis subevent (pdu_in airs (chosen_steps earlier) (event_back (chosen_steps earlier) back) bis subevent) ∷ calls) calls refl before

@@ -6,14 +6,16 @@ use Rattle.big_info.specs.Time.{iso_us_of}
 use Rattle.delegator_machine.specs.Groups as machine
 use Rattle.sync_reference.specs.Reference.{anchor_of}
 use Rattle.source_machine.specs.Calls.{Setup, next_of}
-use Rattle.group_sink.specs.Calls.{Tuning, Call, tune, hear, place}
+use Rattle.group_sink.specs.Calls.{Call, tune, hear, place}
+use Rattle.sync_reference.specs.Joining.{Joining}
 use Rattle.scenario_text.specs.declared.step.Step.{Step}
 use Rattle.scenario_text.specs.declared.step.Step.TheVariants as steps
 use Rattle.transcript_text.specs.declared.refusal.Refusal.TheVariants.{NoSuchBis}
 use Rattle.scenario_history.specs.Steps.{chosen_of, chosen_steps, steps_of_source}
 use Rattle.scenario_history.specs.Source.{event_back, is_started, open_event, pdu_in, setup_of, source_calls}
 use Rattle.source_machine.specs.Airs.{Airs}
-use Rattle.scenario_history.specs.Sinks.{heard_on_air, is_of, reaches, sink_calls, source_of, spots_of, tuning_of}
+use Rattle.scenario_history.specs.Sinks.{heard_on_air, is_of, reaches, sink_calls, source_of, spots_of}
+use Rattle.scenario_history.specs.Worlds.{joining_on}
 use Rattle.scenario_history.specs.Refusals.{has_beyond}
 use Rattle.scenario_laws.specs.Laws.{any_since, given_since_made, injected_since, is_given, is_injected, is_made, is_tuned, steps_before}
 use Rattle.scenario_laws.proofs.Announced.{Announcing}
@@ -25,7 +27,7 @@ use Rattle.scenario_laws.proofs.Sources.{sends, takes, true_not_false}
 use Rattle.scenario_laws.proofs.Wholes.{goes, next_in}
 
 -- where the stay is on the source's group
-pub record TunedTo (setup : Setup) (tuning : Tuning) : Type 0 where
+pub record TunedTo (setup : Setup) (tuning : Joining) : Type 0 where
   pub info : tuning.info ≡ setup.info
   pub first : setup.first ≤ tuning.first
   pub anchor : tuning.anchor ≡ anchor_of setup.origin setup.first tuning.first (iso_us_of setup.info)
@@ -62,46 +64,46 @@ none_given begins n (step ∷ earlier) clean =
 -- ---- where a sink is
 
 -- the sink is there, on this source
-pub record IsThere (s : ℕ) (tuning : Tuning) (calls : List Call) (source : Option ℕ) : Type 0 where
+pub record IsThere (s : ℕ) (tuning : Joining) (calls : List Call) (source : Option ℕ) : Type 0 where
   pub place_is : place calls ≡ Some tuning
   pub source_is : source ≡ Some s
 
 -- and no train was given to it since it was put there
-pub record IsOn (airs : Airs) (s n : ℕ) (made : List Step) (tuning : Tuning) : Type 0 where
+pub record IsOn (airs : Airs) (s n : ℕ) (made : List Step) (tuning : Joining) : Type 0 where
   pub place_is : place (sink_calls airs n made) ≡ Some tuning
   pub source_is : source_of n made ≡ Some s
   pub ungiven : any_since (is_tuned n) (is_given n) made ≡ false
 
-gone_there : (s : ℕ) (tuning : Tuning) (gone : Bool) (calls : List Call) (source : Option ℕ) → IsThere s tuning (cond gone [] calls) (cond gone None source)
+gone_there : (s : ℕ) (tuning : Joining) (gone : Bool) (calls : List Call) (source : Option ℕ) → IsThere s tuning (cond gone [] calls) (cond gone None source)
     → IsThere s tuning calls source × (gone ≡ false)
 gone_there s tuning true calls source is = absurd (none-some tuning is.place_is)
 gone_there s tuning false calls source is = (is, refl)
 
-put_there : (s : ℕ) (tuning : Tuning) (put : Bool) (on : Tuning) (chosen : ℕ) (calls : List Call) (source : Option ℕ)
+put_there : (s : ℕ) (tuning : Joining) (put : Bool) (on : Joining) (chosen : ℕ) (calls : List Call) (source : Option ℕ)
     → IsThere s tuning (cond put (tune on ∷ calls) calls) (cond put (Some chosen) source)
     → (IsThere s tuning calls source × (put ≡ false)) ⊎ ((on ≡ tuning) × (chosen ≡ s) × (put ≡ true))
 put_there s tuning true on chosen calls source is = inr (same_Some on tuning is.place_is, same_Some chosen s is.source_is, refl)
 put_there s tuning false on chosen calls source is = inl (is, refl)
 
 -- `announce` puts the sink there, on this source
-pub record AnnouncedBy (airs : Airs) (s n sink : ℕ) (earlier : List Step) (tuning : Tuning) : Type 0 where
+pub record AnnouncedBy (airs : Airs) (s n sink : ℕ) (earlier : List Step) (tuning : Joining) : Type 0 where
   pub put : PutBy airs n sink earlier
-  pub tuning_is : machine.tuning_of put.joining ≡ tuning
+  pub tuning_is : machine.by_numbers put.joining ≡ tuning
   pub chosen_is : chosen_of earlier ≡ s
 
 -- the step puts the sink there, on this source
-abbrev pub BeginsBy : Airs → ℕ → ℕ → Step → List Step → Tuning → Type 0
-BeginsBy airs s n (steps.Tuned sink which) earlier tuning = (tuning_of (chosen_steps earlier) which ≡ tuning) × (chosen_of earlier ≡ s) × ((sink == n) ≡ true)
+abbrev pub BeginsBy : Airs → ℕ → ℕ → Step → List Step → Joining → Type 0
+BeginsBy airs s n (steps.Tuned sink which) earlier tuning = (joining_on (chosen_steps earlier) which ≡ tuning) × (chosen_of earlier ≡ s) × ((sink == n) ≡ true)
 BeginsBy airs s n (steps.Announce sink) earlier tuning = AnnouncedBy airs s n sink earlier tuning
 BeginsBy airs s n _ earlier tuning = ⊥
 
 -- or it was there before, and the step begins nothing
-pub record WasThere (airs : Airs) (s n : ℕ) (step : Step) (earlier : List Step) (tuning : Tuning) : Type 0 where
+pub record WasThere (airs : Airs) (s n : ℕ) (step : Step) (earlier : List Step) (tuning : Joining) : Type 0 where
   pub there : IsThere s tuning (sink_calls airs n earlier) (source_of n earlier)
   pub begins_not : is_tuned n earlier step ≡ false
   pub made_not : is_made n earlier step ≡ false
 
-left_there : (s : ℕ) (tuning : Tuning) (later calls : List Call) (source source' : Option ℕ) → Left later calls → source' ≡ source → IsThere s tuning later source' → IsThere s tuning calls source
+left_there : (s : ℕ) (tuning : Joining) (later calls : List Call) (source source' : Option ℕ) → Left later calls → source' ≡ source → IsThere s tuning later source' → IsThere s tuning calls source
 left_there s tuning later calls source source' left same is = record {
   place_is = elim left [
     | inl stays ↦ ap place (sym stays) ∙ is.place_is
@@ -110,7 +112,7 @@ left_there s tuning later calls source source' left same is = record {
   source_is = sym same ∙ is.source_is;
 }
 
-stays_there : (airs : Airs) (s n : ℕ) (step : Step) (earlier : List Step) (tuning : Tuning) → StaysBy airs n step earlier → is_made n earlier step ≡ false
+stays_there : (airs : Airs) (s n : ℕ) (step : Step) (earlier : List Step) (tuning : Joining) → StaysBy airs n step earlier → is_made n earlier step ≡ false
     → IsThere s tuning (sink_calls airs n (step ∷ earlier)) (source_of n (step ∷ earlier)) → WasThere airs s n step earlier tuning
 stays_there airs s n step earlier tuning stays made_not is = record {
   there = left_there s tuning (sink_calls airs n (step ∷ earlier)) (sink_calls airs n earlier) (source_of n earlier) (source_of n (step ∷ earlier)) stays.left stays.same is;
@@ -118,7 +120,7 @@ stays_there airs s n step earlier tuning stays made_not is = record {
   made_not = made_not;
 }
 
-still_there : (airs : Airs) (s n : ℕ) (step : Step) (earlier : List Step) (tuning : Tuning) → is_tuned n earlier step ≡ false → is_made n earlier step ≡ false
+still_there : (airs : Airs) (s n : ℕ) (step : Step) (earlier : List Step) (tuning : Joining) → is_tuned n earlier step ≡ false → is_made n earlier step ≡ false
     → source_of n (step ∷ earlier) ≡ source_of n earlier → place (sink_calls airs n (step ∷ earlier)) ≡ place (sink_calls airs n earlier)
     → IsThere s tuning (sink_calls airs n (step ∷ earlier)) (source_of n (step ∷ earlier)) → WasThere airs s n step earlier tuning
 still_there airs s n step earlier tuning begins_not made_not source_same same is = record {
@@ -127,7 +129,7 @@ still_there airs s n step earlier tuning begins_not made_not source_same same is
   made_not = made_not;
 }
 
-pub there_before : (airs : Airs) (s n : ℕ) (step : Step) (earlier : List Step) (tuning : Tuning) → is_given n step ≡ false
+pub there_before : (airs : Airs) (s n : ℕ) (step : Step) (earlier : List Step) (tuning : Joining) → is_given n step ≡ false
     → IsThere s tuning (sink_calls airs n (step ∷ earlier)) (source_of n (step ∷ earlier)) → WasThere airs s n step earlier tuning ⊎ BeginsBy airs s n step earlier tuning
 there_before airs s n (steps.Sink sink streams slots mtu) earlier tuning ungiven is =
     let before = gone_there s tuning (sink == n) (sink_calls airs n earlier) (source_of n earlier) is in
@@ -136,7 +138,7 @@ there_before airs s n (steps.Drop sink) earlier tuning ungiven is =
     let before = gone_there s tuning (sink == n) (sink_calls airs n earlier) (source_of n earlier) is in
     inl (record { there = before.0; begins_not = refl; made_not = refl })
 there_before airs s n (steps.Tuned sink which) earlier tuning ungiven is =
-    elim (put_there s tuning (sink == n) (tuning_of (chosen_steps earlier) which) (chosen_of earlier) (sink_calls airs n earlier) (source_of n earlier) is) [
+    elim (put_there s tuning (sink == n) (joining_on (chosen_steps earlier) which) (chosen_of earlier) (sink_calls airs n earlier) (source_of n earlier) is) [
       | inl before ↦ inl (record { there = before.0; begins_not = before.1; made_not = refl })
       | inr put ↦ inr put
     ]
@@ -170,7 +172,7 @@ there_before airs s n (steps.Announce sink) earlier tuning ungiven is = elim (an
     | inl follows ↦ absurd (none-some tuning (sym (ap place follows.same ∙ follows.nowhere) ∙ is.place_is))
     | inr put ↦ inr (record {
       put = put;
-      tuning_is = same_Some (machine.tuning_of put.joining) tuning (sym (ap place put.calls_is) ∙ is.place_is);
+      tuning_is = same_Some (machine.by_numbers put.joining) tuning (sym (ap place put.calls_is) ∙ is.place_is);
       chosen_is = same_Some (chosen_of earlier) s (sym put.source_is ∙ is.source_is);
     })
   ]
@@ -179,7 +181,7 @@ there_before airs s n (steps.Train sink time ext adv acad) earlier tuning ungive
     inl (stays_there airs s n (steps.Train sink time ext adv acad) earlier tuning (given_stays airs n sink time ext adv acad earlier ungiven) refl is)
 there_before airs s n step earlier tuning ungiven is = inl (stays_there airs s n step earlier tuning (plain_stays airs n step earlier refl refl refl refl) refl is)
 
-pub on_before : (airs : Airs) (s n : ℕ) (step : Step) (earlier : List Step) (tuning : Tuning) → IsOn airs s n (step ∷ earlier) tuning
+pub on_before : (airs : Airs) (s n : ℕ) (step : Step) (earlier : List Step) (tuning : Joining) → IsOn airs s n (step ∷ earlier) tuning
     → IsOn airs s n earlier tuning ⊎ BeginsBy airs s n step earlier tuning
 on_before airs s n step earlier tuning is =
     elim (there_before airs s n step earlier tuning (last_not (is_tuned n earlier step) (is_given n step) (any_since (is_tuned n) (is_given n) earlier) is.ungiven)
@@ -193,21 +195,21 @@ on_before airs s n step earlier tuning is =
     ]
 
 -- the step that begins a stay
-tuned_by : (airs : Airs) (s n : ℕ) (step : Step) (earlier : List Step) (tuning : Tuning) → BeginsBy airs s n step earlier tuning → is_tuned n earlier step ≡ true
+tuned_by : (airs : Airs) (s n : ℕ) (step : Step) (earlier : List Step) (tuning : Joining) → BeginsBy airs s n step earlier tuning → is_tuned n earlier step ≡ true
 tuned_by airs s n (steps.Tuned sink which) earlier tuning begins = begins.2
 tuned_by airs s n (steps.Announce sink) earlier tuning begins = begins.put.begins_is
 tuned_by airs s n _ earlier tuning begins = absurd begins
 
-pub begins_calls : (airs : Airs) (s n : ℕ) (step : Step) (earlier : List Step) (tuning : Tuning) → BeginsBy airs s n step earlier tuning
+pub begins_calls : (airs : Airs) (s n : ℕ) (step : Step) (earlier : List Step) (tuning : Joining) → BeginsBy airs s n step earlier tuning
     → sink_calls airs n (step ∷ earlier) ≡ tune tuning ∷ sink_calls airs n earlier
 begins_calls airs s n (steps.Tuned sink which) earlier tuning begins =
-    ap (λ put. cond put (tune (tuning_of (chosen_steps earlier) which) ∷ sink_calls airs n earlier) (sink_calls airs n earlier)) begins.2
+    ap (λ put. cond put (tune (joining_on (chosen_steps earlier) which) ∷ sink_calls airs n earlier) (sink_calls airs n earlier)) begins.2
     ∙ ap (λ on. tune on ∷ sink_calls airs n earlier) begins.0
 begins_calls airs s n (steps.Announce sink) earlier tuning begins = begins.put.calls_is ∙ ap (λ on. tune on ∷ sink_calls airs n earlier) begins.tuning_is
 begins_calls airs s n _ earlier tuning begins = absurd begins
 
 -- what is not so since a sink was made is not so since the stay began
-pub not_in_stay : (is_one : Step → Bool) (airs : Airs) (s n : ℕ) (made : List Step) (tuning : Tuning) → IsThere s tuning (sink_calls airs n made) (source_of n made)
+pub not_in_stay : (is_one : Step → Bool) (airs : Airs) (s n : ℕ) (made : List Step) (tuning : Joining) → IsThere s tuning (sink_calls airs n made) (source_of n made)
     → given_since_made n made ≡ false → any_since (is_made n) is_one made ≡ false → any_since (is_tuned n) is_one made ≡ false
 not_in_stay is_one airs s n [] tuning is ungiven clean = refl
 not_in_stay is_one airs s n (step ∷ earlier) tuning is ungiven clean =
@@ -220,7 +222,7 @@ not_in_stay is_one airs s n (step ∷ earlier) tuning is ungiven clean =
     ])
 
 -- a sink to which no train was given since it was made
-pub on_since_made : (airs : Airs) (s n : ℕ) (made : List Step) (tuning : Tuning) → place (sink_calls airs n made) ≡ Some tuning → source_of n made ≡ Some s → given_since_made n made ≡ false
+pub on_since_made : (airs : Airs) (s n : ℕ) (made : List Step) (tuning : Joining) → place (sink_calls airs n made) ≡ Some tuning → source_of n made ≡ Some s → given_since_made n made ≡ false
     → IsOn airs s n made tuning
 on_since_made airs s n made tuning place_is source_is ungiven = record {
   place_is = place_is;
@@ -230,21 +232,21 @@ on_since_made airs s n made tuning place_is source_is ungiven = record {
 
 -- ---- the stay is on the source's group
 
-pub record OnSource (own : List Step) (tuning : Tuning) : Type 0 where
+pub record OnSource (own : List Step) (tuning : Joining) : Type 0 where
   pub started : is_started own ≡ true
   pub tuned : TunedTo (setup_of own) tuning
   pub streams : has_beyond (setup_of own).info.num_bis tuning.which ≡ false
 
-tuned_to : (airs : Airs) (boxes s : ℕ) (earlier : List Step) (tuning : Tuning) (which : ℕ) → is_started (chosen_steps earlier) ≡ true → tuning_of (chosen_steps earlier) which ≡ tuning
+tuned_to : (airs : Airs) (boxes s : ℕ) (earlier : List Step) (tuning : Joining) (which : ℕ) → is_started (chosen_steps earlier) ≡ true → joining_on (chosen_steps earlier) which ≡ tuning
     → has_beyond (setup_of (chosen_steps earlier)).info.num_bis which ≡ false → chosen_of earlier ≡ s → OnSource (steps_of_source s earlier) tuning
 tuned_to airs boxes s earlier tuning which started same within chosen =
     subst (λ t. OnSource (steps_of_source t earlier) tuning) chosen (record {
       started = started;
       tuned = subst (TunedTo (setup_of (chosen_steps earlier))) same (record { info = refl; first = omega arith; anchor = refl; delay = refl });
-      streams = subst (λ (t : Tuning). has_beyond (setup_of (chosen_steps earlier)).info.num_bis t.which ≡ false) same within;
+      streams = subst (λ (t : Joining). has_beyond (setup_of (chosen_steps earlier)).info.num_bis t.which ≡ false) same within;
     })
 
-begins_to : Announcing → (airs : Airs) (boxes s n : ℕ) (step : Step) (earlier : List Step) (tuning : Tuning) → Legal airs boxes earlier → Permitted airs boxes earlier step
+begins_to : Announcing → (airs : Airs) (boxes s n : ℕ) (step : Step) (earlier : List Step) (tuning : Joining) → Legal airs boxes earlier → Permitted airs boxes earlier step
     → BeginsBy airs s n step earlier tuning → OnSource (steps_of_source s earlier) tuning
 begins_to laws airs boxes s n (steps.Tuned sink which) earlier tuning legal permits begins =
     tuned_to airs boxes s earlier tuning which (takes (chosen_steps earlier) permits.in_phase) begins.0
@@ -255,16 +257,16 @@ begins_to laws airs boxes s n (steps.Announce sink) earlier tuning legal permits
 begins_to laws airs boxes s n _ earlier tuning legal permits begins = absurd begins
 
 -- such a stay begins with the source's next event
-pub begins_next : Announcing → (airs : Airs) (boxes s n : ℕ) (step : Step) (earlier : List Step) (tuning : Tuning) → Legal airs boxes earlier → Permitted airs boxes earlier step
+pub begins_next : Announcing → (airs : Airs) (boxes s n : ℕ) (step : Step) (earlier : List Step) (tuning : Joining) → Legal airs boxes earlier → Permitted airs boxes earlier step
     → BeginsBy airs s n step earlier tuning → tuning.first ≡ next_in (steps_of_source s earlier)
 begins_next laws airs boxes s n (steps.Tuned sink which) earlier tuning legal permits begins =
-    ap (λ (t : Tuning). t.first) (sym begins.0) ∙ ap (λ t. next_in (steps_of_source t earlier)) begins.1
+    ap (λ (t : Joining). t.first) (sym begins.0) ∙ ap (λ t. next_in (steps_of_source t earlier)) begins.1
 begins_next laws airs boxes s n (steps.Announce sink) earlier tuning legal permits begins =
-    ap (λ (t : Tuning). t.first) (sym begins.tuning_is ∙ (as_by_hand laws airs boxes n sink earlier begins.put.joining legal permits begins.put.brings).0)
+    ap (λ (t : Joining). t.first) (sym begins.tuning_is ∙ (as_by_hand laws airs boxes n sink earlier begins.put.joining legal permits begins.put.brings).0)
     ∙ ap (λ t. next_in (steps_of_source t earlier)) begins.chosen_is
 begins_next laws airs boxes s n _ earlier tuning legal permits begins = absurd begins
 
-still_to : (airs : Airs) (boxes s : ℕ) (step : Step) (earlier : List Step) (tuning : Tuning) → Legal airs boxes (step ∷ earlier) → OnSource (steps_of_source s earlier) tuning
+still_to : (airs : Airs) (boxes s : ℕ) (step : Step) (earlier : List Step) (tuning : Joining) → Legal airs boxes (step ∷ earlier) → OnSource (steps_of_source s earlier) tuning
     → OnSource (steps_of_source s (step ∷ earlier)) tuning
 still_to airs boxes s step earlier tuning legal on =
     let more = goes airs boxes s earlier step legal on.started in
@@ -275,7 +277,7 @@ still_to airs boxes s step earlier tuning legal on =
     }
 
 -- a sink on a group is on that of its source, which was started
-pub on_source : Announcing → (airs : Airs) (boxes s n : ℕ) (made : List Step) (tuning : Tuning) → Legal airs boxes made → IsOn airs s n made tuning → OnSource (steps_of_source s made) tuning
+pub on_source : Announcing → (airs : Airs) (boxes s n : ℕ) (made : List Step) (tuning : Joining) → Legal airs boxes made → IsOn airs s n made tuning → OnSource (steps_of_source s made) tuning
 on_source laws airs boxes s n [] tuning legal is = absurd (none-some tuning is.place_is)
 on_source laws airs boxes s n (step ∷ earlier) tuning legal is = still_to airs boxes s step earlier tuning legal (elim (on_before airs s n step earlier tuning is) [
   | inl before ↦ on_source laws airs boxes s n earlier tuning legal.0 before
@@ -283,7 +285,7 @@ on_source laws airs boxes s n (step ∷ earlier) tuning legal is = still_to airs
 ])
 
 -- the first event of a stay was the source's next one as the stay began
-stays_first : (airs : Airs) (boxes s n : ℕ) (step : Step) (earlier : List Step) (tuning : Tuning) → Legal airs boxes (step ∷ earlier) → is_started (steps_of_source s earlier) ≡ true
+stays_first : (airs : Airs) (boxes s n : ℕ) (step : Step) (earlier : List Step) (tuning : Joining) → Legal airs boxes (step ∷ earlier) → is_started (steps_of_source s earlier) ≡ true
     → (begins : Bool) → is_tuned n earlier step ≡ begins → (before : List Step)
     → tuning.first ≡ next_of (setup_of (steps_of_source s earlier)) (source_calls (steps_of_source s before)) → cond begins earlier (steps_before (is_tuned n) earlier) ≡ before
     → tuning.first ≡ next_of (setup_of (steps_of_source s (step ∷ earlier))) (source_calls (steps_of_source s (steps_before (is_tuned n) (step ∷ earlier))))
@@ -293,7 +295,7 @@ stays_first airs boxes s n step earlier tuning legal started begins is before fi
     ∙ ap (λ part. next_of (setup_of (steps_of_source s (step ∷ earlier))) (source_calls (steps_of_source s part)))
     (sym same ∙ ap (λ b. cond b earlier (steps_before (is_tuned n) earlier)) (sym is))
 
-pub first_next : Announcing → (airs : Airs) (boxes s n : ℕ) (made : List Step) (tuning : Tuning) → Legal airs boxes made → IsOn airs s n made tuning
+pub first_next : Announcing → (airs : Airs) (boxes s n : ℕ) (made : List Step) (tuning : Joining) → Legal airs boxes made → IsOn airs s n made tuning
     → tuning.first ≡ next_of (setup_of (steps_of_source s made)) (source_calls (steps_of_source s (steps_before (is_tuned n) made)))
 first_next laws airs boxes s n [] tuning legal is = absurd (none-some tuning is.place_is)
 first_next laws airs boxes s n (step ∷ earlier) tuning legal is =

@@ -5,7 +5,8 @@ use Rattle.std.proofs.lemmas.Bool.{eqb-true, false≢true}
 use Rattle.std.proofs.lemmas.List.{append-nil}
 use Rattle.std.proofs.lemmas.Option.{none-some}
 use Rattle.unit_outlets.specs.Handed.{Handed}
-use Rattle.group_sink.specs.Calls.{Tuning, Call, tune, place}
+use Rattle.group_sink.specs.Calls.{Call, tune, place}
+use Rattle.sync_reference.specs.Joining.{Joining}
 use Rattle.group_sink.specs.Handing.{handed_by as ticked_by, of_stream}
 use Rattle.scenario_text.specs.declared.step.Step.{Step}
 use Rattle.scenario_text.specs.declared.step.Step.TheVariants as steps
@@ -39,10 +40,10 @@ all_closed airs s n [] = refl
 all_closed airs s n (step ∷ earlier) = ap (λ closed. cond (is_made n earlier step) [] (closed ++ closed_by airs s n earlier step)) (all_closed airs s n earlier)
 
 -- the group of the source that the sink is on
-abbrev pub here_at : Airs → ℕ → ℕ → List Step → Option Tuning
+abbrev pub here_at : Airs → ℕ → ℕ → List Step → Option Joining
 here_at airs s n made = stay_if (mine_in s n made) (sink_calls airs n made)
 
-stay_is : (mine : Bool) (calls : List Call) (tuning : Tuning) → stay_if mine calls ≡ Some tuning → (mine ≡ true) × (place calls ≡ Some tuning)
+stay_is : (mine : Bool) (calls : List Call) (tuning : Joining) → stay_if mine calls ≡ Some tuning → (mine ≡ true) × (place calls ≡ Some tuning)
 stay_is true calls tuning is = (refl, is)
 stay_is false calls tuning is = absurd (none-some tuning is)
 
@@ -51,21 +52,21 @@ no_stay true calls nowhere = nowhere
 no_stay false calls nowhere = refl
 
 -- the first event of the stay, or the next event of the source
-abbrev pub first_of : Option Tuning → ℕ → ℕ
+abbrev pub first_of : Option Joining → ℕ → ℕ
 first_of None next = next
 first_of (Some tuning) next = tuning.first
 
 -- what is of the stay, where there is one
-abbrev pub in_stay : {A : Type 0} → Option Tuning → List A → List A
+abbrev pub in_stay : {A : Type 0} → Option Joining → List A → List A
 in_stay None xs = []
 in_stay (Some tuning) xs = xs
 
-in_stay_none : {A : Type 0} (here : Option Tuning) → (let none : List A = [] in in_stay here none ≡ none)
+in_stay_none : {A : Type 0} (here : Option Joining) → (let none : List A = [] in in_stay here none ≡ none)
 in_stay_none None = refl
 in_stay_none (Some tuning) = refl
 
 -- all events and entries are those of the stay behind past ones, of which the claim holds up to the first event of the stay
-pub record InTurn (Q : ℕ → List Closed → List Handed → Type 0) (s n bis : ℕ) (here : Option Tuning) (next : ℕ) (closed now : List Closed) (units units_now : List SinkUnit) : Type 0 where
+pub record InTurn (Q : ℕ → List Closed → List Handed → Type 0) (s n bis : ℕ) (here : Option Joining) (next : ℕ) (closed now : List Closed) (units units_now : List SinkUnit) : Type 0 where
   pub past : List Closed
   pub entries : List Handed
   pub claim : Q (first_of here next) past entries
@@ -76,17 +77,17 @@ pub record InTurn (Q : ℕ → List Closed → List Handed → Type 0) (s n bis 
 abbrev pub Rises : (ℕ → List Closed → List Handed → Type 0) → Type 0
 Rises Q = (e : ℕ) → (later : ℕ) → (closed : List Closed) → (entries : List Handed) → e ≤ later → Q e closed entries → Q later closed entries
 
-first_rises : (Q : ℕ → List Closed → List Handed → Type 0) → Rises Q → (here : Option Tuning) (next later : ℕ) (closed : List Closed) (entries : List Handed) → next ≤ later
+first_rises : (Q : ℕ → List Closed → List Handed → Type 0) → Rises Q → (here : Option Joining) (next later : ℕ) (closed : List Closed) (entries : List Handed) → next ≤ later
     → Q (first_of here next) closed entries → Q (first_of here later) closed entries
 first_rises Q rises None next later closed entries more claim = rises next later closed entries more claim
 first_rises Q rises (Some tuning) next later closed entries more claim = claim
 
-more_list : {A : Type 0} (all past now more : List A) (here : Option Tuning) → all ≡ past ++ in_stay here now → (here ≡ None → more ≡ []) → all ++ more ≡ past ++ in_stay here (now ++ more)
+more_list : {A : Type 0} (all past now more : List A) (here : Option Joining) → all ≡ past ++ in_stay here now → (here ≡ None → more ≡ []) → all ++ more ≡ past ++ in_stay here (now ++ more)
 more_list all past now more (Some tuning) is none = ap (λ xs. xs ++ more) is ∙ append_assoc past now more
 more_list all past now more None is none = ap (λ xs. all ++ xs) (none refl) ∙ append-nil all ∙ is
 
 goes_on : (Q : ℕ → List Closed → List Handed → Type 0) → Rises Q
-    → (s n bis : ℕ) (here : Option Tuning) (next later : ℕ) (closed now more : List Closed) (units units_now others : List SinkUnit)
+    → (s n bis : ℕ) (here : Option Joining) (next later : ℕ) (closed now more : List Closed) (units units_now others : List SinkUnit)
     → next ≤ later → (here ≡ None → more ≡ []) → (here ≡ None → shown s n bis others ≡ []) → InTurn Q s n bis here next closed now units units_now
     → InTurn Q s n bis here later (closed ++ more) (now ++ more) (units ++ others) (units_now ++ others)
 goes_on Q rises s n bis here next later closed now more units units_now others on no_more no_others before = record {
@@ -100,7 +101,7 @@ goes_on Q rises s n bis here next later closed now more units units_now others o
 }
 
 -- the same, where the step begins nothing
-same_turn : (Q : ℕ → List Closed → List Handed → Type 0) (s n bis : ℕ) (here here' : Option Tuning) (made begins : Bool) (next : ℕ) (closed now : List Closed) (units units_now : List SinkUnit)
+same_turn : (Q : ℕ → List Closed → List Handed → Type 0) (s n bis : ℕ) (here here' : Option Joining) (made begins : Bool) (next : ℕ) (closed now : List Closed) (units units_now : List SinkUnit)
     → here' ≡ here → made ≡ false → begins ≡ false → InTurn Q s n bis here next closed now units units_now
     → InTurn Q s n bis here' next (cond made [] closed) (cond begins [] now) (cond made [] units) (cond begins [] units_now)
 same_turn Q s n bis here here' true begins next closed now units units_now same made_not begins_not all = absurd (false≢true (sym made_not))
@@ -164,7 +165,7 @@ InTurnAt Q airs s n bis made =
 
 -- the claim goes on over a stay up to the source's next event
 abbrev pub OverStay : (ℕ → List Closed → List Handed → Type 0) → (List Step → Type 0) → Airs → ℕ → ℕ → ℕ → Type 0
-OverStay Q Fine airs s n bis = (made : List Step) → Fine made → (tuning : Tuning) → IsOn airs s n made tuning → (past : List Closed) → (entries : List Handed) → Q tuning.first past entries
+OverStay Q Fine airs s n bis = (made : List Step) → Fine made → (tuning : Joining) → IsOn airs s n made tuning → (past : List Closed) → (entries : List Handed) → Q tuning.first past entries
     → Q (next_in (steps_of_source s made)) (past ++ closed_from (is_tuned n) airs s n made) (entries ++ shown_since (is_tuned n) airs s n bis made)
 
 pub record Turns (Q : ℕ → List Closed → List Handed → Type 0) (Fine : List Step → Type 0) (airs : Airs) (boxes s n bis : ℕ) : Type 0 where
@@ -179,7 +180,7 @@ pub record Turns (Q : ℕ → List Closed → List Handed → Type 0) (Fine : Li
   pub sink_within : n ≤ 7
 
 pub at_end : (Q : ℕ → List Closed → List Handed → Type 0) (Fine : List Step → Type 0) (airs : Airs) (boxes s n bis : ℕ) → Turns Q Fine airs boxes s n bis → (made : List Step) → Fine made
-    → (here : Option Tuning) → here_at airs s n made ≡ here
+    → (here : Option Joining) → here_at airs s n made ≡ here
     → InTurn Q s n bis here (next_in (steps_of_source s made)) (closed_from (is_made n) airs s n made) (closed_from (is_tuned n) airs s n made) (handed_since (is_made n) airs made)
     (handed_since (is_tuned n) airs made)
     → Q (next_in (steps_of_source s made)) (closed_from (is_made n) airs s n made) (shown s n bis (handed_since (is_made n) airs made))
@@ -230,16 +231,16 @@ past_list true xs more made_not none = absurd (false≢true (sym made_not))
 past_list false xs more made_not none = ap (λ ys. xs ++ ys) none ∙ append-nil xs
 
 -- the stay has nothing yet
-abbrev IsFresh : Option Tuning → Bool → Type 0
+abbrev IsFresh : Option Joining → Bool → Type 0
 IsFresh here begins = (here ≡ None) ⊎ (begins ≡ true)
 
-fresh_closed : (here : Option Tuning) (begins : Bool) (closed : List Closed) → IsFresh here begins → in_stay here (cond begins [] closed) ≡ []
+fresh_closed : (here : Option Joining) (begins : Bool) (closed : List Closed) → IsFresh here begins → in_stay here (cond begins [] closed) ≡ []
 fresh_closed here begins closed fresh = elim fresh [
   | inl nowhere ↦ ap (λ h. in_stay h (cond begins [] closed)) nowhere
   | inr anew ↦ ap (λ b. in_stay here (cond b [] closed)) anew ∙ in_stay_none here
 ]
 
-fresh_shown : (s n bis : ℕ) (here : Option Tuning) (begins : Bool) (units : List SinkUnit) → IsFresh here begins → in_stay here (shown s n bis (cond begins [] units)) ≡ []
+fresh_shown : (s n bis : ℕ) (here : Option Joining) (begins : Bool) (units : List SinkUnit) → IsFresh here begins → in_stay here (shown s n bis (cond begins [] units)) ≡ []
 fresh_shown s n bis here begins units fresh = elim fresh [
   | inl nowhere ↦ ap (λ h. in_stay h (shown s n bis (cond begins [] units))) nowhere
   | inr anew ↦ ap (λ b. in_stay here (shown s n bis (cond b [] units))) anew ∙ in_stay_none here
@@ -280,12 +281,12 @@ off_turn Q Fine airs boxes s n bis step earlier before no_closed no_shown nowher
     (subst (λ here. next_in (steps_of_source s earlier) ≤ first_of here (next_in (steps_of_source s (step ∷ earlier)))) (sym none) before.more) (inl none)
 
 -- it is put on this group of the chosen source, from the source's next event on
-put_least : (chosen s : ℕ) (on : Tuning) (rest : List Call) (next next' : ℕ) → next ≤ next' → ((chosen == s) ≡ true → on.first ≡ next) → (mine : Bool) → (chosen == s) ≡ mine
+put_least : (chosen s : ℕ) (on : Joining) (rest : List Call) (next next' : ℕ) → next ≤ next' → ((chosen == s) ≡ true → on.first ≡ next) → (mine : Bool) → (chosen == s) ≡ mine
     → next ≤ first_of (stay_if mine (tune on ∷ rest)) next'
 put_least chosen s on rest next next' more first true is = omega (arith, first is)
 put_least chosen s on rest next next' more first false is = more
 
-pub put_turn : (Q : ℕ → List Closed → List Handed → Type 0) (Fine : List Step → Type 0) (airs : Airs) (boxes s n bis : ℕ) (step : Step) (earlier : List Step) (on : Tuning)
+pub put_turn : (Q : ℕ → List Closed → List Handed → Type 0) (Fine : List Step → Type 0) (airs : Airs) (boxes s n bis : ℕ) (step : Step) (earlier : List Step) (on : Joining)
     → Before Q Fine airs boxes s n bis step earlier → closed_by airs s n earlier step ≡ [] → handed_by airs earlier step ≡ [] → is_tuned n earlier step ≡ true
     → sink_calls airs n (step ∷ earlier) ≡ tune on ∷ sink_calls airs n earlier → source_of n (step ∷ earlier) ≡ Some (chosen_of earlier) → on.first ≡ next_in (chosen_steps earlier)
     → InTurnAt Q airs s n bis (step ∷ earlier)

@@ -4,13 +4,15 @@ use Rattle.std.proofs.lemmas.Bool.{cases_Bool, false≢true}
 use Rattle.std.proofs.lemmas.Option.{none-some}
 use Rattle.delegator_machine.specs.Groups as machine
 use Rattle.unit_outlets.specs.Handed.{Handed}
-use Rattle.group_sink.specs.Calls.{Tuning, tune, hear, place}
+use Rattle.group_sink.specs.Calls.{tune, hear, place}
+use Rattle.sync_reference.specs.Joining.{Joining}
 use Rattle.scenario_text.specs.declared.step.Step.{Step}
 use Rattle.scenario_text.specs.declared.step.Step.TheVariants as steps
 use Rattle.scenario_history.specs.Steps.{chosen_of, chosen_steps, steps_of_source}
 use Rattle.scenario_history.specs.Source.{event_back, open_event, pdu_in}
 use Rattle.source_machine.specs.Airs.{Airs}
-use Rattle.scenario_history.specs.Sinks.{heard_on_air, is_of, reaches, sink_calls, source_of, spots_of, tuning_of}
+use Rattle.scenario_history.specs.Sinks.{heard_on_air, is_of, reaches, sink_calls, source_of, spots_of}
+use Rattle.scenario_history.specs.Worlds.{joining_on}
 use Rattle.scenario_history.specs.Boxes.{SinkUnit, handed_by}
 use Rattle.scenario_laws.specs.Laws.{Closed, closed_by, closed_since, given_since_made, handed_since, is_given, is_made, is_tuned, shown_since}
 use Rattle.scenario_laws.proofs.ByHand.{as_by_hand}
@@ -44,13 +46,13 @@ turn_after Q Fine airs boxes s n bis (steps.Drop sink) earlier before = elim (ca
 ]
 turn_after Q Fine airs boxes s n bis (steps.Tuned sink which) earlier before = elim (cases_Bool (sink == n)) [
   | inl put ↦
-      put_turn Q Fine airs boxes s n bis (steps.Tuned sink which) earlier (tuning_of (chosen_steps earlier) which) before refl refl put
-      (ap (λ b. cond b (tune (tuning_of (chosen_steps earlier) which) ∷ sink_calls airs n earlier) (sink_calls airs n earlier)) put)
+      put_turn Q Fine airs boxes s n bis (steps.Tuned sink which) earlier (joining_on (chosen_steps earlier) which) before refl refl put
+      (ap (λ b. cond b (tune (joining_on (chosen_steps earlier) which) ∷ sink_calls airs n earlier) (sink_calls airs n earlier)) put)
       (ap (λ b. cond b (Some (chosen_of earlier)) (source_of n earlier)) put) refl
   | inr other ↦
       still_turn Q Fine airs boxes s n bis (steps.Tuned sink which) earlier before other
       (ap (λ b. cond b (Some (chosen_of earlier)) (source_of n earlier)) other)
-      (ap (λ b. place (cond b (tune (tuning_of (chosen_steps earlier) which) ∷ sink_calls airs n earlier) (sink_calls airs n earlier))) other)
+      (ap (λ b. place (cond b (tune (joining_on (chosen_steps earlier) which) ∷ sink_calls airs n earlier) (sink_calls airs n earlier))) other)
 ]
 turn_after Q Fine airs boxes s n bis (steps.Hear sink back stream subevent) earlier before =
     still_turn Q Fine airs boxes s n bis (steps.Hear sink back stream subevent) earlier before refl refl
@@ -81,8 +83,8 @@ turn_after Q Fine airs boxes s n bis (steps.Announce sink) earlier before = elim
   | inr goes ↦ elim goes [
     | inl follows ↦ off_turn Q Fine airs boxes s n bis (steps.Announce sink) earlier before refl refl (ap place follows.same ∙ follows.nowhere)
     | inr put ↦
-        put_turn Q Fine airs boxes s n bis (steps.Announce sink) earlier (machine.tuning_of put.joining) before refl refl put.begins_is put.calls_is put.source_is
-        (ap (λ (t : Tuning). t.first)
+        put_turn Q Fine airs boxes s n bis (steps.Announce sink) earlier (machine.by_numbers put.joining) before refl refl put.begins_is put.calls_is put.source_is
+        (ap (λ (t : Joining). t.first)
         (as_by_hand before.turns.laws airs boxes n sink earlier put.joining before.legal_is.0 (permitted airs boxes earlier (steps.Announce sink) before.legal_is.1) put.brings).0)
   ]
 ]
@@ -94,7 +96,7 @@ turn_after Q Fine airs boxes s n bis step earlier before =
 -- ---- all steps
 
 -- the sink is made: it closed nothing and handed up nothing
-made_turn : (Q : ℕ → List Closed → List Handed → Type 0) → ((e : ℕ) → Q e [] []) → (s n bis : ℕ) (here : Option Tuning) (again : Bool) → here ≡ None → again ≡ true
+made_turn : (Q : ℕ → List Closed → List Handed → Type 0) → ((e : ℕ) → Q e [] []) → (s n bis : ℕ) (here : Option Joining) (again : Bool) → here ≡ None → again ≡ true
     → (next : ℕ) (closed now : List Closed) (units units_now : List SinkUnit) → InTurn Q s n bis here next (cond again [] closed) now (cond again [] units) units_now
 made_turn Q none s n bis None true nowhere is next closed now units units_now = record { past = []; entries = []; claim = none next; closed_is = refl; shown_is = refl }
 made_turn Q none s n bis (Some tuning) again nowhere is next closed now units units_now = absurd (none-some tuning (sym nowhere))

@@ -18,7 +18,7 @@ use Rattle.isoal_framed.specs.Tokens.{time_of}
 use Rattle.isoal_framed.proofs.Citable.{cases_low, opened_least}
 use Rattle.sync_reference.specs.Reference.{anchor_of, framed_reference_of, render_of}
 use Rattle.source_machine.specs.Calls.{Setup, Call as SourceCall, framed_calls, next_of}
-use Rattle.group_sink.specs.Calls.{Tuning}
+use Rattle.sync_reference.specs.Joining.{Joining}
 use Rattle.group_sink.specs.Handing.{bis_of, handed_since as ticked_since, of_stream}
 use Rattle.group_sink.specs.Streams.{is_in, stay_on, streams_of}
 use Rattle.group_sink.proofs.Citable.{is_member, member_is}
@@ -63,7 +63,7 @@ numbered_on setup whole bis low (n ∷ ns) (unit ∷ units) all = (all.0, (unit,
 -- ---- an entry is of its unit
 
 -- the time of a start by the stay's anchor is that by the source's
-pub start_time_is : (setup : Setup) (tuning : Tuning) (bis event offset : ℕ) → TunedTo setup tuning → tuning.first ≤ event
+pub start_time_is : (setup : Setup) (tuning : Joining) (bis event offset : ℕ) → TunedTo setup tuning → tuning.first ≤ event
     → time_of (stay_on tuning bis) event offset ≡ time_of (whole_stay setup bis) event offset
 start_time_is setup tuning bis event offset on least =
     let both : event - setup.first ≡ (tuning.first - setup.first) + (event - tuning.first) = omega (arith, least, on.first) in
@@ -110,7 +110,7 @@ entry_octets bis time octets all whole entry of_unit is bis' time' octets' same 
   | inr here ↦ ap octets_of (sym same ∙ here.1) ∙ of_unit here.0
 ]
 
-one_entry : (setup : Setup) (whole : List SourceCall) (tuning : Tuning) (bis n : ℕ) (one : Sent) (entry : Handed) (calls : List stays.Call) → 1 ≤ setup.info.bn → TunedTo setup tuning
+one_entry : (setup : Setup) (whole : List SourceCall) (tuning : Joining) (bis n : ℕ) (one : Sent) (entry : Handed) (calls : List stays.Call) → 1 ≤ setup.info.bn → TunedTo setup tuning
     → opened (stay_on tuning bis) calls ≤ next_of setup whole
     → IsNumbered setup.info.bn (layings_of (framed_calls setup bis whole)) (accepted (framed_calls setup bis whole)) n one
     → IsEntry (stay_on tuning bis) (is_heard (stay_on tuning bis) calls) (closed_end (stay_on tuning bis) calls) (by_payload setup one) entry
@@ -152,7 +152,7 @@ one_entry setup whole tuning bis n one entry calls some on opens numbered is =
           is_of.octets is.is;
     }
 
-stay_gives : (setup : Setup) (whole : List SourceCall) (tuning : Tuning) (bis : ℕ) (calls : List stays.Call) → 1 ≤ setup.info.bn → TunedTo setup tuning
+stay_gives : (setup : Setup) (whole : List SourceCall) (tuning : Joining) (bis : ℕ) (calls : List stays.Call) → 1 ≤ setup.info.bn → TunedTo setup tuning
     → opened (stay_on tuning bis) calls ≤ next_of setup whole
     → Gives (IsSent setup whole bis) (IsOfUnit setup whole bis) (tuning.first * tuning.info.bn) (closed_end (stay_on tuning bis) calls)
     (entry_of (stay_on tuning bis) (is_heard (stay_on tuning bis) calls) (closed_end (stay_on tuning bis) calls))

@@ -16,7 +16,8 @@ use Rattle.isoal_unframed.specs.Struck.{Struck, air_at}
 use Rattle.source_machine.specs.Airs.{slots_of, Airs}
 use Rattle.source_machine.specs.Calls.{Call as SourceCall, laid_with, stream_calls as source_stream}
 use Rattle.source_machine.specs.Faults.{give_fault}
-use Rattle.group_sink.specs.Calls.{Tuning, Call, tune, hear, place}
+use Rattle.group_sink.specs.Calls.{Call, tune, hear, place}
+use Rattle.sync_reference.specs.Joining.{Joining}
 use Rattle.group_sink.specs.Handing.{handed_since as ticked_since, of_stream}
 use Rattle.group_sink.specs.Streams.{stay_on}
 use Rattle.group_sink.proofs.Citable.{member_is}
@@ -26,7 +27,8 @@ use Rattle.scenario_text.specs.Ranges.{IsInRange}
 use Rattle.scenario_history.specs.Steps.{chosen_of, chosen_steps, steps_of_source}
 use Rattle.scenario_history.specs.Source.{event_back, open_event, setup_of, source_calls}
 use Rattle.scenario_history.specs.Airs.{MeetAirs}
-use Rattle.scenario_history.specs.Sinks.{heard_on_air, is_lost, is_of, reaches, sink_calls, source_of, spot_at, spots_of, ticked, ticked_if, tuning_of, unless_lost}
+use Rattle.scenario_history.specs.Sinks.{heard_on_air, is_lost, is_of, reaches, sink_calls, source_of, spot_at, spots_of, ticked, ticked_if, unless_lost}
+use Rattle.scenario_history.specs.Worlds.{joining_on}
 use Rattle.scenario_history.specs.Boxes.{SinkUnit, handed_by}
 use Rattle.scenario_history.specs.Refusals.{give_refusal}
 use Rattle.scenario_history.specs.Lines.{steps_of}
@@ -113,7 +115,7 @@ slot_short airs bis own legal event slot unit has =
 
 -- ---- what the closes of a stay hand is struck
 
-pub stay_struck : Below → (airs : Airs) → MeetAirs airs → (boxes s n bis : ℕ) (made : List Step) (tuning : Tuning) → Legal airs boxes made
+pub stay_struck : Below → (airs : Airs) → MeetAirs airs → (boxes s n bis : ℕ) (made : List Step) (tuning : Joining) → Legal airs boxes made
     → IsOn airs s n made tuning → 1 ≤ bis → (setup_of (steps_of_source s made)).info.framing ≡ 0 → injected_since (is_tuned n) n made ≡ false
     → Struck (stay_on tuning bis) (slots_of (setup_of (steps_of_source s made)) (source_calls (steps_of_source s made)) bis)
     (calls_on airs made n tuning bis) (handed (stay_on tuning bis) (calls_on airs made n tuning bis))
@@ -168,11 +170,11 @@ closed_since_by airs s n earlier its =
     ∙ ap (λ us. ticked_since (sink_calls airs n earlier) ++ cond (chosen_of earlier == s) us [])
     (sym (own_if s (source_of n earlier) (handed_open (sink_calls airs n earlier) (open_event (steps_of_source s earlier))) its))
 
-gone_since : (gone : Bool) (calls : List Call) (tuning : Tuning) → place (cond gone [] calls) ≡ Some tuning → ticked_since (cond gone [] calls) ≡ ticked_since calls ++ []
+gone_since : (gone : Bool) (calls : List Call) (tuning : Joining) → place (cond gone [] calls) ≡ Some tuning → ticked_since (cond gone [] calls) ≡ ticked_since calls ++ []
 gone_since true calls tuning is = absurd (none-some tuning is)
 gone_since false calls tuning is = sym (append-nil (ticked_since calls))
 
-put_since : (s n : ℕ) (put : Bool) (on tuning : Tuning) (chosen : ℕ) (calls : List Call) (source : Option ℕ) (units : List SinkUnit)
+put_since : (s n : ℕ) (put : Bool) (on tuning : Joining) (chosen : ℕ) (calls : List Call) (source : Option ℕ) (units : List SinkUnit)
     → IsThere s tuning (cond put (tune on ∷ calls) calls) (cond put (Some chosen) source) → (IsThere s tuning calls source → put ≡ false → of_sink s n units ≡ ticked_since calls)
     → of_sink s n (cond put [] (units ++ [])) ≡ ticked_since (cond put (tune on ∷ calls) calls)
 put_since s n true on tuning chosen calls source units is before = refl
@@ -182,7 +184,7 @@ abbrev Since : Airs → ℕ → ℕ → List Step → Type 0
 Since airs s n made = of_sink s n (handed_since (is_tuned n) airs made) ≡ ticked_since (sink_calls airs n made)
 
 -- a step that puts the sink nowhere
-still_since : (airs : Airs) (boxes s n : ℕ) (step : Step) (earlier : List Step) (tuning : Tuning) → Legal airs boxes earlier → s ≤ 1 → n ≤ 7 → (BeginsBy airs s n step earlier tuning → ⊥)
+still_since : (airs : Airs) (boxes s n : ℕ) (step : Step) (earlier : List Step) (tuning : Joining) → Legal airs boxes earlier → s ≤ 1 → n ≤ 7 → (BeginsBy airs s n step earlier tuning → ⊥)
     → IsOn airs s n (step ∷ earlier) tuning → (IsOn airs s n earlier tuning → Since airs s n earlier)
     → (source_of n earlier ≡ Some s → ticked_since (sink_calls airs n (step ∷ earlier)) ≡ ticked_since (sink_calls airs n earlier) ++ shown_by airs s n earlier step)
     → of_sink s n (handed_since (is_tuned n) airs earlier ++ handed_by airs earlier step) ≡ ticked_since (sink_calls airs n (step ∷ earlier))
@@ -196,7 +198,7 @@ still_since airs boxes s n step earlier tuning legal least within never is since
 ]
 
 -- a step by which the receivers stay
-stays_since : (airs : Airs) (boxes s n : ℕ) (step : Step) (earlier : List Step) (tuning : Tuning) → StaysBy airs n step earlier → handed_by airs earlier step ≡ []
+stays_since : (airs : Airs) (boxes s n : ℕ) (step : Step) (earlier : List Step) (tuning : Joining) → StaysBy airs n step earlier → handed_by airs earlier step ≡ []
     → IsOn airs s n (step ∷ earlier) tuning → (IsOn airs s n earlier tuning → Since airs s n earlier) → Since airs s n (step ∷ earlier)
 stays_since airs boxes s n step earlier tuning stays none is since =
     let same : sink_calls airs n (step ∷ earlier) ≡ sink_calls airs n earlier = elim stays.left [
@@ -213,10 +215,10 @@ stays_since airs boxes s n step earlier tuning stays none is since =
     ∙ ap (of_sink s n) (append-nil (handed_since (is_tuned n) airs earlier))
     ∙ since before ∙ ap ticked_since (sym same)
 
-since_after : (airs : Airs) (boxes s n : ℕ) (step : Step) (earlier : List Step) (tuning : Tuning) → Legal airs boxes earlier → s ≤ 1 → n ≤ 7 → IsOn airs s n (step ∷ earlier) tuning
+since_after : (airs : Airs) (boxes s n : ℕ) (step : Step) (earlier : List Step) (tuning : Joining) → Legal airs boxes earlier → s ≤ 1 → n ≤ 7 → IsOn airs s n (step ∷ earlier) tuning
     → (IsOn airs s n earlier tuning → Since airs s n earlier) → Since airs s n (step ∷ earlier)
 since_after airs boxes s n (steps.Tuned sink which) earlier tuning legal least within is since =
-    put_since s n (sink == n) (tuning_of (chosen_steps earlier) which) tuning (chosen_of earlier) (sink_calls airs n earlier) (source_of n earlier)
+    put_since s n (sink == n) (joining_on (chosen_steps earlier) which) tuning (chosen_of earlier) (sink_calls airs n earlier) (source_of n earlier)
     (handed_since (is_tuned n) airs earlier) (record { place_is = is.place_is; source_is = is.source_is })
     (λ there put_not. since (record {
       place_is = there.place_is;
@@ -266,7 +268,7 @@ since_after airs boxes s n (steps.Train sink time ext adv acad) earlier tuning l
 since_after airs boxes s n step earlier tuning legal least within is since =
     stays_since airs boxes s n step earlier tuning (plain_stays airs n step earlier refl refl refl refl) refl is since
 
-pub since : (airs : Airs) (boxes s n : ℕ) (made : List Step) (tuning : Tuning) → Legal airs boxes made → s ≤ 1 → n ≤ 7 → IsOn airs s n made tuning → Since airs s n made
+pub since : (airs : Airs) (boxes s n : ℕ) (made : List Step) (tuning : Joining) → Legal airs boxes made → s ≤ 1 → n ≤ 7 → IsOn airs s n made tuning → Since airs s n made
 since airs boxes s n [] tuning legal least within is = refl
 since airs boxes s n (step ∷ earlier) tuning legal least within is =
     since_after airs boxes s n step earlier tuning legal.0 least within is (λ before. since airs boxes s n earlier tuning legal.0 least within before)
@@ -277,7 +279,7 @@ pub record Numbers (s n : ℕ) : Type 0 where
   pub source_within : s ≤ 1
   pub sink_within : n ≤ 7
 
-begins_numbers : (airs : Airs) (boxes s n : ℕ) (step : Step) (earlier : List Step) (tuning : Tuning) → Legal airs boxes earlier → IsInRange step → BeginsBy airs s n step earlier tuning → Numbers s n
+begins_numbers : (airs : Airs) (boxes s n : ℕ) (step : Step) (earlier : List Step) (tuning : Joining) → Legal airs boxes earlier → IsInRange step → BeginsBy airs s n step earlier tuning → Numbers s n
 begins_numbers airs boxes s n (steps.Tuned sink which) earlier tuning legal ranged begins = record {
   source_within = subst (λ t. t ≤ 1) begins.1 (chosen_within airs boxes earlier legal);
   sink_within = subst (λ m. m ≤ 7) (eqb-true sink n begins.2) ranged;
@@ -288,7 +290,7 @@ begins_numbers airs boxes s n (steps.Announce sink) earlier tuning legal ranged 
 }
 begins_numbers airs boxes s n _ earlier tuning legal ranged begins = absurd begins
 
-pub numbers : (airs : Airs) (boxes s n : ℕ) (made : List Step) (tuning : Tuning) → Legal airs boxes made → IsOn airs s n made tuning → Numbers s n
+pub numbers : (airs : Airs) (boxes s n : ℕ) (made : List Step) (tuning : Joining) → Legal airs boxes made → IsOn airs s n made tuning → Numbers s n
 numbers airs boxes s n [] tuning legal is = absurd (none-some tuning is.place_is)
 numbers airs boxes s n (step ∷ earlier) tuning legal is = elim (on_before airs s n step earlier tuning is) [
   | inl before ↦ numbers airs boxes s n earlier tuning legal.0 before

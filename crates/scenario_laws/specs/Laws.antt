@@ -18,7 +18,8 @@ use Rattle.isoal_unframed.specs.Struck.{Place, Struck}
 use Rattle.scenario_history.specs.Runs.{Accepted}
 use Rattle.source_machine.specs.Airs.{slots_of, Airs}
 use Rattle.source_machine.specs.Calls.{Setup, next_of}
-use Rattle.group_sink.specs.Calls.{Tuning, Call, place}
+use Rattle.group_sink.specs.Calls.{Call, place}
+use Rattle.sync_reference.specs.Joining.{Joining}
 use Rattle.group_sink.specs.Handing.{bis_of, of_stream}
 use Rattle.group_sink.specs.Streams.{closes, is_in, stay_on, stream_calls, streams_of}
 use Rattle.scenario_text.specs.declared.step.Step.{Step}
@@ -96,7 +97,7 @@ shown_since begins airs s n bis steps = of_stream bis (of_sink s n (handed_since
 -- ---- one stay
 
 -- what the stay on a stream took since the sink was put on its group
-abbrev pub calls_on : Airs → List Step → ℕ → Tuning → ℕ → List stays.Call
+abbrev pub calls_on : Airs → List Step → ℕ → Joining → ℕ → List stays.Call
 calls_on airs steps n tuning bis = stream_calls (stay_on tuning bis) (sink_calls airs n steps)
 
 -- the steps before the last step that begins
@@ -107,7 +108,7 @@ steps_before begins (step ∷ earlier) = if begins earlier step then earlier els
 -- The stay is on the group of the source: the numbers of its group and its presentation delay are the source's, and its
 -- streams are some of the source's. Its first event was the source's next one as the stay began and has the anchor that it has
 -- by the source's own, and its open event is at most the source's next one. So the times of the stay are by the source's anchors.
-pub record IsOfSource (airs : Airs) (steps : List Step) (s n : ℕ) (tuning : Tuning) : Type 0 where
+pub record IsOfSource (airs : Airs) (steps : List Step) (s n : ℕ) (tuning : Joining) : Type 0 where
   pub info : tuning.info ≡ (setup_of (steps_of_source s steps)).info
   pub delay : tuning.delay ≡ (setup_of (steps_of_source s steps)).delay
   pub streams : (bis : ℕ) → Contains (streams_of tuning.which) bis → bis ≤ (setup_of (steps_of_source s steps)).info.num_bis
@@ -122,7 +123,7 @@ air_in airs own bis = unwrap_or (slice_get (airs (setup_of own) (source_calls ow
 -- in a stay on a framed stream: the air of the source sends units, and what the sink handed up on the stream since it was put
 -- on its group is struck over them: one entry for each unit whose start was heard, in order: valid where it is wholly laid and
 -- all numbers that carry it were heard before their events closed, lost where the first that wasn't is closed
-pub record IsFramedStruck (airs : Airs) (steps : List Step) (s n : ℕ) (tuning : Tuning) (bis : ℕ) : Type 0 where
+pub record IsFramedStruck (airs : Airs) (steps : List Step) (s n : ℕ) (tuning : Joining) (bis : ℕ) : Type 0 where
   pub some : (units : List Sent)
       × AreSent (setup_of (steps_of_source s steps)) (source_calls (steps_of_source s steps)) bis (air_in airs (steps_of_source s steps) bis) units
   pub each : (units : List Sent)
@@ -132,7 +133,7 @@ pub record IsFramedStruck (airs : Airs) (steps : List Step) (s n : ℕ) (tuning 
 -- the stay is on the source's group, and what the sink handed up on the stream since it was put there is struck, by the
 -- framing of the group. Unframed: over the slots of the source: one entry for each slot of each event that was closed in the
 -- stay, in order: the source's unit of the slot, valid, where the slot has one and all numbers that carry it are heard, else lost
-pub record IsStayStruck (airs : Airs) (steps : List Step) (s n : ℕ) (tuning : Tuning) (bis : ℕ) : Type 0 where
+pub record IsStayStruck (airs : Airs) (steps : List Step) (s n : ℕ) (tuning : Joining) (bis : ℕ) : Type 0 where
   pub of_source : IsOfSource airs steps s n tuning
   pub unframed : (setup_of (steps_of_source s steps)).info.framing ≡ 0
       → Struck (stay_on tuning bis) (slots_of (setup_of (steps_of_source s steps)) (source_calls (steps_of_source s steps)) bis)
@@ -145,7 +146,7 @@ pub record IsStayStruck (airs : Airs) (steps : List Step) (s n : ℕ) (tuning : 
 -- after each step, so at the end of each stay too.
 abbrev pub UnitsLaw : List Account → Type 0
 UnitsLaw starts = (airs : Airs) → MeetAirs airs → (lines : List TextLine) → Accepted (rules_of airs starts) lines
-    → (s : ℕ) → (n : ℕ) → (bis : ℕ) → (tuning : Tuning) → place (sink_calls airs n (steps_of airs lines)) ≡ Some tuning
+    → (s : ℕ) → (n : ℕ) → (bis : ℕ) → (tuning : Joining) → place (sink_calls airs n (steps_of airs lines)) ≡ Some tuning
     → source_of n (steps_of airs lines) ≡ Some s → Contains (streams_of tuning.which) bis
     → injected_since (is_tuned n) n (steps_of airs lines) ≡ false → IsStayStruck airs (steps_of airs lines) s n tuning bis
 
@@ -157,7 +158,7 @@ pub record Closed : Type 0 where
   pub which : ℕ
 
 -- the open event of the sink, where it is at most this event
-abbrev pub closed_in : Option Tuning → List Call → ℕ → List Closed
+abbrev pub closed_in : Option Joining → List Call → ℕ → List Closed
 closed_in None calls event = []
 closed_in (Some tuning) calls event =
     if nat_le (tuning.first + closes tuning calls) event
@@ -222,7 +223,7 @@ pub record IsStartHeard (airs : Airs) (steps : List Step) (s n bis : ℕ) (at : 
   pub made : List Step
   pub steps_are : steps ≡ later ++ made
   pub same_sink : list_any (is_made n made) later ≡ false
-  pub tuning : Tuning
+  pub tuning : Joining
   pub there : place (sink_calls airs n made) ≡ Some tuning
   pub its_source : source_of n made ≡ Some s
   pub taken : Contains (streams_of tuning.which) bis

@@ -4,8 +4,8 @@ use Rattle.std.specs.Prelude.{if◌then◌else◌}
 use Rattle.delegator_history.specs.Announced.{heard_as}
 use Rattle.announcement_train.specs.declared.train.Train.{Train as Announced}
 use Rattle.delegator_history.specs.States.{train_heard}
-use Rattle.delegator_history.specs.Trains.{Brought, Train, brought_by}
-use Rattle.delegator_machine.specs.Groups.{joining_brought, with_step}
+use Rattle.delegator_history.specs.Trains.{Brought, Train, brought_by, joining_in}
+use Rattle.delegator_machine.specs.Groups.{with_step}
 use Rattle.sink_history.specs.Calls.{Call, stepped}
 use Rattle.sink_history.specs.Lives.{Source, given_train, own_train}
 use Rattle.sink_history.specs.Moves.{follows}
@@ -39,5 +39,5 @@ after_train source train past =
       made = past.made;
       source = if follows brought then Some source.number else past.source;
       life = life;
-      received = with_step (joining_brought brought) (sight_in past.made past.life) (sight_in past.made life) past.received;
+      received = with_step (joining_in brought) (sight_in past.made past.life) (sight_in past.made life) past.received;
     }

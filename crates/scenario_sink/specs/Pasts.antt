@@ -1,9 +1,9 @@
 -- One sink of a scenario so far, and what a line makes of it (Basic Audio Profile 1.0, section 6.5). Lists of calls have the
 -- newest first. The scenario language is this project's own.
 use Rattle.std.specs.Prelude.{ℕ, List, [], ◌∷◌, Option, Some, None}
-use Rattle.delegator_machine.specs.Groups.{tuning_of}
+use Rattle.delegator_machine.specs.Groups.{by_numbers}
 use Rattle.delegator_history.specs.States.{put_on}
-use Rattle.delegator_history.specs.Trains.{Joining}
+use Rattle.sync_reference.specs.Joining.{Joining}
 use Rattle.group_sink.specs.Calls as sinks
 use Rattle.sink_history.specs.Calls.{Call, born, stepped}
 use Rattle.scenario_text.specs.declared.step.Step.{Step}
@@ -36,7 +36,7 @@ after_tuning source joining past = record {
   made = past.made;
   source = Some source;
   life = stepped (put_on source joining) ∷ past.life;
-  received = sinks.tune (tuning_of joining) ∷ past.received;
+  received = sinks.tune (by_numbers joining) ∷ past.received;
 }
 
 -- its receivers take a call

@@ -1,4 +1,4 @@
-ghost use Rattle.std.specs.Prelude.{◌≡◌, ◌+◌, ◌≤◌, ◌<◌, ◌^◌, IfOk, OnOk};
+ghost use Rattle.std.specs.Prelude.{◌≡◌, ◌≤◌, ◌<◌, ◌^◌, IfOk, OnOk};
 ghost use Rattle.delegator_machine.specs.State.Halves.{StandsFor};
 ghost use Rattle.group_sink.specs.Calls as sinks;
 ghost use Rattle.group_sink.specs.Handing.{handed_at};
@@ -7,13 +7,14 @@ ghost use Rattle.unit_outlets.specs.Handed.{HandsOver, Caused};
 ghost use Rattle.multi_assist.specs.Mtus.{IsMtu};
 ghost use Rattle.scenario_sink.specs.State.Untold.{its_mtu};
 
-use bcast_base::{Bis, BisSet, Memory};
-use big_info::{Group, Limits};
+use bcast_base::{Bis, Memory};
+use big_info::Limits;
 use delegator_machine::Delegator;
 use isoal_base::Hearing;
 use multi_assist::Links;
 use sink_history::a_step_tells_each_link;
 use std::alloc::Global;
+use sync_reference::Joining;
 use unit_outlets::{TakerFault, UnitTaker};
 
 /// A sink of a scenario: a Scan Delegator with the assistants on its four links, numbered from 0, and the source that it is of:
@@ -33,7 +34,6 @@ pub struct LivingSink {
 }
 
 impl LivingSink {
-    ghost use Rattle.delegator_history.specs.Trains.{Joining};
     ghost use Rattle.sink_history.specs.Calls.{Call};
     ghost use Rattle.scenario_sink.specs.Pasts.{SinkPast, after_tuning, new_sink, receiving};
     ghost use Rattle.scenario_sink.specs.State.Stands.{HasStepped, Lives, Stands, after_call};
@@ -82,24 +82,11 @@ impl LivingSink {
         self.source
     }
 
-    /// Puts the sink on the group of a source, of no slot, with these streams, this event as the first one, whose anchor is given
-    /// in µs, and this presentation delay in µs. It leaves what it was on.
-    pub fn tune(
-        &mut self,
-        source: u8,
-        group: &Group,
-        which: BisSet,
-        event: u64,
-        anchor: u64,
-        delay: u32,
-    ) -> Result<(), Memory>
-        requires event { event ≤ 2 ^ 39 }
-        requires anchor { anchor ≤ 2 ^ 61 + 2 ^ 23 }
-        requires delay { delay < 2 ^ 24 }
-        ensures { let joining : Joining = record { info = group.now.info; which = which; first = event; anchor = anchor; delay = delay } in
-            (past : SinkPast) → Lives past self.old → OnOk result (Lives (after_tuning source joining past) self.new) }
+    /// Puts the sink on the group of a source, of no slot. It leaves what it was on.
+    pub fn tune(&mut self, source: u8, joining: &Joining) -> Result<(), Memory>
+        ensures { (past : SinkPast) → Lives past self.old → OnOk result (Lives (after_tuning source joining.now past) self.new) }
     {
-        self.delegator.tune(group, which, event, anchor, delay)?;
+        self.delegator.put_on(joining)?;
         self.gather()?;
         self.source = Some(source);
         Ok(())
@@ -113,6 +100,14 @@ impl LivingSink {
         ensures source { self.new.source ≡ self.old.source }
     {
         self.delegator.hear(event, bis, subevent, pdu)
+    }
+
+    /// What `hear` would answer. It changes nothing.
+    pub fn would_answer(&self, event: u64, bis: Bis, subevent: u8, pdu: &[u8]) -> Hearing
+        requires { event ≤ 2 ^ 39 }
+        ensures { (past : SinkPast) → Lives past self.now → result ≡ hearing_of past.received event bis subevent pdu.now }
+    {
+        self.delegator.would_answer(event, bis, subevent, pdu)
     }
 
     /// All events up to this one are over: closes the open event of each stream where it is at most this event, and hands its

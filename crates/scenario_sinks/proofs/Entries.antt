@@ -3,9 +3,9 @@ use Rattle.std.proofs.Common.{◌≡◌, ◌≢◌, ℕ, zero, suc, ◌<◌, ◌
 use Rattle.std.proofs.Common.{arith, Option, None, Some, Result, Ok, Err, ◌⊎◌, inl, inr}
 use Rattle.std.proofs.lemmas.Option.{slice_get-get_or}
 use Rattle.std.proofs.lemmas.Bool.{cases_eq}
-use Rattle.delegator_machine.specs.Groups.{tuning_of}
+use Rattle.delegator_machine.specs.Groups.{by_numbers}
 use Rattle.delegator_history.specs.States.{put_on}
-use Rattle.delegator_history.specs.Trains.{Joining}
+use Rattle.sync_reference.specs.Joining.{Joining}
 use Rattle.group_sink.specs.Calls.{Call, hear, tune}
 use Rattle.group_sink.specs.Hearings.{hearing_of}
 use Rattle.isoal_base.specs.declared.hearing.Hearing.{Hearing}
@@ -19,6 +19,7 @@ use Rattle.scenario_history.proofs.Citable.{get_set_here, get_set_other}
 use Rattle.scenario_sinks.specs.declared.sink.Sink.{Sink}
 use Rattle.scenario_sinks.specs.Pasts.{Past}
 use Rattle.scenario_sinks.specs.State.Standing.{EntryIs, EntryAt, EntriesAre, past_of}
+use Rattle.scenario_sinks.specs.Hearing.{hearing_where}
 use Rattle.scenario_sinks.specs.State.Entries.{EntryHears, EntryRuns, EntryTunes}
 use Rattle.scenario_text.specs.declared.step.Step.{Step}
 use Rattle.sink_history.specs.Lives.{Made, Source, lived_by}
@@ -155,7 +156,7 @@ pub entry_tuned : (box : Option ℕ) (made : Option Made) (own : Option ℕ) (li
     → EntryTunes box made own life received source joining (Some new) (Ok tt)
 entry_tuned box made own life received source joining sink new beyond is outlet lives b within = (
   rw (is.box_is, sym b ∙ within) refl,
-  entry_of box made (Some source) (stepped (put_on source joining) ∷ life) (tune (tuning_of joining) ∷ received) new
+  entry_of box made (Some source) (stepped (put_on source joining) ∷ life) (tune (by_numbers joining) ∷ received) new
       (record { box_is = is.box_is ∙ ap Some (sym outlet); how = is.how; made_is = is.made_is; lives = lives }),
 )
 
@@ -179,6 +180,29 @@ pub entry_passed : (box : Option ℕ) (made : Option Made) (own : Option ℕ) (l
 entry_passed box made own life received source event bis subevent octets sink from of is f o t =
     let other : is_of source own ≡ false = ap (is_of source) (sym f) ∙ sym o ∙ t in
     (rw is.box_is refl, rw other refl, rw other (entry_of box made own life received sink is))
+
+-- what it would answer
+pub none_answers : (box : Option ℕ) (made : Option Made) (own : Option ℕ) (life : List links.Call) (received : List Call) (source event bis subevent : ℕ) (octets : List ℕ)
+    (entry : Option Sink) → EntryIs box made own life received (Some entry) → entry ≡ None
+    → None ≡ hearing_where box own received source event bis subevent octets
+none_answers box made own life received source event bis subevent octets entry is none =
+    let free : box ≡ None = none_lives box made own life received entry is (ap is_some none) in
+    sym (ap (λ (b : Option ℕ). hearing_where b own received source event bis subevent octets) free)
+
+pub entry_answers : (box : Option ℕ) (made : Option Made) (own : Option ℕ) (life : List links.Call) (received : List Call) (source event bis subevent : ℕ) (octets : List ℕ)
+    (sink : Sink) (from : Option ℕ) (of : Bool) (hearing : Hearing) → SinkIs box made own life received sink → from ≡ own
+    → of ≡ is_of source from → of ≡ true → hearing ≡ hearing_of received event bis subevent octets
+    → Some hearing ≡ hearing_where box own received source event bis subevent octets
+entry_answers box made own life received source event bis subevent octets sink from of hearing is f o t answer =
+    let mine : is_of source own ≡ true = ap (is_of source) (sym f) ∙ sym o ∙ t in
+    rw (is.box_is, mine) (ap Some answer)
+
+pub other_answers : (box : Option ℕ) (made : Option Made) (own : Option ℕ) (life : List links.Call) (received : List Call) (source event bis subevent : ℕ) (octets : List ℕ)
+    (sink : Sink) (from : Option ℕ) (of : Bool) → SinkIs box made own life received sink → from ≡ own → of ≡ is_of source from → of ≡ false
+    → Some NotOnGroup ≡ hearing_where box own received source event bis subevent octets
+other_answers box made own life received source event bis subevent octets sink from of is f o t =
+    let other : is_of source own ≡ false = ap (is_of source) (sym f) ∙ sym o ∙ t in
+    rw (is.box_is, other) refl
 
 line_ran : (box : Option ℕ) (how : Made) (own : Option ℕ) (life : List links.Call) (received : List Call) (source : Source) (line : Step) (new : Sink) (text told : List ℕ)
     (r : Result (Unit {0}) Stop) → box ≡ Some new.outlet → LineMakes source line (past_of how own life received) text told new.living r

@@ -2,7 +2,7 @@
 use Rattle.std.proofs.Common.{◌≡◌, ℕ, ◌+◌, ◌<◌, ◌≤◌, true, false, List, length, refl, sym, ◌∙◌, ap, subst, is_some, slice_set, get_or, eq-eqb}
 use Rattle.std.proofs.Common.{arith, Option, None, Some, Result, Ok, Err}
 use Rattle.std.proofs.lemmas.Bool.{le-leb, lt-leb}
-use Rattle.delegator_history.specs.Trains.{Joining}
+use Rattle.sync_reference.specs.Joining.{Joining}
 use Rattle.isoal_base.specs.declared.hearing.Hearing.{Hearing}
 use Rattle.transcript_text.specs.declared.refusal.Refusal.TheVariants.{SinkTwice, NoOutlet}
 use Rattle.scenario_history.specs.Boxes.{most_sinks}

@@ -14,6 +14,11 @@ abbrev pub hearing_by : Option ℕ → List Call → (source event bis subevent 
 hearing_by own received source event bis subevent octets =
     if is_of source own then hearing_of received event bis subevent octets else NotOnGroup
 
+-- the answer of a sink with this box, where it has one and lives
+abbrev pub hearing_where : (box own : Option ℕ) → List Call → (source event bis subevent : ℕ) → List ℕ → Option Hearing
+hearing_where None own received source event bis subevent octets = None
+hearing_where (Some box) own received source event bis subevent octets = Some (hearing_by own received source event bis subevent octets)
+
 -- what the sink of a number, where it lives, made of them
 abbrev pub Hears : Past → (n source event bis subevent : ℕ) → List ℕ → Sinks → Option Hearing → Type 0
 Hears past n source event bis subevent octets new None = past.boxes n ≡ None

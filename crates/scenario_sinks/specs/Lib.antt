@@ -1,5 +1,4 @@
 pub mod Pasts
-pub mod Joinings
 pub mod Refusals
 pub mod Handing
 pub mod Untaken

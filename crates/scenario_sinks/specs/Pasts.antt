@@ -3,9 +3,10 @@
 -- were made, each with the next box. A sink is of the source that put it where it is, takes the PDUs of that source alone, and
 -- closes the events of that source alone (Core 5.2, volume 6 part B, section 4.4.6).
 use Rattle.std.specs.Prelude.{ℕ, ◌+◌, ◌==◌, ◌&&◌, List, [], ◌∷◌, Option, None, Some, if◌then◌else◌}
-use Rattle.delegator_machine.specs.Groups.{tuning_of}
+use Rattle.delegator_machine.specs.Groups.{by_numbers}
 use Rattle.delegator_history.specs.States.{put_on}
-use Rattle.delegator_history.specs.Trains.{Joining, Train}
+use Rattle.delegator_history.specs.Trains.{Train}
+use Rattle.sync_reference.specs.Joining.{Joining}
 use Rattle.group_sink.specs.Calls.{Call, tune, hear}
 use Rattle.sink_history.specs.Calls as links
 use Rattle.sink_history.specs.Calls.{stepped, born}
@@ -54,7 +55,7 @@ with_tuning n source joining past = record {
   mades = past.mades;
   sources = λ m. if n == m then Some source else past.sources m;
   lives = λ m. if n == m then stepped (put_on source joining) ∷ past.lives m else past.lives m;
-  received = λ m. if n == m then tune (tuning_of joining) ∷ past.received m else past.received m;
+  received = λ m. if n == m then tune (by_numbers joining) ∷ past.received m else past.received m;
   made = past.made;
 }
 

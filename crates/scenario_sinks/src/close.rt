@@ -124,7 +124,7 @@ fn close_sink(
     if keeps {
         return Ok(());
     }
-    gathered.units.clear();
+    gathered.clear();
     Ok(())
 }
 

@@ -3,7 +3,7 @@ ghost use Rattle.std.specs.Prelude.{◌≡◌, ◌≤◌, ◌^◌, ℕ, List, Op
 ghost use Rattle.group_sink.specs.Calls.{Call, hear};
 ghost use Rattle.group_sink.specs.Hearings.{hearing_of};
 ghost use Rattle.sink_history.specs.Calls as links;
-ghost use Rattle.scenario_sinks.specs.Joinings.{joining_in};
+ghost use Rattle.scenario_sinks.specs.Hearing.{hearing_where};
 ghost use Rattle.scenario_sinks.specs.State.Entries.{EntryHears, EntryRuns, EntryTunes};
 ghost use Rattle.scenario_sinks.specs.State.Standing.{EntryIs};
 ghost use Rattle.scenario_text.specs.Ranges.{IsInRange};
@@ -16,13 +16,13 @@ ghost use Rattle.scenario_sink.specs.SinkLines.{IsSinkLine};
 ghost use Rattle.scenario_sink.specs.State.Stands.{Lives};
 
 use crate::beyond::is_beyond;
-use crate::joining::Joining;
 use crate::sink::{Sink, is_of};
 use announcement_train::Train;
 use bcast_base::{Bis, Memory, Octets};
 use isoal_base::Hearing;
 use scenario_sink::Origin;
 use scenario_text::Step;
+use sync_reference::Joining;
 use transcript_text::{Refusal, Stop};
 
 /// Puts the sink of an entry on the group of a source.
@@ -33,7 +33,7 @@ pub(crate) fn tune_entry(
 ) -> Result<(), Stop>
     ensures { (box : Option ℕ) (made : Option Made) (own : Option ℕ) (life : List links.Call) (received : List Call)
         → EntryIs box made own life received (Some entry.old)
-        → EntryTunes box made own life received source (joining_in joining.now) entry.new result }
+        → EntryTunes box made own life received source joining.now entry.new result }
 {
     let Some(sink) = entry else {
         return Err(Stop::Refused(Refusal::NoSuchSink));
@@ -51,17 +51,10 @@ pub(crate) fn tune_entry(
 /// Puts a sink on the group of a source.
 fn put_on_group(sink: &mut Sink, source: u8, joining: &Joining) -> Result<(), Memory>
     ensures lives { (past : SinkPast) → Lives past sink.old.living
-        → OnOk result (Lives (after_tuning source (joining_in joining.now) past) sink.new.living) }
+        → OnOk result (Lives (after_tuning source joining.now past) sink.new.living) }
     ensures outlet { sink.new.outlet ≡ sink.old.outlet }
 {
-    sink.living.tune(
-        source,
-        &joining.group,
-        joining.which,
-        joining.event,
-        joining.anchor,
-        joining.delay,
-    )
+    sink.living.tune(source, joining)
 }
 
 /// Runs a line that names the sink of an entry.
@@ -150,6 +143,29 @@ pub(crate) fn hear_entry(
         return Some(Hearing::NotOnGroup);
     }
     Some(deliver(sink, event, bis, subevent, octets))
+}
+
+/// What the sink of an entry would answer octets in the place of a PDU of a source.
+pub(crate) fn answer_entry(
+    entry: &Option<Sink>,
+    source: u8,
+    event: u64,
+    bis: Bis,
+    subevent: u8,
+    octets: &[u8],
+) -> Option<Hearing>
+    requires { event ≤ 2 ^ 39 }
+    ensures { (box : Option ℕ) (made : Option Made) (own : Option ℕ) (life : List links.Call) (received : List Call)
+        → EntryIs box made own life received (Some entry.now)
+        → result ≡ hearing_where box own received source event bis subevent octets.now }
+{
+    let Some(sink) = entry else {
+        return None;
+    };
+    if !is_of(sink.living.source(), source) {
+        return Some(Hearing::NotOnGroup);
+    }
+    Some(sink.living.would_answer(event, bis, subevent, octets))
 }
 
 /// Hands a sink octets in the place of a PDU.

@@ -1,4 +1,4 @@
-ghost use Rattle.std.specs.Prelude.{◌≡◌, ◌++◌, ◌∷◌, [], OnOk, OnErr, IsErr};
+ghost use Rattle.std.specs.Prelude.{◌≡◌, ◌++◌, ◌∷◌, [], IfOk, OnOk, OnErr, IsErr};
 ghost use Rattle.unit_outlets.specs.Handed.{Caused};
 
 use bcast_base::{Bis, Memory, Octets};
@@ -13,11 +13,12 @@ pub struct HandedUnit {
     pub octets: Option<Octets>,
 }
 
-/// The units of a close, in order, before they go to the box of their sink.
+/// The units of a close, in order, before they go to the box of their sink. The memory of their octets is kept for later ones.
 #[derive(Drop)]
 pub struct Gathered {
     alloc: Global,
     pub units: Vec<HandedUnit>,
+    spares: Vec<Octets>,
     wants: u64,
 }
 
@@ -31,8 +32,43 @@ impl Gathered {
         Gathered {
             alloc,
             units: Vec::new(alloc),
+            spares: Vec::new(alloc),
             wants: 0,
         }
+    }
+
+    /// Drops the units, and keeps the memory of their octets.
+    pub(crate) fn clear(&mut self)
+        ensures items { self.new.units.items ≡ [] }
+        ensures wants { self.new.wants ≡ self.old.wants }
+    {
+        'units: while let Some(unit) = self.units.pop() {
+            self.keep(unit);
+        }
+    }
+
+    /// Keeps the memory of the octets of a unit, where it has some.
+    fn keep(&mut self, unit: HandedUnit)
+        ensures units { self.new.units.items ≡ self.old.units.items }
+        ensures wants { self.new.wants ≡ self.old.wants }
+    {
+        if let Some(octets) = unit.octets {
+            let _ = self.spares.push(octets);
+        }
+    }
+
+    /// The same octets, in the memory of earlier ones where some is kept.
+    fn copy(&mut self, from: &[u8]) -> Result<Octets, Memory>
+        ensures copy { IfOk result (λ octets. octets ≡ from.now) }
+        ensures units { self.new.units.items ≡ self.old.units.items }
+        ensures wants { self.new.wants ≡ self.old.wants }
+    {
+        let Some(mut octets) = self.spares.pop() else {
+            return Octets::copy(self.alloc, from);
+        };
+        octets.clear();
+        octets.append(from)?;
+        Ok(octets)
     }
 
     fn put(&mut self, unit: HandedUnit) -> Result<(), Memory>
@@ -64,7 +100,7 @@ impl UnitTaker for Gathered {
 
     #[inline(always)]
     fn valid(&mut self, bis: Bis, time: u64, octets: &[u8]) -> Result<(), TakerFault> {
-        let Ok(octets) = Octets::copy(self.alloc, octets) else {
+        let Ok(octets) = self.copy(octets) else {
             return self.want();
         };
         let unit = HandedUnit {

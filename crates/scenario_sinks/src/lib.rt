@@ -6,7 +6,6 @@ mod close;
 mod entry;
 mod gathered;
 mod hand;
-mod joining;
 mod lines;
 mod relays;
 mod route;
@@ -15,7 +14,6 @@ mod sinks;
 mod sums;
 
 pub use gathered::HandedUnit;
-pub use joining::Joining;
 pub use relays::Relays;
 pub use route::Route;
 pub use sinks::Sinks;

@@ -2,15 +2,15 @@ ghost use Rattle.std.specs.Prelude.{◌≡◌, ◌≤◌, ◌<◌, ◌^◌, ◌+
 ghost use Rattle.std.specs.Option.{ForSome};
 
 use crate::close::close_sinks;
-use crate::entry::{hear_entry, tune_entry};
+use crate::entry::{answer_entry, hear_entry, tune_entry};
 use crate::gathered::{Gathered, HandedUnit};
-use crate::joining::Joining;
 use crate::sink::Sink;
 use crate::sums::{put_sum_at, put_sums};
 use bcast_base::{Bis, Memory, Octets};
 use isoal_base::Hearing;
 use scenario_sink::LivingSink;
 use std::alloc::Global;
+use sync_reference::Joining;
 use transcript_text::{Refusal, Stop};
 use unit_outlets::Outlet;
 
@@ -33,8 +33,7 @@ impl Sinks {
     ghost use Rattle.unit_outlets.specs.Handed.{Handed};
     ghost use Rattle.scenario_history.specs.Boxes.{sink_numbers};
     ghost use Rattle.scenario_sinks.specs.Closing.{Closes, ClosesAt};
-    ghost use Rattle.scenario_sinks.specs.Hearing.{Hears};
-    ghost use Rattle.scenario_sinks.specs.Joinings.{joining_in};
+    ghost use Rattle.scenario_sinks.specs.Hearing.{Hears, hearing_where};
     ghost use Rattle.scenario_sinks.specs.Pasts.{Past, nothing, with_sink, with_tuning, without};
     ghost use Rattle.scenario_sinks.specs.Refusals.{Answers, Tunes, not_living, not_made, not_tuned};
     ghost use Rattle.scenario_sinks.specs.State.Gathering.{handed_of};
@@ -134,8 +133,8 @@ impl Sinks {
     pub fn tune(&mut self, sink: u8, source: u8, joining: &Joining) -> Result<(), Stop>
         requires { sink ≤ 7 }
         ensures { (past : Past) → SinksStand past self.old
-            → Tunes (not_tuned (past.boxes sink) joining.now.group.info.num_bis joining.now.which) past
-            (with_tuning sink source (joining_in joining.now) past) self.new result }
+            → Tunes (not_tuned (past.boxes sink) joining.now.info.num_bis joining.now.which) past
+            (with_tuning sink source joining.now past) self.new result }
     {
         tune_entry(&mut self.entries[usize::from(sink)], source, joining)
     }
@@ -158,6 +157,31 @@ impl Sinks {
     {
         hear_entry(
             &mut self.entries[usize::from(sink)],
+            source,
+            event,
+            bis,
+            subevent,
+            octets,
+        )
+    }
+
+    /// What a sink would answer in `hear`: none where no sink of this number lives. It changes nothing.
+    pub fn would_answer(
+        &self,
+        sink: u8,
+        source: u8,
+        event: u64,
+        bis: Bis,
+        subevent: u8,
+        octets: &[u8],
+    ) -> Option<Hearing>
+        requires sink { sink ≤ 7 }
+        requires event { event ≤ 2 ^ 39 }
+        ensures { (past : Past) → SinksStand past self.now
+            → result ≡ hearing_where (past.boxes sink) (past.sources sink) (past.received sink) source event bis subevent octets.now }
+    {
+        answer_entry(
+            &self.entries[usize::from(sink)],
             source,
             event,
             bis,
@@ -237,7 +261,7 @@ impl Sinks {
     pub fn forget(&mut self)
         ensures { (past : Past) (units : List Handed) → SinksLend past units self.old → SinksStand past self.new }
     {
-        self.gathered.units.clear();
+        self.gathered.clear();
     }
 
     /// Puts the sums of the boxes of the living sinks at the end of the text, by rising number.

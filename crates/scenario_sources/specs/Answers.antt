@@ -12,15 +12,14 @@ use Rattle.scenario_text.specs.declared.step.Step.{Step}
 use Rattle.scenario_text.specs.declared.step.Step.TheVariants.{Event, Terminate}
 use Rattle.scenario_history.specs.Steps.{chosen_steps, is_over}
 use Rattle.scenario_history.specs.Source.{end_pdu, event_back, is_heard, is_sending, open_event, performed, setup_of, source_calls, stale_in, takes_units}
-use Rattle.scenario_history.specs.Sinks.{tuning_of}
 use Rattle.scenario_history.specs.Refusals.{no_place, train_ends}
 use Rattle.sink_history.specs.Refusals.{refuse_if}
-use Rattle.scenario_history.specs.Worlds.{announced_of}
+use Rattle.scenario_history.specs.Worlds.{announced_of, joining_on}
 use Rattle.scenario_sources.specs.declared.performed.Performed.{Performed}
-use Rattle.scenario_sources.specs.declared.standpoint.Standpoint.{Standpoint}
+use Rattle.sync_reference.specs.Joining.{Joining}
 use Rattle.scenario_sources.specs.declared.terminated.Terminated.{Terminated}
 use Rattle.scenario_sources.specs.declared.sources.Sources.{Sources}
-use Rattle.scenario_sources.specs.Faults.{fault_of, tuning_at}
+use Rattle.scenario_sources.specs.Faults.{fault_of}
 use Rattle.scenario_sources.specs.State.Standing.{SourcesStand}
 
 -- in a scenario of this version; after a refusal they are as before
@@ -68,10 +67,10 @@ AnnouncesAs own (Err (Refused reason)) =
 AnnouncesAs own (Err OutletFault) = ⊥
 AnnouncesAs own (Err Memory) = Unit {0}
 
--- where a source stands before its next event, where it takes units; these are its steps
-abbrev pub StandsAt : List Step → Option Standpoint → Type 0
-StandsAt own None = takes_units own ≡ false
-StandsAt own (Some at) = (takes_units own ≡ true) × ((which : ℕ) → tuning_at at which ≡ tuning_of own which)
+-- how a source puts a sink on these streams of its group, where it takes units; these are its steps
+abbrev pub JoinsAs : List Step → ℕ → Option Joining → Type 0
+JoinsAs own which None = takes_units own ≡ false
+JoinsAs own which (Some joining) = (takes_units own ≡ true) × (joining ≡ joining_on own which)
 
 -- the group of a source that takes units
 abbrev pub TakesAs : List Step → Option Group → Type 0

@@ -5,14 +5,12 @@ use Rattle.std.specs.Option.{option_or}
 use Rattle.source_machine.specs.Airs.{airs_of}
 use Rattle.source_machine.specs.declared.fault.GiveFault.{GiveFault}
 use Rattle.source_machine.specs.declared.fault.GiveFault.TheVariants as gives
-use Rattle.group_sink.specs.Calls.{Tuning}
 use Rattle.transcript_text.specs.declared.refusal.Refusal.{Refusal}
 use Rattle.transcript_text.specs.declared.refusal.Refusal.TheVariants.{NoSuchBis, Order, Relayed, TimeOrder, UnitTooLong}
 use Rattle.scenario_text.specs.declared.step.Step.{Step}
 use Rattle.scenario_history.specs.Steps.{chosen_steps}
 use Rattle.scenario_history.specs.Refusals.{is_out_of_phase, source_refusal, twin_refusal}
 use Rattle.sink_history.specs.Refusals.{refuse_if}
-use Rattle.scenario_sources.specs.declared.standpoint.Standpoint.{Standpoint}
 
 -- why a step is refused by the source that it means, whose steps these are, in a scenario of this version
 abbrev pub fault_in : ℕ → List Step → Step → Option Refusal
@@ -29,7 +27,3 @@ misfit_refusal_of (Some gives.NoSuchBis) = NoSuchBis
 misfit_refusal_of (Some gives.UnitTooLong) = UnitTooLong
 misfit_refusal_of (Some gives.TimeOrder) = TimeOrder
 misfit_refusal_of _ = Relayed
-
--- how a source puts a sink on these streams of its group
-abbrev pub tuning_at : Standpoint → ℕ → Tuning
-tuning_at at which = record { info = at.group.info; which = which; first = at.event; anchor = at.anchor; delay = at.delay }

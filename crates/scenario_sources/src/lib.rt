@@ -11,7 +11,6 @@ mod phase;
 mod place;
 mod sending;
 mod sources;
-mod standpoint;
 mod starting;
 mod terminated;
 
@@ -19,5 +18,4 @@ pub use performed::Performed;
 pub use place::Place;
 pub use source_machine::Identity;
 pub use sources::Sources;
-pub use standpoint::Standpoint;
 pub use terminated::Terminated;

@@ -7,19 +7,19 @@ ghost use Rattle.scenario_history.specs.Steps.{is_over};
 ghost use Rattle.scenario_history.specs.Refusals.{relayed_or};
 ghost use Rattle.scenario_history.specs.Source.{is_sending, open_event};
 ghost use Rattle.scenario_sources.specs.State.Phases.{Becomes, Closes, Performs, PhaseIs, Terminates};
-ghost use Rattle.scenario_sources.specs.Answers.{StandsAt, TakesAs};
+ghost use Rattle.scenario_sources.specs.Answers.{JoinsAs, TakesAs};
 ghost use Rattle.scenario_sources.specs.Faults.{fault_in, misfit_refusal_of};
 ghost use Rattle.scenario_sources.specs.State.Stops.{GiveStops, GivesTo};
 
 use crate::performed::Performed;
 use crate::phase::Phase;
-use crate::standpoint::Standpoint;
 use crate::terminated::Terminated;
-use bcast_base::Bis;
+use bcast_base::{Bis, BisSet};
 use big_info::Group;
 use multi_source::Broadcast;
 use source_machine::{EventFault, GiveFault};
 use std::mem::replace;
+use sync_reference::Joining;
 use transcript_text::{Refusal, Stop};
 
 /// `unit`: gives a source a unit of a stream.
@@ -183,9 +183,9 @@ pub(crate) fn taking_in(phase: &Phase) -> Option<Group>
     Some(*started.group())
 }
 
-/// Where a source stands that takes units.
-pub(crate) fn standpoint_in(phase: &Phase) -> Option<Standpoint>
-    ensures { (own : List Step) → PhaseIs own phase.now → StandsAt own result }
+/// How a source that takes units puts a sink on these streams of its group.
+pub(crate) fn joining_in(phase: &Phase, which: BisSet) -> Option<Joining>
+    ensures { (own : List Step) → PhaseIs own phase.now → JoinsAs own which result }
 {
     let Phase::Sending(started) = phase else {
         return None;
@@ -193,9 +193,10 @@ pub(crate) fn standpoint_in(phase: &Phase) -> Option<Standpoint>
     if started.is_ciphered() {
         return None;
     }
-    Some(Standpoint {
+    Some(Joining {
         group: *started.group(),
-        event: started.next_event(),
+        which,
+        first: started.next_event(),
         anchor: started.next_anchor(),
         delay: started.delay(),
     })

@@ -10,16 +10,16 @@ use crate::performed::Performed;
 use crate::phase::Phase;
 use crate::place::{Place, event_in, group_in, heard_in, last_in};
 use crate::sending::{
-    give, is_sending_in, open, perform, relayed_in, standpoint_in, stop, taking_in, terminate,
+    give, is_sending_in, joining_in, open, perform, relayed_in, stop, taking_in, terminate,
 };
-use crate::standpoint::Standpoint;
 use crate::starting::{begin, check_start, is_twice};
 use crate::terminated::Terminated;
 use announcement_train::Train;
-use bcast_base::{Bis, Memory};
+use bcast_base::{Bis, BisSet, Memory};
 use big_info::{BigInfo, Cipher, Group, Limits};
 use source_machine::Identity;
 use std::alloc::Global;
+use sync_reference::Joining;
 use transcript_text::{Refusal, Stop};
 
 /// The two sources of a scenario, 0 and 1, and the one that was chosen last.
@@ -42,7 +42,7 @@ impl Sources {
     ghost use Rattle.sink_history.specs.Lives.{horizon_in};
     ghost use Rattle.scenario_history.specs.Source.{event_back, identity_of, is_ahead_in, is_heard, is_sending, open_event, pdu_in};
     ghost use Rattle.scenario_history.specs.Steps.{chosen_of, chosen_steps, is_over, running, stage_of, steps_of_source};
-    ghost use Rattle.scenario_sources.specs.Answers.{AnnouncesAs, Answers, Closes, GroupIs, LastIs, NoPlace, Performs, StandsAt, TakesAs, Terminates};
+    ghost use Rattle.scenario_sources.specs.Answers.{AnnouncesAs, Answers, Closes, GroupIs, JoinsAs, LastIs, NoPlace, Performs, TakesAs, Terminates};
     ghost use Rattle.scenario_sources.specs.Described.{IsPlain, group_step};
     ghost use Rattle.scenario_sources.specs.Faults.{fault_of};
     ghost use Rattle.scenario_sources.specs.State.Standing.{SourcesStand};
@@ -266,12 +266,12 @@ impl Sources {
         taking_in(&self.phases[usize::from(source)])
     }
 
-    /// Where the chosen source stands before its next event; `None` exactly outside its start and its end, and where its
-    /// group is encrypted.
-    pub fn standpoint(&self) -> Option<Standpoint>
-        ensures { (steps : List Step) → SourcesStand steps self.now → StandsAt (chosen_steps steps) result }
+    /// How the chosen source puts a sink on these streams of its group from its next event on; `None` exactly outside its start
+    /// and its end, and where its group is encrypted.
+    pub fn joining(&self, which: BisSet) -> Option<Joining>
+        ensures { (steps : List Step) → SourcesStand steps self.now → JoinsAs (chosen_steps steps) which result }
     {
-        standpoint_in(&self.phases[usize::from(self.chosen)])
+        joining_in(&self.phases[usize::from(self.chosen)], which)
     }
 
     /// The group of the chosen source; `None` exactly before its start, and where it is encrypted.
@@ -297,6 +297,19 @@ impl Sources {
         ensures within { result ≤ 2 ^ 39 }
     {
         event_in(&self.phases[usize::from(self.chosen)], back)
+    }
+
+    /// The PDU at a place on the air of a source, be it chosen or not; the refusals are those of `heard_at`.
+    pub fn sent_at(&self, source: u8, place: Place) -> Result<&[u8], Stop>
+        requires source { source < 2 }
+        requires back { place.back ≤ 31 }
+        ensures ok { IfOk result (λ pdu. (steps : List Step) → SourcesStand steps self.now
+            → (no_place (steps_of_source source steps) place.back place.bis place.subevent ≡ None)
+            × (pdu.now ≡ pdu_in airs_of (steps_of_source source steps) (event_back (steps_of_source source steps) place.back) place.bis place.subevent)) }
+        ensures err { IfErr result (λ stop. (steps : List Step) → SourcesStand steps self.now → is_heard (steps_of_source source steps) ≡ true
+            → NoPlace (steps_of_source source steps) place.back place.bis place.subevent stop) }
+    {
+        heard_in(&self.phases[usize::from(source)], place)
     }
 
     /// The PDU at a place on the air of the chosen source. The first refusal that holds is answered: Order before its start,

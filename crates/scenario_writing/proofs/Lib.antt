@@ -3,4 +3,5 @@ mod Putting
 mod StepLines
 mod Rows
 mod Said
+mod MadeSteps
 mod NextLines

@@ -1,10 +1,15 @@
-ghost use Rattle.std.specs.Prelude.{◌≡◌, ◌≤◌, ◌<◌, ◌+◌, ◌==◌, ◌≢◌, ◌∷◌, [], drop, true, false, ℕ, Ok, IfOk, IsErr, OnErr, OnOk, if◌then◌else◌};
+ghost use Rattle.std.specs.Prelude.{◌≡◌, ◌≤◌, ◌<◌, ◌+◌, ◌==◌, ◌≢◌, ◌∷◌, [], drop, true, false, ℕ, Ok, None, IfOk, IfSome, IsErr, OnErr, OnOk, if◌then◌else◌};
+ghost use Rattle.scenario_text.specs.Ranges.{IsInRange};
+ghost use Rattle.scenario_text.specs.Lines.{LineIs};
 ghost use Rattle.scenario_writing.specs.Draws.{drawn, next_state};
+ghost use Rattle.scenario_writing.specs.NextSteps.{NextSays};
 ghost use Rattle.scenario_writing.specs.State.Places.{left_at, IsPlace};
-ghost use Rattle.scenario_writing.specs.Generated.{air_line, generated_lines, head_lines, unit_line};
+ghost use Rattle.scenario_writing.specs.Generated.{air_line, generated_lines, head_lines, unit_line, unit_of};
 
-use bcast_base::{Memory, Octets};
+use bcast_base::{Bis, Memory, Octets};
 use printed_words::{Word, put_words};
+use scenario_text::Step;
+use std::alloc::Global;
 use std::marker::Model;
 
 /// The lines of the group, of the sinks and of the start.
@@ -119,6 +124,47 @@ impl Lines {
         }
         Ok(true)
     }
+
+    /// The next line as the step that it says in each version, where it gives a unit behind the first ones, or is an event or what a
+    /// sink hears of it. None for each other line, which is left.
+    pub fn next_step(&mut self, alloc: Global) -> Result<Option<Step>, Memory>
+        ensures says { IfOk result (λ next. IfSome next (λ step. NextSays step self.old self.new)) }
+        ensures in_range { IfOk result (λ next. IfSome next IsInRange) }
+        ensures left { result ≡ Ok None → self.new ≡ self.old }
+    {
+        match self.place {
+            Place::Unit => {
+                if self.left == 0 {
+                    return Ok(None);
+                }
+                let step = unit_step(alloc, 1, self.event + 1)?;
+                self.left -= 1;
+                self.place = Place::OtherUnit;
+                Ok(Some(step))
+            }
+            Place::OtherUnit => {
+                let step = unit_step(alloc, 2, self.event + 1)?;
+                self.place = Place::Event;
+                Ok(Some(step))
+            }
+            Place::Event => {
+                self.place = Place::Air;
+                Ok(Some(Step::Event))
+            }
+            Place::Air => {
+                self.state = next_state_of(self.state);
+                self.place = Place::OtherAir;
+                Ok(Some(air_step(0, self.state)))
+            }
+            Place::OtherAir => {
+                self.state = next_state_of(self.state);
+                self.event += 1;
+                self.place = Place::Unit;
+                Ok(Some(air_step(1, self.state)))
+            }
+            _ => Ok(None),
+        }
+    }
 }
 
 /// The first line of a place.
@@ -149,13 +195,57 @@ fn next_state_of(state: u32) -> u32
     ((u64::from(state) * 1_103_515_245 + 12_345) % 2_147_483_648) as u32
 }
 
+/// The loss that was drawn with a state.
+fn lose_of(state: u32) -> u8
+    ensures { result ≡ drawn state }
+{
+    (1 + (state / 65_536) % 9) as u8
+}
+
+/// The octets of unit x.
+fn octets_of(x: u32) -> [u8; 100]
+    ensures { result ≡ unit_of x }
+{
+    [(x % 256) as u8; 100]
+}
+
+/// The step that gives unit x on a stream.
+#[tactic(auto, using(crate::proofs::MadeSteps::unit_fits))]
+fn unit_step(alloc: Global, bis: u8, x: u32) -> Result<Step, Memory>
+    requires least { 1 ≤ bis }
+    requires greatest { bis ≤ 31 }
+    ensures says { IfOk result (λ step. (version : ℕ) → LineIs version step (unit_line bis x)) }
+    ensures in_range { IfOk result IsInRange }
+{
+    let bis = Bis::new(bis).unwrap();
+    let octets = Octets::copy(alloc, &octets_of(x))?;
+    Ok(Step::Unit {
+        bis,
+        time: None,
+        octets,
+    })
+}
+
+/// The step by which a sink hears an event, with the loss that was drawn with this state.
+#[tactic(auto, using(crate::proofs::MadeSteps::air_says))]
+fn air_step(sink: u8, state: u32) -> Step
+    requires { sink ≤ 7 }
+    ensures says { (version : ℕ) → LineIs version result (air_line sink (drawn state)) }
+    ensures in_range { IsInRange result }
+{
+    Step::Air {
+        sink,
+        lose: lose_of(state),
+    }
+}
+
 /// Puts the line that gives unit x on a stream.
 #[tactic(auto, unfolding(crate::specs::Generated::unit_line))]
 fn put_unit(line: &mut Octets, bis: u8, x: u32) -> Result<(), Memory>
     requires { line.old ≡ [] }
     ensures { OnOk result (line.new ≡ unit_line bis x) }
 {
-    let octets = [(x % 256) as u8; 100];
+    let octets = octets_of(x);
     put_words(
         line,
         b"unit",
@@ -203,7 +293,7 @@ fn put_air(line: &mut Octets, sink: u8, state: u32) -> Result<(), Memory>
     requires { line.old ≡ [] }
     ensures { OnOk result (line.new ≡ air_line sink (drawn state)) }
 {
-    let lose = 1 + (state / 65_536) % 9;
+    let lose = lose_of(state);
     put_words(
         line,
         b"air",

@@ -3,11 +3,11 @@ use Rattle.std.proofs.Common.{ℕ, zero, suc, ◌≡◌, ◌+◌, ◌≤◌, Boo
 use Rattle.std.specs.Prelude.{bytes_eq, if◌then◌else◌}
 use Rattle.std.specs.List.{flat_map, range_with_len}
 use Rattle.std.proofs.lemmas.List.{append-nil}
-use Rattle.assistant_machine.specs.Cuts.{cut}
+use Rattle.receive_state.specs.Cuts.{cut}
 use Rattle.assistant_machine.specs.Links as links
 use Rattle.assistant_machine.specs.Links.{Act, AreFounded, delivered_of, made, notices_of, view_of, waiting_of, waits_of}
 use Rattle.delegator_history.specs.declared.notice.Notice.{Notice}
-use Rattle.delegator_history.specs.Notices.{change, changes, cut_to, handed_out}
+use Rattle.delegator_history.specs.Notices.{change, changes, handed_out}
 use Rattle.delegator_history.specs.Sights.{Sight}
 use Rattle.delegator_history.specs.States.{sight_of}
 use Rattle.delegator_history.specs.Trains.{Setup}
@@ -58,10 +58,6 @@ made_waits mtu slot now (notice ∷ notices) acts = made_waits mtu slot now noti
 
 -- ---- what is delivered of it is what the delegator hands out
 
-cut_same : (mtu : Option ℕ) (octets : List ℕ) → cut mtu octets ≡ cut_to mtu octets
-cut_same None octets = refl
-cut_same (Some mtu) octets = refl
-
 abbrev changes_from : Sight → Sight → ℕ → ℕ → List Notice
 changes_from before now start n = flat_map (λ slot. change slot (value_at before slot) (value_at now slot)) (range_with_len start n)
 
@@ -70,7 +66,7 @@ one_handed : (mtu : Option ℕ) (now : Sight) (b : Bool) (slot : ℕ) (more : Li
     → map (delivered mtu) (map (told_of now) ((if b then [] else record { slot = slot; value = value_at now slot } ∷ []) ++ more))
     ≡ map (handed_out mtu) ((if b then [] else record { slot = slot; value = value_at now slot } ∷ []) ++ more)
 one_handed mtu now true slot more is = is
-one_handed mtu now false slot more is = λ i. record { slot = slot; value = cut_same mtu (value_at now slot) i } ∷ is i
+one_handed mtu now false slot more is = λ i. record { slot = slot; value = cut mtu (value_at now slot) } ∷ is i
 
 all_handed : (mtu : Option ℕ) (before now : Sight) (start n : ℕ)
     → map (delivered mtu) (map (told_of now) (changes_from before now start n)) ≡ map (handed_out mtu) (changes_from before now start n)

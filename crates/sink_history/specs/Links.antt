@@ -4,7 +4,7 @@
 use Rattle.std.specs.Prelude.{ℕ, ◌==◌, Bool, true, false, List, [], ◌∷◌, Option, Some, None, unwrap_or, if◌then◌else◌}
 use Rattle.receive_state.specs.declared.state.ReceiveState.{ReceiveState}
 use Rattle.assistant_machine.specs.Views.{reading_of}
-use Rattle.assistant_machine.specs.Cuts.{cut}
+use Rattle.receive_state.specs.Cuts.{cut}
 use Rattle.assistant_machine.specs.Links as links
 use Rattle.assistant_machine.specs.Links.{Act, Language, reads_of, view_of, waiting_of, waits_of}
 use Rattle.delegator_history.specs.declared.notice.Notice.{Notice}

@@ -9,7 +9,8 @@ use Rattle.announcement_train.specs.declared.train.Train.{Train as Announced}
 use Rattle.delegator_history.specs.Announced.{heard_as}
 use Rattle.delegator_history.specs.LastGiven.{last_given}
 use Rattle.delegator_history.specs.States.{record_added, locations_set, contexts_set, put_on, train_heard, train_lost, control_heard}
-use Rattle.delegator_history.specs.Trains.{Joining, Setup, Train}
+use Rattle.delegator_history.specs.Trains.{Setup, Train}
+use Rattle.sync_reference.specs.Joining.{Joining}
 use Rattle.sink_history.specs.Calls as links
 use Rattle.sink_history.specs.Calls.{Call, stepped, born}
 use Rattle.sink_history.specs.Drains.{drained}

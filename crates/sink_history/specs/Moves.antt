@@ -1,9 +1,10 @@
 -- What a line that names a sink makes of its receivers, and of the source that the sink is of (Basic Audio Profile 1.0, section
 -- 6.5): it is put on a group by a train that is taken, and leaves it as its place says. Lists of calls have the newest first.
 use Rattle.std.specs.Prelude.{ℕ, Bool, true, false, is_some, List, Option, Some, None, if◌then◌else◌}
-use Rattle.delegator_machine.specs.Groups.{joining_brought, with_step}
+use Rattle.delegator_machine.specs.Groups.{with_step}
 use Rattle.delegator_history.specs.Sights.{Sight}
-use Rattle.delegator_history.specs.Trains.{Brought, Joining, Train, brought_by, heard, ignored, taken}
+use Rattle.delegator_history.specs.Trains.{Brought, Train, brought_by, heard, ignored, taken, joining_in}
+use Rattle.sync_reference.specs.Joining.{Joining}
 use Rattle.group_sink.specs.Calls as sinks
 use Rattle.sink_history.specs.Calls.{Call}
 use Rattle.scenario_text.specs.declared.step.Step.{Step}
@@ -21,7 +22,7 @@ train_by source _ = None
 
 abbrev pub joining_of : Made → Sight → Option Train → Option Joining
 joining_of made sight None = None
-joining_of made sight (Some train) = joining_brought (brought_by made.setup sight train)
+joining_of made sight (Some train) = joining_in (brought_by made.setup sight train)
 
 -- the calls of the receivers after a line, before which the sink had this life and behind which it has that one
 abbrev pub received_by : Source → Step → Option Made → (before after : List Call) → List sinks.Call → List sinks.Call

@@ -10,8 +10,7 @@ use Rattle.std.specs.List.{flat_map, range_with_len}
 use Rattle.circular_buffer.specs.Buffer.{keep_last}
 use Rattle.big_info.specs.declared.info.BigInfo.{BigInfo}
 use Rattle.isoal_base.proofs.Citable.{map_append, map_rest, map_same}
-use Rattle.isoal_base.specs.declared.laid.EventLaid.{EventLaid}
-use Rattle.isoal_base.specs.Air.{Air, Entry, laid_in}
+use Rattle.isoal_base.specs.Air.{Air, Entry, Laid}
 use Rattle.isoal_unframed.specs.Calls.{Call as PlainCall, accept, lay, lays}
 use Rattle.isoal_framed.specs.Calls.{Call as TimedCall, accept as accept_timed, lay as lay_at}
 use Rattle.isoal_framed.proofs.Citable.{flat_last}
@@ -59,13 +58,13 @@ keep_last_length count xs x =
     length-drop (length (xs ++ x ∷ []) - count) (xs ++ x ∷ []) ∙ omega arith
 
 -- the sender laid an event, whatever calls it stands for
-abbrev pub LaysEvent : ℕ → Sender → Sender → EventLaid → Type 0
+abbrev pub LaysEvent : ℕ → Sender → Sender → Laid → Type 0
 LaysEvent anchor out next event =
     (info : BigInfo) (plain : List PlainCall) (timed : List TimedCall) → IsChecked info → SenderStands info plain timed out
     → SenderStands info (lay ∷ plain) (lay_at anchor ∷ timed) next
-    × (begun : ℕ) × (air_after info (lay ∷ plain) (lay_at anchor ∷ timed) ≡ record { event = laid_in event; begun = begun } ∷ air_after info plain timed)
+    × (begun : ℕ) × (air_after info (lay ∷ plain) (lay_at anchor ∷ timed) ≡ record { event = event; begun = begun } ∷ air_after info plain timed)
 
-pub lays_one : (anchor bis : ℕ) (out next : Sender) (laid : List (List (List ℕ))) (event : EventLaid) (told now_told : List Stale)
+pub lays_one : (anchor bis : ℕ) (out next : Sender) (laid : List (List (List ℕ))) (event : Laid) (told now_told : List Stale)
     → info_of next ≡ info_of out → length laid ≤ kept_of (info_of out) → LaysEvent anchor out next event → now_told ≡ told ++ stale_on bis event.stale
     → LaysOne anchor (record { bis = bis; sender = out; laid = laid })
     (record { bis = bis; sender = next; laid = keep_last (kept_of (info_of out)) (laid ++ event.pdus ∷ []) }) told now_told
@@ -77,7 +76,7 @@ lays_one anchor bis out next laid event told now_told same room is tells =
       laid = omega arith;
       stands = λ info index plain timed checked at.
           let after = is info plain timed checked at.sender in
-          let entry : Entry = record { event = laid_in event; begun = after.1 } in
+          let entry : Entry = record { event = event; begun = after.1 } in
           let laid_is : kept ≡ last_laid (kept_of info) (air_after info (lay ∷ plain) (lay_at anchor ∷ timed)) =
           ap (λ i. keep_last (kept_of i) (laid ++ event.pdus ∷ [])) (info_is info plain timed out at.sender)
           ∙ ap (λ xs. keep_last (kept_of info) (xs ++ event.pdus ∷ [])) at.laid

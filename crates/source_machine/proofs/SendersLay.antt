@@ -2,8 +2,7 @@
 use Rattle.std.proofs.Common.{ℕ, ◌≡◌, ◌∷◌, List, Result, Ok, Err, ◌∙◌, ap, sym, subst}
 use Rattle.std.specs.Result.{IfOk, OnOk}
 use Rattle.big_info.specs.declared.info.BigInfo.{BigInfo}
-use Rattle.isoal_base.specs.declared.laid.EventLaid.{EventLaid}
-use Rattle.isoal_base.specs.Air.{Air, Entry, laid_in}
+use Rattle.isoal_base.specs.Air.{Air, Entry}
 use Rattle.isoal_unframed.specs.Air.{unframed_air}
 use Rattle.isoal_unframed.specs.Calls.{Call as PlainCall, begun, lay}
 use Rattle.isoal_unframed.specs.State.Sender.{Sender as PlainSender, StandsFor as PlainStands}
@@ -15,26 +14,26 @@ use Rattle.source_machine.specs.declared.sender.Sender.TheVariants.{Framed, Unfr
 use Rattle.source_machine.proofs.Framings.{plain_air, timed_air}
 use Rattle.source_machine.proofs.LaidEvents.{LaysEvent}
 
-pub plain_lays : {E : Type 0} (anchor : ℕ) (old new : PlainSender) (r : Result EventLaid E)
+pub plain_lays : {E : Type 0} (anchor : ℕ) (old new : PlainSender) (pdus : List (List ℕ)) (r : Result (List ℕ) E)
     → OnOk r ((info : BigInfo) (calls : List PlainCall) → PlainStands info calls old → PlainStands info (lay ∷ calls) new)
-    → IfOk r (λ event. (info : BigInfo) (calls : List PlainCall) → PlainStands info calls old
-    → unframed_air info (lay ∷ calls) ≡ record { event = laid_in event; begun = begun info (lay ∷ calls) } ∷ unframed_air info calls)
-    → IfOk r (λ event. LaysEvent anchor (Unframed old) (Unframed new) event)
-plain_lays anchor old new (Ok event) stands laid = λ info plain timed checked at. (
+    → IfOk r (λ stale. (info : BigInfo) (calls : List PlainCall) → PlainStands info calls old
+    → unframed_air info (lay ∷ calls) ≡ record { event = record { pdus = pdus; stale = stale }; begun = begun info (lay ∷ calls) } ∷ unframed_air info calls)
+    → IfOk r (λ stale. LaysEvent anchor (Unframed old) (Unframed new) (record { pdus = pdus; stale = stale }))
+plain_lays anchor old new pdus (Ok stale) stands laid = λ info plain timed checked at. (
   (at.0, stands info plain at.1),
   begun info (lay ∷ plain),
   plain_air info (lay ∷ plain) (lay_at anchor ∷ timed) at.0 ∙ laid info plain at.1
-      ∙ ap (λ air. record { event = laid_in event; begun = begun info (lay ∷ plain) } ∷ air) (sym (plain_air info plain timed at.0)),
+      ∙ ap (λ air. record { event = record { pdus = pdus; stale = stale }; begun = begun info (lay ∷ plain) } ∷ air) (sym (plain_air info plain timed at.0)),
 )
-plain_lays anchor old new (Err e) stands laid = tt
+plain_lays anchor old new pdus (Err e) stands laid = tt
 
-pub timed_lays : {E : Type 0} (anchor : ℕ) (old new : TimedSender) (r : Result EventLaid E)
+pub timed_lays : {E : Type 0} (anchor : ℕ) (old new : TimedSender) (pdus : List (List ℕ)) (r : Result (List ℕ) E)
     → ((info : BigInfo) (calls : List TimedCall) (air : Air) → TimedStands info calls air old
-    → IfOk r (λ event. (begun : ℕ) × TimedStands info (lay_at anchor ∷ calls) (record { event = laid_in event; begun = begun } ∷ air) new))
-    → IfOk r (λ event. LaysEvent anchor (Framed old) (Framed new) event)
-timed_lays anchor old new (Ok event) laid = λ info plain timed checked at.
+    → IfOk r (λ stale. (begun : ℕ) × TimedStands info (lay_at anchor ∷ calls) (record { event = record { pdus = pdus; stale = stale }; begun = begun } ∷ air) new))
+    → IfOk r (λ stale. LaysEvent anchor (Framed old) (Framed new) (record { pdus = pdus; stale = stale }))
+timed_lays anchor old new pdus (Ok stale) laid = λ info plain timed checked at.
     let after = laid info timed (framed_air info timed) at.1 in
-    let entry : Entry = record { event = laid_in event; begun = after.0 } in
+    let entry : Entry = record { event = record { pdus = pdus; stale = stale }; begun = after.0 } in
     let there = framed_air_is info (lay_at anchor ∷ timed) checked.bounds.bn (checked.bounds.framed_pdu at.0) in
     let same : entry ∷ framed_air info timed ≡ framed_air info (lay_at anchor ∷ timed) =
     (one_air info (lay_at anchor ∷ timed) after.1.acts there.0 (entry ∷ framed_air info timed) (framed_air info (lay_at anchor ∷ timed)) after.1.air_is there.1).1 in (
@@ -42,4 +41,4 @@ timed_lays anchor old new (Ok event) laid = λ info plain timed checked at.
       after.0,
       timed_air info (lay ∷ plain) (lay_at anchor ∷ timed) at.0 ∙ sym same ∙ ap (λ air. entry ∷ air) (sym (timed_air info plain timed at.0)),
     )
-timed_lays anchor old new (Err e) laid = tt
+timed_lays anchor old new pdus (Err e) laid = tt

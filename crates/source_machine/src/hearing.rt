@@ -1,4 +1,4 @@
-ghost use Rattle.std.specs.Prelude.{◌≡◌, ◌≤◌, ◌<◌, ◌-◌, ◌^◌, List, None, Some, IfOk, IfErr, OnOk, OnErr};
+ghost use Rattle.std.specs.Prelude.{◌≡◌, ◌≤◌, ◌<◌, ◌-◌, ◌^◌, List, None, Some, false, IfOk, IfErr, OnOk, OnErr};
 ghost use Rattle.isoal_base.specs.Air.{Air};
 ghost use Rattle.source_machine.specs.Airs.{AreAirs, pdu_of};
 ghost use Rattle.source_machine.specs.Calls.{Call, next_of};
@@ -43,10 +43,10 @@ impl SourceStreaming {
     }
 
     /// The PDU of a stream that was sent in a subevent, from 0, of the event `back` events before the last one
-    /// (Core 5.2, volume 6 part B, section 4.4.6). Nothing is on the air of a source that has failed.
+    /// (Core 5.2, volume 6 part B, section 4.4.6).
     ///
     /// The first refusal that holds is answered: NoSuchBis and NoSuchSubevent where the group has no such stream or
-    /// subevent, NotOnAir where fewer than `back` + 1 events were performed.
+    /// subevent, NotOnAir where fewer than `back` + 1 events were performed, or the source has failed.
     pub fn heard_at(&self, back: u8, bis: Bis, subevent: u8) -> Result<&[u8], AirFault>
         requires { back ≤ 31 }
         ensures ok { IfOk result (λ pdu. (calls : List Call) (airs : List Air) → StandsFor calls self.now
@@ -55,6 +55,7 @@ impl SourceStreaming {
             × (pdu_of self.now.setup airs (next_of self.now.setup calls - 1 - back) bis subevent ≡ Some pdu.now)) }
         ensures err { IfErr result (λ fault. (calls : List Call) → StandsFor calls self.now
             → air_fault self.now.setup calls back bis subevent ≡ Some fault) }
+        ensures works { OnOk result (self.now.failed ≡ false) }
         ensures checked { IsChecked self.now.setup.info }
     {
         let info = &self.plan.group.info;

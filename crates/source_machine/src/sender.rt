@@ -1,6 +1,6 @@
 ghost use Rattle.std.specs.Prelude.{◌≡◌, ◌<◌, ◌∷◌, ◌↔◌, [], ℕ, List, length, None, unwrap_or, IfOk, IfErr, IsTrue, OnOk, OnErr};
 ghost use Rattle.big_info.specs.declared.info.BigInfo.{BigInfo};
-ghost use Rattle.isoal_base.specs.Air.{Air, laid_in};
+ghost use Rattle.isoal_base.specs.Air.{Air};
 ghost use Rattle.isoal_unframed.specs.Calls.{Call as PlainCall, accept, lay};
 ghost use Rattle.isoal_framed.specs.Calls.{Call as TimedCall, accept as accept_timed, lay as lay_at};
 ghost use Rattle.isoal_unframed.specs.State.Sender.{StandsFor as PlainStands};
@@ -10,9 +10,9 @@ ghost use Rattle.source_machine.specs.declared.sender.Sender.TheVariants.{Framed
 ghost use Rattle.source_machine.specs.Setups.{IsChecked};
 ghost use Rattle.source_machine.specs.State.Senders.{HasTime, PutStops, SenderStands, info_of, waiting_in};
 
-use bcast_base::Memory;
+use bcast_base::{Memory, Times};
 use big_info::Group;
-use isoal_base::{EventLaid, PutFault};
+use isoal_base::{LaidPdus, PutFault};
 use isoal_framed::FramedOut;
 use isoal_unframed::UnframedOut;
 use std::alloc::Global;
@@ -71,20 +71,21 @@ impl Sender {
         }
     }
 
-    /// Lays the next event, whose anchor this is, in µs. Want of memory changes nothing.
-    pub(crate) fn lay(&mut self, anchor: u64) -> Result<EventLaid, Memory>
+    /// Lays the PDUs of the next event, whose anchor this is, in µs, in the place of others, and answers the times of the units that
+    /// were left out of it. Want of memory changes nothing but the PDUs.
+    pub(crate) fn lay(&mut self, anchor: u64, pdus: &mut LaidPdus) -> Result<Times, Memory>
         ensures info { info_of self.new ≡ info_of self.old }
-        ensures count { IfOk result (λ event. length event.pdus ≡ (info_of self.old).bn) }
+        ensures count { OnOk result (length pdus.new ≡ (info_of self.old).bn) }
         ensures err { OnErr result (self.new ≡ self.old) }
-        ensures laid { IfOk result (λ event. (info : BigInfo) (plain : List PlainCall) (timed : List TimedCall) → IsChecked info
+        ensures laid { IfOk result (λ stale. (info : BigInfo) (plain : List PlainCall) (timed : List TimedCall) → IsChecked info
             → SenderStands info plain timed self.old
             → SenderStands info (lay ∷ plain) (lay_at anchor ∷ timed) self.new
             × (begun : ℕ) × (air_after info (lay ∷ plain) (lay_at anchor ∷ timed)
-            ≡ record { event = laid_in event; begun = begun } ∷ air_after info plain timed)) }
+            ≡ record { event = record { pdus = pdus.new; stale = stale }; begun = begun } ∷ air_after info plain timed)) }
     {
         match self {
-            Sender::Unframed(out) => out.lay_event(),
-            Sender::Framed(out) => out.pack_event(anchor),
+            Sender::Unframed(out) => out.lay_event_in(pdus),
+            Sender::Framed(out) => out.pack_event_in(anchor, pdus),
         }
     }
 }

@@ -1,5 +1,6 @@
-ghost use Rattle.std.specs.Prelude.{◌≡◌, ◌<◌, ◌+◌, ◌*◌, ◌++◌, ◌↔◌, ℕ, [], length, map, get_or, All, Some, IfOk, IfErr, IsTrue, OnOk, OnErr};
+ghost use Rattle.std.specs.Prelude.{◌≡◌, ◌<◌, ◌+◌, ◌*◌, ◌++◌, ◌↔◌, ℕ, [], ◌∷◌, length, map, get_or, All, Some, IfOk, IfErr, IsTrue, OnOk, OnErr};
 ghost use Rattle.std.specs.List.{AllZip, range_with_len};
+ghost use Rattle.circular_buffer.specs.Buffer.{buffer, keep_last};
 ghost use Rattle.source_machine.specs.Airs.{stale_on};
 ghost use Rattle.source_machine.specs.State.Senders.{HasTime, PutStops};
 ghost use Rattle.source_machine.specs.State.Sources.{Stream as StreamState, StreamStands};
@@ -11,20 +12,24 @@ use crate::sent::{Stale, StaleList};
 use bcast_base::{Bis, EventPdus, Memory, Octets, Times};
 use big_info::Group;
 use circular_buffer::HeapCircularBuffer;
-use isoal_base::PutFault;
+use isoal_base::{LaidPdus, PutFault};
 use radio_schedule::events_ahead;
 use std::alloc::Global;
 use std::marker::Model;
+use std::mem::replace;
 
 /// How many events that were performed a stream keeps.
 const EVENTS: u32 = 32;
 
-/// A stream of a source: its sender, and the last 32 events that were performed with the H events laid behind them.
+/// A stream of a source: its sender, and the last 32 events that were performed with the H events laid behind them. The memory of
+/// the event that was dropped last is kept for the next one.
 #[derive(Drop)]
 pub(crate) struct Stream {
+    alloc: Global,
     bis: Bis,
     sender: Sender,
-    laid: HeapCircularBuffer<EventPdus>,
+    laid: HeapCircularBuffer<LaidPdus>,
+    dropped: LaidPdus,
 }
 
 impl Model for Stream {
@@ -45,9 +50,11 @@ impl Stream {
         ensures { IfOk result (λ stream. StreamStands group.now.info bis [] [] stream) }
     {
         Ok(Stream {
+            alloc,
             bis,
             sender: Sender::new(alloc, group),
             laid: HeapCircularBuffer::with_capacity(alloc, (group.horizon() + EVENTS) as usize)?,
+            dropped: LaidPdus::new(alloc),
         })
     }
 
@@ -68,9 +75,9 @@ impl Stream {
         ensures ok { OnOk result (LaysOne anchor self.old self.new stale.old stale.new) }
         ensures err { OnErr result (Grows self.old self.new) }
     {
-        let event = self.sender.lay(anchor)?;
-        let _ = self.laid.push_back(event.pdus);
-        tell_stale(self.bis, &event.stale, stale)
+        let times = self.sender.lay(anchor, &mut self.dropped)?;
+        keep_event(self.alloc, &mut self.laid, &mut self.dropped);
+        tell_stale(self.bis, &times, stale)
     }
 
     /// Gives a unit to the sender.
@@ -102,7 +109,17 @@ impl Stream {
     {
         let behind = u64::from(group.horizon()) - events_ahead(group, subevent) + u64::from(back);
         let pdus = self.laid.nth_back(behind as usize).unwrap();
-        pdus.item(usize::from(subevent % group.info.bn)).as_slice()
+        pdus.pdu(usize::from(subevent % group.info.bn))
+    }
+}
+
+/// Puts an event behind those that are kept. Where there is no room the oldest goes, and comes in its place.
+fn keep_event(alloc: Global, laid: &mut HeapCircularBuffer<LaidPdus>, pdus: &mut LaidPdus)
+    ensures { laid.new ≡ buffer (keep_last laid.old.capacity (laid.old.items ++ pdus.old ∷ [])) laid.old.capacity }
+{
+    let event = replace(pdus, LaidPdus::new(alloc));
+    if let Some(oldest) = laid.push_back(event) {
+        *pdus = oldest;
     }
 }
 

@@ -1,6 +1,8 @@
-//! When the events of a group are sent and its units are due (Core 5.2, volume 6 part G, section 3.2).
+//! When the events of a group are sent and its units are due (Core 5.2, volume 6 part G, section 3.2), and how a sink is put on it.
 #![tactic(auto)]
 
+mod joining;
 mod times;
 
+pub use joining::Joining;
 pub use times::{anchor, framed_reference, render, unframed_reference};

@@ -16,8 +16,7 @@ mod groups;
 mod lines;
 #[cfg(test)]
 mod migrations;
-#[cfg(test)]
-mod numbers;
+pub mod numbers;
 #[cfg(test)]
 mod octets;
 #[cfg(test)]

@@ -2,7 +2,7 @@
 use big_info::BigInfo;
 
 /// One unit of 4 octets every 10 ms on LE 2M, sent once.
-pub(crate) const SINGLE: BigInfo = BigInfo {
+pub const SINGLE: BigInfo = BigInfo {
     big_offset: 0,
     big_offset_units: 0,
     iso_interval: 8,

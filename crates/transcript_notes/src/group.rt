@@ -9,14 +9,14 @@ use scenario_text::Step;
 #[derive(Clone, Copy)]
 pub(crate) struct Numbers {
     iso: u64,
-    sdu: u64,
+    pub(crate) sdu: u64,
     max_sdu: u64,
-    max_pdu: u64,
-    num_bis: u64,
-    bn: u64,
-    nse: u64,
-    irc: u64,
-    pto: u64,
+    pub(crate) max_pdu: u64,
+    pub(crate) num_bis: u64,
+    pub(crate) bn: u64,
+    pub(crate) nse: u64,
+    pub(crate) irc: u64,
+    pub(crate) pto: u64,
     sub: u64,
     spacing: u64,
     phy: u64,
@@ -75,7 +75,7 @@ pub(crate) fn numbers_of(step: &Step) -> Option<Numbers> {
 
 impl Numbers {
     /// The ISO interval in µs.
-    fn interval(&self) -> u64 {
+    pub(crate) fn interval(&self) -> u64 {
         self.iso.saturating_mul(1250)
     }
 
@@ -91,7 +91,7 @@ impl Numbers {
     }
 
     /// The delay from the first subevent to the end of the last in µs.
-    fn delay(&self, is_encrypted: bool) -> u64 {
+    pub(crate) fn delay(&self, is_encrypted: bool) -> u64 {
         let streams = self.num_bis.saturating_sub(1).saturating_mul(self.spacing);
         let subevents = self.nse.saturating_sub(1).saturating_mul(self.sub);
         streams
@@ -117,7 +117,7 @@ impl Numbers {
 }
 
 /// How often a number goes into another; 0 where it is 0.
-fn quotient(number: u64, by: u64) -> u64 {
+pub(crate) fn quotient(number: u64, by: u64) -> u64 {
     if by == 0 { 0 } else { number / by }
 }
 

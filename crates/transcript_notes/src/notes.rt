@@ -2,14 +2,16 @@
 ghost use Rattle.std.specs.Prelude.{◌≡◌, ◌⊎◌};
 
 use crate::ears::Ears;
-use crate::group::{NONE, Numbers, numbers_of, put_fault};
+use crate::group::put_fault;
 use crate::misfits::put_misfit;
 use crate::note::{digit_of, octets_at, put_note, word_at};
 use crate::phases::{ABSENT, Source, order_of};
 use crate::refusals::row_of;
 use crate::rows::put_row_note;
+use crate::units::Units;
 use bcast_base::{Memory, Octets};
 use printed_words::Word;
+use replay_steps::Machine;
 use scenario_reading::read_line_in;
 use scenario_text::Step;
 use std::alloc::Global;
@@ -18,8 +20,8 @@ use transcript_text::Refusal;
 /// The place of ADV in a `train` line.
 const ADVERTISED: u64 = 4;
 
-/// The notes of the lines of a scenario, line by line. It keeps no step: of each source how far it has come and the numbers of its
-/// group, and of each sink what it can take.
+/// The notes of the lines of a scenario, line by line. It keeps no step of a line that was run: of each source how far it has come and its
+/// schedule, of each sink what it can take, and of each stream at a sink what became of its units and PDUs.
 #[derive(Drop)]
 pub struct Notes {
     alloc: Global,
@@ -29,9 +31,10 @@ pub struct Notes {
     is_other: bool,
     first: Source,
     second: Source,
-    first_group: Numbers,
-    second_group: Numbers,
     ears: Ears,
+    units: Units,
+    /// The step of the line that is run now.
+    step: Option<Step>,
 }
 
 impl Notes {
@@ -44,31 +47,69 @@ impl Notes {
             is_other: false,
             first: ABSENT,
             second: ABSENT,
-            first_group: NONE,
-            second_group: NONE,
             ears: Ears::new(alloc),
+            units: Units::new(alloc),
+            step: None,
         }
     }
 
-    /// Puts the notes of a line that was run: `text` has the rows of the transcript that it brought, and `refused` why it was refused.
-    /// The lines before it were told in their order. After Memory a front of the notes may stand there.
-    pub fn put(
-        &mut self,
-        rows: &mut Octets,
-        line: &[u8],
-        text: &[u8],
-        refused: Option<Refusal>,
-    ) -> Result<(), Memory> {
+    /// Notes a line that will be run on this machine. The lines before it were told in their order.
+    pub fn begin(&mut self, line: &[u8], machine: &Machine) -> Result<(), Memory> {
         let step = match read_line_in(self.alloc, version_of(self.is_second), line) {
             Ok(step) => step,
             Err(_) => None,
         };
+        let source = self.source();
+        if let Some(step) = &step {
+            self.units.begin(machine, source, step)?;
+        }
+        self.step = step;
+        Ok(())
+    }
+
+    /// Puts the notes of the line that began last and was run: `text` has the rows of the transcript that it brought, `machine` is what it
+    /// left, and `refused` why it was refused. After Memory a front of the notes may stand there.
+    pub fn put(
+        &mut self,
+        rows: &mut Octets,
+        line: &[u8],
+        machine: &Machine,
+        text: &[u8],
+        refused: Option<Refusal>,
+    ) -> Result<(), Memory> {
+        let step = self.step.take();
         match refused {
             Some(reason) => self.put_refusal(rows, line, step, reason),
             None => {
                 self.put_rows(rows, line, text)?;
-                self.made(step)
+                self.put_units(rows, &step, text)?;
+                self.made(machine, step, text)
             }
+        }
+    }
+
+    /// The number of the chosen source.
+    fn source(&self) -> u8 {
+        if self.is_other { 1 } else { 0 }
+    }
+
+    /// Puts the notes of units, and counts at the end of a sink and of the scenario.
+    fn put_units(
+        &mut self,
+        rows: &mut Octets,
+        step: &Option<Step>,
+        text: &[u8],
+    ) -> Result<(), Memory> {
+        match step {
+            Some(Step::Event) | Some(Step::Stop) | Some(Step::Terminate { .. }) => {
+                self.units.put_units(rows, text)
+            }
+            Some(Step::End) => {
+                self.units.put_units(rows, text)?;
+                self.units.put_all_counts(rows)
+            }
+            Some(Step::Drop { sink }) => self.units.put_counts(rows, *sink),
+            _ => Ok(()),
         }
     }
 
@@ -92,11 +133,7 @@ impl Notes {
         match (reason, step) {
             (Refusal::BadLine { word }, _) => put_misfit(rows, line, word),
             (Refusal::BadGroup { fault }, _) => {
-                let group = if self.is_other {
-                    &self.second_group
-                } else {
-                    &self.first_group
-                };
+                let group = self.units.numbers(self.source());
                 put_fault(rows, fault, group, self.chosen().has_cipher)
             }
             (Refusal::Order, Some(step)) => {
@@ -144,7 +181,7 @@ impl Notes {
     }
 
     /// Notes a step that was made.
-    fn made(&mut self, step: Option<Step>) -> Result<(), Memory> {
+    fn made(&mut self, machine: &Machine, step: Option<Step>, text: &[u8]) -> Result<(), Memory> {
         let Some(step) = step else {
             return Ok(());
         };
@@ -160,21 +197,11 @@ impl Notes {
                 } else {
                     self.first.made(&step);
                 }
-                self.numbered(&step);
+                let source = self.source();
+                self.units.made(machine, source, &step, text)?;
             }
         }
         self.ears.made(step)
-    }
-
-    /// Keeps the numbers of a group.
-    fn numbered(&mut self, step: &Step) {
-        if let Some(numbers) = numbers_of(step) {
-            if self.is_other {
-                self.second_group = numbers;
-            } else {
-                self.first_group = numbers;
-            }
-        }
     }
 }
 

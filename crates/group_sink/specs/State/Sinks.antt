@@ -1,23 +1,36 @@
 -- What a sink keeps, and the calls that it stands for.
-use Rattle.std.specs.Prelude.{ℕ, ◌≡◌, List, map, Option, Some, None, option_map, if◌then◌else◌}
-use Rattle.std.specs.List.{range_with_len}
+use Rattle.std.specs.Prelude.{ℕ, ◌≡◌, ◌-◌, List, length, map, Option, option_map, if◌then◌else◌}
+use Rattle.std.specs.List.{filter, range_with_len}
 use Rattle.big_info.specs.declared.info.BigInfo.{BigInfo}
-use Rattle.group_sink.specs.Calls.{Tuning, Call, place}
-use Rattle.group_sink.specs.Streams.{is_in, stay_on, stream_calls}
+use Rattle.group_sink.specs.Calls.{Call, place}
+use Rattle.sync_reference.specs.Joining.{Joining}
+use Rattle.group_sink.specs.Streams.{is_in, stay_on, stream_calls, streams_of}
 use Rattle.group_sink.specs.State.Receivers.{receiver_after}
 use Rattle.group_sink.specs.declared.receiver.Receiver.{Receiver}
 
--- a sink on a group: the group, and for each index from 1 to 31 the receiver of its stream, where the sink takes it
+-- a sink on a group: the group, for each index from 1 to 31 the place of the receiver of its stream, and the receivers of the
+-- streams that it takes, by rising index
 pub record OnGroup : Type 0 where
   pub info : BigInfo
-  pub streams : List (Option Receiver)
+  pub places : List ℕ
+  pub streams : List Receiver
 
-abbrev pub stream_after : Tuning → List Call → ℕ → Option Receiver
-stream_after tuning calls bis =
-    if is_in tuning.which bis then Some (receiver_after (stay_on tuning bis) (stream_calls (stay_on tuning bis) calls)) else None
+-- the place of the receiver of a stream: how many streams of lower index are taken; 31, where none stands, if it isn't taken
+abbrev pub place_in : ℕ → ℕ → ℕ
+place_in set bis = if is_in set bis then length (filter (is_in set) (range_with_len 1 (bis - 1))) else 31
 
-abbrev pub on_after : List Call → Tuning → OnGroup
-on_after calls tuning = record { info = tuning.info; streams = map (stream_after tuning calls) (range_with_len 1 31) }
+abbrev pub places_of : ℕ → List ℕ
+places_of set = map (place_in set) (range_with_len 1 31)
+
+abbrev pub stream_after : Joining → List Call → ℕ → Receiver
+stream_after joining calls bis = receiver_after (stay_on joining bis) (stream_calls (stay_on joining bis) calls)
+
+abbrev pub on_after : List Call → Joining → OnGroup
+on_after calls joining = record {
+  info = joining.info;
+  places = places_of joining.which;
+  streams = map (stream_after joining calls) (streams_of joining.which);
+}
 
 -- the sink is where these calls left it, and each stream keeps what it heard
 pub record StandsFor (calls : List Call) (sink : Option OnGroup) : Type 0 where

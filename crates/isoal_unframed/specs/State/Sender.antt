@@ -14,6 +14,10 @@ pub record Sender : Type 0 where
   pub info : BigInfo
   pub waiting : List (List ℕ)
 
+pub record IsSender (info : BigInfo) (waiting : List (List ℕ)) : Type 0 where
+  pub unframed : info.framing ≡ 0
+  pub few : length waiting ≤ 16
+
 -- a unit is taken
 pub record MayWait (sender : Sender) (unit : List ℕ) : Type 0 where
   pub fits : length unit ≤ sender.info.max_sdu

@@ -2,21 +2,21 @@
 use Rattle.std.proofs.Common.{ℕ, ◌≡◌, ◌≢◌, ◌==◌, ◌&&◌, ◌||◌, ◌∙◌, cond, not, Bool, true, false, List, [], ◌∷◌, Option, None, Some, refl}
 use Rattle.std.proofs.Common.{sym, ap}
 use Rattle.std.proofs.lemmas.Bool.{and_right, false≢true, ne_eqb, cond-false}
-use Rattle.delegator_machine.specs.Groups.{joining_brought, with_leave, with_step}
+use Rattle.delegator_machine.specs.Groups.{with_leave, with_step}
 use Rattle.delegator_history.specs.States.{train_heard}
 use Rattle.delegator_history.specs.Sights.{Sight}
-use Rattle.delegator_history.specs.Trains.{Brought, Train, brought_by, heard, ignored, taken}
+use Rattle.delegator_history.specs.Trains.{Brought, Train, brought_by, heard, ignored, taken, joining_in}
 use Rattle.group_sink.specs.Calls.{Call, hear, tune}
 use Rattle.sink_history.specs.Calls as links
 use Rattle.delegator_control.specs.Groups.{has_group}
 use Rattle.scenario_text.specs.declared.step.Step.{Step}
 use Rattle.scenario_text.specs.declared.step.Step.TheVariants as steps
 use Rattle.scenario_history.specs.Boxes.{box_of, handed_by}
-use Rattle.scenario_history.specs.Sinks.{hear_at, heard_on_air, is_of, sink_calls, source_of, spots_of, ticked_if, tuning_of}
+use Rattle.scenario_history.specs.Sinks.{hear_at, heard_on_air, is_of, sink_calls, source_of, spots_of, ticked_if}
 use Rattle.scenario_history.specs.Source.{event_back, open_event}
 use Rattle.source_machine.specs.Airs.{Airs}
 use Rattle.scenario_history.specs.Steps.{chosen_given, chosen_of, chosen_steps, is_common, is_of_source, is_source_line}
-use Rattle.scenario_history.specs.Worlds.{life, source_at}
+use Rattle.scenario_history.specs.Worlds.{joining_on, life, source_at}
 use Rattle.sink_history.specs.Lives.{Made, Source, given_train, lived_by, made_of, own_train, version_given}
 use Rattle.sink_history.specs.Moves.{follows, follows_by, joining_of, received_by, train_by}
 use Rattle.sink_history.specs.Output.{sight_in}
@@ -68,7 +68,7 @@ train_lives true source train None a not = tt
 train_lives true source train (Some made) a not = ignores made.setup made.mtu source.number train a not
 train_lives false source train made a not = lives_itself made a
 
-not_joined : (brought : Brought) → follows brought ≡ false → joining_brought brought ≡ None
+not_joined : (brought : Brought) → follows brought ≡ false → joining_in brought ≡ None
 not_joined (ignored answer) not = refl
 not_joined (heard slot answer encrypted) not = refl
 not_joined (taken slot bits encrypted joining) not = absurd (false≢true (sym not))
@@ -146,7 +146,7 @@ close_stays airs n made apart = ap (λ its. ticked_if its (open_event (chosen_st
 calls_stay : (airs : Airs) (n : ℕ) (step : Step) (made : List Step) → is_source_line step ≡ true → puts n made step ≡ false
     → is_of (chosen_of made) (source_of n made) ≡ false → sink_calls airs n (step ∷ made) ≡ sink_calls airs n made
 calls_stay airs n (steps.Tuned sink which) made is not apart =
-    cond-false (sink == n) (tune (tuning_of (chosen_steps made) which) ∷ sink_calls airs n made) (sink_calls airs n made) not
+    cond-false (sink == n) (tune (joining_on (chosen_steps made) which) ∷ sink_calls airs n made) (sink_calls airs n made) not
 calls_stay airs n (steps.Announce sink) made is not apart =
     train_received (sink == n) (source_at made) (steps.Announce sink) (own_train (source_at made)) (made_of n made) (life n made)
     (lived_by (source_at made) (steps.Announce sink) (made_of n made) (life n made)) (sink_calls airs n made) refl not

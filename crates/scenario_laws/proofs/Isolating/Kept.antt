@@ -9,11 +9,10 @@ use Rattle.scenario_text.specs.declared.step.Step.{Step}
 use Rattle.scenario_text.specs.declared.step.Step.TheVariants as steps
 use Rattle.scenario_history.specs.Boxes.{box_of, closing, handed_by, handed_up}
 use Rattle.scenario_history.specs.Sinks.{Spot, hear_at, heard_on_air, is_of, reaches, sink_calls, source_of, spots_of, ticked_by, ticked_if}
-use Rattle.scenario_history.specs.Sinks.{tuning_of}
 use Rattle.scenario_history.specs.Source.{event_back, open_event}
 use Rattle.source_machine.specs.Airs.{Airs}
 use Rattle.scenario_history.specs.Steps.{chosen_given, chosen_of, chosen_steps, is_source_line, sinks_made, steps_of_source}
-use Rattle.scenario_history.specs.Worlds.{life, source_at}
+use Rattle.scenario_history.specs.Worlds.{joining_on, life, source_at}
 use Rattle.sink_history.specs.Lives.{made_of, named_by, horizon_of, version_given}
 use Rattle.sink_history.specs.Moves.{follows_by, source_by, train_by}
 use Rattle.scenario_laws.specs.Isolation.{units_by}
@@ -143,10 +142,10 @@ calls_grow airs s n (steps.Sink sink streams slots mtu) made others means same l
 calls_grow airs s n (steps.Drop sink) made others means same later =
     cond_same (sink == n) [] [] (sink_calls airs n made) (sink_calls airs n others) refl same.calls
 calls_grow airs s n (steps.Tuned sink which) made others means same later =
-    cond_same (sink == n) (tune (tuning_of (chosen_steps made) which) ∷ sink_calls airs n made)
-    (tune (tuning_of (chosen_steps others) which) ∷ sink_calls airs n others)
+    cond_same (sink == n) (tune (joining_on (chosen_steps made) which) ∷ sink_calls airs n made)
+    (tune (joining_on (chosen_steps others) which) ∷ sink_calls airs n others)
     (sink_calls airs n made) (sink_calls airs n others)
-    (cons_same (tune (tuning_of (chosen_steps made) which)) (tune (tuning_of (chosen_steps others) which)) (sink_calls airs n made)
+    (cons_same (tune (joining_on (chosen_steps made) which)) (tune (joining_on (chosen_steps others) which)) (sink_calls airs n made)
     (sink_calls airs n others)
     (ap tune (tuning_same (chosen_steps made) (chosen_steps others) which (own_alike airs s n made others (means refl) same))) same.calls)
     same.calls

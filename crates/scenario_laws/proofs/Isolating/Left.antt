@@ -11,11 +11,11 @@ use Rattle.sink_history.specs.Calls as links
 use Rattle.scenario_text.specs.declared.step.Step.{Step}
 use Rattle.scenario_text.specs.declared.step.Step.TheVariants as steps
 use Rattle.scenario_history.specs.Boxes.{box_of, handed_by, handed_up}
-use Rattle.scenario_history.specs.Sinks.{hear_at, heard_on_air, is_of, moved, sink_calls, source_of, spots_of, tuning_of}
+use Rattle.scenario_history.specs.Sinks.{hear_at, heard_on_air, is_of, moved, sink_calls, source_of, spots_of}
 use Rattle.scenario_history.specs.Source.{event_back}
 use Rattle.source_machine.specs.Airs.{Airs}
 use Rattle.scenario_history.specs.Steps.{chosen_given, chosen_of, chosen_steps, last_given, sinks_made, steps_of_source}
-use Rattle.scenario_history.specs.Worlds.{life, source_at, the_world}
+use Rattle.scenario_history.specs.Worlds.{joining_on, life, source_at, the_world}
 use Rattle.sink_history.specs.Lives.{Made, horizon_of, lived_at, lived_by, made_of, named_by, version_given}
 use Rattle.sink_history.specs.Calls.{born}
 use Rattle.sink_history.specs.Moves.{received_by, source_by}
@@ -144,7 +144,7 @@ calls_other : (airs : Airs) (n : ℕ) (step : Step) (made : List Step) → is_ot
 calls_other airs n (steps.Sink sink streams slots mtu) made other = pass (sink == n) [] (sink_calls airs n made) other
 calls_other airs n (steps.Drop sink) made other = pass (sink == n) [] (sink_calls airs n made) other
 calls_other airs n (steps.Tuned sink which) made other =
-    pass (sink == n) (tune (tuning_of (chosen_steps made) which) ∷ sink_calls airs n made) (sink_calls airs n made) other
+    pass (sink == n) (tune (joining_on (chosen_steps made) which) ∷ sink_calls airs n made) (sink_calls airs n made) other
 calls_other airs n (steps.Hear sink back bis subevent) made other =
     pass_and (sink == n) (is_of (chosen_of made) (source_of n made))
     (hear_at airs (chosen_steps made) (event_back (chosen_steps made) back)

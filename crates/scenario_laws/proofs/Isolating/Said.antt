@@ -6,14 +6,15 @@ use Rattle.std.specs.Option.{option_or}
 use Rattle.delegator_history.specs.Octets.{train_of}
 use Rattle.base_grammar.specs.Layout.{Endpoint}
 use Rattle.big_info.specs.declared.info.Cipher.{Cipher}
-use Rattle.group_sink.specs.Calls.{Call, Tuning, hear}
+use Rattle.group_sink.specs.Calls.{Call, hear}
+use Rattle.sync_reference.specs.Joining.{Joining}
 use Rattle.iso_pdu.specs.Control.{terminate}
 use Rattle.iso_pdu.specs.Layout.{control}
 use Rattle.iso_pdu.specs.Spelling.{pdu}
 use Rattle.announcement_train.specs.BaseLines.{BaseLine, subgroups_in}
 use Rattle.scenario_text.specs.declared.step.Step.{Step}
 use Rattle.scenario_history.specs.Bases.{base_from, base_lines, with_base_line}
-use Rattle.scenario_history.specs.Sinks.{Spot, hear_at, heard_on_air, is_lost, spot_at, spots_of, tuning_of, unless_lost}
+use Rattle.scenario_history.specs.Sinks.{Spot, hear_at, heard_on_air, is_lost, spot_at, spots_of, unless_lost}
 use Rattle.scenario_history.specs.Source.{GroupLine, Phase, absent, cipher_given, cipher_of, end_pdu, event_back, group_given}
 use Rattle.source_machine.specs.Airs.{Airs, pdu_of, stale_of}
 use Rattle.scenario_history.specs.Source.{group_of, ident_of, identity_given}
@@ -22,7 +23,7 @@ use Rattle.scenario_history.specs.Source.{setup_of, source_calls}
 use Rattle.scenario_history.specs.Source.{stale_in, start_given, start_of, with_source_call}
 use Rattle.scenario_history.specs.Steps.{Stage, chosen_of, chosen_steps, is_common, is_of_source, is_over_at, is_source_line, last_given}
 use Rattle.scenario_history.specs.Steps.{stage_after, stage_of, steps_of_source, version_at}
-use Rattle.scenario_history.specs.Worlds.{source_at}
+use Rattle.scenario_history.specs.Worlds.{joining_on, source_at}
 use Rattle.sink_history.specs.Lives.{Source}
 use Rattle.source_machine.specs.Calls.{Setup, Call as SourceCall, event as perform, events, next_anchor_of, next_of}
 use Rattle.source_machine.specs.Ciphers.{with_cipher}
@@ -100,7 +101,7 @@ source_in number said = record {
   };
 }
 
-abbrev tuning_in : ℕ → Said → Tuning
+abbrev tuning_in : ℕ → Said → Joining
 tuning_in which said = record {
   info = (setup_in said).info;
   which = which;
@@ -127,7 +128,7 @@ pub pdu_back_same : (airs : Airs) (own own' : List Step) (back bis subevent : �
     → pdu_in airs own (event_back own back) bis subevent ≡ pdu_in airs own' (event_back own' back) bis subevent
 pdu_back_same airs own own' back bis subevent same = ap (λ said. pdu_said airs said (back_in said back) bis subevent) same
 
-pub tuning_same : (own own' : List Step) (which : ℕ) → said_of own ≡ said_of own' → tuning_of own which ≡ tuning_of own' which
+pub tuning_same : (own own' : List Step) (which : ℕ) → said_of own ≡ said_of own' → joining_on own which ≡ joining_on own' which
 tuning_same own own' which same = ap (tuning_in which) same
 
 pub hear_same : (airs : Airs) (own own' : List Step) (back : ℕ) (spot : Spot) → said_of own ≡ said_of own'

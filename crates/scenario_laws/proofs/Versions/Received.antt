@@ -4,8 +4,8 @@
 use Rattle.std.proofs.Common.{ℕ, zero, suc, ◌≡◌, ◌*◌, ◌==◌, ◌&&◌, cond, Bool, true, false, List, [], ◌∷◌, Option, None, Some, refl, ◌∙◌, ap}
 use Rattle.std.proofs.Common.{ap₂}
 use Rattle.std.proofs.lemmas.Bool.{eqb-true}
-use Rattle.delegator_machine.specs.Groups.{joining_brought, with_step}
-use Rattle.delegator_history.specs.Trains.{Train, brought_by}
+use Rattle.delegator_machine.specs.Groups.{with_step}
+use Rattle.delegator_history.specs.Trains.{Train, brought_by, joining_in}
 use Rattle.group_sink.specs.Calls.{Call as SinkCall, hear, tune}
 use Rattle.sink_history.specs.Calls.{Call}
 use Rattle.source_machine.specs.Airs.{airs_of}
@@ -17,10 +17,10 @@ use Rattle.sink_history.specs.Moves.{follows, follows_by, joining_of, received_b
 use Rattle.sink_history.specs.Output.{sight_in}
 use Rattle.scenario_history.specs.Sinks.{Spot, hear_at, heard_on_air, is_lost, is_of, moved, reaches, sink_calls, source_after, source_of}
 use Rattle.scenario_history.specs.Sinks.{sourced, spot_at}
-use Rattle.scenario_history.specs.Sinks.{spots_of, ticked_by, ticked_if, tuning_of, unless_lost, with_sink_call}
+use Rattle.scenario_history.specs.Sinks.{spots_of, ticked_by, ticked_if, unless_lost, with_sink_call}
 use Rattle.scenario_history.specs.Source.{event_back, open_event, setup_of}
 use Rattle.scenario_history.specs.Steps.{chosen_of, chosen_steps, steps_of_source}
-use Rattle.scenario_history.specs.Worlds.{life, source_at}
+use Rattle.scenario_history.specs.Worlds.{joining_on, life, source_at}
 use Rattle.scenario_laws.proofs.Versions.Lived.{AreCalm, AreFar, IsCalm, IsFar, QuietLife, after_same, is_quiet, life_same, made_far, quiet_life}
 use Rattle.scenario_laws.proofs.Versions.Lived.{source_same}
 use Rattle.scenario_laws.proofs.Versions.Lives.{AreQuietCalls}
@@ -57,7 +57,7 @@ joining_same : (horizon : ℕ) (made : Made) (calls : List Call) (train : Option
     ≡ joining_of made (sight_in made calls) train
 joining_same horizon made calls None far quiet near = refl
 joining_same horizon made calls (Some train) far quiet near =
-    ap joining_brought (brought_far made (reaching_made horizon made) calls train far quiet near)
+    ap joining_in (brought_far made (reaching_made horizon made) calls train far quiet near)
 
 received_same : (source : Source) (step : Step) (made other : Option Made) (before after : List Call) (calls : List SinkCall)
     → AreFar made other
@@ -129,7 +129,7 @@ pub of_chosen : {A : Type 0} (f : List Step → A) → ((own : List Step) → f 
     → f (chosen_steps (seconds made)) ≡ f (chosen_steps made)
 of_chosen f same made = ap f (chosen_own made) ∙ same (chosen_steps made)
 
-tuning_same : (which : ℕ) (own : List Step) → tuning_of (seconds own) which ≡ tuning_of own which
+tuning_same : (which : ℕ) (own : List Step) → joining_on (seconds own) which ≡ joining_on own which
 tuning_same which own =
     of_calls (λ setup calls. record {
       info = setup.info;
@@ -217,7 +217,7 @@ call_next : (n : ℕ) (step : Step) (earlier : List Step) (calls others : List S
 call_next n (steps.Sink sink streams slots mtu) earlier calls others calm is same = ap (λ all. cond (sink == n) [] all) same
 call_next n (steps.Drop sink) earlier calls others calm is same = ap (λ all. cond (sink == n) [] all) same
 call_next n (steps.Tuned sink which) earlier calls others calm is same =
-    ap₂ (λ tuning all. cond (sink == n) (tune tuning ∷ all) all) (of_chosen (λ own. tuning_of own which) (tuning_same which) earlier) same
+    ap₂ (λ tuning all. cond (sink == n) (tune tuning ∷ all) all) (of_chosen (λ own. joining_on own which) (tuning_same which) earlier) same
 call_next n (steps.Hear sink back bis subevent) earlier calls others calm is same =
     let spot : Spot = record { bis = bis; subevent = subevent } in
     ap₂ (λ is_its call. cond is_its (call ∷ others) others) (reaches_same sink n earlier calm)

@@ -6,7 +6,8 @@ use Rattle.delegator_machine.specs.State.Halves.{Halves, StandsFor}
 use Rattle.delegator_history.specs.Notices.{changes}
 use Rattle.delegator_history.specs.Sights.{Sight}
 use Rattle.delegator_history.specs.States.{Step}
-use Rattle.delegator_history.specs.Trains.{Joining, Setup}
+use Rattle.delegator_history.specs.Trains.{Setup}
+use Rattle.sync_reference.specs.Joining.{Joining}
 use Rattle.sink_history.specs.Calls.{Call, is_joined, step_by, steps_of, writes_waiting}
 use Rattle.sink_history.specs.Links.{acts_of}
 use Rattle.sink_history.specs.Octets.{AreOctets}

@@ -2,9 +2,9 @@
 -- took these calls.
 use Rattle.std.specs.Prelude.{ℕ, ◌≡◌, ◌∷◌, ◌++◌, true, is_some, List, Option, None, Some, Result, Ok, Err, if◌then◌else◌}
 use Rattle.std.specs.List.{concat}
-use Rattle.delegator_machine.specs.Groups.{tuning_of}
+use Rattle.delegator_machine.specs.Groups.{by_numbers}
 use Rattle.delegator_history.specs.States.{put_on}
-use Rattle.delegator_history.specs.Trains.{Joining}
+use Rattle.sync_reference.specs.Joining.{Joining}
 use Rattle.group_sink.specs.Calls.{Call, tune, hear}
 use Rattle.isoal_base.specs.declared.hearing.Hearing.{Hearing}
 use Rattle.sink_history.specs.Calls as links
@@ -27,7 +27,7 @@ use Rattle.scenario_sinks.specs.State.Standing.{EntryIs}
 abbrev pub EntryTunes : Option ℕ → Option Made → Option ℕ → List links.Call → List Call → ℕ → Joining → Option Sink → Result (Unit {0}) Stop → Type 0
 EntryTunes box made own life received source joining entry (Ok _) =
     (not_tuned box joining.info.num_bis joining.which ≡ None)
-    × EntryIs box made (Some source) (stepped (put_on source joining) ∷ life) (tune (tuning_of joining) ∷ received) (Some entry)
+    × EntryIs box made (Some source) (stepped (put_on source joining) ∷ life) (tune (by_numbers joining) ∷ received) (Some entry)
 EntryTunes box made own life received source joining entry (Err (Refused reason)) =
     (not_tuned box joining.info.num_bis joining.which ≡ Some reason) × EntryIs box made own life received (Some entry)
 EntryTunes box made own life received source joining entry (Err OutletFault) = ⊥

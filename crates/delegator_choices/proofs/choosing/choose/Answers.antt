@@ -7,6 +7,7 @@ use Rattle.delegator_choices.proofs.choosing.choose.Goals as goal
 
 pub take_of-taking-requires : goal.take_of-taking-requires
 take_of-taking-requires c = record {
+  greatest = c.requires;
   part = λ bis stands. part_of c.args.base.now.subgroups c.subgroups.place c.subgroup.result.now bis c.subgroup.ensures stands;
 }
 

@@ -1,5 +1,6 @@
-use Rattle.std.proofs.Common.{◌≡◌, List, ℕ, subst, ap, arith}
-use Rattle.delegator_choices.specs.State.Choices.{Leads, chosen_of, left_of}
+use Rattle.std.proofs.Common.{List, ℕ, subst, arith}
+use Rattle.delegator_choices.specs.State.Choices.{Leads, chosen_of}
+use Rattle.delegator_choices.proofs.Candidates.{left_none}
 use Rattle.delegator_choices.proofs.Taken.{leads_end}
 use Rattle.delegator_choices.proofs.choosing.take_of.Goals as goal
 
@@ -11,6 +12,6 @@ indices-preserved c = record {
 
 pub returns : goal.returns
 returns c =
-    let last : c.indices.index ≡ 32 = omega (arith, c.indices-test.false) in
     leads_end (chosen_of c.args.choice.now) c.args.first c.indices.taking
-    (subst (λ (rest : List ℕ). Leads (chosen_of c.args.choice.now) c.args.first rest c.indices.taking) (ap (left_of c.args.choice.now) last) c.indices.invariant.leads)
+    (subst (λ (rest : List ℕ). Leads (chosen_of c.args.choice.now) c.args.first rest c.indices.taking)
+    (left_none c.args.choice.now c.indices.index (omega (arith, c.indices-test.false))) c.indices.invariant.leads)

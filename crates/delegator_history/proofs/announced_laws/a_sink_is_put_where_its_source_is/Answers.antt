@@ -1,6 +1,7 @@
 use Rattle.std.proofs.Common.{ap}
 use Rattle.delegator_history.specs.Announced.{heard_as}
-use Rattle.delegator_history.proofs.Brought.{joining_in, what_is_carried}
+use Rattle.delegator_history.specs.Trains.{joining_in}
+use Rattle.delegator_history.proofs.Brought.{what_is_carried}
 use Rattle.delegator_history.proofs.Joinings.{on_its_group}
 use Rattle.delegator_history.proofs.announced_laws.a_sink_is_put_where_its_source_is.Goals as goal
 

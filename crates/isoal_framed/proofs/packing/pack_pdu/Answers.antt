@@ -1,5 +1,5 @@
-use Rattle.std.proofs.Common.{◌≡◌, ◌∙◌, ◌++◌, ◌∷◌, [], List, subst, true, false}
-use Rattle.std.proofs.lemmas.Result.{MatchResult-weaker}
+use Rattle.std.proofs.Common.{ℕ, ◌≡◌, ◌∷◌, [], List, length, length-append, ◌∙◌, ap, sym, subst, take, true, false}
+use Rattle.std.proofs.lemmas.Result.{on_ok_weaker}
 use Rattle.isoal_framed.specs.Air.{pdus_ended}
 use Rattle.isoal_framed.specs.Places.{Act, ends}
 use Rattle.isoal_framed.specs.State.Packings.{Placed}
@@ -23,19 +23,22 @@ acts-preserved c =
           (more.0, more.1 ∙ was.1, more.2));
     }
 
+pub returns-clause-count : goal.returns-clause-count
+returns-clause-count c = on_ok_weaker c.push.result (λ is. ap length is ∙ length-append _ _) c.push.ensures.ok
+
 pub returns-clause-packed : goal.returns-clause-packed
-returns-clause-packed c units earlier acts pdus queue_is start =
+returns-clause-packed c units earlier acts queue_is start =
     let placed : Placed c.args.anchor c.args.queue.now.items c.acts.packing c.put_next.new.packing false =
     subst (Placed c.args.anchor c.args.queue.now.items c.acts.packing c.put_next.new.packing) c.if-branch.false c.in_ok-put_next.ensures.placed in
-    let was : (own : List Act) × (pdus_ended own ≡ pdus_ended acts) × At c.args.max_pdu units c.args.anchor earlier own pdus c.acts.packing =
-    c.acts.invariant.going units earlier acts pdus queue_is start in
-    MatchResult-weaker c.copy.result
-    {P' = λ octets. (own : List Act) × (pdus_ended own ≡ pdus_ended acts) × Going c.args.max_pdu units c.args.anchor earlier (ends ∷ own)
-    c.put_next.new.packing.past c.put_next.new.packing.sent c.args.max_pdu [] (pdus ++ octets ∷ []) c.put_next.new.packing.stale}
-    c.copy.ensures
-    (λ octets is. (
+    let was : (own : List Act) × (pdus_ended own ≡ pdus_ended acts) × At c.args.max_pdu units c.args.anchor earlier own c.args.pdus.now c.acts.packing =
+    c.acts.invariant.going units earlier acts c.args.pdus.now queue_is start in
+    let pdu : List ℕ = take c.write-count.result c.write-count.new.into in
+    on_ok_weaker c.push.result
+    (λ is. (
       was.0,
       was.1,
-      ended_is c.args.max_pdu units c.args.queue.now.items c.args.anchor earlier was.0 pdus octets c.acts.packing c.put_next.new.packing
-          queue_is c.acts.invariant.partly was.2 placed (is ∙ c.write-count.ensures.spelled),
-    )) (λ memory some. tt)
+      subst (λ pdus. Going c.args.max_pdu units c.args.anchor earlier (ends ∷ was.0) c.put_next.new.packing.past c.put_next.new.packing.sent c.args.max_pdu []
+          pdus c.put_next.new.packing.stale) (sym is)
+          (ended_is c.args.max_pdu units c.args.queue.now.items c.args.anchor earlier was.0 c.args.pdus.now pdu c.acts.packing c.put_next.new.packing
+          queue_is c.acts.invariant.partly was.2 placed c.write-count.ensures.spelled),
+    )) c.push.ensures.ok

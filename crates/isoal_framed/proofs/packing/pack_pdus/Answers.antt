@@ -1,4 +1,4 @@
-use Rattle.std.proofs.Common.{◌≡◌, ◌+◌, ◌∙◌, ◌++◌, ◌∷◌, [], List, length, inr, refl, sym, ap, subst, arith, length-append}
+use Rattle.std.proofs.Common.{◌≡◌, ◌∙◌, ◌∷◌, [], List, inr, refl, arith}
 use Rattle.isoal_framed.specs.Air.{pdus_ended}
 use Rattle.isoal_framed.specs.Places.{Act, ends}
 use Rattle.isoal_framed.specs.State.Senders.{Going}
@@ -6,25 +6,21 @@ use Rattle.isoal_framed.proofs.Packings.{EndsWhole}
 use Rattle.isoal_framed.proofs.packing.pack_pdus.Goals as goal
 
 pub pdus-preserved : goal.pdus-preserved
-pdus-preserved c =
-    let longer : length c.push.new.self ≡ length c.pdus.pdus + 1 =
-    ap length c.in_ok-push.ensures.ok ∙ length-append c.pdus.pdus (c.in_ok-pdu.pdu ∷ []) in
-    record {
-      within = c.pack_pdu.ensures.within;
-      partly = c.pack_pdu.ensures.partly;
-      count = omega (arith, longer, c.pdus.invariant.count);
-      going = λ units earlier queue_is start.
-          (let was : (own : List Act) × (pdus_ended own ≡ c.pdus.counter) × EndsWhole own
-          × Going c.args.group.now.info.max_pdu units c.args.anchor earlier own c.pdus.packing.past c.pdus.packing.sent c.args.group.now.info.max_pdu [] c.pdus.pdus c.pdus.packing.stale =
-          c.pdus.invariant.going units earlier queue_is start in
-          let more : (own : List Act) × (pdus_ended own ≡ pdus_ended was.0)
-          × Going c.args.group.now.info.max_pdu units c.args.anchor earlier (ends ∷ own) c.pack_pdu.new.packing.past c.pack_pdu.new.packing.sent c.args.group.now.info.max_pdu []
-          (c.pdus.pdus ++ c.in_ok-pdu.pdu ∷ []) c.pack_pdu.new.packing.stale =
-          c.in_ok-pdu.ensures.packed units earlier was.0 c.pdus.pdus queue_is was.3 in (
-            ends ∷ more.0,
-            (let same : pdus_ended more.0 ≡ c.pdus.counter = more.1 ∙ was.1 in omega arith),
-            inr (more.0, refl),
-            subst (λ pdus. Going c.args.group.now.info.max_pdu units c.args.anchor earlier (ends ∷ more.0) c.pack_pdu.new.packing.past c.pack_pdu.new.packing.sent
-                c.args.group.now.info.max_pdu [] pdus c.pack_pdu.new.packing.stale) (sym c.in_ok-push.ensures.ok) more.2,
-          ));
-    }
+pdus-preserved c = record {
+  within = c.pack_pdu.ensures.within;
+  partly = c.pack_pdu.ensures.partly;
+  count = omega (arith, c.in_ok-pack_pdu.ensures.count, c.pdus.invariant.count);
+  going = λ units earlier queue_is start.
+      (let was : (own : List Act) × (pdus_ended own ≡ c.pdus.counter) × EndsWhole own
+      × Going c.args.group.now.info.max_pdu units c.args.anchor earlier own c.pdus.packing.past c.pdus.packing.sent c.args.group.now.info.max_pdu [] c.pdus.pdus c.pdus.packing.stale =
+      c.pdus.invariant.going units earlier queue_is start in
+      let more : (own : List Act) × (pdus_ended own ≡ pdus_ended was.0)
+      × Going c.args.group.now.info.max_pdu units c.args.anchor earlier (ends ∷ own) c.pack_pdu.new.packing.past c.pack_pdu.new.packing.sent c.args.group.now.info.max_pdu []
+      c.pack_pdu.new.pdus c.pack_pdu.new.packing.stale =
+      c.in_ok-pack_pdu.ensures.packed units earlier was.0 queue_is was.3 in (
+        ends ∷ more.0,
+        (let same : pdus_ended more.0 ≡ c.pdus.counter = more.1 ∙ was.1 in omega arith),
+        inr (more.0, refl),
+        more.2,
+      ));
+}

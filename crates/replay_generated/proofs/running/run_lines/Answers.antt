@@ -1,6 +1,8 @@
-use Rattle.std.proofs.Common.{◌+◌, ◌∷◌, ◌∙◌, ap, sym, map, refl, arith, length, Ok}
+use Rattle.std.proofs.Common.{◌+◌, ◌∷◌, ◌∙◌, ap, sym, map, refl, subst, arith, length, Ok}
 use Rattle.scenario_writing.specs.Generated.{generated_lines}
 use Rattle.replay_generated.specs.Generated.{lines_made}
+use Rattle.replay_generated.specs.State.Comings.{IsComing}
+use Rattle.replay_generated.proofs.Comings.{one_comes}
 use Rattle.replay_generated.proofs.EndLines.{made_end}
 use Rattle.replay_generated.proofs.GeneratedText.{generated_count, generated_read}
 use Rattle.replay_steps.proofs.Citable.{none_run}
@@ -24,38 +26,40 @@ returns-in-Err-clause-ran g c =
     (map (λ b. (goal.Outlet-dyn g (b.vtable, b.value)).account b.value) c.lines.outlets.items)
     (lines_made c.args.seed c.args.events) c.lines.lines c.lines.number c.lines.machine c.lines.counts c.lines.invariant.running
 
-pub returns-in-Ok-false-clause-ran : goal.returns-in-Ok-false-clause-ran
-returns-in-Ok-false-clause-ran g c =
+pub returns-in-Ok-None-clause-ran : goal.returns-in-Ok-None-clause-ran
+returns-in-Ok-None-clause-ran g c =
     runs_through c.args.outlets.now.items c.lines.outlets.items (map (λ b. (goal.Outlet-dyn g (b.vtable, b.value)).account b.value) c.args.outlets.now.items)
     (map (λ b. (goal.Outlet-dyn g (b.vtable, b.value)).account b.value) c.lines.outlets.items)
     (lines_made c.args.seed c.args.events) c.lines.lines c.lines.number c.lines.machine c.lines.counts c.lines.invariant.running
-    (c.next_line.ensures.none (c.in-Ok-false.is ∙ ap Ok c.in-Ok-false.field-0-test))
+    (c.next_of.ensures.none (c.in-Ok-None.is ∙ ap (λ o. Ok o) c.in-Ok-None.field-0-is))
     (made_end c.args.seed c.args.events (generated_read c.args.seed c.args.events c.requires.most))
 
 pub lines-preserved : goal.lines-preserved
 lines-preserved g c =
-    let next = c.next_line.ensures.next (c.in-Ok-true.is ∙ ap Ok c.in-Ok-true.field-0-test) in
+    let comes = one_comes c.in-Ok-Some.field-0 c.in-Ok-Some.coming c.next_of.new.line c.lines.lines c.next_of.new.lines c.in-Ok-Some.field-0-is c.in-Ok-Some.ensures.comes in
+    let is = subst (λ octets. IsComing c.in-Ok-Some.coming octets comes.line) (sym c.as_slice.ensures) comes.is in
     let starts = map (λ b. (goal.Outlet-dyn g (b.vtable, b.value)).account b.value) c.args.outlets.now.items in
     record {
       running = runs_on c.args.outlets.now.items c.lines.outlets.items starts
           (map (λ b. (goal.Outlet-dyn g (b.vtable, b.value)).account b.value) c.lines.outlets.items)
           (lines_made c.args.seed c.args.events) c.lines.lines c.lines.number c.lines.machine c.lines.counts c.lines.invariant.running
-          c.as_slice.result.now c.next_line.new.self (next ∙ ap (λ l. l ∷ c.next_line.new.self) (sym c.as_slice.ensures))
+          comes.line c.next_of.new.lines comes.next
           c.run_line.new.outlets.items (map (λ b. (goal.Outlet-dyn g (b.vtable, b.value)).account b.value) c.run_line.new.outlets.items)
-          c.run_line.new.machine c.run_line.new.counts (c.lines.number + 1) c.run_line.result refl c.in-None.is (c.run_line.ensures.untaken starts) (c.run_line.ensures.runs starts);
-      bound = omega (arith, c.lines.invariant.bound, ap length next);
+          c.run_line.new.machine c.run_line.new.counts (c.lines.number + 1) c.run_line.result refl c.in-None.is (c.run_line.ensures.untaken starts) (λ history number run. c.run_line.ensures.runs starts history comes.line number is run);
+      bound = omega (arith, c.lines.invariant.bound, ap length comes.next);
     }
 
 pub returns-in-Some-clause-ran : goal.returns-in-Some-clause-ran
 returns-in-Some-clause-ran g c =
-    let next = c.next_line.ensures.next (c.in-Ok-true.is ∙ ap Ok c.in-Ok-true.field-0-test) in
+    let comes = one_comes c.in-Ok-Some.field-0 c.in-Ok-Some.coming c.next_of.new.line c.lines.lines c.next_of.new.lines c.in-Ok-Some.field-0-is c.in-Ok-Some.ensures.comes in
+    let is = subst (λ octets. IsComing c.in-Ok-Some.coming octets comes.line) (sym c.as_slice.ensures) comes.is in
     let starts = map (λ b. (goal.Outlet-dyn g (b.vtable, b.value)).account b.value) c.args.outlets.now.items in
     runs_out c.args.outlets.now.items c.lines.outlets.items starts
     (map (λ b. (goal.Outlet-dyn g (b.vtable, b.value)).account b.value) c.lines.outlets.items)
     (lines_made c.args.seed c.args.events) c.lines.lines c.lines.number c.lines.machine c.lines.counts c.lines.invariant.running
-    c.as_slice.result.now c.next_line.new.self (next ∙ ap (λ l. l ∷ c.next_line.new.self) (sym c.as_slice.ensures))
+    comes.line c.next_of.new.lines comes.next
     (map (λ b. (goal.Outlet-dyn g (b.vtable, b.value)).account b.value) c.run_line.new.outlets.items)
-    c.run_line.new.machine c.run_line.new.counts (c.lines.number + 1) c.run_line.result c.in-Some.ending refl c.in-Some.is (c.run_line.ensures.runs starts)
+    c.run_line.new.machine c.run_line.new.counts (c.lines.number + 1) c.run_line.result c.in-Some.ending refl c.in-Some.is (λ history number run. c.run_line.ensures.runs starts history comes.line number is run)
 
 pub returns-in-Err-clause-untaken : goal.returns-in-Err-clause-untaken
 returns-in-Err-clause-untaken g c =
@@ -63,8 +67,8 @@ returns-in-Err-clause-untaken g c =
     (map (λ b. (goal.Outlet-dyn g (b.vtable, b.value)).account b.value) c.lines.outlets.items)
     (lines_made c.args.seed c.args.events) c.lines.lines c.lines.number c.lines.machine c.lines.counts c.lines.invariant.running
 
-pub returns-in-Ok-false-clause-untaken : goal.returns-in-Ok-false-clause-untaken
-returns-in-Ok-false-clause-untaken g c =
+pub returns-in-Ok-None-clause-untaken : goal.returns-in-Ok-None-clause-untaken
+returns-in-Ok-None-clause-untaken g c =
     untaken_here c.args.outlets.now.items c.lines.outlets.items (map (λ b. (goal.Outlet-dyn g (b.vtable, b.value)).account b.value) c.args.outlets.now.items)
     (map (λ b. (goal.Outlet-dyn g (b.vtable, b.value)).account b.value) c.lines.outlets.items)
     (lines_made c.args.seed c.args.events) c.lines.lines c.lines.number c.lines.machine c.lines.counts c.lines.invariant.running

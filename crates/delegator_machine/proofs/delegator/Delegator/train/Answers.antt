@@ -1,13 +1,12 @@
-use Rattle.std.proofs.Common.{◌≡◌, ◌∙◌, option_map, sym, ap, subst}
-use Rattle.delegator_history.specs.Trains.{Train, brought_by, done_brought}
-use Rattle.delegator_choices.specs.State.Brings.{brought_of, joining_by, joining_in}
+use Rattle.std.proofs.Common.{◌≡◌, ◌∙◌, option_copied, sym, ap, subst}
+use Rattle.delegator_history.specs.Trains.{Train, brought_by, done_brought, joining_in}
+use Rattle.delegator_choices.specs.State.Brings.{brought_of}
 use Rattle.delegator_control.specs.Following.{is_followed}
 use Rattle.delegator_control.proofs.Wanting.{on_any_err}
 use Rattle.delegator_control.specs.State.Machines.{machine, moved}
 use Rattle.delegator_machine.specs.Calls.{steps_of}
-use Rattle.delegator_machine.specs.Groups.{joining_brought}
 use Rattle.delegator_machine.specs.State.Halves.{Halves, StandsFor}
-use Rattle.delegator_machine.proofs.Trains.{base_followed, followed_so, joined_followed, made_is, same_joining, stands_trained}
+use Rattle.delegator_machine.proofs.Trains.{base_followed, followed_so, joined_followed, stands_trained}
 use Rattle.delegator_machine.proofs.delegator.Delegator.train.Goals as goal
 
 pub returns-clause-stands : goal.returns-clause-stands
@@ -17,9 +16,8 @@ returns-clause-stands c setup calls source stands =
     let train : Train = record { address_type = c.args.address_type; sid = c.args.sid; ext = c.args.ext.now; adv = c.args.adv.now; acad = c.args.acad.now; now = c.args.now } in
     let heard : brought_of c.in_ok-brought.brought ≡ brought_by old.scan.setup old.scan.sight train = c.in_ok-brought.ensures.brought in
     stands_trained setup train source calls old (record { scan = machine c.follow.new.self; sink = c.join.new.sink })
-    (option_map joining_by c.joining-joining.result) c.in_ok-made.made
-    (c.joining-joining.ensures ∙ (same_joining (brought_of c.in_ok-brought.brought) ∙ ap joining_brought heard))
-    (c.in_ok-made.ensures.made ∙ made_is c.joining-joining.result)
+    (option_copied c.joining.result) c.in_ok-made.made
+    (c.joining.ensures ∙ ap joining_in heard) c.in_ok-made.ensures.made
     c.join.ensures.none c.join.ensures.some
     (c.in_ok-heard.ensures.step ∙ ap (λ brought. moved (done_brought brought) old.scan) heard)
     (c.in_ok-heard.ensures.stands (steps_of calls) source train heard before.steps)
@@ -40,7 +38,7 @@ returns-in_err-made-clause-memory c setup calls stands =
     let train : Train = record { address_type = c.args.address_type; sid = c.args.sid; ext = c.args.ext.now; adv = c.args.adv.now; acad = c.args.acad.now; now = c.args.now } in
     on_any_err c.from_residual-in_err-made.result
     (followed_so setup calls old train before
-    (joined_followed c.joining-joining.result (brought_by old.scan.setup old.scan.sight train) (c.joining-joining.ensures ∙ ap joining_in c.in_ok-brought.ensures.brought)
+    (joined_followed (option_copied c.joining.result) (brought_by old.scan.setup old.scan.sight train) (c.joining.ensures ∙ ap joining_in c.in_ok-brought.ensures.brought)
     c.in_err-made.ensures.memory))
 
 pub returns-in_err-heard-clause-memory : goal.returns-in_err-heard-clause-memory

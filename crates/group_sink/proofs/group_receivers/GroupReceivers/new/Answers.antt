@@ -1,26 +1,47 @@
-use Rattle.std.proofs.Common.{◌≡◌, ◌+◌, ◌++◌, ◌∷◌, [], ◌∙◌, ap, sym, map, vec_len, arith}
-use Rattle.std.specs.List.{range_with_len}
-use Rattle.std.proofs.lemmas.List.FromFn.{map-range_with_len_more}
+use Rattle.std.proofs.Common.{ℕ, ◌≡◌, ◌-◌, length, set, cond, Some, None, ◌∙◌, ap, sym, arith}
+use Rattle.group_sink.specs.State.Receivers.{fresh}
 use Rattle.group_sink.specs.State.Steps.{fresh_at}
+use Rattle.group_sink.specs.Streams.{is_in, stay_on}
+use Rattle.group_sink.specs.declared.receiver.Receiver.{Receiver}
+use Rattle.group_sink.proofs.Places.{all_places, all_streams, places_kept, places_more, streams_kept, streams_more}
 use Rattle.group_sink.proofs.group_receivers.GroupReceivers.new.Goals as goal
+
+pub indices-preserved-in_default-2 : goal.indices-preserved-in_default-2
+indices-preserved-in_default-2 c =
+    let joining = c.args.joining.now in
+    let f : ℕ → Receiver = λ bis. fresh (stay_on joining bis) in
+    let here : c.in-Some.bis ≡ c.indices.index = omega (arith, c.in-Some.ensures) in
+    let free : None ≡ cond (is_in joining.which c.indices.index) (Some (f c.indices.index)) None =
+    sym c.in_default-2.is ∙ c.in_ok-stream.ensures ∙ ap (fresh_at joining) here in
+    record {
+      few = omega (arith, c.indices.invariant.few);
+      places = places_kept (f c.indices.index) joining.which c.indices.index c.indices.places c.indices.auto.index (omega (arith, c.indices-test.true))
+          free c.indices.invariant.places;
+      fresh = streams_kept f joining.which c.indices.index c.indices.streams.items c.indices.auto.index c.indices.invariant.fresh free;
+    }
 
 pub indices-preserved : goal.indices-preserved
 indices-preserved c =
-    let f = fresh_at (record { info = c.args.group.now.info; which = c.args.which; first = c.args.event; anchor = c.args.anchor; delay = c.args.delay }) in
-    let more : vec_len c.push.new.self ≡ vec_len c.indices.streams + 1 = c.in_ok-push.ensures.len in
-    let here : 1 + vec_len c.indices.streams ≡ c.in-Some.bis = omega (arith, c.indices.invariant.places, c.in-Some.ensures) in
+    let joining = c.args.joining.now in
+    let f : ℕ → Receiver = λ bis. fresh (stay_on joining bis) in
+    let here : c.in-Some.bis ≡ c.indices.index = omega (arith, c.in-Some.ensures) in
+    let taken : Some c.in-Some-2.stream ≡ cond (is_in joining.which c.indices.index) (Some (f c.indices.index)) None =
+    sym c.in-Some-2.is ∙ c.in_ok-stream.ensures ∙ ap (fresh_at joining) here in
+    let at : c.from.result ≡ c.indices.index - 1 = omega (arith, c.from.ensures) in
+    let count : c.len.result ≡ length c.indices.streams.items = c.len.ensures ∙ c.indices.streams.ok.0 in
     record {
-      places = omega (arith, c.indices.invariant.places);
-      fresh = c.in_ok-push.ensures.items
-          ∙ ap (λ xs. xs ++ c.in_ok-stream_of.field-0 ∷ []) c.indices.invariant.fresh
-          ∙ ap (λ x. map f (range_with_len 1 (vec_len c.indices.streams)) ++ x ∷ []) c.in_ok-stream_of.ensures
-          ∙ sym (map-range_with_len_more f 1 (vec_len c.indices.streams) c.in-Some.bis here)
-          ∙ ap (λ n. map f (range_with_len 1 n)) (sym more);
+      few = omega (arith, c.indices.invariant.few, c.in_ok-push.ensures.len);
+      places = places_more f joining.which c.indices.index c.indices.streams.items c.in-Some-2.stream c.indices.places _ c.indices.auto.index
+          (omega (arith, c.indices-test.true)) c.indices.invariant.fresh taken c.indices.invariant.places
+          (λ i. set c.indices.places (at i) (count i));
+      fresh = streams_more f joining.which c.indices.index c.indices.streams.items c.push.new.self.items c.in-Some-2.stream c.indices.auto.index
+          c.indices.invariant.fresh taken c.in_ok-push.ensures.items;
     }
 
 pub returns : goal.returns
 returns c =
-    let f = fresh_at (record { info = c.args.group.now.info; which = c.args.which; first = c.args.event; anchor = c.args.anchor; delay = c.args.delay }) in
-    let all : vec_len c.indices.streams ≡ 31 = omega (arith, c.indices.invariant.places, c.indices-test.false) in
-    ap (λ xs. record { info = c.args.group.now.info; streams = xs })
-    (c.indices.invariant.fresh ∙ ap (λ n. map f (range_with_len 1 n)) all)
+    let joining = c.args.joining.now in
+    let last : c.indices.index ≡ 32 = omega (arith, c.indices-test.false) in
+    let places = c.indices.invariant.places ∙ all_places joining.which c.indices.index last in
+    let streams = c.indices.invariant.fresh ∙ all_streams (λ bis. fresh (stay_on joining bis)) joining.which c.indices.index last in
+    λ i. record { info = (c.joining.view_is i).info; places = places i; streams = streams i }

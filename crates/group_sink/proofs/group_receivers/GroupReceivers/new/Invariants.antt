@@ -1,10 +1,12 @@
-use Rattle.std.proofs.Common.{◌≡◌, ◌+◌, map, vec_len}
-use Rattle.std.specs.List.{range_with_len}
-use Rattle.group_sink.specs.State.Steps.{fresh_at}
+use Rattle.std.proofs.Common.{◌≡◌, ◌+◌, ◌≤◌, map, vec_len}
+use Rattle.group_sink.specs.State.Receivers.{fresh}
+use Rattle.group_sink.specs.Streams.{stay_on}
+use Rattle.group_sink.proofs.Places.{below, places_before}
 use Rattle.group_sink.proofs.group_receivers.GroupReceivers.new.Given as goal
 
 abbrev pub invariant-indices : goal.invariant-indices
 invariant-indices l = record {
-  places : vec_len l.streams + 1 ≡ l.index;
-  fresh : l.streams.items ≡ map (fresh_at (record { info = l.group.info; which = l.which; first = l.event; anchor = l.anchor; delay = l.delay })) (range_with_len 1 (vec_len l.streams));
+  few : vec_len l.streams + 1 ≤ l.index;
+  places : l.places ≡ places_before l.joining.which l.index;
+  fresh : l.streams.items ≡ map (λ bis. fresh (stay_on l.joining bis)) (below l.joining.which l.index);
 }

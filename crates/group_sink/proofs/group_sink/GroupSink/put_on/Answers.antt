@@ -5,4 +5,4 @@ use Rattle.group_sink.proofs.Standing.{fresh_stands}
 use Rattle.group_sink.proofs.group_sink.GroupSink.put_on.Goals as goal
 
 pub returns : goal.returns
-returns c tuning calls made = subst (λ on. StandsFor (tune tuning ∷ calls) (Some on)) (sym made) (fresh_stands calls tuning)
+returns c joining calls made = subst (λ on. StandsFor (tune joining ∷ calls) (Some on)) (sym made) (fresh_stands calls joining)

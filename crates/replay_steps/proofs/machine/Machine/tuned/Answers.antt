@@ -9,5 +9,5 @@ returns-in_default c boxes version steps stands e = (tuned_early boxes version c
 pub returns : goal.returns
 returns c boxes version steps stands e =
     let at = c.in-Some.ensures steps stands.sources in
-    tuned_meets boxes version c.args.sink c.chosen.result c.args.which steps _ c.args.self.now _ c.tune.result stands e at.0 (c.chosen.ensures.source steps stands.sources) (at.1 c.args.which)
+    tuned_meets boxes version c.args.sink c.chosen.result c.args.which steps _ c.args.self.now _ c.tune.result stands e at.0 (c.chosen.ensures.source steps stands.sources) at.1
     refl refl refl (c.tune.ensures (past_of steps) stands.sinks)

@@ -1,6 +1,6 @@
 use Rattle.std.proofs.Common.{Some, refl}
 use Rattle.delegator_history.specs.States.{put_on}
-use Rattle.delegator_history.specs.Trains.{Joining}
+use Rattle.sync_reference.specs.Joining.{Joining}
 use Rattle.sink_history.specs.Calls.{stepped}
 use Rattle.scenario_sink.specs.State.Stands.{after_call}
 use Rattle.scenario_sink.proofs.Lives.{of_source}
@@ -9,11 +9,10 @@ use Rattle.scenario_sink.proofs.sink.LivingSink.tune.Goals as goal
 
 pub returns : goal.returns
 returns c past lives =
-    let joining : Joining =
-    record { info = c.args.group.now.info; which = c.args.which; first = c.args.event; anchor = c.args.anchor; delay = c.args.delay } in
+    let joining : Joining = c.args.joining.now in
     let its = lives.stands in record {
       stands = of_source (Some c.args.source) (after_call (stepped (put_on c.args.source joining)) past) _ _ (c.in_ok-gather.ensures.stands (stepped (put_on c.args.source joining)) past
           (steps (put_on c.args.source joining) past c.args.self.now.delegator _ _ refl tt its
-          (c.in_ok-tune.ensures.stands past.made.setup its.took.taken c.args.source its.took.stands) c.tune.ensures.settings));
+          (c.in_ok-put_on.ensures.stands past.made.setup its.took.taken c.args.source its.took.stands) c.put_on.ensures.settings));
       source_is = refl;
     }

@@ -4,8 +4,10 @@ use Rattle.source_machine.proofs.sender.Sender.lay.Goals as goal
 pub returns-in-Unframed-clause-laid : goal.returns-in-Unframed-clause-laid
 returns-in-Unframed-clause-laid c =
     rw c.in-Unframed.is
-    (plain_lays c.args.anchor c.in-Unframed.out c.lay_event.new.self c.lay_event.result c.lay_event.ensures.stands c.lay_event.ensures.laid)
+    (plain_lays c.args.anchor c.in-Unframed.out c.lay_event_in.new.self c.lay_event_in.new.pdus c.lay_event_in.result c.lay_event_in.ensures.stands
+    c.lay_event_in.ensures.laid)
 
 pub returns-in-Framed-clause-laid : goal.returns-in-Framed-clause-laid
 returns-in-Framed-clause-laid c =
-    rw c.in-Framed.is (timed_lays c.args.anchor c.in-Framed.out c.pack_event.new.self c.pack_event.result c.pack_event.ensures.laid)
+    rw c.in-Framed.is
+    (timed_lays c.args.anchor c.in-Framed.out c.pack_event_in.new.self c.pack_event_in.new.pdus c.pack_event_in.result c.pack_event_in.ensures.laid)

@@ -1,0 +1,20 @@
+use Rattle.std.proofs.Common.{◌∙◌, refl, sym, ap, subst}
+use Rattle.delegator_history.specs.States.{put_on}
+use Rattle.sync_reference.specs.Joining.{Joining}
+use Rattle.group_sink.specs.State.Steps.{fresh_on}
+use Rattle.delegator_control.specs.State.Machines.{Machine, machine}
+use Rattle.delegator_machine.specs.Calls.{steps_of}
+use Rattle.delegator_machine.specs.Groups.{by_numbers, group_calls}
+use Rattle.delegator_machine.specs.State.Halves.{Halves, StandsFor}
+use Rattle.delegator_machine.proofs.Standing.{stands_joined}
+use Rattle.delegator_machine.proofs.delegator.Delegator.put_on.Goals as goal
+
+pub returns-clause-stands : goal.returns-clause-stands
+returns-clause-stands c setup calls source stands =
+    let old : Halves = record { scan = machine c.self.inside.scan; sink = c.self.inside.sink } in
+    let before : StandsFor setup calls old = subst (StandsFor setup calls) (sym c.self.view_is) stands in
+    let joining : Joining = c.args.joining.now in
+    stands_joined setup (put_on source joining) calls old (record { scan = machine c.tune.new.self; sink = c.put_on.new.self }) joining
+    refl (ap (λ (m : Machine). m.setup) c.in_ok-tune.ensures.step) (c.in_ok-tune.ensures.stands (steps_of calls) source joining before.steps)
+    (c.put_on.ensures (by_numbers joining) (group_calls setup calls) (c.in_ok-receivers.ensures ∙ ap fresh_on c.by_numbers.ensures))
+    before

@@ -1,0 +1,10 @@
+use Rattle.std.proofs.Common.{Some, ap, ◌∙◌, option_copied, option_map, sym}
+use Rattle.sync_reference.specs.Joining.{Joining}
+use Rattle.group_sink.specs.State.Steps.{fresh_on}
+use Rattle.delegator_machine.specs.Groups.{by_numbers}
+use Rattle.delegator_machine.proofs.train.receivers_of.Goals as goal
+
+pub returns-clause-made : goal.returns-clause-made
+returns-clause-made c =
+    ap Some (c.in_ok-made.ensures ∙ ap fresh_on c.by_numbers.ensures)
+    ∙ ap (λ o. option_map (λ (joining : Joining). fresh_on (by_numbers joining)) (option_copied o)) (sym c.in-Some.is)

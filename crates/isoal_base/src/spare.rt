@@ -1,0 +1,53 @@
+//! Memory that is used again.
+ghost use Rattle.std.specs.Prelude.{◌≡◌, ◌<◌, ◌≤◌, length, MatchResult, OnOk, OnErr};
+
+use bcast_base::{Memory, Octets};
+use std::alloc::Global;
+
+/// The most strings of octets that are kept for their memory.
+const SPARES: usize = 16;
+
+/// At most 16 strings of octets that are kept for their memory alone.
+#[derive(Drop)]
+pub struct SpareOctets {
+    alloc: Global,
+    spares: Vec<Octets>,
+    ghost few: { length spares.items ≤ 16 },
+}
+
+impl SpareOctets {
+    /// Nothing to use again. It takes no memory.
+    pub fn new(alloc: Global) -> SpareOctets {
+        SpareOctets {
+            alloc,
+            spares: Vec::new(alloc),
+        }
+    }
+
+    /// The same octets, in the memory of a string that was kept where there is one. No octets take no new memory.
+    pub fn copy(&mut self, from: &[u8]) -> Result<Octets, Memory>
+        ensures { MatchResult result (λ octets. octets ≡ from.now) (λ _. 0 < length from.now) }
+    {
+        let Some(mut octets) = self.spares.pop() else {
+            return Octets::copy(self.alloc, from);
+        };
+        refill(&mut octets, from)?;
+        Ok(octets)
+    }
+
+    /// Keeps the memory of a string, where there is room for it.
+    pub fn keep(&mut self, octets: Octets) {
+        if self.spares.len() < SPARES {
+            let _ = self.spares.push(octets);
+        }
+    }
+}
+
+/// Puts these octets in the place of those that were there.
+pub(crate) fn refill(octets: &mut Octets, from: &[u8]) -> Result<(), Memory>
+    ensures ok { OnOk result (octets.new ≡ from.now) }
+    ensures memory { OnErr result (0 < length from.now) }
+{
+    octets.clear();
+    octets.append(from)
+}

@@ -1,0 +1,6 @@
+use Rattle.std.proofs.Common.{ap, drop, ◌∙◌}
+use Rattle.std.proofs.lemmas.List.{drop-drop}
+use Rattle.isoal_unframed.proofs.unframed_out.pop_units.Goals as goal
+
+pub units-preserved : goal.units-preserved
+units-preserved c = c.pop_unit.ensures ∙ ap (drop 1) c.units.invariant ∙ drop-drop 1 c.units.counter c.args.waiting.now.items

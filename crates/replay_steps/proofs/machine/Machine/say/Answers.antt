@@ -1,0 +1,15 @@
+use Rattle.std.proofs.Common.{refl}
+use Rattle.scenario_history.specs.Lines.{said_of, steps_of}
+use Rattle.scenario_history.specs.Steps.{version_of}
+use Rattle.source_machine.specs.Airs.{airs_of}
+use Rattle.replay_steps.proofs.LineLaws.{line_meets}
+use Rattle.replay_steps.proofs.machine.Machine.say.Goals as goal
+
+pub returns-clause-meets : goal.returns-clause-meets
+returns-clause-meets g c starts lines line stand is =
+    let version = version_of (said_of lines) in
+    line_meets starts lines line version c.args.step c.step.new.self c.args.text.now c.step.new.text _ _ c.step.result stand.boxes refl
+    ((c.a_line_says_one_step.ensures.says version line c.args.step).0 (is version)) (c.step.ensures.meets starts (steps_of airs_of lines) stand.stands stand.boxes)
+
+pub returns-clause-untaken : goal.returns-clause-untaken
+returns-clause-untaken g c starts lines accounts stand = c.step.ensures.untaken (steps_of airs_of lines) stand.stands
