@@ -1,10 +1,11 @@
 #!/usr/bin/env python3
-"""timeline.py EXPLAIN: makes pages of runs by tools/timeline.py and prints each in which something is wrong.
+"""timeline.py EXPLAIN [PICTURE]: makes pages of runs by tools/timeline.py and prints each in which something is wrong. Where it is named,
+the file PICTURE becomes the picture of the page of whole-life, as docs/whole-life.svg is.
 
 What a page embeds of a few runs is compared with values worked out by hand. Of each worked row, example and scenario of corpus/ each unit
 is valid exactly where each payload that carries it was heard in time, and the notes of `explain` on units and its counts are what the page
-works out of the lines. Where a Chromium is, the pages are opened in it, and what it drew
-and told after a click is compared too."""
+works out of the lines. Where node is, the script of the pages is run over a document of its own (.ci/drawn.js), and what it drew and told
+after a click is compared too; and where a Chromium is, the same in it."""
 import concurrent.futures
 import os
 import re
@@ -22,7 +23,7 @@ import scenarios  # noqa: E402
 from timeline_page import page_of, read_data  # noqa: E402
 from timeline_reading import OCTETS, RunFault, read_lines  # noqa: E402
 
-BROWSERS = ('chromium', 'chromium-browser', 'google-chrome')
+CHROMIUMS = ('chromium', 'chromium-browser', 'google-chrome')
 MOST_OCTETS = 1000000  # of the page of 3 s of stereo
 HEARD = ('heard', 'injected')
 MISSED = re.compile(r'unit (\d) (\d+) at (\d+): payload (\d+) was not heard, sent in event (.*)')
@@ -248,10 +249,20 @@ def by_words(explain, folder):
             yield 'the tool writes another page'
 
 
-def opened(browser, page, asked, folder):
-    """The page as the browser has it once it was drawn."""
-    words = [browser, '--headless', '--no-sandbox', '--disable-gpu', f'--user-data-dir={folder}/profile', '--virtual-time-budget=5000',
-             '--window-size=1200,900', '--dump-dom', f'file://{page}#{asked}']
+def by_chromium(browser, folder):
+    """The words of the browser that prints a page as it is once it was drawn."""
+    return lambda page, asked: [
+        browser, '--headless', '--no-sandbox', '--disable-gpu', f'--user-data-dir={folder}/profile', '--virtual-time-budget=5000',
+        '--window-size=1200,900', '--dump-dom', f'file://{page}#{asked}']
+
+
+def by_node(node):
+    """The words of node that runs the script of a page over a document of its own."""
+    return lambda page, asked: [node, os.path.join(HERE, 'drawn.js'), page, asked]
+
+
+def opened(words):
+    """The page as the script has it once it was drawn."""
     return subprocess.run(words, capture_output=True, timeout=120, check=True).stdout.decode()
 
 
@@ -260,13 +271,13 @@ def drawn_in(document):
     return Counter(re.findall(r'class="unit (\w+)(?: chosen)?"[^>]*data-lane="([^"]*)"', document))
 
 
-def by_browser(browser, pages, folder):
-    """Each page that the browser draws otherwise, and each click that tells something else."""
+def differs_drawn(words_for, pages, folder):
+    """Each page that is drawn otherwise, and each click that tells something else."""
     for name in ('whole-life', 'two-sources', 'stereo', 'hundred', 'framed-losses', 'gap'):
         page, data = os.path.join(folder, name + '.html'), pages[name]
         with open(page, 'w', encoding='utf-8') as file:
             file.write(page_of(data))
-        document = opened(browser, page, f'show=unit-{len(data["units"]) - 1}', folder)
+        document = opened(words_for(page, f'show=unit-{len(data["units"]) - 1}'))
         wanted = Counter((it['fate'], lane_of(data, it)) for it in data['units'])
         if drawn_in(document) != wanted:
             yield f'{name}: units are drawn as {drawn_in(document)}, not {wanted}'
@@ -279,29 +290,56 @@ def by_browser(browser, pages, folder):
         wanted = [[*map(str, it[:3]), f'{it[3] / 1000:.3f} ms', it[4]] for it in data['units'][-1]['pdus']]
         if cells != wanted:
             yield f'{name}: a click on the last unit tells {cells}'
-    part = drawn_in(opened(browser, os.path.join(folder, 'hundred.html'), 'from=62244&to=92243', folder))
+    part = drawn_in(opened(words_for(os.path.join(folder, 'hundred.html'), 'from=62244&to=92243')))
     if part != Counter({('valid', 'sink 0, stream 1'): 2, ('lost', 'sink 0, stream 1'): 1, ('valid', 'sink 0, stream 2'): 2,
                         ('lost', 'sink 0, stream 2'): 1}):
         yield f'hundred: in a window of three events units are drawn as {part}'
 
 
+def picture_of(page, document):
+    """The picture that was drawn in a page, as a file of its own."""
+    style, svg = (re.search(f'<{it}[^>]*>.*?</{it}>', text, re.DOTALL)[0] for it, text in (('style', page), ('svg', document)))
+    width = re.search(r'viewBox="0 0 (\d+)', svg)[1]
+    ground = '<rect width="100%" height="100%" fill="#fff"/>'
+    return svg.replace('<svg ', f'<svg xmlns="http://www.w3.org/2000/svg" width="{width}" ', 1).replace('>', f'>{style}{ground}', 1) + '\n'
+
+
+def pictured(words_for, pages, folder, written):
+    """Whether docs/ has the picture of the page of whole-life, which is written to a file where one is named."""
+    page, file = page_of(pages['whole-life']), os.path.join(folder, 'whole-life.html')
+    with open(file, 'w', encoding='utf-8') as opened_file:
+        opened_file.write(page)
+    picture = picture_of(page, opened(words_for(file, '')))
+    if written:
+        with open(written, 'w', encoding='utf-8') as opened_file:
+            opened_file.write(picture)
+    with open(os.path.join(TOP, 'docs', 'whole-life.svg'), encoding='utf-8') as opened_file:
+        if opened_file.read() != picture:
+            yield 'docs/whole-life.svg is not what the page of whole-life draws'
+
+
 def main():
-    explain = os.path.abspath(sys.argv[1])
+    explain, written = os.path.abspath(sys.argv[1]), next(iter(sys.argv[2:]), None)
     names = [*UNITS, 'hundred', 'three-seconds', 'gap', 'no-end']
     pages = {name: read_data(explained(explain, text_of(name))) for name in names}
     failed = list(worked(pages))
     wrong, tried = over_all(explain)
     failed += wrong
-    browser = next(filter(None, map(shutil.which, BROWSERS)), None)
+    chromium, node = next(filter(None, map(shutil.which, CHROMIUMS)), None), shutil.which('node')
     with tempfile.TemporaryDirectory() as folder:
         failed += by_words(explain, folder)
-        if browser:
+        failed += pictured(by_node(node), pages, folder, written) if node else []
+        drawing = [by_node(node)] if node else []
+        drawing += [by_chromium(chromium, folder)] if chromium else []
+        for words_for in drawing:
             try:
-                failed += by_browser(browser, pages, folder)
+                failed += differs_drawn(words_for, pages, folder)
             except subprocess.SubprocessError as error:
-                failed.append(str(error))
-        else:
-            print('skipped: pages of runs in a browser, since a Chromium is missing (apt-get install chromium)')
+                failed.append(f'{error}: {(error.stderr or b"").decode()}')
+    if not node:
+        print('skipped: what the script of pages draws, since node is missing (apt-get install nodejs)')
+    if not chromium:
+        print('skipped: pages of runs in a browser, since a Chromium is missing (apt-get install chromium)')
     for it in failed:
         print(f'timeline: {it[:1000]}')
     size = len(page_of(pages['three-seconds']).encode()) // 1000
