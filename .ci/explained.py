@@ -3,8 +3,8 @@
 
 The rows of the transcript in what `explain` writes, without their blanks, are what `replay` writes, the exit status and what is said on
 standard error are the same, and each line stands there with its number, up to the last that is run. Each `unit` row has its note, and the
-counts at the ends of sinks and scenarios are those of the rows. Behind them come mistakes, each with words that a note has of it, runs with
-all notes of their units, and the ends of the program."""
+counts at the ends of sinks and scenarios are those of the rows. Behind them come mistakes, each with words that a note has of it, answers
+to trains with what was compared, runs with all notes of their units, and the ends of the program."""
 import concurrent.futures
 import os
 import re
@@ -27,11 +27,12 @@ OTHER = ['add 0 0 010000000000 1 010000 2 65535 ffffffff -', 'serve 0', 'announc
 # a mistake, its lines, and words of a note of the line that has it
 MISTAKES = [
     ('no record', [*HEARD, *WANTED], 'the sink has no record: no `pac` line names it'),
-    ('an empty record', [*HEARD, 'pac 0 0600000000 - -', *WANTED], 'stream 1 is not taken: Frequency'),
-    ('the wrong ear', [*HEARD, RECORD, 'locate 0 04000000', *WANTED], 'stream 2 is not taken: Location'),
-    ('another codec', [*HEARD, 'pac 0 ff01000200 - -', *WANTED], 'stream 1 is not taken: Codec'),
-    ('another context', [*HEARD, RECORD, 'context 0 0200 0000', *WANTED], 'stream 1 is not taken: Context'),
-    ('no wish', [*HEARD, RECORD, 'add 0 0 000000000000 0 000000 2 65535', *WANTED[1:]], 'stream 1 is not taken: a record fits'),
+    ('an empty record', [*HEARD, 'pac 0 0600000000 - -', *WANTED], 'stream 1 of subgroup 0 is not taken: Frequency'),
+    ('the wrong ear', [*HEARD, RECORD, 'locate 0 04000000', *WANTED], 'stream 2 of subgroup 0 is not taken: Location'),
+    ('another codec', [*HEARD, 'pac 0 ff01000200 - -', *WANTED], 'stream 1 of subgroup 0 is not taken: Codec'),
+    ('another context', [*HEARD, RECORD, 'context 0 0200 0000', *WANTED], 'stream 1 of subgroup 0 is not taken: Context'),
+    ('no wish', [*HEARD, RECORD, 'add 0 0 000000000000 0 000000 2 65535', *WANTED[1:]],
+     'stream 1 of subgroup 0 is not taken: a record fits'),
     ('a train that was not lost', [*HEARD[:-1], *SECOND, 'sink 0 2 2', RECORD, 'source 0', *WANTED[:-1], 'source 1', *OTHER],
      '`lose` comes before another train'),
     ('no scenario first', ['event'], 'the first step is `scenario 1` or `scenario 2`'),
@@ -51,6 +52,38 @@ MISTAKES = [
     ('a line of version 2', ['scenario 1', 'assist 0 1'], 'begins a line of version 2'),
     ('a refused write', [*HEARD, 'remove 0 7', 'serve 0', 'end'], 'no slot has this Source_ID'),
     ('no such sink', ['scenario 1', 'serve 3'], 'no sink of this number lives'),
+]
+STREAM = 'stream 1 of subgroup 0 is not taken: '
+# Broadcast_ID 000000, and a BASE of one subgroup of LC3 with stream 1 and no value.
+TRAIN = 'train 0 17000 06165218000000 11165118409c000101060000000000000100'
+# A BIGInfo: its first 32 bits are 100 of offset in 14, the unit of that, ISO = 3 in 12, and NUMBIS = 2 in 5.
+SHORT_ISO = '222c64800110' + '21000000080710640000000000102740060000ffffffff3f0000000000'
+JOINED = [*HEARD, RECORD, 'add 0 0 000000000000 0 000000 2 65535 ffffffff -', 'serve 0', 'announce 0']
+# an answer to a train, its lines, and words of a note that has the values that were compared
+COMPARED = [
+    ('NotWanted', [*HEARD[:-2], 'ident 1 0102030405c6 9 aabbcc', *HEARD[-2:], *WANTED], 'the train has TYPE 1 SID 9 ID aabbcc'),
+    ('OtherTrain', [*HEARD[:-1], *SECOND, 'sink 0 2 2', RECORD, 'source 0', *WANTED[:-1], 'source 1', *OTHER],
+     'the train has TYPE 0 SID 1 ID 010000'),
+    ('OtherTrain and the one followed', [*HEARD[:-1], *SECOND, 'sink 0 2 2', RECORD, 'source 0', *WANTED[:-1], 'source 1', *OTHER],
+     'the sink is on that of TYPE 0 SID 0 ID 000000'),
+    ('OtherTrain behind `tuned`', [*HEARD, 'tuned 0 1', *WANTED], 'the sink is on a group by `tuned`'),
+    ('AlreadyOnGroup', [*JOINED, 'announce 0', 'end'], 'the train has TYPE 0 SID 0 ID 000000'),
+    ('BadBigInfo', [*HEARD, RECORD, *WANTED[:2], f'{TRAIN} 042c010203', 'end'], 'the structure has 3 octets'),
+    ('BadGroup', [*HEARD, RECORD, *WANTED[:2], f'{TRAIN} {SHORT_ISO}', 'end'], 'here ISO is 3 and NUMBIS 2'),
+    ('an encrypted group', [*HEARD[:-2], 'cipher 0000000000000000 00000000000000000000000000000000', *HEARD[-2:], RECORD, *WANTED],
+     'Encrypted: the group has a `cipher`'),
+    ('Codec', [*HEARD, 'pac 0 ff01000200 - -', *WANTED], f'{STREAM}Codec: CODEC of its subgroup is not that of the record; '
+     'here 0600000000 and ff01000200'),
+    ('Frequency', [*HEARD, RECORD.replace('03018000', '03010700'), *WANTED], 'here 8 and 0700'),
+    ('no frequencies', [*HEARD, 'pac 0 0600000000 - -', *WANTED], 'here 8 and -'),
+    ('Duration', [*HEARD, RECORD.replace('020202', '020201'), *WANTED], 'here 1 and 01'),
+    ('FrameOctets', [*HEARD, RECORD.replace('64006400', '1a003c00'), *WANTED], 'here 100 and 26 to 60'),
+    ('Channels', [*HEARD, RECORD.replace(' -', '020302 -'), *WANTED], 'here 1 and 02'),
+    ('FramesPerSdu', [line.replace('03046400', '03046400020502') for line in HEARD] + [RECORD.replace(' -', '020501 -'), *WANTED],
+     'here 2 and 1'),
+    ('Location', [*HEARD, RECORD, 'locate 0 04000000', *WANTED], 'here 01000000 and 04000000'),
+    ('Context', [*HEARD, RECORD, 'context 0 0200 0000', *WANTED], 'here 0400 and 0200'),
+    ('the context of no meta', [it for it in HEARD if it != BASE[1]] + [RECORD, 'context 0 0200 0000', *WANTED], 'here 0100 and 0200'),
 ]
 # A unit takes two PDUs, a payload each: those of event e are 2e and 2e + 1. 20000 + 400 + (4 + 11) x 4 + 40000 = 60460.
 HALVES = ['scenario 1', 'group unframed 20000 40000 8 10000 8 4 1 2 2 1 0 400 0 1', 'sink 0 1 1', 'start 0', 'tuned 0 1']
@@ -171,8 +204,8 @@ def texts():
 
 
 def mistakes(explain):
-    """Each mistake that no note names."""
-    for name, lines, words in MISTAKES:
+    """Each mistake that no note names, and each answer to a train of which none has what was compared."""
+    for name, lines, words in MISTAKES + COMPARED:
         got = run(explain, '\n'.join([*lines, '']).encode(), stdout=subprocess.PIPE).stdout.decode()
         if not any(row.startswith('  # ') and words in row for row in got.split('\n')):
             yield f'{name}: no note has {words!r}:\n{got}'
@@ -208,7 +241,8 @@ def main():
     failed += [*mistakes(explain), *unit_notes(explain), *ends(explain)]
     for it in failed:
         print(it[:1500])
-    print(f'explained: {len(found)} scenarios, {len(MISTAKES)} mistakes, {len(UNITS)} runs and {len(ENDS) + 1} ends, {len(failed)} differ')
+    tried = f'{len(found)} scenarios, {len(MISTAKES)} mistakes, {len(COMPARED)} trains, {len(UNITS)} runs and {len(ENDS) + 1} ends'
+    print(f'explained: {tried}, {len(failed)} differ')
     return 1 if failed or not found else 0
 
 

@@ -68,7 +68,7 @@ fn service_list(alloc: Global, uuid: u16, content: &[u8]) -> Result<Octets, Memo
     requires { length content.now ≤ 252 }
     ensures { IfOk result (λ octets. octets ≡ structure (service_ad uuid content.now)) }
 {
-    let mut value = Octets::new(alloc);
+    let mut value = Octets::of(Vec::with_capacity(alloc, content.len() + 2)?);
     put_number(&mut value, u64::from(uuid), 2)?;
     value.append(content)?;
     one_structure(alloc, SERVICE_DATA, value.as_slice())
@@ -109,7 +109,7 @@ fn one_structure(alloc: Global, kind: u8, value: &[u8]) -> Result<Octets, Memory
     requires { length value.now ≤ 254 }
     ensures { IfOk result (λ octets. octets ≡ structure (record { kind = kind; value = value.now })) }
 {
-    let mut octets = Octets::new(alloc);
+    let mut octets = Octets::of(Vec::with_capacity(alloc, value.len() + 2)?);
     write_ad(&mut octets, kind, value)?;
     Ok(octets)
 }

@@ -147,6 +147,27 @@ named_end bis times count i rest total le so_far =
     let none_left : count - i ≡ 0 = omega arith in
     omega (arith, named_zero bis (count - i) rest none_left)
 
+one_at_most : (b : Bool) → cond b 1 0 ≤ 1
+one_at_most true = omega arith
+one_at_most false = omega arith
+
+one_group : (bis n : ℕ) (from : List ℕ) (first : Option (Subgroup × List ℕ)) → n ≡ 0 → subgroup_in from ≡ first → named_in bis (suc n) from ≤ 1
+one_group bis n from None none e = omega (arith, named_none bis n from e)
+one_group bis n from (Some x) none e = omega (arith, named_suc bis n from x.0 x.1 e, named_zero bis n x.1 none, one_at_most (has_bit bis x.0.bits))
+
+-- of one subgroup at most none is another
+named_once : (bis count : ℕ) (from : List ℕ) → count < 2 → named_in bis count from ≤ 1
+named_once bis zero from few = omega (arith, named_zero bis 0 from refl)
+named_once bis (suc n) from few = one_group bis n from (subgroup_in from) (omega arith) refl
+
+pub twice_few : (others bis count : ℕ) (octets : List ℕ) → count < 2 → None ≡ twice_in others bis count octets
+unfolding twice_in
+twice_few zero bis count octets few = refl
+twice_few (suc others) bis count octets few =
+    let no : ltb 1 (named_in bis count octets) ≡ false = le-ltb 1 (named_in bis count octets) (named_once bis count octets few) in
+    let step : twice_in (suc others) bis count octets ≡ twice_in others (bis + 1) count octets = rw no refl in
+    twice_few others (bis + 1) count octets few ∙ sym step
+
 pub twice_here : (others bis count : ℕ) (octets : List ℕ) (total : Option ℕ) → 0 < others → 1 < named_in bis count octets → twice_in others bis count octets ≡ total → Some bis ≡ total
 unfolding twice_in
 twice_here zero bis count octets total some more so_far = absurd (omega arith)

@@ -65,6 +65,9 @@ pub(crate) fn read_wishes(alloc: Global, count: u8, octets: &[u8]) -> Result<Wis
 fn named_twice(count: u8, octets: &[u8]) -> Option<u8>
     ensures { result ≡ twice_in 31 1 count octets.now }
 {
+    if count < 2 {
+        return None;
+    }
     'streams: for bis in 1..32u8 {
         if times_named(bis, count, octets) > 1 {
             return Some(bis);

@@ -7,13 +7,16 @@ use crate::wishes::Wishes;
 use bcast_base::{Memory, Octets, put_number, put_subgroup};
 use std::alloc::Global;
 
+/// The octets that are taken for an operation at once: more than most have.
+const ROOM: usize = 64;
+
 /// The octets of an operation (Broadcast Audio Scan Service 1.0, section 3.1.1), also where a field has a reserved value or
 /// a stream stands in two subgroups. Each metadata has at most 255 octets.
 pub fn encode_operation(alloc: Global, op: &Operation) -> Result<Octets, Memory>
     requires { MetadataFits (wishes_of op.now) }
     ensures { IfOk result (λ octets. IsLaid op.now octets) }
 {
-    let mut out = Octets::new(alloc);
+    let mut out = Octets::of(Vec::with_capacity(alloc, ROOM)?);
     match op {
         Operation::ScanStopped => out.push(0)?,
         Operation::ScanStarted => out.push(1)?,

@@ -6,6 +6,11 @@ ghost use Rattle.bcast_base.specs.Reading.{octet_in, octets_in, number_in, count
 ghost use Rattle.bcast_base.specs.Spelling.{IsOctets, octet, number, counted};
 ghost use Rattle.bcast_base.specs.Subgroups.{Subgroup, Fits, subgroup, subgroups_in};
 
+/// Each item of a slice of octets is one.
+pub fn are_octets(octets: &[u8])
+    ensures { IsOctets octets.now }
+{}
+
 /// What is read is spelled so, each octet of it.
 #[tactic(auto, using(crate::proofs::Fields::octet_takes))]
 pub fn read_is_spelled()

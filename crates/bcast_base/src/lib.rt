@@ -15,7 +15,8 @@ mod writing;
 pub use bis::{Bis, BisSet};
 pub use items::{Calls, EventPdus, Items, Times};
 pub use laws::{
-    place_is_cut, read_is_spelled, reserved_is_first, spelled_is_read, subgroups_are_spelled,
+    are_octets, place_is_cut, read_is_spelled, reserved_is_first, spelled_is_read,
+    subgroups_are_spelled,
 };
 pub use memory::{Kept, Memory};
 pub use numbers::{read_le, write_le};

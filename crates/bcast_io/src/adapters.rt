@@ -46,7 +46,7 @@ impl<R: Read + Drop> ByteSource for ReadSource<R> {
     {
         match read_again(&mut self.inner, into) {
             Ok(n) => Ok(n),
-            Err(_) => {
+            Err(Failed) => {
                 self.faults = self.faults.saturating_add(1);
                 Err(Failed)
             }

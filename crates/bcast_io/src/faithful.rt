@@ -4,7 +4,7 @@ ghost use Rattle.std.specs.Io.KnownBytes.{ReadConsumes, WriteAppends};
 
 use crate::sink::{ByteSink, SinkFault};
 use crate::source::{ByteSource, Failed};
-use bcast_base::Octets;
+use bcast_base::{Memory, Octets};
 use std::alloc::Global;
 use std::marker::Model;
 
@@ -115,7 +115,7 @@ impl ByteSink for FaithfulSink {
     {
         match self.taken.append(from) {
             Ok(()) => Ok(from.len()),
-            Err(_) => Err(SinkFault::Memory),
+            Err(Memory) => Err(SinkFault::Memory),
         }
     }
 }

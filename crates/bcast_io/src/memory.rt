@@ -7,7 +7,7 @@ use crate::faithful::FaithfulSource;
 use crate::script::Script;
 use crate::sink::{ByteSink, SinkFault};
 use crate::source::{ByteSource, Failed};
-use bcast_base::{Calls, Octets};
+use bcast_base::{Calls, Memory, Octets};
 use std::alloc::Global;
 use std::marker::Model;
 
@@ -133,7 +133,7 @@ impl ByteSink for MemorySink {
         let n = self.piece.min(from.len());
         match self.taken.append(&from[..n]) {
             Ok(()) => Ok(n),
-            Err(_) => Err(SinkFault::Memory),
+            Err(Memory) => Err(SinkFault::Memory),
         }
     }
 }

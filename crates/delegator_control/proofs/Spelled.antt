@@ -1,68 +1,50 @@
--- The state of a slot has octets.
-use Rattle.std.proofs.Common.{ℕ, zero, suc, ◌≡◌, ◌+◌, ◌<◌, ◌≤◌, ◌^◌, Bool, true, false, List, [], ◌∷◌, length, map, get_or, Some, refl, sym, ap, ◌∙◌, subst, arith}
-use Rattle.std.specs.Prelude.{nat_lt, ◌==◌, ◌&&◌, not, if◌then◌else◌}
+-- The octets of the state of a slot.
+use Rattle.std.proofs.Common.{ℕ, zero, suc, ◌≡◌, ◌+◌, ◌<◌, ◌≤◌, Bool, true, false, List, [], ◌∷◌, ◌++◌, length, map, drop, slice_get, get_or, Some, refl, sym, ap, ◌∙◌, subst, arith}
+use Rattle.std.specs.Prelude.{nat_lt, ◌&&◌, if◌then◌else◌}
 use Rattle.std.specs.List.{flat_map, list_any, AllByRecursion}
-use Rattle.std.proofs.lemmas.Bool.{le-ltb}
+use Rattle.std.proofs.lemmas.Grind.{flat_map-append}
 use Rattle.bass_operations.specs.declared.wishes.Wish.{Wish}
-use Rattle.bcast_base.specs.Layout.{NoneReserved}
-use Rattle.bcast_base.specs.Subgroups.{subgroup_fields, is_reserved, all_bits}
-use Rattle.receive_state.specs.Layout.{HasSpelling, group_of, number_of}
+use Rattle.bcast_base.proofs.Citable.{subgroup_laid}
+use Rattle.bcast_base.specs.Layout.{Field, laid}
+use Rattle.bcast_base.specs.Subgroups.{Subgroup, subgroup, subgroup_fields}
+use Rattle.receive_state.specs.Layout.{fields_of, front_fields, group_of, spelling}
 use Rattle.delegator_history.specs.Sights.{Entry, Place, idle, on_train, on_group, is_on, is_on_group}
-use Rattle.delegator_history.specs.Values.{Status, encryption_of, groups_from, received, status_of}
+use Rattle.delegator_history.specs.Values.{Status, groups_from, received, status_of}
 use Rattle.delegator_history.specs.Writes.{is_synced}
-use Rattle.delegator_choices.specs.State.Slots.{AreSets, EntryFits}
+use Rattle.delegator_choices.proofs.Citable.{drop_get}
+use Rattle.delegator_control.specs.State.Statuses.{groups_laid}
 
-length-groups : (place : ℕ) (bits : List ℕ) (wishes : List Wish) → length (groups_from place bits wishes) ≡ length wishes
+length-groups : (place : ℕ) (bits : List ℕ) (wishes : List Wish) → length (map group_of (groups_from place bits wishes)) ≡ length wishes
 length-groups place bits [] = refl
 length-groups place bits (wish ∷ wishes) = ap (λ n. suc n) (length-groups (place + 1) bits wishes)
 
-metadata_fits : (place : ℕ) (bits : List ℕ) (wishes : List Wish) → AllByRecursion (λ wish. length wish.metadata ≤ 255) wishes
-    → AllByRecursion (λ group. length group.metadata ≤ 255) (groups_from place bits wishes)
-metadata_fits place bits [] h = tt
-metadata_fits place bits (wish ∷ wishes) h = (h.0, metadata_fits (place + 1) bits wishes h.1)
+-- the octets of a state: those before its subgroups, and those of the subgroups
+pub in_two : (status : Status) (entry : Entry) → laid (front_fields (fields_of (received status entry)) (length entry.wanted.wishes)) ++ groups_laid 0 status.bits entry.wanted.wishes
+    ≡ spelling (received status entry)
+in_two status entry =
+    let state = received status entry in
+    let groups : List Subgroup = map group_of state.groups in
+    sym (flat_map-append (λ (field : Field). field.octets) (front_fields (fields_of state) (length entry.wanted.wishes)) (flat_map subgroup_fields groups))
+    ∙ ap (λ n. laid (front_fields (fields_of state) n ++ flat_map subgroup_fields groups)) (sym (length-groups 0 status.bits entry.wanted.wishes))
 
-set_at : (bits : List ℕ) → AreSets bits → (place : ℕ) → get_or bits place 0 < 2 ^ 31
-set_at [] h place = omega arith
-set_at (set ∷ bits) h zero = h.0
-set_at (set ∷ bits) h (suc place) = set_at bits h.1 place
+-- the octets of the subgroup at this place, and those behind it
+pub one_laid : (place : ℕ) (bits : List ℕ) (wishes : List Wish) (wish : Wish) → slice_get wishes place ≡ Some wish
+    → groups_laid place bits (drop place wishes)
+    ≡ subgroup (record { bits = get_or bits place 0; metadata = wish.metadata }) ++ groups_laid (place + 1) bits (drop (place + 1) wishes)
+one_laid place bits wishes wish is =
+    let group : Subgroup = record { bits = get_or bits place 0; metadata = wish.metadata } in
+    let rest : List Wish = drop (place + 1) wishes in
+    ap (groups_laid place bits) (drop_get wishes place wish is)
+    ∙ flat_map-append (λ (field : Field). field.octets) (subgroup_fields group) (flat_map subgroup_fields (map group_of (groups_from (place + 1) bits rest)))
+    ∙ ap (λ (octets : List ℕ). octets ++ groups_laid (place + 1) bits rest) (subgroup_laid group)
 
-not_reserved : (set : ℕ) → set < 2 ^ 31 → is_reserved set ≡ false
-not_reserved set small = ap (λ b. b && not (set == all_bits)) (le-ltb 2147483647 set (omega (arith, small)))
-
-none_reserved : (place : ℕ) (bits : List ℕ) (wishes : List Wish) → AreSets bits
-    → NoneReserved (flat_map subgroup_fields (map group_of (groups_from place bits wishes)))
-none_reserved place bits [] h = tt
-none_reserved place bits (wish ∷ wishes) h = (not_reserved (get_or bits place 0) (set_at bits h place), (refl, (refl, none_reserved (place + 1) bits wishes h)))
-
-synced_small : (b : Bool) → nat_lt 4 (if b then 2 else 0) ≡ false
-synced_small true = refl
-synced_small false = refl
-
-encryption_small : (b : Bool) → nat_lt 3 (number_of (encryption_of b)) ≡ false
-encryption_small true = refl
-encryption_small false = refl
-
-pub has_octets : (status : Status) (entry : Entry) → AreSets status.bits → EntryFits entry → HasSpelling (received status entry)
-has_octets status entry sets fits = record {
-  few = subst (λ (n : ℕ). n ≤ 255) (sym (length-groups 0 status.bits entry.wanted.wishes)) fits.few;
-  metadata = metadata_fits 0 status.bits entry.wanted.wishes fits.metadata;
-  values = (
-    refl,
-    (
-      le-ltb 1 entry.source.address_type fits.address_type,
-      (
-        refl,
-        (
-          le-ltb 15 entry.source.sid fits.sid,
-          (
-            refl,
-            (synced_small status.is_synced, (encryption_small status.is_encrypted, (refl, (refl, none_reserved 0 status.bits entry.wanted.wishes sets)))),
-          ),
-        ),
-      ),
-    ),
-  );
-}
+pub metadata_at : (wishes : List Wish) (place : ℕ) (wish : Wish) → AllByRecursion (λ wish. length wish.metadata ≤ 255) wishes → slice_get wishes place ≡ Some wish
+    → length wish.metadata < 256
+metadata_at [] place wish all is = absurd cc
+metadata_at (first ∷ wishes) zero wish all is =
+    let same : first ≡ wish = cc in
+    subst (λ (w : Wish). length w.metadata < 256) same (omega (arith, all.0))
+metadata_at (first ∷ wishes) (suc place) wish all is = metadata_at wishes place wish all.1 is
 
 -- ---- synchronised to, as a test of the state, is to be on the train or the group
 

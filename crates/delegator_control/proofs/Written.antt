@@ -4,7 +4,6 @@ use Rattle.bass_operations.specs.declared.fault.OpFault.{OpFault}
 use Rattle.bass_operations.specs.declared.fault.OpFault.TheVariants as faults
 use Rattle.bcast_base.specs.Tries.{Finds}
 use Rattle.bass_operations.specs.Reading.{told, op_of}
-use Rattle.bcast_base.specs.declared.memory.Memory.{Memory}
 use Rattle.delegator_history.specs.declared.replies.Cause.{Cause}
 use Rattle.delegator_history.specs.Writes.{cause_of_fault, cause_read, done_read, done_by_write}
 use Rattle.delegator_control.specs.State.Machines.{Machine, moved}

@@ -5,7 +5,6 @@ ghost use Rattle.delegator_history.specs.Sights.{entry_at};
 ghost use Rattle.delegator_history.specs.Steps.{encrypted_on, followed, joined};
 ghost use Rattle.delegator_history.specs.Trains.{is_elsewhere};
 ghost use Rattle.delegator_history.specs.Values.{received, value, value_at};
-ghost use Rattle.delegator_choices.specs.State.Slots.{AreSets};
 ghost use Rattle.delegator_control.specs.State.Machines.{machine, moved};
 ghost use Rattle.delegator_control.specs.State.Places.{encrypted_of, place_of};
 ghost use Rattle.delegator_control.specs.State.Statuses.{status_seen};
@@ -61,7 +60,6 @@ impl ScanDelegator {
     // Puts the notice of the slot, where its value changes once the sink stands so to it.
     fn note_status(&mut self, slot: u8, status: &Status<'_>) -> Result<(), Memory>
         requires within { slot < vec_len self.old.slots }
-        requires sets { AreSets status.now.bits.now }
         ensures ok { OnOk result (machine self.new ≡ record (machine self.old) {
           waiting = (machine self.old).waiting
               ++ change slot (value_at (machine self.old).sight slot) (value (option_map (received (status_seen status.now)) (entry_at (machine self.old).sight.slots slot)));

@@ -3,7 +3,6 @@ ghost use Rattle.std.specs.Prelude.{◌≡◌, [], None, Some, false, if◌then�
 ghost use Rattle.delegator_history.specs.Sights.{Sight, on_group, on_train, is_on, is_on_group, slot_of};
 ghost use Rattle.delegator_history.specs.Steps.{place_left, placed};
 ghost use Rattle.delegator_history.specs.Trains.{is_elsewhere};
-ghost use Rattle.delegator_choices.specs.State.Slots.{AreSets};
 ghost use Rattle.delegator_control.specs.declared.place.Place.TheVariants as places;
 ghost use Rattle.delegator_control.specs.State.Places.{place_by, place_of, encrypted_of, taken_of, standing};
 
@@ -153,8 +152,7 @@ impl Place {
 
     /// The streams that are taken of the slot, a number for each subgroup.
     pub(crate) fn bits_on(&self, slot: u8) -> &[u32]
-        ensures same { result.now ≡ (if is_on_group (place_of self.now) slot then taken_of self.now else []) }
-        ensures sets { AreSets result.now }
+        ensures { result.now ≡ (if is_on_group (place_of self.now) slot then taken_of self.now else []) }
     {
         match self {
             Place::OnGroup(on) if self.is_on(slot) => on.taken.as_slice(),

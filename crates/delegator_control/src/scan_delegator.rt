@@ -1,4 +1,5 @@
-ghost use Rattle.std.specs.Prelude.{◌≡◌, ◌≤◌, ◌<◌, ◌++◌, vec_len, option_map, replicate, slice_get, None, Option, IfOk, IsOk, IsSome, OnOk, OnErr, MatchOption};
+ghost use Rattle.std.specs.Prelude.{◌≡◌, ◌≤◌, ◌<◌, vec_len, option_map, replicate, slice_get, None, Option};
+ghost use Rattle.std.specs.Prelude.{IfOk, IsOk, IsSome, OnOk, OnErr};
 ghost use Rattle.delegator_history.specs.Notices.{handed_out};
 ghost use Rattle.delegator_control.specs.State.Places.{IsWithin};
 
@@ -32,7 +33,7 @@ pub struct ScanDelegator {
 }
 
 impl ScanDelegator {
-    ghost use Rattle.std.specs.Prelude.{ℕ, List, [], ◌∷◌};
+    ghost use Rattle.std.specs.Prelude.{List, [], ◌∷◌};
     ghost use Rattle.bass_operations.specs.Reading.{op_of};
     ghost use Rattle.delegator_history.specs.Sights.{entry_at, slot_of};
     ghost use Rattle.delegator_history.specs.States.{Step, control_heard as controlled, put_on, told, train_lost, written};
@@ -95,8 +96,8 @@ impl ScanDelegator {
         ensures step { OnOk result (machine self.new ≡ moved (done_by_write (machine self.old).sight write.now) (machine self.old)) }
         ensures err { OnErr result (machine self.new ≡ machine self.old) }
         ensures memory { OnErr result (IsOk (op_of write.now)) }
-        ensures stands { OnOk result ((steps : List Step) (link : ℕ) → StandsFor steps (machine self.old)
-            → StandsFor (written link write.now ∷ steps) (machine self.new)) }
+        ensures stands { OnOk result ((steps : List Step) → StandsFor steps (machine self.old)
+            → StandsFor (written write.now ∷ steps) (machine self.new)) }
     {
         self.serve_write(write)
     }
@@ -119,8 +120,8 @@ impl ScanDelegator {
         ensures step { OnOk result (machine self.new ≡ moved tuned (machine self.old)) }
         ensures err { OnErr result (machine self.new ≡ machine self.old) }
         ensures memory { OnErr result (IsSome (slot_of (machine self.old).sight.place)) }
-        ensures stands { OnOk result ((steps : List Step) (source : ℕ) (joining : Joining) → StandsFor steps (machine self.old)
-            → StandsFor (put_on source joining ∷ steps) (machine self.new)) }
+        ensures stands { OnOk result ((steps : List Step) (joining : Joining) → StandsFor steps (machine self.old)
+            → StandsFor (put_on joining ∷ steps) (machine self.new)) }
     {
         self.put_on_group()
     }

@@ -1,13 +1,13 @@
 //! What a train brings that is heard, and how the sink follows it.
-ghost use Rattle.std.specs.Prelude.{◌≡◌, ◌≤◌, ◌<◌, ◌+◌, ◌∷◌, ◌^◌, ℕ, List, length, vec_len, is_some, false, true, Some, None, IfOk, OnOk, OnErr};
-ghost use Rattle.base_grammar.specs.Reading.{base_of, wants};
+ghost use Rattle.std.specs.Prelude.{◌≡◌, ◌≤◌, ◌<◌, ◌∷◌, ◌^◌, List, vec_len, is_some, false, true, Some, None, IfOk, OnOk, OnErr};
+ghost use Rattle.base_grammar.specs.Reading.{wants};
 ghost use Rattle.big_info.specs.Rows.{first_fault};
 ghost use Rattle.big_info.specs.Widths.{FitsWidths};
 ghost use Rattle.delegator_history.specs.Sights.{entry_at};
 ghost use Rattle.delegator_history.specs.States.{Step, train_heard};
-ghost use Rattle.delegator_history.specs.Steps.{wishes_at};
 ghost use Rattle.delegator_history.specs.Trains as trains;
-ghost use Rattle.delegator_history.specs.Trains.{answer_of, base_in, big_info_in, brought_by, by_base, by_big_info, by_endpoint, by_group, by_slot, by_streams, done_brought, first_candidates, heard};
+ghost use Rattle.delegator_history.specs.Trains.{answer_of, base_in, big_info_in, brought_by, by_base, by_big_info};
+ghost use Rattle.delegator_history.specs.Trains.{by_group, by_slot, by_streams, done_brought, first_candidates, heard};
 ghost use Rattle.delegator_history.specs.declared.train_heard.TrainHeard.TheVariants as answers;
 ghost use Rattle.delegator_choices.specs.State.Brings.{brought_of};
 ghost use Rattle.delegator_control.specs.Following.{has_base, is_followed};
@@ -63,9 +63,9 @@ impl ScanDelegator {
         ensures step { OnOk result (machine self.new ≡ moved (done_brought (brought_of brought)) (machine self.old)) }
         ensures err { OnErr result (machine self.new ≡ machine self.old) }
         ensures memory { OnErr result (is_followed (brought_of brought) ≡ true) }
-        ensures stands { OnOk result ((steps : List Step) (source : ℕ) (train : trains.Train)
+        ensures stands { OnOk result ((steps : List Step) (train : trains.Train)
             → brought_of brought ≡ brought_by (machine self.old).setup (machine self.old).sight train
-            → StandsFor steps (machine self.old) → StandsFor (train_heard source train ∷ steps) (machine self.new)) }
+            → StandsFor steps (machine self.old) → StandsFor (train_heard train ∷ steps) (machine self.new)) }
     {
         self.follow_brought(brought)
     }

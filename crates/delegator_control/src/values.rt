@@ -1,22 +1,29 @@
 //! The values of slots, and the notices of their changes.
-ghost use Rattle.std.specs.Prelude.{◌≡◌, ◌<◌, ◌+◌, ◌++◌, ◌∷◌, drop, length, if◌then◌else◌, get_or, option_map, None, IfOk, IsSome, OnOk, OnErr};
+ghost use Rattle.std.specs.Prelude.{◌≡◌, ◌<◌, ◌≤◌, ◌+◌, ◌++◌, [], drop, length, if◌then◌else◌, get_or, option_map, None, IfOk, IsSome, OnOk, OnErr};
+ghost use Rattle.std.specs.List.{AllByRecursion};
 ghost use Rattle.receive_state.specs.Layout.{spelling};
 ghost use Rattle.delegator_history.specs.Notices.{change};
 ghost use Rattle.delegator_history.specs.Sights.{Sight};
 ghost use Rattle.delegator_history.specs.Steps.{placed};
-ghost use Rattle.delegator_history.specs.Values.{encryption_of, groups_from, received, value};
-ghost use Rattle.delegator_choices.specs.State.Slots.{AreSets, EntryFits};
+ghost use Rattle.delegator_history.specs.Values.{encryption_of, received, value};
+ghost use Rattle.delegator_choices.specs.State.Slots.{EntryFits};
 ghost use Rattle.delegator_control.specs.State.Places.{place_by, place_of, standing};
-ghost use Rattle.delegator_control.specs.State.Statuses.{status_at, status_seen};
+ghost use Rattle.delegator_control.specs.State.Statuses.{groups_laid, status_at, status_seen};
 
 use crate::place::{Move, Place};
 use bass_operations::Wishes;
-use bcast_base::{Memory, Octets};
+use bcast_base::{Memory, Octets, put_subgroup};
 use delegator_choices::Slot;
 use delegator_history::Notice;
-use receive_state::{Encryption, GroupState, GroupStates, ReceiveState, encode_state};
+use receive_state::{Encryption, GroupStates, ReceiveState, begin_state};
 use std::alloc::Global;
 use std::collections::VecDeque;
+
+/// The octets of a state before its subgroups, where no Bad_Code is told.
+const FRONT: usize = 15;
+
+/// The octets of a subgroup before its metadata.
+const GROUP_FRONT: usize = 5;
 
 /// How the sink stands to a slot: on its train or its group, a Broadcast_Code required, and the streams that are taken of
 /// each subgroup.
@@ -31,7 +38,6 @@ pub(crate) struct Status<'a> {
 pub(crate) fn status_after(place: &Place, slot: u8, moves: Move) -> Status<'_>
     ensures same { (sight : Sight) → status_seen result ≡ status_at slot
         (placed (place_by (place_of place.now) moves) None None (standing place.now sight)) }
-    ensures sets { AreSets result.bits.now }
 {
     let is_synced = match moves {
         Move::Off => false,
@@ -54,7 +60,6 @@ pub(crate) fn value_as(
     slot: &Option<Slot>,
     status: &Status<'_>,
 ) -> Result<Octets, Memory>
-    requires { AreSets status.now.bits.now }
     ensures value { IfOk result (λ octets. octets ≡ value (option_map (received (status_seen status.now)) slot.now)) }
     ensures memory { OnErr result (IsSome slot.now) }
 {
@@ -70,23 +75,24 @@ pub(crate) fn value_filled(
     slot: &Slot,
     status: &Status<'_>,
 ) -> Result<Octets, Memory>
-    requires { AreSets status.now.bits.now }
     ensures { IfOk result (λ octets. octets ≡ spelling (received (status_seen status.now) slot.now)) }
 {
-    let state = state_of(alloc, slot, status)?;
-    encode_state(alloc, Some(&state))
+    let wishes = slot.wishes();
+    let front = front_of(alloc, slot, status);
+    let mut out = begin_state(alloc, &front, wishes.count() as u8, room_for(wishes))?;
+    put_groups(&mut out, wishes, status.bits)?;
+    Ok(out)
 }
 
-/// The state of a slot that is filled.
-fn state_of(alloc: Global, slot: &Slot, status: &Status<'_>) -> Result<ReceiveState, Memory>
-    ensures same { IfOk result (λ state. state ≡ received (status_seen status.now) slot.now) }
+/// The state of a slot that is filled, without its subgroups.
+fn front_of(alloc: Global, slot: &Slot, status: &Status<'_>) -> ReceiveState
+    ensures same { result ≡ record (received (status_seen status.now) slot.now) { groups = [] } }
     ensures fits { EntryFits slot.now }
 {
     let source = slot.source();
     let address = source.address;
     let broadcast_id = source.broadcast_id;
-    let groups = groups_of(alloc, slot.wishes(), status.bits)?;
-    Ok(ReceiveState {
+    ReceiveState {
         source_id: source.source_id,
         address_type: source.address_type,
         address,
@@ -94,8 +100,8 @@ fn state_of(alloc: Global, slot: &Slot, status: &Status<'_>) -> Result<ReceiveSt
         broadcast_id,
         pa_sync_state: sync_state(status.is_synced),
         encryption: encryption(status.is_encrypted),
-        groups,
-    })
+        groups: GroupStates::new(alloc),
+    }
 }
 
 /// Synchronised, or not synchronised.
@@ -116,30 +122,37 @@ fn encryption(is_encrypted: bool) -> Encryption
     }
 }
 
-/// What is received of each subgroup that is wanted.
-fn groups_of(alloc: Global, wishes: &Wishes, bits: &[u32]) -> Result<GroupStates, Memory>
-    ensures { IfOk result (λ groups. groups ≡ groups_from 0 bits.now wishes.now) }
-{
-    let mut groups = GroupStates::new(alloc);
-    'subgroups: for place in 0..wishes.count() {
-        let group = group_at(wishes, bits, place)?;
-        groups.push(group)?;
+/// How many octets a state has of so many subgroups, where no Bad_Code is told.
+fn room_for(wishes: &Wishes) -> usize {
+    let mut room = FRONT;
+    for place in 0..wishes.count() {
+        let metadata = wishes.item(place).metadata.as_slice();
+        room = room.saturating_add(GROUP_FRONT + metadata.len());
     }
-    Ok(groups)
+    room
 }
 
-/// What is received of the subgroup at this place.
-fn group_at(wishes: &Wishes, bits: &[u32], place: usize) -> Result<GroupState, Memory>
-    requires { place < length wishes.now }
-    ensures { IfOk result (λ group. groups_from place bits.now (drop place wishes.now)
-        ≡ group ∷ groups_from (place + 1) bits.now (drop (place + 1) wishes.now)) }
+/// Puts what is received of each subgroup that is wanted at the end.
+fn put_groups(out: &mut Octets, wishes: &Wishes, bits: &[u32]) -> Result<(), Memory>
+    requires { AllByRecursion (λ wish. length wish.metadata ≤ 255) wishes.now }
+    ensures { OnOk result (out.new ≡ out.old ++ groups_laid 0 bits.now wishes.now) }
+{
+    'subgroups: for place in 0..wishes.count() {
+        put_group(out, wishes, bits, place)?;
+    }
+    Ok(())
+}
+
+/// Puts what is received of the subgroup at this place at the end.
+fn put_group(out: &mut Octets, wishes: &Wishes, bits: &[u32], place: usize) -> Result<(), Memory>
+    requires here { place < length wishes.now }
+    requires metadata { AllByRecursion (λ wish. length wish.metadata ≤ 255) wishes.now }
+    ensures { OnOk result (out.new ++ groups_laid (place + 1) bits.now (drop (place + 1) wishes.now)
+        ≡ out.old ++ groups_laid place bits.now (drop place wishes.now)) }
 {
     let wish = wishes.item(place);
-    let metadata = wish.metadata.copy_again()?;
-    Ok(GroupState {
-        bis_sync_state: bits_at(bits, place),
-        metadata,
-    })
+    put_subgroup(out, bits_at(bits, place), wish.metadata.as_slice())?;
+    Ok(())
 }
 
 /// The streams of the subgroup at this place; none past the end.

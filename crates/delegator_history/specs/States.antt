@@ -13,15 +13,15 @@ use Rattle.delegator_history.specs.Trains.{Setup, Train, brought_by, done_brough
 use Rattle.sync_reference.specs.Joining.{Joining}
 use Rattle.delegator_history.specs.Writes.{done_by_write}
 
--- a call; each write names the link that it came over, 0 to 3, and a train and a group the source that they are of
+-- a call
 pub data Step : Type 0 where
   record_added : (entry : PacRecord) → Step  -- a record of capabilities that found room
   locations_set : (locations : ℕ) → Step
   contexts_set : (contexts : ℕ) → Step
   mtu_set : (mtu : ℕ) → Step
-  put_on : (source : ℕ) (joining : Joining) → Step  -- put on a group of no slot
-  written : (link : ℕ) (octets : List ℕ) → Step  -- a write was served
-  train_heard : (source : ℕ) (train : Train) → Step
+  put_on : (joining : Joining) → Step  -- put on a group of no slot
+  written : (octets : List ℕ) → Step  -- a write was served
+  train_heard : (train : Train) → Step
   train_lost : Step
   control_heard : (octets : List ℕ) → Step
   told : Step  -- the next notice was asked for
@@ -37,9 +37,9 @@ done_by setup sight (record_added entry) = recorded entry
 done_by setup sight (locations_set locations) = located locations
 done_by setup sight (contexts_set contexts) = opened contexts
 done_by setup sight (mtu_set mtu) = nothing
-done_by setup sight (put_on source joining) = tuned
-done_by setup sight (written link octets) = done_by_write sight octets
-done_by setup sight (train_heard source train) = done_brought (brought_by setup sight train)
+done_by setup sight (put_on joining) = tuned
+done_by setup sight (written octets) = done_by_write sight octets
+done_by setup sight (train_heard train) = done_brought (brought_by setup sight train)
 done_by setup sight train_lost = lost
 done_by setup sight (control_heard octets) = done_by_control sight.place octets
 done_by setup sight told = nothing

@@ -42,6 +42,11 @@ pub record Setup : Type 0 where
   pub slots : ℕ
   pub horizon : ℕ
 
+-- what a sink is made with: its limits, and the MTU of its links, where one is set
+pub record Settings : Type 0 where
+  pub setup : Setup
+  pub mtu : Option ℕ
+
 -- what a train brings, with the slot that it is of
 pub data Brought : Type 0 where
   ignored : (answer : TrainHeard) → Brought  -- one of the first four answers

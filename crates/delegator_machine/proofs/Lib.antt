@@ -3,3 +3,4 @@ mod Places
 mod Standing
 mod Trains
 mod Where
+pub mod Citable

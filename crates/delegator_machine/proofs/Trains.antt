@@ -61,23 +61,23 @@ brings_none setup sight train none = at sight.place refl
 
 -- ---- the step
 
-pub stands_trained : (setup : Setup) (train : Train) (source : ℕ) (calls : List Call) (old new : Halves) (given : Option Joining) (made : Option OnGroup)
+pub stands_trained : (setup : Setup) (train : Train) (calls : List Call) (old new : Halves) (given : Option Joining) (made : Option OnGroup)
     → given ≡ joining_in (brought_by old.scan.setup old.scan.sight train) → made ≡ option_map (λ joining. fresh_on (by_numbers joining)) given
     → (made ≡ None → new.sink ≡ old.sink)
     → ((tuning : Joining) → (past : List sinks.Call) → made ≡ Some (fresh_on tuning) → SinkStands (sinks.tune tuning ∷ past) new.sink)
     → new.scan ≡ moved (done_brought (brought_by old.scan.setup old.scan.sight train)) old.scan
-    → ScanStands (train_heard source train ∷ steps_of calls) new.scan
-    → StandsFor setup calls old → StandsFor setup (control (train_heard source train) ∷ calls) new
-stands_trained setup train source calls old new None made is makes quiet puts step steps stands =
+    → ScanStands (train_heard train ∷ steps_of calls) new.scan
+    → StandsFor setup calls old → StandsFor setup (control (train_heard train) ∷ calls) new
+stands_trained setup train calls old new None made is makes quiet puts step steps stands =
     let none : joining_in (brought_by old.scan.setup old.scan.sight train) ≡ None = sym is in
     let same : joining_in (brought_by old.scan.setup old.scan.sight train) ≡ joining_in (brought_by setup (sight_of setup (steps_of calls)) train) =
     λ i. joining_in (brought_by (stands.setup_is i) (sight_is setup calls old stands i) train) in
-    stands_quiet setup (train_heard source train) calls old new (sym same ∙ none) (ap (λ (m : Machine). m.setup) step) steps
+    stands_quiet setup (train_heard train) calls old new (sym same ∙ none) (ap (λ (m : Machine). m.setup) step) steps
     (ap (λ (m : Machine). has_group m.sight.place) step ∙ brings_none old.scan.setup old.scan.sight train none) (quiet makes) stands
-stands_trained setup train source calls old new (Some joining) made is makes quiet puts step steps stands =
+stands_trained setup train calls old new (Some joining) made is makes quiet puts step steps stands =
     let same : joining_in (brought_by old.scan.setup old.scan.sight train) ≡ joining_in (brought_by setup (sight_of setup (steps_of calls)) train) =
     λ i. joining_in (brought_by (stands.setup_is i) (sight_is setup calls old stands i) train) in
-    stands_joined setup (train_heard source train) calls old new joining (sym same ∙ sym is) (ap (λ (m : Machine). m.setup) step) steps
+    stands_joined setup (train_heard train) calls old new joining (sym same ∙ sym is) (ap (λ (m : Machine). m.setup) step) steps
     (puts (by_numbers joining) (group_calls setup calls) makes) stands
 
 -- ---- where memory may be wanted

@@ -13,8 +13,8 @@ use Rattle.delegator_history.specs.Announced.{numbers_alone}
 
 -- the group that a step puts a sink on that has this
 abbrev pub joining_given : Setup → Sight → Step → Option Joining
-joining_given setup sight (put_on source joining) = Some joining
-joining_given setup sight (train_heard source train) = joining_in (brought_by setup sight train)
+joining_given setup sight (put_on joining) = Some joining
+joining_given setup sight (train_heard train) = joining_in (brought_by setup sight train)
 joining_given setup sight _ = None
 
 -- the receivers go by the numbers of the group alone

@@ -1,4 +1,5 @@
-ghost use Rattle.std.specs.Prelude.{◌≡◌, ◌+◌, ◌≤◌, ◌<◌, ◌^◌, ◌&&◌, ◌∷◌, not, ℕ, List, [], option_map, slice_get, IfOk, IsOk, IsSome, OnOk, OnErr};
+ghost use Rattle.std.specs.Prelude.{◌≡◌, ◌+◌, ◌≤◌, ◌<◌, ◌^◌, ◌&&◌, ◌∷◌, not, List, [], option_map, slice_get};
+ghost use Rattle.std.specs.Prelude.{IfOk, IsOk, IsSome, OnOk, OnErr};
 ghost use Rattle.bass_operations.specs.Reading.{op_of};
 ghost use Rattle.delegator_history.specs.Controls.{control_heard};
 ghost use Rattle.delegator_history.specs.Notices.{handed_out, mtu_in, waiting};
@@ -96,9 +97,9 @@ impl Delegator {
         requires event { event ≤ 2 ^ 39 }
         requires anchor { anchor ≤ 2 ^ 61 + 2 ^ 23 }
         requires delay { delay < 2 ^ 24 }
-        ensures stands { (setup : Setup) (calls : List Call) (source : ℕ) → StandsFor setup calls self.old
+        ensures stands { (setup : Setup) (calls : List Call) → StandsFor setup calls self.old
             → OnOk result (StandsFor setup
-            (control (put_on source (record {
+            (control (put_on (record {
               info = group.now.info;
               which = which;
               first = event;
@@ -119,8 +120,8 @@ impl Delegator {
 
     /// Puts the sink on a group of no slot: `tune` with its arguments as one. After want of memory all is as before.
     pub fn put_on(&mut self, joining: &Joining) -> Result<(), Memory>
-        ensures stands { (setup : Setup) (calls : List Call) (source : ℕ) → StandsFor setup calls self.old
-            → OnOk result (StandsFor setup (control (put_on source joining.now) ∷ calls) self.new) }
+        ensures stands { (setup : Setup) (calls : List Call) → StandsFor setup calls self.old
+            → OnOk result (StandsFor setup (control (put_on joining.now) ∷ calls) self.new) }
         ensures settings { settings_of self.new ≡ settings_of self.old }
         ensures err { OnErr result (self.new ≡ self.old) }
     {
@@ -136,8 +137,8 @@ impl Delegator {
     pub fn serve(&mut self, write: &[u8]) -> Result<Reply, Memory>
         ensures answer { (setup : Setup) (calls : List Call) → StandsFor setup calls self.old
             → IfOk result (λ reply. reply ≡ reply_of (sight_of setup (steps_of calls)) write.now) }
-        ensures stands { (setup : Setup) (calls : List Call) (link : ℕ) → StandsFor setup calls self.old
-            → OnOk result (StandsFor setup (control (written link write.now) ∷ calls) self.new) }
+        ensures stands { (setup : Setup) (calls : List Call) → StandsFor setup calls self.old
+            → OnOk result (StandsFor setup (control (written write.now) ∷ calls) self.new) }
         ensures settings { settings_of self.new ≡ settings_of self.old }
         ensures err { OnErr result (self.new ≡ self.old) }
         ensures memory { OnErr result (IsOk (op_of write.now)) }

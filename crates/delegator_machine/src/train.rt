@@ -1,5 +1,5 @@
 //! A train that is heard.
-ghost use Rattle.std.specs.Prelude.{◌≡◌, ◌≤◌, ◌^◌, ◌∷◌, ℕ, List, option_copied, option_map, true, None, Some, IfOk, IsSome, OnOk, OnErr};
+ghost use Rattle.std.specs.Prelude.{◌≡◌, ◌≤◌, ◌^◌, ◌∷◌, List, option_copied, option_map, true, None, Some, IfOk, IsSome, OnOk, OnErr};
 ghost use Rattle.delegator_history.specs.States.{sight_of, train_heard};
 ghost use Rattle.delegator_history.specs.Trains.{Setup, Train, answer_of, brought_by};
 ghost use Rattle.group_sink.specs.Calls as sinks;
@@ -38,8 +38,8 @@ impl Delegator {
             (setup : Setup) (calls : List Call) → StandsFor setup calls self.old
             → IfOk result (λ heard. heard ≡ answer_of (brought_by setup (sight_of setup (steps_of calls)) train)) }
         ensures stands { let train : Train = train_of address_type sid ext.now adv.now acad.now now in
-            (setup : Setup) (calls : List Call) (source : ℕ) → StandsFor setup calls self.old
-            → OnOk result (StandsFor setup (control (train_heard source train) ∷ calls) self.new) }
+            (setup : Setup) (calls : List Call) → StandsFor setup calls self.old
+            → OnOk result (StandsFor setup (control (train_heard train) ∷ calls) self.new) }
         ensures settings { settings_of self.new ≡ settings_of self.old }
         ensures err { OnErr result (self.new ≡ self.old) }
         ensures memory { let train : Train = train_of address_type sid ext.now adv.now acad.now now in

@@ -18,7 +18,7 @@ use std::{env, io};
 fn main(rt: HostRuntime) -> ExitCode {
     let status = match run(&rt) {
         Ok(status) => status,
-        Err(_) => Status::Ended(Ending::Memory),
+        Err(Memory) => Status::Ended(Ending::Memory),
     };
     if let Some(message) = status.message() {
         let _ = eprintln!(rt; "{message}");

@@ -9,9 +9,9 @@ ghost use Rattle.isoal_framed.specs.State.Places.{kept_of};
 ghost use Rattle.isoal_framed.specs.State.Streams.{stay_of};
 ghost use Rattle.isoal_framed.specs.State.Windows.{HandsOn, CausedOn};
 
-use crate::joining::Joining;
 use crate::store::Store;
 use crate::stream::Stream;
+use crate::undecided::UndecidedRun;
 use iso_pdu::{Pdu, Segments, read_pdu};
 use unit_outlets::{TakerFault, UnitTaker};
 
@@ -30,11 +30,12 @@ pub(crate) fn take_places<T: UnitTaker>(
     requires count { count ≤ length store.old.places.ring.items }
     ensures places { length store.new.places.ring.items ≡ length store.old.places.ring.items }
     ensures max_pdu { store.new.places.max_pdu ≡ store.old.places.max_pdu }
-    ensures room { vec_len store.new.joining.octets ≡ vec_len store.old.joining.octets }
+    ensures room { vec_len store.new.undecided.octets ≡ vec_len store.old.undecided.octets }
     ensures kept { kept_of store.new.places ≡ drop count (kept_of store.old.places) ++ replicate count None }
-    ensures run { run_in store.new.joining
-        ≡ run_after (vec_len store.old.joining.octets) (run_in store.old.joining) (flat_map (tokens_of (stay_of stream.now) event) (take count (kept_of store.old.places))) }
-    ensures hands { HandsOn (hands (vec_len store.old.joining.octets) stream.now.bis (run_in store.old.joining)
+    ensures run { run_in store.new.undecided
+        ≡ run_after (vec_len store.old.undecided.octets) (run_in store.old.undecided)
+        (flat_map (tokens_of (stay_of stream.now) event) (take count (kept_of store.old.places))) }
+    ensures hands { HandsOn (hands (vec_len store.old.undecided.octets) stream.now.bis (run_in store.old.undecided)
         (flat_map (tokens_of (stay_of stream.now) event) (take count (kept_of store.old.places))))
         (Ok tt) (T.calls taker.old) (T.calls taker.new) result }
     ensures cause { CausedOn (Ok tt) (T.counts taker.old) (T.counts taker.new) result }
@@ -47,7 +48,7 @@ pub(crate) fn take_places<T: UnitTaker>(
             event,
             place.pdu(),
             stream.group.info.max_pdu,
-            &mut store.joining,
+            &mut store.undecided,
             handed,
             taker,
         );
@@ -61,23 +62,25 @@ fn take_pdu<T: UnitTaker>(
     event: u64,
     pdu: &[u8],
     max_pdu: u8,
-    joining: &mut Joining,
+    undecided: &mut UndecidedRun,
     so_far: Result<(), TakerFault>,
     taker: &mut T,
 ) -> Result<(), TakerFault>
     requires first { stream.now.first ≤ event }
     requires event { event < 2 ^ 39 }
-    ensures room { vec_len joining.new.octets ≡ vec_len joining.old.octets }
-    ensures run { run_in joining.new ≡ run_after (vec_len joining.old.octets) (run_in joining.old)
+    ensures room { vec_len undecided.new.octets ≡ vec_len undecided.old.octets }
+    ensures run { run_in undecided.new ≡ run_after (vec_len undecided.old.octets) (run_in undecided.old)
         (tokens_of (stay_of stream.now) event (read_as segmented max_pdu pdu.now)) }
-    ensures hands { HandsOn (hands (vec_len joining.old.octets) stream.now.bis (run_in joining.old)
+    ensures hands { HandsOn (hands (vec_len undecided.old.octets) stream.now.bis (run_in undecided.old)
         (tokens_of (stay_of stream.now) event (read_as segmented max_pdu pdu.now)))
         so_far (T.calls taker.old) (T.calls taker.new) result }
     ensures cause { CausedOn so_far (T.counts taker.old) (T.counts taker.new) result }
 {
     match read_pdu(pdu, max_pdu) {
-        Ok(Pdu::Framed(segments)) => take_segments(stream, event, segments, joining, so_far, taker),
-        _ => joining.miss(stream.bis, so_far, taker),
+        Ok(Pdu::Framed(segments)) => take_segments(
+            stream, event, segments, undecided, so_far, taker,
+        ),
+        _ => undecided.miss(stream.bis, so_far, taker),
     }
 }
 
@@ -86,23 +89,23 @@ fn take_segments<T: UnitTaker>(
     stream: &Stream,
     event: u64,
     segments: Segments<'_>,
-    joining: &mut Joining,
+    undecided: &mut UndecidedRun,
     so_far: Result<(), TakerFault>,
     taker: &mut T,
 ) -> Result<(), TakerFault>
     requires first { stream.now.first ≤ event }
     requires event { event < 2 ^ 39 }
-    ensures room { vec_len joining.new.octets ≡ vec_len joining.old.octets }
-    ensures run { run_in joining.new ≡ run_after (vec_len joining.old.octets) (run_in joining.old)
+    ensures room { vec_len undecided.new.octets ≡ vec_len undecided.old.octets }
+    ensures run { run_in undecided.new ≡ run_after (vec_len undecided.old.octets) (run_in undecided.old)
         (map (token_of (stay_of stream.now) event) segments.entry) }
-    ensures hands { HandsOn (hands (vec_len joining.old.octets) stream.now.bis (run_in joining.old)
+    ensures hands { HandsOn (hands (vec_len undecided.old.octets) stream.now.bis (run_in undecided.old)
         (map (token_of (stay_of stream.now) event) segments.entry))
         so_far (T.calls taker.old) (T.calls taker.new) result }
     ensures cause { CausedOn so_far (T.counts taker.old) (T.counts taker.new) result }
 {
     let mut handed = so_far;
     'segments: for segment in segments {
-        handed = joining.take(stream, event, segment, handed, taker);
+        handed = undecided.take(stream, event, segment, handed, taker);
     }
     handed
 }

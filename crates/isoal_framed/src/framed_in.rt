@@ -8,11 +8,11 @@ ghost use Rattle.isoal_framed.specs.Tokens.{segmented};
 ghost use Rattle.isoal_framed.specs.State.Windows.{Stands, after_hear, after_close, owed};
 
 use crate::close::take_places;
-use crate::joining::Joining;
 use crate::keep::{answer_at, keep};
 use crate::place::Places;
 use crate::store::Store;
 use crate::stream::Stream;
+use crate::undecided::UndecidedRun;
 use bcast_base::{Bis, Memory};
 use big_info::Group;
 use iso_pdu::{Pdu, read_pdu};
@@ -43,7 +43,7 @@ impl Model for FramedIn {
       stay = stay_of a.stream;
       event = a.event;
       kept = kept_of a.store.places;
-      run = run_in a.store.joining;
+      run = run_in a.store.undecided;
     } };
 
     ghost invariant = { λ a. IsReceiver a.stream a.event a.store };
@@ -82,7 +82,7 @@ impl FramedIn {
             event: first_event,
             store: Store {
                 places: Places::new(alloc, stream.window(), group.info.max_pdu)?,
-                joining: Joining::new(alloc, group.info.max_sdu)?,
+                undecided: UndecidedRun::new(alloc, group.info.max_sdu)?,
             },
         })
     }
@@ -143,7 +143,7 @@ impl FramedIn {
         ensures held { result ≡ held_of self.now.run }
         ensures bound { result ≤ self.now.stay.info.max_sdu }
     {
-        self.store.joining.held()
+        self.store.undecided.held()
     }
 
     /// Answers a PDU, and keeps it where the answer is that it is kept.

@@ -6,7 +6,6 @@ mod close;
 mod framed_in;
 mod framed_out;
 mod hand;
-mod joining;
 mod keep;
 mod laws;
 mod next;
@@ -15,6 +14,7 @@ mod place;
 mod run;
 mod store;
 mod stream;
+mod undecided;
 
 pub use air_laws::{
     a_framed_air_is_there, a_framed_air_sends_units, a_sender_lays_a_framed_air, one_framed_air,

@@ -1,5 +1,5 @@
 ghost use Rattle.std.specs.Prelude.{◌≡◌, ◌≤◌, ◌<◌, ◌+◌, ◌*◌, ◌^◌, ◌%◌};
-ghost use Rattle.big_info.specs.Schedule.{per_event_of, per_unit_of};
+ghost use Rattle.big_info.specs.Schedule.{horizon_of, per_event_of, per_unit_of};
 ghost use Rattle.isoal_base.specs.Stays.{window_of};
 ghost use Rattle.isoal_unframed.specs.State.Windows.{time_of};
 
@@ -17,10 +17,20 @@ pub(crate) struct Stream {
     pub(crate) origin: u64,
     /// The presentation delay in µs.
     pub(crate) delay: u32,
+    /// How many events the window has, H + 1, and how many numbers.
+    pub(crate) events: u32,
+    pub(crate) window: usize,
+    /// k, and m: the slots of an event, and the numbers of a slot.
+    pub(crate) slots: u32,
+    pub(crate) places: u32,
     pub(crate) ghost unframed: { group.info.framing ≡ 0 },
     pub(crate) ghost first_event: { first ≤ 2 ^ 39 },
     pub(crate) ghost times: { origin ≤ 2 ^ 61 + 2 ^ 23 },
     pub(crate) ghost delays: { delay < 2 ^ 24 },
+    pub(crate) ghost events_are: { events ≡ horizon_of group.info + 1 },
+    pub(crate) ghost window_is: { window ≡ window_of group.info },
+    pub(crate) ghost slots_are: { slots ≡ per_event_of group.info },
+    pub(crate) ghost places_are: { places ≡ per_unit_of group.info },
 }
 
 impl Stream {
@@ -30,7 +40,7 @@ impl Stream {
     pub(crate) fn window(&self) -> usize
         ensures { result ≡ window_of self.now.group.info }
     {
-        (self.group.horizon() as usize + 1) * usize::from(self.group.info.bn)
+        self.window
     }
 
     /// The place of an event's first number, in a ring of H + 1 events.
@@ -39,7 +49,7 @@ impl Stream {
         ensures exact { result ≡ place_of self.now.group.info event }
         ensures within { result + self.now.group.info.bn ≤ window_of self.now.group.info }
     {
-        let turn = (event % (u64::from(self.group.horizon()) + 1)) as usize;
+        let turn = (event % u64::from(self.events)) as usize;
         turn * usize::from(self.group.info.bn)
     }
 
@@ -62,7 +72,7 @@ impl Stream {
     pub(crate) fn slots(&self) -> usize
         ensures { result ≡ per_event_of self.now.group.info }
     {
-        self.group.per_event() as usize
+        self.slots as usize
     }
 
     /// m: the numbers of a slot.
@@ -70,7 +80,7 @@ impl Stream {
         ensures exact { result ≡ per_unit_of self.now.group.info }
         ensures all { per_event_of self.now.group.info * result ≡ self.now.group.info.bn }
     {
-        self.group.per_unit() as usize
+        self.places as usize
     }
 
     /// When the unit of a slot, from 0, is rendered, in µs.
@@ -86,4 +96,11 @@ impl Stream {
             self.delay,
         )
     }
+}
+
+/// How many numbers the H + 1 events of a window have.
+pub(crate) fn numbers_of(group: &Group) -> usize
+    ensures { result ≡ window_of group.now.info }
+{
+    (group.horizon() as usize + 1) * usize::from(group.info.bn)
 }

@@ -9,7 +9,7 @@ ghost use Rattle.isoal_unframed.specs.Units.{unframed};
 ghost use Rattle.isoal_unframed.specs.State.Windows.{Stands, after_hear, after_close, owed, held_in_event};
 
 use crate::ring::Ring;
-use crate::stream::Stream;
+use crate::stream::{Stream, numbers_of};
 use crate::window::{answer_at, hand_event, held, keep};
 use bcast_base::{Bis, Memory};
 use big_info::Group;
@@ -72,6 +72,10 @@ impl UnframedIn {
             first: first_event,
             origin: anchor,
             delay,
+            events: group.horizon() + 1,
+            window: numbers_of(group),
+            slots: group.per_event(),
+            places: group.per_unit(),
         };
         Ok(UnframedIn {
             stream,

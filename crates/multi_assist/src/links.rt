@@ -93,7 +93,7 @@ impl Links {
         ensures terms { (slots_of self.new ≡ slots_of self.old) × (mtu_of self.new ≡ mtu_of self.old) }
     {
         'notices: while let Some(notice) = from.next_notice() {
-            self.put(&notice)?;
+            self.put(notice)?;
         }
         Ok(())
     }
@@ -156,16 +156,15 @@ impl Links {
     }
 
     /// Puts a notice behind those that wait on every joined link, or on none.
-    fn put(&mut self, notice: &Notice) -> Result<(), Memory>
-        ensures ok { OnOk result (linked self.new ≡ map (with_notice notice.now) (linked self.old)) }
+    fn put(&mut self, notice: Notice) -> Result<(), Memory>
+        ensures ok { OnOk result (linked self.new ≡ map (with_notice notice) (linked self.old)) }
         ensures err { OnErr result (linked self.new ≡ linked self.old) }
         ensures terms { self.new.terms ≡ self.old.terms }
     {
-        let first = self.first.ready(notice)?;
-        let second = self.second.ready(notice)?;
-        let third = self.third.ready(notice)?;
-        let fourth = self.fourth.ready(notice)?;
-        self.first.put(first);
+        let second = self.second.ready(&notice)?;
+        let third = self.third.ready(&notice)?;
+        let fourth = self.fourth.ready(&notice)?;
+        self.first.put_own(notice)?;
         self.second.put(second);
         self.third.put(third);
         self.fourth.put(fourth);

@@ -1,7 +1,7 @@
-ghost use Rattle.std.specs.Prelude.{◌≡◌, ◌<◌, [], Some, None, is_some, option_map, IfOk, OnOk, OnSome};
+ghost use Rattle.std.specs.Prelude.{◌≡◌, ◌<◌, [], Some, None, is_some, option_map, IfOk, OnOk, OnErr, OnSome};
 ghost use Rattle.std.specs.VecDeque.{deque_len, deque_capacity};
 ghost use Rattle.std.specs.Borrow.{sem};
-ghost use Rattle.multi_assist.specs.State.Places.{LendsAssistant, assistant_in, copy_for, first_of, link_of, with_copy, without_first};
+ghost use Rattle.multi_assist.specs.State.Places.{LendsAssistant, assistant_in, copy_for, first_of, link_of, with_copy, with_notice, without_first};
 
 use assistant_machine::AssistJoined;
 use bcast_base::Memory;
@@ -88,5 +88,16 @@ impl Place {
         if let Some(notice) = copy {
             self.waiting.push_back_reserved(notice);
         }
+    }
+
+    /// Puts a notice behind those that wait, where an assistant is on the link.
+    pub(crate) fn put_own(&mut self, notice: Notice) -> Result<(), Memory>
+        ensures ok { OnOk result (link_of self.new ≡ with_notice notice (link_of self.old)) }
+        ensures err { OnErr result (link_of self.new ≡ link_of self.old) }
+    {
+        if self.assistant.is_none() {
+            return Ok(());
+        }
+        Ok(self.waiting.push_back(notice)?)
     }
 }

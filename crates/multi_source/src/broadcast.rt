@@ -53,7 +53,8 @@ impl Broadcast {
         }
     }
 
-    /// Gives a unit to a stream, as `SourceStreaming::give` does.
+    /// Gives a unit to a stream, as `SourceStreaming::give` does. A refused unit changes nothing, and a source that has failed takes
+    /// none.
     pub fn give(&mut self, bis: Bis, time: Option<u64>, octets: &[u8]) -> Result<(), GiveFault>
         requires { self.old.cipher ≡ None }
         ensures identity { self.new.identity ≡ self.old.identity }
@@ -67,6 +68,7 @@ impl Broadcast {
         ensures cause { IfErr result (λ fault. (calls : List Call) (airs : List StreamAir) → StandsFor calls self.old
             → AreAirs self.old.setup calls airs
             → give_fault self.old.setup calls airs bis time octets.now ≡ refused_unit fault) }
+        ensures works { OnOk result (self.old.failed ≡ false) }
         ensures checked { IsChecked self.old.setup.info }
     {
         self.source.give(bis, time, octets)
@@ -81,6 +83,9 @@ impl Broadcast {
     }
 
     /// Performs the next event, as `SourceStreaming::advance` does.
+    ///
+    /// CounterEnds changes nothing. After want of memory the source has failed: who it is, what it announces, its setup and its next
+    /// event are as before, and `heard_at` lends none of its PDUs any more. A source that has failed performs no event.
     pub fn event(&mut self) -> Result<StaleList, EventFault>
         requires { self.old.cipher ≡ None }
         ensures identity { self.new.identity ≡ self.old.identity }
@@ -94,6 +99,7 @@ impl Broadcast {
         ensures cause { IfErr result (λ fault. (calls : List Call) → StandsFor calls self.old
             → event_fault self.old.setup calls ≡ refused_event fault) }
         ensures err { IfErr result (λ fault. AfterFault fault self.old self.new) }
+        ensures works { OnOk result (self.old.failed ≡ false) }
         ensures next { OnOk result (self.new.next ≡ self.old.next + 1) }
         ensures same { OnErr result (self.new.next ≡ self.old.next) }
         ensures checked { IsChecked self.old.setup.info }

@@ -5,6 +5,11 @@ use Rattle.std.specs.Prelude.{ℕ, List, [], ◌∷◌, ◌++◌}
 abbrev pub space : ℕ
 space = 32
 
+-- an octet at the front of the first of some words or lines
+abbrev pub onto_first : ℕ → List (List ℕ) → List (List ℕ)
+onto_first octet [] = (octet ∷ []) ∷ []
+onto_first octet (first ∷ others) = (octet ∷ first) ∷ others
+
 -- words, each behind a space
 abbrev pub behind : List (List ℕ) → List ℕ
 behind [] = []

@@ -1,4 +1,4 @@
-ghost use Rattle.std.specs.Prelude.{◌≡◌, ◌++◌, OnOk, OnErr, ◌<◌, ◌≤◌, ◌*◌, length, slice_index};
+ghost use Rattle.std.specs.Prelude.{◌≡◌, ◌++◌, OnOk, OnErr, ◌<◌, ◌≤◌, ◌+◌, ◌*◌, length, slice_index};
 ghost use Rattle.hex.specs.Hex.{encode_lower, lower_digits};
 ghost use Rattle.printed_words.specs.Fronts.{AFront};
 ghost use Rattle.printed_words.specs.Digits.{digits};
@@ -8,16 +8,21 @@ use bcast_base::{Memory, Octets};
 /// The most octets that are put at once as digits.
 const CHUNK: usize = 128;
 
+/// How far the lower-case digit of a number below 16 stands behind the place that it has among figures: only a letter does.
+fn behind_figures(number: u8) -> u8
+    requires { number < 16 }
+    ensures exact { 48 + number + result ≡ slice_index lower_digits number }
+    ensures most { result ≤ 39 }
+{
+    if number < 10 { 0 } else { b'a' - 10 - b'0' }
+}
+
 /// The lower-case digit of a number below 16.
 fn digit(number: u8) -> u8
     requires { number < 16 }
     ensures { result ≡ slice_index lower_digits number }
 {
-    if number < 10 {
-        b'0' + number
-    } else {
-        b'a' + (number - 10)
-    }
+    b'0' + number + behind_figures(number)
 }
 
 /// Writes the two digits of each octet.

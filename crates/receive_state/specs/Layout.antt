@@ -1,6 +1,6 @@
 -- The Broadcast Receive State (Broadcast Audio Scan Service 1.0, section 3.2): its fields one behind the other. The empty
 -- value is no source.
-use Rattle.std.specs.Prelude.{ℕ, ◌≡◌, ◌≤◌, ◌<◌, ◌^◌, List, [], ◌∷◌, length, map, Option, Some, None, Bool, false, nat_lt, nat_le, ◌==◌, ◌&&◌, ◌||◌, not, if◌then◌else◌}
+use Rattle.std.specs.Prelude.{ℕ, ◌≡◌, ◌≤◌, ◌<◌, ◌^◌, List, [], ◌∷◌, ◌++◌, length, map, Option, Some, None, Bool, false, nat_lt, nat_le, ◌==◌, ◌&&◌, ◌||◌, not, if◌then◌else◌}
 use Rattle.std.specs.List.{flat_map, list_all, AllByRecursion}
 use Rattle.bcast_base.specs.Layout.{Field, free, unless, laid, NoneReserved}
 use Rattle.bcast_base.specs.Spelling.{octet}
@@ -22,12 +22,15 @@ pub record StateFields : Type 0 where
   pub bad_code : List ℕ
   pub groups : List Subgroup
 
--- Source_ID, address type, address, SID, Broadcast_ID, PA_Sync_State, BIG_Encryption, Bad_Code, Num_Subgroups, subgroups
-abbrev pub fields : StateFields → List Field
-fields s =
+-- Source_ID, address type, address, SID, Broadcast_ID, PA_Sync_State, BIG_Encryption, Bad_Code, Num_Subgroups
+abbrev pub front_fields : StateFields → ℕ → List Field
+front_fields s count =
     free (octet s.source_id) ∷ unless (nat_lt 1 s.address_type) (octet s.address_type) ∷ free s.address ∷ unless (nat_lt 15 s.sid) (octet s.sid) ∷ free s.broadcast_id ∷
-    unless (nat_lt 4 s.pa_sync_state) (octet s.pa_sync_state) ∷ unless (nat_lt 3 s.encryption) (octet s.encryption) ∷ free s.bad_code ∷
-    free (octet (length s.groups)) ∷ flat_map subgroup_fields s.groups
+    unless (nat_lt 4 s.pa_sync_state) (octet s.pa_sync_state) ∷ unless (nat_lt 3 s.encryption) (octet s.encryption) ∷ free s.bad_code ∷ free (octet count) ∷ []
+
+-- the same, and the subgroups
+abbrev pub fields : StateFields → List Field
+fields s = front_fields s (length s.groups) ++ flat_map subgroup_fields s.groups
 
 -- a Bad_Code is told only behind a BIG_Encryption of 3
 abbrev pub code_width : ℕ → ℕ

@@ -13,4 +13,4 @@ pub use fault::StateFault;
 pub use laws::{fault_is_cause, fits_is_spelled, read_is_state};
 pub use reading::decode_state;
 pub use state::{Encryption, GroupState, GroupStates, ReceiveState};
-pub use writing::encode_state;
+pub use writing::{begin_state, encode_state};

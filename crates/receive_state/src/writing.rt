@@ -3,7 +3,7 @@ ghost use Rattle.std.specs.List.{flat_map, AllByRecursion};
 ghost use Rattle.std.specs.Option.{option_copied};
 ghost use Rattle.bcast_base.specs.Layout.{laid};
 ghost use Rattle.bcast_base.specs.Subgroups.{Fits, subgroup_fields};
-ghost use Rattle.receive_state.specs.Layout.{HasSpelling, IsSpelled, StateIs, spelling, fields_of, FieldsFit, group_of, number_of, code_of, code_width};
+ghost use Rattle.receive_state.specs.Layout.{HasSpelling, IsSpelled, StateIs, spelling, front_fields, fields_of, FieldsFit, group_of, number_of, code_of, code_width};
 
 use crate::state::{Encryption, GroupState, ReceiveState};
 use bcast_base::{Memory, Octets, put_subgroup};
@@ -29,9 +29,25 @@ fn write_state(alloc: Global, state: &ReceiveState) -> Result<Octets, Memory>
     requires { HasSpelling state.now }
     ensures { IfOk result (λ octets. IsSpelled state.now octets) }
 {
+    let mut out = begin_state(alloc, state, state.groups.count() as u8, ROOM)?;
+    put_groups(&mut out, state.groups.as_slice())?;
+    Ok(out)
+}
+
+/// The octets of a state before its subgroups, of which it is to have so many: each is put behind them as `put_subgroup` of
+/// `bcast_base` does. Those that it has are not read. Memory is taken for so many octets at once.
+pub fn begin_state(
+    alloc: Global,
+    state: &ReceiveState,
+    count: u8,
+    room: usize,
+) -> Result<Octets, Memory>
+    ensures front { IfOk result (λ octets. octets ≡ laid (front_fields (fields_of state.now) count)) }
+    ensures code { OnOk result (length (code_of state.now.encryption) ≡ code_width (number_of state.now.encryption)) }
+{
     let address = state.address;
     let broadcast_id = state.broadcast_id;
-    let mut out = Octets::of(Vec::with_capacity(alloc, ROOM)?);
+    let mut out = Octets::of(Vec::with_capacity(alloc, room)?);
     out.push(state.source_id)?;
     out.push(state.address_type)?;
     out.append(&address)?;
@@ -39,8 +55,7 @@ fn write_state(alloc: Global, state: &ReceiveState) -> Result<Octets, Memory>
     out.append(&broadcast_id)?;
     out.push(state.pa_sync_state)?;
     put_encryption(&mut out, &state.encryption)?;
-    out.push(state.groups.count() as u8)?;
-    put_groups(&mut out, state.groups.as_slice())?;
+    out.push(count)?;
     Ok(out)
 }
 

@@ -19,7 +19,7 @@ use std::{env, io};
 fn main(rt: HostRuntime) -> ExitCode {
     let status = match run(&rt) {
         Ok(status) => status,
-        Err(_) => Status::Memory,
+        Err(Memory) => Status::Memory,
     };
     if let Some(message) = status.message() {
         let _ = eprintln!(rt; "{message}");

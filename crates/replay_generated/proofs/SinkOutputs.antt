@@ -4,7 +4,7 @@ use Rattle.std.specs.List.{concat, flat_map, range_with_len}
 use Rattle.assistant_machine.specs.Answers.{answer_of as forged_answer}
 use Rattle.delegator_history.specs.declared.notice.Notice.{Notice}
 use Rattle.delegator_history.specs.Controls as controls
-use Rattle.delegator_history.specs.Trains.{Train, answer_of, brought_by}
+use Rattle.delegator_history.specs.Trains.{Settings, Train, answer_of, brought_by}
 use Rattle.sink_history.specs.Calls as links
 use Rattle.sink_history.specs.Calls.{Call, writes_waiting}
 use Rattle.sink_history.specs.Drains.{repeated, served_out, told_out}
@@ -15,7 +15,7 @@ use Rattle.transcript_text.specs.Lines.{line_of}
 use Rattle.transcript_text.specs.SinkLines.{Label, control_words, forged_words, on_link, plain, reply_line, reply_words, train_words, value_line}
 use Rattle.scenario_text.specs.declared.step.Step.{Step}
 use Rattle.scenario_text.specs.declared.step.Step.TheVariants as steps
-use Rattle.sink_history.specs.Lives.{Made, Source, World, given_train, life_of, made_of, named_by, own_train}
+use Rattle.sink_history.specs.Lives.{Source, World, given_train, life_of, made_of, named_by, own_train}
 use Rattle.sink_history.specs.Output.{Lines, drain_lines, heard_line, if_there, notified, printed, printed_at, printed_of, printed_where, read_line, read_lines}
 use Rattle.sink_history.specs.Output.{replied, serve_line, serve_lines, show_lines, sight_in, stated, tell_line, tell_lines, view_lines, viewed, was_read}
 use Rattle.scenario_history.specs.Output.{sink_lines}
@@ -56,7 +56,7 @@ value_whole first numbers notice = line_whole first (numbers ++ decimal notice.s
 
 -- ---- the lines of a link
 
-module _ (label : Label) (made : Made) (link : ℕ) where
+module _ (label : Label) (made : Settings) (link : ℕ) where
   serve_whole : (calls : List Call) → AllWhole (serve_line label made link calls)
   serve_whole calls =
       there_whole (reply_line label) (λ reply. line_whole label.reply (label.numbers ++ reply_words reply)) (replied made link calls)
@@ -98,25 +98,25 @@ module _ (label : Label) (made : Made) (link : ℕ) where
 
 -- ---- states, views and trains
 
-show_whole : (sink : ℕ) (made : Made) (calls : List Call) → AllWhole (show_lines sink made calls)
+show_whole : (sink : ℕ) (made : Settings) (calls : List Call) → AllWhole (show_lines sink made calls)
 show_whole sink made calls =
     flat_whole (λ slot. value_line (codes "state") (decimal sink ∷ []) (stated made calls slot)
     ∷ value_line (codes "view") (decimal sink ∷ []) (viewed made 0 calls slot) ∷ [])
     (λ slot. (value_whole (codes "state") (decimal sink ∷ []) (stated made calls slot), (value_whole (codes "view") (decimal sink ∷ []) (viewed made 0 calls slot), tt)))
     (range_with_len 0 made.setup.slots)
 
-views_whole : (sink link : ℕ) (made : Made) (calls : List Call) → AllWhole (view_lines sink link made calls)
+views_whole : (sink link : ℕ) (made : Settings) (calls : List Call) → AllWhole (view_lines sink link made calls)
 views_whole sink link made calls =
     map_whole (λ slot. value_line (codes "aview") (decimal sink ∷ decimal link ∷ []) (viewed made link calls slot))
     (λ slot. value_whole (codes "aview") (decimal sink ∷ decimal link ∷ []) (viewed made link calls slot)) (range_with_len 0 made.setup.slots)
 
-heard_whole : (sink : ℕ) (made : Made) (calls : List Call) (train : Train) → IsWhole (heard_line sink made calls train)
+heard_whole : (sink : ℕ) (made : Settings) (calls : List Call) (train : Train) → IsWhole (heard_line sink made calls train)
 heard_whole sink made calls train =
     line_whole (codes "sink") (decimal sink ∷ train_words (answer_of (brought_by made.setup (sight_in made calls) train)))
 
 -- ---- all of it
 
-of_whole : (source : Source) (step : Step) (made : Made) (calls : List Call) → AllWhole (printed_of source step made calls)
+of_whole : (source : Source) (step : Step) (made : Settings) (calls : List Call) → AllWhole (printed_of source step made calls)
 of_whole source (steps.Serve sink) made calls = serve_whole (plain sink) made 0 calls
 of_whole source (steps.Tell sink) made calls = tell_whole (plain sink) made 0 calls
 of_whole source (steps.Read sink) made calls = read_whole (plain sink) made 0 calls
@@ -140,7 +140,7 @@ of_whole source (steps.ADrain sink link) made calls = drain_whole (on_link sink 
 of_whole source (steps.AShow sink link) made calls = views_whole sink link made calls
 of_whole source _ made calls = tt
 
-where_whole : (source : Source) (next : Step) (made : Option Made) (calls : List Call) → AllWhole (printed_where source next made calls)
+where_whole : (source : Source) (next : Step) (made : Option Settings) (calls : List Call) → AllWhole (printed_where source next made calls)
 where_whole source next None calls = tt
 where_whole source next (Some made) calls = of_whole source next made calls
 

@@ -56,7 +56,7 @@ pub(crate) fn run_lines(
     let mut number: u64 = 0;
     'lines: loop {
         let coming = match next_of(alloc, &mut lines, &mut line) {
-            Err(_) => return Ending::Memory,
+            Err(Memory) => return Ending::Memory,
             Ok(None) => return Ending::Through,
             Ok(Some(coming)) => coming,
         };
@@ -121,7 +121,7 @@ fn refuse(number: u64, reason: Refusal, text: &mut Octets, counts: &mut Counts) 
 {
     text.clear();
     match put_refusal(text, number, reason) {
-        Err(_) => Ending::Memory,
+        Err(Memory) => Ending::Memory,
         Ok(()) => match count(text, counts) {
             Some(ending) => ending,
             None => Ending::Refused {

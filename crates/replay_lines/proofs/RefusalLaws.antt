@@ -20,7 +20,8 @@ use Rattle.transcript_text.specs.declared.refusal.Refusal.TheVariants.{AfterEnd,
 use Rattle.transcript_text.specs.declared.refusal.Refusal.TheVariants.{NoSuchLink, LinkTwice, NothingWaiting, RecordsTooLong, RelayTaken}
 use Rattle.transcript_text.specs.declared.refusal.Refusal.TheVariants as refusals
 use Rattle.sink_history.specs.Calls.{Call}
-use Rattle.sink_history.specs.Lives.{Made, World, life_of, made_of, named_by, horizon_in}
+use Rattle.delegator_history.specs.Trains.{Settings}
+use Rattle.sink_history.specs.Lives.{World, life_of, made_of, named_by, horizon_in}
 use Rattle.sink_history.specs.Refusals.{link_named, link_twice, no_link, no_record_room, nothing_waits, refused_at, refused_by, refused_where, refusal_of as refusal_of_sink, refuse_if}
 use Rattle.scenario_history.specs.Worlds.{the_world}
 use Rattle.scenario_text.specs.declared.step.Step.{Step}
@@ -106,7 +107,7 @@ other_twice : (calls : List Call) (step : Step) → OtherThan (link_twice calls 
 other_twice calls (kinds.Assist sink link) = other_if _ LinkTwice (λ e. cc)
 other_twice calls _ = tt
 
-other_waits : (made : Made) (calls : List Call) (step : Step) → OtherThan (nothing_waits made calls step)
+other_waits : (made : Settings) (calls : List Call) (step : Step) → OtherThan (nothing_waits made calls step)
 other_waits made calls (kinds.Serve sink) = other_if _ NothingWaiting (λ e. cc)
 other_waits made calls (kinds.Tell sink) = other_if _ NothingWaiting (λ e. cc)
 other_waits made calls (kinds.Read sink) = other_if _ NothingWaiting (λ e. cc)
@@ -115,18 +116,18 @@ other_waits made calls (kinds.ATell sink link) = other_if _ NothingWaiting (λ e
 other_waits made calls (kinds.ARead sink link) = other_if _ NothingWaiting (λ e. cc)
 other_waits made calls _ = tt
 
-other_room : (made : Made) (calls : List Call) (step : Step) → OtherThan (no_record_room made calls step)
+other_room : (made : Settings) (calls : List Call) (step : Step) → OtherThan (no_record_room made calls step)
 other_room made calls (kinds.Pac sink codec caps metadata) = other_if _ RecordsTooLong (λ e. cc)
 other_room made calls _ = tt
 
-other_by : (step : Step) (made : Made) (calls : List Call) → OtherThan (refused_by step made calls)
+other_by : (step : Step) (made : Settings) (calls : List Call) → OtherThan (refused_by step made calls)
 other_by step made calls =
     other_or (no_link calls (link_named step)) (option_or (link_twice calls step) (option_or (nothing_waits made calls step) (no_record_room made calls step)))
     (other_link calls (link_named step))
     (other_or (link_twice calls step) (option_or (nothing_waits made calls step) (no_record_room made calls step)) (other_twice calls step)
     (other_or (nothing_waits made calls step) (no_record_room made calls step) (other_waits made calls step) (other_room made calls step)))
 
-other_where : (next : Step) (made : Option Made) (calls : List Call) → OtherThan (refused_where next made calls)
+other_where : (next : Step) (made : Option Settings) (calls : List Call) → OtherThan (refused_where next made calls)
 other_where next None calls = λ e. cc
 other_where next (Some made) calls = other_by next made calls
 

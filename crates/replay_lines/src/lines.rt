@@ -17,7 +17,7 @@ ghost use Rattle.replay_lines.specs.State.Between.{ReadTo, TextIs, NextIs, RunTo
 
 use crate::ending::Ending;
 use crate::listener::Listener;
-use bcast_base::Octets;
+use bcast_base::{Memory, Octets};
 use bcast_io::{ByteSink, ByteSource, Failed, LineRead, LineReader, SinkFault, write_whole};
 use replay_steps::Machine;
 use std::alloc::Global;
@@ -150,7 +150,7 @@ fn refuse<K: ByteSink>(number: u64, reason: Refusal, text: &mut Octets, sink: &m
 {
     text.clear();
     match put_refusal(text, number, reason) {
-        Err(_) => Ending::Memory,
+        Err(Memory) => Ending::Memory,
         Ok(()) => match put(text, sink) {
             Some(fault) => fault,
             None => Ending::Refused {

@@ -8,7 +8,8 @@ use Rattle.source_machine.specs.Airs.{airs_of}
 use Rattle.delegator_machine.specs.Groups.{with_leave}
 use Rattle.group_sink.specs.Calls.{Call}
 use Rattle.sink_history.specs.Calls as links
-use Rattle.sink_history.specs.Lives.{Made, Source, made_of}
+use Rattle.delegator_history.specs.Trains.{Settings}
+use Rattle.sink_history.specs.Lives.{Source, made_of}
 use Rattle.sink_history.specs.Moves.{received_by}
 use Rattle.transcript_text.specs.declared.refusal.Refusal.{Refusal}
 use Rattle.transcript_text.specs.declared.refusal.Refusal.TheVariants.{NoSuchBis, NoSuchSink, Order, RelayTaken}
@@ -238,12 +239,12 @@ none_leaves : (on : Bool) (calls : List Call) → with_leave on on calls ≡ cal
 none_leaves true calls = refl
 none_leaves false calls = refl
 
-moves_none : (source : Source) (n bis to : ℕ) (made : Option Made) (lives : List links.Call) (calls : List Call)
+moves_none : (source : Source) (n bis to : ℕ) (made : Option Settings) (lives : List links.Call) (calls : List Call)
     → received_by source (Relay n bis to) made lives lives calls ≡ calls
 moves_none source n bis to None lives calls = refl
 moves_none source n bis to (Some made) lives calls = none_leaves _ calls
 
-calls_stay : (hit : Bool) (source : Source) (n bis to : ℕ) (made : Option Made) (lives : List links.Call) (calls : List Call)
+calls_stay : (hit : Bool) (source : Source) (n bis to : ℕ) (made : Option Settings) (lives : List links.Call) (calls : List Call)
     → calls ≡ cond hit (received_by source (Relay n bis to) made lives (cond hit lives lives) calls) calls
 calls_stay true source n bis to made lives calls = sym (moves_none source n bis to made lives calls)
 calls_stay false source n bis to made lives calls = refl

@@ -20,7 +20,8 @@ use Rattle.scenario_history.specs.Boxes.{box_of, handed_by}
 use Rattle.scenario_history.specs.Output.{output_of, sink_lines}
 use Rattle.scenario_history.specs.Refusals.{phase_refusal, train_ends}
 use Rattle.scenario_history.specs.Worlds.{life, source_at, the_world}
-use Rattle.sink_history.specs.Lives.{Made, Source, made_of, named_by}
+use Rattle.delegator_history.specs.Trains.{Settings}
+use Rattle.sink_history.specs.Lives.{Source, made_of, named_by}
 use Rattle.sink_history.specs.Output.{printed_at, printed_of, printed_where}
 use Rattle.sink_history.specs.Refusals.{refused_at, refused_where, refusal_of}
 use Rattle.scenario_sink.specs.SinkLines.{IsSinkLine}
@@ -132,7 +133,8 @@ nothing_handed_by steps made line = (line_runs made line).handed steps
 
 -- ---- what it prints
 
-silent : (source : Source) (made : Step) (calls : List Call) (o : Option Made) → ((sink : Made) → printed_of source made sink calls ≡ [])
+silent : (source : Source) (made : Step) (calls : List Call) (o : Option Settings)
+    → ((sink : Settings) → printed_of source made sink calls ≡ [])
     → [] ≡ concat (printed_where source made o calls)
 silent source made calls None quiet = refl
 silent source made calls (Some sink) quiet = ap concat (sym (quiet sink))
@@ -240,11 +242,11 @@ made_with_box : (n : ℕ) (steps : List Step) → is_some (made_of n steps) ≡ 
 made_with_box n [] = refl
 made_with_box n (step ∷ earlier) = made_by_box n step earlier (made_with_box n earlier)
 
-hears_train : (n : ℕ) (calls : List Call) (o : Option Made) → is_some o ≡ true → refused_where (Announce n) o calls ≡ None
+hears_train : (n : ℕ) (calls : List Call) (o : Option Settings) → is_some o ≡ true → refused_where (Announce n) o calls ≡ None
 hears_train n calls None e = absurd (cc e)
 hears_train n calls (Some sink) e = refl
 
-not_there : (n : ℕ) (calls : List Call) (o : Option Made) → is_some o ≡ false → refused_where (Announce n) o calls ≡ Some NoSuchSink
+not_there : (n : ℕ) (calls : List Call) (o : Option Settings) → is_some o ≡ false → refused_where (Announce n) o calls ≡ Some NoSuchSink
 not_there n calls None e = refl
 not_there n calls (Some sink) e = absurd (cc e)
 

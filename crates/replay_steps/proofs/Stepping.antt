@@ -6,6 +6,7 @@ use Rattle.big_info.specs.declared.info.BigInfo.{BigInfo}
 use Rattle.delegator_machine.specs.Groups.{by_numbers}
 use Rattle.delegator_history.specs.Announced.{numbers_alone}
 use Rattle.delegator_history.specs.LastGiven.{last_given}
+use Rattle.delegator_history.specs.Trains.{Settings}
 use Rattle.sync_reference.specs.Joining.{Joining}
 use Rattle.group_sink.specs.Calls.{tune}
 use Rattle.transcript_text.specs.declared.refusal.Refusal.{Refusal}
@@ -18,7 +19,7 @@ use Rattle.scenario_history.specs.Steps.{Stage, chosen_of, chosen_steps, running
 use Rattle.scenario_history.specs.Source.{group_of, no_group, setup_of, takes_units}
 use Rattle.scenario_history.specs.Boxes.{box_of}
 use Rattle.scenario_history.specs.Worlds.{joining_on}
-use Rattle.sink_history.specs.Lives.{Made, horizon_of, version_given, horizon_in}
+use Rattle.sink_history.specs.Lives.{horizon_of, version_given, horizon_in}
 use Rattle.scenario_history.specs.Steps.{sinks_made}
 use Rattle.scenario_history.specs.Refusals.{has_beyond, is_misplaced, is_out_of_phase, no_sink, phase_refusal, relayed_or, sink_refusal, source_refusal, twin_refusal}
 use Rattle.sink_history.specs.Refusals.{refuse_if}
@@ -180,7 +181,7 @@ horizon_said : (version horizon : ℕ) (steps : List Step) → stage_of steps �
 horizon_said version horizon steps e is = is ∙ ap horizon_in (sym (version_said steps ∙ ap version_at e))
 
 -- what the line says, in a scenario whose groups reach so far ahead
-abbrev made_with : (streams slots horizon : ℕ) → Option ℕ → Made
+abbrev made_with : (streams slots horizon : ℕ) → Option ℕ → Settings
 made_with streams slots horizon mtu = record { setup = record { streams = streams; slots = slots; horizon = horizon }; mtu = mtu }
 
 pub make_meets : (boxes version n streams slots horizon : ℕ) (mtu : Option ℕ) (steps : List Step) (old new : Machine) (r : Result (Unit {0}) Stop) → Stands steps old

@@ -14,7 +14,7 @@ ghost use Rattle.replay_steps.specs.Spots.{IsSpot};
 
 use crate::machine::Machine;
 use crate::spot::Spot;
-use bcast_base::{Bis, Octets};
+use bcast_base::{Bis, Memory, Octets};
 use big_info::Group;
 use scenario_sinks::Sinks;
 use scenario_sources::{Place, Sources};
@@ -108,7 +108,7 @@ impl Machine {
         };
         match put_heard(text, sink, hearing) {
             Ok(()) => Ok(()),
-            Err(_) => Err(Stop::Memory),
+            Err(Memory) => Err(Stop::Memory),
         }
     }
 
@@ -128,7 +128,7 @@ impl Machine {
         match self.sources.heard_at(place) {
             Ok(pdu) => match put_pdu(text, event, bis.get(), subevent, pdu) {
                 Ok(()) => Ok(()),
-                Err(_) => Err(Stop::Memory),
+                Err(Memory) => Err(Stop::Memory),
             },
             Err(stop) => Err(stop),
         }

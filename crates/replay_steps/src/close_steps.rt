@@ -12,7 +12,7 @@ ghost use Rattle.replay_steps.specs.Versions.{number_of};
 use crate::machine::Machine;
 use crate::stale::put_stale_units;
 use crate::version::{Stage, Version};
-use bcast_base::Octets;
+use bcast_base::{Memory, Octets};
 use transcript_text::{Stop, put_control};
 use unit_outlets::Outlet;
 
@@ -40,7 +40,7 @@ impl Machine {
         }
         match put_stale_units(text, performed.stale.as_slice()) {
             Ok(()) => Ok(()),
-            Err(_) => Err(Stop::Memory),
+            Err(Memory) => Err(Stop::Memory),
         }
     }
 
@@ -89,7 +89,7 @@ impl Machine {
         }
         match put_control(text, &terminated.pdu) {
             Ok(()) => Ok(()),
-            Err(_) => Err(Stop::Memory),
+            Err(Memory) => Err(Stop::Memory),
         }
     }
 
@@ -120,7 +120,7 @@ impl Machine {
         }
         match self.sinks.sums(outlets, text) {
             Ok(()) => Ok(()),
-            Err(_) => Err(Stop::Memory),
+            Err(Memory) => Err(Stop::Memory),
         }
     }
 }

@@ -36,8 +36,9 @@ impl Machine {
     pub(crate) fn sink_line(&mut self, sink: u8, step: Step, text: &mut Octets) -> Result<(), Stop>
         requires sink { sink ≤ 7 }
         requires range { IsInRange step }
+        requires line { IsSinkLine step }
         ensures { (starts : List Account) (version : ℕ) (steps : List Said) → Stands steps self.old → stage_of steps ≡ running version
-            → IsSinkLine step → named_by step ≡ Some sink → Tells starts steps step self.new text.old text.new result }
+            → named_by step ≡ Some sink → Tells starts steps step self.new text.old text.new result }
     {
         let origin = self.origin();
         self.sinks.line(sink, step, origin, text)

@@ -19,7 +19,7 @@ ghost use Rattle.replay_steps.specs.Meets.{Quiet};
 ghost use Rattle.replay_steps.specs.Relaying.{Closes, Drops, FirstMeets, GivesSecond, OffersMeet, RoomsStand, SinkMeets};
 
 use crate::machine::Machine;
-use bcast_base::{Bis, Octets};
+use bcast_base::{Bis, Memory, Octets};
 use big_info::Group;
 use scenario_sinks::{HandedUnit, Relays, Route};
 use scenario_sources::Sources;
@@ -251,6 +251,6 @@ fn drop_unit(text: &mut Octets, sink: u8, bis: Bis, reason: Refusal) -> Result<(
 {
     match put_dropped(text, sink, bis.get(), reason) {
         Ok(()) => Ok(()),
-        Err(_) => Err(Stop::Memory),
+        Err(Memory) => Err(Stop::Memory),
     }
 }

@@ -12,14 +12,14 @@ use Rattle.announcement_train.specs.Told.{Tells}
 use Rattle.delegator_history.specs.Announced.{IsOnGroup, heard_as, numbers_alone}
 use Rattle.delegator_history.specs.Octets.{MayAnnounce, train_of}
 use Rattle.delegator_history.specs.Sights.{Sight}
-use Rattle.delegator_history.specs.Trains.{Brought, Setup as SinkSetup, brought_by, heard, ignored, taken, joining_in}
+use Rattle.delegator_history.specs.Trains.{Brought, Settings, Setup as SinkSetup, brought_by, heard, ignored, taken, joining_in}
 use Rattle.sync_reference.specs.Joining.{Joining}
 use Rattle.delegator_machine.specs.Groups.{by_numbers}
 use Rattle.source_machine.specs.Calls.{next_anchor_of, next_of}
 use Rattle.source_machine.specs.Ciphers.{with_cipher}
 use Rattle.scenario_text.specs.declared.step.Step.{Step}
 use Rattle.scenario_text.specs.declared.step.Step.TheVariants as steps
-use Rattle.sink_history.specs.Lives.{Made, own_train}
+use Rattle.sink_history.specs.Lives.{own_train}
 use Rattle.sink_history.specs.Moves.{joining_of}
 use Rattle.sink_history.specs.Output.{sight_in}
 use Rattle.scenario_history.specs.Bases.{base_from, base_of, subgroups_of}
@@ -95,7 +95,8 @@ same_tuning own joining is tells on =
     (on.delay_is ∙ base_delay (unwrap_or (group_of own) no_group) (subgroups_of own))
 
 -- the train puts the sink on the group of the source
-pub announced_on : Announcing → (airs : Airs) (boxes n : ℕ) (earlier : List Step) (made : Made) (joining : Joining) → Legal airs boxes earlier
+pub announced_on : Announcing → (airs : Airs) (boxes n : ℕ) (earlier : List Step) (made : Settings) (joining : Joining)
+    → Legal airs boxes earlier
     → Permitted airs boxes earlier (steps.Announce n)
     → joining_of made (sight_in made (life n earlier)) (Some (own_train (source_at earlier))) ≡ Some joining
     → IsOn (chosen_steps earlier) joining
@@ -110,7 +111,8 @@ announced_on laws airs boxes n earlier made joining legal permits is =
     (identity_of own).broadcast_id (base_of own) (checked_info own) (next_of (setup_of own) (source_calls own)) (next_anchor_of (setup_of own) (source_calls own))
     took.slot took.bits took.encrypted joining tells took.is
 
-pub announced_tuning : Announcing → (airs : Airs) (boxes n : ℕ) (earlier : List Step) (made : Made) (joining : Joining) → Legal airs boxes earlier
+pub announced_tuning : Announcing → (airs : Airs) (boxes n : ℕ) (earlier : List Step) (made : Settings) (joining : Joining)
+    → Legal airs boxes earlier
     → Permitted airs boxes earlier (steps.Announce n)
     → joining_of made (sight_in made (life n earlier)) (Some (own_train (source_at earlier))) ≡ Some joining
     → by_numbers joining ≡ joining_on (chosen_steps earlier) joining.which
@@ -119,7 +121,8 @@ announced_tuning laws airs boxes n earlier made joining legal permits is =
     same_tuning (chosen_steps earlier) joining (settled airs (chosen_steps earlier) legal_own) (tellable airs (chosen_steps earlier) legal_own)
     (announced_on laws airs boxes n earlier made joining legal permits is)
 
-pub announced_within : Announcing → (airs : Airs) (boxes n : ℕ) (earlier : List Step) (made : Made) (joining : Joining) → Legal airs boxes earlier
+pub announced_within : Announcing → (airs : Airs) (boxes n : ℕ) (earlier : List Step) (made : Settings) (joining : Joining)
+    → Legal airs boxes earlier
     → Permitted airs boxes earlier (steps.Announce n)
     → joining_of made (sight_in made (life n earlier)) (Some (own_train (source_at earlier))) ≡ Some joining
     → joining.which < 2 ^ (setup_of (chosen_steps earlier)).info.num_bis

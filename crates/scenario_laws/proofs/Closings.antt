@@ -13,7 +13,8 @@ use Rattle.group_sink.specs.Handing.{handed_at, handed_by as ticked_by}
 use Rattle.scenario_text.specs.declared.step.Step.{Step}
 use Rattle.scenario_text.specs.declared.step.Step.TheVariants as steps
 use Rattle.transcript_text.specs.declared.refusal.Refusal.TheVariants.{NoSuchSink}
-use Rattle.sink_history.specs.Lives.{Made, made_of, named_by}
+use Rattle.delegator_history.specs.Trains.{Settings}
+use Rattle.sink_history.specs.Lives.{made_of, named_by}
 use Rattle.scenario_history.specs.Steps.{chosen_of, chosen_steps, sinks_made, steps_of_source}
 use Rattle.scenario_history.specs.Source.{event_back, open_event, pdu_in}
 use Rattle.source_machine.specs.Airs.{Airs}
@@ -47,11 +48,13 @@ put_housed n sink on earlier calls has before none true is =
     absurd (is_none (box_of sink earlier) has (ap (λ m. box_of m earlier) (eqb-true sink n is) ∙ none))
 put_housed n sink on earlier calls has before none false is = before none
 
-made_as : (gone : Bool) (box : Option ℕ) (made : Option Made) → (box ≡ None → made ≡ None) → cond gone None box ≡ None → cond gone None made ≡ None
+made_as : (gone : Bool) (box : Option ℕ) (made : Option Settings) → (box ≡ None → made ≡ None) → cond gone None box ≡ None
+    → cond gone None made ≡ None
 made_as true box made before none = refl
 made_as false box made before none = before none
 
-made_anew : (again : Bool) (count : ℕ) (anew : Made) (box : Option ℕ) (made : Option Made) → (box ≡ None → made ≡ None) → cond again (Some count) box ≡ None → cond again (Some anew) made ≡ None
+made_anew : (again : Bool) (count : ℕ) (anew : Settings) (box : Option ℕ) (made : Option Settings) → (box ≡ None → made ≡ None)
+    → cond again (Some count) box ≡ None → cond again (Some anew) made ≡ None
 made_anew true count anew box made before none = absurd (none-some count (sym none))
 made_anew false count anew box made before none = before none
 

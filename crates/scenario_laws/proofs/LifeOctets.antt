@@ -15,7 +15,8 @@ use Rattle.scenario_text.specs.declared.step.Step.{Step}
 use Rattle.scenario_text.specs.declared.step.Step.TheVariants as steps
 use Rattle.scenario_text.specs.Ranges.{IsInRange}
 use Rattle.scenario_text.proofs.Citable.{nil_octets, cons_octets}
-use Rattle.sink_history.specs.Lives.{Made, Source, World, horizon_of, life_of, lived, lived_at, lived_by, made_by, made_of, named_by, with_drain}
+use Rattle.delegator_history.specs.Trains.{Settings}
+use Rattle.sink_history.specs.Lives.{Source, World, horizon_of, life_of, lived, lived_at, lived_by, made_by, made_of, named_by, with_drain}
 use Rattle.scenario_history.specs.Lines.{Said, a_step, nothing, unsaid, said_after, said_of, with_said}
 use Rattle.scenario_history.specs.Steps.{version_of}
 use Rattle.scenario_laws.proofs.Legals.{InRange, LinesInRange, in_range}
@@ -37,20 +38,21 @@ ranged_lines ranged (line ∷ earlier) =
 
 -- ---- its slots
 
-few_if : (is_its : Bool) (here there made : Option Made) → ((sink : Made) → here ≡ Some sink → sink.setup.slots < 256)
-    → ((sink : Made) → there ≡ Some sink → sink.setup.slots < 256) → made ≡ cond is_its here there
-    → (sink : Made) → made ≡ Some sink → sink.setup.slots < 256
+few_if : (is_its : Bool) (here there made : Option Settings) → ((sink : Settings) → here ≡ Some sink → sink.setup.slots < 256)
+    → ((sink : Settings) → there ≡ Some sink → sink.setup.slots < 256) → made ≡ cond is_its here there
+    → (sink : Settings) → made ≡ Some sink → sink.setup.slots < 256
 few_if true here there made first second is sink its = first sink (sym is ∙ its)
 few_if false here there made first second is sink its = second sink (sym is ∙ its)
 
-few_made : (n sink streams slots : ℕ) (mtu : Option ℕ) (earlier : List Step) → slots ≤ 8 → (made : Made)
+few_made : (n sink streams slots : ℕ) (mtu : Option ℕ) (earlier : List Step) → slots ≤ 8 → (made : Settings)
     → Some (record { setup = record { streams = streams; slots = slots; horizon = horizon_of earlier }; mtu = mtu }) ≡ Some made → made.setup.slots < 256
 few_made n sink streams slots mtu earlier few made is =
     let same : slots ≡ made.setup.slots = ap (λ found. (unwrap_or found made).setup.slots) is in
     omega (arith, same, few)
 
-few_by : (n : ℕ) (step : Step) (earlier : List Step) (before : Option Made) → IsInRange step → ((made : Made) → before ≡ Some made → made.setup.slots < 256)
-    → (made : Made) → made_by n step earlier before ≡ Some made → made.setup.slots < 256
+few_by : (n : ℕ) (step : Step) (earlier : List Step) (before : Option Settings) → IsInRange step
+    → ((made : Settings) → before ≡ Some made → made.setup.slots < 256)
+    → (made : Settings) → made_by n step earlier before ≡ Some made → made.setup.slots < 256
 few_by n (steps.Sink sink streams slots mtu) earlier before ranged few =
     few_if (sink == n) (Some (record { setup = record { streams = streams; slots = slots; horizon = horizon_of earlier }; mtu = mtu })) before
     (made_by n (steps.Sink sink streams slots mtu) earlier before) (few_made n sink streams slots mtu earlier ranged.4) few refl
@@ -58,7 +60,7 @@ few_by n (steps.Drop sink) earlier before ranged few =
     few_if (sink == n) None before (made_by n (steps.Drop sink) earlier before) (λ made is. absurd (none-some made is)) few refl
 few_by n _ earlier before ranged few = few
 
-pub few_slots : (n : ℕ) (steps : List Step) → Ranged steps → (made : Made) → made_of n steps ≡ Some made → made.setup.slots < 256
+pub few_slots : (n : ℕ) (steps : List Step) → Ranged steps → (made : Settings) → made_of n steps ≡ Some made → made.setup.slots < 256
 few_slots n [] ranged = λ made is. absurd (none-some made is)
 few_slots n (step ∷ earlier) ranged = few_by n step earlier (made_of n earlier) ranged.0 (few_slots n earlier ranged.1)
 
@@ -76,7 +78,7 @@ repeats : (count : ℕ) (call : Call) (calls : List Call) → IsAsked call → A
 repeats zero call calls is before = before
 repeats (suc count) call calls is before = (is, repeats count call calls is before)
 
-octets_drained : (made : Option Made) (link : ℕ) (calls : List Call) → AreOctets calls → AreOctets (with_drain made link calls)
+octets_drained : (made : Option Settings) (link : ℕ) (calls : List Call) → AreOctets calls → AreOctets (with_drain made link calls)
 octets_drained None link calls before = before
 octets_drained (Some made) link calls before =
     let after_serves = repeats _ (served link) calls tt before in
@@ -90,7 +92,8 @@ code_octets : (source_id : ℕ) (code : List ℕ) → source_id < 256 → IsOcte
 code_octets source_id code small octets =
     cons_octets 4 (source_id ∷ (code ++ [])) (omega arith) (cons_octets source_id (code ++ []) small (subst IsOctets (sym (append-nil code)) octets))
 
-octets_by : (source : Source) (step : Step) (made : Option Made) (calls : List Call) → IsInRange step → AreOctets calls → AreOctets (lived_by source step made calls)
+octets_by : (source : Source) (step : Step) (made : Option Settings) (calls : List Call) → IsInRange step → AreOctets calls
+    → AreOctets (lived_by source step made calls)
 octets_by source (steps.Drop sink) made calls ranged before = tt
 octets_by source (steps.Pac sink codec caps metadata) made calls ranged before = (tt, before)
 octets_by source (steps.Locate sink bits) made calls ranged before = (tt, before)
@@ -119,13 +122,15 @@ octets_by source (steps.ARead sink link) made calls ranged before = (tt, before)
 octets_by source (steps.ADrain sink link) made calls ranged before = octets_drained made link calls before
 octets_by source _ made calls ranged before = before
 
-octets_at : (world : World) (n : ℕ) (named : Option ℕ) (step : Step) (earlier : List Step) (made : Option Made) (calls : List Call) → IsInRange step → AreOctets calls
+octets_at : (world : World) (n : ℕ) (named : Option ℕ) (step : Step) (earlier : List Step) (made : Option Settings) (calls : List Call)
+    → IsInRange step → AreOctets calls
     → AreOctets (lived_at world n named step earlier made calls)
 octets_at world n None step earlier made calls ranged before = before
 octets_at world n (Some sink) step earlier made calls ranged before =
     octets_if (sink == n) (lived_by (world.source earlier) step made calls) calls (octets_by (world.source earlier) step made calls ranged before) before
 
-octets_lived : (world : World) (n : ℕ) (step : Step) (earlier : List Step) (made : Option Made) (calls : List Call) → IsInRange step → AreOctets calls
+octets_lived : (world : World) (n : ℕ) (step : Step) (earlier : List Step) (made : Option Settings) (calls : List Call) → IsInRange step
+    → AreOctets calls
     → AreOctets (lived world n step earlier made calls)
 octets_lived world n (steps.Sink sink streams slots mtu) earlier made calls ranged before = octets_if (sink == n) (born mtu) calls (octets_born mtu) before
 octets_lived world n step earlier made calls ranged before = octets_at world n (named_by step) step earlier made calls ranged before

@@ -5,13 +5,13 @@ use Rattle.std.specs.Option.{option_or}
 use Rattle.std.proofs.lemmas.Bool.{ne_eqb}
 use Rattle.bcast_io.specs.TextLines.{TextLine}
 use Rattle.delegator_history.specs.LastGiven.{last_given}
-use Rattle.delegator_history.specs.Trains.{Setup}
+use Rattle.delegator_history.specs.Trains.{Settings, Setup}
 use Rattle.sink_history.specs.Calls as links
 use Rattle.sink_history.specs.Calls.{Call}
 use Rattle.sink_history.specs.Drains.{NoneTells, told_and_read}
 use Rattle.sink_history.specs.Links.{forging_by, is_forged, read_waits, state, view}
 use Rattle.sink_history.specs.Octets.{AreOctets}
-use Rattle.sink_history.specs.Lives.{Made, made_of}
+use Rattle.sink_history.specs.Lives.{made_of}
 use Rattle.scenario_history.specs.Lines.{said_of, steps_of}
 use Rattle.source_machine.specs.Airs.{Airs}
 use Rattle.scenario_laws.proofs.Gifts.Citable.{life_happened, made_happened}
@@ -28,7 +28,7 @@ pub record OfLinks : Type 0 where
   pub drained : (setup : Setup) (mtu : Option ℕ) (link slot : ℕ) (calls : List Call) → setup.slots < 256 → slot < setup.slots → AreOctets calls
       → is_forged link calls ≡ false → view setup mtu link slot (told_and_read setup mtu link calls) ≡ state setup slot calls
 
-said_agree : LinesInRange → OfLinks → (lines : List TextLine) (n link slot : ℕ) (made : Made) → made_of n (said_of lines) ≡ Some made
+said_agree : LinesInRange → OfLinks → (lines : List TextLine) (n link slot : ℕ) (made : Settings) → made_of n (said_of lines) ≡ Some made
     → slot < made.setup.slots → is_forged link (life n (said_of lines)) ≡ false → Agrees made link slot (life n (said_of lines))
 said_agree in_range laws lines n link slot made is below plain =
     let ranged = ranged_lines in_range lines in
@@ -61,7 +61,7 @@ not_forged link (links.forged slot octets ∷ earlier) other =
     ∙ not_forged link earlier other
 not_forged link (call ∷ earlier) other = not_forged link earlier other
 
-pub apart_agree : LinesInRange → OfLinks → (airs : Airs) (lines : List TextLine) (n link slot : ℕ) (made : Made)
+pub apart_agree : LinesInRange → OfLinks → (airs : Airs) (lines : List TextLine) (n link slot : ℕ) (made : Settings)
     → made_of n (steps_of airs lines) ≡ Some made → slot < made.setup.slots
     → link ≢ 0 → Agrees made link slot (life n (steps_of airs lines))
 apart_agree in_range laws airs lines n link slot made is below other =

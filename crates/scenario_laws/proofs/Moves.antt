@@ -4,14 +4,15 @@ use Rattle.std.proofs.Common.{ℕ, ◌≡◌, ◌⊎◌, ◌==◌, ◌&&◌, not
 use Rattle.delegator_machine.specs.Groups.{by_numbers, with_leave, with_step}
 use Rattle.delegator_history.specs.declared.train_heard.TrainHeard.{TrainHeard}
 use Rattle.delegator_history.specs.Sights.{Place, Sight, idle, is_on_group, is_slot, on_group, on_train}
-use Rattle.delegator_history.specs.Trains.{Brought, Setup, Train, brought_by, by_broadcast_id, by_slot, heard, ignored, is_elsewhere, taken, joining_in}
+use Rattle.delegator_history.specs.Trains.{Brought, Settings, Setup, Train, heard, ignored, taken}
+use Rattle.delegator_history.specs.Trains.{brought_by, by_broadcast_id, by_slot, is_elsewhere, joining_in}
 use Rattle.sync_reference.specs.Joining.{Joining}
 use Rattle.group_sink.specs.Calls.{Call, leave, place, tune}
 use Rattle.sink_history.specs.Calls as links
 use Rattle.delegator_control.specs.Groups.{has_group}
 use Rattle.scenario_text.specs.declared.step.Step.{Step}
 use Rattle.scenario_text.specs.declared.step.Step.TheVariants as steps
-use Rattle.sink_history.specs.Lives.{Made, Source, made_of, named_by, own_train}
+use Rattle.sink_history.specs.Lives.{Source, made_of, named_by, own_train}
 use Rattle.sink_history.specs.Moves.{brings_by, follows, joining_of, received_by, source_by, train_by}
 use Rattle.sink_history.specs.Output.{sight_in}
 use Rattle.source_machine.specs.Airs.{Airs}
@@ -64,7 +65,8 @@ left_or_not true true calls = inl refl
 left_or_not true false calls = inr refl
 left_or_not false is calls = inl refl
 
-received_left : (source : Source) (step : Step) (made : Option Made) (here there : List links.Call) (calls : List Call) → train_by source step ≡ None
+received_left : (source : Source) (step : Step) (made : Option Settings) (here there : List links.Call) (calls : List Call)
+    → train_by source step ≡ None
     → Left (received_by source step made here there calls) calls
 received_left source step None here there calls none = inl refl
 received_left source step (Some made) here there calls none =
@@ -135,10 +137,10 @@ heard_by setup sight train (Some id) other answer encrypted is = heard_at setup 
 
 -- what the source of a line announces puts a sink, of this life, on this group
 pub record BroughtTo (source : Source) (lives : List links.Call) (joining : Joining) : Type 0 where
-  pub made : Made
+  pub made : Settings
   pub is : joining_of made (sight_in made lives) (Some (own_train source)) ≡ Some joining
 
-by_train : (source : Source) (lives : List links.Call) (made : Made) (later : Sight) (calls : List Call) (its_source : Option ℕ)
+by_train : (source : Source) (lives : List links.Call) (made : Settings) (later : Sight) (calls : List Call) (its_source : Option ℕ)
     → (has_group (sight_in made lives).place ≡ false → place calls ≡ None) → (brought : Brought) → brought_by made.setup (sight_in made lives) (own_train source) ≡ brought
     → Went (BroughtTo source lives) source.number (is_some (joining_in brought)) calls (with_step (joining_in brought) (sight_in made lives) later calls)
     its_source (cond (follows brought) (Some source.number) its_source)
@@ -155,7 +157,8 @@ by_train source lives made later calls its_source nowhere (heard slot answer enc
 by_train source lives made later calls its_source nowhere (taken slot bits encrypted joining) is =
     inr (inr (record { joining = joining; brings = record { made = made; is = ap joining_in is }; calls_is = refl; source_is = refl; begins_is = refl }))
 
-by_made : (source : Source) (n : ℕ) (here there : List links.Call) (made : Option Made) (calls : List Call) (its_source : Option ℕ) → Nowhere made here calls
+by_made : (source : Source) (n : ℕ) (here there : List links.Call) (made : Option Settings) (calls : List Call) (its_source : Option ℕ)
+    → Nowhere made here calls
     → Went (BroughtTo source here) source.number (brings_by source (steps.Announce n) made here) calls (received_by source (steps.Announce n) made here there calls)
     its_source (source_by source (steps.Announce n) made here its_source)
 by_made source n here there None calls its_source nowhere = inl (record { left = inl refl; same = refl; begins_not = refl })

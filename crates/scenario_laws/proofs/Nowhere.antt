@@ -3,10 +3,10 @@ use Rattle.std.proofs.Common.{ℕ, ◌≡◌, ◌==◌, cond, Bool, true, false,
 use Rattle.std.proofs.lemmas.Bool.{false≢true}
 use Rattle.std.proofs.lemmas.Option.{none-some, same_Some}
 use Rattle.delegator_machine.specs.Groups.{with_leave, with_step}
+use Rattle.delegator_machine.proofs.Citable.{comes_on}
 use Rattle.delegator_history.specs.Sights.{Sight}
 use Rattle.delegator_history.specs.States.{put_on, train_heard}
-use Rattle.delegator_history.specs.Steps.{after}
-use Rattle.delegator_history.specs.Trains.{Brought, Train, brought_by, done_brought, heard, ignored, taken, joining_in}
+use Rattle.delegator_history.specs.Trains.{Settings, Train}
 use Rattle.sync_reference.specs.Joining.{Joining}
 use Rattle.delegator_history.proofs.Citable.{sight_goes_on}
 use Rattle.group_sink.specs.Calls.{Call, tune, hear, place}
@@ -15,7 +15,7 @@ use Rattle.sink_history.specs.Calls.{stepped, steps_of}
 use Rattle.delegator_control.specs.Groups.{has_group}
 use Rattle.scenario_text.specs.declared.step.Step.{Step}
 use Rattle.scenario_text.specs.declared.step.Step.TheVariants as steps
-use Rattle.sink_history.specs.Lives.{Made, Source, given_train, lived_at, lived_by, made_of, named_by, own_train}
+use Rattle.sink_history.specs.Lives.{Source, given_train, lived_at, lived_by, made_of, named_by, own_train}
 use Rattle.sink_history.specs.Moves.{joining_of, received_by, train_by}
 use Rattle.sink_history.specs.Output.{sight_in}
 use Rattle.scenario_history.specs.Steps.{chosen_of, chosen_steps, steps_of_source}
@@ -26,24 +26,22 @@ use Rattle.scenario_history.specs.Worlds.{joining_on, life, source_at, the_world
 use Rattle.scenario_laws.proofs.Places.{air_place, end_place, same_place, tick_if_place}
 
 -- a living sink that is on no group by its life has receivers on none
-abbrev pub Nowhere : Option Made → List links.Call → List Call → Type 0
-Nowhere made lives calls = (m : Made) → made ≡ Some m → has_group (sight_in m lives).place ≡ false → place calls ≡ None
+abbrev pub Nowhere : Option Settings → List links.Call → List Call → Type 0
+Nowhere made lives calls = (m : Settings) → made ≡ Some m → has_group (sight_in m lives).place ≡ false → place calls ≡ None
 
 -- ---- a step that puts the sink on a group
 
-put_comes : (m : Made) (number : ℕ) (joining : Joining) (lives : List links.Call) → has_group (sight_in m (stepped (put_on number joining) ∷ lives)).place ≡ true
-put_comes m number joining lives = ap (λ (s : Sight). has_group s.place) (sight_goes_on m.setup (put_on number joining) (steps_of lives))
+put_comes : (m : Settings) (joining : Joining) (lives : List links.Call)
+    → has_group (sight_in m (stepped (put_on joining) ∷ lives)).place ≡ true
+put_comes m joining lives =
+    ap (λ (s : Sight). has_group s.place) (sight_goes_on m.setup (put_on joining) (steps_of lives))
 
-brought_on : (brought : Brought) (sight : Sight) (joining : Joining) → joining_in brought ≡ Some joining → has_group (after (done_brought brought) sight).place ≡ true
-brought_on (ignored answer) sight joining is = absurd (none-some joining is)
-brought_on (heard slot answer encrypted) sight joining is = absurd (none-some joining is)
-brought_on (taken slot bits encrypted brought) sight joining is = refl
-
-train_comes : (m : Made) (number : ℕ) (train : Train) (lives : List links.Call) (joining : Joining) → joining_of m (sight_in m lives) (Some train) ≡ Some joining
-    → has_group (sight_in m (stepped (train_heard number train) ∷ lives)).place ≡ true
-train_comes m number train lives joining is =
-    ap (λ (s : Sight). has_group s.place) (sight_goes_on m.setup (train_heard number train) (steps_of lives))
-    ∙ brought_on (brought_by m.setup (sight_in m lives) train) (sight_in m lives) joining is
+train_comes : (m : Settings) (train : Train) (lives : List links.Call) (joining : Joining)
+    → joining_of m (sight_in m lives) (Some train) ≡ Some joining
+    → has_group (sight_in m (stepped (train_heard train) ∷ lives)).place ≡ true
+train_comes m train lives joining is =
+    ap (λ (s : Sight). has_group s.place) (sight_goes_on m.setup (train_heard train) (steps_of lives))
+    ∙ comes_on m.setup (sight_in m lives) (train_heard train) joining is
 
 -- ---- a line that names the sink
 
@@ -58,18 +56,21 @@ step_off None before later calls was comes off = leave_off (has_group before.pla
 step_off (Some joining) before later calls was comes off = absurd (false≢true (sym off ∙ comes joining refl))
 
 -- a group that the line brings is one that the sink is on then
-abbrev Comes : Source → Step → Option Made → (here there : List links.Call) → Type 0
+abbrev Comes : Source → Step → Option Settings → (here there : List links.Call) → Type 0
 Comes source step made here there =
-    (m : Made) → (joining : Joining) → made ≡ Some m → joining_of m (sight_in m here) (train_by source step) ≡ Some joining → has_group (sight_in m there).place ≡ true
+    (m : Settings) → (joining : Joining) → made ≡ Some m → joining_of m (sight_in m here) (train_by source step) ≡ Some joining
+    → has_group (sight_in m there).place ≡ true
 
-received_off : (source : Source) (step : Step) (made : Option Made) (here there : List links.Call) (calls : List Call) → Comes source step made here there
+received_off : (source : Source) (step : Step) (made : Option Settings) (here there : List links.Call) (calls : List Call)
+    → Comes source step made here there
     → Nowhere made here calls → Nowhere made there (received_by source step made here there calls)
 received_off source step None here there calls comes before m is off = absurd (none-some m is)
 received_off source step (Some made) here there calls comes before m is off =
     step_off (joining_of made (sight_in made here) (train_by source step)) (sight_in made here) (sight_in made there) calls (before made refl) (λ joining brought. comes made joining refl brought)
-    (subst (λ (k : Made). has_group (sight_in k there).place ≡ false) (sym (same_Some made m is)) off)
+    (subst (λ (k : Settings). has_group (sight_in k there).place ≡ false) (sym (same_Some made m is)) off)
 
-moved_off : (hit : Bool) (source : Source) (step : Step) (made : Option Made) (here there later : List links.Call) (calls : List Call) → cond hit there here ≡ later
+moved_off : (hit : Bool) (source : Source) (step : Step) (made : Option Settings) (here there later : List links.Call) (calls : List Call)
+    → cond hit there here ≡ later
     → Comes source step made here there → Nowhere made here calls → Nowhere made later (cond hit (received_by source step made here later calls) calls)
 moved_off true source step made here there later calls is comes before =
     received_off source step made here later calls
@@ -87,17 +88,19 @@ plain_off n (Some sink) step earlier calls none is before =
 
 -- ---- step by step
 
-gone_off : (gone : Bool) (anew made : Option Made) (born lives : List links.Call) (calls : List Call) → Nowhere made lives calls
+gone_off : (gone : Bool) (anew made : Option Settings) (born lives : List links.Call) (calls : List Call) → Nowhere made lives calls
     → Nowhere (cond gone anew made) (cond gone born lives) (cond gone [] calls)
 gone_off true anew made born lives calls before m is off = refl
 gone_off false anew made born lives calls before m is off = before m is off
 
-put_off : (put : Bool) (made : Option Made) (number : ℕ) (joining : Joining) (lives : List links.Call) (on : Joining) (calls : List Call) → Nowhere made lives calls
-    → Nowhere made (cond put (stepped (put_on number joining) ∷ lives) lives) (cond put (tune on ∷ calls) calls)
-put_off true made number joining lives on calls before m is off = absurd (false≢true (sym off ∙ put_comes m number joining lives))
-put_off false made number joining lives on calls before m is off = before m is off
+put_off : (put : Bool) (made : Option Settings) (joining : Joining) (lives : List links.Call) (on : Joining) (calls : List Call)
+    → Nowhere made lives calls
+    → Nowhere made (cond put (stepped (put_on joining) ∷ lives) lives) (cond put (tune on ∷ calls) calls)
+put_off true made joining lives on calls before m is off = absurd (false≢true (sym off ∙ put_comes m joining lives))
+put_off false made joining lives on calls before m is off = before m is off
 
-hear_off : (named mine : Bool) (made : Option Made) (lives : List links.Call) (more calls : List Call) → place more ≡ place calls → Nowhere made lives calls
+hear_off : (named mine : Bool) (made : Option Settings) (lives : List links.Call) (more calls : List Call) → place more ≡ place calls
+    → Nowhere made lives calls
     → Nowhere made (cond named lives lives) (cond mine more calls)
 hear_off true mine made lives more calls same before m is off = same_place mine more calls same ∙ before m is off
 hear_off false mine made lives more calls same before m is off = same_place mine more calls same ∙ before m is off
@@ -107,7 +110,8 @@ off_after : (airs : Airs) (n : ℕ) (step : Step) (earlier : List Step) (calls :
 off_after airs n (steps.Sink sink streams slots mtu) earlier calls before = gone_off (sink == n) _ (made_of n earlier) _ (life n earlier) calls before
 off_after airs n (steps.Drop sink) earlier calls before = gone_off (sink == n) None (made_of n earlier) [] (life n earlier) calls before
 off_after airs n (steps.Tuned sink which) earlier calls before =
-    put_off (sink == n) (made_of n earlier) (chosen_of earlier) ((source_at earlier).joining which) (life n earlier) (joining_on (chosen_steps earlier) which) calls before
+    put_off (sink == n) (made_of n earlier) ((source_at earlier).joining which) (life n earlier) (joining_on (chosen_steps earlier) which)
+    calls before
 off_after airs n (steps.Hear sink back bis subevent) earlier calls before =
     hear_off (sink == n) (reaches sink n earlier) (made_of n earlier) (life n earlier)
     (hear (event_back (chosen_steps earlier) back) bis subevent (pdu_in airs (chosen_steps earlier) (event_back (chosen_steps earlier) back) bis subevent) ∷ calls) calls refl before
@@ -126,12 +130,12 @@ off_after airs n steps.End earlier calls before =
     λ m is off. end_place (is_of 1 (source_of n earlier)) (is_of 0 (source_of n earlier)) (open_event (steps_of_source 1 earlier)) (open_event (steps_of_source 0 earlier)) calls ∙ before m is off
 off_after airs n (steps.Announce sink) earlier calls before =
     moved_off (sink == n) (source_at earlier) (steps.Announce sink) (made_of n earlier) (life n earlier)
-    (stepped (train_heard (chosen_of earlier) (own_train (source_at earlier))) ∷ life n earlier) _ calls refl
-    (λ m joining made_is brought. train_comes m (chosen_of earlier) (own_train (source_at earlier)) (life n earlier) joining brought) before
+    (stepped (train_heard (own_train (source_at earlier))) ∷ life n earlier) _ calls refl
+    (λ m joining made_is brought. train_comes m (own_train (source_at earlier)) (life n earlier) joining brought) before
 off_after airs n (steps.Train sink time ext adv acad) earlier calls before =
     moved_off (sink == n) (source_at earlier) (steps.Train sink time ext adv acad) (made_of n earlier) (life n earlier)
-    (stepped (train_heard (chosen_of earlier) (given_train (source_at earlier) time ext adv acad)) ∷ life n earlier) _ calls refl
-    (λ m joining made_is brought. train_comes m (chosen_of earlier) (given_train (source_at earlier) time ext adv acad) (life n earlier) joining brought) before
+    (stepped (train_heard (given_train (source_at earlier) time ext adv acad)) ∷ life n earlier) _ calls refl
+    (λ m joining made_is brought. train_comes m (given_train (source_at earlier) time ext adv acad) (life n earlier) joining brought) before
 off_after airs n step earlier calls before = plain_off n (named_by step) step earlier calls refl refl before
 
 pub nowhere : (airs : Airs) (n : ℕ) (made : List Step) → Nowhere (made_of n made) (life n made) (sink_calls airs n made)

@@ -11,7 +11,8 @@ use Rattle.sink_history.specs.Calls.{Call, is_joined, writes_waiting}
 use Rattle.sink_history.specs.Links.{notices_waiting, read_waits, state, view}
 use Rattle.scenario_text.specs.declared.step.Step.{Step}
 use Rattle.scenario_text.specs.declared.step.Step.TheVariants.{Tuned, Event, Announce, Train, Drop, Stop, Terminate, End}
-use Rattle.sink_history.specs.Lives.{Made, made_of}
+use Rattle.delegator_history.specs.Trains.{Settings}
+use Rattle.sink_history.specs.Lives.{made_of}
 use Rattle.sink_history.specs.Moves.{follows_by, train_by}
 use Rattle.sink_history.specs.Output.{replied, sight_in}
 use Rattle.transcript_text.specs.Lines.{control_line, handed_line}
@@ -82,7 +83,7 @@ kept_lines airs s n (step ∷ earlier) =
 
 -- two lives of one sink come to the same: it has the same slots, place, encryption, streams and capability, and the same receive
 -- states; and on each link the same is joined, waits and is known: writes with the reply to the first, notices, reads, and views
-pub record IsSameLife (made : Made) (calls others : List Call) : Type 0 where
+pub record IsSameLife (made : Settings) (calls others : List Call) : Type 0 where
   pub sight : sight_in made calls ≡ sight_in made others
   pub states : (slot : ℕ) → state made.setup slot calls ≡ state made.setup slot others
   pub joined : (link : ℕ) → is_joined link calls ≡ is_joined link others
@@ -103,7 +104,7 @@ pub record IsIsolated (airs : Airs) (s n : ℕ) (steps : List Step) : Type 0 whe
   pub units : units_by n (handed_up airs steps) ≡ units_by n (handed_up airs (only s n steps))
   pub sums : (box other : ℕ) → box_of n steps ≡ Some box → box_of n (only s n steps) ≡ Some other
       → valid_for box (handed_up airs steps) ≡ valid_for other (handed_up airs (only s n steps))
-  pub lives : (made : Made) → made_of n steps ≡ Some made → IsSameLife made (life n steps) (life n (only s n steps))
+  pub lives : (made : Settings) → made_of n steps ≡ Some made → IsSameLife made (life n steps) (life n (only s n steps))
   pub lines : kept_lines airs s n steps ≡ lines_of airs n (only s n steps)
 
 -- The isolation law: of a scenario of which no line was refused and which has no `relay` line, where no step under another source

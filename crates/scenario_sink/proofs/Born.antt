@@ -4,7 +4,7 @@ use Rattle.std.specs.Prelude.{slice_index_or}
 use Rattle.std.proofs.lemmas.Bool.{ne_eqb}
 use Rattle.delegator_machine.specs.State.Halves.{Halves, StandsFor}
 use Rattle.delegator_history.specs.States.{answered, mtu_set}
-use Rattle.delegator_history.specs.Trains.{Setup}
+use Rattle.delegator_history.specs.Trains.{Settings, Setup}
 use Rattle.delegator_history.proofs.Citable.{waiting_goes_on}
 use Rattle.group_sink.specs.Calls as sinks
 use Rattle.sink_history.specs.Calls.{is_joined, stepped}
@@ -12,7 +12,6 @@ use Rattle.multi_assist.specs.State.Links.{link_at, linked, mtu_of, slots_of}
 use Rattle.multi_assist.specs.State.Places.{Linked}
 use Rattle.multi_assist.specs.State.Terms.{joining}
 use Rattle.multi_assist.specs.declared.links.Links.{Links}
-use Rattle.sink_history.specs.Lives.{Made}
 use Rattle.scenario_sink.specs.Pasts.{SinkPast, new_sink}
 use Rattle.scenario_sink.specs.State.Links.{OnLink}
 use Rattle.scenario_sink.specs.State.Stands.{HasStepped, Stands, after_call}
@@ -31,7 +30,7 @@ fresh slots mtu (suc (suc zero)) = on_none refl
 fresh slots mtu (suc (suc (suc zero))) = on_none refl
 fresh slots mtu (suc (suc (suc (suc link)))) = on_none (ne_eqb (suc (suc (suc (suc link)))) 0 (λ e. absurd cc))
 
-on_each : (made : Made) (links : Links) → linked links ≡ its_links made.setup.slots made.mtu → (link : ℕ)
+on_each : (made : Settings) (links : Links) → linked links ≡ its_links made.setup.slots made.mtu → (link : ℕ)
     → OnLink made.setup.slots made.mtu (is_joined link []) [] [] (link_at links link)
 on_each made links are link =
     subst (λ ons. OnLink made.setup.slots made.mtu (is_joined link []) [] [] (slice_index_or ons link None)) (sym are) (fresh made.setup.slots made.mtu link)
@@ -52,7 +51,7 @@ born_stands tells setup None d links stands slots_are mtu_are are = record {
     stands = stands;
     own = refl;
     received_is = refl;
-    mtu_is = stands.steps.mtu;
+    settings_is = (λ i. record { setup = stands.setup_is i; mtu = stands.steps.mtu i });
     links_slots = slots_are;
     links_mtu = mtu_are;
     octets = tt;
@@ -69,7 +68,7 @@ born_stands tells setup (Some mtu) d links stands slots_are mtu_are are =
         stands = stands;
         own = refl;
         received_is = refl;
-        mtu_is = stands.steps.mtu;
+        settings_is = (λ i. record { setup = stands.setup_is i; mtu = stands.steps.mtu i });
         links_slots = slots_are;
         links_mtu = mtu_are;
         octets = (tt, tt);

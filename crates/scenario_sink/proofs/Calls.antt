@@ -116,10 +116,12 @@ no_write link past links h is =
 pub serves : (link : ℕ) (write : List ℕ) (past : SinkPast) (d served_by : Halves) (old new : Links) (its : Stands past d old) (is_on : is_joined link past.life ≡ true)
     → (here link past d old its is_on).on.assistant.writes ≡ write ∷ drop 1 (here link past d old its is_on).on.assistant.writes
     → Takes (assistants.sent ∷ []) link (here link past d old its is_on).on.assistant old new
-    → StandsFor past.made.setup (machine.control (written link write) ∷ its.took.taken) served_by → settings_of served_by ≡ settings_of d → HasStepped (served link) past served_by new
+    → StandsFor past.made.setup (machine.control (written write) ∷ its.took.taken) served_by → settings_of served_by ≡ settings_of d
+    → HasStepped (served link) past served_by new
 serves link write past d served_by old new its is_on first t stood settings =
     let h : Here link past old = here link past d old its is_on in
-    has_stepped (written link write) (served link) past d served_by old new refl tt (ap (option_map (written link)) (first_write link past old h write first)) tt its stood settings
+    has_stepped (written write) (served link) past d served_by old new refl tt
+    (ap (option_map written) (first_write link past old h write first)) tt its stood settings
     (taken_terms (assistants.sent ∷ []) link h.on old new h.there t)
     (λ other. elim (cases_eq other link) [
       | inl e ↦ subst (λ n. Left n (link_at new n)) (sym e) (subst (Left link) (sym (taken_there (assistants.sent ∷ []) link h.on old new h.there t)) (on_some is_on

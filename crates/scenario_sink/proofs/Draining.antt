@@ -4,13 +4,13 @@ use Rattle.std.specs.List.{concat}
 use Rattle.std.proofs.lemmas.List.{length-append}
 use Rattle.std.specs.Prelude.{is_none, option_map}
 use Rattle.delegator_history.specs.Writes.{reply_of}
+use Rattle.delegator_history.specs.Trains.{Settings}
 use Rattle.group_sink.specs.Calls as sinks
 use Rattle.sink_history.specs.Calls as calls
 use Rattle.sink_history.specs.Calls.{Call, is_joined, writes_waiting}
 use Rattle.sink_history.specs.Drains.{drained, repeated, served_out, told_out}
 use Rattle.sink_history.specs.Links.{Told, delivered, notices_waiting, reads_waiting}
 use Rattle.sink_history.proofs.Citable.{notices_one, reads_one, writes_one}
-use Rattle.sink_history.specs.Lives.{Made}
 use Rattle.sink_history.specs.Output.{Lines, drain_lines, if_there, read_line, read_lines, serve_line, serve_lines, sight_in, stated, tell_line, tell_lines}
 use Rattle.transcript_text.specs.SinkLines.{Label, reply_line, value_line}
 use Rattle.scenario_sink.specs.declared.sink.LivingSink.{LivingSink}
@@ -26,7 +26,7 @@ use Rattle.scenario_sink.proofs.Turning.{none_taken, one_taken}
 -- ---- a kind of call
 
 -- each such call takes the first that waits and prints its line, puts the sink on no group, and lets nobody leave the link
-pub record Kind (A : Type 0) (made : Made) (link : ℕ) : Type 0 where
+pub record Kind (A : Type 0) (made : Settings) (link : ℕ) : Type 0 where
   pub call : Call
   pub waiting : List Call → List A
   pub line : List Call → Lines
@@ -37,7 +37,7 @@ pub record Kind (A : Type 0) (made : Made) (link : ℕ) : Type 0 where
   pub off : (life : List Call) → StaysOff made.setup life (call ∷ life)
   pub joined : (life : List Call) → is_joined link (call ∷ life) ≡ is_joined link life
 
-abbrev pub serving : (label : Label) (made : Made) (link : ℕ) → Kind (List ℕ) made link
+abbrev pub serving : (label : Label) (made : Settings) (link : ℕ) → Kind (List ℕ) made link
 serving label made link = record {
   call = calls.served link;
   waiting = writes_waiting link;
@@ -50,7 +50,7 @@ serving label made link = record {
   joined = λ life. refl;
 }
 
-abbrev pub telling : (label : Label) (made : Made) (link : ℕ) → Kind Told made link
+abbrev pub telling : (label : Label) (made : Settings) (link : ℕ) → Kind Told made link
 telling label made link = record {
   call = calls.told link;
   waiting = notices_waiting made.setup made.mtu link;
@@ -63,7 +63,7 @@ telling label made link = record {
   joined = λ life. refl;
 }
 
-abbrev pub reading : (label : Label) (made : Made) (link : ℕ) → Kind ℕ made link
+abbrev pub reading : (label : Label) (made : Settings) (link : ℕ) → Kind ℕ made link
 reading label made link = record {
   call = calls.read link;
   waiting = reads_waiting made.setup made.mtu link;
@@ -76,11 +76,13 @@ reading label made link = record {
   joined = λ life. refl;
 }
 
-pub all_off : {A : Type 0} (made : Made) (link : ℕ) (kind : Kind A made link) (count : ℕ) (life : List Call) → StaysOff made.setup life (repeated count kind.call life)
+pub all_off : {A : Type 0} (made : Settings) (link : ℕ) (kind : Kind A made link) (count : ℕ) (life : List Call)
+    → StaysOff made.setup life (repeated count kind.call life)
 all_off made link kind zero life off = off
 all_off made link kind (suc count) life off = kind.off (repeated count kind.call life) (all_off made link kind count life off)
 
-pub all_joined : {A : Type 0} (made : Made) (link : ℕ) (kind : Kind A made link) (count : ℕ) (life : List Call) → is_joined link (repeated count kind.call life) ≡ is_joined link life
+pub all_joined : {A : Type 0} (made : Settings) (link : ℕ) (kind : Kind A made link) (count : ℕ) (life : List Call)
+    → is_joined link (repeated count kind.call life) ≡ is_joined link life
 all_joined made link kind zero life = refl
 all_joined made link kind (suc count) life = kind.joined (repeated count kind.call life) ∙ all_joined made link kind count life
 
@@ -176,20 +178,21 @@ lines_there lines line each first (suc zero) some = omega (arith, ap length (eac
 lines_there lines line each first (suc (suc n)) some =
     omega (arith, ap length (each (suc n)), length-append (lines (suc n)) (line (suc n)), lines_there lines line each first (suc n) (omega arith))
 
-pub serves_some : (label : Label) (made : Made) (link : ℕ) (life : List Call) → 0 < length (writes_waiting link life)
+pub serves_some : (label : Label) (made : Settings) (link : ℕ) (life : List Call) → 0 < length (writes_waiting link life)
     → 0 < length (serve_lines label made link (length (writes_waiting link life)) life)
 serves_some label made link life some =
     lines_there (λ n. serve_lines label made link n life) (λ n. serve_line label made link (repeated n (calls.served link) life)) (λ n. refl)
     (line_there (reply_line label) (reply_of (sight_in made life)) (writes_waiting link life) some) (length (writes_waiting link life)) some
 
-pub tells_some : (label : Label) (made : Made) (link : ℕ) (life : List Call) → 0 < length (notices_waiting made.setup made.mtu link life)
+pub tells_some : (label : Label) (made : Settings) (link : ℕ) (life : List Call)
+    → 0 < length (notices_waiting made.setup made.mtu link life)
     → 0 < length (tell_lines label made link (length (notices_waiting made.setup made.mtu link life)) life)
 tells_some label made link life some =
     lines_there (λ n. tell_lines label made link n life) (λ n. tell_line label made link (repeated n (calls.told link) life)) (λ n. refl)
     (line_there (value_line label.notice label.numbers) (delivered made.mtu) (notices_waiting made.setup made.mtu link life) some)
     (length (notices_waiting made.setup made.mtu link life)) some
 
-pub reads_some : (label : Label) (made : Made) (link : ℕ) (life : List Call) → 0 < length (reads_waiting made.setup made.mtu link life)
+pub reads_some : (label : Label) (made : Settings) (link : ℕ) (life : List Call) → 0 < length (reads_waiting made.setup made.mtu link life)
     → 0 < length (read_lines label made link (length (reads_waiting made.setup made.mtu link life)) life)
 reads_some label made link life some =
     lines_there (λ n. read_lines label made link n life) (λ n. read_line label made link (repeated n (calls.read link) life)) (λ n. refl)
@@ -203,14 +206,15 @@ drain_length served told was_read = omega (arith, length-append (served ++ told)
 -- ---- a drain
 
 pub drain_goes : (past : SinkPast) (link : ℕ) (label : Label) (text first mid last : List ℕ) (one two three : LivingSink)
-    → let made : Made = past.made in let served : List Call = served_out link past.life in let told : List Call = told_out made.setup made.mtu link served in
+    → let made : Settings = past.made in let served : List Call = served_out link past.life in
+    let told : List Call = told_out made.setup made.mtu link served in
     Goes past served (serve_lines label made link (length (writes_waiting link past.life)) past.life) text first one
     → Goes (stayed served past) told (tell_lines label made link (length (notices_waiting made.setup made.mtu link served)) served) first mid two
     → Goes (stayed told (stayed served past)) (drained made.setup made.mtu link past.life)
     (read_lines label made link (length (reads_waiting made.setup made.mtu link told)) told) mid last three
     → Goes past (drained made.setup made.mtu link past.life) (drain_lines label made link past.life) text last three
 drain_goes past link label text first mid last one two three serves tells reads =
-    let made : Made = past.made in
+    let made : Settings = past.made in
     let life : List Call = past.life in
     let served : List Call = served_out link life in
     let told : List Call = told_out made.setup made.mtu link served in

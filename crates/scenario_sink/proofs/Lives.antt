@@ -28,7 +28,7 @@ of_source source past d links its = record {
     stands = its.took.stands;
     own = its.took.own;
     received_is = its.took.received_is;
-    mtu_is = its.took.mtu_is;
+    settings_is = its.took.settings_is;
     links_slots = its.took.links_slots;
     links_mtu = its.took.links_mtu;
     octets = its.took.octets;
@@ -39,16 +39,16 @@ of_source source past d links its = record {
 }
 
 -- a write that is served puts the sink on no group
-none_given : (setup : Setup) (sight : Sight) (link : ℕ) (first : Option (List ℕ)) → given setup sight (option_map (written link) first) ≡ None
-none_given setup sight link None = refl
-none_given setup sight link (Some octets) = refl
+none_given : (setup : Setup) (sight : Sight) (first : Option (List ℕ)) → given setup sight (option_map written first) ≡ None
+none_given setup sight None = refl
+none_given setup sight (Some octets) = refl
 
 pub served_stays : (link : ℕ) (past : SinkPast) (d : Halves) (links : Links) → Stands (after_call (served link) past) d links → Stands (stayed (served link ∷ past.life) past) d links
 served_stays link past d links stands =
     let sight : Sight = sight_in past.made past.life in
     subst (λ (received : List sinks.Call). Stands (record (stayed (served link ∷ past.life) past) { received = received }) d links)
     (ap (λ joining. with_step joining sight (sight_in past.made (served link ∷ past.life)) past.received)
-    (none_given past.made.setup sight link (slice_get (writes_waiting link past.life) 0))) stands
+    (none_given past.made.setup sight (slice_get (writes_waiting link past.life) 0))) stands
 
 -- no call at all
 pub lives_stayed : (past : SinkPast) (living : LivingSink) → Lives past living → Lives (stayed past.life past) living

@@ -89,14 +89,15 @@ pub gathered : Tells → (call : Call) (past : SinkPast) (d new : Halves) (links
 gathered tells call past d new links next its gathers on terms =
     let so = on past.made.setup its.took.taken its.took.stands in
     let told : List Notice = changes past.made.setup.slots (sight_in past.made past.life) (sight_in past.made (call ∷ past.life)) in
-    let more : map (handed_out d.scan.mtu) d.scan.waiting ≡ map (handed_out past.made.mtu) told = (λ i. map (handed_out (its.took.mtu_is i)) (its.waiting i)) in
+    let more : map (handed_out d.scan.mtu) d.scan.waiting ≡ map (handed_out past.made.mtu) told =
+    (λ i. map (handed_out (its.took.settings_is i).mtu) (its.waiting i)) in
     record {
       took = record {
         taken = asked so.0 its.took.taken;
         stands = so.1;
         own = none_more so.0 its.took.taken ∙ its.took.own;
         received_is = same_groups past.made.setup so.0 its.took.taken ∙ its.took.received_is;
-        mtu_is = ap (λ m. m.mtu) gathers.given.rest ∙ its.took.mtu_is;
+        settings_is = (λ i. settings_of (record d { scan = gathers.given.rest i })) ∙ its.took.settings_is;
         links_slots = terms.0 ∙ its.took.links_slots;
         links_mtu = terms.1 ∙ its.took.links_mtu;
         octets = its.took.octets;
@@ -148,7 +149,7 @@ has_stepped step call past old new links next quiet is_step by are its stood set
         stands = stood;
         own = own;
         received_is = (λ i. with_step (given setup (before i) (sym by i)) (before i) (now i) (its.took.received_is i));
-        mtu_is = ap (λ s. s.mtu) settings ∙ its.took.mtu_is;
+        settings_is = settings ∙ its.took.settings_is;
         links_slots = terms.0 ∙ its.took.links_slots;
         links_mtu = terms.1 ∙ its.took.links_mtu;
         octets = (are, its.took.octets);
@@ -198,7 +199,7 @@ receives its_call call past old new links quiet takes its stood settings =
         stands = stood;
         own = ap untold (quiet taken) ∙ its.took.own;
         received_is = takes taken ∙ ap (λ cs. call ∷ cs) its.took.received_is;
-        mtu_is = ap (λ s. s.mtu) settings ∙ its.took.mtu_is;
+        settings_is = settings ∙ its.took.settings_is;
         links_slots = its.took.links_slots;
         links_mtu = its.took.links_mtu;
         octets = its.took.octets;
@@ -232,7 +233,7 @@ one_link leaves call at past d links new apart are none first its terms others h
     stands = its.took.stands;
     own = its.took.own ∙ ap (λ s. calls.with_step s (steps_of past.life)) (sym none);
     received_is = its.took.received_is ∙ sym (same_received call past none);
-    mtu_is = its.took.mtu_is;
+    settings_is = its.took.settings_is;
     links_slots = terms.0 ∙ its.took.links_slots;
     links_mtu = terms.1 ∙ its.took.links_mtu;
     octets = (are, its.took.octets);
@@ -253,7 +254,7 @@ unchanged past d links new its terms same = record {
     stands = its.took.stands;
     own = its.took.own;
     received_is = its.took.received_is;
-    mtu_is = its.took.mtu_is;
+    settings_is = its.took.settings_is;
     links_slots = terms.0 ∙ its.took.links_slots;
     links_mtu = terms.1 ∙ its.took.links_mtu;
     octets = its.took.octets;

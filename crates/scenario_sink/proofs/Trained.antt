@@ -34,7 +34,7 @@ announced_train source train ext adv acad is exts advs acads =
 abbrev pub after_train : Source → Train → SinkPast → SinkPast
 after_train source train past =
     let brought : Brought = brought_by past.made.setup (sight_in past.made past.life) train in
-    let life : List Call = stepped (train_heard source.number train) ∷ past.life in
+    let life : List Call = stepped (train_heard train) ∷ past.life in
     record {
       made = past.made;
       source = if follows brought then Some source.number else past.source;

@@ -3,22 +3,23 @@
 use Rattle.std.specs.Prelude.{ℕ, List, [], ◌∷◌, Option, Some, None}
 use Rattle.delegator_machine.specs.Groups.{by_numbers}
 use Rattle.delegator_history.specs.States.{put_on}
+use Rattle.delegator_history.specs.Trains.{Settings}
 use Rattle.sync_reference.specs.Joining.{Joining}
 use Rattle.group_sink.specs.Calls as sinks
 use Rattle.sink_history.specs.Calls.{Call, born, stepped}
 use Rattle.scenario_text.specs.declared.step.Step.{Step}
-use Rattle.sink_history.specs.Lives.{Made, Source, lived_by}
+use Rattle.sink_history.specs.Lives.{Source, lived_by}
 use Rattle.sink_history.specs.Moves.{received_by, source_by}
 
 -- how it was made, the source that it is of, its life and that of its assistants, and what its receivers took
 pub record SinkPast : Type 0 where
-  pub made : Made
+  pub made : Settings
   pub source : Option ℕ
   pub life : List Call
   pub received : List sinks.Call
 
 -- a new sink
-abbrev pub new_sink : Made → SinkPast
+abbrev pub new_sink : Settings → SinkPast
 new_sink made = record { made = made; source = None; life = born made.mtu; received = [] }
 
 -- a line names it, which means this source
@@ -35,7 +36,7 @@ abbrev pub after_tuning : ℕ → Joining → SinkPast → SinkPast
 after_tuning source joining past = record {
   made = past.made;
   source = Some source;
-  life = stepped (put_on source joining) ∷ past.life;
+  life = stepped (put_on joining) ∷ past.life;
   received = sinks.tune (by_numbers joining) ∷ past.received;
 }
 

@@ -19,8 +19,9 @@ impl LivingSink {
     /// holds: NoSuchLink, LinkTwice, NothingWaiting, RecordsTooLong. A refused line changes nothing, and wants no memory; nor
     /// do `locate`, `context` and `apart`, and a drain of a link on which nothing waits.
     pub fn line(&mut self, step: Step, origin: Origin, text: &mut Octets) -> Result<(), Stop>
-        requires { IsInRange step }
-        ensures { (source : Source) (past : SinkPast) → IsFrom origin source → IsSinkLine step → Lives past self.old
+        requires range { IsInRange step }
+        requires line { IsSinkLine step }
+        ensures { (source : Source) (past : SinkPast) → IsFrom origin source → Lives past self.old
             → LineMakes source step past text.old text.new self.new result }
     {
         match step {
@@ -72,7 +73,7 @@ impl LivingSink {
             Step::ARead { sink, link } => self.read(link, Label::OnLink { sink, link }, text),
             Step::ADrain { sink, link } => self.drain(link, Label::OnLink { sink, link }, text),
             Step::AShow { sink, link } => self.show_on(sink, link, text),
-            _ => Err(Stop::Memory),
+            _ => unreachable!(),
         }
     }
 }

@@ -1,7 +1,6 @@
 //! The lines of a sink's capability.
 ghost use Rattle.std.specs.Prelude.{ℕ, ◌≡◌, ◌≤◌, length, None};
 ghost use Rattle.ltv_codec.specs.Reading.{bad_of};
-ghost use Rattle.bcast_base.specs.Spelling.{IsOctets};
 ghost use Rattle.scenario_text.specs.declared.step.Step.TheVariants.{Context, Locate, Pac};
 ghost use Rattle.sink_history.specs.Lives.{Source};
 ghost use Rattle.scenario_sink.specs.Making.{Does};
@@ -9,17 +8,10 @@ ghost use Rattle.scenario_sink.specs.Pasts.{SinkPast};
 ghost use Rattle.scenario_sink.specs.State.Stands.{Lives};
 
 use crate::sink::LivingSink;
-use bcast_base::Octets;
+use bcast_base::{Octets, are_octets};
 use pacs_records::{PacRecord, PushFault};
 use sink_history::a_step_tells_each_link;
 use transcript_text::{Refusal, Stop};
-
-/// What stands in memory as octets is octets.
-fn are_octets(octets: &[u8])
-    ensures { IsOctets octets.now }
-{
-    let _ = octets;
-}
 
 impl LivingSink {
     /// `pac`: adds a record of capabilities (Published Audio Capabilities Service 1.0, section 3.1).

@@ -6,7 +6,7 @@ use Rattle.unit_outlets.specs.Took.{TookAt}
 use Rattle.unit_outlets.specs.declared.fault.OutletFault.TheVariants.{Failed}
 use Rattle.group_sink.specs.Calls.{Call}
 use Rattle.sink_history.specs.Calls as links
-use Rattle.sink_history.specs.Lives.{Made}
+use Rattle.delegator_history.specs.Trains.{Settings}
 use Rattle.scenario_history.specs.Boxes.{SinkUnit, accounts_after, with_handed}
 use Rattle.scenario_history.specs.Output.{unit_line, unit_lines}
 use Rattle.transcript_text.specs.declared.stop.Stop.{Stop}
@@ -90,7 +90,7 @@ stands_same one other sinks same stands = record {
   entries = λ n below.
       let entry : Option (Option Sink) = slice_get sinks.entries.items n in
       let B : Option ℕ → Type 0 = λ b. EntryIs b (other.mades n) (other.sources n) (other.lives n) (other.received n) entry in
-      let M : Option Made → Type 0 = λ made. EntryIs (one.boxes n) made (other.sources n) (other.lives n) (other.received n) entry in
+      let M : Option Settings → Type 0 = λ made. EntryIs (one.boxes n) made (other.sources n) (other.lives n) (other.received n) entry in
       let S : Option ℕ → Type 0 = λ s. EntryIs (one.boxes n) (one.mades n) s (other.lives n) (other.received n) entry in
       let L : List links.Call → Type 0 = λ life. EntryIs (one.boxes n) (one.mades n) (one.sources n) life (other.received n) entry in
       let C : List Call → Type 0 = λ c. EntryIs (one.boxes n) (one.mades n) (one.sources n) (one.lives n) c entry in

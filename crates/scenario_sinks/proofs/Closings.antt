@@ -28,7 +28,7 @@ use Rattle.scenario_sinks.specs.Closing.{Closes, ClosesAt, closing_of, closings,
 use Rattle.scenario_sinks.specs.State.Gathering.{calls_of, handed_of, units_for}
 use Rattle.scenario_sinks.specs.State.Standing.{EntryIs, EntryAt, EntriesAre, SinksStand, past_of}
 use Rattle.scenario_sinks.specs.State.Between.{SinkCloses, SinkHands, AllClose, Between, EntriesFrom, OneBetween, OneCloses, Unmoved}
-use Rattle.sink_history.specs.Lives.{Made}
+use Rattle.delegator_history.specs.Trains.{Settings}
 use Rattle.scenario_sink.specs.State.Stands.{Lives}
 use Rattle.scenario_sinks.proofs.Entries.{OthersStay, SinkIs, entry_of, one_entry}
 use Rattle.scenario_sinks.proofs.Citable.{hands_stop, hands_then}
@@ -193,7 +193,8 @@ handed_back : (owner : Owner) (units : List Handed) → handed_all (units_for ow
 handed_back owner [] = refl
 handed_back owner (unit ∷ units) = ap (λ rest. unit ∷ rest) (handed_back owner units)
 
-pub sink_hands : (box : Option ℕ) (made : Option Made) (own : Option ℕ) (life : List links.Call) (received : List Call) (owner : Owner) (event : ℕ) (sink new : Sink)
+pub sink_hands : (box : Option ℕ) (made : Option Settings) (own : Option ℕ) (life : List links.Call) (received : List Call) (owner : Owner)
+    (event : ℕ) (sink new : Sink)
     (units : List Handed) (gathered : Gathered) (text told : List ℕ) (before after : List Account) (r : Result (Unit {0}) Stop)
     → (is : SinkIs box made own life received sink) → is_of owner.source own ≡ true → owner.outlet ≡ sink.outlet
     → units ≡ handed_at received event → Hands (units_for owner units) text told before after r
@@ -215,7 +216,8 @@ sink_hands box made own life received owner event sink new units gathered text t
     }
 
 -- a sink of another source
-pub sink_left : (box : Option ℕ) (made : Option Made) (own : Option ℕ) (life : List links.Call) (received : List Call) (n source event : ℕ) (sink : Sink)
+pub sink_left : (box : Option ℕ) (made : Option Settings) (own : Option ℕ) (life : List links.Call) (received : List Call)
+    (n source event : ℕ) (sink : Sink)
     (from : Option ℕ) (of : Bool) (gathered : Gathered) (text : List ℕ) (before : List Account) → SinkIs box made own life received sink
     → from ≡ own → of ≡ is_of source from → of ≡ false → gathered.units.items ≡ []
     → SinkHands box made own life received n source event (Some sink) gathered text text before before (Ok tt)
@@ -233,7 +235,8 @@ none_handed true units none = none
 none_handed false units none = refl
 
 -- no sink, or one of another source
-pub sink_rests : (box : Option ℕ) (made : Option Made) (own : Option ℕ) (life : List links.Call) (received : List Call) (n source event : ℕ) (entry : Option Sink)
+pub sink_rests : (box : Option ℕ) (made : Option Settings) (own : Option ℕ) (life : List links.Call) (received : List Call)
+    (n source event : ℕ) (entry : Option Sink)
     (gathered : Gathered) (text : List ℕ) (before : List Account) → EntryIs box made own life received (Some entry) → (is_some box && is_of source own) ≡ false
     → gathered.units.items ≡ [] → SinkCloses box made own life received n source event entry gathered text text before before (Ok tt)
 sink_rests None made own life received n source event entry gathered text before is other empty =
@@ -254,7 +257,8 @@ no_units : (box : Option ℕ) (own : Option ℕ) (received : List Call) (n sourc
 no_units None own received n source event other = none_handed (is_of source own) [] refl
 no_units (Some box) own received n source event other = rw other refl
 
-pub sink_rests_held : (box : Option ℕ) (made : Option Made) (own : Option ℕ) (life : List links.Call) (received : List Call) (n source event : ℕ) (entry : Option Sink)
+pub sink_rests_held : (box : Option ℕ) (made : Option Settings) (own : Option ℕ) (life : List links.Call) (received : List Call)
+    (n source event : ℕ) (entry : Option Sink)
     (gathered : Gathered) (text : List ℕ) (before : List Account) → EntryIs box made own life received (Some entry) → (is_some box && is_of source own) ≡ false
     → gathered.units.items ≡ [] → SinkHands box made own life received n source event entry gathered text text before before (Ok tt)
 sink_rests_held box made own life received n source event entry gathered text before is other empty =
@@ -271,7 +275,8 @@ pub not_both : (b : Bool) → b ≡ true → b ≡ false → ⊥
 not_both b is other = cc (sym is ∙ other)
 
 -- its units are gathered no more
-pub sink_closes : (box : Option ℕ) (made : Option Made) (own : Option ℕ) (life : List links.Call) (received : List Call) (n source event : ℕ) (entry : Option Sink)
+pub sink_closes : (box : Option ℕ) (made : Option Settings) (own : Option ℕ) (life : List links.Call) (received : List Call)
+    (n source event : ℕ) (entry : Option Sink)
     (held gathered : Gathered) (text told : List ℕ) (before after : List Account) (r : Result (Unit {0}) Stop)
     → SinkHands box made own life received n source event entry held text told before after r → OnOk r (gathered.units.items ≡ [])
     → SinkCloses box made own life received n source event entry gathered text told before after r

@@ -5,6 +5,7 @@ use Rattle.std.proofs.lemmas.Option.{slice_get-get_or}
 use Rattle.std.proofs.lemmas.Bool.{cases_eq}
 use Rattle.delegator_machine.specs.Groups.{by_numbers}
 use Rattle.delegator_history.specs.States.{put_on}
+use Rattle.delegator_history.specs.Trains.{Settings}
 use Rattle.sync_reference.specs.Joining.{Joining}
 use Rattle.group_sink.specs.Calls.{Call, hear, tune}
 use Rattle.group_sink.specs.Hearings.{hearing_of}
@@ -22,7 +23,7 @@ use Rattle.scenario_sinks.specs.State.Standing.{EntryIs, EntryAt, EntriesAre, pa
 use Rattle.scenario_sinks.specs.Hearing.{hearing_where}
 use Rattle.scenario_sinks.specs.State.Entries.{EntryHears, EntryRuns, EntryTunes}
 use Rattle.scenario_text.specs.declared.step.Step.{Step}
-use Rattle.sink_history.specs.Lives.{Made, Source, lived_by}
+use Rattle.sink_history.specs.Lives.{Source, lived_by}
 use Rattle.sink_history.specs.Moves.{received_by, source_by}
 use Rattle.transcript_text.specs.declared.stop.Stop.{Stop}
 use Rattle.transcript_text.specs.declared.stop.Stop.TheVariants.{Refused, OutletFault, Memory}
@@ -32,7 +33,8 @@ use Rattle.scenario_sink.specs.Making.{LineMakes}
 
 -- ---- the sink of one entry
 
-pub none_lives : (box : Option ℕ) (made : Option Made) (own : Option ℕ) (life : List links.Call) (received : List Call) (entry : Option Sink)
+pub none_lives : (box : Option ℕ) (made : Option Settings) (own : Option ℕ) (life : List links.Call) (received : List Call)
+    (entry : Option Sink)
     → EntryIs box made own life received (Some entry) → is_some entry ≡ false → box ≡ None
 none_lives None made own life received entry is none = refl
 none_lives (Some box) made own life received entry is none =
@@ -41,9 +43,10 @@ none_lives (Some box) made own life received entry is none =
     cc
 
 -- what an entry says of its sink
-pub record SinkIs (box : Option ℕ) (made : Option Made) (own : Option ℕ) (life : List links.Call) (received : List Call) (sink : Sink) : Type 0 where
+pub record SinkIs (box : Option ℕ) (made : Option Settings) (own : Option ℕ) (life : List links.Call) (received : List Call)
+    (sink : Sink) : Type 0 where
   pub box_is : box ≡ Some sink.outlet
-  pub how : Made
+  pub how : Settings
   pub made_is : made ≡ Some how
   pub lives : Lives (past_of how own life received) sink.living
 
@@ -53,7 +56,8 @@ some_same entry one other e f = cc (e, f)
 none_some : {A : Type 0} (entry : Option A) (one : A) → Some entry ≡ Some None → entry ≡ Some one → ⊥
 none_some entry one e f = cc (e, f)
 
-pub sink_in : (box : Option ℕ) (made : Option Made) (own : Option ℕ) (life : List links.Call) (received : List Call) (entry : Option Sink) (sink : Sink)
+pub sink_in : (box : Option ℕ) (made : Option Settings) (own : Option ℕ) (life : List links.Call) (received : List Call)
+    (entry : Option Sink) (sink : Sink)
     → EntryIs box made own life received (Some entry) → entry ≡ Some sink → SinkIs box made own life received sink
 sink_in None made own life received entry sink is e = absurd (none_some entry sink is.0 e)
 sink_in (Some b) made own life received entry sink is e =
@@ -65,26 +69,29 @@ sink_in (Some b) made own life received entry sink is e =
       lives = subst (λ (s : Sink). Lives (past_of is.3 own life received) s.living) same is.5;
     }
 
-pub entry_of : (box : Option ℕ) (made : Option Made) (own : Option ℕ) (life : List links.Call) (received : List Call) (sink : Sink)
+pub entry_of : (box : Option ℕ) (made : Option Settings) (own : Option ℕ) (life : List links.Call) (received : List Call) (sink : Sink)
     → SinkIs box made own life received sink → EntryIs box made own life received (Some (Some sink))
 entry_of None made own life received sink is = absurd (cc is.box_is)
 entry_of (Some box) made own life received sink is =
     let outlet : sink.outlet ≡ box = cc is.box_is in
     (sink, refl, outlet, is.how, is.made_is, is.lives)
 
-pub lives_in : (box : Option ℕ) (made : Option Made) (own : Option ℕ) (life : List links.Call) (received : List Call) (entry : Option Sink)
+pub lives_in : (box : Option ℕ) (made : Option Settings) (own : Option ℕ) (life : List links.Call) (received : List Call)
+    (entry : Option Sink)
     → EntryIs box made own life received (Some entry) → is_some entry ≡ is_some box
 lives_in None made own life received entry is = let e : entry ≡ None = cc is.0 in ap is_some e
 lives_in (Some box) made own life received entry is = let e : entry ≡ Some is.0 = cc is.1 in ap is_some e
 
 -- whether the sink of an entry is of this source
-pub sink_of : (box : Option ℕ) (made : Option Made) (own : Option ℕ) (life : List links.Call) (received : List Call) (source : ℕ) (entry : Option Sink) (sink : Sink)
+pub sink_of : (box : Option ℕ) (made : Option Settings) (own : Option ℕ) (life : List links.Call) (received : List Call) (source : ℕ)
+    (entry : Option Sink) (sink : Sink)
     (from : Option ℕ) → EntryIs box made own life received (Some entry) → entry ≡ Some sink → from ≡ own → is_of source from ≡ (is_some box && is_of source own)
 sink_of box made own life received source entry sink from is e f =
     let was = sink_in box made own life received entry sink is e in
     ap (is_of source) f ∙ sym (ap (λ (b : Option ℕ). is_some b && is_of source own) was.box_is)
 
-pub no_sink_of : (box : Option ℕ) (made : Option Made) (own : Option ℕ) (life : List links.Call) (received : List Call) (source : ℕ) (entry : Option Sink)
+pub no_sink_of : (box : Option ℕ) (made : Option Settings) (own : Option ℕ) (life : List links.Call) (received : List Call) (source : ℕ)
+    (entry : Option Sink)
     → EntryIs box made own life received (Some entry) → entry ≡ None → false ≡ (is_some box && is_of source own)
 no_sink_of box made own life received source entry is e =
     sym (ap (λ b. b && is_of source own) (sym (lives_in box made own life received entry is) ∙ ap is_some e))
@@ -119,7 +126,7 @@ touched n m old new sinks entry inside below others entries here (inr other) =
     let apart : (n == m) ≡ false = ne_eqb n m (λ e. other (sym e)) in
     let at : Option (Option Sink) = slice_get (slice_set sinks n entry) m in
     let B : Option ℕ → Type 0 = λ b. EntryIs b (new.mades m) (new.sources m) (new.lives m) (new.received m) at in
-    let M : Option Made → Type 0 = λ made. EntryIs (old.boxes m) made (new.sources m) (new.lives m) (new.received m) at in
+    let M : Option Settings → Type 0 = λ made. EntryIs (old.boxes m) made (new.sources m) (new.lives m) (new.received m) at in
     let S : Option ℕ → Type 0 = λ s. EntryIs (old.boxes m) (old.mades m) s (new.lives m) (new.received m) at in
     let L : List links.Call → Type 0 = λ life. EntryIs (old.boxes m) (old.mades m) (old.sources m) life (new.received m) at in
     let C : List Call → Type 0 = λ c. EntryIs (old.boxes m) (old.mades m) (old.sources m) (old.lives m) c at in
@@ -149,18 +156,20 @@ none_made sinks n k is below = ap (λ s. slice_get s n) is ∙ get_replicate Non
 
 -- ---- what comes to the sink of an entry
 
-pub entry_tuned : (box : Option ℕ) (made : Option Made) (own : Option ℕ) (life : List links.Call) (received : List Call) (source : ℕ) (joining : Joining)
+pub entry_tuned : (box : Option ℕ) (made : Option Settings) (own : Option ℕ) (life : List links.Call) (received : List Call) (source : ℕ)
+    (joining : Joining)
     (sink new : Sink) (beyond : Bool) → (is : SinkIs box made own life received sink) → new.outlet ≡ sink.outlet
     → Lives (after_tuning source joining (past_of is.how own life received)) new.living
     → beyond ≡ has_beyond joining.info.num_bis joining.which → beyond ≡ false
     → EntryTunes box made own life received source joining (Some new) (Ok tt)
 entry_tuned box made own life received source joining sink new beyond is outlet lives b within = (
   rw (is.box_is, sym b ∙ within) refl,
-  entry_of box made (Some source) (stepped (put_on source joining) ∷ life) (tune (by_numbers joining) ∷ received) new
+  entry_of box made (Some source) (stepped (put_on joining) ∷ life) (tune (by_numbers joining) ∷ received) new
       (record { box_is = is.box_is ∙ ap Some (sym outlet); how = is.how; made_is = is.made_is; lives = lives }),
 )
 
-pub entry_heard : (box : Option ℕ) (made : Option Made) (own : Option ℕ) (life : List links.Call) (received : List Call) (source event bis subevent : ℕ) (octets : List ℕ)
+pub entry_heard : (box : Option ℕ) (made : Option Settings) (own : Option ℕ) (life : List links.Call) (received : List Call)
+    (source event bis subevent : ℕ) (octets : List ℕ)
     (sink new : Sink) (from : Option ℕ) (of : Bool) (hearing : Hearing) → (is : SinkIs box made own life received sink) → new.outlet ≡ sink.outlet → from ≡ own
     → of ≡ is_of source from → of ≡ true → hearing ≡ hearing_of received event bis subevent octets
     → Lives (receiving (hear event bis subevent octets) (past_of is.how own life received)) new.living
@@ -174,7 +183,8 @@ entry_heard box made own life received source event bis subevent octets sink new
     )
 
 -- a PDU of another source
-pub entry_passed : (box : Option ℕ) (made : Option Made) (own : Option ℕ) (life : List links.Call) (received : List Call) (source event bis subevent : ℕ) (octets : List ℕ)
+pub entry_passed : (box : Option ℕ) (made : Option Settings) (own : Option ℕ) (life : List links.Call) (received : List Call)
+    (source event bis subevent : ℕ) (octets : List ℕ)
     (sink : Sink) (from : Option ℕ) (of : Bool) → SinkIs box made own life received sink → from ≡ own → of ≡ is_of source from → of ≡ false
     → EntryHears box made own life received source event bis subevent octets (Some sink) (Some NotOnGroup)
 entry_passed box made own life received source event bis subevent octets sink from of is f o t =
@@ -182,14 +192,16 @@ entry_passed box made own life received source event bis subevent octets sink fr
     (rw is.box_is refl, rw other refl, rw other (entry_of box made own life received sink is))
 
 -- what it would answer
-pub none_answers : (box : Option ℕ) (made : Option Made) (own : Option ℕ) (life : List links.Call) (received : List Call) (source event bis subevent : ℕ) (octets : List ℕ)
+pub none_answers : (box : Option ℕ) (made : Option Settings) (own : Option ℕ) (life : List links.Call) (received : List Call)
+    (source event bis subevent : ℕ) (octets : List ℕ)
     (entry : Option Sink) → EntryIs box made own life received (Some entry) → entry ≡ None
     → None ≡ hearing_where box own received source event bis subevent octets
 none_answers box made own life received source event bis subevent octets entry is none =
     let free : box ≡ None = none_lives box made own life received entry is (ap is_some none) in
     sym (ap (λ (b : Option ℕ). hearing_where b own received source event bis subevent octets) free)
 
-pub entry_answers : (box : Option ℕ) (made : Option Made) (own : Option ℕ) (life : List links.Call) (received : List Call) (source event bis subevent : ℕ) (octets : List ℕ)
+pub entry_answers : (box : Option ℕ) (made : Option Settings) (own : Option ℕ) (life : List links.Call) (received : List Call)
+    (source event bis subevent : ℕ) (octets : List ℕ)
     (sink : Sink) (from : Option ℕ) (of : Bool) (hearing : Hearing) → SinkIs box made own life received sink → from ≡ own
     → of ≡ is_of source from → of ≡ true → hearing ≡ hearing_of received event bis subevent octets
     → Some hearing ≡ hearing_where box own received source event bis subevent octets
@@ -197,14 +209,16 @@ entry_answers box made own life received source event bis subevent octets sink f
     let mine : is_of source own ≡ true = ap (is_of source) (sym f) ∙ sym o ∙ t in
     rw (is.box_is, mine) (ap Some answer)
 
-pub other_answers : (box : Option ℕ) (made : Option Made) (own : Option ℕ) (life : List links.Call) (received : List Call) (source event bis subevent : ℕ) (octets : List ℕ)
+pub other_answers : (box : Option ℕ) (made : Option Settings) (own : Option ℕ) (life : List links.Call) (received : List Call)
+    (source event bis subevent : ℕ) (octets : List ℕ)
     (sink : Sink) (from : Option ℕ) (of : Bool) → SinkIs box made own life received sink → from ≡ own → of ≡ is_of source from → of ≡ false
     → Some NotOnGroup ≡ hearing_where box own received source event bis subevent octets
 other_answers box made own life received source event bis subevent octets sink from of is f o t =
     let other : is_of source own ≡ false = ap (is_of source) (sym f) ∙ sym o ∙ t in
     rw (is.box_is, other) refl
 
-line_ran : (box : Option ℕ) (how : Made) (own : Option ℕ) (life : List links.Call) (received : List Call) (source : Source) (line : Step) (new : Sink) (text told : List ℕ)
+line_ran : (box : Option ℕ) (how : Settings) (own : Option ℕ) (life : List links.Call) (received : List Call) (source : Source)
+    (line : Step) (new : Sink) (text told : List ℕ)
     (r : Result (Unit {0}) Stop) → box ≡ Some new.outlet → LineMakes source line (past_of how own life received) text told new.living r
     → EntryRuns box (Some how) own life received source line (Some new) text told r
 line_ran box how own life received source line new text told (Ok x) here makes =
@@ -223,9 +237,10 @@ line_ran box how own life received source line new text told (Err OutletFault) h
 line_ran box how own life received source line new text told (Err Memory) here makes = makes
 
 -- a line runs on the sink
-pub entry_ran : (box : Option ℕ) (made : Option Made) (own : Option ℕ) (life : List links.Call) (received : List Call) (source : Source) (step : Step) (sink new : Sink)
+pub entry_ran : (box : Option ℕ) (made : Option Settings) (own : Option ℕ) (life : List links.Call) (received : List Call) (source : Source)
+    (step : Step) (sink new : Sink)
     (text told : List ℕ) (r : Result (Unit {0}) Stop) → (is : SinkIs box made own life received sink) → new.outlet ≡ sink.outlet
     → LineMakes source step (past_of is.how own life received) text told new.living r → EntryRuns box made own life received source step (Some new) text told r
 entry_ran box made own life received source step sink new text told r is outlet makes =
-    let P : Option Made → Type 0 = λ m. EntryRuns box m own life received source step (Some new) text told r in
+    let P : Option Settings → Type 0 = λ m. EntryRuns box m own life received source step (Some new) text told r in
     subst P (sym is.made_is) (line_ran box is.how own life received source step new text told r (is.box_is ∙ ap Some (sym outlet)) makes)

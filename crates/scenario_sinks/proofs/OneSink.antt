@@ -16,7 +16,7 @@ use Rattle.scenario_sinks.specs.Pasts.{Past, with_sink, without, with_tuning, wi
 use Rattle.scenario_sinks.specs.Refusals.{Answers, Tunes, not_made, not_living, not_tuned}
 use Rattle.scenario_sinks.specs.State.Standing.{EntryAt, EntriesAre, SinksStand}
 use Rattle.scenario_sinks.specs.State.Entries.{EntryHears, EntryTunes}
-use Rattle.sink_history.specs.Lives.{Made}
+use Rattle.delegator_history.specs.Trains.{Settings}
 use Rattle.scenario_sink.specs.State.Stands.{Lives}
 use Rattle.scenario_sink.specs.Pasts.{new_sink}
 use Rattle.scenario_sinks.proofs.Entries.{OthersStay, one_entry, entry_read, none_lives, lives_in, sink_in}
@@ -35,7 +35,7 @@ one_changed n at past next old new entry same within eight others stands here se
 
 -- ---- a sink is made
 
-make_stays : (n : ℕ) (how : Made) (past : Past) → OthersStay n past (with_sink n how past)
+make_stays : (n : ℕ) (how : Settings) (past : Past) → OthersStay n past (with_sink n how past)
 make_stays n how past = record {
   boxes = λ m apart. rw apart refl;
   mades = λ m apart. rw apart refl;
@@ -44,7 +44,8 @@ make_stays n how past = record {
   received = λ m apart. rw apart refl;
 }
 
-pub made : (boxes n at : ℕ) (how : Made) (past : Past) (old new : Sinks) (entry : Option Sink) (sink : Sink) → SinksStand past old → at ≡ n → n < most_sinks
+pub made : (boxes n at : ℕ) (how : Settings) (past : Past) (old new : Sinks) (entry : Option Sink) (sink : Sink) → SinksStand past old
+    → at ≡ n → n < most_sinks
     → length old.entries.items ≡ most_sinks → entry ≡ get_or old.entries.items at entry → is_some entry ≡ false → old.outlet_count < boxes
     → sink.outlet ≡ old.outlet_count → Lives (new_sink how) sink.living
     → new.entries.items ≡ slice_set old.entries.items at (Some sink) → new.outlet_count ≡ old.outlet_count + 1 → new.gathered ≡ old.gathered
@@ -59,7 +60,8 @@ made boxes n at how past old new entry sink stands same within eight is none roo
     )
 
 -- a sink of the number lives
-pub taken : (boxes n at : ℕ) (how : Made) (past : Past) (old : Sinks) (entry : Option Sink) → SinksStand past old → at ≡ n → n < most_sinks
+pub taken : (boxes n at : ℕ) (how : Settings) (past : Past) (old : Sinks) (entry : Option Sink) → SinksStand past old → at ≡ n
+    → n < most_sinks
     → length old.entries.items ≡ most_sinks → entry ≡ get_or old.entries.items at entry → is_some entry ≡ true
     → Answers (not_made (past.boxes n) past.made boxes) past (with_sink n how past) old (Err (Refused SinkTwice))
 taken boxes n at how past old entry stands same within eight is some =
@@ -68,7 +70,8 @@ taken boxes n at how past old entry stands same within eight is some =
     (rw lives refl, stands)
 
 -- no box is left
-pub no_box : (boxes n at : ℕ) (how : Made) (past : Past) (old : Sinks) (entry : Option Sink) → SinksStand past old → at ≡ n → n < most_sinks
+pub no_box : (boxes n at : ℕ) (how : Settings) (past : Past) (old : Sinks) (entry : Option Sink) → SinksStand past old → at ≡ n
+    → n < most_sinks
     → length old.entries.items ≡ most_sinks → entry ≡ get_or old.entries.items at entry → is_some entry ≡ false → boxes ≤ old.outlet_count
     → Answers (not_made (past.boxes n) past.made boxes) past (with_sink n how past) old (Err (Refused NoOutlet))
 no_box boxes n at how past old entry stands same within eight is none full =

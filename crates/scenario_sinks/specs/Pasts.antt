@@ -5,19 +5,19 @@
 use Rattle.std.specs.Prelude.{ℕ, ◌+◌, ◌==◌, ◌&&◌, List, [], ◌∷◌, Option, None, Some, if◌then◌else◌}
 use Rattle.delegator_machine.specs.Groups.{by_numbers}
 use Rattle.delegator_history.specs.States.{put_on}
-use Rattle.delegator_history.specs.Trains.{Train}
+use Rattle.delegator_history.specs.Trains.{Settings, Train}
 use Rattle.sync_reference.specs.Joining.{Joining}
 use Rattle.group_sink.specs.Calls.{Call, tune, hear}
 use Rattle.sink_history.specs.Calls as links
 use Rattle.sink_history.specs.Calls.{stepped, born}
 use Rattle.scenario_history.specs.Sinks.{is_of, ticked_if}
 use Rattle.scenario_text.specs.declared.step.Step.{Step}
-use Rattle.sink_history.specs.Lives.{Made, Source, lived_by}
+use Rattle.sink_history.specs.Lives.{Source, lived_by}
 use Rattle.sink_history.specs.Moves.{received_by, source_by, train_by}
 
 pub record Past : Type 0 where
   pub boxes : ℕ → Option ℕ
-  pub mades : ℕ → Option Made
+  pub mades : ℕ → Option Settings
   pub sources : ℕ → Option ℕ
   pub lives : ℕ → List links.Call
   pub received : ℕ → List Call
@@ -27,7 +27,7 @@ abbrev pub nothing : Past
 nothing = record { boxes = λ m. None; mades = λ m. None; sources = λ m. None; lives = λ m. []; received = λ m. []; made = 0 }
 
 -- a sink of this number is made so, with the next box
-abbrev pub with_sink : ℕ → Made → Past → Past
+abbrev pub with_sink : ℕ → Settings → Past → Past
 with_sink n made past = record {
   boxes = λ m. if n == m then Some past.made else past.boxes m;
   mades = λ m. if n == m then Some made else past.mades m;
@@ -54,7 +54,7 @@ with_tuning n source joining past = record {
   boxes = past.boxes;
   mades = past.mades;
   sources = λ m. if n == m then Some source else past.sources m;
-  lives = λ m. if n == m then stepped (put_on source joining) ∷ past.lives m else past.lives m;
+  lives = λ m. if n == m then stepped (put_on joining) ∷ past.lives m else past.lives m;
   received = λ m. if n == m then tune (by_numbers joining) ∷ past.received m else past.received m;
   made = past.made;
 }

@@ -3,7 +3,7 @@ ghost use Rattle.std.specs.Prelude.{◌≡◌, ◌≤◌, ◌<◌, ◌+◌, ◌^
 ghost use Rattle.group_sink.specs.Calls.{Call};
 ghost use Rattle.sink_history.specs.Calls as links;
 ghost use Rattle.scenario_history.specs.Sinks as history;
-ghost use Rattle.sink_history.specs.Lives.{Made};
+ghost use Rattle.delegator_history.specs.Trains.{Settings};
 ghost use Rattle.scenario_sinks.specs.Pasts.{Past};
 ghost use Rattle.scenario_sinks.specs.State.Standing.{EntryIs, EntriesAre};
 ghost use Rattle.scenario_sinks.specs.State.Between.{SinkCloses, SinkHands, AllClose, OneCloses};
@@ -15,11 +15,11 @@ use crate::hand::hand_units;
 use crate::sink::{Owner, Sink, is_of};
 use bcast_base::Octets;
 use transcript_text::Stop;
-use unit_outlets::Outlet;
+use unit_outlets::{Outlet, TakerFault};
 
 /// Whether a sink lives in an entry that is of this source.
 fn is_sink_of(entry: &Option<Sink>, source: u8) -> bool
-    ensures { (box : Option ℕ) (made : Option Made) (own : Option ℕ) (life : List links.Call) (received : List Call)
+    ensures { (box : Option ℕ) (made : Option Settings) (own : Option ℕ) (life : List links.Call) (received : List Call)
         → EntryIs box made own life received (Some entry.now) → result ≡ (is_some box && history.is_of source own) }
 {
     match entry {
@@ -39,7 +39,7 @@ fn hand_living(
     text: &mut Octets,
 ) -> Result<(), Stop>
     requires { event < 2 ^ 39 }
-    ensures hands { (box : Option ℕ) (made : Option Made) (own : Option ℕ) (life : List links.Call) (received : List Call)
+    ensures hands { (box : Option ℕ) (made : Option Settings) (own : Option ℕ) (life : List links.Call) (received : List Call)
         → EntryIs box made own life received (Some (Some sink.old)) → history.is_of owner.source own ≡ true
         → owner.outlet ≡ sink.old.outlet → gathered.old.units.items ≡ []
         → SinkHands box made own life received owner.sink owner.source event (Some sink.new) gathered.new text.old text.new
@@ -48,7 +48,8 @@ fn hand_living(
 {
     match sink.living.tick(event, gathered) {
         Ok(()) => {}
-        Err(_) => return Err(Stop::Memory),
+        Err(TakerFault::Memory) => return Err(Stop::Memory),
+        Err(TakerFault::Failed) => unreachable!(),
     }
     match hand_units(gathered.units.as_slice(), owner, outlets, text) {
         Ok(()) => {}
@@ -69,11 +70,11 @@ fn hand_sink(
     text: &mut Octets,
 ) -> Result<(), Stop>
     requires { event < 2 ^ 39 }
-    ensures hands { (box : Option ℕ) (made : Option Made) (own : Option ℕ) (life : List links.Call) (received : List Call)
+    ensures hands { (box : Option ℕ) (made : Option Settings) (own : Option ℕ) (life : List links.Call) (received : List Call)
         → EntryIs box made own life received (Some entry.old) → gathered.old.units.items ≡ []
         → SinkHands box made own life received number source event entry.new gathered.new text.old text.new (map account outlets.old.items)
         (map account outlets.new.items) result }
-    ensures others { (box : Option ℕ) (made : Option Made) (own : Option ℕ) (life : List links.Call) (received : List Call)
+    ensures others { (box : Option ℕ) (made : Option Settings) (own : Option ℕ) (life : List links.Call) (received : List Call)
         → EntryIs box made own life received (Some entry.old) → AllButSame box outlets.old.items outlets.new.items }
 {
     let Some(sink) = entry else {
@@ -103,15 +104,15 @@ fn close_sink(
     text: &mut Octets,
 ) -> Result<(), Stop>
     requires { event < 2 ^ 39 }
-    ensures closes { (box : Option ℕ) (made : Option Made) (own : Option ℕ) (life : List links.Call) (received : List Call)
+    ensures closes { (box : Option ℕ) (made : Option Settings) (own : Option ℕ) (life : List links.Call) (received : List Call)
         → EntryIs box made own life received (Some entry.old) → gathered.old.units.items ≡ [] → keeps ≡ false
         → SinkCloses box made own life received number source event entry.new gathered.new text.old text.new (map account outlets.old.items)
         (map account outlets.new.items) result }
-    ensures hands { (box : Option ℕ) (made : Option Made) (own : Option ℕ) (life : List links.Call) (received : List Call)
+    ensures hands { (box : Option ℕ) (made : Option Settings) (own : Option ℕ) (life : List links.Call) (received : List Call)
         → EntryIs box made own life received (Some entry.old) → gathered.old.units.items ≡ [] → keeps ≡ true
         → SinkHands box made own life received number source event entry.new gathered.new text.old text.new (map account outlets.old.items)
         (map account outlets.new.items) result }
-    ensures others { (box : Option ℕ) (made : Option Made) (own : Option ℕ) (life : List links.Call) (received : List Call)
+    ensures others { (box : Option ℕ) (made : Option Settings) (own : Option ℕ) (life : List links.Call) (received : List Call)
         → EntryIs box made own life received (Some entry.old) → AllButSame box outlets.old.items outlets.new.items }
 {
     if !is_sink_of(entry, source) {

@@ -8,7 +8,8 @@ ghost use Rattle.scenario_sinks.specs.State.Entries.{EntryHears, EntryRuns, Entr
 ghost use Rattle.scenario_sinks.specs.State.Standing.{EntryIs};
 ghost use Rattle.scenario_text.specs.Ranges.{IsInRange};
 ghost use Rattle.scenario_text.specs.declared.step.Step.TheVariants.{Announce};
-ghost use Rattle.sink_history.specs.Lives.{Made, Source};
+ghost use Rattle.delegator_history.specs.Trains.{Settings};
+ghost use Rattle.sink_history.specs.Lives.{Source};
 ghost use Rattle.scenario_sink.specs.Making.{LineMakes};
 ghost use Rattle.scenario_sink.specs.Origins.{IsFrom};
 ghost use Rattle.scenario_sink.specs.Pasts.{SinkPast, after_tuning, receiving};
@@ -31,7 +32,7 @@ pub(crate) fn tune_entry(
     source: u8,
     joining: &Joining,
 ) -> Result<(), Stop>
-    ensures { (box : Option ℕ) (made : Option Made) (own : Option ℕ) (life : List links.Call) (received : List Call)
+    ensures { (box : Option ℕ) (made : Option Settings) (own : Option ℕ) (life : List links.Call) (received : List Call)
         → EntryIs box made own life received (Some entry.old)
         → EntryTunes box made own life received source joining.now entry.new result }
 {
@@ -43,7 +44,7 @@ pub(crate) fn tune_entry(
     }
     match put_on_group(sink, source, joining) {
         Ok(()) => {}
-        Err(_) => return Err(Stop::Memory),
+        Err(Memory) => return Err(Stop::Memory),
     }
     Ok(())
 }
@@ -64,10 +65,11 @@ pub(crate) fn run_entry(
     origin: Origin,
     text: &mut Octets,
 ) -> Result<(), Stop>
-    requires { IsInRange step }
-    ensures { (source : Source) (box : Option ℕ) (made : Option Made) (own : Option ℕ) (life : List links.Call) (received : List Call)
+    requires range { IsInRange step }
+    requires line { IsSinkLine step }
+    ensures { (source : Source) (box : Option ℕ) (made : Option Settings) (own : Option ℕ) (life : List links.Call) (received : List Call)
         → IsFrom origin source
-        → IsSinkLine step → EntryIs box made own life received (Some entry.old)
+        → EntryIs box made own life received (Some entry.old)
         → EntryRuns box made own life received source step entry.new text.old text.new result }
 {
     let Some(sink) = entry else {
@@ -78,8 +80,9 @@ pub(crate) fn run_entry(
 
 /// Runs a line on a sink.
 fn run(sink: &mut Sink, step: Step, origin: Origin, text: &mut Octets) -> Result<(), Stop>
-    requires { IsInRange step }
-    ensures makes { (source : Source) (past : SinkPast) → IsFrom origin source → IsSinkLine step → Lives past sink.old.living
+    requires range { IsInRange step }
+    requires line { IsSinkLine step }
+    ensures makes { (source : Source) (past : SinkPast) → IsFrom origin source → Lives past sink.old.living
         → LineMakes source step past text.old text.new sink.new.living result }
     ensures outlet { sink.new.outlet ≡ sink.old.outlet }
 {
@@ -95,7 +98,7 @@ pub(crate) fn announce_entry(
     text: &mut Octets,
 ) -> Result<(), Stop>
     requires { train.now.time ≤ 2 ^ 61 }
-    ensures { (source : Source) (box : Option ℕ) (made : Option Made) (own : Option ℕ) (life : List links.Call) (received : List Call)
+    ensures { (source : Source) (box : Option ℕ) (made : Option Settings) (own : Option ℕ) (life : List links.Call) (received : List Call)
         → IsFrom origin source
         → source.announced ≡ train.now → EntryIs box made own life received (Some entry.old)
         → EntryRuns box made own life received source (Announce number) entry.new text.old text.new result }
@@ -123,6 +126,7 @@ fn tell(
 }
 
 /// Hands the sink of an entry octets in the place of a PDU of a source.
+#[inline(always)]
 pub(crate) fn hear_entry(
     entry: &mut Option<Sink>,
     source: u8,
@@ -132,7 +136,7 @@ pub(crate) fn hear_entry(
     octets: &[u8],
 ) -> Option<Hearing>
     requires { event ≤ 2 ^ 39 }
-    ensures { (box : Option ℕ) (made : Option Made) (own : Option ℕ) (life : List links.Call) (received : List Call)
+    ensures { (box : Option ℕ) (made : Option Settings) (own : Option ℕ) (life : List links.Call) (received : List Call)
         → EntryIs box made own life received (Some entry.old)
         → EntryHears box made own life received source event bis subevent octets.now entry.new result }
 {
@@ -155,7 +159,7 @@ pub(crate) fn answer_entry(
     octets: &[u8],
 ) -> Option<Hearing>
     requires { event ≤ 2 ^ 39 }
-    ensures { (box : Option ℕ) (made : Option Made) (own : Option ℕ) (life : List links.Call) (received : List Call)
+    ensures { (box : Option ℕ) (made : Option Settings) (own : Option ℕ) (life : List links.Call) (received : List Call)
         → EntryIs box made own life received (Some entry.now)
         → result ≡ hearing_where box own received source event bis subevent octets.now }
 {

@@ -110,7 +110,7 @@ impl UnitTaker for Gathered {
         };
         match self.put(unit) {
             Ok(()) => Ok(()),
-            Err(_) => self.want(),
+            Err(Memory) => self.want(),
         }
     }
 
@@ -122,7 +122,7 @@ impl UnitTaker for Gathered {
         };
         match self.put(unit) {
             Ok(()) => Ok(()),
-            Err(_) => self.want(),
+            Err(Memory) => self.want(),
         }
     }
 }

@@ -32,7 +32,8 @@ impl Sinks {
     ) -> Result<(), Stop>
         requires sink { sink ≤ 7 }
         requires range { IsInRange step }
-        ensures { (past : Past) (source : Source) → IsFrom origin source → IsSinkLine step → SinksStand past self.old
+        requires line { IsSinkLine step }
+        ensures { (past : Past) (source : Source) → IsFrom origin source → SinksStand past self.old
             → SinkLineMakes past sink source step self.new text.old text.new result }
     {
         run_entry(&mut self.entries[usize::from(sink)], step, origin, text)

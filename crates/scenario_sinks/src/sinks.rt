@@ -122,7 +122,7 @@ impl Sinks {
         };
         match put_sum_at(sink, entry.outlet, outlets, text) {
             Ok(()) => {}
-            Err(_) => return Err(Stop::Memory),
+            Err(Memory) => return Err(Stop::Memory),
         }
         self.entries[usize::from(sink)] = None;
         Ok(())

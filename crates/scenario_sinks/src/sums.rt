@@ -4,7 +4,7 @@ ghost use Rattle.group_sink.specs.Calls.{Call};
 ghost use Rattle.sink_history.specs.Calls as links;
 ghost use Rattle.scenario_history.specs.Boxes.{sink_numbers};
 ghost use Rattle.scenario_sinks.specs.Pasts.{Past};
-ghost use Rattle.sink_history.specs.Lives.{Made};
+ghost use Rattle.delegator_history.specs.Trains.{Settings};
 ghost use Rattle.scenario_sinks.specs.Sums.{sum_at, sum_where, sums_where};
 ghost use Rattle.scenario_sinks.specs.State.Standing.{EntryIs, EntriesAre};
 
@@ -49,7 +49,7 @@ fn put_sums_of(
     outlets: &Vec<Box<dyn Outlet>>,
     text: &mut Octets,
 ) -> Result<(), Memory>
-    ensures { (box : Option ℕ) (made : Option Made) (own : Option ℕ) (life : List links.Call) (received : List Call)
+    ensures { (box : Option ℕ) (made : Option Settings) (own : Option ℕ) (life : List links.Call) (received : List Call)
         → EntryIs box made own life received (Some entry.now)
         → OnOk result (text.new ≡ text.old ++ sum_where (map account outlets.now.items) number box) }
 {

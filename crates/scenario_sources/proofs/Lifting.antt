@@ -1,7 +1,7 @@
 -- The sources after a step that means one of them.
 use Rattle.std.proofs.Common.{◌≡◌, ◌≢◌, ℕ, ◌<◌, ◌==◌, Bool, true, false, List, ◌∷◌, length, refl, sym, ◌∙◌, ap, subst, eq-eqb, ne_eqb, slice_get, slice_set, get_or}
 use Rattle.std.proofs.Common.{if◌then◌else◌, ◌&&◌, arith, Option, None, Some, ◌⊎◌, inl, inr, Result, Ok, Err}
-use Rattle.std.proofs.lemmas.Option.{slice_get-get_or}
+use Rattle.std.proofs.lemmas.Option.{get_or_from_slice_get, slice_get-get_or}
 use Rattle.std.proofs.lemmas.Bool.{cases_eq}
 use Rattle.transcript_text.specs.declared.refusal.Refusal.{Refusal}
 use Rattle.transcript_text.specs.declared.refusal.Refusal.TheVariants.{IdentTwice}
@@ -34,6 +34,13 @@ phase_read steps s at phases phase same below two is are =
     let Q : Option Phase → Type 0 = λ o. PhaseAt (steps_of_source s steps) o in
     let here : slice_get phases s ≡ slice_get phases at = ap (slice_get phases) (sym same) in
     subst Q (here ∙ slice_get-get_or phases at phase inside ∙ ap Some (sym is)) (are s below)
+
+-- two reads of one place
+pub same_read : (phases : List Phase) (s t : ℕ) (first second : Phase) → s ≡ t → s < length phases
+    → first ≡ get_or phases s first → second ≡ get_or phases t second → second ≡ first
+same_read phases s t first second same inside one two =
+    let here : slice_get phases s ≡ Some first = slice_get-get_or phases s first inside ∙ ap Some (sym one) in
+    two ∙ get_or_from_slice_get phases t first second (subst (λ n. slice_get phases n ≡ Some first) same here)
 
 -- the phase of the chosen source
 pub chosen_read : (steps : List Step) (at : ℕ) (sources : Sources) (phase : Phase) → at ≡ sources.chosen → sources.chosen < 2 → length sources.phases.items ≡ 2

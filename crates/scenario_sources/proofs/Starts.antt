@@ -38,7 +38,8 @@ use Rattle.source_machine.specs.declared.setup.Identity.{Identity}
 use Rattle.scenario_sources.specs.Described.{identity_or_none}
 use Rattle.scenario_sources.specs.declared.phase.Described.{Described}
 use Rattle.scenario_sources.specs.declared.phase.Phase.{Phase as Phases}
-use Rattle.scenario_sources.specs.State.Phases.{Becomes, Begins, DescribedIs, MayStart, StartedIs, line_of}
+use Rattle.scenario_sources.specs.declared.phase.Phase.TheVariants as phases
+use Rattle.scenario_sources.specs.State.Phases.{Becomes, Begins, DescribedIs, MayStart, StartedIs, is_described as is_described_phase, line_of}
 use Rattle.scenario_sources.specs.State.Stops.{FinishStops, Finishes, StartStops}
 use Rattle.scenario_sources.proofs.Drafts.{has_last}
 
@@ -255,6 +256,12 @@ begins version first ahead own said plain base started a stage is may finishes i
       cipher = c ∙ is.1.cipher;
       calls = let P : List Call → Type 0 = λ calls. StandsFor calls started in subst P (sym is.1.calls) stands;
     }
+
+pub is_not_other : (phase : Phases) → is_described_phase phase ≡ true → ((said : Described) → phase ≡ phases.Described said → ⊥) → ⊥
+is_not_other phases.Absent is other = false≢true is
+is_not_other (phases.Described said) is other = other said refl
+is_not_other (phases.Sending started) is other = false≢true is
+is_not_other (phases.Stopped started) is other = false≢true is
 
 pub begin_stops : (version first : ℕ) (own : List Step) (phase : Phases) (stop : Stop) → Begins first own (Err stop) → Becomes version own (Start first) phase (Err stop)
 begin_stops version first own phase (Refused reason) b = absurd b

@@ -1,12 +1,12 @@
 //! What a source announces.
 ghost use Rattle.std.specs.Prelude.{◌≤◌, ◌^◌, List, IfOk};
-ghost use Rattle.bcast_base.specs.Spelling.{IsOctets};
 ghost use Rattle.scenario_text.specs.declared.step.Step.{Step};
 ghost use Rattle.scenario_sources.specs.Answers.{AnnouncesAs};
 ghost use Rattle.scenario_sources.specs.State.Phases.{PhaseIs};
 
 use crate::phase::Phase;
 use announcement_train::Train;
+use bcast_base::are_octets;
 use delegator_history::a_source_has_one_train;
 use source_machine::AnnounceFault;
 use transcript_text::{Refusal, Stop};
@@ -29,8 +29,3 @@ pub(crate) fn announce(phase: &Phase) -> Result<Train, Stop>
         Err(AnnounceFault::Memory) => Err(Stop::Memory),
     }
 }
-
-/// Each item of a slice of octets is one.
-fn are_octets(octets: &[u8])
-    ensures { IsOctets octets.now }
-{}

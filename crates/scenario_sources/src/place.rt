@@ -35,6 +35,7 @@ fn place_refusal(fault: AirFault) -> Refusal
 }
 
 /// The PDU at a place on the air of a source that was started.
+#[inline(always)]
 fn heard_from(started: &Broadcast, place: Place) -> Result<&[u8], Stop>
     requires { place.back ≤ 31 }
     ensures ok { IfOk result (λ pdu. (own : List Step) → StartedIs own started.now
@@ -50,6 +51,7 @@ fn heard_from(started: &Broadcast, place: Place) -> Result<&[u8], Stop>
 }
 
 /// The PDU at a place on the air of a source.
+#[inline(always)]
 pub(crate) fn heard_in(phase: &Phase, place: Place) -> Result<&[u8], Stop>
     requires { place.back ≤ 31 }
     ensures ok { IfOk result (λ pdu. (own : List Step) → PhaseIs own phase.now

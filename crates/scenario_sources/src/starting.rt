@@ -1,5 +1,5 @@
 //! The start of a source.
-ghost use Rattle.std.specs.Prelude.{◌≡◌, ◌≤◌, ◌<◌, ◌^◌, ◌&&◌, ℕ, List, IfErr, IfNone, IfOk};
+ghost use Rattle.std.specs.Prelude.{◌≡◌, ◌≤◌, ◌<◌, ◌^◌, ◌&&◌, ℕ, List, true, IfErr, IfNone, IfOk, OnOk};
 ghost use Rattle.base_grammar.specs.Draft.{finish_fault};
 ghost use Rattle.big_info.specs.Rows.{first_fault};
 ghost use Rattle.big_info.specs.Widths.{FitsWidths};
@@ -11,7 +11,7 @@ ghost use Rattle.sink_history.specs.Lives.{horizon_in};
 ghost use Rattle.scenario_history.specs.Source.{identity_of, is_ahead_in, is_started};
 ghost use Rattle.scenario_history.specs.Steps.{running, stage_of};
 ghost use Rattle.scenario_sources.specs.Bases.{is_long as is_long_fault};
-ghost use Rattle.scenario_sources.specs.State.Phases.{Becomes, Begins, IsReady, MayStart, PhaseIs};
+ghost use Rattle.scenario_sources.specs.State.Phases.{Becomes, Begins, IsReady, MayStart, PhaseIs, is_described};
 ghost use Rattle.scenario_sources.specs.State.Stops.{FinishStops, Finishes, StartStops};
 ghost use Rattle.scenario_sources.specs.declared.phase.Phase.TheVariants.{Described as DescribedPhase};
 
@@ -20,6 +20,7 @@ use crate::identity::identity_or;
 use crate::phase::{Described, Phase};
 use announcement_train::plain_base;
 use base_grammar::{Base, BaseDraft, DraftFault};
+use bcast_base::Memory;
 use big_info::{BigInfo, GroupFault, Limits, check_group_within};
 use multi_source::Broadcast;
 use source_machine::{ConfigureFault, Identity, Setup, SourceIdle};
@@ -38,8 +39,9 @@ pub(crate) struct Ready {
 /// Whether a source may be started, but for its identity.
 pub(crate) fn check_start(alloc: Global, phase: &Phase, limits: Limits) -> Result<Ready, Stop>
     requires { limits.horizon ≤ 31 }
-    ensures { (version first : ℕ) (own : List Step) → limits.horizon ≡ horizon_in version → PhaseIs own phase.now
+    ensures ready { (version first : ℕ) (own : List Step) → limits.horizon ≡ horizon_in version → PhaseIs own phase.now
         → IsReady version first own result }
+    ensures described { OnOk result (is_described phase.now ≡ true) }
 {
     let Phase::Described(described) = phase else {
         return Err(Stop::Refused(Refusal::Order));
@@ -66,7 +68,7 @@ pub(crate) fn check_start(alloc: Global, phase: &Phase, limits: Limits) -> Resul
             identity,
             plain: Some(base),
         }),
-        Err(_) => Err(Stop::Memory),
+        Err(Memory) => Err(Stop::Memory),
     }
 }
 
@@ -120,23 +122,19 @@ pub(crate) fn begin(
 ) -> Result<(), Stop>
     requires limits { limits.horizon ≤ 31 }
     requires first { first < 2 ^ 39 }
+    requires described { is_described phase.old ≡ true }
     ensures { (version : ℕ) (own : List Step) → limits.horizon ≡ horizon_in version → limits.ahead ≡ is_ahead_in version
         → stage_of own ≡ running version
         → MayStart version first own ready.plain → PhaseIs own phase.old → Becomes version own (StartStep first) phase.new result }
 {
-    match replace(phase, Phase::Absent) {
-        Phase::Described(described) => {
-            match begin_with(alloc, described, ready.plain, limits, first) {
-                Ok(started) => *phase = Phase::Sending(started),
-                Err(stop) => return Err(stop),
-            }
-            Ok(())
-        }
-        other => {
-            *phase = other;
-            Err(Stop::Refused(Refusal::Order))
-        }
+    let Phase::Described(described) = replace(phase, Phase::Absent) else {
+        unreachable!()
+    };
+    match begin_with(alloc, described, ready.plain, limits, first) {
+        Ok(started) => *phase = Phase::Sending(started),
+        Err(stop) => return Err(stop),
     }
+    Ok(())
 }
 
 /// Starts a source as it was described, with the BASE that no line said where that is given.
@@ -176,7 +174,7 @@ fn begin_with(
     };
     match Broadcast::start(configured, first) {
         Ok(started) => Ok(started),
-        Err(_) => Err(Stop::Memory),
+        Err(Memory) => Err(Stop::Memory),
     }
 }
 

@@ -1,15 +1,11 @@
 -- The words of a line of a scenario, this project's own: what stands between single spaces. Between two spaces side by side
 -- stands an empty word.
 use Rattle.std.specs.Prelude.{ℕ, List, [], ◌∷◌, ◌==◌, if◌then◌else◌}
+use Rattle.printed_words.specs.Lines.{onto_first}
 
 -- the octet of a space
 abbrev pub space : ℕ
 space = 32
-
--- an octet at the front of the first word
-abbrev pub onto_first : ℕ → List (List ℕ) → List (List ℕ)
-onto_first octet [] = (octet ∷ []) ∷ []
-onto_first octet (word ∷ words) = (octet ∷ word) ∷ words
 
 abbrev pub words_of : List ℕ → List (List ℕ)
 words_of [] = [] ∷ []

@@ -4,11 +4,12 @@ ghost use Rattle.std.specs.List.{list_all};
 ghost use Rattle.std.specs.Option.{unwrap_or};
 ghost use Rattle.hex.specs.Hex.{decode_of, hex_digit_value, is_hex_digit};
 
-/// Whether an octet is a hexadecimal digit of either case.
+/// Whether an octet is a hexadecimal digit of either case. Letters of the two cases differ by 32.
 fn is_digit(octet: u8) -> bool
     ensures { result ≡ is_hex_digit octet }
 {
-    matches!(octet, b'A'..=b'F' | b'a'..=b'f' | b'0'..=b'9')
+    let letter = octet / 64 * 64 + octet % 32;
+    matches!(octet, b'0'..=b'9') | matches!(letter, b'A'..=b'F')
 }
 
 /// Whether all octets are digits.
@@ -22,13 +23,17 @@ fn are_digits(word: &[u8]) -> bool
     are
 }
 
-/// The value of a digit: the letters stand from 65 and from 97 on, and the figures from 48 on.
-fn value(digit: u16) -> u16
-    requires { is_hex_digit digit ≡ true }
-    ensures exact { hex_digit_value digit ≡ Some result }
-    ensures within { result < 16 }
+/// The values of a pair of digits, those of the first in the low octet: the letters stand from 65 and from 97 on, and the figures
+/// from 48 on.
+fn values(pair: u16) -> u16
+    requires first { is_hex_digit (pair % 256) ≡ true }
+    requires second { is_hex_digit (pair / 256) ≡ true }
+    ensures first { hex_digit_value (pair % 256) ≡ Some (result % 256) }
+    ensures second { hex_digit_value (pair / 256) ≡ Some (result / 256) }
+    ensures within { result % 256 < 16 }
 {
-    digit % 16 + digit / 64 * 9
+    let letters = pair / 64 % 2 + pair / 16_384 % 2 * 256;
+    pair % 16 + pair / 256 % 16 * 256 + letters * 9
 }
 
 /// The octet that a pair of digits spells, the first of them in the low octet.
@@ -37,7 +42,8 @@ fn joined(pair: u16) -> u8
     requires second { is_hex_digit (pair / 256) ≡ true }
     ensures { result ≡ unwrap_or (hex_digit_value (pair % 256)) 0 * 16 + unwrap_or (hex_digit_value (pair / 256)) 0 }
 {
-    (value(pair % 256) * 16 + value(pair / 256)) as u8
+    let values = values(pair);
+    (values % 256 * 16 + values / 256) as u8
 }
 
 /// Whether a word is pairs of hexadecimal digits.

@@ -173,10 +173,10 @@ done_is reads setup sight (record_added entry) count few octets = tt
 done_is reads setup sight (locations_set locations) count few octets = tt
 done_is reads setup sight (contexts_set contexts) count few octets = tt
 done_is reads setup sight (mtu_set mtu) count few octets = tt
-done_is reads setup sight (put_on source joining) count few octets = tt
-done_is reads setup sight (written link write) count few octets =
+done_is reads setup sight (put_on joining) count few octets = tt
+done_is reads setup sight (written write) count few octets =
     read_done_is setup.slots sight (op_of write) (cause_of sight write) count few (λ op is. operation_is op write octets ((reads op write octets).0 is))
-done_is reads setup sight (train_heard source train) count few octets = train_is setup sight train
+done_is reads setup sight (train_heard train) count few octets = train_is setup sight train
 done_is reads setup sight train_lost count few octets = tt
 done_is reads setup sight (control heard) count few octets = control_is (control_heard sight.place heard)
 done_is reads setup sight told count few octets = tt
@@ -215,16 +215,17 @@ behind_are zero all are = are
 behind_are (suc n) [] are = tt
 behind_are (suc n) (first ∷ all) are = behind_are n all are.1
 
-served_is : (link : ℕ) (waiting : List (List ℕ)) (steps : List Step) → AllByRecursion IsOctets waiting → AllByRecursion IsWritten steps
-    → AllByRecursion IsWritten (with_step (option_map (written link) (slice_get waiting 0)) steps)
-served_is link [] steps waits are = are
-served_is link (first ∷ waiting) steps waits are = (waits.0, are)
+served_is : (waiting : List (List ℕ)) (steps : List Step) → AllByRecursion IsOctets waiting → AllByRecursion IsWritten steps
+    → AllByRecursion IsWritten (with_step (option_map written (slice_get waiting 0)) steps)
+served_is [] steps waits are = are
+served_is (first ∷ waiting) steps waits are = (waits.0, are)
 
 pub steps_are : (calls : List Call) → AreOctets calls → AllByRecursion IsWritten (steps_of calls)
 steps_are [] are = tt
 steps_are (stepped step ∷ earlier) are = (are.0, steps_are earlier are.1)
 steps_are (served link ∷ earlier) are =
-    served_is link (writes_waiting link earlier) (steps_of earlier) (behind_are (served_of link earlier) (writes link earlier) (writes_are link earlier are.1)) (steps_are earlier are.1)
+    served_is (writes_waiting link earlier) (steps_of earlier)
+    (behind_are (served_of link earlier) (writes link earlier) (writes_are link earlier are.1)) (steps_are earlier are.1)
 steps_are (_ ∷ earlier) are = steps_are earlier are.1
 
 pub states_back : ReadsOperations → ReadsStates → (setup : Setup) (slot : ℕ) (calls : List Call) → setup.slots < 256 → AreOctets calls

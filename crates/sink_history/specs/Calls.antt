@@ -56,7 +56,7 @@ writes_waiting link calls = drop (served_of link calls) (writes link calls)
 -- a write of any link is one, where one waits
 abbrev pub step_by : Call → List Call → Option Step
 step_by (stepped step) earlier = Some step
-step_by (served link) earlier = option_map (written link) (slice_get (writes_waiting link earlier) 0)
+step_by (served link) earlier = option_map written (slice_get (writes_waiting link earlier) 0)
 step_by _ earlier = None
 
 abbrev pub with_step : Option Step → List Step → List Step

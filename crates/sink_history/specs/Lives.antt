@@ -9,7 +9,7 @@ use Rattle.announcement_train.specs.declared.train.Train.{Train as Announced}
 use Rattle.delegator_history.specs.Announced.{heard_as}
 use Rattle.delegator_history.specs.LastGiven.{last_given}
 use Rattle.delegator_history.specs.States.{record_added, locations_set, contexts_set, put_on, train_heard, train_lost, control_heard}
-use Rattle.delegator_history.specs.Trains.{Setup, Train}
+use Rattle.delegator_history.specs.Trains.{Settings, Train}
 use Rattle.sync_reference.specs.Joining.{Joining}
 use Rattle.sink_history.specs.Calls as links
 use Rattle.sink_history.specs.Calls.{Call, stepped, born}
@@ -46,19 +46,15 @@ horizon_in version = if version == 2 then 31 else 15
 abbrev pub horizon_of : List Step → ℕ
 horizon_of earlier = horizon_in (unwrap_or (last_given version_given earlier) 1)
 
--- what the `sink` line of a living sink says: its limits, and the MTU of its links
-pub record Made : Type 0 where
-  pub setup : Setup
-  pub mtu : Option ℕ
-
-abbrev pub made_by : ℕ → Step → List Step → Option Made → Option Made
+-- what the `sink` line of a living sink says
+abbrev pub made_by : ℕ → Step → List Step → Option Settings → Option Settings
 made_by n (steps.Sink sink streams slots mtu) earlier made =
     if sink == n then Some (record { setup = record { streams = streams; slots = slots; horizon = horizon_of earlier }; mtu = mtu }) else made
 made_by n (steps.Drop sink) earlier made = if sink == n then None else made
 made_by n _ earlier made = made
 
 -- the sink of this number, where it lives
-abbrev pub made_of : ℕ → List Step → Option Made
+abbrev pub made_of : ℕ → List Step → Option Settings
 made_of n [] = None
 made_of n (step ∷ earlier) = made_by n step earlier (made_of n earlier)
 
@@ -77,19 +73,19 @@ abbrev pub record_of : (codec caps metadata : List ℕ) → PacRecord
 record_of codec caps metadata = record { codec = codec; caps = caps; metadata = metadata }
 
 -- the link is drained, of a sink that lives
-abbrev pub with_drain : Option Made → ℕ → List Call → List Call
+abbrev pub with_drain : Option Settings → ℕ → List Call → List Call
 with_drain None link calls = calls
 with_drain (Some made) link calls = drained made.setup made.mtu link calls
 
 -- the calls of the sink that a line names, before which it had these; the line means this source
-abbrev pub lived_by : Source → Step → Option Made → List Call → List Call
+abbrev pub lived_by : Source → Step → Option Settings → List Call → List Call
 lived_by source (steps.Drop sink) made calls = []
 lived_by source (steps.Pac sink codec caps metadata) made calls = stepped (record_added (record_of codec caps metadata)) ∷ calls
 lived_by source (steps.Locate sink bits) made calls = stepped (locations_set bits) ∷ calls
 lived_by source (steps.Context sink sink_bits source_bits) made calls = stepped (contexts_set sink_bits) ∷ calls
-lived_by source (steps.Tuned sink which) made calls = stepped (put_on source.number (source.joining which)) ∷ calls
-lived_by source (steps.Announce sink) made calls = stepped (train_heard source.number (own_train source)) ∷ calls
-lived_by source (steps.Train sink time ext adv acad) made calls = stepped (train_heard source.number (given_train source time ext adv acad)) ∷ calls
+lived_by source (steps.Tuned sink which) made calls = stepped (put_on (source.joining which)) ∷ calls
+lived_by source (steps.Announce sink) made calls = stepped (train_heard (own_train source)) ∷ calls
+lived_by source (steps.Train sink time ext adv acad) made calls = stepped (train_heard (given_train source time ext adv acad)) ∷ calls
 lived_by source (steps.Lose sink) made calls = stepped train_lost ∷ calls
 lived_by source (steps.Control sink octets) made calls = stepped (control_heard octets) ∷ calls
 lived_by source (steps.Write sink octets) made calls = links.asked 0 octets ∷ calls
@@ -149,11 +145,11 @@ named_by _ = None
 
 -- ---- its life, but for what it hears on the air and for the events that it closes
 
-abbrev pub lived_at : World → ℕ → Option ℕ → Step → List Step → Option Made → List Call → List Call
+abbrev pub lived_at : World → ℕ → Option ℕ → Step → List Step → Option Settings → List Call → List Call
 lived_at world n None line earlier made calls = calls
 lived_at world n (Some sink) line earlier made calls = if sink == n then lived_by (world.source earlier) line made calls else calls
 
-abbrev pub lived : World → ℕ → Step → List Step → Option Made → List Call → List Call
+abbrev pub lived : World → ℕ → Step → List Step → Option Settings → List Call → List Call
 lived world n (steps.Sink sink streams slots mtu) earlier made calls = if sink == n then born mtu else calls
 lived world n line earlier made calls = lived_at world n (named_by line) line earlier made calls
 

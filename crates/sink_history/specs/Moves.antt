@@ -3,13 +3,13 @@
 use Rattle.std.specs.Prelude.{ℕ, Bool, true, false, is_some, List, Option, Some, None, if◌then◌else◌}
 use Rattle.delegator_machine.specs.Groups.{with_step}
 use Rattle.delegator_history.specs.Sights.{Sight}
-use Rattle.delegator_history.specs.Trains.{Brought, Train, brought_by, heard, ignored, taken, joining_in}
+use Rattle.delegator_history.specs.Trains.{Brought, Settings, Train, brought_by, heard, ignored, taken, joining_in}
 use Rattle.sync_reference.specs.Joining.{Joining}
 use Rattle.group_sink.specs.Calls as sinks
 use Rattle.sink_history.specs.Calls.{Call}
 use Rattle.scenario_text.specs.declared.step.Step.{Step}
 use Rattle.scenario_text.specs.declared.step.Step.TheVariants as steps
-use Rattle.sink_history.specs.Lives.{Made, Source, given_train, own_train}
+use Rattle.sink_history.specs.Lives.{Source, given_train, own_train}
 use Rattle.sink_history.specs.Output.{sight_in}
 
 -- the train that a line hands a sink, where it hands one
@@ -20,18 +20,18 @@ train_by source _ = None
 
 -- ---- the group that it puts the sink on
 
-abbrev pub joining_of : Made → Sight → Option Train → Option Joining
+abbrev pub joining_of : Settings → Sight → Option Train → Option Joining
 joining_of made sight None = None
 joining_of made sight (Some train) = joining_in (brought_by made.setup sight train)
 
 -- the calls of the receivers after a line, before which the sink had this life and behind which it has that one
-abbrev pub received_by : Source → Step → Option Made → (before after : List Call) → List sinks.Call → List sinks.Call
+abbrev pub received_by : Source → Step → Option Settings → (before after : List Call) → List sinks.Call → List sinks.Call
 received_by source line None before after calls = calls
 received_by source line (Some made) before after calls =
     with_step (joining_of made (sight_in made before) (train_by source line)) (sight_in made before) (sight_in made after) calls
 
 -- the line puts the sink on a group
-abbrev pub brings_by : Source → Step → Option Made → List Call → Bool
+abbrev pub brings_by : Source → Step → Option Settings → List Call → Bool
 brings_by source line None before = false
 brings_by source line (Some made) before = is_some (joining_of made (sight_in made before) (train_by source line))
 
@@ -43,11 +43,11 @@ follows (ignored answer) = false
 follows (heard slot answer encrypted) = true
 follows (taken slot bits encrypted joining) = true
 
-abbrev pub follows_by : Source → Option Train → Option Made → List Call → Bool
+abbrev pub follows_by : Source → Option Train → Option Settings → List Call → Bool
 follows_by source None made before = false
 follows_by source (Some train) None before = false
 follows_by source (Some train) (Some made) before = follows (brought_by made.setup (sight_in made before) train)
 
 -- the source of the last line that put it on a train or a group
-abbrev pub source_by : Source → Step → Option Made → List Call → Option ℕ → Option ℕ
+abbrev pub source_by : Source → Step → Option Settings → List Call → Option ℕ → Option ℕ
 source_by source step made before its_source = if follows_by source (train_by source step) made before then Some source.number else its_source

@@ -6,7 +6,7 @@ use Rattle.delegator_history.specs.States.{Step, written}
 use Rattle.sink_history.specs.Calls.{Call, stepped, asked}
 
 abbrev pub IsWritten : Step → Type 0
-IsWritten (written link octets) = IsOctets octets
+IsWritten (written octets) = IsOctets octets
 IsWritten _ = Unit {0}
 
 abbrev pub IsAsked : Call → Type 0

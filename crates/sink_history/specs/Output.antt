@@ -8,7 +8,7 @@ use Rattle.delegator_history.specs.declared.replies.Reply.{Reply}
 use Rattle.delegator_history.specs.Controls as controls
 use Rattle.delegator_history.specs.Sights.{Sight}
 use Rattle.delegator_history.specs.States.{sight_of}
-use Rattle.delegator_history.specs.Trains.{Train, answer_of, brought_by}
+use Rattle.delegator_history.specs.Trains.{Settings, Train, answer_of, brought_by}
 use Rattle.delegator_history.specs.Values.{value}
 use Rattle.delegator_history.specs.Writes.{reply_of}
 use Rattle.sink_history.specs.Calls as links
@@ -18,28 +18,28 @@ use Rattle.sink_history.specs.Links.{delivered, notices_waiting, reads_waiting, 
 use Rattle.scenario_text.specs.declared.step.Step.{Step}
 use Rattle.scenario_text.specs.declared.step.Step.TheVariants as steps
 use Rattle.transcript_text.specs.SinkLines.{Label, control_words, forged_line, on_link, plain, reply_line, sink_line, train_line, train_words, value_line}
-use Rattle.sink_history.specs.Lives.{Made, Source, World, given_train, life_of, made_of, named_by, own_train}
+use Rattle.sink_history.specs.Lives.{Source, World, given_train, life_of, made_of, named_by, own_train}
 
 -- what the sink has
-abbrev pub sight_in : Made → List Call → Sight
+abbrev pub sight_in : Settings → List Call → Sight
 sight_in made calls = sight_of made.setup (steps_of calls)
 
 -- ---- one call on a link
 
 -- the reply to the first write that waits
-abbrev pub replied : Made → ℕ → List Call → Option Reply
+abbrev pub replied : Settings → ℕ → List Call → Option Reply
 replied made link calls = option_map (reply_of (sight_in made calls)) (slice_get (writes_waiting link calls) 0)
 
 -- the first notice that waits, cut to the MTU
-abbrev pub notified : Made → ℕ → List Call → Option Notice
+abbrev pub notified : Settings → ℕ → List Call → Option Notice
 notified made link calls = option_map (delivered made.mtu) (slice_get (notices_waiting made.setup made.mtu link calls) 0)
 
 -- a slot with the octets of its state
-abbrev pub stated : Made → List Call → ℕ → Notice
+abbrev pub stated : Settings → List Call → ℕ → Notice
 stated made calls slot = record { slot = slot; value = value (state made.setup slot calls) }
 
 -- the read that waits of the lowest slot, with the octets of its state
-abbrev pub was_read : Made → ℕ → List Call → Option Notice
+abbrev pub was_read : Settings → ℕ → List Call → Option Notice
 was_read made link calls = option_map (stated made calls) (slice_get (reads_waiting made.setup made.mtu link calls) 0)
 
 -- lines in order
@@ -51,33 +51,33 @@ abbrev pub if_there : {A : Type 0} → (A → List ℕ) → Option A → Lines
 if_there line None = []
 if_there line (Some what) = line what ∷ []
 
-abbrev pub serve_line : Label → Made → ℕ → List Call → Lines
+abbrev pub serve_line : Label → Settings → ℕ → List Call → Lines
 serve_line label made link calls = if_there (reply_line label) (replied made link calls)
 
-abbrev pub tell_line : Label → Made → ℕ → List Call → Lines
+abbrev pub tell_line : Label → Settings → ℕ → List Call → Lines
 tell_line label made link calls = if_there (value_line label.notice label.numbers) (notified made link calls)
 
-abbrev pub read_line : Label → Made → ℕ → List Call → Lines
+abbrev pub read_line : Label → Settings → ℕ → List Call → Lines
 read_line label made link calls = if_there (value_line label.read label.numbers) (was_read made link calls)
 
 -- ---- a drain: all writes, then all notices, then all reads
 
-abbrev pub serve_lines : Label → Made → (link count : ℕ) → List Call → Lines
+abbrev pub serve_lines : Label → Settings → (link count : ℕ) → List Call → Lines
 serve_lines label made link zero calls = []
 serve_lines label made link (suc count) calls =
     serve_lines label made link count calls ++ serve_line label made link (repeated count (links.served link) calls)
 
-abbrev pub tell_lines : Label → Made → (link count : ℕ) → List Call → Lines
+abbrev pub tell_lines : Label → Settings → (link count : ℕ) → List Call → Lines
 tell_lines label made link zero calls = []
 tell_lines label made link (suc count) calls =
     tell_lines label made link count calls ++ tell_line label made link (repeated count (links.told link) calls)
 
-abbrev pub read_lines : Label → Made → (link count : ℕ) → List Call → Lines
+abbrev pub read_lines : Label → Settings → (link count : ℕ) → List Call → Lines
 read_lines label made link zero calls = []
 read_lines label made link (suc count) calls =
     read_lines label made link count calls ++ read_line label made link (repeated count (links.read link) calls)
 
-abbrev pub drain_lines : Label → Made → ℕ → List Call → Lines
+abbrev pub drain_lines : Label → Settings → ℕ → List Call → Lines
 drain_lines label made link calls =
     let served : List Call = served_out link calls in
     let told : List Call = told_out made.setup made.mtu link served in
@@ -88,27 +88,27 @@ drain_lines label made link calls =
 -- ---- states and views, by rising slot
 
 -- a slot with the octets of its view on a link
-abbrev pub viewed : Made → ℕ → List Call → ℕ → Notice
+abbrev pub viewed : Settings → ℕ → List Call → ℕ → Notice
 viewed made link calls slot = record { slot = slot; value = value (view made.setup made.mtu link slot calls) }
 
-abbrev pub show_lines : ℕ → Made → List Call → Lines
+abbrev pub show_lines : ℕ → Settings → List Call → Lines
 show_lines sink made calls =
     flat_map (λ slot. value_line (codes "state") (decimal sink ∷ []) (stated made calls slot)
     ∷ value_line (codes "view") (decimal sink ∷ []) (viewed made 0 calls slot) ∷ []) (range_with_len 0 made.setup.slots)
 
-abbrev pub view_lines : (sink link : ℕ) → Made → List Call → Lines
+abbrev pub view_lines : (sink link : ℕ) → Settings → List Call → Lines
 view_lines sink link made calls =
     map (λ slot. value_line (codes "aview") (decimal sink ∷ decimal link ∷ []) (viewed made link calls slot)) (range_with_len 0 made.setup.slots)
 
 -- ---- trains
 
-abbrev pub heard_line : ℕ → Made → List Call → Train → List ℕ
+abbrev pub heard_line : ℕ → Settings → List Call → Train → List ℕ
 heard_line sink made calls train = sink_line sink (train_words (answer_of (brought_by made.setup (sight_in made calls) train)))
 
 -- ---- all of it
 
 -- what a step prints that names a living sink with this life
-abbrev pub printed_of : Source → Step → Made → List Call → Lines
+abbrev pub printed_of : Source → Step → Settings → List Call → Lines
 printed_of source (steps.Serve sink) made calls = serve_line (plain sink) made 0 calls
 printed_of source (steps.Tell sink) made calls = tell_line (plain sink) made 0 calls
 printed_of source (steps.Read sink) made calls = read_line (plain sink) made 0 calls
@@ -131,7 +131,7 @@ printed_of source (steps.AShow sink link) made calls = view_lines sink link made
 printed_of source _ made calls = []
 
 -- the same of a sink that lives or not
-abbrev pub printed_where : Source → Step → Option Made → List Call → Lines
+abbrev pub printed_where : Source → Step → Option Settings → List Call → Lines
 printed_where source line None calls = []
 printed_where source line (Some made) calls = printed_of source line made calls
 

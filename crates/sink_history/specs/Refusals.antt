@@ -10,7 +10,8 @@ use Rattle.scenario_text.specs.declared.step.Step.{Step}
 use Rattle.scenario_text.specs.declared.step.Step.TheVariants as steps
 use Rattle.transcript_text.specs.declared.refusal.Refusal.{Refusal}
 use Rattle.transcript_text.specs.declared.refusal.Refusal.TheVariants.{NoSuchSink, NoSuchLink, LinkTwice, NothingWaiting, RecordsTooLong}
-use Rattle.sink_history.specs.Lives.{Made, World, life_of, made_of, named_by, record_of}
+use Rattle.delegator_history.specs.Trains.{Settings}
+use Rattle.sink_history.specs.Lives.{World, life_of, made_of, named_by, record_of}
 use Rattle.sink_history.specs.Output.{sight_in}
 
 abbrev pub refuse_if : Bool → Refusal → Option Refusal
@@ -41,13 +42,13 @@ link_twice calls _ = None
 abbrev pub no_write : ℕ → List Call → Option Refusal
 no_write link calls = refuse_if (is_none (slice_get (writes_waiting link calls) 0)) NothingWaiting
 
-abbrev pub no_notice : Made → ℕ → List Call → Option Refusal
+abbrev pub no_notice : Settings → ℕ → List Call → Option Refusal
 no_notice made link calls = refuse_if (is_none (slice_get (notices_waiting made.setup made.mtu link calls) 0)) NothingWaiting
 
-abbrev pub no_read : Made → ℕ → List Call → Option Refusal
+abbrev pub no_read : Settings → ℕ → List Call → Option Refusal
 no_read made link calls = refuse_if (is_none (slice_get (reads_waiting made.setup made.mtu link calls) 0)) NothingWaiting
 
-abbrev pub nothing_waits : Made → List Call → Step → Option Refusal
+abbrev pub nothing_waits : Settings → List Call → Step → Option Refusal
 nothing_waits made calls (steps.Serve sink) = no_write 0 calls
 nothing_waits made calls (steps.Tell sink) = no_notice made 0 calls
 nothing_waits made calls (steps.Read sink) = no_read made 0 calls
@@ -57,19 +58,19 @@ nothing_waits made calls (steps.ARead sink link) = no_read made link calls
 nothing_waits made calls _ = None
 
 -- the value of the records, with this one behind them, is too long
-abbrev pub no_record_room : Made → List Call → Step → Option Refusal
+abbrev pub no_record_room : Settings → List Call → Step → Option Refusal
 no_record_room made calls (steps.Pac sink codec caps metadata) =
     refuse_if (nat_lt greatest_value (length (value ((sight_in made calls).capability.entries ++ record_of codec caps metadata ∷ [])))) RecordsTooLong
 no_record_room made calls _ = None
 
 -- ---- the first that holds
 
-abbrev pub refused_by : Step → Made → List Call → Option Refusal
+abbrev pub refused_by : Step → Settings → List Call → Option Refusal
 refused_by step made calls =
     option_or (no_link calls (link_named step))
     (option_or (link_twice calls step) (option_or (nothing_waits made calls step) (no_record_room made calls step)))
 
-abbrev pub refused_where : Step → Option Made → List Call → Option Refusal
+abbrev pub refused_where : Step → Option Settings → List Call → Option Refusal
 refused_where line None calls = Some NoSuchSink
 refused_where line (Some made) calls = refused_by line made calls
 

@@ -35,7 +35,7 @@ impl SourceStreaming {
         }
         match self.lay_next() {
             Ok(stale) => Ok(stale),
-            Err(_) => {
+            Err(Memory) => {
                 self.has_failed = true;
                 Err(EventFault::Memory)
             }

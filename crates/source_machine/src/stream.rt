@@ -107,7 +107,8 @@ impl Stream {
         requires subevent { subevent < group.now.info.nse }
         ensures { sent_of self.now back subevent ≡ Some result.now }
     {
-        let behind = u64::from(group.horizon()) - events_ahead(group, subevent) + u64::from(back);
+        let horizon = self.laid.capacity() as u64 - u64::from(EVENTS);
+        let behind = horizon - events_ahead(group, subevent) + u64::from(back);
         let pdus = self.laid.nth_back(behind as usize).unwrap();
         pdus.pdu(usize::from(subevent % group.info.bn))
     }

@@ -150,7 +150,7 @@ impl SourceStreaming {
         }
         match self.perform() {
             Ok(sent) => Ok(sent),
-            Err(_) => {
+            Err(Memory) => {
                 self.has_failed = true;
                 Err(EventFault::Memory)
             }

@@ -1,18 +1,15 @@
 //! What each sink can take, as its lines said it, and why it takes no stream of a BASE.
-ghost use Rattle.std.specs.Prelude.{◌<◌, length, vec_len, IfSome, IsTrue};
-ghost use Rattle.ltv_codec.specs.Layout.{AreLtvs};
+ghost use Rattle.std.specs.Prelude.{◌<◌, vec_len, IfSome};
 
-use crate::note::put_note;
-use base_grammar::{Base, decode_base, service_data};
+use crate::compared::{is_list, put_values};
+use crate::trains::Identity;
+use base_grammar::{Base, decode_base};
 use bcast_base::{Bis, Memory, Octets};
-use ltv_codec::check_ltvs;
 use pacs_records::{Capability, NotTaken, PacRecord, PushFault, Records, takes};
-use printed_words::Word;
+use printed_words::{Word, put_words};
 use scenario_text::Step;
 use std::alloc::Global;
-
-/// Of the Basic Audio Announcement Service (Basic Audio Profile 1.0, section 3.7.2.2).
-const BASIC_AUDIO_ANNOUNCEMENT: u16 = 0x1851;
+use unit_notes::put_note;
 
 /// The contexts that are available at first: all.
 const ALL_CONTEXTS: u16 = 0xffff;
@@ -22,6 +19,8 @@ const ALL_CONTEXTS: u16 = 0xffff;
 struct Ear {
     sink: u8,
     capability: Capability,
+    /// The train by which it came where it is, unless that was `tuned`.
+    followed: Option<Identity>,
 }
 
 /// The sinks that live.
@@ -53,6 +52,10 @@ impl Ears {
             Step::Sink { sink, .. } => self.add(sink),
             Step::Drop { sink } => {
                 self.remove(sink);
+                Ok(())
+            }
+            Step::Tuned { sink, .. } => {
+                self.follow(sink, None);
                 Ok(())
             }
             Step::Pac {
@@ -95,7 +98,11 @@ impl Ears {
             locations: 0,
             contexts: ALL_CONTEXTS,
         };
-        match self.ears.push(Ear { sink, capability }) {
+        match self.ears.push(Ear {
+            sink,
+            capability,
+            followed: None,
+        }) {
             Ok(()) => Ok(()),
             Err(_) => Err(Memory),
         }
@@ -116,18 +123,28 @@ impl Ears {
         push_record(&mut self.ears[place].capability.entries, record)
     }
 
-    /// Puts why a sink takes no stream of the BASE in these octets of advertising data: for each stream the first row of the match that
+    /// The train by which a sink came where it is.
+    pub(crate) fn followed(&self, sink: u8) -> Option<Identity> {
+        let place = self.place_of(sink)?;
+        self.ears[place].followed
+    }
+
+    /// A sink is where this train put it, or where `tuned` did.
+    pub(crate) fn follow(&mut self, sink: u8, train: Option<Identity>) {
+        if let Some(place) = self.place_of(sink) {
+            self.ears[place].followed = train;
+        }
+    }
+
+    /// Puts why a sink takes no stream of the BASE that these octets are: for each stream the first row of the match that
     /// its last record doesn't meet (Published Audio Capabilities Service 1.0).
     pub(crate) fn put_reasons(
         &self,
         rows: &mut Octets,
         sink: u8,
-        advertised: &[u8],
+        octets: &[u8],
     ) -> Result<(), Memory> {
         let Some(place) = self.place_of(sink) else {
-            return Ok(());
-        };
-        let Ok(Some(octets)) = service_data(advertised, BASIC_AUDIO_ANNOUNCEMENT) else {
             return Ok(());
         };
         let Ok(base) = decode_base(self.alloc, octets) else {
@@ -135,17 +152,6 @@ impl Ears {
         };
         put_streams(rows, &self.ears[place].capability, &base)
     }
-}
-
-/// Whether octets are an LTV list that a record may have.
-fn is_list(octets: &[u8]) -> bool
-    ensures list { IsTrue result → AreLtvs octets.now }
-    ensures short { IsTrue result → length octets.now < 256 }
-{
-    if octets.len() > 255 {
-        return false;
-    }
-    check_ltvs(octets).is_ok()
 }
 
 /// Adds a record that fits.
@@ -185,22 +191,29 @@ fn put_stream(
     base: &Base,
     bis: Bis,
 ) -> Result<(), Memory> {
-    let Some(_effective) = base.effective(bis) else {
+    let Some(effective) = base.effective(bis) else {
         return Ok(());
     };
-    let row = match takes(capability, base, bis) {
-        Ok(()) => "a record fits; so the slot doesn't want it, or it is above NUMBIS",
-        Err(reason) => row_of(reason),
+    let unmet = takes(capability, base, bis).err();
+    let row = match unmet {
+        None => "a record fits; so the slot doesn't want it, or it is above NUMBIS",
+        Some(reason) => row_of(reason),
     };
-    put_note(
+    put_words(
         rows,
+        b"  # stream",
         &[
-            Word::Text(b"stream"),
             Word::Number(u64::from(bis.get())),
+            Word::Text(b"of subgroup"),
+            Word::Number(effective.subgroup as u64),
             Word::Text(b"is not taken:"),
             Word::Text(row.as_bytes()),
         ],
-    )
+    )?;
+    if let Some(reason) = unmet {
+        put_values(rows, reason, &effective, capability)?;
+    }
+    rows.push(b'\n')
 }
 
 /// The row of the match that is not met.

@@ -1,124 +1,23 @@
 //! Which numbers of a group don't go together.
-use crate::note::put_note;
 use bcast_base::{Memory, Octets};
 use big_info::GroupFault;
 use printed_words::Word;
-use scenario_text::Step;
+use unit_notes::{Numbers, put_note, quotient};
 
-/// The numbers of a `group` line, as far as they are tested.
-#[derive(Clone, Copy)]
-pub(crate) struct Numbers {
-    iso: u64,
-    pub(crate) sdu: u64,
-    max_sdu: u64,
-    pub(crate) max_pdu: u64,
-    pub(crate) num_bis: u64,
-    pub(crate) bn: u64,
-    pub(crate) nse: u64,
-    pub(crate) irc: u64,
-    pub(crate) pto: u64,
-    sub: u64,
-    spacing: u64,
-    phy: u64,
+/// How many events a payload of such a group may be sent ahead.
+fn horizon(of: &Numbers) -> u64 {
+    let places = quotient(of.nse, of.bn);
+    of.pto.saturating_mul(places.saturating_sub(of.irc))
 }
 
-/// The numbers before any `group` line.
-pub(crate) const NONE: Numbers = Numbers {
-    iso: 0,
-    sdu: 0,
-    max_sdu: 0,
-    max_pdu: 0,
-    num_bis: 0,
-    bn: 0,
-    nse: 0,
-    irc: 0,
-    pto: 0,
-    sub: 0,
-    spacing: 0,
-    phy: 0,
-};
-
-/// The numbers of a step that is `group`.
-pub(crate) fn numbers_of(step: &Step) -> Option<Numbers> {
-    match step {
-        Step::Group {
-            iso,
-            sdu,
-            max_sdu,
-            max_pdu,
-            num_bis,
-            bn,
-            nse,
-            irc,
-            pto,
-            sub,
-            spacing,
-            phy,
-            ..
-        } => Some(Numbers {
-            iso: u64::from(*iso),
-            sdu: u64::from(*sdu),
-            max_sdu: u64::from(*max_sdu),
-            max_pdu: u64::from(*max_pdu),
-            num_bis: u64::from(*num_bis),
-            bn: u64::from(*bn),
-            nse: u64::from(*nse),
-            irc: u64::from(*irc),
-            pto: u64::from(*pto),
-            sub: u64::from(*sub),
-            spacing: u64::from(*spacing),
-            phy: u64::from(*phy),
-        }),
-        _ => None,
-    }
-}
-
-impl Numbers {
-    /// The ISO interval in µs.
-    pub(crate) fn interval(&self) -> u64 {
-        self.iso.saturating_mul(1250)
-    }
-
-    /// The time of the longest PDU in µs, with the octets of its MIC where the group is encrypted.
-    fn longest(&self, is_encrypted: bool) -> u64 {
-        let more: u64 = if is_encrypted { 4 } else { 0 };
-        let octets = self.max_pdu.saturating_add(more);
-        if self.phy == 0 {
-            octets.saturating_add(10).saturating_mul(8)
-        } else {
-            octets.saturating_add(11).saturating_mul(4)
-        }
-    }
-
-    /// The delay from the first subevent to the end of the last in µs.
-    pub(crate) fn delay(&self, is_encrypted: bool) -> u64 {
-        let streams = self.num_bis.saturating_sub(1).saturating_mul(self.spacing);
-        let subevents = self.nse.saturating_sub(1).saturating_mul(self.sub);
-        streams
-            .saturating_add(subevents)
-            .saturating_add(self.longest(is_encrypted))
-    }
-
-    /// How many events a payload may be sent ahead.
-    fn horizon(&self) -> u64 {
-        let places = quotient(self.nse, self.bn);
-        self.pto.saturating_mul(places.saturating_sub(self.irc))
-    }
-
-    /// The units of an event, each in so many PDUs.
-    fn pdus(&self) -> u64 {
-        let units = quotient(self.interval(), self.sdu);
-        let parts = quotient(
-            self.max_sdu.saturating_add(self.max_pdu).saturating_sub(1),
-            self.max_pdu,
-        );
-        units.saturating_mul(parts)
-    }
-}
-
-/// How often a number goes into another; 0 where it is 0.
-pub(crate) fn quotient(number: u64, by: u64) -> u64 {
-    if by == 0 { 0 } else { number / by }
+/// The PDUs that the units of an event take.
+fn pdus(of: &Numbers) -> u64 {
+    let units = quotient(of.interval(), of.sdu);
+    let parts = quotient(
+        of.max_sdu.saturating_add(of.max_pdu).saturating_sub(1),
+        of.max_pdu,
+    );
+    units.saturating_mul(parts)
 }
 
 /// A text as a word.
@@ -218,7 +117,7 @@ fn put_time_fault(
             rows,
             &[
                 say("UnframedBn: BN of an unframed group is k x m ="),
-                Word::Number(of.pdus()),
+                Word::Number(pdus(of)),
                 say("(k units an interval, m PDUs a unit), and here it is"),
                 Word::Number(of.bn),
             ],
@@ -227,7 +126,7 @@ fn put_time_fault(
             rows,
             &[
                 say("Horizon: H = PTO x (NSE / BN - IRC) ="),
-                Word::Number(of.horizon()),
+                Word::Number(horizon(of)),
                 say("is at most 15, and 31 in version 2"),
             ],
         ),

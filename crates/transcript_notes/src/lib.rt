@@ -2,24 +2,16 @@
 #![tactic(auto)]
 
 mod answers;
-mod asking;
-mod closing;
+mod compared;
 mod ears;
-mod fate;
 mod forms;
 mod group;
-mod ledger;
-mod marks;
 mod misfits;
-mod note;
 mod notes;
-mod pdus;
 mod phases;
 mod refusals;
 mod rows;
-mod schedule;
-mod unit_notes;
-mod unit_row;
-mod units;
+mod trains;
+mod words;
 
 pub use notes::Notes;

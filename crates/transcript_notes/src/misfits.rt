@@ -1,8 +1,9 @@
 //! Which word of a line doesn't fit its place, and what the place takes.
 use crate::forms::{FIRST, PLACES, SECOND};
-use crate::note::{put_note, word_at};
+use crate::words::word_at;
 use bcast_base::{Memory, Octets};
 use printed_words::Word;
+use unit_notes::put_note;
 
 /// A line of the language.
 #[derive(Clone, Copy)]

@@ -1,14 +1,14 @@
 //! What is kept of a scenario for its notes, and the notes of a line.
-ghost use Rattle.std.specs.Prelude.{◌≡◌, ◌⊎◌};
+ghost use Rattle.std.specs.Prelude.{◌≡◌, ◌⊎◌, length, take, OnErr, OnOk};
 
 use crate::ears::Ears;
 use crate::group::put_fault;
 use crate::misfits::put_misfit;
-use crate::note::{digit_of, octets_at, put_note, word_at};
 use crate::phases::{ABSENT, Source, order_of};
 use crate::refusals::row_of;
-use crate::rows::put_row_note;
-use crate::units::Units;
+use crate::rows::{is_joined, put_row_note};
+use crate::trains::{Train, is_ignored, put_compared};
+use crate::words::{digit_of, word_at};
 use bcast_base::{Memory, Octets};
 use printed_words::Word;
 use replay_steps::Machine;
@@ -16,9 +16,7 @@ use scenario_reading::read_line_in;
 use scenario_text::Step;
 use std::alloc::Global;
 use transcript_text::Refusal;
-
-/// The place of ADV in a `train` line.
-const ADVERTISED: u64 = 4;
+use unit_notes::{Units, put_note};
 
 /// The notes of the lines of a scenario, line by line. It keeps no step of a line that was run: of each source how far it has come and its
 /// schedule, of each sink what it can take, and of each stream at a sink what became of its units and PDUs.
@@ -68,8 +66,26 @@ impl Notes {
     }
 
     /// Puts the notes of the line that began last and was run: `text` has the rows of the transcript that it brought, `machine` is what it
-    /// left, and `refused` why it was refused. After Memory a front of the notes may stand there.
+    /// left, and `refused` why it was refused. What stands in the rows stays, and after Memory no note is put.
+    #[tactic(auto, using(crate::proofs::Stays::front_stays))]
     pub fn put(
+        &mut self,
+        rows: &mut Octets,
+        line: &[u8],
+        machine: &Machine,
+        text: &[u8],
+        refused: Option<Refusal>,
+    ) -> Result<(), Memory>
+        ensures ok { OnOk result (take (length rows.old) rows.new ≡ rows.old) }
+        ensures err { OnErr result (rows.new ≡ rows.old) }
+    {
+        let mut notes = Octets::new(self.alloc);
+        self.put_notes(&mut notes, line, machine, text, refused)?;
+        rows.append(notes.as_slice())
+    }
+
+    /// The same notes alone. After Memory a front of them may stand there.
+    fn put_notes(
         &mut self,
         rows: &mut Octets,
         line: &[u8],
@@ -151,7 +167,7 @@ impl Notes {
     }
 
     /// Puts the notes of the rows that a line brought.
-    fn put_rows(&self, rows: &mut Octets, line: &[u8], text: &[u8]) -> Result<(), Memory> {
+    fn put_rows(&mut self, rows: &mut Octets, line: &[u8], text: &[u8]) -> Result<(), Memory> {
         let mut start = 0;
         let mut train = line;
         for end in 0..text.len() {
@@ -161,23 +177,30 @@ impl Notes {
                     train = row;
                 }
                 put_row_note(rows, row)?;
-                self.put_none_taken(rows, row, train)?;
+                self.put_answer(rows, row, train)?;
                 start = end + 1;
             }
         }
         Ok(())
     }
 
-    /// Puts why a sink took no stream, where the row says that it took none of this train: a `train` line or a row of that form.
-    fn put_none_taken(&self, rows: &mut Octets, row: &[u8], train: &[u8]) -> Result<(), Memory> {
-        if !row.starts_with(b"sink ") || !row.ends_with(b" NoneTaken") {
+    /// Puts what was compared, where the row is the answer of a sink to this train: a `train` line or a row of that form.
+    fn put_answer(&mut self, rows: &mut Octets, row: &[u8], train: &[u8]) -> Result<(), Memory> {
+        let (Some(sink), Some(answer)) = (word_at(row, 1), word_at(row, 2)) else {
+            return Ok(());
+        };
+        if !row.starts_with(b"sink ") {
             return Ok(());
         }
-        let sink = digit_of(word_at(row, 1).unwrap_or(b""));
-        match octets_at(self.alloc, train, ADVERTISED) {
-            Some(advertised) => self.ears.put_reasons(rows, sink, advertised.as_slice()),
-            None => Ok(()),
+        let Some(train) = Train::read(self.alloc, train, self.chosen()) else {
+            return Ok(());
+        };
+        let sink = digit_of(sink);
+        put_compared(rows, answer, &train, &self.ears, sink, self.is_second)?;
+        if !is_ignored(answer) {
+            self.ears.follow(sink, Some(train.identity));
         }
+        Ok(())
     }
 
     /// Notes a step that was made.
@@ -198,7 +221,7 @@ impl Notes {
                     self.first.made(&step);
                 }
                 let source = self.source();
-                self.units.made(machine, source, &step, text)?;
+                self.units.made(machine, source, &step, is_joined(text))?;
             }
         }
         self.ears.made(step)

@@ -20,6 +20,9 @@ pub(crate) struct Source {
     pub(crate) has_subgroup: bool,
     /// Whether the last subgroup has no stream.
     pub(crate) is_bare: bool,
+    /// Of `ident`, else 0.
+    pub(crate) address_type: u8,
+    pub(crate) sid: u8,
 }
 
 /// A source of which no line was said.
@@ -30,6 +33,8 @@ pub(crate) const ABSENT: Source = Source {
     has_cipher: false,
     has_subgroup: false,
     is_bare: false,
+    address_type: 0,
+    sid: 0,
 };
 
 impl Source {
@@ -40,7 +45,15 @@ impl Source {
                 self.phase = Phase::Described;
                 self.is_framed = *framing == 1;
             }
-            Step::Ident { .. } => self.has_ident = true,
+            Step::Ident {
+                address_type,
+                sid,
+                ..
+            } => {
+                self.has_ident = true;
+                self.address_type = *address_type;
+                self.sid = *sid;
+            }
             Step::Cipher { .. } => self.has_cipher = true,
             Step::Subgroup { .. } => {
                 self.has_subgroup = true;

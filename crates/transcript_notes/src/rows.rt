@@ -1,8 +1,9 @@
 //! Notes of the rows of the transcript that a line brought.
 use crate::answers::{of_dropped, of_forged, of_heard, of_reply, of_train};
-use crate::note::{put_note, word_at};
+use crate::words::word_at;
 use bcast_base::{Memory, Octets};
 use printed_words::Word;
+use unit_notes::put_note;
 
 /// The meaning of a row, where there is one to tell.
 pub(crate) fn meaning_of(row: &[u8]) -> Option<&'static [u8]> {
@@ -34,4 +35,18 @@ pub(crate) fn put_row_note(rows: &mut Octets, row: &[u8]) -> Result<(), Memory> 
         Some(comes) => put_note(rows, &[Word::Text(comes)]),
         None => Ok(()),
     }
+}
+
+/// Whether a row says that a sink is on a group.
+pub(crate) fn is_joined(text: &[u8]) -> bool {
+    let mut start = 0;
+    for end in 0..text.len() {
+        if text[end] == b'\n' {
+            if word_at(&text[start..end], 2) == Some(b"OnGroup".as_slice()) {
+                return true;
+            }
+            start = end + 1;
+        }
+    }
+    false
 }

@@ -1,7 +1,8 @@
 -- Where the first line of a text ends.
 use Rattle.std.proofs.Common.{◌≡◌, ◌≤◌, ◌<◌, ◌-◌, ℕ, zero, suc, true, false, cond, nat_eq, List, [], ◌∷◌, length, get_or, take, drop, refl, ap, ◌∙◌, arith}
 use Rattle.std.proofs.lemmas.Bool.{false_from_ne_true}
-use Rattle.transcript_text.specs.CountedLines.{lines_of, onto_first}
+use Rattle.printed_words.specs.Lines.{onto_first}
+use Rattle.transcript_text.specs.CountedLines.{lines_of}
 
 -- a text without an end is one line
 pub no_end : (text : List ℕ) → 0 < length text → ((k : ℕ) → 0 ≤ k → k < length text → nat_eq (get_or text k 0) 10 ≡ true → ⊥) → lines_of text ≡ text ∷ []

@@ -1,6 +1,7 @@
 -- Texts of whole lines.
 use Rattle.std.proofs.Common.{◌≡◌, ℕ, Bool, true, false, cond, nat_eq, List, [], ◌∷◌, ◌++◌, refl, ap, sym, ◌∙◌, append_assoc}
-use Rattle.transcript_text.specs.CountedLines.{lines_of, onto_first, IsWhole}
+use Rattle.printed_words.specs.Lines.{onto_first}
+use Rattle.transcript_text.specs.CountedLines.{lines_of, IsWhole}
 
 pub whole_none : IsWhole []
 whole_none more = refl

@@ -1,12 +1,8 @@
 -- The lines of a text, each with the octet that ends it. What stands behind the last of these is a line too, without an end.
 -- The transcript and its summary are this project's own.
 use Rattle.std.specs.Prelude.{ℕ, ◌≡◌, ◌==◌, List, [], ◌∷◌, ◌++◌, if◌then◌else◌}
+use Rattle.printed_words.specs.Lines.{onto_first}
 use Rattle.transcript_text.specs.Lines.{newline}
-
--- an octet at the front of the first line
-abbrev pub onto_first : ℕ → List (List ℕ) → List (List ℕ)
-onto_first octet [] = (octet ∷ []) ∷ []
-onto_first octet (line ∷ lines) = (octet ∷ line) ∷ lines
 
 abbrev pub lines_of : List ℕ → List (List ℕ)
 lines_of [] = []

@@ -1,6 +1,6 @@
 -- What a Scan Delegator keeps, and the calls that it stands for.
-use Rattle.std.specs.Prelude.{ℕ, ◌≡◌, List, Option}
-use Rattle.delegator_history.specs.Trains.{Setup}
+use Rattle.std.specs.Prelude.{◌≡◌, List, Option}
+use Rattle.delegator_history.specs.Trains.{Settings, Setup}
 use Rattle.group_sink.specs.State.Sinks.{OnGroup, StandsFor as SinkStands}
 use Rattle.delegator_control.specs.State.Machines.{Machine, StandsFor as ScanStands}
 use Rattle.delegator_machine.specs.Calls.{Call, steps_of}
@@ -12,10 +12,6 @@ pub record Halves : Type 0 where
   pub sink : Option OnGroup
 
 -- what was fixed as it was made, and the MTU that was set last
-pub record Settings : Type 0 where
-  pub setup : Setup
-  pub mtu : Option ℕ
-
 abbrev pub settings_of : Halves → Settings
 settings_of delegator = record { setup = delegator.scan.setup; mtu = delegator.scan.mtu }
 

@@ -7,6 +7,6 @@ use Rattle.isoal_framed.specs.declared.stream.Stream.{Stream}
 pub record IsReceiver (stream : Stream) (event : ℕ) (store : Store) : Type 0 where
   pub room : length store.places.ring.items ≡ window_of stream.group.info
   pub octets : store.places.max_pdu ≡ stream.group.info.max_pdu
-  pub buffer : vec_len store.joining.octets ≡ stream.group.info.max_sdu
+  pub buffer : vec_len store.undecided.octets ≡ stream.group.info.max_sdu
   pub first : stream.first ≤ event
   pub last : event ≤ 2 ^ 39

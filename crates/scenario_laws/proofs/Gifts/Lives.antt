@@ -4,13 +4,14 @@ use Rattle.std.proofs.Common.{ℕ, suc, ◌≡◌, ◌+◌, ◌==◌, ◌||◌, 
 use Rattle.std.specs.Prelude.{unwrap_or}
 use Rattle.std.specs.Option.{option_or}
 use Rattle.delegator_history.specs.Octets.{train_of}
+use Rattle.delegator_history.specs.Trains.{Settings}
 use Rattle.big_info.specs.Time.{iso_us_of}
 use Rattle.big_info.specs.declared.info.Cipher.{Cipher}
 use Rattle.sink_history.specs.Calls.{Call}
 use Rattle.announcement_train.specs.BaseLines.{BaseLine, subgroups_in}
 use Rattle.scenario_text.specs.declared.step.Step.{Step}
 use Rattle.scenario_text.specs.declared.step.Step.TheVariants as steps
-use Rattle.sink_history.specs.Lives.{Made, Source, horizon_of, lived, lived_at, lived_by, made_by, made_of, named_by}
+use Rattle.sink_history.specs.Lives.{Source, horizon_of, lived, lived_at, lived_by, made_by, made_of, named_by}
 use Rattle.source_machine.specs.Calls.{events}
 use Rattle.sync_reference.specs.Reference.{anchor_of}
 use Rattle.source_machine.specs.Ciphers.{with_cipher}
@@ -171,7 +172,7 @@ horizon_happened airs (step ∷ earlier) =
     horizon_next step (with_gifts airs made step) earlier
     (offers_horizon airs (offers_before airs made step) made ∙ horizon_happened airs earlier)
 
-made_next : (n : ℕ) (step : Step) (before others : List Step) (made : Option Made) → horizon_of before ≡ horizon_of others
+made_next : (n : ℕ) (step : Step) (before others : List Step) (made : Option Settings) → horizon_of before ≡ horizon_of others
     → made_by n step before made ≡ made_by n step others made
 made_next n (steps.Sink sink streams slots mtu) before others made same =
     ap (λ horizon. cond (sink == n) (Some (record {
@@ -189,13 +190,14 @@ made_happened airs n (step ∷ earlier) =
     ∙ made_next n step gifted earlier (made_of n earlier)
     (offers_horizon airs (offers_before airs before step) before ∙ horizon_happened airs earlier)
 
-named_next : (n : ℕ) (named : Option ℕ) (step : Step) (before others : List Step) (made : Option Made) (calls : List Call)
+named_next : (n : ℕ) (named : Option ℕ) (step : Step) (before others : List Step) (made : Option Settings) (calls : List Call)
     → source_at before ≡ source_at others
     → lived_at the_world n named step before made calls ≡ lived_at the_world n named step others made calls
 named_next n None step before others made calls same = refl
 named_next n (Some sink) step before others made calls same = ap (λ source. cond (sink == n) (lived_by source step made calls) calls) same
 
-lived_next : (n : ℕ) (step : Step) (before others : List Step) (made : Option Made) (calls : List Call) → source_at before ≡ source_at others
+lived_next : (n : ℕ) (step : Step) (before others : List Step) (made : Option Settings) (calls : List Call)
+    → source_at before ≡ source_at others
     → lived the_world n step before made calls ≡ lived the_world n step others made calls
 lived_next n (steps.Sink sink streams slots mtu) before others made calls same = refl
 lived_next n step before others made calls same = named_next n (named_by step) step before others made calls same

@@ -5,7 +5,7 @@ use Rattle.std.proofs.lemmas.Bool.{and_right, false≢true, ne_eqb, cond-false}
 use Rattle.delegator_machine.specs.Groups.{with_leave, with_step}
 use Rattle.delegator_history.specs.States.{train_heard}
 use Rattle.delegator_history.specs.Sights.{Sight}
-use Rattle.delegator_history.specs.Trains.{Brought, Train, brought_by, heard, ignored, taken, joining_in}
+use Rattle.delegator_history.specs.Trains.{Brought, Settings, Train, brought_by, heard, ignored, taken, joining_in}
 use Rattle.group_sink.specs.Calls.{Call, hear, tune}
 use Rattle.sink_history.specs.Calls as links
 use Rattle.delegator_control.specs.Groups.{has_group}
@@ -17,7 +17,7 @@ use Rattle.scenario_history.specs.Source.{event_back, open_event}
 use Rattle.source_machine.specs.Airs.{Airs}
 use Rattle.scenario_history.specs.Steps.{chosen_given, chosen_of, chosen_steps, is_common, is_of_source, is_source_line}
 use Rattle.scenario_history.specs.Worlds.{joining_on, life, source_at}
-use Rattle.sink_history.specs.Lives.{Made, Source, given_train, lived_by, made_of, own_train, version_given}
+use Rattle.sink_history.specs.Lives.{Source, given_train, lived_by, made_of, own_train, version_given}
 use Rattle.sink_history.specs.Moves.{follows, follows_by, joining_of, received_by, train_by}
 use Rattle.sink_history.specs.Output.{sight_in}
 use Rattle.scenario_laws.specs.Isolation.{is_followed, puts, units_by}
@@ -61,11 +61,11 @@ box_stays n _ made is = refl
 
 -- ---- a train that isn't followed
 
-train_lives : (hit : Bool) (source : Source) (train : Train) (made : Option Made) (a : List links.Call)
+train_lives : (hit : Bool) (source : Source) (train : Train) (made : Option Settings) (a : List links.Call)
     → (hit && follows_by source (Some train) made a) ≡ false
-    → LivesAlike made (cond hit (links.stepped (train_heard source.number train) ∷ a) a) a
+    → LivesAlike made (cond hit (links.stepped (train_heard train) ∷ a) a) a
 train_lives true source train None a not = tt
-train_lives true source train (Some made) a not = ignores made.setup made.mtu source.number train a not
+train_lives true source train (Some made) a not = ignores made.setup made.mtu train a not
 train_lives false source train made a not = lives_itself made a
 
 not_joined : (brought : Brought) → follows brought ≡ false → joining_in brought ≡ None
@@ -77,7 +77,7 @@ not_left : (on : Bool) (calls : List Call) → with_leave on on calls ≡ calls
 not_left true calls = refl
 not_left false calls = refl
 
-train_received : (hit : Bool) (source : Source) (line : Step) (train : Train) (made : Option Made) (a a' : List links.Call)
+train_received : (hit : Bool) (source : Source) (line : Step) (train : Train) (made : Option Settings) (a a' : List links.Call)
     (calls : List Call)
     → train_by source line ≡ Some train → (hit && follows_by source (Some train) made a) ≡ false → LivesAlike made (cond hit a' a) a
     → cond hit (received_by source line made a (cond hit a' a) calls) calls ≡ calls

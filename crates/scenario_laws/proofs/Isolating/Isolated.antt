@@ -3,6 +3,7 @@ use Rattle.std.proofs.Common.{ℕ, ◌≡◌, ◌≢◌, ◌⊎◌, ◌==◌, �
 use Rattle.std.proofs.Common.{Some, refl, sym, ap, subst, inl, inr}
 use Rattle.std.proofs.lemmas.Bool.{and_parts, eq-eqb, eqb-true, false≢true, not-true}
 use Rattle.delegator_history.specs.Values.{state_at}
+use Rattle.delegator_history.specs.Trains.{Settings}
 use Rattle.sink_history.specs.Calls.{Call}
 use Rattle.sink_history.specs.Links.{language}
 use Rattle.assistant_machine.specs.Links.{view_of, waits_of}
@@ -13,7 +14,6 @@ use Rattle.scenario_history.specs.Lines.{steps_of}
 use Rattle.source_machine.specs.Airs.{Airs}
 use Rattle.scenario_history.specs.Steps.{chosen_of, is_common, is_source_line}
 use Rattle.scenario_history.specs.Worlds.{life}
-use Rattle.sink_history.specs.Lives.{Made}
 use Rattle.scenario_laws.specs.Isolation.{IsIsolated, IsSameLife, IsolationLaw, NoOtherPuts, kept_lines, lines_by, lines_of, puts}
 use Rattle.scenario_laws.specs.Only.{chooses, is_kept, is_other, is_sink, only, sink_in}
 use Rattle.scenario_laws.proofs.Isolating.Elsewhere.{elsewhere}
@@ -163,7 +163,7 @@ lines_kept airs s n (step ∷ made) puts_not =
 
 -- ---- the law
 
-same_life : (made : Made) (a b : List Call) → Alike made.setup made.mtu a b → IsSameLife made a b
+same_life : (made : Settings) (a b : List Call) → Alike made.setup made.mtu a b → IsSameLife made a b
 same_life made a b same = record {
   sight = same.sight;
   states = λ slot. ap (λ sight. state_at sight slot) same.sight;

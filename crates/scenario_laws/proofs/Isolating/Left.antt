@@ -6,6 +6,7 @@ use Rattle.std.specs.Option.{option_or}
 use Rattle.std.proofs.lemmas.Bool.{false≢true}
 use Rattle.std.proofs.lemmas.List.{append-nil}
 use Rattle.delegator_history.specs.LastGiven.{last_given as last_of}
+use Rattle.delegator_history.specs.Trains.{Settings}
 use Rattle.group_sink.specs.Calls.{Call, hear, tune}
 use Rattle.sink_history.specs.Calls as links
 use Rattle.scenario_text.specs.declared.step.Step.{Step}
@@ -16,7 +17,7 @@ use Rattle.scenario_history.specs.Source.{event_back}
 use Rattle.source_machine.specs.Airs.{Airs}
 use Rattle.scenario_history.specs.Steps.{chosen_given, chosen_of, chosen_steps, last_given, sinks_made, steps_of_source}
 use Rattle.scenario_history.specs.Worlds.{joining_on, life, source_at, the_world}
-use Rattle.sink_history.specs.Lives.{Made, horizon_of, lived_at, lived_by, made_of, named_by, version_given}
+use Rattle.sink_history.specs.Lives.{horizon_of, lived_at, lived_by, made_of, named_by, version_given}
 use Rattle.sink_history.specs.Calls.{born}
 use Rattle.sink_history.specs.Moves.{received_by, source_by}
 use Rattle.scenario_laws.specs.Isolation.{units_by}
@@ -40,14 +41,14 @@ pub record Leaves (airs : Airs) (s n : ℕ) (step : Step) (made : List Step) : T
   pub boxed : box_of n (step ∷ made) ≡ box_of n made
   pub units : units_by n (handed_by airs made step) ≡ []
 
-pub lives_itself : (made : Option Made) (a : List links.Call) → LivesAlike made a a
+pub lives_itself : (made : Option Settings) (a : List links.Call) → LivesAlike made a a
 lives_itself None a = tt
 lives_itself (Some made) a = alike_itself made.setup made.mtu a
 
-pub lives_equal : (made : Option Made) (a b : List links.Call) → a ≡ b → LivesAlike made a b
+pub lives_equal : (made : Option Settings) (a b : List links.Call) → a ≡ b → LivesAlike made a b
 lives_equal made a b is = subst (LivesAlike made a) is (lives_itself made a)
 
-lives_then : (made : Option Made) (a b c : List links.Call) → LivesAlike made a b → LivesAlike made b c → LivesAlike made a c
+lives_then : (made : Option Settings) (a b c : List links.Call) → LivesAlike made a b → LivesAlike made b c → LivesAlike made a c
 lives_then None a b c first second = tt
 lives_then (Some made) a b c first second = alike_then made.setup made.mtu a b c first second
 
@@ -111,7 +112,7 @@ made_other n (steps.Sink sink streams slots mtu) made other =
 made_other n (steps.Drop sink) made other = pass (sink == n) None (made_of n made) other
 made_other n _ made other = refl
 
-named_life : (n : ℕ) (named : Option ℕ) (line : Step) (made : List Step) (sink : Option Made) (calls : List links.Call)
+named_life : (n : ℕ) (named : Option ℕ) (line : Step) (made : List Step) (sink : Option Settings) (calls : List links.Call)
     → is_other n named ≡ true
     → lived_at the_world n named line made sink calls ≡ calls
 named_life n None line made sink calls other = refl

@@ -3,7 +3,7 @@ use Rattle.std.proofs.Common.{ℕ, zero, suc, ◌≡◌, ◌∙◌, List, [], �
 use Rattle.std.specs.Prelude.{codes, decimal, option_map, slice_get}
 use Rattle.std.specs.List.{flat_map, range_with_len}
 use Rattle.delegator_history.specs.Controls as controls
-use Rattle.delegator_history.specs.Trains.{Train, answer_of, brought_by}
+use Rattle.delegator_history.specs.Trains.{Settings, Train, answer_of, brought_by}
 use Rattle.delegator_history.specs.Values.{state_at, value}
 use Rattle.delegator_history.specs.Writes.{reply_of}
 use Rattle.sink_history.specs.Calls as links
@@ -14,7 +14,7 @@ use Rattle.assistant_machine.specs.Links.{view_of}
 use Rattle.scenario_text.specs.declared.step.Step.{Step}
 use Rattle.scenario_text.specs.declared.step.Step.TheVariants as steps
 use Rattle.transcript_text.specs.SinkLines.{Label, control_words, on_link, plain, reply_line, sink_line, train_line, train_words, value_line}
-use Rattle.sink_history.specs.Lives.{Made, Source, given_train, own_train}
+use Rattle.sink_history.specs.Lives.{Source, given_train, own_train}
 use Rattle.sink_history.specs.Output.{Lines, drain_lines, heard_line, if_there, notified, printed_of, printed_where, read_line}
 use Rattle.sink_history.specs.Output.{read_lines, replied, serve_line}
 use Rattle.sink_history.specs.Output.{serve_lines, show_lines, sight_in, stated, tell_line, tell_lines, view_lines, viewed, was_read}
@@ -24,30 +24,31 @@ use Rattle.scenario_laws.proofs.Isolating.Same.{LivesAlike}
 
 -- ---- one call on a link
 
-pub replied_same : (made : Made) (link : ℕ) (a b : List Call) → Alike made.setup made.mtu a b → replied made link a ≡ replied made link b
+pub replied_same : (made : Settings) (link : ℕ) (a b : List Call) → Alike made.setup made.mtu a b
+    → replied made link a ≡ replied made link b
 replied_same made link a b same =
     ap (λ sight. option_map (reply_of sight) (slice_get (writes_waiting link a) 0)) same.sight
     ∙ ap (λ waiting. option_map (reply_of (sight_in made b)) (slice_get waiting 0)) (waiting_same made.setup made.mtu link a b same)
 
-notified_same : (made : Made) (link : ℕ) (a b : List Call) → Alike made.setup made.mtu a b → notified made link a ≡ notified made link b
+notified_same : (made : Settings) (link : ℕ) (a b : List Call) → Alike made.setup made.mtu a b → notified made link a ≡ notified made link b
 notified_same made link a b same =
     ap (λ waiting. option_map (delivered made.mtu) (slice_get waiting 0)) (notices_same made.setup made.mtu link a b same)
 
-read_same : (made : Made) (link : ℕ) (a b : List Call) → Alike made.setup made.mtu a b → was_read made link a ≡ was_read made link b
+read_same : (made : Settings) (link : ℕ) (a b : List Call) → Alike made.setup made.mtu a b → was_read made link a ≡ was_read made link b
 read_same made link a b same =
     ap (λ sight. option_map (λ slot. record { slot = slot; value = value (state_at sight slot) })
     (slice_get (reads_waiting made.setup made.mtu link a) 0)) same.sight
     ∙ ap (λ reads. option_map (stated made b) (slice_get reads 0)) (reads_same made.setup made.mtu link a b same)
 
-serve_same : (label : Label) (made : Made) (link : ℕ) (a b : List Call) → Alike made.setup made.mtu a b
+serve_same : (label : Label) (made : Settings) (link : ℕ) (a b : List Call) → Alike made.setup made.mtu a b
     → serve_line label made link a ≡ serve_line label made link b
 serve_same label made link a b same = ap (if_there (reply_line label)) (replied_same made link a b same)
 
-tell_same : (label : Label) (made : Made) (link : ℕ) (a b : List Call) → Alike made.setup made.mtu a b
+tell_same : (label : Label) (made : Settings) (link : ℕ) (a b : List Call) → Alike made.setup made.mtu a b
     → tell_line label made link a ≡ tell_line label made link b
 tell_same label made link a b same = ap (if_there (value_line label.notice label.numbers)) (notified_same made link a b same)
 
-read_line_same : (label : Label) (made : Made) (link : ℕ) (a b : List Call) → Alike made.setup made.mtu a b
+read_line_same : (label : Label) (made : Settings) (link : ℕ) (a b : List Call) → Alike made.setup made.mtu a b
     → read_line label made link a ≡ read_line label made link b
 read_line_same label made link a b same = ap (if_there (value_line label.read label.numbers)) (read_same made link a b same)
 
@@ -56,7 +57,7 @@ read_line_same label made link a b same = ap (if_there (value_line label.read la
 append_same : (xs ys xs' ys' : Lines) → xs ≡ xs' → ys ≡ ys' → xs ++ ys ≡ xs' ++ ys'
 append_same xs ys xs' ys' first rest = ap (λ ls. ls ++ ys) first ∙ ap (λ ls. xs' ++ ls) rest
 
-serves_same : (label : Label) (made : Made) (link count : ℕ) (a b : List Call) → Alike made.setup made.mtu a b
+serves_same : (label : Label) (made : Settings) (link count : ℕ) (a b : List Call) → Alike made.setup made.mtu a b
     → serve_lines label made link count a ≡ serve_lines label made link count b
 serves_same label made link zero a b same = refl
 serves_same label made link (suc count) a b same =
@@ -66,7 +67,7 @@ serves_same label made link (suc count) a b same =
     (serve_same label made link (repeated count (links.served link) a) (repeated count (links.served link) b)
     (repeats made.setup made.mtu count count (links.served link) a b refl same))
 
-tells_same : (label : Label) (made : Made) (link count : ℕ) (a b : List Call) → Alike made.setup made.mtu a b
+tells_same : (label : Label) (made : Settings) (link count : ℕ) (a b : List Call) → Alike made.setup made.mtu a b
     → tell_lines label made link count a ≡ tell_lines label made link count b
 tells_same label made link zero a b same = refl
 tells_same label made link (suc count) a b same =
@@ -76,7 +77,7 @@ tells_same label made link (suc count) a b same =
     (tell_same label made link (repeated count (links.told link) a) (repeated count (links.told link) b)
     (repeats made.setup made.mtu count count (links.told link) a b refl same))
 
-reads_lines_same : (label : Label) (made : Made) (link count : ℕ) (a b : List Call) → Alike made.setup made.mtu a b
+reads_lines_same : (label : Label) (made : Settings) (link count : ℕ) (a b : List Call) → Alike made.setup made.mtu a b
     → read_lines label made link count a ≡ read_lines label made link count b
 reads_lines_same label made link zero a b same = refl
 reads_lines_same label made link (suc count) a b same =
@@ -86,7 +87,7 @@ reads_lines_same label made link (suc count) a b same =
     (read_line_same label made link (repeated count (links.read link) a) (repeated count (links.read link) b)
     (repeats made.setup made.mtu count count (links.read link) a b refl same))
 
-drain_same : (label : Label) (made : Made) (link : ℕ) (a b : List Call) → Alike made.setup made.mtu a b
+drain_same : (label : Label) (made : Settings) (link : ℕ) (a b : List Call) → Alike made.setup made.mtu a b
     → drain_lines label made link a ≡ drain_lines label made link b
 drain_same label made link a b same =
     let served : Alike made.setup made.mtu (served_out link a) (served_out link b) = served_grow made.setup made.mtu link a b same in
@@ -115,7 +116,8 @@ drain_same label made link a b same =
 
 -- ---- states and views
 
-shown_same : (sink : ℕ) (made : Made) (a b : List Call) → Alike made.setup made.mtu a b → show_lines sink made a ≡ show_lines sink made b
+shown_same : (sink : ℕ) (made : Settings) (a b : List Call) → Alike made.setup made.mtu a b
+    → show_lines sink made a ≡ show_lines sink made b
 shown_same sink made a b same =
     ap (λ sight. flat_map (λ slot. value_line (codes "state") (decimal sink ∷ [])
     (record { slot = slot; value = value (state_at sight slot) })
@@ -125,7 +127,7 @@ shown_same sink made a b same =
     (range_with_len 0 made.setup.slots))
     (same.acts 0)
 
-views_same : (sink link : ℕ) (made : Made) (a b : List Call) → Alike made.setup made.mtu a b
+views_same : (sink link : ℕ) (made : Settings) (a b : List Call) → Alike made.setup made.mtu a b
     → view_lines sink link made a ≡ view_lines sink link made b
 views_same sink link made a b same =
     ap (λ acts. map (λ slot. value_line (codes "aview") (decimal sink ∷ decimal link ∷ [])
@@ -134,13 +136,13 @@ views_same sink link made a b same =
 
 -- ---- trains
 
-train_same : (sink : ℕ) (made : Made) (a b : List Call) (train : Train) → Alike made.setup made.mtu a b
+train_same : (sink : ℕ) (made : Settings) (a b : List Call) (train : Train) → Alike made.setup made.mtu a b
     → heard_line sink made a train ≡ heard_line sink made b train
 train_same sink made a b train same = ap (λ sight. sink_line sink (train_words (answer_of (brought_by made.setup sight train)))) same.sight
 
 -- ---- what a line prints that names the sink
 
-printed_some : (source : Source) (line : Step) (made : Made) (a b : List Call) → Alike made.setup made.mtu a b
+printed_some : (source : Source) (line : Step) (made : Settings) (a b : List Call) → Alike made.setup made.mtu a b
     → printed_of source line made a ≡ printed_of source line made b
 printed_some source (steps.Serve sink) made a b same = serve_same (plain sink) made 0 a b same
 printed_some source (steps.Tell sink) made a b same = tell_same (plain sink) made 0 a b same
@@ -160,7 +162,7 @@ printed_some source (steps.ADrain sink link) made a b same = drain_same (on_link
 printed_some source (steps.AShow sink link) made a b same = views_same sink link made a b same
 printed_some source _ made a b same = refl
 
-printed_sourced : (line : Step) (source source' : Source) → Sourced line source source' → (made : Made) (calls : List Call)
+printed_sourced : (line : Step) (source source' : Source) → Sourced line source source' → (made : Settings) (calls : List Call)
     → printed_of source line made calls ≡ printed_of source' line made calls
 printed_sourced (steps.Announce sink) source source' sourced made calls =
     ap (λ src. printed_of src (steps.Announce sink) made calls) (sourced refl)
@@ -168,7 +170,7 @@ printed_sourced (steps.Train sink time ext adv acad) source source' sourced made
     ap (λ src. printed_of src (steps.Train sink time ext adv acad) made calls) (sourced refl)
 printed_sourced _ source source' sourced made calls = refl
 
-pub printed_same : (line : Step) (source source' : Source) (made made' : Option Made) (a b : List Call) → Sourced line source source'
+pub printed_same : (line : Step) (source source' : Source) (made made' : Option Settings) (a b : List Call) → Sourced line source source'
     → made ≡ made'
     → LivesAlike made a b → printed_where source line made a ≡ printed_where source' line made' b
 printed_same line source source' None made' a b sourced sinks_same same = ap (λ made. printed_where source' line made b) sinks_same

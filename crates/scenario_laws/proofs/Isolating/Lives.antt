@@ -61,7 +61,7 @@ sight_with setup (Some step) xs ys same =
 
 step_same : (setup : Setup) (mtu : Option ℕ) (call : Call) (a b : List Call) → Alike setup mtu a b → step_by call a ≡ step_by call b
 step_same setup mtu (links.served link) a b same =
-    ap (λ waiting. option_map (written link) (slice_get waiting 0)) (waiting_same setup mtu link a b same)
+    ap (λ waiting. option_map written (slice_get waiting 0)) (waiting_same setup mtu link a b same)
 step_same setup mtu _ a b same = refl
 
 sight_grows : (setup : Setup) (mtu : Option ℕ) (call : Call) (a b : List Call) → Alike setup mtu a b
@@ -170,14 +170,14 @@ done_nothing (ignored answer) not = refl
 done_nothing (heard slot answer encrypted) not = absurd (false≢true (sym not))
 done_nothing (taken slot bits encrypted joining) not = absurd (false≢true (sym not))
 
-pub ignores : (setup : Setup) (mtu : Option ℕ) (source : ℕ) (train : Train) (a : List Call)
+pub ignores : (setup : Setup) (mtu : Option ℕ) (train : Train) (a : List Call)
     → follows (brought_by setup (sight_of setup (steps_of a)) train) ≡ false
-    → Alike setup mtu (links.stepped (train_heard source train) ∷ a) a
-ignores setup mtu source train a not =
+    → Alike setup mtu (links.stepped (train_heard train) ∷ a) a
+ignores setup mtu train a not =
     let sight : Sight = sight_of setup (steps_of a) in
-    let more : List Call = links.stepped (train_heard source train) ∷ a in
+    let more : List Call = links.stepped (train_heard train) ∷ a in
     let now : sight_of setup (steps_of more) ≡ sight =
-    sight_goes_on setup (train_heard source train) (steps_of a)
+    sight_goes_on setup (train_heard train) (steps_of a)
     ∙ ap (λ done. after done sight) (done_nothing (brought_by setup sight train) not) in record {
       sight = now;
       joined = λ link. refl;

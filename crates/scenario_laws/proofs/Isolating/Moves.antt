@@ -5,7 +5,7 @@ use Rattle.bass_operations.specs.declared.operation.Operation.TheVariants as ope
 use Rattle.bass_operations.specs.Layout.{spelling}
 use Rattle.delegator_machine.specs.Groups.{with_step}
 use Rattle.delegator_history.specs.States.{contexts_set, control_heard, locations_set, put_on, record_added, train_heard, train_lost}
-use Rattle.delegator_history.specs.Trains.{Train, brought_by}
+use Rattle.delegator_history.specs.Trains.{Settings, Train, brought_by}
 use Rattle.group_sink.specs.Calls as sinks
 use Rattle.sink_history.specs.Calls as links
 use Rattle.sink_history.specs.Calls.{Call, born}
@@ -14,7 +14,7 @@ use Rattle.scenario_text.specs.declared.step.Step.TheVariants as steps
 use Rattle.scenario_history.specs.Sinks.{moved}
 use Rattle.scenario_history.specs.Steps.{is_source_line}
 use Rattle.scenario_history.specs.Worlds.{life, source_at, the_world}
-use Rattle.sink_history.specs.Lives.{Made, Source, given_train, horizon_of, lived_at, lived_by, made_of, named_by, own_train, record_of}
+use Rattle.sink_history.specs.Lives.{Source, given_train, horizon_of, lived_at, lived_by, made_of, named_by, own_train, record_of}
 use Rattle.sink_history.specs.Moves.{follows, follows_by, joining_of, received_by, source_by, train_by}
 use Rattle.sink_history.specs.Output.{sight_in}
 use Rattle.scenario_laws.proofs.Isolating.Lives.{Alike, alike_itself, drains, grows}
@@ -26,7 +26,7 @@ use Rattle.scenario_laws.proofs.Isolating.Same.{LivesAlike}
 abbrev pub Sourced : Step → (source source' : Source) → Type 0
 Sourced line source source' = is_source_line line ≡ true → source ≡ source'
 
-lived_sourced : (line : Step) (source source' : Source) → Sourced line source source' → (made : Option Made) (calls : List Call)
+lived_sourced : (line : Step) (source source' : Source) → Sourced line source source' → (made : Option Settings) (calls : List Call)
     → lived_by source line made calls ≡ lived_by source' line made calls
 lived_sourced (steps.Tuned sink which) source source' same made calls =
     ap (λ src. lived_by src (steps.Tuned sink which) made calls) (same refl)
@@ -43,7 +43,7 @@ train_sourced _ source source' same = refl
 
 -- ---- the lives
 
-lived_some : (source : Source) (line : Step) (made : Made) (a b : List Call) → Alike made.setup made.mtu a b
+lived_some : (source : Source) (line : Step) (made : Settings) (a b : List Call) → Alike made.setup made.mtu a b
     → Alike made.setup made.mtu (lived_by source line (Some made) a) (lived_by source line (Some made) b)
 lived_some source (steps.Drop sink) made a b same = alike_itself made.setup made.mtu []
 lived_some source (steps.Pac sink codec caps metadata) made a b same =
@@ -52,11 +52,11 @@ lived_some source (steps.Locate sink bits) made a b same = grows made.setup made
 lived_some source (steps.Context sink sink_bits source_bits) made a b same =
     grows made.setup made.mtu (links.stepped (contexts_set sink_bits)) a b same
 lived_some source (steps.Tuned sink which) made a b same =
-    grows made.setup made.mtu (links.stepped (put_on source.number (source.joining which))) a b same
+    grows made.setup made.mtu (links.stepped (put_on (source.joining which))) a b same
 lived_some source (steps.Announce sink) made a b same =
-    grows made.setup made.mtu (links.stepped (train_heard source.number (own_train source))) a b same
+    grows made.setup made.mtu (links.stepped (train_heard (own_train source))) a b same
 lived_some source (steps.Train sink time ext adv acad) made a b same =
-    grows made.setup made.mtu (links.stepped (train_heard source.number (given_train source time ext adv acad))) a b same
+    grows made.setup made.mtu (links.stepped (train_heard (given_train source time ext adv acad))) a b same
 lived_some source (steps.Lose sink) made a b same = grows made.setup made.mtu (links.stepped train_lost) a b same
 lived_some source (steps.Control sink octets) made a b same = grows made.setup made.mtu (links.stepped (control_heard octets)) a b same
 lived_some source (steps.Write sink octets) made a b same = grows made.setup made.mtu (links.asked 0 octets) a b same
@@ -81,7 +81,7 @@ lived_some source (steps.ARead sink link) made a b same = grows made.setup made.
 lived_some source (steps.ADrain sink link) made a b same = drains made.setup made.mtu link a b same
 lived_some source _ made a b same = same
 
-pub lives_grow : (line : Step) (source source' : Source) → Sourced line source source' → (made : Option Made) (a b : List Call)
+pub lives_grow : (line : Step) (source source' : Source) → Sourced line source source' → (made : Option Settings) (a b : List Call)
     → LivesAlike made a b
     → LivesAlike made (lived_by source line made a) (lived_by source' line made b)
 lives_grow line source source' sourced None a b same = tt
@@ -90,12 +90,12 @@ lives_grow line source source' sourced (Some made) a b same =
     (lived_sourced line source source' sourced (Some made) b)
     (lived_some source line made a b same)
 
-lives_if : (hit : Bool) (made : Option Made) (a b a' b' : List Call) → LivesAlike made a b → LivesAlike made a' b'
+lives_if : (hit : Bool) (made : Option Settings) (a b a' b' : List Call) → LivesAlike made a b → LivesAlike made a' b'
     → LivesAlike made (cond hit a' a) (cond hit b' b)
 lives_if true made a b a' b' before later = later
 lives_if false made a b a' b' before later = before
 
-named_lives : (n : ℕ) (named : Option ℕ) (line : Step) (earlier others : List Step) (made : Option Made) (a b : List Call)
+named_lives : (n : ℕ) (named : Option ℕ) (line : Step) (earlier others : List Step) (made : Option Settings) (a b : List Call)
     → Sourced line (source_at earlier) (source_at others) → LivesAlike made a b
     → LivesAlike made (lived_at the_world n named line earlier made a) (lived_at the_world n named line others made b)
 named_lives n None line earlier others made a b sourced same = same
@@ -103,12 +103,12 @@ named_lives n (Some sink) line earlier others made a b sourced same =
     lives_if (sink == n) made a b (lived_by (source_at earlier) line made a) (lived_by (source_at others) line made b) same
     (lives_grow line (source_at earlier) (source_at others) sourced made a b same)
 
-born_lives : (hit : Bool) (new : Made) (mtu : Option ℕ) (made : Option Made) (a b : List Call) → LivesAlike made a b
+born_lives : (hit : Bool) (new : Settings) (mtu : Option ℕ) (made : Option Settings) (a b : List Call) → LivesAlike made a b
     → LivesAlike (cond hit (Some new) made) (cond hit (born mtu) a) (cond hit (born mtu) b)
 born_lives true new mtu made a b same = alike_itself new.setup new.mtu (born mtu)
 born_lives false new mtu made a b same = same
 
-gone_lives : (hit : Bool) (made : Option Made) (a b : List Call) → LivesAlike made a b
+gone_lives : (hit : Bool) (made : Option Settings) (a b : List Call) → LivesAlike made a b
     → LivesAlike (cond hit None made) (cond hit [] a) (cond hit [] b)
 gone_lives true made a b same = tt
 gone_lives false made a b same = same
@@ -130,7 +130,7 @@ life_grows n step earlier others sourced sink_same same =
 -- ---- the receivers
 
 received_some : (line : Step) (source source' : Source) → Sourced line source source'
-    → (made : Made) (a a' b b' : List Call) (calls calls' : List sinks.Call)
+    → (made : Settings) (a a' b b' : List Call) (calls calls' : List sinks.Call)
     → Alike made.setup made.mtu a b → Alike made.setup made.mtu a' b' → calls ≡ calls'
     → received_by source line (Some made) a a' calls ≡ received_by source' line (Some made) b b' calls'
 received_some line source source' sourced made a a' b b' calls calls' before later took =
@@ -141,7 +141,7 @@ received_some line source source' sourced made a a' b b' calls calls' before lat
     ∙ ap (with_step (joining_of made (sight_in made b) (train_by source' line)) (sight_in made b) (sight_in made b')) took
 
 received_same : (line : Step) (source source' : Source) → Sourced line source source'
-    → (made : Option Made) (a a' b b' : List Call) (calls calls' : List sinks.Call)
+    → (made : Option Settings) (a a' b b' : List Call) (calls calls' : List sinks.Call)
     → LivesAlike made a b → LivesAlike made a' b' → calls ≡ calls'
     → received_by source line made a a' calls ≡ received_by source' line made b b' calls'
 received_same line source source' sourced None a a' b b' calls calls' before later took = took
@@ -169,13 +169,13 @@ moved_same n (Some sink) line earlier others calls calls' sourced sink_same befo
 
 -- ---- the source that the sink is of
 
-follows_same : (source : Source) (train : Option Train) (made : Option Made) (a b : List Call) → LivesAlike made a b
+follows_same : (source : Source) (train : Option Train) (made : Option Settings) (a b : List Call) → LivesAlike made a b
     → follows_by source train made a ≡ follows_by source train made b
 follows_same source None made a b same = refl
 follows_same source (Some train) None a b same = refl
 follows_same source (Some train) (Some made) a b same = ap (λ sight. follows (brought_by made.setup sight train)) same.sight
 
-pub sourced_same : (line : Step) (source source' : Source) (made made' : Option Made) (a b : List Call) (its its' : Option ℕ)
+pub sourced_same : (line : Step) (source source' : Source) (made made' : Option Settings) (a b : List Call) (its its' : Option ℕ)
     → source ≡ source' → made ≡ made'
     → LivesAlike made a b → its ≡ its' → source_by source line made a its ≡ source_by source' line made' b its'
 sourced_same line source source' made made' a b its its' sources sinks_same same of_same =

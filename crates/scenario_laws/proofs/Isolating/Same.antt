@@ -2,6 +2,7 @@
 use Rattle.std.proofs.Common.{ℕ, ◌≡◌, ◌≢◌, false, List, Option, None, Some, is_some, ap}
 use Rattle.std.specs.Prelude.{unwrap_or}
 use Rattle.delegator_history.specs.LastGiven.{last_given as last_of}
+use Rattle.delegator_history.specs.Trains.{Settings}
 use Rattle.sink_history.specs.Calls.{Call}
 use Rattle.scenario_text.specs.declared.step.Step.{Step}
 use Rattle.scenario_history.specs.Boxes.{box_of, handed_up}
@@ -9,14 +10,14 @@ use Rattle.scenario_history.specs.Sinks.{is_of, sink_calls, source_of}
 use Rattle.source_machine.specs.Airs.{Airs}
 use Rattle.scenario_history.specs.Steps.{chosen_given, chosen_of, chosen_steps, last_given, steps_of_source}
 use Rattle.scenario_history.specs.Worlds.{life, source_at}
-use Rattle.sink_history.specs.Lives.{Made, horizon_in, horizon_of, made_of, version_given}
+use Rattle.sink_history.specs.Lives.{horizon_in, horizon_of, made_of, version_given}
 use Rattle.scenario_laws.specs.Isolation.{units_by}
 use Rattle.scenario_laws.proofs.Isolating.Lives.{Alike}
 use Rattle.scenario_laws.proofs.Isolating.Sums.{TookAlike}
 use Rattle.scenario_laws.proofs.Isolating.Said.{chosen_said, said_of, source_same}
 
 -- two lives of a sink that lives come to the same
-abbrev pub LivesAlike : Option Made → List Call → List Call → Type 0
+abbrev pub LivesAlike : Option Settings → List Call → List Call → Type 0
 LivesAlike None a b = Unit {0}
 LivesAlike (Some made) a b = Alike made.setup made.mtu a b
 

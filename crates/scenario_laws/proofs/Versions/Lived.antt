@@ -3,6 +3,7 @@
 use Rattle.std.proofs.Common.{ℕ, ◌≡◌, ◌≤◌, ◌==◌, cond, Bool, true, false, List, [], ◌∷◌, Option, None, Some, refl, ◌∙◌, ap, ap₂}
 use Rattle.std.proofs.lemmas.Bool.{eqb-true}
 use Rattle.delegator_history.specs.Octets.{train_of}
+use Rattle.delegator_history.specs.Trains.{Settings}
 use Rattle.announcement_train.specs.declared.train.Train.{Train as Announced}
 use Rattle.sink_history.specs.Calls.{Call, born}
 use Rattle.sink_history.specs.Drains.{drained}
@@ -10,7 +11,7 @@ use Rattle.source_machine.specs.Calls.{Setup, Call as SourceCall, next_anchor_of
 use Rattle.source_machine.specs.declared.setup.Identity.{Identity}
 use Rattle.scenario_text.specs.declared.step.Step.{Step}
 use Rattle.scenario_text.specs.declared.step.Step.TheVariants as steps
-use Rattle.sink_history.specs.Lives.{Made, Source, horizon_of, lived, lived_at, lived_by, made_by, made_of, named_by, with_drain}
+use Rattle.sink_history.specs.Lives.{Source, horizon_of, lived, lived_at, lived_by, made_by, made_of, named_by, with_drain}
 use Rattle.sink_history.specs.Moves.{train_by}
 use Rattle.scenario_history.specs.Bases.{base_of}
 use Rattle.scenario_history.specs.Source.{checked_info, identity_of, setup_of, source_calls}
@@ -65,22 +66,23 @@ source_same made = ap₂ source_from (chosen_same made) (chosen_own made) ∙ fr
 -- ---- the sink that a line made
 
 -- the sink, but for how far a group may reach, which is as far at least
-pub record IsFar (made other : Made) : Type 0 where
+pub record IsFar (made other : Settings) : Type 0 where
   pub horizon : ℕ
   pub within : made.setup.horizon ≤ horizon
   pub is : other ≡ reaching_made horizon made
 
 -- the same of a sink that lives or not
-abbrev pub AreFar : Option Made → Option Made → Type 0
+abbrev pub AreFar : Option Settings → Option Settings → Type 0
 AreFar None None = Unit {0}
 AreFar (Some made) (Some other) = IsFar made other
 AreFar _ _ = ⊥
 
-far_if : (b : Bool) (one two made other : Option Made) → AreFar one two → AreFar made other → AreFar (cond b one made) (cond b two other)
+far_if : (b : Bool) (one two made other : Option Settings) → AreFar one two → AreFar made other
+    → AreFar (cond b one made) (cond b two other)
 far_if true one two made other is far = is
 far_if false one two made other is far = far
 
-far_after : (n : ℕ) (step : Step) (earlier : List Step) (made other : Option Made) → AreFar made other
+far_after : (n : ℕ) (step : Step) (earlier : List Step) (made other : Option Settings) → AreFar made other
     → AreFar (made_by n step earlier made) (made_by n (second step) (seconds earlier) other)
 far_after n (steps.Sink sink streams slots mtu) earlier made other far =
     far_if (sink == n) (Some (record { setup = record { streams = streams; slots = slots; horizon = horizon_of earlier }; mtu = mtu }))
@@ -97,7 +99,7 @@ made_far n (step ∷ earlier) = far_after n step earlier (made_of n earlier) (ma
 
 -- a train that the step hands a sink isn't answered `BadGroup 11`
 abbrev pub IsCalm : List Step → Step → Type 0
-IsCalm earlier step = (n : ℕ) → (made : Made) → named_by step ≡ Some n → made_of n earlier ≡ Some made
+IsCalm earlier step = (n : ℕ) → (made : Settings) → named_by step ≡ Some n → made_of n earlier ≡ Some made
     → HearsNear made (life n earlier) (train_by (source_at earlier) step)
 
 abbrev pub AreCalm : List Step → Type 0
@@ -105,11 +107,11 @@ AreCalm [] = Unit {0}
 AreCalm (step ∷ earlier) = AreCalm earlier × IsCalm earlier step
 
 -- no train in its life was answered so
-abbrev pub QuietLife : Option Made → List Call → Type 0
+abbrev pub QuietLife : Option Settings → List Call → Type 0
 QuietLife None calls = Unit {0}
 QuietLife (Some made) calls = AreQuietCalls made.setup calls
 
-quiet_lived : (source : Source) (step : Step) (made : Made) (calls : List Call) → AreQuietCalls made.setup calls
+quiet_lived : (source : Source) (step : Step) (made : Settings) (calls : List Call) → AreQuietCalls made.setup calls
     → HearsNear made calls (train_by source step)
     → AreQuietCalls made.setup (lived_by source step (Some made) calls)
 quiet_lived source (steps.Drop sink) made calls quiet near = tt
@@ -127,38 +129,40 @@ quiet_lived source (steps.Drain sink) made calls quiet near = quiet_drained made
 quiet_lived source (steps.ADrain sink link) made calls quiet near = quiet_drained made.setup made.mtu link calls quiet
 quiet_lived source _ made calls quiet near = quiet
 
-quiet_if : (b : Bool) (one made : Option Made) (first calls : List Call) → QuietLife one first → QuietLife made calls
+quiet_if : (b : Bool) (one made : Option Settings) (first calls : List Call) → QuietLife one first → QuietLife made calls
     → QuietLife (cond b one made) (cond b first calls)
 quiet_if true one made first calls is quiet = is
 quiet_if false one made first calls is quiet = quiet
 
-quiet_born : (made : Made) (mtu : Option ℕ) → AreQuietCalls made.setup (born mtu)
+quiet_born : (made : Settings) (mtu : Option ℕ) → AreQuietCalls made.setup (born mtu)
 quiet_born made None = tt
 quiet_born made (Some mtu) = (tt, tt)
 
-quiet_chosen : (is_its : Bool) (made : Option Made) (first calls : List Call) → (is_its ≡ true → QuietLife made first)
+quiet_chosen : (is_its : Bool) (made : Option Settings) (first calls : List Call) → (is_its ≡ true → QuietLife made first)
     → QuietLife made calls → QuietLife made (cond is_its first calls)
 quiet_chosen true made first calls is quiet = is refl
 quiet_chosen false made first calls is quiet = quiet
 
-quiet_of_made : (source : Source) (step : Step) (made : Option Made) (calls : List Call) → QuietLife made calls
-    → ((sink : Made) → made ≡ Some sink → HearsNear sink calls (train_by source step)) → QuietLife made (lived_by source step made calls)
+quiet_of_made : (source : Source) (step : Step) (made : Option Settings) (calls : List Call) → QuietLife made calls
+    → ((sink : Settings) → made ≡ Some sink → HearsNear sink calls (train_by source step))
+    → QuietLife made (lived_by source step made calls)
 quiet_of_made source this None calls quiet near = tt
 quiet_of_made source this (Some made) calls quiet near = quiet_lived source this made calls quiet (near made refl)
 
-quiet_at : (n : ℕ) (named : Option ℕ) (step : Step) (earlier : List Step) (made : Option Made) (calls : List Call) → QuietLife made calls
-    → ((sink : Made) → named ≡ Some n → made ≡ Some sink → HearsNear sink calls (train_by (source_at earlier) step))
+quiet_at : (n : ℕ) (named : Option ℕ) (step : Step) (earlier : List Step) (made : Option Settings) (calls : List Call)
+    → QuietLife made calls
+    → ((sink : Settings) → named ≡ Some n → made ≡ Some sink → HearsNear sink calls (train_by (source_at earlier) step))
     → QuietLife made (lived_at the_world n named step earlier made calls)
 quiet_at n None this earlier made calls quiet near = quiet
 quiet_at n (Some sink) this earlier made calls quiet near =
     quiet_chosen (sink == n) made (lived_by (source_at earlier) this made calls) calls
     (λ its. quiet_of_made (source_at earlier) this made calls quiet (λ it is. near it (ap Some (eqb-true sink n its)) is)) quiet
 
-quiet_after : (n : ℕ) (step : Step) (earlier : List Step) (made : Option Made) (calls : List Call) → QuietLife made calls
-    → ((sink : Made) → named_by step ≡ Some n → made ≡ Some sink → HearsNear sink calls (train_by (source_at earlier) step))
+quiet_after : (n : ℕ) (step : Step) (earlier : List Step) (made : Option Settings) (calls : List Call) → QuietLife made calls
+    → ((sink : Settings) → named_by step ≡ Some n → made ≡ Some sink → HearsNear sink calls (train_by (source_at earlier) step))
     → QuietLife (made_by n step earlier made) (lived the_world n step earlier made calls)
 quiet_after n (steps.Sink sink streams slots mtu) earlier made calls quiet near =
-    let it : Made = record { setup = record { streams = streams; slots = slots; horizon = horizon_of earlier }; mtu = mtu } in
+    let it : Settings = record { setup = record { streams = streams; slots = slots; horizon = horizon_of earlier }; mtu = mtu } in
     quiet_if (sink == n) (Some it) made (born mtu) calls (quiet_born it mtu) quiet
 quiet_after n (steps.Drop sink) earlier made calls quiet near = quiet_if (sink == n) None made [] calls tt quiet
 quiet_after n this earlier made calls quiet near = quiet_at n (named_by this) this earlier made calls quiet near
@@ -169,28 +173,28 @@ quiet_life n (step ∷ earlier) calm =
     quiet_after n step earlier (made_of n earlier) (life n earlier) (quiet_life n earlier calm.0) (λ it named is. calm.1 n it named is)
 
 -- the sink's life in both versions
-pub is_quiet : (made other : Made) (calls : List Call) → (far : IsFar made other) → AreQuietCalls made.setup calls
+pub is_quiet : (made other : Settings) (calls : List Call) → (far : IsFar made other) → AreQuietCalls made.setup calls
     → IsQuietLife far.horizon made calls
 is_quiet made other calls far quiet = record { within = far.within; quiet = quiet }
 
 -- ---- its life
 
-drain_same : (link : ℕ) (made other : Option Made) (calls : List Call) → AreFar made other → QuietLife made calls
+drain_same : (link : ℕ) (made other : Option Settings) (calls : List Call) → AreFar made other → QuietLife made calls
     → with_drain other link calls ≡ with_drain made link calls
 drain_same link None None calls far quiet = refl
 drain_same link (Some made) (Some other) calls far quiet =
-    ap (λ (sink : Made). drained sink.setup sink.mtu link calls) far.is
+    ap (λ (sink : Settings). drained sink.setup sink.mtu link calls) far.is
     ∙ drained_same far.horizon made.setup made.mtu link calls far.within quiet
 drain_same link None (Some other) calls far quiet = absurd far
 drain_same link (Some made) None calls far quiet = absurd far
 
-lived_same : (source : Source) (step : Step) (made other : Option Made) (calls : List Call) → AreFar made other → QuietLife made calls
+lived_same : (source : Source) (step : Step) (made other : Option Settings) (calls : List Call) → AreFar made other → QuietLife made calls
     → lived_by source step other calls ≡ lived_by source step made calls
 lived_same source (steps.Drain sink) made other calls far quiet = drain_same 0 made other calls far quiet
 lived_same source (steps.ADrain sink link) made other calls far quiet = drain_same link made other calls far quiet
 lived_same source _ made other calls far quiet = refl
 
-at_same : (n : ℕ) (named : Option ℕ) (step : Step) (earlier : List Step) (made other : Option Made) (calls others : List Call)
+at_same : (n : ℕ) (named : Option ℕ) (step : Step) (earlier : List Step) (made other : Option Settings) (calls others : List Call)
     → AreFar made other → QuietLife made calls
     → others ≡ calls → lived_at the_world n named step (seconds earlier) other others ≡ lived_at the_world n named step earlier made calls
 at_same n None this earlier made other calls others far quiet same = same
@@ -198,7 +202,7 @@ at_same n (Some sink) this earlier made other calls others far quiet same =
     ap₂ (λ source all. cond (sink == n) (lived_by source this other all) all) (source_same earlier) same
     ∙ ap (λ all. cond (sink == n) all calls) (lived_same (source_at earlier) this made other calls far quiet)
 
-pub after_same : (n : ℕ) (step : Step) (earlier : List Step) (made other : Option Made) (calls others : List Call) → AreFar made other
+pub after_same : (n : ℕ) (step : Step) (earlier : List Step) (made other : Option Settings) (calls others : List Call) → AreFar made other
     → QuietLife made calls → others ≡ calls
     → lived the_world n step (seconds earlier) other others ≡ lived the_world n step earlier made calls
 after_same n (steps.Sink sink streams slots mtu) earlier made other calls others far quiet same =

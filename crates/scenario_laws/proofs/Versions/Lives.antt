@@ -19,7 +19,7 @@ use Rattle.scenario_laws.proofs.Versions.Trains.{BringsNear, brought_same, reach
 
 -- the step is no train that was answered `BadGroup 11`
 abbrev pub IsQuiet : Setup → List Step → Step → Type 0
-IsQuiet setup earlier (train_heard source train) = BringsNear (brought_by setup (sight_of setup earlier) train)
+IsQuiet setup earlier (train_heard train) = BringsNear (brought_by setup (sight_of setup earlier) train)
 IsQuiet setup earlier _ = Unit {0}
 
 abbrev pub AreQuiet : Setup → List Step → Type 0
@@ -28,7 +28,7 @@ AreQuiet setup (step ∷ earlier) = AreQuiet setup earlier × IsQuiet setup earl
 
 done_same : (far : ℕ) (setup : Setup) (earlier : List Step) (step : Step) → setup.horizon ≤ far → IsQuiet setup earlier step
     → done_by (reaching far setup) (sight_of setup earlier) step ≡ done_by setup (sight_of setup earlier) step
-done_same far setup earlier (train_heard source train) within quiet =
+done_same far setup earlier (train_heard train) within quiet =
     ap done_brought (brought_same far setup (sight_of setup earlier) train within quiet)
 done_same far setup earlier _ within quiet = refl
 
@@ -94,14 +94,14 @@ reads_same far setup mtu link calls within quiet = ap (reads_of (language mtu) s
 
 -- ---- drains
 
-quiet_written : (setup : Setup) (link : ℕ) (octets : Option (List ℕ)) (steps : List Step) → AreQuiet setup steps
-    → AreQuiet setup (with_step (option_map (written link) octets) steps)
-quiet_written setup link None steps quiet = quiet
-quiet_written setup link (Some octets) steps quiet = (quiet, tt)
+quiet_written : (setup : Setup) (octets : Option (List ℕ)) (steps : List Step) → AreQuiet setup steps
+    → AreQuiet setup (with_step (option_map written octets) steps)
+quiet_written setup None steps quiet = quiet
+quiet_written setup (Some octets) steps quiet = (quiet, tt)
 
 pub quiet_served : (setup : Setup) (link : ℕ) (calls : List Call) → AreQuietCalls setup calls
     → AreQuietCalls setup (links.served link ∷ calls)
-quiet_served setup link calls quiet = quiet_written setup link (slice_get (writes_waiting link calls) 0) (steps_of calls) quiet
+quiet_served setup link calls quiet = quiet_written setup (slice_get (writes_waiting link calls) 0) (steps_of calls) quiet
 
 pub quiet_serves : (setup : Setup) (link count : ℕ) (calls : List Call) → AreQuietCalls setup calls
     → AreQuietCalls setup (repeated count (links.served link) calls)

@@ -10,7 +10,8 @@ use Rattle.source_machine.specs.Airs.{airs_of}
 use Rattle.scenario_text.specs.declared.step.Step.{Step}
 use Rattle.scenario_text.specs.declared.step.Step.TheVariants as steps
 use Rattle.transcript_text.specs.Lines.{control_line, heard_line, pdu_line}
-use Rattle.sink_history.specs.Lives.{Made, Source, made_of, named_by}
+use Rattle.delegator_history.specs.Trains.{Settings}
+use Rattle.sink_history.specs.Lives.{Source, made_of, named_by}
 use Rattle.sink_history.specs.Moves.{train_by}
 use Rattle.sink_history.specs.Output.{printed_at, printed_of, printed_where}
 use Rattle.scenario_history.specs.Boxes.{SinkUnit, box_of, closing, closing_at, closing_both, closing_by, handed_by, handed_up}
@@ -72,7 +73,7 @@ handed_up_same (step ∷ earlier) calm =
 
 -- ---- what a step prints of a sink
 
-where_same : (source : Source) (step : Step) (made other : Option Made) (calls : List Call) → AreFar made other → QuietLife made calls
+where_same : (source : Source) (step : Step) (made other : Option Settings) (calls : List Call) → AreFar made other → QuietLife made calls
     → HeardNear made calls (train_by source step)
     → printed_where source step other calls ≡ printed_where source step made calls
 where_same source this None None calls far quiet near = refl

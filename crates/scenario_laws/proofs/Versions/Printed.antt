@@ -8,7 +8,7 @@ use Rattle.std.specs.Option.{option_or}
 use Rattle.pacs_records.specs.Layout.{greatest_value, value as records_value}
 use Rattle.delegator_history.specs.Controls as controls
 use Rattle.delegator_history.specs.Sights.{Sight}
-use Rattle.delegator_history.specs.Trains.{Train, answer_of, brought_by}
+use Rattle.delegator_history.specs.Trains.{Settings, Train, answer_of, brought_by}
 use Rattle.delegator_history.specs.Values.{state_at, value}
 use Rattle.delegator_history.specs.Writes.{reply_of}
 use Rattle.delegator_history.specs.declared.notice.Notice.{Notice}
@@ -21,7 +21,7 @@ use Rattle.scenario_text.specs.declared.step.Step.{Step}
 use Rattle.scenario_text.specs.declared.step.Step.TheVariants as steps
 use Rattle.transcript_text.specs.declared.refusal.Refusal.TheVariants.{NothingWaiting, RecordsTooLong}
 use Rattle.transcript_text.specs.SinkLines.{Label, control_words, on_link, plain, reply_line, sink_line, train_line, train_words, value_line}
-use Rattle.sink_history.specs.Lives.{Made, Source, given_train, own_train, record_of}
+use Rattle.sink_history.specs.Lives.{Source, given_train, own_train, record_of}
 use Rattle.sink_history.specs.Moves.{train_by}
 use Rattle.sink_history.specs.Output.{drain_lines, heard_line, if_there, printed_of, read_line, read_lines}
 use Rattle.sink_history.specs.Output.{serve_line, serve_lines}
@@ -33,27 +33,27 @@ use Rattle.scenario_laws.proofs.Versions.Lives.{sight_same, told_same}
 use Rattle.scenario_laws.proofs.Versions.Trains.{BringsNear, brought_same, reaching}
 
 -- the sink, but for how far a group may reach
-abbrev pub reaching_made : ℕ → Made → Made
+abbrev pub reaching_made : ℕ → Settings → Settings
 reaching_made far made = record { setup = reaching far made.setup; mtu = made.mtu }
 
 -- the life of a sink, in which no train was answered `BadGroup 11`, and where a group may reach as far at least
-pub record IsQuietLife (far : ℕ) (made : Made) (calls : List Call) : Type 0 where
+pub record IsQuietLife (far : ℕ) (made : Settings) (calls : List Call) : Type 0 where
   pub within : made.setup.horizon ≤ far
   pub quiet : AreQuietCalls made.setup calls
 
-pub its_sight : (far : ℕ) (made : Made) (calls : List Call) → IsQuietLife far made calls
+pub its_sight : (far : ℕ) (made : Settings) (calls : List Call) → IsQuietLife far made calls
     → sight_in (reaching_made far made) calls ≡ sight_in made calls
 its_sight far made calls is = sight_same far made.setup (steps_of calls) is.within is.quiet
 
 -- ---- one line
 
-served_same : (far : ℕ) (label : Label) (made : Made) (link : ℕ) (calls : List Call) → IsQuietLife far made calls
+served_same : (far : ℕ) (label : Label) (made : Settings) (link : ℕ) (calls : List Call) → IsQuietLife far made calls
     → serve_line label (reaching_made far made) link calls ≡ serve_line label made link calls
 served_same far label made link calls is =
     ap (λ sight. if_there (reply_line label) (option_map (reply_of sight) (slice_get (writes_waiting link calls) 0)))
     (its_sight far made calls is)
 
-told_line_same : (far : ℕ) (label : Label) (made : Made) (link : ℕ) (calls : List Call) → IsQuietLife far made calls
+told_line_same : (far : ℕ) (label : Label) (made : Settings) (link : ℕ) (calls : List Call) → IsQuietLife far made calls
     → tell_line label (reaching_made far made) link calls ≡ tell_line label made link calls
 told_line_same far label made link calls is =
     ap (λ (notices : List Told). if_there (value_line label.notice label.numbers) (option_map (delivered made.mtu) (slice_get notices 0)))
@@ -63,7 +63,7 @@ told_line_same far label made link calls is =
 abbrev stated_in : Sight → ℕ → Notice
 stated_in sight slot = record { slot = slot; value = value (state_at sight slot) }
 
-read_line_same : (far : ℕ) (label : Label) (made : Made) (link : ℕ) (calls : List Call) → IsQuietLife far made calls
+read_line_same : (far : ℕ) (label : Label) (made : Settings) (link : ℕ) (calls : List Call) → IsQuietLife far made calls
     → read_line label (reaching_made far made) link calls ≡ read_line label made link calls
 read_line_same far label made link calls is =
     ap (λ sight. if_there (value_line label.read label.numbers)
@@ -75,7 +75,7 @@ read_line_same far label made link calls is =
 
 -- ---- drains
 
-serves_same : (far : ℕ) (label : Label) (made : Made) (link count : ℕ) (calls : List Call) → IsQuietLife far made calls
+serves_same : (far : ℕ) (label : Label) (made : Settings) (link count : ℕ) (calls : List Call) → IsQuietLife far made calls
     → serve_lines label (reaching_made far made) link count calls ≡ serve_lines label made link count calls
 serves_same far label made link zero calls is = refl
 serves_same far label made link (suc count) calls is =
@@ -85,7 +85,7 @@ serves_same far label made link (suc count) calls is =
     (served_same far label made link (repeated count (links.served link) calls)
     (record { within = is.within; quiet = quiet_serves made.setup link count calls is.quiet }))
 
-tells_same : (far : ℕ) (label : Label) (made : Made) (link count : ℕ) (calls : List Call) → IsQuietLife far made calls
+tells_same : (far : ℕ) (label : Label) (made : Settings) (link count : ℕ) (calls : List Call) → IsQuietLife far made calls
     → tell_lines label (reaching_made far made) link count calls ≡ tell_lines label made link count calls
 tells_same far label made link zero calls is = refl
 tells_same far label made link (suc count) calls is =
@@ -95,7 +95,7 @@ tells_same far label made link (suc count) calls is =
     (told_line_same far label made link (repeated count (links.told link) calls)
     (record { within = is.within; quiet = quiet_tells made.setup link count calls is.quiet }))
 
-reads_lines_same : (far : ℕ) (label : Label) (made : Made) (link count : ℕ) (calls : List Call) → IsQuietLife far made calls
+reads_lines_same : (far : ℕ) (label : Label) (made : Settings) (link count : ℕ) (calls : List Call) → IsQuietLife far made calls
     → read_lines label (reaching_made far made) link count calls ≡ read_lines label made link count calls
 reads_lines_same far label made link zero calls is = refl
 reads_lines_same far label made link (suc count) calls is =
@@ -105,10 +105,10 @@ reads_lines_same far label made link (suc count) calls is =
     (read_line_same far label made link (repeated count (links.read link) calls)
     (record { within = is.within; quiet = quiet_reads made.setup link count calls is.quiet }))
 
-drains_same : (far : ℕ) (label : Label) (made : Made) (link : ℕ) (calls : List Call) → IsQuietLife far made calls
+drains_same : (far : ℕ) (label : Label) (made : Settings) (link : ℕ) (calls : List Call) → IsQuietLife far made calls
     → drain_lines label (reaching_made far made) link calls ≡ drain_lines label made link calls
 drains_same far label made link calls is =
-    let far_made : Made = reaching_made far made in
+    let far_made : Settings = reaching_made far made in
     let count : ℕ = length (writes_waiting link calls) in
     let served : List Call = served_out link calls in
     let is_served : IsQuietLife far made served = record {
@@ -147,7 +147,7 @@ drains_same far label made link calls is =
 abbrev viewed_in : Option ℕ → Acts → ℕ → Notice
 viewed_in mtu acts slot = record { slot = slot; value = value (view_of (language mtu) slot acts) }
 
-shows_same : (far sink : ℕ) (made : Made) (calls : List Call) → IsQuietLife far made calls
+shows_same : (far sink : ℕ) (made : Settings) (calls : List Call) → IsQuietLife far made calls
     → show_lines sink (reaching_made far made) calls ≡ show_lines sink made calls
 shows_same far sink made calls is =
     ap (λ sight. flat_map (λ slot. value_line (codes "state") (decimal sink ∷ []) (stated_in sight slot)
@@ -157,7 +157,7 @@ shows_same far sink made calls is =
     ∷ value_line (codes "view") (decimal sink ∷ []) (viewed_in made.mtu acts slot) ∷ [])
     (range_with_len 0 made.setup.slots)) (acts_same far made.setup made.mtu 0 calls is.within is.quiet)
 
-views_same : (far sink link : ℕ) (made : Made) (calls : List Call) → IsQuietLife far made calls
+views_same : (far sink link : ℕ) (made : Settings) (calls : List Call) → IsQuietLife far made calls
     → view_lines sink link (reaching_made far made) calls ≡ view_lines sink link made calls
 views_same far sink link made calls is =
     ap (λ acts. map (λ slot. value_line (codes "aview") (decimal sink ∷ decimal link ∷ []) (viewed_in made.mtu acts slot))
@@ -167,11 +167,11 @@ views_same far sink link made calls is =
 -- ---- trains
 
 -- the train, where one is heard, isn't answered `BadGroup 11`
-abbrev pub HearsNear : Made → List Call → Option Train → Type 0
+abbrev pub HearsNear : Settings → List Call → Option Train → Type 0
 HearsNear made calls None = Unit {0}
 HearsNear made calls (Some train) = BringsNear (brought_by made.setup (sight_in made calls) train)
 
-pub brings_same : (far : ℕ) (made : Made) (calls : List Call) (train : Train) → IsQuietLife far made calls
+pub brings_same : (far : ℕ) (made : Settings) (calls : List Call) (train : Train) → IsQuietLife far made calls
     → HearsNear made calls (Some train)
     → brought_by (reaching far made.setup) (sight_in (reaching_made far made) calls) train
     ≡ brought_by made.setup (sight_in made calls) train
@@ -179,7 +179,7 @@ brings_same far made calls train is near =
     ap (λ sight. brought_by (reaching far made.setup) sight train) (its_sight far made calls is)
     ∙ brought_same far made.setup (sight_in made calls) train is.within near
 
-hears_same : (far sink : ℕ) (made : Made) (calls : List Call) (train : Train) → IsQuietLife far made calls
+hears_same : (far sink : ℕ) (made : Settings) (calls : List Call) (train : Train) → IsQuietLife far made calls
     → HearsNear made calls (Some train)
     → heard_line sink (reaching_made far made) calls train ≡ heard_line sink made calls train
 hears_same far sink made calls train is near = ap (λ brought. sink_line sink (train_words (answer_of brought)))
@@ -187,7 +187,7 @@ hears_same far sink made calls train is near = ap (λ brought. sink_line sink (t
 
 -- ---- all of it
 
-pub printed_same : (far : ℕ) (source : Source) (step : Step) (made : Made) (calls : List Call) → IsQuietLife far made calls
+pub printed_same : (far : ℕ) (source : Source) (step : Step) (made : Settings) (calls : List Call) → IsQuietLife far made calls
     → HearsNear made calls (train_by source step)
     → printed_of source step (reaching_made far made) calls ≡ printed_of source step made calls
 printed_same far source (steps.Serve sink) made calls is near = served_same far (plain sink) made 0 calls is
@@ -210,19 +210,19 @@ printed_same far source _ made calls is near = refl
 
 -- ---- why a step is refused
 
-notice_same : (far : ℕ) (made : Made) (link : ℕ) (calls : List Call) → IsQuietLife far made calls
+notice_same : (far : ℕ) (made : Settings) (link : ℕ) (calls : List Call) → IsQuietLife far made calls
     → no_notice (reaching_made far made) link calls ≡ no_notice made link calls
 notice_same far made link calls is =
     ap (λ (notices : List Told). refuse_if (is_none (slice_get notices 0)) NothingWaiting)
     (notices_same far made.setup made.mtu link calls is.within is.quiet)
 
-read_same : (far : ℕ) (made : Made) (link : ℕ) (calls : List Call) → IsQuietLife far made calls
+read_same : (far : ℕ) (made : Settings) (link : ℕ) (calls : List Call) → IsQuietLife far made calls
     → no_read (reaching_made far made) link calls ≡ no_read made link calls
 read_same far made link calls is =
     ap (λ (reads : List ℕ). refuse_if (is_none (slice_get reads 0)) NothingWaiting)
     (reads_same far made.setup made.mtu link calls is.within is.quiet)
 
-waits_same : (far : ℕ) (made : Made) (calls : List Call) (step : Step) → IsQuietLife far made calls
+waits_same : (far : ℕ) (made : Settings) (calls : List Call) (step : Step) → IsQuietLife far made calls
     → nothing_waits (reaching_made far made) calls step ≡ nothing_waits made calls step
 waits_same far made calls (steps.Tell sink) is = notice_same far made 0 calls is
 waits_same far made calls (steps.Read sink) is = read_same far made 0 calls is
@@ -230,7 +230,7 @@ waits_same far made calls (steps.ATell sink link) is = notice_same far made link
 waits_same far made calls (steps.ARead sink link) is = read_same far made link calls is
 waits_same far made calls _ is = refl
 
-room_same : (far : ℕ) (made : Made) (calls : List Call) (step : Step) → IsQuietLife far made calls
+room_same : (far : ℕ) (made : Settings) (calls : List Call) (step : Step) → IsQuietLife far made calls
     → no_record_room (reaching_made far made) calls step ≡ no_record_room made calls step
 room_same far made calls (steps.Pac sink codec caps metadata) is =
     ap (λ sight. refuse_if (nat_lt greatest_value (length (records_value (sight.capability.entries ++ record_of codec caps metadata ∷ []))))
@@ -238,7 +238,7 @@ room_same far made calls (steps.Pac sink codec caps metadata) is =
     (its_sight far made calls is)
 room_same far made calls _ is = refl
 
-pub refused_same : (far : ℕ) (step : Step) (made : Made) (calls : List Call) → IsQuietLife far made calls
+pub refused_same : (far : ℕ) (step : Step) (made : Settings) (calls : List Call) → IsQuietLife far made calls
     → refused_by step (reaching_made far made) calls ≡ refused_by step made calls
 refused_same far step made calls is =
     ap (λ waits. option_or (no_link calls (link_named step))

@@ -17,14 +17,14 @@ use Rattle.big_info.specs.declared.info.BigInfo.{BigInfo}
 use Rattle.big_info.specs.Reading.{info_of}
 use Rattle.big_info.specs.Rows.{NoFault, first_fault}
 use Rattle.big_info.specs.Schedule.{horizon_of as reach_of}
-use Rattle.delegator_history.specs.Trains.{Setup, Train as Heard, big_info_in, found_in}
+use Rattle.delegator_history.specs.Trains.{Settings, Setup, Train as Heard, big_info_in, found_in}
 use Rattle.ltv_codec.specs.Values.{first_of}
 use Rattle.source_machine.specs.Ciphers.{without_cipher}
 use Rattle.source_machine.specs.Calls.{next_anchor_of, next_of}
 use Rattle.scenario_text.specs.declared.step.Step.{Step}
 use Rattle.scenario_text.specs.declared.step.Step.TheVariants as steps
 use Rattle.transcript_text.specs.declared.refusal.Refusal.TheVariants.{BaseTooLong}
-use Rattle.sink_history.specs.Lives.{Made, horizon_of, made_of, own_train, horizon_in}
+use Rattle.sink_history.specs.Lives.{horizon_of, made_of, own_train, horizon_in}
 use Rattle.scenario_history.specs.Bases.{base_of, is_base_too_long}
 use Rattle.scenario_history.specs.Refusals.{group_refusal, refusal_of, source_refusal}
 use Rattle.sink_history.specs.Refusals.{refuse_if}
@@ -58,11 +58,11 @@ first_alone airs boxes version earlier legal =
 -- ---- how far a group may reach for a sink
 
 -- a sink that lives has this horizon
-abbrev HasHorizon : Option Made → ℕ → Type 0
+abbrev HasHorizon : Option Settings → ℕ → Type 0
 HasHorizon None horizon = Unit {0}
 HasHorizon (Some made) horizon = made.setup.horizon ≡ horizon
 
-horizon_if : (b : Bool) (one made : Option Made) (horizon : ℕ) → HasHorizon one horizon → HasHorizon made horizon
+horizon_if : (b : Bool) (one made : Option Settings) (horizon : ℕ) → HasHorizon one horizon → HasHorizon made horizon
     → HasHorizon (cond b one made) horizon
 horizon_if true one made horizon is has = is
 horizon_if false one made horizon is has = has
@@ -189,7 +189,8 @@ reads_near setup train heard broadcast_id base info event anchor same tells with
 
 -- ---- an announced train
 
-its_horizon : (made : Option Made) (sink : Made) (horizon : ℕ) → HasHorizon made horizon → made ≡ Some sink → sink.setup.horizon ≡ horizon
+its_horizon : (made : Option Settings) (sink : Settings) (horizon : ℕ) → HasHorizon made horizon → made ≡ Some sink
+    → sink.setup.horizon ≡ horizon
 its_horizon made sink horizon has is = subst (λ one. HasHorizon one horizon) is has
 
 pub announced_calm : Announcing → (airs : Airs) (boxes n : ℕ) (earlier : List Step) → Legal airs boxes earlier

@@ -5,14 +5,14 @@ use Rattle.std.proofs.Common.{ℕ, zero, suc, ◌≡◌, ◌*◌, ◌==◌, ◌&
 use Rattle.std.proofs.Common.{ap₂}
 use Rattle.std.proofs.lemmas.Bool.{eqb-true}
 use Rattle.delegator_machine.specs.Groups.{with_step}
-use Rattle.delegator_history.specs.Trains.{Train, brought_by, joining_in}
+use Rattle.delegator_history.specs.Trains.{Settings, Train, brought_by, joining_in}
 use Rattle.group_sink.specs.Calls.{Call as SinkCall, hear, tune}
 use Rattle.sink_history.specs.Calls.{Call}
 use Rattle.source_machine.specs.Airs.{airs_of}
 use Rattle.source_machine.specs.Calls.{next_anchor_of, next_of}
 use Rattle.scenario_text.specs.declared.step.Step.{Step}
 use Rattle.scenario_text.specs.declared.step.Step.TheVariants as steps
-use Rattle.sink_history.specs.Lives.{Made, Source, made_of, named_by}
+use Rattle.sink_history.specs.Lives.{Source, made_of, named_by}
 use Rattle.sink_history.specs.Moves.{follows, follows_by, joining_of, received_by, source_by, train_by}
 use Rattle.sink_history.specs.Output.{sight_in}
 use Rattle.scenario_history.specs.Sinks.{Spot, hear_at, heard_on_air, is_lost, is_of, moved, reaches, sink_calls, source_after, source_of}
@@ -30,18 +30,18 @@ use Rattle.scenario_laws.proofs.Versions.Sources.{event_same, of_calls, open_sam
 
 -- ---- trains
 
-brought_far : (made other : Made) (calls : List Call) (train : Train) → IsFar made other → AreQuietCalls made.setup calls
+brought_far : (made other : Settings) (calls : List Call) (train : Train) → IsFar made other → AreQuietCalls made.setup calls
     → HearsNear made calls (Some train)
     → brought_by other.setup (sight_in other calls) train ≡ brought_by made.setup (sight_in made calls) train
 brought_far made other calls train far quiet near =
-    ap (λ (sink : Made). brought_by sink.setup (sight_in sink calls) train) far.is
+    ap (λ (sink : Settings). brought_by sink.setup (sight_in sink calls) train) far.is
     ∙ brings_same far.horizon made calls train (is_quiet made other calls far quiet) near
 
 -- each train that is heard so isn't answered `BadGroup 11`
-abbrev pub HeardNear : Option Made → List Call → Option Train → Type 0
-HeardNear made calls train = (sink : Made) → made ≡ Some sink → HearsNear sink calls train
+abbrev pub HeardNear : Option Settings → List Call → Option Train → Type 0
+HeardNear made calls train = (sink : Settings) → made ≡ Some sink → HearsNear sink calls train
 
-follows_same : (source : Source) (train : Option Train) (made other : Option Made) (calls : List Call) → AreFar made other
+follows_same : (source : Source) (train : Option Train) (made other : Option Settings) (calls : List Call) → AreFar made other
     → QuietLife made calls → HeardNear made calls train
     → follows_by source train other calls ≡ follows_by source train made calls
 follows_same source None made other calls far quiet near = refl
@@ -51,7 +51,7 @@ follows_same source (Some train) (Some made) (Some other) calls far quiet near =
 follows_same source (Some train) None (Some other) calls far quiet near = absurd far
 follows_same source (Some train) (Some made) None calls far quiet near = absurd far
 
-joining_same : (horizon : ℕ) (made : Made) (calls : List Call) (train : Option Train) → (far : IsFar made (reaching_made horizon made))
+joining_same : (horizon : ℕ) (made : Settings) (calls : List Call) (train : Option Train) → (far : IsFar made (reaching_made horizon made))
     → AreQuietCalls made.setup calls
     → HearsNear made calls train → joining_of (reaching_made horizon made) (sight_in (reaching_made horizon made) calls) train
     ≡ joining_of made (sight_in made calls) train
@@ -59,13 +59,13 @@ joining_same horizon made calls None far quiet near = refl
 joining_same horizon made calls (Some train) far quiet near =
     ap joining_in (brought_far made (reaching_made horizon made) calls train far quiet near)
 
-received_same : (source : Source) (step : Step) (made other : Option Made) (before after : List Call) (calls : List SinkCall)
+received_same : (source : Source) (step : Step) (made other : Option Settings) (before after : List Call) (calls : List SinkCall)
     → AreFar made other
     → QuietLife made before → QuietLife made after → HeardNear made before (train_by source step)
     → received_by source step other before after calls ≡ received_by source step made before after calls
 received_same source this None None before after calls far quiet later near = refl
 received_same source this (Some made) (Some other) before after calls far quiet later near =
-    let it : Made = reaching_made far.horizon made in
+    let it : Settings = reaching_made far.horizon made in
     ap (λ sink. received_by source this (Some sink) before after calls) far.is
     ∙ ap (λ joining. with_step joining (sight_in it before) (sight_in it after) calls)
     (joining_same far.horizon made before (train_by source this) (record { horizon = far.horizon; within = far.within; is = refl }) quiet
@@ -87,7 +87,7 @@ its_source : (n : ℕ) (step : Step) (earlier : List Step) (source others : Opti
     → others ≡ source → source_by (source_at (seconds earlier)) step (made_of n (seconds earlier)) (life n (seconds earlier)) others
     ≡ source_by (source_at earlier) step (made_of n earlier) (life n earlier) source
 its_source n step earlier source others calm near same =
-    let other : Option Made = made_of n (seconds earlier) in
+    let other : Option Settings = made_of n (seconds earlier) in
     ap₂ (λ at calls. source_by at step other calls others) (source_same earlier) (life_same n earlier calm)
     ∙ ap₂ (λ b its. cond b (Some (source_at earlier).number) its)
     (follows_same (source_at earlier) (train_by (source_at earlier) step) (made_of n earlier) other (life n earlier) (made_far n earlier)
@@ -190,7 +190,7 @@ its_moves : (n : ℕ) (step : Step) (earlier : List Step) (calls others : List S
     (life n (step ∷ seconds earlier)) others
     ≡ received_by (source_at earlier) step (made_of n earlier) (life n earlier) (life n (step ∷ earlier)) calls
 its_moves n step earlier calls others calm later near same =
-    let other : Option Made = made_of n (seconds earlier) in
+    let other : Option Settings = made_of n (seconds earlier) in
     let quiet : QuietLife (made_of n earlier) (life n earlier) = quiet_life n earlier calm in
     ap₂ (λ source before. received_by source step other before (life n (step ∷ seconds earlier)) others) (source_same earlier)
     (life_same n earlier calm)

@@ -20,7 +20,8 @@ use Rattle.scenario_text.specs.declared.step.Step.TheVariants as steps
 use Rattle.transcript_text.specs.declared.refusal.Refusal.{Refusal}
 use Rattle.transcript_text.specs.declared.refusal.Refusal.TheVariants.{AfterEnd, BaseTooLong, IdentTwice, NoOutlet, NoSuchBis, NoSuchSink}
 use Rattle.transcript_text.specs.declared.refusal.Refusal.TheVariants.{NotOnAir, Order, RelayTaken, SinkTwice}
-use Rattle.sink_history.specs.Lives.{Made, made_of, named_by, horizon_in}
+use Rattle.delegator_history.specs.Trains.{Settings}
+use Rattle.sink_history.specs.Lives.{made_of, named_by, horizon_in}
 use Rattle.sink_history.specs.Refusals.{refused_at, refused_by, refused_where, refuse_if}
 use Rattle.scenario_history.specs.Bases.{is_base_too_long}
 use Rattle.scenario_history.specs.Boxes.{box_after, box_of}
@@ -182,7 +183,7 @@ box_same n (step ∷ earlier) =
     ≡ box_after n one (seconds earlier) (box_of n (seconds earlier))) (λ version. refl) (λ same. refl) step
     ∙ box_next n step earlier (box_of n earlier) (box_of n (seconds earlier)) (box_same n earlier)
 
-where_same : (step : Step) (made other : Option Made) (calls : List links.Call) → AreFar made other → QuietLife made calls
+where_same : (step : Step) (made other : Option Settings) (calls : List links.Call) → AreFar made other → QuietLife made calls
     → refused_where step other calls ≡ refused_where step made calls
 where_same this None None calls far quiet = refl
 where_same this (Some made) (Some other) calls far quiet =

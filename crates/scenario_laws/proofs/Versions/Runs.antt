@@ -9,7 +9,7 @@ use Rattle.std.proofs.lemmas.Option.{none-some, same_Some}
 use Rattle.bcast_io.specs.TextLines.{TextLine}
 use Rattle.unit_outlets.specs.Account.{Account}
 use Rattle.big_info.specs.declared.fault.GroupFault.TheVariants.{Horizon}
-use Rattle.delegator_history.specs.Trains.{Train, answer_of, brought_by}
+use Rattle.delegator_history.specs.Trains.{Settings, Train, answer_of, brought_by}
 use Rattle.delegator_history.specs.declared.train_heard.TrainHeard.TheVariants.{BadGroup as Refused}
 use Rattle.scenario_history.specs.Runs.{Accepted, End, Rules, accepted_of, accepted_unless, end_of, end_unless, number_after, out, out_unless}
 use Rattle.scenario_history.specs.Runs.{refused, through}
@@ -21,7 +21,7 @@ use Rattle.transcript_text.specs.Lines.{refusal_line}
 use Rattle.transcript_text.specs.declared.refusal.Refusal.{Refusal}
 use Rattle.transcript_text.specs.declared.refusal.Refusal.TheVariants.{BadLine}
 use Rattle.transcript_text.specs.SinkLines.{sink_line, train_words}
-use Rattle.sink_history.specs.Lives.{Made, given_train, made_of}
+use Rattle.sink_history.specs.Lives.{given_train, made_of}
 use Rattle.sink_history.specs.Output.{printed_where, sight_in}
 use Rattle.scenario_history.specs.Boxes.{handed_up}
 use Rattle.scenario_history.specs.Lines.{Said, a_step, nothing, unsaid, output_said, refusal_said, rules_of, said_after, said_in, said_of}
@@ -95,7 +95,7 @@ said_same boxes made said later (inr is) none = absurd
 pub as_said : (lines : List TextLine) → has_relay (said_of lines) ≡ false → steps_of airs_of lines ≡ said_of lines
 as_said lines plain = nothing_else airs_of (said_of lines) plain
 
-answers_so : (starts : List Account) (earlier : List TextLine) (line : TextLine) (sink time : ℕ) (ext adv acad : List ℕ) (made : Made)
+answers_so : (starts : List Account) (earlier : List TextLine) (line : TextLine) (sink time : ℕ) (ext adv acad : List ℕ) (made : Settings)
     → has_relay (said_of earlier) ≡ false
     → said_after earlier line ≡ a_step (steps.Train sink time ext adv acad) → made_of sink (said_of earlier) ≡ Some made
     → answer_of (brought_by made.setup (sight_in made (life sink (said_of earlier)))

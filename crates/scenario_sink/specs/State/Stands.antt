@@ -2,7 +2,7 @@
 use Rattle.std.specs.Prelude.{ℕ, ◌≡◌, ◌∷◌, true, [], List, Option, Some, None}
 use Rattle.delegator_machine.specs.Calls as machine
 use Rattle.delegator_machine.specs.Groups.{group_calls, joining_given, with_step}
-use Rattle.delegator_machine.specs.State.Halves.{Halves, StandsFor}
+use Rattle.delegator_machine.specs.State.Halves.{Halves, StandsFor, settings_of}
 use Rattle.delegator_history.specs.Notices.{changes}
 use Rattle.delegator_history.specs.Sights.{Sight}
 use Rattle.delegator_history.specs.States.{Step}
@@ -21,14 +21,14 @@ use Rattle.scenario_sink.specs.Pasts.{SinkPast}
 use Rattle.scenario_sink.specs.State.Links.{OnLink}
 use Rattle.scenario_sink.specs.State.Untold.{untold}
 
--- the delegator took the steps of the sink's life, and more that asked for notices, and its receivers what they took; the links
--- have its slots and its MTU; link 0 is never left
+-- the delegator took the steps of the sink's life, and more that asked for notices, and its receivers what they took; it has the
+-- settings of the sink, and the links have its slots and its MTU; link 0 is never left
 pub record Took (past : SinkPast) (delegator : Halves) (links : Links) : Type 0 where
   pub taken : List machine.Call
   pub stands : StandsFor past.made.setup taken delegator
   pub own : untold (machine.steps_of taken) ≡ steps_of past.life
   pub received_is : group_calls past.made.setup taken ≡ past.received
-  pub mtu_is : delegator.scan.mtu ≡ past.made.mtu
+  pub settings_is : settings_of delegator ≡ past.made
   pub links_slots : slots_of links ≡ past.made.setup.slots
   pub links_mtu : mtu_of links ≡ past.made.mtu
   pub octets : AreOctets past.life

@@ -7,7 +7,7 @@ use Rattle.sink_history.specs.Calls as links
 use Rattle.scenario_history.specs.Boxes.{most_sinks, accounts_after, closing_by}
 use Rattle.scenario_history.specs.Sinks.{is_of, ticked_if}
 use Rattle.scenario_history.specs.Output.{unit_lines}
-use Rattle.sink_history.specs.Lives.{Made}
+use Rattle.delegator_history.specs.Trains.{Settings}
 use Rattle.scenario_sinks.specs.declared.gathered.Gathered.{Gathered}
 use Rattle.scenario_sinks.specs.declared.sink.Sink.{Sink}
 use Rattle.transcript_text.specs.declared.stop.Stop.{Stop}
@@ -18,25 +18,29 @@ use Rattle.scenario_sinks.specs.State.Gathering.{calls_of}
 use Rattle.scenario_sinks.specs.State.Standing.{EntryIs, EntryAt, EntriesAre}
 
 -- one sink is ticked, where it is of the source
-pub record SinkTicked (box : Option ℕ) (made : Option Made) (own : Option ℕ) (life : List links.Call) (received : List Call) (source event : ℕ)
+pub record SinkTicked (box : Option ℕ) (made : Option Settings) (own : Option ℕ) (life : List links.Call) (received : List Call)
+    (source event : ℕ)
     (entry : Option Sink) (gathered : Gathered) : Type 0 where
   pub entry_is : EntryIs box made own life (ticked_if (is_of source own) (Some event) received) (Some entry)
   pub empty : gathered.units.items ≡ []
 
 -- one sink is ticked, where it is of the source, and the units that it handed up are gathered
-pub record SinkHeld (box : Option ℕ) (made : Option Made) (own : Option ℕ) (life : List links.Call) (received : List Call) (n source event : ℕ)
+pub record SinkHeld (box : Option ℕ) (made : Option Settings) (own : Option ℕ) (life : List links.Call) (received : List Call)
+    (n source event : ℕ)
     (entry : Option Sink) (gathered : Gathered) : Type 0 where
   pub entry_is : EntryIs box made own life (ticked_if (is_of source own) (Some event) received) (Some entry)
   pub held : calls_of gathered ≡ handed_all (closing_by source event n received own box)
 
 -- what became of it as its units are handed up
-pub record SinkHands (box : Option ℕ) (made : Option Made) (own : Option ℕ) (life : List links.Call) (received : List Call) (n source event : ℕ)
+pub record SinkHands (box : Option ℕ) (made : Option Settings) (own : Option ℕ) (life : List links.Call) (received : List Call)
+    (n source event : ℕ)
     (entry : Option Sink) (gathered : Gathered) (text told : List ℕ) (before after : List Account) (result : Result (Unit {0}) Stop) : Type 0 where
   pub hands : Hands (closing_by source event n received own box) text told before after result
   pub is_held : OnOk result (SinkHeld box made own life received n source event entry gathered)
 
 -- what became of a close of one sink
-pub record SinkCloses (box : Option ℕ) (made : Option Made) (own : Option ℕ) (life : List links.Call) (received : List Call) (n source event : ℕ)
+pub record SinkCloses (box : Option ℕ) (made : Option Settings) (own : Option ℕ) (life : List links.Call) (received : List Call)
+    (n source event : ℕ)
     (entry : Option Sink) (gathered : Gathered) (text told : List ℕ) (before after : List Account) (result : Result (Unit {0}) Stop) : Type 0 where
   pub hands : Hands (closing_by source event n received own box) text told before after result
   pub is_ticked : OnOk result (SinkTicked box made own life received source event entry gathered)

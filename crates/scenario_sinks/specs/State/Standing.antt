@@ -8,20 +8,20 @@ use Rattle.scenario_sinks.specs.declared.sink.Sink.{Sink}
 use Rattle.scenario_sinks.specs.declared.sinks.Sinks.{Sinks}
 use Rattle.scenario_sinks.specs.Pasts.{Past}
 use Rattle.scenario_sinks.specs.State.Gathering.{calls_of}
-use Rattle.sink_history.specs.Lives.{Made}
+use Rattle.delegator_history.specs.Trains.{Settings}
 use Rattle.scenario_sink.specs.Pasts.{SinkPast}
 use Rattle.scenario_sink.specs.State.Stands.{Lives}
 
-abbrev pub past_of : Made → Option ℕ → List links.Call → List Call → SinkPast
+abbrev pub past_of : Settings → Option ℕ → List links.Call → List Call → SinkPast
 past_of made source life received = record { made = made; source = source; life = life; received = received }
 
 -- the entry of a number with this box, or none where no sink lives; the sink was made so, is of this source, has this life, and
 -- its receivers took these calls
-abbrev pub EntryIs : Option ℕ → Option Made → Option ℕ → List links.Call → List Call → Option (Option Sink) → Type 0
+abbrev pub EntryIs : Option ℕ → Option Settings → Option ℕ → List links.Call → List Call → Option (Option Sink) → Type 0
 EntryIs None made source life received entry = (entry ≡ Some None) × (made ≡ None)
 EntryIs (Some box) made source life received entry =
     (sink : Sink) × (entry ≡ Some (Some sink)) × (sink.outlet ≡ box)
-    × (how : Made) × (made ≡ Some how) × Lives (past_of how source life received) sink.living
+    × (how : Settings) × (made ≡ Some how) × Lives (past_of how source life received) sink.living
 
 abbrev pub EntryAt : Past → ℕ → Option (Option Sink) → Type 0
 EntryAt past n entry = EntryIs (past.boxes n) (past.mades n) (past.sources n) (past.lives n) (past.received n) entry

@@ -1,5 +1,5 @@
 -- Where a source stands, and the steps of this source that it stands for, the newest first.
-use Rattle.std.specs.Prelude.{ℕ, ◌≡◌, ◌∷◌, true, false, List, [], Option, None, Some, Result, Ok, Err}
+use Rattle.std.specs.Prelude.{ℕ, ◌≡◌, ◌∷◌, Bool, true, false, List, [], Option, None, Some, Result, Ok, Err}
 use Rattle.base_grammar.specs.Layout.{Endpoint, endpoint}
 use Rattle.source_machine.specs.Airs.{airs_of}
 use Rattle.source_machine.specs.Ciphers.{without_cipher}
@@ -50,6 +50,11 @@ PhaseIs own phases.Absent = (phase_of own ≡ absent) × AbsentIs own
 PhaseIs own (phases.Described said) = (phase_of own ≡ described) × DescribedIs own said
 PhaseIs own (phases.Sending started) = (phase_of own ≡ sending) × StartedIs own started
 PhaseIs own (phases.Stopped started) = (phase_of own ≡ stopped) × StartedIs own started
+
+-- it has a group, and was never started
+abbrev pub is_described : Phase → Bool
+is_described (phases.Described said) = true
+is_described _ = false
 
 -- what became of a source at a step that means it, in a scenario of this version
 abbrev pub Becomes : ℕ → List Step → Step → Phase → Result (Unit {0}) Stop → Type 0

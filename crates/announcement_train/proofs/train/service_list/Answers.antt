@@ -9,6 +9,6 @@ one_structure-requires c = omega (
   c.requires,
   ap length (c.as_slice.ensures ∙ c.in_ok-append.ensures.ok),
   length-append c.put_number.new.out c.args.content.now,
-  ap length (c.in_ok-put_number.ensures.ok ∙ ap (λ octets. octets ++ number 2 c.from.result) c.new-value.ensures),
+  ap length (c.in_ok-put_number.ensures.ok ∙ ap (λ octets. octets ++ number 2 c.from.result) (c.of-value.ensures ∙ c.in_ok-with_capacity.ensures.items)),
   number-length 2 c.from.result,
 )

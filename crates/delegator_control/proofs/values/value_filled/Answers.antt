@@ -1,8 +1,16 @@
-use Rattle.std.proofs.Common.{sym, subst}
-use Rattle.receive_state.specs.Layout.{HasSpelling}
-use Rattle.delegator_control.specs.State.Statuses.{status_seen}
-use Rattle.delegator_control.proofs.Spelled.{has_octets}
+use Rattle.std.proofs.Common.{◌≡◌, ◌++◌, ◌∙◌, ap, length}
+use Rattle.bcast_base.specs.Layout.{laid}
+use Rattle.receive_state.specs.Layout.{fields_of, front_fields}
+use Rattle.delegator_history.specs.Values.{received}
+use Rattle.delegator_control.specs.State.Statuses.{groups_laid, status_seen}
+use Rattle.delegator_control.proofs.Spelled.{in_two}
 use Rattle.delegator_control.proofs.values.value_filled.Goals as goal
 
-pub encode_state-requires : goal.encode_state-requires
-encode_state-requires c = subst HasSpelling (sym c.in_ok-state.ensures.same) (has_octets (status_seen c.args.status.now) c.args.slot.now c.requires c.in_ok-state.ensures.fits)
+pub returns : goal.returns
+returns c =
+    let entry = c.args.slot.now in
+    let begun : c.in_ok-out.out ≡ laid (front_fields (fields_of (received (status_seen c.args.status.now) entry)) (length entry.wanted.wishes)) =
+    c.in_ok-out.ensures.front
+    ∙ (λ i. laid (front_fields (fields_of (c.front_of-front.ensures.same i)) ((c.count.ensures.same ∙ ap length c.wishes-wishes.ensures) i))) in
+    c.in_ok-put_groups.ensures ∙ (λ i. begun i ++ groups_laid 0 c.args.status.now.bits.now (c.wishes-wishes.ensures i))
+    ∙ in_two (status_seen c.args.status.now) entry

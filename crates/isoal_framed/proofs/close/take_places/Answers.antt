@@ -28,7 +28,7 @@ places-preserved g c =
       room = c.take_pdu-handed.ensures.room ∙ c.places.invariant.room;
       kept = turned_more (kept_of c.args.store.now.places) (kept_of c.places.store.places) (kept_of c.turn-place.new.self) c.places.counter c.args.count
           c.places.invariant.kept below c.turn-place.ensures.kept;
-      walked = walked_more (vec_len c.args.store.now.joining.octets) c.args.stream.now.bis (run_in c.args.store.now.joining) (run_in c.places.store.joining) (run_in c.take_pdu-handed.new.joining)
+      walked = walked_more (vec_len c.args.store.now.undecided.octets) c.args.stream.now.bis (run_in c.args.store.now.undecided) (run_in c.places.store.undecided) (run_in c.take_pdu-handed.new.undecided)
           (flat_map (tokens_of (stay_of c.args.stream.now) c.args.event) (take c.args.count (kept_of c.args.store.now.places)))
           (flat_map (tokens_of (stay_of c.args.stream.now) c.args.event) (take (c.args.count - c.places.counter) (drop c.places.counter (kept_of c.args.store.now.places))))
           (tokens_of (stay_of c.args.stream.now) c.args.event (get_or (kept_of c.args.store.now.places) c.places.counter None))
@@ -40,12 +40,12 @@ places-preserved g c =
           (left_more (tokens_of (stay_of c.args.stream.now) c.args.event) (kept_of c.args.store.now.places) c.places.counter (c.args.count - c.places.counter)
           (c.args.count - (c.places.counter + 1)) below (omega (arith, c.places-test.true)))
           (c.take_pdu-handed.ensures.run
-          ∙ ap (λ max_sdu. run_after max_sdu (run_in c.places.store.joining)
+          ∙ ap (λ max_sdu. run_after max_sdu (run_in c.places.store.undecided)
           (tokens_of (stay_of c.args.stream.now) c.args.event (read_as segmented c.args.stream.now.group.info.max_pdu c.pdu.result.now))) c.places.invariant.room
-          ∙ ap (λ kept. run_after (vec_len c.args.store.now.joining.octets) (run_in c.places.store.joining) (tokens_of (stay_of c.args.stream.now) c.args.event kept)) entry)
-          (subst (λ kept. HandsOn (hands (vec_len c.args.store.now.joining.octets) c.args.stream.now.bis (run_in c.places.store.joining) (tokens_of (stay_of c.args.stream.now) c.args.event kept))
+          ∙ ap (λ kept. run_after (vec_len c.args.store.now.undecided.octets) (run_in c.places.store.undecided) (tokens_of (stay_of c.args.stream.now) c.args.event kept)) entry)
+          (subst (λ kept. HandsOn (hands (vec_len c.args.store.now.undecided.octets) c.args.stream.now.bis (run_in c.places.store.undecided) (tokens_of (stay_of c.args.stream.now) c.args.event kept))
           c.places.handed (g.T.UnitTaker.calls c.places.taker) (g.T.UnitTaker.calls c.take_pdu-handed.new.taker) c.take_pdu-handed.result) entry
-          (subst (λ max_sdu. HandsOn (hands max_sdu c.args.stream.now.bis (run_in c.places.store.joining)
+          (subst (λ max_sdu. HandsOn (hands max_sdu c.args.stream.now.bis (run_in c.places.store.undecided)
           (tokens_of (stay_of c.args.stream.now) c.args.event (read_as segmented c.args.stream.now.group.info.max_pdu c.pdu.result.now)))
           c.places.handed (g.T.UnitTaker.calls c.places.taker) (g.T.UnitTaker.calls c.take_pdu-handed.new.taker) c.take_pdu-handed.result) c.places.invariant.room c.take_pdu-handed.ensures.hands))
           c.take_pdu-handed.ensures.cause;

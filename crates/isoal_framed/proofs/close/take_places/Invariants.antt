@@ -11,9 +11,9 @@ abbrev pub invariant-places : goal.invariant-places
 invariant-places g l = record {
   places : length l.store.places.ring.items ≡ length l.initial.store.places.ring.items;
   max_pdu : l.store.places.max_pdu ≡ l.initial.store.places.max_pdu;
-  room : vec_len l.store.joining.octets ≡ vec_len l.initial.store.joining.octets;
+  room : vec_len l.store.undecided.octets ≡ vec_len l.initial.store.undecided.octets;
   kept : kept_of l.store.places ≡ drop l.counter (kept_of l.initial.store.places) ++ replicate l.counter None;
-  walked : Walked (vec_len l.initial.store.joining.octets) l.stream.bis (run_in l.initial.store.joining) (run_in l.store.joining)
+  walked : Walked (vec_len l.initial.store.undecided.octets) l.stream.bis (run_in l.initial.store.undecided) (run_in l.store.undecided)
       (flat_map (tokens_of (stay_of l.stream) l.event) (take l.count (kept_of l.initial.store.places)))
       (flat_map (tokens_of (stay_of l.stream) l.event) (take (l.count - l.counter) (drop l.counter (kept_of l.initial.store.places))))
       (Ok tt) l.handed (g.T.UnitTaker.calls l.initial.taker) (g.T.UnitTaker.calls l.taker)

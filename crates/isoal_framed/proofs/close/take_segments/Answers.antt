@@ -12,7 +12,7 @@ pub segments-preserved : goal.segments-preserved
 segments-preserved g c =
     record {
       room = c.take-handed.ensures.room ∙ c.segments.invariant.room;
-      walked = walked_token (vec_len c.args.joining.now.octets) c.args.stream.now.bis (run_in c.args.joining.now) (run_in c.segments.joining) (run_in c.take-handed.new.self)
+      walked = walked_token (vec_len c.args.undecided.now.octets) c.args.stream.now.bis (run_in c.args.undecided.now) (run_in c.segments.undecided) (run_in c.take-handed.new.self)
           (map (token_of (stay_of c.args.stream.now) c.args.event) c.args.segments) (map (token_of (stay_of c.args.stream.now) c.args.event) c.segments.segment-iterator)
           (map (token_of (stay_of c.args.stream.now) c.args.event) c.next.new.self) (token_of (stay_of c.args.stream.now) c.args.event (part_of c.in-Some.segment))
           c.args.so_far c.segments.handed c.take-handed.result
@@ -21,8 +21,8 @@ segments-preserved g c =
           c.segments.invariant.walked
           (ap (map (token_of (stay_of c.args.stream.now) c.args.event)) c.in-Some.ensures.steps)
           (c.take-handed.ensures.run
-          ∙ ap (λ max_sdu. run_at max_sdu (run_in c.segments.joining) (token_of (stay_of c.args.stream.now) c.args.event (part_of c.in-Some.segment))) c.segments.invariant.room)
-          (subst (λ max_sdu. HandsOn (hands_at max_sdu c.args.stream.now.bis (run_in c.segments.joining) (token_of (stay_of c.args.stream.now) c.args.event (part_of c.in-Some.segment)))
+          ∙ ap (λ max_sdu. run_at max_sdu (run_in c.segments.undecided) (token_of (stay_of c.args.stream.now) c.args.event (part_of c.in-Some.segment))) c.segments.invariant.room)
+          (subst (λ max_sdu. HandsOn (hands_at max_sdu c.args.stream.now.bis (run_in c.segments.undecided) (token_of (stay_of c.args.stream.now) c.args.event (part_of c.in-Some.segment)))
           c.segments.handed (g.T.UnitTaker.calls c.segments.taker) (g.T.UnitTaker.calls c.take-handed.new.taker) c.take-handed.result)
           c.segments.invariant.room c.take-handed.ensures.hands)
           c.take-handed.ensures.cause;

@@ -9,6 +9,7 @@ use Rattle.delegator_control.proofs.scan_delegator.ScanDelegator.follow.Goals as
 pub returns-clause-stands : goal.returns-clause-stands
 returns-clause-stands c =
     on_ok_weaker c.follow_brought.result
-    (λ is steps source train same stands. stands_done (train_heard source train) steps (machine c.args.self.now) (machine c.follow_brought.new.self) refl refl
+    (λ is steps train same stands.
+    stands_done (train_heard train) steps (machine c.args.self.now) (machine c.follow_brought.new.self) refl refl
     (is ∙ ap (λ b. moved (done_brought b) (machine c.args.self.now)) same) stands)
     c.follow_brought.ensures.step

@@ -8,6 +8,6 @@ use Rattle.delegator_control.proofs.scan_delegator.ScanDelegator.tune.Goals as g
 pub returns-clause-stands : goal.returns-clause-stands
 returns-clause-stands c =
     on_ok_weaker c.put_on_group.result
-    (λ is steps source joining stands.
-    stands_done (put_on source joining) steps (machine c.args.self.now) (machine c.put_on_group.new.self) refl refl is stands)
+    (λ is steps joining stands.
+    stands_done (put_on joining) steps (machine c.args.self.now) (machine c.put_on_group.new.self) refl refl is stands)
     c.put_on_group.ensures.step

@@ -10,11 +10,11 @@ use Rattle.delegator_machine.proofs.Standing.{stands_joined}
 use Rattle.delegator_machine.proofs.delegator.Delegator.put_on.Goals as goal
 
 pub returns-clause-stands : goal.returns-clause-stands
-returns-clause-stands c setup calls source stands =
+returns-clause-stands c setup calls stands =
     let old : Halves = record { scan = machine c.self.inside.scan; sink = c.self.inside.sink } in
     let before : StandsFor setup calls old = subst (StandsFor setup calls) (sym c.self.view_is) stands in
     let joining : Joining = c.args.joining.now in
-    stands_joined setup (put_on source joining) calls old (record { scan = machine c.tune.new.self; sink = c.put_on.new.self }) joining
-    refl (ap (λ (m : Machine). m.setup) c.in_ok-tune.ensures.step) (c.in_ok-tune.ensures.stands (steps_of calls) source joining before.steps)
+    stands_joined setup (put_on joining) calls old (record { scan = machine c.tune.new.self; sink = c.put_on.new.self }) joining
+    refl (ap (λ (m : Machine). m.setup) c.in_ok-tune.ensures.step) (c.in_ok-tune.ensures.stands (steps_of calls) joining before.steps)
     (c.put_on.ensures (by_numbers joining) (group_calls setup calls) (c.in_ok-receivers.ensures ∙ ap fresh_on c.by_numbers.ensures))
     before

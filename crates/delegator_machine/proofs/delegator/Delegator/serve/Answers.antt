@@ -7,9 +7,9 @@ use Rattle.delegator_machine.proofs.Standing.{stands_settled}
 use Rattle.delegator_machine.proofs.delegator.Delegator.serve.Goals as goal
 
 pub returns-clause-stands : goal.returns-clause-stands
-returns-clause-stands c setup calls link stands =
+returns-clause-stands c setup calls stands =
     let old : Halves = record { scan = machine c.self.inside.scan; sink = c.self.inside.sink } in
     let before : StandsFor setup calls old = subst (StandsFor setup calls) (sym c.self.view_is) stands in
-    stands_settled setup (written link c.args.write.now) calls old c.settle.new.self (machine c.serve.new.self) c.is_on_group-was_on_group.result
-    refl (ap (λ (m : Machine). m.setup) c.in_ok-reply.ensures.step) (c.in_ok-reply.ensures.stands (steps_of calls) link before.steps)
+    stands_settled setup (written c.args.write.now) calls old c.settle.new.self (machine c.serve.new.self) c.is_on_group-was_on_group.result
+    refl (ap (λ (m : Machine). m.setup) c.in_ok-reply.ensures.step) (c.in_ok-reply.ensures.stands (steps_of calls) before.steps)
     c.is_on_group-was_on_group.ensures c.settle.ensures.scan c.settle.ensures.sink before

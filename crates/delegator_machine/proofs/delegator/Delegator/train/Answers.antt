@@ -10,17 +10,17 @@ use Rattle.delegator_machine.proofs.Trains.{base_followed, followed_so, joined_f
 use Rattle.delegator_machine.proofs.delegator.Delegator.train.Goals as goal
 
 pub returns-clause-stands : goal.returns-clause-stands
-returns-clause-stands c setup calls source stands =
+returns-clause-stands c setup calls stands =
     let old : Halves = record { scan = machine c.self.inside.scan; sink = c.self.inside.sink } in
     let before : StandsFor setup calls old = subst (StandsFor setup calls) (sym c.self.view_is) stands in
     let train : Train = record { address_type = c.args.address_type; sid = c.args.sid; ext = c.args.ext.now; adv = c.args.adv.now; acad = c.args.acad.now; now = c.args.now } in
     let heard : brought_of c.in_ok-brought.brought ≡ brought_by old.scan.setup old.scan.sight train = c.in_ok-brought.ensures.brought in
-    stands_trained setup train source calls old (record { scan = machine c.follow.new.self; sink = c.join.new.sink })
+    stands_trained setup train calls old (record { scan = machine c.follow.new.self; sink = c.join.new.sink })
     (option_copied c.joining.result) c.in_ok-made.made
     (c.joining.ensures ∙ ap joining_in heard) c.in_ok-made.ensures.made
     c.join.ensures.none c.join.ensures.some
     (c.in_ok-heard.ensures.step ∙ ap (λ brought. moved (done_brought brought) old.scan) heard)
-    (c.in_ok-heard.ensures.stands (steps_of calls) source train heard before.steps)
+    (c.in_ok-heard.ensures.stands (steps_of calls) train heard before.steps)
     before
 
 pub returns-in_err-brought-clause-memory : goal.returns-in_err-brought-clause-memory

@@ -14,3 +14,6 @@ returns-clause-cause c = rw (← c.self.view_is) (if_err c.advance.result c.adva
 
 pub returns-clause-err : goal.returns-clause-err
 returns-clause-err c = rw (← c.self.view_is) (if_err c.advance.result c.advance.ensures.refused (λ fault refuses. refuses.leaves))
+
+pub returns-clause-works : goal.returns-clause-works
+returns-clause-works c = rw (← c.self.view_is) (on_ok c.advance.result c.advance.ensures.permitted c.advance.ensures.advanced (λ stale may goes. may.works))

@@ -94,6 +94,11 @@ returns-in-Announce-clause-meets g c starts steps stands e boxes =
     tells_as starts steps c.args.step _ c.announce.new.self c.args.text.now c.announce.new.text _ c.announce.result c.in-Announce.is refl refl refl
     (c.announce.ensures starts (number_of c.args.version) steps stands e)
 
+pub sink_line-requires-clause-line : goal.sink_line-requires-clause-line
+sink_line-requires-clause-line g c =
+    let is_line : IsSinkLine c.args.step = grind (arith, common_steps) in
+    subst IsSinkLine (sym c.in-Pac.step-is) is_line
+
 pub returns-in-Pac-clause-meets : goal.returns-in-Pac-clause-meets
 returns-in-Pac-clause-meets g c starts steps stands e boxes =
     let is_line : IsSinkLine c.args.step = grind (arith, common_steps) in
@@ -101,7 +106,7 @@ returns-in-Pac-clause-meets g c starts steps stands e boxes =
     let line : IsSinkLine c.in-Pac.step = subst IsSinkLine (sym c.in-Pac.step-is) is_line in
     let named : named_by c.in-Pac.step ≡ Some c.in-Pac.sink = ap named_by c.in-Pac.step-is ∙ names in
     tells_as starts steps c.args.step c.in-Pac.step c.sink_line.new.self c.args.text.now c.sink_line.new.text _ c.sink_line.result (sym c.in-Pac.step-is)
-    (nothing_handed_by steps c.in-Pac.step line) (closes_none_by steps c.in-Pac.step line) (gives_none_by steps c.in-Pac.step line) (c.sink_line.ensures starts (number_of c.args.version) steps stands e line named)
+    (nothing_handed_by steps c.in-Pac.step line) (closes_none_by steps c.in-Pac.step line) (gives_none_by steps c.in-Pac.step line) (c.sink_line.ensures starts (number_of c.args.version) steps stands e named)
 
 pub returns-in-Relay-clause-meets : goal.returns-in-Relay-clause-meets
 returns-in-Relay-clause-meets g c starts steps stands e boxes =

@@ -34,10 +34,10 @@ returns-then-not-is_followed-clause-lives c source past from lives =
     let given = given_train source c.args.now c.args.ext.now c.args.adv.now c.args.acad.now in
     let followed = sym c.if-not-is_followed.true ∙ c.is_followed.ensures ∙ ap is_followed heard ∙ followed_is past.made.setup (sight_in past.made past.life) given in record {
       stands = of_source (if follows (brought_by past.made.setup (sight_in past.made past.life) given) then Some source.number else past.source)
-          (after_call (stepped (train_heard source.number given)) past) _ _ (c.in_ok-gather.ensures.stands (stepped (train_heard source.number given)) past
-          (steps (train_heard source.number given) past c.args.self.now.delegator _ _ refl tt lives.stands
-          (subst (λ t. StandsFor past.made.setup (control (train_heard source.number t) ∷ took.taken) c.train.new.self) train
-          (c.in_ok-heard.ensures.stands past.made.setup took.taken source.number took.stands)) c.train.ensures.settings));
+          (after_call (stepped (train_heard given)) past) _ _ (c.in_ok-gather.ensures.stands (stepped (train_heard given)) past
+          (steps (train_heard given) past c.args.self.now.delegator _ _ refl tt lives.stands
+          (subst (λ t. StandsFor past.made.setup (control (train_heard t) ∷ took.taken) c.train.new.self) train
+          (c.in_ok-heard.ensures.stands past.made.setup took.taken took.stands)) c.train.ensures.settings));
       source_is = c.gather.ensures.source ∙ lives.source_is ∙ ap (λ b. if b then Some source.number else past.source) followed;
     }
 
@@ -58,9 +58,9 @@ returns-clause-lives c source past from lives =
     let given = given_train source c.args.now c.args.ext.now c.args.adv.now c.args.acad.now in
     let followed = sym c.if-not-is_followed.false ∙ c.is_followed.ensures ∙ ap is_followed heard ∙ followed_is past.made.setup (sight_in past.made past.life) given in record {
       stands = of_source (if follows (brought_by past.made.setup (sight_in past.made past.life) given) then Some source.number else past.source)
-          (after_call (stepped (train_heard source.number given)) past) _ _ (c.in_ok-gather.ensures.stands (stepped (train_heard source.number given)) past
-          (steps (train_heard source.number given) past c.args.self.now.delegator _ _ refl tt lives.stands
-          (subst (λ t. StandsFor past.made.setup (control (train_heard source.number t) ∷ took.taken) c.train.new.self) train
-          (c.in_ok-heard.ensures.stands past.made.setup took.taken source.number took.stands)) c.train.ensures.settings));
+          (after_call (stepped (train_heard given)) past) _ _ (c.in_ok-gather.ensures.stands (stepped (train_heard given)) past
+          (steps (train_heard given) past c.args.self.now.delegator _ _ refl tt lives.stands
+          (subst (λ t. StandsFor past.made.setup (control (train_heard t) ∷ took.taken) c.train.new.self) train
+          (c.in_ok-heard.ensures.stands past.made.setup took.taken took.stands)) c.train.ensures.settings));
       source_is = ap Some (sym from.number_is) ∙ ap (λ b. if b then Some source.number else past.source) followed;
     }

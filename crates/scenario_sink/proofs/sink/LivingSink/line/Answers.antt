@@ -15,150 +15,150 @@ use Rattle.scenario_sink.proofs.Turning.{joined_makes, past_link}
 use Rattle.scenario_sink.proofs.sink.LivingSink.line.Goals as goal
 
 pub pac-requires-clause-caps_count : goal.pac-requires-clause-caps_count
-pac-requires-clause-caps_count c = (subst IsInRange c.in-Pac.is c.requires).2
+pac-requires-clause-caps_count c = (subst IsInRange c.in-Pac.is c.requires.range).2
 
 pub pac-requires-clause-metadata_count : goal.pac-requires-clause-metadata_count
-pac-requires-clause-metadata_count c = (subst IsInRange c.in-Pac.is c.requires).3
+pac-requires-clause-metadata_count c = (subst IsInRange c.in-Pac.is c.requires.range).3
 
 pub pac-requires-clause-caps : goal.pac-requires-clause-caps
-pac-requires-clause-caps c = (subst IsInRange c.in-Pac.is c.requires).4
+pac-requires-clause-caps c = (subst IsInRange c.in-Pac.is c.requires.range).4
 
 pub pac-requires-clause-metadata : goal.pac-requires-clause-metadata
-pac-requires-clause-metadata c = (subst IsInRange c.in-Pac.is c.requires).5
+pac-requires-clause-metadata c = (subst IsInRange c.in-Pac.is c.requires.range).5
 
 pub train-requires : goal.train-requires
-train-requires c = let h = (subst IsInRange c.in-Train.is c.requires).1 in omega (arith, h)
+train-requires c = let h = (subst IsInRange c.in-Train.is c.requires.range).1 in omega (arith, h)
 
 pub operate-requires : goal.operate-requires
-operate-requires c = (subst IsInRange c.in-Add.is c.requires).1
+operate-requires c = (subst IsInRange c.in-Add.is c.requires.range).1
 
 pub operate-requires-in-Modify : goal.operate-requires-in-Modify
-operate-requires-in-Modify c = (subst IsInRange c.in-Modify.is c.requires).1
+operate-requires-in-Modify c = (subst IsInRange c.in-Modify.is c.requires.range).1
 
 pub assist-requires : goal.assist-requires
-assist-requires c = (subst IsInRange c.in-Assist.is c.requires).1
+assist-requires c = (subst IsInRange c.in-Assist.is c.requires.range).1
 
 pub apart-requires-clause-least : goal.apart-requires-clause-least
-apart-requires-clause-least c = (subst IsInRange c.in-Apart.is c.requires).1
+apart-requires-clause-least c = (subst IsInRange c.in-Apart.is c.requires.range).1
 
 pub apart-requires-clause-most : goal.apart-requires-clause-most
-apart-requires-clause-most c = (subst IsInRange c.in-Apart.is c.requires).2
+apart-requires-clause-most c = (subst IsInRange c.in-Apart.is c.requires.range).2
 
 pub returns-in-Pac : goal.returns-in-Pac
-returns-in-Pac c source past from is lives =
+returns-in-Pac c source past from lives =
     does_so source c.args.step _ past c.args.text.now c.pac.new.self c.pac.result c.in-Pac.is refl (c.pac.ensures source c.in-Pac.sink past lives)
 
 pub returns-in-Locate : goal.returns-in-Locate
-returns-in-Locate c source past from is lives =
+returns-in-Locate c source past from lives =
     does_so source c.args.step _ past c.args.text.now c.locate.new.self c.locate.result c.in-Locate.is refl (c.locate.ensures source c.in-Locate.sink past lives)
 
 pub returns-in-Context : goal.returns-in-Context
-returns-in-Context c source past from is lives =
+returns-in-Context c source past from lives =
     does_so source c.args.step _ past c.args.text.now c.context.new.self c.context.result c.in-Context.is refl (c.context.ensures source c.in-Context.sink c.in-Context.source_bits past lives)
 
 pub returns-in-Add : goal.returns-in-Add
-returns-in-Add c source past from is lives =
+returns-in-Add c source past from lives =
     does_so source c.args.step _ past c.args.text.now c.operate.new.self c.operate.result c.in-Add.is refl (c.operate.ensures past lives)
 
 pub returns-in-Modify : goal.returns-in-Modify
-returns-in-Modify c source past from is lives =
+returns-in-Modify c source past from lives =
     does_so source c.args.step _ past c.args.text.now c.operate-in-Modify.new.self c.operate-in-Modify.result c.in-Modify.is refl (c.operate-in-Modify.ensures past lives)
 
 pub returns-in-Remove : goal.returns-in-Remove
-returns-in-Remove c source past from is lives =
+returns-in-Remove c source past from lives =
     does_so source c.args.step _ past c.args.text.now c.operate-in-Remove.new.self c.operate-in-Remove.result c.in-Remove.is refl (c.operate-in-Remove.ensures past lives)
 
 pub returns-in-Code : goal.returns-in-Code
-returns-in-Code c source past from is lives =
+returns-in-Code c source past from lives =
     does_so source c.args.step _ past c.args.text.now c.operate-in-Code.new.self c.operate-in-Code.result c.in-Code.is refl (c.operate-in-Code.ensures past lives)
 
 pub returns-in-Assist : goal.returns-in-Assist
-returns-in-Assist c source past from is lives =
+returns-in-Assist c source past from lives =
     does_so source c.args.step _ past c.args.text.now c.assist.new.self c.assist.result c.in-Assist.is refl (c.assist.ensures source c.in-Assist.sink past lives)
 
 pub returns-in-Apart : goal.returns-in-Apart
-returns-in-Apart c source past from is lives =
+returns-in-Apart c source past from lives =
     does_so source c.args.step _ past c.args.text.now c.apart.new.self c.apart.result c.in-Apart.is refl (c.apart.ensures source c.in-Apart.sink past lives)
 
 pub returns-in-Write : goal.returns-in-Write
-returns-in-Write c source past from is lives =
+returns-in-Write c source past from lives =
     does_so source c.args.step _ past c.args.text.now c.write.new.self c.write.result (c.in-Write.is ∙ ap (λ octets. steps.Write c.in-Write.sink octets) (sym c.as_slice-in-Write.ensures)) refl
     (subst (λ refusal. Quietly refusal (Unit {0}) past (stayed (calls.asked 0 c.as_slice-in-Write.result.now ∷ past.life) past) c.write.new.self c.write.result)
     (past_link (calls.is_joined 0 past.life) None (first_joined past c.args.self.now lives)) (c.write.ensures past lives))
 
 pub returns-in-AWrite : goal.returns-in-AWrite
-returns-in-AWrite c source past from is lives =
+returns-in-AWrite c source past from lives =
     does_so source c.args.step _ past c.args.text.now c.write-in-AWrite.new.self c.write-in-AWrite.result (c.in-AWrite.is ∙ ap (λ octets. steps.AWrite c.in-AWrite.sink c.in-AWrite.link octets) (sym c.as_slice-in-AWrite.ensures)) refl (c.write-in-AWrite.ensures past lives)
 
 pub returns-in-Serve : goal.returns-in-Serve
-returns-in-Serve c source past from is lives =
+returns-in-Serve c source past from lives =
     makes_so source c.args.step _ past c.args.text.now c.serve.new.text c.serve.new.self c.serve.result c.in-Serve.is
     (joined_makes 0 (option_or (no_write 0 past.life) None) (Unit {0}) (serve_line (plain c.in-Serve.sink) past.made 0 past.life) (calls.served 0 ∷ past.life) past c.args.text.now c.serve.new.text c.serve.new.self
     c.serve.result (first_joined past c.args.self.now lives) (c.serve.ensures past lives))
 
 pub returns-in-Tell : goal.returns-in-Tell
-returns-in-Tell c source past from is lives =
+returns-in-Tell c source past from lives =
     makes_so source c.args.step _ past c.args.text.now c.tell.new.text c.tell.new.self c.tell.result c.in-Tell.is
     (joined_makes 0 (option_or (no_notice past.made 0 past.life) None) (Unit {0}) (tell_line (plain c.in-Tell.sink) past.made 0 past.life) (calls.told 0 ∷ past.life) past c.args.text.now c.tell.new.text c.tell.new.self
     c.tell.result (first_joined past c.args.self.now lives) (c.tell.ensures past lives))
 
 pub returns-in-Read : goal.returns-in-Read
-returns-in-Read c source past from is lives =
+returns-in-Read c source past from lives =
     makes_so source c.args.step _ past c.args.text.now c.read.new.text c.read.new.self c.read.result c.in-Read.is
     (joined_makes 0 (option_or (no_read past.made 0 past.life) None) (Unit {0}) (read_line (plain c.in-Read.sink) past.made 0 past.life) (calls.read 0 ∷ past.life) past c.args.text.now c.read.new.text c.read.new.self
     c.read.result (first_joined past c.args.self.now lives) (c.read.ensures past lives))
 
 pub returns-in-Drain : goal.returns-in-Drain
-returns-in-Drain c source past from is lives =
+returns-in-Drain c source past from lives =
     makes_so source c.args.step _ past c.args.text.now c.drain.new.text c.drain.new.self c.drain.result c.in-Drain.is
     (joined_makes 0 None (0 < length (drain_lines (plain c.in-Drain.sink) past.made 0 past.life)) (drain_lines (plain c.in-Drain.sink) past.made 0 past.life) (drained past.made.setup past.made.mtu 0 past.life) past c.args.text.now c.drain.new.text c.drain.new.self
     c.drain.result (first_joined past c.args.self.now lives) (c.drain.ensures past lives))
 
 pub returns-in-Show : goal.returns-in-Show
-returns-in-Show c source past from is lives =
+returns-in-Show c source past from lives =
     makes_so source c.args.step _ past c.args.text.now c.show.new.text c.show.new.self c.show.result c.in-Show.is (c.show.ensures source past lives)
 
 pub returns-in-Lose : goal.returns-in-Lose
-returns-in-Lose c source past from is lives =
+returns-in-Lose c source past from lives =
     makes_so source c.args.step _ past c.args.text.now c.lose.new.text c.lose.new.self c.lose.result c.in-Lose.is (c.lose.ensures source past lives)
 
 pub returns-in-Control : goal.returns-in-Control
-returns-in-Control c source past from is lives =
+returns-in-Control c source past from lives =
     makes_so source c.args.step _ past c.args.text.now c.control.new.text c.control.new.self c.control.result (c.in-Control.is ∙ ap (λ octets. steps.Control c.in-Control.sink octets) (sym c.as_slice-in-Control.ensures)) (c.control.ensures source past lives)
 
 pub returns-in-Forge : goal.returns-in-Forge
-returns-in-Forge c source past from is lives =
+returns-in-Forge c source past from lives =
     makes_so source c.args.step _ past c.args.text.now c.forge.new.text c.forge.new.self c.forge.result (c.in-Forge.is ∙ ap (λ octets. steps.Forge c.in-Forge.sink c.in-Forge.slot octets) (sym c.as_slice-in-Forge.ensures)) (c.forge.ensures source past lives)
 
 pub returns-in-AServe : goal.returns-in-AServe
-returns-in-AServe c source past from is lives =
+returns-in-AServe c source past from lives =
     makes_so source c.args.step _ past c.args.text.now c.serve-in-AServe.new.text c.serve-in-AServe.new.self c.serve-in-AServe.result c.in-AServe.is (c.serve-in-AServe.ensures past lives)
 
 pub returns-in-ATell : goal.returns-in-ATell
-returns-in-ATell c source past from is lives =
+returns-in-ATell c source past from lives =
     makes_so source c.args.step _ past c.args.text.now c.tell-in-ATell.new.text c.tell-in-ATell.new.self c.tell-in-ATell.result c.in-ATell.is (c.tell-in-ATell.ensures past lives)
 
 pub returns-in-ARead : goal.returns-in-ARead
-returns-in-ARead c source past from is lives =
+returns-in-ARead c source past from lives =
     makes_so source c.args.step _ past c.args.text.now c.read-in-ARead.new.text c.read-in-ARead.new.self c.read-in-ARead.result c.in-ARead.is (c.read-in-ARead.ensures past lives)
 
 pub returns-in-ADrain : goal.returns-in-ADrain
-returns-in-ADrain c source past from is lives =
+returns-in-ADrain c source past from lives =
     makes_so source c.args.step _ past c.args.text.now c.drain-in-ADrain.new.text c.drain-in-ADrain.new.self c.drain-in-ADrain.result c.in-ADrain.is (c.drain-in-ADrain.ensures past lives)
 
 pub returns-in-AShow : goal.returns-in-AShow
-returns-in-AShow c source past from is lives =
+returns-in-AShow c source past from lives =
     makes_so source c.args.step _ past c.args.text.now c.show_on.new.text c.show_on.new.self c.show_on.result c.in-AShow.is (c.show_on.ensures past lives)
 
 pub returns-in-Train : goal.returns-in-Train
-returns-in-Train c source past from is lives =
+returns-in-Train c source past from lives =
     makes_so source c.args.step _ past c.args.text.now c.train.new.text c.train.new.self c.train.result
     (c.in-Train.is ∙ (λ i. steps.Train c.in-Train.sink c.in-Train.time (sym c.as_slice.ensures i) (sym c.as_slice-in-Train.ensures i) (sym c.as_slice-in-Train-2.ensures i)))
     (c.train.ensures source past from lives)
 
-pub returns : goal.returns
-returns c source past from is lives =
-    absurd (no_sink_line c.args.step (record {
+pub unreachable-requires : goal.unreachable-requires
+unreachable-requires c =
+    no_sink_line c.args.step (record {
       pac = c.in_default.not-Pac;
       locate = c.in_default.not-Locate;
       context = c.in_default.not-Context;
@@ -184,4 +184,4 @@ returns c source past from is lives =
       aread = c.in_default.not-ARead;
       adrain = c.in_default.not-ADrain;
       ashow = c.in_default.not-AShow;
-    }) is)
+    }) c.requires.line

@@ -39,8 +39,8 @@ returns c past lives on =
         record {
           stands = served_stays c.args.link past _ _ (c.in_ok-gather.ensures.stands (served c.args.link) past
               (serves c.args.link c.in-Some.write past old.delegator _ old.links _ lives.stands on some.0 some.1
-              (subst (λ write. StandsFor past.made.setup (control (written c.args.link write) ∷ took.taken) c.serve.new.self) c.as_slice.ensures
-              (c.in_ok-reply.ensures.stands past.made.setup took.taken c.args.link took.stands)) c.serve.ensures.settings));
+              (subst (λ write. StandsFor past.made.setup (control (written write) ∷ took.taken) c.serve.new.self) c.as_slice.ensures
+              (c.in_ok-reply.ensures.stands past.made.setup took.taken took.stands)) c.serve.ensures.settings));
           source_is = c.gather.ensures.source ∙ lives.source_is;
         },
         its_line (reply_line (label_of c.args.label)) (replied past.made c.args.link past.life) c.in_ok-reply.reply c.args.text.now c.put_reply.new.text answer

@@ -11,8 +11,9 @@ pub returns : goal.returns
 returns c past lives =
     let joining : Joining = c.args.joining.now in
     let its = lives.stands in record {
-      stands = of_source (Some c.args.source) (after_call (stepped (put_on c.args.source joining)) past) _ _ (c.in_ok-gather.ensures.stands (stepped (put_on c.args.source joining)) past
-          (steps (put_on c.args.source joining) past c.args.self.now.delegator _ _ refl tt its
-          (c.in_ok-put_on.ensures.stands past.made.setup its.took.taken c.args.source its.took.stands) c.put_on.ensures.settings));
+      stands = of_source (Some c.args.source) (after_call (stepped (put_on joining)) past) _ _
+          (c.in_ok-gather.ensures.stands (stepped (put_on joining)) past
+          (steps (put_on joining) past c.args.self.now.delegator _ _ refl tt its
+          (c.in_ok-put_on.ensures.stands past.made.setup its.took.taken its.took.stands) c.put_on.ensures.settings));
       source_is = refl;
     }

@@ -1,21 +1,32 @@
-use Rattle.std.proofs.Common.{◌-◌, ◌<◌, refl, sym, ◌∙◌, ap, arith}
+use Rattle.std.proofs.Common.{◌≡◌, ◌-◌, ◌<◌, length, true, refl, sym, subst, ◌∙◌, ap, arith}
 use Rattle.scenario_history.specs.Steps.{chosen_of, chosen_steps, steps_of_source}
 use Rattle.scenario_history.proofs.Citable.{stage_same}
 use Rattle.scenario_text.specs.declared.step.Step.TheVariants.{Start}
-use Rattle.scenario_sources.proofs.Lifting.{answers, chosen_read, is_single, phase_read, start_refused, start_twice, stands_as, twice_is}
+use Rattle.scenario_sources.specs.State.Phases.{is_described}
+use Rattle.scenario_sources.proofs.Lifting.{answers, chosen_read, is_single, phase_read, same_read, start_refused, start_twice, stands_as, twice_is}
 use Rattle.scenario_sources.proofs.sources.Sources.start.Goals as goal
+
+pub begin-requires-clause-described : goal.begin-requires-clause-described
+begin-requires-clause-described c =
+    let two = sym c.args.self.now.phases.ok.0 ∙ c.args.self.now.two in
+    let one = c.args.self.now.is_one in
+    let at = c.from.ensures in
+    let inside : c.from.result < length c.args.self.now.phases.items = omega arith in
+    let same = same_read c.args.self.now.phases.items c.from.result c.from-3.result c.index.result.now c.index_mut.result.now
+    (c.from.ensures ∙ sym c.from-3.ensures) inside c.index.ensures c.index_mut.ensures.value in
+    subst (λ phase. is_described phase ≡ true) (sym same) c.in-Ok.ensures.described
 
 pub returns-in-Err : goal.returns-in-Err
 returns-in-Err c version steps h a running stands =
     let two = sym c.args.self.now.phases.ok.0 ∙ c.args.self.now.two in
     start_refused version c.args.first steps c.args.self.now _ c.in-Err.stop stands refl refl
-    (c.in-Err.ensures version c.args.first (chosen_steps steps) h (chosen_read steps c.from.result c.args.self.now c.index.result.now c.from.ensures c.args.self.now.is_one two c.index.ensures stands))
+    (c.in-Err.ensures.ready version c.args.first (chosen_steps steps) h (chosen_read steps c.from.result c.args.self.now c.index.result.now c.from.ensures c.args.self.now.is_one two c.index.ensures stands))
 
 pub returns-then-is_twice : goal.returns-then-is_twice
 returns-then-is_twice c version steps h a running stands =
     let two = sym c.args.self.now.phases.ok.0 ∙ c.args.self.now.two in
     let one = c.args.self.now.is_one in
-    let ready = c.in-Ok.ensures version c.args.first (chosen_steps steps) h (chosen_read steps c.from.result c.args.self.now c.index.result.now c.from.ensures one two c.index.ensures stands) in
+    let ready = c.in-Ok.ensures.ready version c.args.first (chosen_steps steps) h (chosen_read steps c.from.result c.args.self.now c.index.result.now c.from.ensures one two c.index.ensures stands) in
     let below : 1 - c.args.self.now.chosen < 2 = omega arith in
     let other = phase_read steps (1 - c.args.self.now.chosen) c.from-2.result c.args.self.now.phases.items c.index-2.result.now c.from-2.ensures below two c.index-2.ensures stands.phases in
     let twice = twice_is steps c.in-Ok.ready.identity (steps_of_source (1 - c.args.self.now.chosen) steps) c.is_twice.result ready.1
@@ -27,7 +38,7 @@ returns c version steps h a running stands =
     let two = sym c.args.self.now.phases.ok.0 ∙ c.args.self.now.two in
     let one = c.args.self.now.is_one in
     let here = chosen_read steps c.from.result c.args.self.now c.index.result.now c.from.ensures one two c.index.ensures stands in
-    let ready = c.in-Ok.ensures version c.args.first (chosen_steps steps) h here in
+    let ready = c.in-Ok.ensures.ready version c.args.first (chosen_steps steps) h here in
     let below : 1 - c.args.self.now.chosen < 2 = omega arith in
     let other = phase_read steps (1 - c.args.self.now.chosen) c.from-2.result c.args.self.now.phases.items c.index-2.result.now c.from-2.ensures below two c.index-2.ensures stands.phases in
     let twice = twice_is steps c.in-Ok.ready.identity (steps_of_source (1 - c.args.self.now.chosen) steps) c.is_twice.result ready.1

@@ -4,10 +4,9 @@ ghost use Rattle.std.specs.Prelude.{◌<◌, vec_len, IfOk, IfSome};
 use crate::asking::{answer, sent};
 use crate::closing::foretell;
 use crate::fate::Foretold;
-use crate::group::Numbers;
 use crate::ledger::{Ledger, Start, Stream};
 use crate::marks::{has, with, without};
-use crate::note::word_at;
+use crate::numbers::Numbers;
 use crate::schedule::{Schedule, UNSAID};
 use bcast_base::{Bis, Memory};
 use isoal_base::{Heard, Hearing};
@@ -15,9 +14,10 @@ use replay_steps::Machine;
 use scenario_text::Step;
 use std::alloc::Global;
 
-/// The schedules of the two sources, the counts of each stream at each sink, and what the line that is run now makes of units.
+/// The schedules of the two sources, the counts of each stream at each sink, and what the line that is run now makes of units. Lines are
+/// told in their order: each by `begin` before it is run, and by `put_units` and `made` then.
 #[derive(Drop)]
-pub(crate) struct Units {
+pub struct Units {
     first: Schedule,
     second: Schedule,
     pub(crate) ledgers: Vec<Ledger>,
@@ -30,7 +30,7 @@ pub(crate) struct Units {
 
 impl Units {
     /// Nothing was said.
-    pub(crate) fn new(alloc: Global) -> Units {
+    pub fn new(alloc: Global) -> Units {
         Units {
             first: UNSAID,
             second: UNSAID,
@@ -51,17 +51,12 @@ impl Units {
     }
 
     /// The numbers of the group of a source.
-    pub(crate) fn numbers(&self, source: u8) -> &Numbers {
+    pub fn numbers(&self, source: u8) -> &Numbers {
         &self.schedule(source).numbers
     }
 
     /// Notes what a line will do that means this source, before it is run.
-    pub(crate) fn begin(
-        &mut self,
-        machine: &Machine,
-        source: u8,
-        step: &Step,
-    ) -> Result<(), Memory> {
+    pub fn begin(&mut self, machine: &Machine, source: u8, step: &Step) -> Result<(), Memory> {
         self.foretold.clear();
         match step {
             Step::Event | Step::Stop | Step::Terminate { .. } => self.close(machine, source),
@@ -214,13 +209,13 @@ impl Units {
         }
     }
 
-    /// Notes a step that was made while this source was chosen, and the rows that it brought.
-    pub(crate) fn made(
+    /// Notes a step that was made while this source was chosen, and whether its rows say that a sink is on a group.
+    pub fn made(
         &mut self,
         machine: &Machine,
         source: u8,
         step: &Step,
-        text: &[u8],
+        is_joined: bool,
     ) -> Result<(), Memory> {
         if source == 0 {
             self.first.made(step);
@@ -233,22 +228,15 @@ impl Units {
                 self.joins(*sink, false);
                 Ok(())
             }
-            Step::Announce { sink } => {
-                self.joins_by(*sink, false, text);
+            Step::Announce { sink } if is_joined => {
+                self.joins(*sink, false);
                 Ok(())
             }
-            Step::Train { sink, .. } => {
-                self.joins_by(*sink, true, text);
+            Step::Train { sink, .. } if is_joined => {
+                self.joins(*sink, true);
                 Ok(())
             }
             _ => Ok(()),
-        }
-    }
-
-    /// A sink joined a group where the rows say so.
-    fn joins_by(&mut self, sink: u8, is_odd: bool, text: &[u8]) {
-        if is_joined(text) {
-            self.joins(sink, is_odd);
         }
     }
 
@@ -265,18 +253,4 @@ impl Units {
             }
         }
     }
-}
-
-/// Whether a row says that a sink is on a group.
-fn is_joined(text: &[u8]) -> bool {
-    let mut start = 0;
-    for end in 0..text.len() {
-        if text[end] == b'\n' {
-            if word_at(&text[start..end], 2) == Some(b"OnGroup".as_slice()) {
-                return true;
-            }
-            start = end + 1;
-        }
-    }
-    false
 }

@@ -10,7 +10,7 @@ use printed_words::Word;
 
 impl Units {
     /// Puts the notes of the units in the rows that a line brought, and of those that were never begun.
-    pub(crate) fn put_units(&mut self, rows: &mut Octets, text: &[u8]) -> Result<(), Memory> {
+    pub fn put_units(&mut self, rows: &mut Octets, text: &[u8]) -> Result<(), Memory> {
         let mut start = 0;
         for end in 0..text.len() {
             if text[end] == b'\n' {
@@ -113,7 +113,7 @@ impl Units {
     }
 
     /// Puts the counts of all sinks, by their numbers, and then by source and stream.
-    pub(crate) fn put_all_counts(&mut self, rows: &mut Octets) -> Result<(), Memory> {
+    pub fn put_all_counts(&mut self, rows: &mut Octets) -> Result<(), Memory> {
         'sinks: for sink in 0..8u8 {
             self.put_counts(rows, sink)?;
         }
@@ -121,7 +121,7 @@ impl Units {
     }
 
     /// Puts the counts of a sink, and begins anew.
-    pub(crate) fn put_counts(&mut self, rows: &mut Octets, sink: u8) -> Result<(), Memory> {
+    pub fn put_counts(&mut self, rows: &mut Octets, sink: u8) -> Result<(), Memory> {
         'sources: for source in 0..2u8 {
             'streams: for bis in 1..32u8 {
                 if let Some(place) = self.place_of(Stream { sink, source, bis }) {

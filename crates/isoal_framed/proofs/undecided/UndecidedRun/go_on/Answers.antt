@@ -5,7 +5,7 @@ use Rattle.isoal_framed.specs.State.Buffers.{run_from}
 use Rattle.isoal_framed.specs.State.Joining.{hands_at}
 use Rattle.isoal_framed.specs.State.Windows.{HandsOn}
 use Rattle.isoal_framed.proofs.Joins.{joined_valid}
-use Rattle.isoal_framed.proofs.joining.Joining.go_on.Goals as goal
+use Rattle.isoal_framed.proofs.undecided.UndecidedRun.go_on.Goals as goal
 
 pub returns-then-complete-clause-hands : goal.returns-then-complete-clause-hands
 returns-then-complete-clause-hands g c =

@@ -5,7 +5,7 @@ use Rattle.isoal_framed.specs.State.Joining.{hands_at, hands_joined}
 use Rattle.isoal_framed.specs.State.Windows.{HandsOn}
 use Rattle.isoal_framed.proofs.Handing.{hands_then, caused_then}
 use Rattle.isoal_framed.proofs.Joins.{start_hands}
-use Rattle.isoal_framed.proofs.joining.Joining.start.Goals as goal
+use Rattle.isoal_framed.proofs.undecided.UndecidedRun.start.Goals as goal
 
 pub returns-clause-hands : goal.returns-clause-hands
 returns-clause-hands g c =

@@ -1,16 +1,10 @@
-use bcast_base::{Memory, Octets};
-use printed_words::{Word, put_words};
+//! What words of a line or a row say.
+use bcast_base::Octets;
 use scenario_words::Cursor;
 use std::alloc::Global;
 
 /// The most octets of a word of a line.
 const MOST: usize = 4500;
-
-/// Puts a note at the end of the rows: the words with a space between each two, behind the mark of a note.
-pub(crate) fn put_note(rows: &mut Octets, words: &[Word<'_>]) -> Result<(), Memory> {
-    put_words(rows, b"  #", words)?;
-    rows.push(b'\n')
-}
 
 /// The word of a line at this place, from 0.
 pub(crate) fn word_at(line: &[u8], place: u64) -> Option<&[u8]> {

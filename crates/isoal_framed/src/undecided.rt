@@ -24,21 +24,21 @@ pub(crate) struct Started {
 
 /// The run of the start that isn't decided, joined at the front of a buffer of Max_SDU octets.
 #[derive(Drop)]
-pub(crate) struct Joining {
+pub(crate) struct UndecidedRun {
     started: Option<Started>,
     pub(crate) octets: Vec<u8>,
     ghost within: { ForSome started (λ started. started.count ≤ vec_len octets) },
 }
 
-impl Joining {
+impl UndecidedRun {
     ghost use Rattle.isoal_framed.specs.State.Buffers.{run_in};
 
     /// No start, and room for units of so many octets.
-    pub(crate) fn new(alloc: Global, max_sdu: u16) -> Result<Joining, Memory>
-        ensures room { IfOk result (λ joining. vec_len joining.octets ≡ max_sdu) }
-        ensures run { IfOk result (λ joining. run_in joining ≡ None) }
+    pub(crate) fn new(alloc: Global, max_sdu: u16) -> Result<UndecidedRun, Memory>
+        ensures room { IfOk result (λ undecided. vec_len undecided.octets ≡ max_sdu) }
+        ensures run { IfOk result (λ undecided. run_in undecided ≡ None) }
     {
-        Ok(Joining {
+        Ok(UndecidedRun {
             started: None,
             octets: vec![in alloc; 0u8; usize::from(max_sdu)]?,
         })

@@ -1,5 +1,5 @@
 use Rattle.std.proofs.Common.{◌≤◌}
-use Rattle.transcript_notes.proofs.units.Units.put_units.Given as goal
+use Rattle.transcript_notes.proofs.rows.is_joined.Given as goal
 
 abbrev pub invariant-loop-end : goal.invariant-loop-end
 invariant-loop-end l = l.start ≤ l.end

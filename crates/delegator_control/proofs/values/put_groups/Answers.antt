@@ -1,0 +1,5 @@
+use Rattle.std.proofs.Common.{◌∙◌}
+use Rattle.delegator_control.proofs.values.put_groups.Goals as goal
+
+pub subgroups-preserved : goal.subgroups-preserved
+subgroups-preserved c = c.in_ok-put_group.ensures ∙ c.subgroups.invariant

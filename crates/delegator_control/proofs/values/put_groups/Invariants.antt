@@ -1,0 +1,6 @@
+use Rattle.std.proofs.Common.{◌≡◌, ◌++◌, drop}
+use Rattle.delegator_control.specs.State.Statuses.{groups_laid}
+use Rattle.delegator_control.proofs.values.put_groups.Given as goal
+
+abbrev pub invariant-subgroups : goal.invariant-subgroups
+invariant-subgroups l = l.out ++ groups_laid l.place l.bits (drop l.place l.wishes) ≡ l.initial.out ++ groups_laid 0 l.bits l.wishes

@@ -1,0 +1,2 @@
+-- What upper crates may cite: a step that brings no group puts a sink on none, and one that brings a group puts it there.
+pub use Rattle.delegator_machine.proofs.Places.{comes_on, stays_off}

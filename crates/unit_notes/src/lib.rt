@@ -1,0 +1,20 @@
+//! Notes of the units of a scenario: of each its source and its event, which payload numbers were not heard, and the counts of each stream
+//! at a sink. No contract says what they say; tests do.
+#![tactic(auto)]
+
+mod asking;
+mod closing;
+mod fate;
+mod ledger;
+mod marks;
+mod note;
+mod numbers;
+mod pdus;
+mod schedule;
+mod telling;
+mod unit_row;
+mod units;
+
+pub use note::put_note;
+pub use numbers::{Numbers, quotient};
+pub use units::Units;
