@@ -58,10 +58,24 @@ STREAM = 'stream 1 of subgroup 0 is not taken: '
 TRAIN = 'train 0 17000 06165218000000 11165118409c000101060000000000000100'
 # A BIGInfo: its first 32 bits are 100 of offset in 14, the unit of that, ISO = 3 in 12, and NUMBIS = 2 in 5.
 SHORT_ISO = '222c64800110' + '21000000080710640000000000102740060000ffffffff3f0000000000'
+# octets that are no BASE, and what is wrong with them: three octets of delay, subgroups, and in each Num_BIS, a codec and two lists
+BAD_BASES = [
+    ('409c', 'the octets end within the field that begins at octet 0'),
+    ('409c0000', 'Num_Subgroups, octet 3, is 0'),
+    ('409c0001000600000000' + '0000', 'Num_BIS of a subgroup is 0, at octet 4'),
+    ('409c0001010600000000' + '0000' + '2000', 'BIS_index is not from 1 to 31, at octet 12'),
+    ('409c0001020600000000' + '0000' + '01000100', 'BIS_index stands before, at octet 14'),
+    ('409c0001010600000000' + '0100' + '00' + '0100', 'what begins at octet 11 is no LTV list: a length is 0, at its octet 0'),
+    ('409c0001010600000000' + '0105' + '00' + '0100', 'what begins at octet 11 is no LTV list: a length passes its end, at its octet 0'),
+    ('409c0001010600000000' + '0000' + '010000', 'octets follow the BASE, from octet 14'),
+]
 JOINED = [*HEARD, RECORD, 'add 0 0 000000000000 0 000000 2 65535 ffffffff -', 'serve 0', 'announce 0']
 # an answer to a train, its lines, and words of a note that has the values that were compared
 COMPARED = [
     ('NotWanted', [*HEARD[:-2], 'ident 1 0102030405c6 9 aabbcc', *HEARD[-2:], *WANTED], 'the train has TYPE 1 SID 9 ID aabbcc'),
+    ('no slot', [*HEARD, 'announce 0', 'end'], 'the train has TYPE 0 SID 0 ID 000000'),
+    ('a slot for another', [*HEARD, *[it.replace(' 0 000000 2', ' 5 0a0b0c 2') for it in WANTED]], 'slot 0 has TYPE 0 SID 5 ID 0a0b0c and is for another train'),
+    ('a slot without a wish', [*HEARD, *[it.replace(' 2 65535', ' 0 65535') for it in WANTED]], 'slot 0 has TYPE 0 SID 0 ID 000000 and PA 0'),
     ('OtherTrain', [*HEARD[:-1], *SECOND, 'sink 0 2 2', RECORD, 'source 0', *WANTED[:-1], 'source 1', *OTHER],
      'the train has TYPE 0 SID 1 ID 010000'),
     ('OtherTrain and the one followed', [*HEARD[:-1], *SECOND, 'sink 0 2 2', RECORD, 'source 0', *WANTED[:-1], 'source 1', *OTHER],
@@ -72,6 +86,12 @@ COMPARED = [
     ('BadGroup', [*HEARD, RECORD, *WANTED[:2], f'{TRAIN} {SHORT_ISO}', 'end'], 'here ISO is 3 and NUMBIS 2'),
     ('an encrypted group', [*HEARD[:-2], 'cipher 0000000000000000 00000000000000000000000000000000', *HEARD[-2:], RECORD, *WANTED],
      'Encrypted: the group has a `cipher`'),
+    ('OnGroup', [*JOINED, 'end'], 'stream 1 of subgroup 0 is taken: a record fits, and the slot wants it; '
+     'here codec 0600000000 locations 01000000 and 00000000 contexts 0400 and ffff'),
+    ('a stream beside the ear', [*HEARD, RECORD, 'locate 0 01000000', *WANTED], 'stream 2 of subgroup 0 is not taken: Location: '
+     'its locations and those of `locate` share no bit: another ear; here 02000000 and 01000000'),
+    *[(f'BadBase {octets}', [*HEARD, RECORD, *WANTED[:2], f'train 0 17000 06165218000000 {len(octets) // 2 + 3:02x}165118{octets} -', 'end'], words)
+      for octets, words in BAD_BASES],
     ('Codec', [*HEARD, 'pac 0 ff01000200 - -', *WANTED], f'{STREAM}Codec: CODEC of its subgroup is not that of the record; '
      'here 0600000000 and ff01000200'),
     ('Frequency', [*HEARD, RECORD.replace('03018000', '03010700'), *WANTED], 'here 8 and 0700'),

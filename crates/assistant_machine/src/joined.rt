@@ -1,5 +1,7 @@
-ghost use Rattle.std.specs.Prelude.{ℕ, ◌≡◌, ◌≢◌, ◌≤◌, ◌<◌, ◌∷◌, [], true, false, length, replicate, drop, slice_get, slice_set, slice_index_or, option_copied};
-ghost use Rattle.std.specs.Prelude.{option_to_list, Option, Some, None, List, ◌++◌, Ok, Err, IfOk, IfErr, IfSome, IfNone, OnSome, OnOk, OnErr};
+ghost use Rattle.std.specs.Prelude.{ℕ, ◌≡◌, ◌≢◌, ◌≤◌, ◌<◌, ◌∷◌, [], true};
+ghost use Rattle.std.specs.Prelude.{false, length, replicate, drop, slice_get, slice_set, slice_index_or, option_copied};
+ghost use Rattle.std.specs.Prelude.{option_to_list, Option, Some, None, List, ◌++◌, Ok, Err};
+ghost use Rattle.std.specs.Prelude.{IfOk, IfErr, IfSome, IfNone, OnSome, OnOk, OnErr};
 ghost use Rattle.bass_operations.specs.Layout.{MetadataFits, spelling, wishes_of};
 ghost use Rattle.receive_state.specs.Reading.{state_of};
 ghost use Rattle.bass_operations.specs.declared.operation.Operation.TheVariants as operations;
@@ -7,7 +9,8 @@ ghost use Rattle.assistant_machine.specs.Answers.{IsCause, answer_of, by_reading
 ghost use Rattle.assistant_machine.specs.Calls.{Call, limited, put, sent, told, all_asked, asked, read as gives};
 ghost use Rattle.assistant_machine.specs.Cuts.{asks};
 ghost use Rattle.assistant_machine.specs.Views.{reading_of, view_of};
-ghost use Rattle.assistant_machine.specs.State.Assistants.{IsLowest, NoneWaits, StandsFor, after_notice, after_read, joined, with_reading, with_write};
+ghost use Rattle.assistant_machine.specs.State.Assistants.{IsLowest, NoneWaits, StandsFor, after_notice};
+ghost use Rattle.assistant_machine.specs.State.Assistants.{after_read, joined, with_reading, with_write};
 ghost use Rattle.assistant_machine.specs.declared.fault.NoticeTaken.TheVariants.{View};
 ghost use Rattle.assistant_machine.specs.declared.fault.NoticeFault.TheVariants.{Memory as NoMemory};
 
@@ -128,6 +131,17 @@ impl AssistJoined {
         ensures err { OnErr result (self.new ≡ self.old) }
     {
         let octets = Octets::copy(self.alloc, octets)?;
+        self.put(octets)
+    }
+
+    /// The same with octets that it may keep: they are not copied.
+    #[tactic(auto, using(crate::proofs::Standing::put_stands))]
+    pub fn raw_octets(&mut self, octets: Octets) -> Result<(), Memory>
+        ensures ok { OnOk result (self.new ≡ with_write octets self.old) }
+        ensures stands { OnOk result ((slots : ℕ) (calls : List Call) → StandsFor slots calls self.old
+            → StandsFor slots (put octets ∷ calls) self.new) }
+        ensures err { OnErr result (self.new ≡ self.old) }
+    {
         self.put(octets)
     }
 

@@ -1,13 +1,13 @@
 -- What a reader of lines does, step by step, and what several steps come to.
-use Rattle.std.proofs.Common.{◌≡◌, ℕ, ◌+◌, ◌-◌, ◌<◌, ◌≤◌, Bool, true, false, List, [], ◌∷◌, ◌++◌, Option, length, take, refl, sym, ap, subst, ◌∙◌, arith, append_assoc, append-nil}
-use Rattle.std.proofs.Common.{take-append-drop, length-take-le, length-append, get_or, drop}
+use Rattle.std.proofs.Common.{◌≡◌, ℕ, ◌+◌, ◌-◌, ◌<◌, ◌≤◌, Bool, true, false, List, [], ◌∷◌, ◌++◌, Option, Some, length, take, refl, sym, ap, subst, ◌∙◌, arith, append_assoc, append-nil}
+use Rattle.std.proofs.Common.{take-append-drop, length-take-le, le-leb, length-append, get_or, drop}
 use Rattle.std.proofs.lemmas.Bool.{false≢true}
 use Rattle.std.specs.Io.KnownBytes.{Consumes}
-use Rattle.bcast_io.specs.TextLines.{newline, text_limit, TextLine, plain, too_long, past, line_of, lines_from, NoNewline}
+use Rattle.bcast_io.specs.TextLines.{newline, text_limit, line_limit, TextLine, plain, too_long, past, line_of, lines_from, NoNewline}
 use Rattle.bcast_io.specs.declared.line_reader.LineRead.{LineRead}
 use Rattle.bcast_io.specs.declared.line_reader.LineRead.TheVariants.{Line, LineTooLong, TextTooLong, End}
 use Rattle.bcast_io.specs.State.Answering.{Names, Finds, Ends, GoesOn, Answers}
-use Rattle.std.proofs.lemmas.List.{drop_more, drop-drop, nil_from_length}
+use Rattle.std.proofs.lemmas.List.{drop_more, drop-drop, take_all, nil_from_length}
 use Rattle.bcast_io.specs.State.Reading.{Reading, lines_after, Reads, Took, IsPast, BreaksOff, lines_left}
 use Rattle.bcast_io.proofs.Transfers.{Consumes-nothing, Consumes-then}
 use Rattle.bcast_io.proofs.LineLaws.{lines-end, lines-nothing, lines-unended, lines-none, lines-past_all, lines-run, lines-newline, lines-kept, line_of-kept}
@@ -83,6 +83,26 @@ Finds-line read old mid next new at within end before fits p1 a1 t1 p2 a2 t2 nam
     named LineTooLong n r = (n.0, r too_long n.1)
     named TextTooLong n r = absurd n
     named End n r = absurd n
+
+-- the octets before the end of a line of at most 9,000 were kept as they are
+pub kept_whole : (at : ℕ) (ahead lent kept : List ℕ) → at ≤ line_limit → at < length ahead → lent ≡ ahead → kept ≡ take 9001 (take at lent)
+    → (kept ≡ take at ahead) × (length kept ≤ line_limit)
+kept_whole at ahead lent kept short within same e =
+    let count : length (take at ahead) ≡ at = length-take-le at ahead (omega arith) in
+    let is : kept ≡ take at ahead = e ∙ ap (λ l. take 9001 (take at l)) same ∙ take_all 9001 (take at ahead) (omega (arith, count)) in
+    (is, omega (arith, ap length is, count))
+
+-- a line that was ahead as a whole was taken with its end
+pub Finds-whole : (old new : Reading) (at : ℕ) → at < length old.ahead → get_or old.ahead at 0 ≡ newline → NoNewline (take at old.ahead)
+    → old.taken + at < text_limit → at ≤ line_limit → old.part ≡ [] → new.line ≡ Some (take at old.ahead) → new.part ≡ old.part
+    → new.ahead ≡ drop (at + 1) old.ahead → new.taken ≡ old.taken + at + 1 → Finds Line old new
+Finds-whole old new at within end before fits short empty line part ahead taken =
+    let octets = take at old.ahead in
+    let count : length octets ≡ at = length-take-le at old.ahead (omega arith) in
+    let rest : drop 1 (drop at old.ahead) ≡ new.ahead = drop-drop 1 at old.ahead ∙ sym ahead in
+    let split : old.ahead ≡ octets ++ newline ∷ new.ahead = split_at old.ahead at newline within end ∙ ap (λ l. octets ++ newline ∷ l) rest in
+    let named : plain octets ≡ line_of (take 9001 (old.part ++ octets)) = rw (empty, take_all 9001 octets (omega (arith, count)), le-leb (length octets) line_limit (omega (arith, count))) refl in
+    (octets, line, Reads-line old new octets (plain octets) before split (part ∙ empty) (omega (arith, count)) (omega arith) named)
 
 -- a front of what was ahead ended no line and went to the line so far
 pub Reads-front : (old new : Reading) (n : ℕ) → n ≤ length old.ahead → NoNewline (take n old.ahead) → new.ahead ≡ drop n old.ahead

@@ -56,6 +56,13 @@ impl LineBuffer {
         self.len = 0;
     }
 
+    /// Keeps these octets in the place of those before, as far as there is room.
+    pub(crate) fn set(&mut self, octets: &[u8])
+        ensures { self.new ≡ take 9001 octets.now }
+    {
+        self.len = keep(&mut self.buffer, 0, octets);
+    }
+
     /// Puts octets at the end, as far as there is room.
     pub(crate) fn append(&mut self, more: &[u8])
         ensures { self.new ≡ take 9001 (self.old ++ more.now) }

@@ -147,7 +147,25 @@ impl LineReader {
         self.taken += 1;
     }
 
-    // Takes the line whose end is at this place ahead.
+    // Takes a line that is ahead from its first octet to its end.
+    fn take_whole(&mut self, at: usize)
+        requires going { self.old.over ≡ false }
+        requires within { at < length self.old.ahead }
+        requires fits { self.old.taken + at < text_limit }
+        requires short { at ≤ line_limit }
+        ensures line { self.new.line ≡ Some (take at self.old.ahead) }
+        ensures part { self.new.part ≡ self.old.part }
+        ensures ahead { self.new.ahead ≡ drop (at + 1) self.old.ahead }
+        ensures taken { self.new.taken ≡ self.old.taken + at + 1 }
+        ensures over { self.new.over ≡ false }
+    {
+        self.line.set(&self.ahead.as_slice()[..at]);
+        self.ahead.consume(at + 1);
+        self.taken += at + 1;
+        self.is_line = true;
+    }
+
+    // Takes the line whose end is at this place ahead. Where all of it is ahead, as mostly, its octets are moved once.
     fn take_line(&mut self, at: usize) -> LineRead
         requires going { self.old.over ≡ false }
         requires within { at < length self.old.ahead }
@@ -159,6 +177,12 @@ impl LineReader {
         ensures over { self.new.over ≡ false }
         ensures sound { IsSound self.new }
     {
+        if self.part.len() == 0 {
+            if at <= LINE_LIMIT {
+                self.take_whole(at);
+                return LineRead::Line;
+            }
+        }
         self.take_part(at);
         self.skip_end();
         self.end_line()

@@ -10,6 +10,9 @@ use std::marker::Model;
 /// The most octets that are read ahead.
 pub const AHEAD_LIMIT: usize = 65_536;
 
+/// The octets that one read asks for. They take their room, which is set to 0, before the first line.
+const PIECE: usize = 16_384;
+
 /// Octets that were read ahead.
 #[derive(Drop)]
 pub(crate) struct ReadAhead {
@@ -25,7 +28,7 @@ impl Model for ReadAhead {
 
     ghost view = { λ a. slice_range a.buffer.items a.start a.end };
 
-    ghost invariant = { λ a. (length a.buffer.items ≡ 65536) × (a.start ≤ a.end) × (a.end ≤ 65536) };
+    ghost invariant = { λ a. (length a.buffer.items ≡ 16384) × (a.start ≤ a.end) × (a.end ≤ 16384) };
 }
 
 impl ReadAhead {
@@ -34,7 +37,7 @@ impl ReadAhead {
         ensures { IfOk result (λ ahead. ahead ≡ []) }
     {
         Ok(ReadAhead {
-            buffer: vec![in alloc; 0u8; AHEAD_LIMIT]?,
+            buffer: vec![in alloc; 0u8; PIECE]?,
             start: 0,
             end: 0,
         })

@@ -120,20 +120,21 @@ slots_stay : (given : Option Place) (sight : Sight) → (placed given None None 
 slots_stay None sight = refl
 slots_stay (Some now) sight = refl
 
-pub note_done : (n slot place : ℕ) (sight : Sight) (waiting : List Notice) (moves : Move) (slot_now : Option Entry) (status : Status) (before now : List ℕ)
+pub note_done : (n slot place : ℕ) (sight : Sight) (waiting : List Notice) (moves : Move) (held : Option Entry) (before now : Status)
     → slot_of sight.place ≡ Some slot → slot < n → slot < length sight.slots → place ≡ slot
-    → slot_now ≡ get_or sight.slots place slot_now → before ≡ value_at sight slot
-    → status ≡ status_of (placed (place_by sight.place moves) None None sight).place (placed (place_by sight.place moves) None None sight).encrypted
+    → held ≡ get_or sight.slots place held → before ≡ status_of sight.place sight.encrypted sight.taken slot
+    → now ≡ status_of (placed (place_by sight.place moves) None None sight).place (placed (place_by sight.place moves) None None sight).encrypted
     (placed (place_by sight.place moves) None None sight).taken slot
-    → now ≡ value (option_map (received status) slot_now)
-    → waiting ++ change slot before now ≡ waiting ++ changes n sight (placed (place_by sight.place moves) None None sight)
-note_done n slot place sight waiting moves slot_now status before now is within there at held was stands will =
+    → waiting ++ change slot (value (option_map (received before) held)) (value (option_map (received now) held))
+    ≡ waiting ++ changes n sight (placed (place_by sight.place moves) None None sight)
+note_done n slot place sight waiting moves held before now is within there at read was stands =
     let after : Sight = placed (place_by sight.place moves) None None sight in
-    let entry : slot_now ≡ entry_at after.slots slot =
-    held ∙ get_or_default sight.slots place slot_now None (subst (λ k. k < length sight.slots) (sym at) there)
-    ∙ ap (λ k. get_or sight.slots k None) at ∙ ap (λ slots. entry_at slots slot) (sym (slots_stay (place_by sight.place moves) sight)) in
-    let value_now : now ≡ value_at after slot = will ∙ (λ i. value (option_map (received (stands i)) (entry i))) in
-    ap (λ more. waiting ++ more) ((λ i. change slot (was i) (value_now i)) ∙ sym (moved_one n slot sight moves is within))
+    let entry : held ≡ entry_at sight.slots slot =
+    read ∙ get_or_default sight.slots place held None (subst (λ k. k < length sight.slots) (sym at) there) ∙ ap (λ k. get_or sight.slots k None) at in
+    let entry_now : held ≡ entry_at after.slots slot = entry ∙ ap (λ slots. entry_at slots slot) (sym (slots_stay (place_by sight.place moves) sight)) in
+    ap (λ more. waiting ++ more)
+    ((λ i. change slot (value (option_map (received (was i)) (entry i))) (value (option_map (received (stands i)) (entry_now i))))
+    ∙ sym (moved_one n slot sight moves is within))
 
 -- ---- a place stays within the slots
 

@@ -1,11 +1,13 @@
 -- The octets of the state of a slot.
-use Rattle.std.proofs.Common.{ℕ, zero, suc, ◌≡◌, ◌+◌, ◌<◌, ◌≤◌, Bool, true, false, List, [], ◌∷◌, ◌++◌, length, map, drop, slice_get, get_or, Some, refl, sym, ap, ◌∙◌, subst, arith}
+use Rattle.std.proofs.Common.{ℕ, zero, suc, ◌≡◌, ◌+◌, ◌<◌, ◌≤◌, Bool, true, false, List, [], ◌∷◌, ◌++◌, length, map, drop, slice_get, get_or, Some, append_assoc, refl, sym, ap, ◌∙◌, subst, arith}
 use Rattle.std.specs.Prelude.{nat_lt, ◌&&◌, if◌then◌else◌}
 use Rattle.std.specs.List.{flat_map, list_any, AllByRecursion}
 use Rattle.std.proofs.lemmas.Grind.{flat_map-append}
+use Rattle.std.proofs.lemmas.List.{append-nil}
 use Rattle.bass_operations.specs.declared.wishes.Wish.{Wish}
 use Rattle.bcast_base.proofs.Citable.{subgroup_laid}
 use Rattle.bcast_base.specs.Layout.{Field, laid}
+use Rattle.bcast_base.specs.Spelling.{number}
 use Rattle.bcast_base.specs.Subgroups.{Subgroup, subgroup, subgroup_fields}
 use Rattle.receive_state.specs.Layout.{fields_of, front_fields, group_of, spelling}
 use Rattle.delegator_history.specs.Sights.{Entry, Place, idle, on_train, on_group, is_on, is_on_group}
@@ -27,16 +29,48 @@ in_two status entry =
     sym (flat_map-append (λ (field : Field). field.octets) (front_fields (fields_of state) (length entry.wanted.wishes)) (flat_map subgroup_fields groups))
     ∙ ap (λ n. laid (front_fields (fields_of state) n ++ flat_map subgroup_fields groups)) (sym (length-groups 0 status.bits entry.wanted.wishes))
 
+-- the octets of the first subgroup, and those behind it
+first_laid : (place : ℕ) (bits : List ℕ) (wish : Wish) (rest : List Wish)
+    → groups_laid place bits (wish ∷ rest) ≡ subgroup (record { bits = get_or bits place 0; metadata = wish.metadata }) ++ groups_laid (place + 1) bits rest
+first_laid place bits wish rest =
+    let group : Subgroup = record { bits = get_or bits place 0; metadata = wish.metadata } in
+    flat_map-append (λ (field : Field). field.octets) (subgroup_fields group) (flat_map subgroup_fields (map group_of (groups_from (place + 1) bits rest)))
+    ∙ ap (λ (octets : List ℕ). octets ++ groups_laid (place + 1) bits rest) (subgroup_laid group)
+
 -- the octets of the subgroup at this place, and those behind it
 pub one_laid : (place : ℕ) (bits : List ℕ) (wishes : List Wish) (wish : Wish) → slice_get wishes place ≡ Some wish
     → groups_laid place bits (drop place wishes)
     ≡ subgroup (record { bits = get_or bits place 0; metadata = wish.metadata }) ++ groups_laid (place + 1) bits (drop (place + 1) wishes)
-one_laid place bits wishes wish is =
-    let group : Subgroup = record { bits = get_or bits place 0; metadata = wish.metadata } in
-    let rest : List Wish = drop (place + 1) wishes in
-    ap (groups_laid place bits) (drop_get wishes place wish is)
-    ∙ flat_map-append (λ (field : Field). field.octets) (subgroup_fields group) (flat_map subgroup_fields (map group_of (groups_from (place + 1) bits rest)))
-    ∙ ap (λ (octets : List ℕ). octets ++ groups_laid (place + 1) bits rest) (subgroup_laid group)
+one_laid place bits wishes wish is = ap (groups_laid place bits) (drop_get wishes place wish is) ∙ first_laid place bits wish (drop (place + 1) wishes)
+
+-- they end with the metadata of the last
+last_laid : (place : ℕ) (bits : List ℕ) (wishes : List Wish) (n : ℕ) (wish : Wish) → suc n ≡ length wishes → slice_get wishes n ≡ Some wish
+    → (front : List ℕ) × (groups_laid place bits wishes ≡ front ++ wish.metadata)
+last_laid place bits [] n wish many is = absurd cc
+last_laid place bits (first ∷ []) zero wish many is =
+    let same : first ≡ wish = cc in
+    let front : List ℕ = number 4 (get_or bits place 0) ++ length wish.metadata ∷ [] in (
+      front,
+      ap (λ (w : Wish). groups_laid place bits (w ∷ [])) same
+          ∙ first_laid place bits wish [] ∙ append-nil (subgroup (record { bits = get_or bits place 0; metadata = wish.metadata }))
+          ∙ sym (append_assoc (number 4 (get_or bits place 0)) (length wish.metadata ∷ []) wish.metadata),
+    )
+last_laid place bits (first ∷ []) (suc n) wish many is = absurd cc
+last_laid place bits (first ∷ second ∷ wishes) zero wish many is = absurd cc
+last_laid place bits (first ∷ second ∷ wishes) (suc n) wish many is =
+    let fewer : suc n ≡ length (second ∷ wishes) = cc in
+    let others = last_laid (place + 1) bits (second ∷ wishes) n wish fewer is in
+    let group : List ℕ = subgroup (record { bits = get_or bits place 0; metadata = first.metadata }) in (
+      group ++ others.0,
+      first_laid place bits first (second ∷ wishes) ∙ ap (λ octets. group ++ octets) others.1 ∙ sym (append_assoc group others.0 wish.metadata),
+    )
+
+pub ends_so : (status : Status) (entry : Entry) (n : ℕ) (wish : Wish) → suc n ≡ length entry.wanted.wishes → slice_get entry.wanted.wishes n ≡ Some wish
+    → (front : List ℕ) × (spelling (received status entry) ≡ front ++ wish.metadata)
+ends_so status entry n wish many is =
+    let front : List ℕ = laid (front_fields (fields_of (received status entry)) (length entry.wanted.wishes)) in
+    let groups = last_laid 0 status.bits entry.wanted.wishes n wish many is in
+    (front ++ groups.0, sym (in_two status entry) ∙ ap (λ octets. front ++ octets) groups.1 ∙ sym (append_assoc front groups.0 wish.metadata))
 
 pub metadata_at : (wishes : List Wish) (place : ℕ) (wish : Wish) → AllByRecursion (λ wish. length wish.metadata ≤ 255) wishes → slice_get wishes place ≡ Some wish
     → length wish.metadata < 256

@@ -9,9 +9,9 @@ ghost use Rattle.delegator_control.specs.State.Machines.{machine, moved};
 ghost use Rattle.delegator_control.specs.State.Places.{encrypted_of, place_of};
 ghost use Rattle.delegator_control.specs.State.Statuses.{status_seen};
 
-use crate::place::{Place, join_group, join_train};
+use crate::place::{Move, Place, join_group, join_train};
 use crate::scan_delegator::ScanDelegator;
-use crate::values::{Status, note, value_as};
+use crate::values::{Status, note_standing, status_after};
 use bcast_base::Memory;
 use delegator_choices::TakenBits;
 
@@ -62,14 +62,15 @@ impl ScanDelegator {
         requires within { slot < vec_len self.old.slots }
         ensures ok { OnOk result (machine self.new ≡ record (machine self.old) {
           waiting = (machine self.old).waiting
-              ++ change slot (value_at (machine self.old).sight slot) (value (option_map (received (status_seen status.now)) (entry_at (machine self.old).sight.slots slot)));
+              ++ change slot (value_at (machine self.old).sight slot)
+              (value (option_map (received (status_seen status.now)) (entry_at (machine self.old).sight.slots slot)));
         }) }
         ensures place { self.new.place ≡ self.old.place }
         ensures err { OnErr result (machine self.new ≡ machine self.old) }
     {
-        let before = self.read_state(slot)?;
-        let after = value_as(self.alloc, &self.slots[usize::from(slot)], status)?;
-        note(&mut self.waiting, slot, &before, after)
+        let before = status_after(&self.place, slot, Move::Stay);
+        let held = &self.slots[usize::from(slot)];
+        note_standing(self.alloc, &mut self.waiting, slot, held, &before, status)
     }
 }
 

@@ -14,7 +14,7 @@ ghost use Rattle.delegator_control.specs.State.Written.{written_value};
 
 use crate::place::{Move, Place, make_move};
 use crate::scan_delegator::ScanDelegator;
-use crate::values::{note, status_after, value_filled};
+use crate::values::{note_value, put_notice, status_after, value_filled};
 use bass_operations::{AddSource, ModifySource, Operation, Wishes};
 use bcast_base::{Memory, Octets};
 use delegator_choices::{Slot, Sought, find_slot, refused, unused_id};
@@ -88,8 +88,7 @@ impl ScanDelegator {
         if self.place.is_on(slot) {
             return Ok(refused(Cause::StillSynced));
         }
-        let before = self.read_state(slot)?;
-        note(&mut self.waiting, slot, &before, Octets::new(self.alloc))?;
+        put_notice(&mut self.waiting, slot, Octets::new(self.alloc))?;
         self.slots[usize::from(slot)] = None;
         Ok(Reply::Accepted)
     }
@@ -140,13 +139,14 @@ impl ScanDelegator {
             } }
         ensures place { self.new.place ≡ self.old.place }
     {
-        let before = self.read_state(slot)?;
         let status = status_after(&self.place, slot, moves);
         let after = value_filled(self.alloc, &filled, &status)?;
         if is_too_long(&after) {
             return Ok(false);
         }
-        note(&mut self.waiting, slot, &before, after)?;
+        let before = status_after(&self.place, slot, Move::Stay);
+        let held = &self.slots[usize::from(slot)];
+        note_value(self.alloc, &mut self.waiting, slot, held, &before, after)?;
         self.slots[usize::from(slot)] = Some(filled);
         Ok(true)
     }

@@ -5,7 +5,7 @@ ghost use Rattle.delegator_control.specs.State.Places.{IsWithin};
 
 use crate::control::{heard_control, leaves};
 use crate::place::{Move, Place, SinkIdle, join, make_move};
-use crate::values::{note, status_after, value_as};
+use crate::values::{note_standing, status_after, value_as};
 use bass_operations::decode_operation;
 use bcast_base::{Memory, Octets};
 use big_info::Limits;
@@ -177,7 +177,7 @@ impl ScanDelegator {
         }
     }
 
-    // The same as a step.
+    // Puts the sink on a group of no slot, off what it was on. After want of memory it is where it was.
     fn put_on_group(&mut self) -> Result<(), Memory>
         ensures step { OnOk result (machine self.new ≡ moved tuned (machine self.old)) }
         ensures err { OnErr result (machine self.new ≡ machine self.old) }
@@ -188,7 +188,7 @@ impl ScanDelegator {
         Ok(())
     }
 
-    // The same as a step.
+    // Hears a control PDU, and leaves the group where that is terminated. After want of memory the sink is where it was.
     fn hear_control(&mut self, pdu: &[u8]) -> Result<ControlHeard, Memory>
         ensures answer { IfOk result (λ heard. heard ≡ control_heard (machine self.old).sight.place pdu.now) }
         ensures step { OnOk result (machine self.new ≡ moved (done_by_control (machine self.old).sight.place pdu.now) (machine self.old)) }
@@ -204,7 +204,7 @@ impl ScanDelegator {
         Ok(heard)
     }
 
-    // The same as a step.
+    // Takes the first notice that waits, its value cut to the MTU where one is set.
     fn take_notice(&mut self) -> Option<Notice>
         ensures notice { result ≡ option_map (handed_out (machine self.old).mtu) (slice_get (machine self.old).waiting 0) }
         ensures step { machine self.new ≡ step_on told (machine self.old) }
@@ -235,10 +235,10 @@ impl ScanDelegator {
         let Some(slot) = self.place.slot() else {
             return Ok(());
         };
-        let before = self.read_state(slot)?;
-        let status = status_after(&self.place, slot, moves);
-        let after = value_as(self.alloc, &self.slots[usize::from(slot)], &status)?;
-        note(&mut self.waiting, slot, &before, after)
+        let before = status_after(&self.place, slot, Move::Stay);
+        let after = status_after(&self.place, slot, moves);
+        let held = &self.slots[usize::from(slot)];
+        note_standing(self.alloc, &mut self.waiting, slot, held, &before, &after)
     }
 }
 

@@ -216,7 +216,7 @@ impl ScanDelegator {
         })
     }
 
-    // The same as a step.
+    // Goes where a train brings the sink, and answers the train. After want of memory the sink is where it was.
     fn follow_brought(&mut self, brought: Brought) -> Result<TrainHeard, Memory>
         requires { IsBrought brought (machine self.old) }
         ensures answer { IfOk result (λ heard. heard ≡ answer_of (brought_of brought)) }

@@ -1,11 +1,12 @@
 //! The values of slots, and the notices of their changes.
-ghost use Rattle.std.specs.Prelude.{◌≡◌, ◌<◌, ◌≤◌, ◌+◌, ◌++◌, [], drop, length, if◌then◌else◌, get_or, option_map, None, IfOk, IsSome, OnOk, OnErr};
+ghost use Rattle.std.specs.Prelude.{◌≡◌, ◌≢◌, ◌<◌, ◌≤◌, ◌+◌, ◌++◌, ◌∷◌, [], drop, length, if◌then◌else◌, get_or, option_map};
+ghost use Rattle.std.specs.Prelude.{None, IfOk, IsSome, IsTrue, OnOk, OnErr};
 ghost use Rattle.std.specs.List.{AllByRecursion};
 ghost use Rattle.receive_state.specs.Layout.{spelling};
 ghost use Rattle.delegator_history.specs.Notices.{change};
 ghost use Rattle.delegator_history.specs.Sights.{Sight};
 ghost use Rattle.delegator_history.specs.Steps.{placed};
-ghost use Rattle.delegator_history.specs.Values.{encryption_of, received, value};
+ghost use Rattle.delegator_history.specs.Values.{Status as StatusSeen, encryption_of, received, value};
 ghost use Rattle.delegator_choices.specs.State.Slots.{EntryFits};
 ghost use Rattle.delegator_control.specs.State.Places.{place_by, place_of, standing};
 ghost use Rattle.delegator_control.specs.State.Statuses.{groups_laid, status_at, status_seen};
@@ -165,6 +166,101 @@ fn bits_at(bits: &[u32], place: usize) -> u32
     }
 }
 
+/// Puts the notice of a slot at the end, where its value changes once the sink, which stood so to it, stands so. After want of
+/// memory nothing changed.
+pub(crate) fn note_standing(
+    alloc: Global,
+    waiting: &mut VecDeque<Notice>,
+    slot: u8,
+    held: &Option<Slot>,
+    before: &Status<'_>,
+    after: &Status<'_>,
+) -> Result<(), Memory>
+    ensures ok { OnOk result (waiting.new.items ≡ waiting.old.items ++ change slot
+        (value (option_map (received (status_seen before.now)) held.now))
+        (value (option_map (received (status_seen after.now)) held.now))) }
+    ensures err { OnErr result (waiting.new.items ≡ waiting.old.items) }
+{
+    match held {
+        None => Ok(()),
+        Some(filled) => note_filled(alloc, waiting, slot, filled, before, after),
+    }
+}
+
+/// The same of a slot that is filled. Where PA_Sync_State changes, the value that it had is not looked at.
+fn note_filled(
+    alloc: Global,
+    waiting: &mut VecDeque<Notice>,
+    slot: u8,
+    filled: &Slot,
+    before: &Status<'_>,
+    after: &Status<'_>,
+) -> Result<(), Memory>
+    ensures ok { OnOk result (waiting.new.items ≡ waiting.old.items ++ change slot
+        (spelling (received (status_seen before.now) filled.now)) (spelling (received (status_seen after.now) filled.now))) }
+    ensures err { OnErr result (waiting.new.items ≡ waiting.old.items) }
+{
+    let now = value_filled(alloc, filled, after)?;
+    if before.is_synced != after.is_synced {
+        return put_notice(waiting, slot, now);
+    }
+    let was = value_filled(alloc, filled, before)?;
+    note(waiting, slot, &was, now)
+}
+
+/// Puts the notice of a slot at the end, where its value is then this, and was another: the sink stood so to it. After want of
+/// memory nothing changed.
+pub(crate) fn note_value(
+    alloc: Global,
+    waiting: &mut VecDeque<Notice>,
+    slot: u8,
+    held: &Option<Slot>,
+    before: &Status<'_>,
+    now: Octets,
+) -> Result<(), Memory>
+    ensures ok { OnOk result (waiting.new.items ≡ waiting.old.items ++ change slot
+        (value (option_map (received (status_seen before.now)) held.now)) now) }
+    ensures err { OnErr result (waiting.new.items ≡ waiting.old.items) }
+{
+    match held {
+        None => note(waiting, slot, &Octets::new(alloc), now),
+        Some(filled) => note_refilled(alloc, waiting, slot, filled, before, now),
+    }
+}
+
+/// The same of a slot that was filled. Where the metadata at the end changes, the value that it had is not looked at.
+fn note_refilled(
+    alloc: Global,
+    waiting: &mut VecDeque<Notice>,
+    slot: u8,
+    filled: &Slot,
+    before: &Status<'_>,
+    now: Octets,
+) -> Result<(), Memory>
+    ensures ok { OnOk result (waiting.new.items ≡ waiting.old.items ++ change slot
+        (spelling (received (status_seen before.now) filled.now)) now) }
+    ensures err { OnErr result (waiting.new.items ≡ waiting.old.items) }
+{
+    if ends_otherwise(&now, filled) {
+        return put_notice(waiting, slot, now);
+    }
+    let was = value_filled(alloc, filled, before)?;
+    note(waiting, slot, &was, now)
+}
+
+/// The octets end otherwise than the value of the slot, however the sink stands to it: not with the last metadata.
+fn ends_otherwise(octets: &Octets, slot: &Slot) -> bool
+    ensures { IsTrue result → (status : StatusSeen) → spelling (received status slot.now) ≢ octets.now }
+{
+    let wishes = slot.wishes();
+    let count = wishes.count();
+    if count == 0 {
+        return false;
+    }
+    let last = wishes.item(count - 1);
+    !octets.as_slice().ends_with(last.metadata.as_slice())
+}
+
 /// Puts the notice of a slot whose value changes at the end. After want of memory nothing changed.
 pub(crate) fn note(
     waiting: &mut VecDeque<Notice>,
@@ -178,5 +274,17 @@ pub(crate) fn note(
     if before.as_slice() == after.as_slice() {
         return Ok(());
     }
-    Ok(waiting.push_back(Notice { slot, value: after })?)
+    put_notice(waiting, slot, after)
+}
+
+/// Puts the notice of a slot that has this value now at the end. After want of memory nothing changed.
+pub(crate) fn put_notice(
+    waiting: &mut VecDeque<Notice>,
+    slot: u8,
+    value: Octets,
+) -> Result<(), Memory>
+    ensures ok { OnOk result (waiting.new.items ≡ waiting.old.items ++ record { slot = slot; value = value } ∷ []) }
+    ensures err { OnErr result (waiting.new.items ≡ waiting.old.items) }
+{
+    Ok(waiting.push_back(Notice { slot, value })?)
 }

@@ -68,9 +68,9 @@ impl Player {
 
     /// The units that were handed up, oldest first.
     ///
-    /// The law of a stay: where each PDU that was heard is the source's own at its number, there is an entry for each unit whose start was heard,
-    /// in order: the unit with its time, where all numbers that carry it were heard before their events closed, and none of its octets where
-    /// the first that wasn't is closed.
+    /// The law of a stay: where each PDU that was heard is the source's own at its number, there is an entry for each unit whose start
+    /// was heard, in order: the unit with its time, where all numbers that carry it were heard before their events closed, and none of
+    /// its octets where the first that wasn't is closed.
     pub fn playlist(&self) -> &Playlist
         ensures list { handed_by result.now ≡ played_by self.now }
         ensures law { (stay : Stay) (units : List Sent) (laid : ℕ) (calls : List Call) → 1 ≤ stay.info.bn → InOrder 0 laid units

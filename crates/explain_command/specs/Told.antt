@@ -3,7 +3,7 @@
 use Rattle.std.specs.Prelude.{ℕ, ◌≡◌, ◌⊎◌, List, Option}
 use Rattle.std.specs.Io.KnownBytes.{Keeps}
 use Rattle.bcast_base.specs.Counts.{Rose}
-use Rattle.explained_rows.specs.Told.{Rows, told_at}
+use Rattle.explain_command.specs.Rows.{Rows, told_at}
 use Rattle.replay_lines.specs.Heard.{Heard}
 use Rattle.replay_lines.specs.World.{World}
 use Rattle.unit_outlets.specs.Account.{Account}

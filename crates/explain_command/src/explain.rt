@@ -8,9 +8,9 @@ ghost use Rattle.replay_steps.specs.Untaken.{UntakenBy};
 ghost use Rattle.explain_command.specs.Told.{Told, told_world};
 
 use crate::explainer::Explainer;
+use crate::rows::ExplainedRows;
 use bcast_base::Memory;
 use bcast_io::{ByteSink, ByteSource};
-use explained_rows::ExplainedRows;
 use replay_lines::{Ending, run_heard};
 use std::alloc::Global;
 use unit_outlets::{Outlet, Tally};

@@ -1,16 +1,16 @@
 //! What goes along with a run and explains it.
 ghost use Rattle.std.specs.Prelude.{◌≡◌};
 ghost use Rattle.std.specs.Io.KnownBytes.{Keeps};
-ghost use Rattle.explained_rows.specs.Told.{told_at};
+ghost use Rattle.explain_command.specs.Rows.{told_at};
 ghost use Rattle.explain_command.specs.Told.{EndsSo};
 
+use crate::rows::ExplainedRows;
 use bcast_base::{Memory, Octets};
 use bcast_io::{ByteSink, SinkFault};
-use explained_rows::ExplainedRows;
 use itoa::Buffer;
-use printed_words::{Word, put_words};
 use replay_lines::{Ending, Listener};
 use replay_steps::Machine;
+use scenario_words::{Word, put_words};
 use std::alloc::Global;
 use transcript_notes::Notes;
 use transcript_text::Refusal;

@@ -3,13 +3,15 @@
 
 mod explain;
 mod explainer;
+mod place;
+mod rows;
 mod status;
 
 use bcast_base::Memory;
 use bcast_io::{ReadSource, WriteSink};
 use explain::explain_with_tallies;
-use explained_rows::ExplainedRows;
 use replay_lines::Ending;
+use rows::ExplainedRows;
 use status::Status;
 use std::process::ExitCode;
 use std::rt::Env;

@@ -1,5 +1,5 @@
 mod Handing
-mod Numbers
+mod Offsets
 mod OneStream
 mod Opened
 mod Places

@@ -4,10 +4,10 @@ ghost use Rattle.big_info.specs.Bounds.{Bounds};
 ghost use Rattle.unit_outlets.specs.Handed.{Caused, HandsOver};
 ghost use Rattle.group_sink.specs.State.Steps.{answer_on, fresh_on, hear_on, owed_by, owed_on, place_on, tick_at, tick_on};
 
+use crate::numbers::Numbers;
 use crate::receiver::Receiver;
 use crate::streams::{answer_in, close_by, hear_in, skip_by, stream_of};
 use bcast_base::{Bis, Memory};
-use big_info::Group;
 use isoal_base::Hearing;
 use std::alloc::Global;
 use std::marker::Model;
@@ -17,7 +17,7 @@ use unit_outlets::{TakerFault, UnitTaker};
 /// The receivers of a sink that is on a group: one for each stream that it takes, by rising index.
 #[derive(Drop)]
 pub struct GroupReceivers {
-    group: Group,
+    numbers: Numbers,
     /// At n the place of the receiver of the stream of index n + 1: 31, where none stands, if the stream isn't taken.
     places: [u8; 31],
     streams: Vec<Receiver>,
@@ -28,7 +28,7 @@ impl Model for GroupReceivers {
 
     ghost Value = { OnGroup };
 
-    ghost view = { λ a. record { info = a.group.info; places = a.places; streams = a.streams.items } };
+    ghost view = { λ a. record { info = a.numbers.group.info; places = a.places; streams = a.streams.items } };
 }
 
 impl GroupReceivers {
@@ -49,7 +49,7 @@ impl GroupReceivers {
             streams.push(stream)?;
         }
         Ok(GroupReceivers {
-            group: joining.group,
+            numbers: Numbers::new(&joining.group),
             places,
             streams,
         })
@@ -65,7 +65,14 @@ impl GroupReceivers {
         ensures bounds { Bounds self.old.info }
     {
         let place = self.place(bis);
-        hear_in(&mut self.streams, place, &self.group, event, subevent, pdu)
+        hear_in(
+            &mut self.streams,
+            place,
+            &self.numbers,
+            event,
+            subevent,
+            pdu,
+        )
     }
 
     /// The place of the receiver of a stream.
@@ -83,7 +90,7 @@ impl GroupReceivers {
         ensures greatest { bis ≤ 31 }
     {
         let place = self.place(bis);
-        answer_in(&self.streams, place, &self.group, event, subevent, pdu)
+        answer_in(&self.streams, place, &self.numbers, event, subevent, pdu)
     }
 
     /// Closes the open event of each stream where it is at most this event.

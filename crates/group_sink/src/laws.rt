@@ -33,6 +33,6 @@ pub fn each_stream_hands_its_units()
     ensures framed { (joining : Joining) (calls : List Call) (bis : ℕ) → joining.info.framing ≡ 1 → place calls ≡ Some joining
         → Contains (streams_of joining.which) bis
         → of_stream bis (handed_since calls) ≡ decided (stay_on joining bis) (stream_calls (stay_on joining bis) calls) }
-    ensures others { (joining : Joining) (calls : List Call) (bis : ℕ) → place calls ≡ Some joining → ¬ Contains (streams_of joining.which) bis
-        → of_stream bis (handed_since calls) ≡ [] }
+    ensures others { (joining : Joining) (calls : List Call) (bis : ℕ) → place calls ≡ Some joining
+        → ¬ Contains (streams_of joining.which) bis → of_stream bis (handed_since calls) ≡ [] }
 {}

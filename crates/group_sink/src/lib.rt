@@ -4,6 +4,7 @@
 mod group_receivers;
 mod group_sink;
 mod laws;
+mod numbers;
 mod receiver;
 mod refuser;
 mod streams;

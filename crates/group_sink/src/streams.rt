@@ -4,12 +4,11 @@ ghost use Rattle.unit_outlets.specs.Handed.{Caused, HandsOver};
 ghost use Rattle.group_sink.specs.State.Steps.{answer_at, fresh_at, hear_at, heard_at, owed_by, tick_at};
 ghost use Rattle.group_sink.specs.Streams.{number_of};
 
+use crate::numbers::Numbers;
 use crate::receiver::Receiver;
 use crate::refuser::Refuser;
 use bcast_base::{Bis, Memory};
-use big_info::Group;
 use isoal_base::Hearing;
-use radio_schedule::payload_of;
 use std::alloc::Global;
 use sync_reference::Joining;
 use unit_outlets::{TakerFault, UnitTaker};
@@ -33,19 +32,19 @@ pub(crate) fn stream_of(
 pub(crate) fn hear_in(
     streams: &mut Vec<Receiver>,
     place: usize,
-    group: &Group,
+    numbers: &Numbers,
     event: u64,
     subevent: u8,
     pdu: &[u8],
 ) -> Hearing
     requires { event ≤ 2 ^ 39 }
-    ensures answer { result ≡ answer_at (number_of group.now.info event subevent) pdu.now (slice_get streams.old.items place) }
+    ensures answer { result ≡ answer_at (number_of numbers.now.group.info event subevent) pdu.now (slice_get streams.old.items place) }
     ensures step { streams.new.items
-        ≡ heard_at (number_of group.now.info event subevent) pdu.now place (slice_get streams.old.items place) streams.old.items }
+        ≡ heard_at (number_of numbers.now.group.info event subevent) pdu.now place (slice_get streams.old.items place) streams.old.items }
 {
     match streams.get_mut(place) {
         None => Hearing::NotTaken,
-        Some(receiver) => hear_under(receiver, number(group, event, subevent), pdu),
+        Some(receiver) => hear_under(receiver, numbers.number(event, subevent), pdu),
     }
 }
 
@@ -64,30 +63,21 @@ fn hear_under(receiver: &mut Receiver, number: Option<u64>, pdu: &[u8]) -> Heari
 pub(crate) fn answer_in(
     streams: &Vec<Receiver>,
     place: usize,
-    group: &Group,
+    numbers: &Numbers,
     event: u64,
     subevent: u8,
     pdu: &[u8],
 ) -> Hearing
     requires { event ≤ 2 ^ 39 }
-    ensures { result ≡ answer_at (number_of group.now.info event subevent) pdu.now (slice_get streams.now.items place) }
+    ensures { result ≡ answer_at (number_of numbers.now.group.info event subevent) pdu.now (slice_get streams.now.items place) }
 {
     match streams.get(place) {
         None => Hearing::NotTaken,
-        Some(receiver) => match number(group, event, subevent) {
+        Some(receiver) => match numbers.number(event, subevent) {
             None => Hearing::NoNumber,
             Some(number) => Hearing::Heard(receiver.would_answer(number, pdu)),
         },
     }
-}
-
-/// The payload number of a subevent of an event.
-#[tactic(auto, using(crate::proofs::Numbers::number_is))]
-fn number(group: &Group, event: u64, subevent: u8) -> Option<u64>
-    requires { event ≤ 2 ^ 39 }
-    ensures { result ≡ number_of group.now.info event subevent }
-{
-    payload_of(group, event, subevent)
 }
 
 /// Closes the open event where it is at most this event, and hands its units.

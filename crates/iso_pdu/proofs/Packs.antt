@@ -1,11 +1,12 @@
 -- A segment put behind others.
-use Rattle.std.proofs.Common.{◌≡◌, ℕ, ◌+◌, ◌*◌, ◌<◌, ◌≤◌, List, [], ◌∷◌, ◌++◌, length, take, drop, set, refl, sym, ap, ◌∙◌, arith, append_assoc, length-append, length-take, length-drop, Bool}
-use Rattle.std.proofs.lemmas.List.{append-nil, take_more_set, length-set}
+use Rattle.std.proofs.Common.{◌≡◌, ℕ, ◌+◌, ◌-◌, ◌*◌, ◌<◌, ◌≤◌, List, [], ◌∷◌, ◌++◌, zero, suc, length, take, drop, set, get_or, refl, sym, ap, ◌∙◌, arith, append_assoc, length-append, length-take, length-drop, Bool}
+use Rattle.std.proofs.lemmas.List.{append-nil, drop-take, take_more_set, length-set}
 use Rattle.std.proofs.lemmas.Slice.{take-put_mid}
+use Rattle.std.proofs.Math.Seq.{take-set-lt}
 use borrow.Rule.Slice.PartMut.{put_mid}
-use Rattle.iso_pdu.specs.Layout.{Part, start, more, bit}
+use Rattle.iso_pdu.specs.Layout.{Part, start, more, framed, bit}
 use Rattle.iso_pdu.specs.Reading.{parts_in}
-use Rattle.iso_pdu.specs.Spelling.{offset_octets, segment, segments}
+use Rattle.iso_pdu.specs.Spelling.{offset_octets, segment, segments, pdu}
 use Rattle.iso_pdu.specs.State.Packing.{Packed, room_in, packed_in, IsPacked}
 use Rattle.iso_pdu.proofs.PartsRead.{parts_from-layout}
 use Rattle.iso_pdu.proofs.PdusRead.{segments-are}
@@ -18,60 +19,83 @@ parts_in-segments : (parts : List Part) → parts_in (segments parts) ≡ parts
 parts_in-segments parts = rw (parts_from-layout 0 (segments parts) parts (segments-are parts)) refl
 
 -- what a put leaves
-pub record Puts (max_pdu len : ℕ) (octets : List ℕ) (len' : ℕ) (octets' : List ℕ) (part : Part) : Type 0 where
-  pub packed : IsPacked max_pdu len' octets'
-  pub parts : parts_in (take len' octets') ≡ parts_in (take len octets) ++ part ∷ []
-  pub room : room_in (packed_in max_pdu len' octets') + length (segment part) ≡ room_in (packed_in max_pdu len octets)
+pub record Puts (max_pdu end : ℕ) (octets : List ℕ) (end' : ℕ) (octets' : List ℕ) (part : Part) : Type 0 where
+  pub packed : IsPacked max_pdu end' octets'
+  pub parts : parts_in (drop 2 (take end' octets')) ≡ parts_in (drop 2 (take end octets)) ++ part ∷ []
+  pub room : room_in (packed_in max_pdu end' octets') + length (segment part) ≡ room_in (packed_in max_pdu end octets)
 
-pub length-packed : (max_pdu len : ℕ) (octets : List ℕ) → length octets ≡ 251 → IsPacked max_pdu len octets → length (segments (parts_in (take len octets))) ≡ len
-length-packed max_pdu len octets whole packed = omega (arith, ap length packed.spelled, length-take len octets, packed.within, packed.greatest)
+pub length-packed : (max_pdu end : ℕ) (octets : List ℕ) → length octets ≡ 253 → IsPacked max_pdu end octets
+    → 2 + length (segments (parts_in (drop 2 (take end octets)))) ≡ end
+length-packed max_pdu end octets whole packed = omega (arith, ap length packed.spelled, length-take end octets, packed.within, packed.greatest)
 
-pub put_packed : (max_pdu len : ℕ) (octets : List ℕ) (len' : ℕ) (octets' : List ℕ) (part : Part) → length octets ≡ 251 → IsPacked max_pdu len octets
-    → length (segment part) ≤ room_in (packed_in max_pdu len octets) → 0 < length (segment part) → len' ≡ len + length (segment part) → take len' octets' ≡ take len octets ++ segment part
-    → Puts max_pdu len octets len' octets' part
-put_packed max_pdu len octets len' octets' part whole packed room some len'_is put =
-    let old = parts_in (take len octets) in
-    let pushed : take len' octets' ≡ segments (old ++ part ∷ []) = put ∙ ap (λ (os : List ℕ). os ++ segment part) packed.spelled ∙ sym (segments-push old part) in
-    let parts_is : parts_in (take len' octets') ≡ old ++ part ∷ [] = ap parts_in pushed ∙ parts_in-segments (old ++ part ∷ []) in
-    let long : length (segments old) ≡ len = length-packed max_pdu len octets whole packed in
-    let longer : length (segments (old ++ part ∷ [])) ≡ length (segments old) + length (segment part) = ap length (segments-push old part) ∙ length-append (segments old) (segment part) in
+-- behind the header and the Length stand the segments
+pub payload-packed : (max_pdu end : ℕ) (octets : List ℕ) → length octets ≡ 253 → IsPacked max_pdu end octets
+    → take (end - 2) (drop 2 octets) ≡ segments (parts_in (drop 2 (take end octets)))
+payload-packed max_pdu end octets whole packed =
+    let sum : 2 + (end - 2) ≡ end = omega (arith, length-packed max_pdu end octets whole packed) in
+    sym (drop-take 2 (end - 2) octets) ∙ ap (λ (n : ℕ). drop 2 (take n octets)) sum ∙ ap (λ (os : List ℕ). drop 2 os) packed.spelled
+
+-- a put of so many octets more stays within
+pub put_fits : (max_pdu end : ℕ) (octets : List ℕ) (packed : Packed) (count : ℕ) → packed_in max_pdu end octets ≡ packed → length octets ≡ 253
+    → IsPacked max_pdu end octets → count ≤ room_in packed → end + count ≤ 253
+put_fits max_pdu end octets packed count seen whole sound room =
+    omega (arith, room, ap room_in seen, length-packed max_pdu end octets whole sound, sound.within, sound.greatest)
+
+-- the octets behind a put, where they are a segment's
+abbrev pub PutsOctets : ℕ → List ℕ → ℕ → List ℕ → List ℕ → Type 0
+PutsOctets end octets end' octets' spelled = (first long : ℕ) (rest : List ℕ) → take end octets ≡ first ∷ long ∷ rest
+    → take end' octets' ≡ first ∷ (end' - 2) ∷ (rest ++ spelled)
+
+pub put_packed : (max_pdu end : ℕ) (octets : List ℕ) (end' : ℕ) (octets' : List ℕ) (part : Part) → length octets ≡ 253 → IsPacked max_pdu end octets
+    → length (segment part) ≤ room_in (packed_in max_pdu end octets) → 0 < length (segment part) → end' ≡ end + length (segment part)
+    → PutsOctets end octets end' octets' (segment part)
+    → Puts max_pdu end octets end' octets' part
+put_packed max_pdu end octets end' octets' part whole packed room some end'_is put =
+    let old = parts_in (drop 2 (take end octets)) in
+    let all = old ++ part ∷ [] in
+    let put_is = put 2 (length (segments old)) (segments old) packed.spelled in
+    let long : 2 + length (segments old) ≡ end = length-packed max_pdu end octets whole packed in
+    let longer : length (segments all) ≡ length (segments old) + length (segment part) = ap length (segments-push old part) ∙ length-append (segments old) (segment part) in
+    let count : end' - 2 ≡ length (segments all) = omega (arith, longer, long, end'_is) in
+    let pushed : take end' octets' ≡ pdu (framed all) = put_is ∙ rw (count, segments-push old part) refl in
+    let parts_is : parts_in (drop 2 (take end' octets')) ≡ all = ap (λ (os : List ℕ). parts_in (drop 2 os)) pushed ∙ parts_in-segments all in
     record {
-      packed = record { greatest = packed.greatest; within = omega arith; spelled = pushed ∙ ap segments (sym parts_is) };
+      packed = record { greatest = packed.greatest; within = omega (arith, long, end'_is, room, packed.within); spelled = pushed ∙ ap (λ (ps : List Part). pdu (framed ps)) (sym parts_is) };
       parts = parts_is;
       room = rw parts_is (omega (arith, longer, long, room, some));
     }
 
 -- what a put of octets leaves, where they are a segment's
-put_spelled : (max_pdu len : ℕ) (octets : List ℕ) (len' : ℕ) (octets' : List ℕ) (part : Part) (header : ℕ) (offset body : List ℕ) (packed : Packed) → packed_in max_pdu len octets ≡ packed
-    → length octets ≡ 251 → IsPacked max_pdu len octets → segment part ≡ header ∷ (length offset + length body) ∷ (offset ++ body) → 2 + length offset + length body ≤ room_in packed
-    → len' ≡ len + 2 + length offset + length body → take len' octets' ≡ take len octets ++ header ∷ (length offset + length body) ∷ (offset ++ body)
-    → Puts max_pdu len octets len' octets' part
-put_spelled max_pdu len octets len' octets' part header offset body packed seen whole sound spelled room len'_is put =
+put_spelled : (max_pdu end : ℕ) (octets : List ℕ) (end' : ℕ) (octets' : List ℕ) (part : Part) (header : ℕ) (offset body : List ℕ) (packed : Packed) → packed_in max_pdu end octets ≡ packed
+    → length octets ≡ 253 → IsPacked max_pdu end octets → segment part ≡ header ∷ (length offset + length body) ∷ (offset ++ body) → 2 + length offset + length body ≤ room_in packed
+    → end' ≡ end + 2 + length offset + length body → PutsOctets end octets end' octets' (header ∷ (length offset + length body) ∷ (offset ++ body))
+    → Puts max_pdu end octets end' octets' part
+put_spelled max_pdu end octets end' octets' part header offset body packed seen whole sound spelled room end'_is put =
     let long : length (segment part) ≡ 2 + length offset + length body = rw spelled (omega (arith, length-append offset body)) in
-    let room_is : room_in (packed_in max_pdu len octets) ≡ room_in packed = ap room_in seen in
-    put_packed max_pdu len octets len' octets' part whole sound (omega (arith, long, room_is, room)) (omega (arith, long)) (omega (arith, long, len'_is))
-    (put ∙ ap (λ (os : List ℕ). take len octets ++ os) (sym spelled))
+    let room_is : room_in (packed_in max_pdu end octets) ≡ room_in packed = ap room_in seen in
+    put_packed max_pdu end octets end' octets' part whole sound (omega (arith, long, room_is, room)) (omega (arith, long)) (omega (arith, long, end'_is))
+    (λ first count rest is. put first count rest is ∙ ap (λ (os : List ℕ). first ∷ (end' - 2) ∷ (rest ++ os)) (sym spelled))
 
-pub put_start_packed : (max_pdu len : ℕ) (octets : List ℕ) (len' : ℕ) (octets' : List ℕ) (time header : ℕ) (complete : Bool) (offset body : List ℕ) (packed : Packed)
-    → packed_in max_pdu len octets ≡ packed
-    → length octets ≡ 251 → IsPacked max_pdu len octets → offset ≡ offset_octets time → header ≡ 0 + 2 * bit complete → 5 + length body ≤ room_in packed
-    → len' ≡ len + 2 + length offset + length body → take len' octets' ≡ take len octets ++ header ∷ (length offset + length body) ∷ (offset ++ body)
-    → Puts max_pdu len octets len' octets' (start time complete body)
-put_start_packed max_pdu len octets len' octets' time header complete offset body packed seen whole sound offset_is header_is room len'_is put =
+pub put_start_packed : (max_pdu end : ℕ) (octets : List ℕ) (end' : ℕ) (octets' : List ℕ) (time header : ℕ) (complete : Bool) (offset body : List ℕ) (packed : Packed)
+    → packed_in max_pdu end octets ≡ packed
+    → length octets ≡ 253 → IsPacked max_pdu end octets → offset ≡ offset_octets time → header ≡ 0 + 2 * bit complete → 5 + length body ≤ room_in packed
+    → end' ≡ end + 2 + length offset + length body → PutsOctets end octets end' octets' (header ∷ (length offset + length body) ∷ (offset ++ body))
+    → Puts max_pdu end octets end' octets' (start time complete body)
+put_start_packed max_pdu end octets end' octets' time header complete offset body packed seen whole sound offset_is header_is room end'_is put =
     let long : length offset ≡ 3 = ap length offset_is in
     let head : 2 * bit complete ≡ header = omega (arith, header_is) in
     let count : 3 + length body ≡ length offset + length body = omega (arith, long) in
     let spelled : segment (start time complete body) ≡ header ∷ (length offset + length body) ∷ (offset ++ body) = rw (head, count, offset_is) refl in
-    put_spelled max_pdu len octets len' octets' (start time complete body) header offset body packed seen whole sound spelled (omega (arith, long, room)) len'_is put
+    put_spelled max_pdu end octets end' octets' (start time complete body) header offset body packed seen whole sound spelled (omega (arith, long, room)) end'_is put
 
-pub put_more_packed : (max_pdu len : ℕ) (octets : List ℕ) (len' : ℕ) (octets' : List ℕ) (header : ℕ) (complete : Bool) (body : List ℕ) (packed : Packed) → packed_in max_pdu len octets ≡ packed
-    → length octets ≡ 251 → IsPacked max_pdu len octets → header ≡ 1 + 2 * bit complete → 2 + length body ≤ room_in packed
-    → len' ≡ len + 2 + 0 + length body → take len' octets' ≡ take len octets ++ header ∷ (0 + length body) ∷ body
-    → Puts max_pdu len octets len' octets' (more complete body)
-put_more_packed max_pdu len octets len' octets' header complete body packed seen whole sound header_is room len'_is put =
+pub put_more_packed : (max_pdu end : ℕ) (octets : List ℕ) (end' : ℕ) (octets' : List ℕ) (header : ℕ) (complete : Bool) (body : List ℕ) (packed : Packed) → packed_in max_pdu end octets ≡ packed
+    → length octets ≡ 253 → IsPacked max_pdu end octets → header ≡ 1 + 2 * bit complete → 2 + length body ≤ room_in packed
+    → end' ≡ end + 2 + 0 + length body → PutsOctets end octets end' octets' (header ∷ (0 + length body) ∷ body)
+    → Puts max_pdu end octets end' octets' (more complete body)
+put_more_packed max_pdu end octets end' octets' header complete body packed seen whole sound header_is room end'_is put =
     let count : length body ≡ 0 + length body = omega arith in
     let spelled : segment (more complete body) ≡ header ∷ (0 + length body) ∷ body = rw (← header_is, ← count) refl in
-    put_spelled max_pdu len octets len' octets' (more complete body) header [] body packed seen whole sound spelled (omega (arith, room)) len'_is put
+    put_spelled max_pdu end octets end' octets' (more complete body) header [] body packed seen whole sound spelled (omega (arith, room)) end'_is put
 
 -- two octets, and two slices behind them
 pub written : (octets : List ℕ) (len header count : ℕ) (offset part : List ℕ) (k n m : ℕ) → len + 2 + length offset + length part ≤ length octets
@@ -98,3 +122,22 @@ written octets len header count offset part k n m room k_is n_is m_is =
     take-put_mid k m (put_mid (len + 2) n second offset) part (k + length part) refl (omega arith)
     ∙ ap (λ (os : List ℕ). os ++ part) (three ∙ ap (λ (os : List ℕ). os ++ offset) (ap (λ (j : ℕ). take j second) (sym sum) ∙ two ∙ ap (λ (os : List ℕ). os ++ count ∷ []) one))
     ∙ simp append_assoc
+
+-- the same where the octets before them are a header and a Length, and the Length is written anew
+pub written_anew : (octets : List ℕ) (first long : ℕ) (rest : List ℕ) (end header count : ℕ) (offset part : List ℕ) (k n m length' : ℕ) → 2 ≤ end
+    → end + 2 + length offset + length part ≤ length octets → k ≡ end + 2 + length offset → n ≡ length offset → m ≡ length part
+    → take end octets ≡ first ∷ long ∷ rest
+    → take (k + length part) (set (put_mid k m (put_mid (end + 2) n (set (set octets end header) (end + 1) count) offset) part) 1 length')
+    ≡ first ∷ length' ∷ (rest ++ header ∷ count ∷ (offset ++ part))
+written_anew octets first long rest end header count offset part k n m length' some room k_is n_is m_is is =
+    take-set-lt (k + length part) (put_mid k m (put_mid (end + 2) n (set (set octets end header) (end + 1) count) offset) part) 1 length' (omega arith)
+    ∙ rw (written octets end header count offset part k n m room k_is n_is m_is, is) refl
+
+-- a header alone is a PDU of no segments
+pub header_alone : (octets : List ℕ) (end first long : ℕ) (rest : List ℕ) → take end octets ≡ first ∷ long ∷ rest → take 2 (set octets 1 0) ≡ first ∷ 0 ∷ []
+header_alone octets zero first long rest is = absurd (omega (arith, ap length is))
+header_alone [] (suc end) first long rest is = absurd (omega (arith, ap length is))
+header_alone (x ∷ []) (suc zero) first long rest is = absurd (omega (arith, ap length is))
+header_alone (x ∷ []) (suc (suc end)) first long rest is = absurd (omega (arith, ap length is))
+header_alone (x ∷ y ∷ octets) (suc zero) first long rest is = absurd (omega (arith, ap length is))
+header_alone (x ∷ y ∷ octets) (suc (suc end)) first long rest is = ap (λ (os : List ℕ). get_or os 0 0 ∷ 0 ∷ []) is

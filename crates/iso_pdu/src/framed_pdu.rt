@@ -1,4 +1,4 @@
-ghost use Rattle.std.specs.Prelude.{◌≡◌, ◌<◌, ◌≤◌, ◌+◌, ◌*◌, ◌^◌, [], ◌∷◌, ◌++◌, length, take, drop, Ok};
+ghost use Rattle.std.specs.Prelude.{◌≡◌, ◌<◌, ◌≤◌, ◌+◌, ◌-◌, ◌*◌, ◌^◌, ℕ, List, [], ◌∷◌, ◌++◌, length, take, drop, Ok};
 ghost use Rattle.iso_pdu.specs.Layout.{start, more, framed, bit};
 ghost use Rattle.iso_pdu.specs.State.Packing.{room_in};
 ghost use Rattle.iso_pdu.specs.Reading.{read_of};
@@ -7,11 +7,16 @@ ghost use Rattle.iso_pdu.specs.Spelling.{segments, pdu, offset_octets};
 use crate::pdu::write_payload;
 use std::marker::Model;
 
+/// The header of a framed PDU: its LLID, and all free bits 0.
+const LLID: u8 = 0b10;
+
 /// A framed PDU that is filled segment by segment.
 #[derive(Drop)]
 pub struct FramedPdu {
-    octets: [u8; 251],
-    len: usize,
+    /// The PDU, and behind it octets of any value.
+    octets: [u8; 253],
+    /// How many octets the PDU has.
+    end: usize,
     max_pdu: u8,
 }
 
@@ -20,9 +25,9 @@ impl Model for FramedPdu {
 
     ghost Value = { Packed };
 
-    ghost view = { λ a. packed_in a.max_pdu a.len a.octets };
+    ghost view = { λ a. packed_in a.max_pdu a.end a.octets };
 
-    ghost invariant = { λ a. IsPacked a.max_pdu a.len a.octets };
+    ghost invariant = { λ a. IsPacked a.max_pdu a.end a.octets };
 }
 
 impl FramedPdu {
@@ -31,11 +36,23 @@ impl FramedPdu {
         requires { max_pdu ≤ 251 }
         ensures { result ≡ record { max_pdu = max_pdu; parts = [] } }
     {
+        let mut octets = [0; 253];
+        octets[0] = LLID;
         FramedPdu {
-            octets: [0; 251],
-            len: 0,
+            octets,
+            end: 2,
             max_pdu,
         }
+    }
+
+    /// Takes all segments out, and gives the payload room for `max_pdu` octets, at most 251.
+    pub fn restart(&mut self, max_pdu: u8)
+        requires { max_pdu ≤ 251 }
+        ensures { self.new ≡ record { max_pdu = max_pdu; parts = [] } }
+    {
+        self.octets[1] = 0;
+        self.end = 2;
+        self.max_pdu = max_pdu;
     }
 
     /// How many octets are left of the payload.
@@ -43,7 +60,7 @@ impl FramedPdu {
         ensures room { result ≡ room_in self.now }
         ensures within { length (segments self.now.parts) ≤ self.now.max_pdu }
     {
-        self.max_pdu - self.len as u8
+        self.max_pdu - (self.end - 2) as u8
     }
 
     /// Puts the first segment of a unit, which takes 5 octets and those of the part. `time_offset`, in µs, is below 2^24.
@@ -55,7 +72,7 @@ impl FramedPdu {
     {
         let offset = spell_offset(time_offset);
         let header = header_of(0, complete);
-        self.len = put_segment(&mut self.octets, self.len, header, &offset, part);
+        self.end = put_segment(&mut self.octets, self.end, header, &offset, part);
     }
 
     /// Puts a further segment of a unit, which takes 2 octets and those of the part.
@@ -65,7 +82,7 @@ impl FramedPdu {
         ensures room { room_in self.new + 2 + length part.now ≡ room_in self.old }
     {
         let header = header_of(1, complete);
-        self.len = put_segment(&mut self.octets, self.len, header, &[], part);
+        self.end = put_segment(&mut self.octets, self.end, header, &[], part);
     }
 
     /// Writes the PDU, and answers how many octets it has.
@@ -75,7 +92,14 @@ impl FramedPdu {
         ensures rest { drop result into.new ≡ drop result into.old }
         ensures read { read_of self.now.max_pdu (take result into.new) ≡ Ok (framed self.now.parts) }
     {
-        write_payload(0b10, &self.octets[..self.len], into)
+        write_payload(LLID, &self.octets[2..self.end], into)
+    }
+
+    /// The PDU, as `write` writes it.
+    pub fn as_slice(&self) -> &[u8]
+        ensures { result.now ≡ pdu (framed self.now.parts) }
+    {
+        &self.octets[..self.end]
     }
 }
 
@@ -98,19 +122,22 @@ fn spell_offset(time_offset: u32) -> [u8; 3]
     [low, middle, high]
 }
 
-// Puts a segment behind the first `len` octets, and answers how many they are with it.
-fn put_segment(octets: &mut [u8; 251], len: usize, header: u8, offset: &[u8], part: &[u8]) -> usize
-    requires { len + 2 + length offset.now + length part.now ≤ 251 }
-    ensures count { result ≡ len + 2 + length offset.now + length part.now }
-    ensures put { take result octets.new
-        ≡ take len octets.old ++ header ∷ (length offset.now + length part.now) ∷ (offset.now ++ part.now) }
+// Puts a segment behind the first `end` octets, which are a PDU, and answers how many it has with the segment.
+fn put_segment(octets: &mut [u8; 253], end: usize, header: u8, offset: &[u8], part: &[u8]) -> usize
+    requires some { 2 ≤ end }
+    requires room { end + 2 + length offset.now + length part.now ≤ 253 }
+    ensures count { result ≡ end + 2 + length offset.now + length part.now }
+    ensures put { (first long : ℕ) (rest : List ℕ) → take end octets.old ≡ first ∷ long ∷ rest
+        → take result octets.new ≡ first ∷ (result - 2)
+        ∷ (rest ++ header ∷ (length offset.now + length part.now) ∷ (offset.now ++ part.now)) }
 {
-    let body = len + 2;
+    let body = end + 2;
     let behind = body + offset.len();
-    let end = behind + part.len();
-    octets[len] = header;
-    octets[len + 1] = (offset.len() + part.len()) as u8;
+    let whole = behind + part.len();
+    octets[end] = header;
+    octets[end + 1] = (offset.len() + part.len()) as u8;
     octets[body..behind].copy_from_slice(offset);
-    octets[behind..end].copy_from_slice(part);
-    end
+    octets[behind..whole].copy_from_slice(part);
+    octets[1] = (whole - 2) as u8;
+    whole
 }

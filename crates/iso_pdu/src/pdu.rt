@@ -48,12 +48,18 @@ fn read_fields<'a>(from: &'a [u8], max_pdu: u8) -> Result<Pdu<'a>, PduFault>
     if max_pdu < *count {
         return Err(PduFault::TooLong);
     }
-    match *header % 4 {
-        0 => Ok(Pdu::End(payload)),
-        1 => Ok(Pdu::Fragment(payload)),
-        2 => Ok(Pdu::Framed(Segments::of(payload)?)),
-        _ => Ok(Pdu::Control(payload)),
+    let llid = *header % 4;
+    if llid < 2 {
+        return Ok(if llid == 0 {
+            Pdu::End(payload)
+        } else {
+            Pdu::Fragment(payload)
+        });
     }
+    if llid == 2 {
+        return Ok(Pdu::Framed(Segments::of(payload)?));
+    }
+    Ok(Pdu::Control(payload))
 }
 
 /// Writes the PDU of a fragment of at most 251 octets, and answers how many octets it has.

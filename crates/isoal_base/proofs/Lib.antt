@@ -1,5 +1,4 @@
 mod Ranges
 mod Heards
-mod Runs
 mod Steps
 pub mod Citable

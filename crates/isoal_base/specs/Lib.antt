@@ -1,4 +1,3 @@
 pub mod Air
 pub mod Hearing
-pub mod Runs
 pub mod Stays

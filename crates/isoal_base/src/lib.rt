@@ -3,7 +3,6 @@
 
 mod heard;
 mod hearing;
-mod in_call;
 mod laid;
 mod laid_pdus;
 mod laws;
@@ -11,7 +10,6 @@ mod spare;
 
 pub use heard::Heard;
 pub use hearing::Hearing;
-pub use in_call::InCall;
 pub use laid::{EventLaid, PutFault};
 pub use laid_pdus::LaidPdus;
 pub use laws::{heard_is_first, receiver_stands};

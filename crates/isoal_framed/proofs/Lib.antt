@@ -10,7 +10,6 @@ mod Joins
 mod Only
 mod Packings
 mod Rings
-mod Runs
 mod Segments
 mod Senders
 mod Sendings

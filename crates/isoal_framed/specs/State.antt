@@ -5,7 +5,6 @@ pub mod Nexts
 pub mod Packings
 pub mod Places
 pub mod Receivers
-pub mod Runs
 pub mod Senders
 pub mod Streams
 pub mod Windows

@@ -42,16 +42,16 @@ pub(crate) fn take_places<T: UnitTaker>(
 {
     let mut handed = Ok(());
     'places: for _ in 0..count {
-        let place = store.places.turn();
         handed = take_pdu(
             stream,
             event,
-            place.pdu(),
+            store.places.first(),
             stream.group.info.max_pdu,
             &mut store.undecided,
             handed,
             taker,
         );
+        store.places.turn();
     }
     handed
 }

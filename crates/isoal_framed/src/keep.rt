@@ -18,7 +18,7 @@ pub(crate) fn answer_at(stream: &Stream, event: u64, places: &Places, number: u6
     if number < first {
         return Heard::Late;
     }
-    if number >= first + stream.window() as u64 {
+    if number >= first + places.count() as u64 {
         return Heard::Beyond;
     }
     if !places.is_empty((number - first) as usize) {
@@ -48,7 +48,7 @@ pub(crate) fn keep(
     if number < first {
         return Heard::Late;
     }
-    if number >= first + stream.window() as u64 {
+    if number >= first + places.count() as u64 {
         return Heard::Beyond;
     }
     let index = (number - first) as usize;

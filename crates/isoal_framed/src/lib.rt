@@ -11,7 +11,6 @@ mod laws;
 mod next;
 mod packing;
 mod place;
-mod run;
 mod store;
 mod stream;
 mod undecided;
@@ -23,4 +22,3 @@ pub use air_laws::{
 pub use framed_in::FramedIn;
 pub use framed_out::FramedOut;
 pub use laws::{a_close_gains_units, fate_is_decided, framed_units_are_struck};
-pub use run::run_calls;

@@ -103,11 +103,9 @@ pub(crate) fn pack_pdu(
         → OnOk result ((own : List Act) × (pdus_ended own ≡ pdus_ended acts)
         × Going max_pdu units anchor earlier (ends ∷ own) packing.new.past packing.new.sent max_pdu [] pdus.new packing.new.stale) }
 {
-    packing.pdu = FramedPdu::new(max_pdu);
+    packing.pdu.restart(max_pdu);
     'acts: while put_next(queue, anchor, packing)? {}
-    let mut octets = [0u8; 253];
-    let count = packing.pdu.write(&mut octets);
-    pdus.push(&octets[..count])
+    pdus.push(packing.pdu.as_slice())
 }
 
 /// Fills the PDUs of an event, one behind the other, in the place of others.

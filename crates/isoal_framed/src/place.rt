@@ -1,5 +1,5 @@
 //! The places of a window, in a ring from the first number of the open event on.
-ghost use Rattle.std.specs.Prelude.{◌≡◌, ◌≤◌, ◌<◌, ◌+◌, ◌^◌, [], ◌∷◌, ◌++◌, length, drop, replicate, not, is_some, slice_set, slice_index_or, Some, None, IfOk};
+ghost use Rattle.std.specs.Prelude.{◌≡◌, ◌≤◌, ◌<◌, ◌+◌, ◌^◌, [], ◌∷◌, ◌++◌, length, take, drop, replicate, not, is_some, slice_set, slice_index_or, vec_len, None, IfOk};
 ghost use Rattle.isoal_base.specs.Hearing.{read_as};
 ghost use Rattle.isoal_framed.specs.Tokens.{segmented};
 
@@ -9,30 +9,32 @@ use iso_pdu::{Pdu, read_pdu};
 use std::alloc::Global;
 
 /// What is kept of a payload number: its PDU, or no octets.
-#[derive(Clone, Copy)]
+#[derive(Drop)]
 pub(crate) struct Place {
-    octets: [u8; 255],
-    count: u8,
+    octets: Vec<u8>,
+    count: usize,
+    ghost room: { vec_len octets ≡ 253 },
+    ghost within: { count ≤ 253 },
 }
 
 impl Place {
     ghost use Rattle.isoal_framed.specs.State.Places.{octets_in};
 
     /// A place at which nothing is kept.
-    fn empty() -> Place
-        ensures { octets_in result ≡ [] }
+    fn empty(alloc: Global) -> Result<Place, Memory>
+        ensures { IfOk result (λ place. octets_in place ≡ []) }
     {
-        Place {
-            octets: [0; 255],
+        Ok(Place {
+            octets: vec![in alloc; 0u8; 253]?,
             count: 0,
-        }
+        })
     }
 
     /// The PDU.
-    pub(crate) fn pdu(&self) -> &[u8]
+    fn pdu(&self) -> &[u8]
         ensures { result.now ≡ octets_in self.now }
     {
-        &self.octets[..usize::from(self.count)]
+        &self.octets[..self.count]
     }
 
     /// Keeps a PDU.
@@ -40,9 +42,26 @@ impl Place {
         requires { length pdu.now ≤ 253 }
         ensures { octets_in self.new ≡ pdu.now }
     {
-        self.octets[..pdu.len()].copy_from_slice(pdu);
-        self.count = pdu.len() as u8;
+        put_front(&mut self.octets, pdu);
+        self.count = pdu.len();
     }
+
+    /// Keeps nothing more.
+    fn clear(&mut self)
+        ensures { octets_in self.new ≡ [] }
+    {
+        self.count = 0;
+    }
+}
+
+/// Puts octets at the front of a buffer.
+fn put_front(buffer: &mut Vec<u8>, octets: &[u8])
+    requires { length octets.now ≤ vec_len buffer.old }
+    ensures room { vec_len buffer.new ≡ vec_len buffer.old }
+    ensures front { take (length octets.now) buffer.new.items ≡ octets.now }
+{
+    let end = octets.len();
+    buffer[0..end].copy_from_slice(octets);
 }
 
 /// Places for the PDUs of a window.
@@ -54,7 +73,7 @@ pub(crate) struct Places {
 }
 
 impl Places {
-    ghost use Rattle.isoal_framed.specs.State.Places.{entry_in, kept_of};
+    ghost use Rattle.isoal_framed.specs.State.Places.{kept_of};
 
     /// So many places, all empty.
     pub(crate) fn new(alloc: Global, count: usize, max_pdu: u8) -> Result<Places, Memory>
@@ -64,9 +83,16 @@ impl Places {
     {
         let mut ring = HeapCircularBuffer::with_capacity(alloc, count)?;
         'places: for _ in 0..count {
-            let _ = ring.push_back(Place::empty());
+            let _ = ring.push_back(Place::empty(alloc)?);
         }
         Ok(Places { max_pdu, ring })
+    }
+
+    /// How many places they are.
+    pub(crate) fn count(&self) -> usize
+        ensures { result ≡ length self.now.ring.items }
+    {
+        self.ring.len()
     }
 
     /// Whether nothing is kept at this place.
@@ -93,20 +119,28 @@ impl Places {
         }
     }
 
+    /// What is kept at the first place.
+    pub(crate) fn first(&self) -> &[u8]
+        requires { 0 < length self.now.ring.items }
+        ensures { read_as segmented self.now.max_pdu result.now ≡ slice_index_or (kept_of self.now) 0 None }
+    {
+        match self.ring.get(0) {
+            Some(place) => place.pdu(),
+            None => &[],
+        }
+    }
+
     /// Takes the first place out, and puts it back, empty, at the end.
-    pub(crate) fn turn(&mut self) -> Place
+    pub(crate) fn turn(&mut self)
         requires { 0 < length self.old.ring.items }
         ensures places { length self.new.ring.items ≡ length self.old.ring.items }
         ensures max_pdu { self.new.max_pdu ≡ self.old.max_pdu }
-        ensures first { entry_in self.old.max_pdu result ≡ slice_index_or (kept_of self.old) 0 None }
         ensures kept { kept_of self.new ≡ drop 1 (kept_of self.old) ++ None ∷ [] }
     {
-        let place = match self.ring.pop_front() {
-            Some(place) => place,
-            None => Place::empty(),
-        };
-        let _ = self.ring.push_back(Place::empty());
-        place
+        if let Some(mut place) = self.ring.pop_front() {
+            place.clear();
+            let _ = self.ring.push_back(place);
+        }
     }
 }
 

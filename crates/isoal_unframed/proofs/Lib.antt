@@ -6,7 +6,6 @@ mod Kept
 mod Laid
 mod Places
 mod Rows
-mod Runs
 mod SlotSteps
 mod Stands
 mod Struck

@@ -14,7 +14,9 @@ use Rattle.isoal_base.specs.Stays.{Stay, window_of}
 use Rattle.isoal_base.specs.Hearing.{placing}
 use Rattle.isoal_base.proofs.Citable.{map_same}
 use Rattle.isoal_unframed.specs.State.Cells.{turned}
+use Rattle.isoal_unframed.specs.State.Opening.{IsOpen}
 use Rattle.isoal_unframed.specs.State.Streams.{place_of, place_at}
+use Rattle.isoal_unframed.specs.declared.stream.OpenEvent.{OpenEvent}
 use Rattle.isoal_unframed.specs.Units.{unit_of, held_in}
 use Rattle.isoal_unframed.specs.State.Windows.{handed_of, time_of, owed_at, owed_of, held_at, held_in_event, slot_in}
 use Rattle.isoal_unframed.proofs.Places.{slot_fits, event_fits}
@@ -80,34 +82,64 @@ not_same false false same = refl
 not_same true false same = absurd (false≢true same)
 not_same false true same = absurd (true≢false same)
 
--- what `keep` answers where the number is in the window
-pub is_placed : (info : BigInfo) (event number place bn : ℕ) (kept : List (Option Content)) (empty full : Bool) → bn ≡ info.bn
-    → length kept ≡ window_of info → place_of info event ≤ length kept → event * bn ≤ number → number < event * bn + window_of info
-    → place ≡ place_at info event (number - event * bn)
-    → empty ≡ not (is_some (get_or kept place None)) → empty ≡ not full
-    → placing info event (turned (place_of info event) kept) number ≡ cond full Repeat Kept
-is_placed info event number place bn kept empty full same size within least below is_place is_empty is_full =
-    let least' : event * info.bn ≤ number = subst (λ m. event * m ≤ number) same least in
-    let below' : number < event * info.bn + window_of info = subst (λ m. number < event * m + window_of info) same below in
-    let is_place' : place ≡ place_at info event (number - event * info.bn) = is_place ∙ ap (λ m. place_at info event (number - event * m)) same in
-    let tested : is_some (get_or kept place None) ≡ full = not_same (is_some (get_or kept place None)) full (sym is_empty ∙ is_full) in
-    is_inside info event number (turned (place_of info event) kept) least' below'
-    ∙ ap (λ o. cond (is_some o) Repeat Kept)
-    (kept_at_place info event (number - event * info.bn) kept size within (omega arith) ∙ ap (λ p. get_or kept p None) (sym is_place'))
-    ∙ ap (λ b. cond b Repeat Kept) tested
-
-pub is_put : (info : BigInfo) (event number place bn : ℕ) (kept new : List (Option Content)) (entry : Option Content) → bn ≡ info.bn
-    → length kept ≡ window_of info → place_of info event ≤ length kept → event * bn ≤ number → number < event * bn + window_of info
-    → place ≡ place_at info event (number - event * bn) → new ≡ set kept place entry
-    → turned (place_of info event) new ≡ set (turned (place_of info event) kept) (number - event * info.bn) entry
-is_put info event number place bn kept new entry same size within least below is_place is_new =
-    let least' : event * info.bn ≤ number = subst (λ m. event * m ≤ number) same least in
-    let below' : number < event * info.bn + window_of info = subst (λ m. number < event * m + window_of info) same below in
-    ap (turned (place_of info event)) (is_new ∙ ap (λ p. set kept p entry) (is_place ∙ ap (λ m. place_at info event (number - event * m)) same))
-    ∙ set_at_place info event (number - event * info.bn) kept entry size within (omega arith)
-
 pub place_within : (info : BigInfo) (event : ℕ) → place_of info event + info.bn ≤ window_of info
 place_within info event = event_fits event (horizon_of info) info.bn
+
+-- what `keep` answers where the number is in the window
+pub is_placed : (info : BigInfo) (current : OpenEvent) (number place : ℕ) (kept : List (Option Content)) (empty full : Bool) → IsOpen info current
+    → length kept ≡ window_of info → current.number ≤ number → number - current.number < window_of info
+    → place ≡ place_at info current.event (number - current.number)
+    → empty ≡ not (is_some (get_or kept place None)) → empty ≡ not full
+    → placing info current.event (turned (place_of info current.event) kept) number ≡ cond full Repeat Kept
+is_placed info current number place kept empty full is size least below is_place is_empty is_full =
+    let within : place_of info current.event + info.bn ≤ window_of info = place_within info current.event in
+    let least' : current.event * info.bn ≤ number = subst (λ n. n ≤ number) is.number least in
+    let below' : number < current.event * info.bn + window_of info = omega (arith, is.number) in
+    let is_place' : place ≡ place_at info current.event (number - current.event * info.bn) =
+    is_place ∙ ap (λ n. place_at info current.event (number - n)) is.number in
+    let tested : is_some (get_or kept place None) ≡ full = not_same (is_some (get_or kept place None)) full (sym is_empty ∙ is_full) in
+    is_inside info current.event number (turned (place_of info current.event) kept) least' below'
+    ∙ ap (λ o. cond (is_some o) Repeat Kept)
+    (kept_at_place info current.event (number - current.event * info.bn) kept size (omega arith) (omega arith) ∙ ap (λ p. get_or kept p None) (sym is_place'))
+    ∙ ap (λ b. cond b Repeat Kept) tested
+
+pub is_put : (info : BigInfo) (current : OpenEvent) (number place : ℕ) (kept new : List (Option Content)) (entry : Option Content) → IsOpen info current
+    → length kept ≡ window_of info → current.number ≤ number → number - current.number < window_of info
+    → place ≡ place_at info current.event (number - current.number) → new ≡ set kept place entry
+    → turned (place_of info current.event) new ≡ set (turned (place_of info current.event) kept) (number - current.event * info.bn) entry
+is_put info current number place kept new entry is size least below is_place is_new =
+    let within : place_of info current.event + info.bn ≤ window_of info = place_within info current.event in
+    let below' : number < current.event * info.bn + window_of info = omega (arith, is.number) in
+    let least' : current.event * info.bn ≤ number = subst (λ n. n ≤ number) is.number least in
+    ap (turned (place_of info current.event))
+    (is_new ∙ ap (λ p. set kept p entry) (is_place ∙ ap (λ n. place_at info current.event (number - n)) is.number))
+    ∙ set_at_place info current.event (number - current.event * info.bn) kept entry size (omega arith) (omega arith)
+
+-- where the next event begins, before the end of the ring and at it
+pub next_place : (info : BigInfo) (event behind : ℕ) → behind ≡ place_of info event + info.bn → behind < window_of info
+    → behind ≡ place_of info (event + 1)
+next_place info event behind is below =
+    let next : (event % (horizon_of info + 1) + 1) * info.bn ≡ place_of info event + info.bn =
+    add-mul (event % (horizon_of info + 1)) 1 info.bn ∙ omega arith in
+    elim (next_turn event (horizon_of info + 1) (omega arith)) [
+      | inl more ↦ is ∙ sym next ∙ ap (λ t. t * info.bn) (sym more.1)
+      | inr round ↦
+          let full : place_of info event + info.bn ≡ window_of info = sym next ∙ ap (λ t. t * info.bn) round.0 in
+          omega (arith, is, full, below)
+    ]
+
+pub first_place : (info : BigInfo) (event behind : ℕ) → behind ≡ place_of info event + info.bn → 0 < info.bn → window_of info ≤ behind
+    → 0 ≡ place_of info (event + 1)
+first_place info event behind is some past =
+    let next : (event % (horizon_of info + 1) + 1) * info.bn ≡ place_of info event + info.bn =
+    add-mul (event % (horizon_of info + 1)) 1 info.bn ∙ omega arith in
+    elim (next_turn event (horizon_of info + 1) (omega arith)) [
+      | inl more ↦
+          let here : place_of info (event + 1) + info.bn ≤ window_of info = place_within info (event + 1) in
+          let at : place_of info (event + 1) ≡ place_of info event + info.bn = ap (λ t. t * info.bn) more.1 ∙ next in
+          omega (arith, is, past, here, at, some)
+      | inr round ↦ sym (ap (λ t. t * info.bn) round.1 ∙ omega arith)
+    ]
 
 pub turned_replicate : (place n : ℕ) → place ≤ n → turned place (replicate n None) ≡ replicate n None
 turned_replicate place n within =
@@ -139,3 +171,9 @@ closed_kept info event was handed now size front behind is =
           ap (λ p. turned p now) (ap (λ t. t * info.bn) round.1 ∙ none)
           ∙ turned_round (place_of info event) info.bn was now full same
     ]
+
+-- the places of an open event are within the ring
+pub place_at_most : (info : BigInfo) (current : OpenEvent) → IsOpen info current → current.place + info.bn ≤ window_of info
+place_at_most info current is =
+    let within : place_of info current.event + info.bn ≤ window_of info = place_within info current.event in
+    omega (arith, within, is.place)

@@ -1,7 +1,7 @@
 pub mod Cells
+pub mod Opening
 pub mod Rings
 pub mod Receivers
-pub mod Runs
 pub mod Sender
 pub mod Streams
 pub mod Windows

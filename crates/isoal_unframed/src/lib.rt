@@ -4,8 +4,8 @@
 mod air_laws;
 mod cell;
 mod laws;
+mod parts;
 mod ring;
-mod run;
 mod slots;
 mod stream;
 mod unframed_in;
@@ -14,6 +14,5 @@ mod window;
 
 pub use air_laws::{a_slot_carries_its_unit, each_number_is_laid, slots_add_up, the_rest_waits};
 pub use laws::{longest_front_is_held, unit_is_assembled, units_are_struck};
-pub use run::run_calls;
 pub use unframed_in::UnframedIn;
 pub use unframed_out::UnframedOut;

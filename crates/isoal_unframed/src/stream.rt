@@ -33,7 +33,16 @@ pub(crate) struct Stream {
     pub(crate) ghost places_are: { places ≡ per_unit_of group.info },
 }
 
+/// An event that is open: its first payload number, and the place of this number in a ring of H + 1 events.
+#[derive(Clone, Copy)]
+pub(crate) struct OpenEvent {
+    pub(crate) event: u64,
+    pub(crate) number: u64,
+    pub(crate) place: usize,
+}
+
 impl Stream {
+    ghost use Rattle.isoal_unframed.specs.State.Opening.{IsOpen};
     ghost use Rattle.isoal_unframed.specs.State.Streams.{stay_of, place_of, place_at};
 
     /// How many numbers the H + 1 events of the window have.
@@ -53,14 +62,54 @@ impl Stream {
         turn * usize::from(self.group.info.bn)
     }
 
-    /// The place of the number at this index of the window of an event.
-    pub(crate) fn place_at(&self, event: u64, index: usize) -> usize
-        requires { index < window_of self.now.group.info }
-        ensures exact { result ≡ place_at self.now.group.info event index }
+    /// An event, opened.
+    pub(crate) fn opened(&self, event: u64) -> OpenEvent
+        requires { event ≤ 2 ^ 39 }
+        ensures is_open { IsOpen self.now.group.info result }
+        ensures event { result.event ≡ event }
+    {
+        OpenEvent {
+            event,
+            number: event * u64::from(self.group.info.bn),
+            place: self.place(event),
+        }
+    }
+
+    /// The event behind an open one, opened.
+    pub(crate) fn next(&self, current: OpenEvent) -> OpenEvent
+        requires is_open { IsOpen self.now.group.info current }
+        requires event { current.event < 2 ^ 39 }
+        ensures is_open { IsOpen self.now.group.info result }
+        ensures event { result.event ≡ current.event + 1 }
+    {
+        let event = current.event + 1;
+        OpenEvent {
+            event,
+            number: event * u64::from(self.group.info.bn),
+            place: self.place_behind(current),
+        }
+    }
+
+    /// Where the event behind an open one begins.
+    #[tactic(auto, using(crate::proofs::Windows::place_at_most))]
+    fn place_behind(&self, current: OpenEvent) -> usize
+        requires { IsOpen self.now.group.info current }
+        ensures { result ≡ place_of self.now.group.info (current.event + 1) }
+    {
+        let behind = current.place + usize::from(self.group.info.bn);
+        if behind < self.window() { behind } else { 0 }
+    }
+
+    /// The place of the number at this index of the window of an open event.
+    #[tactic(auto, using(crate::proofs::Windows::place_at_most))]
+    pub(crate) fn place_at(&self, current: OpenEvent, index: usize) -> usize
+        requires is_open { IsOpen self.now.group.info current }
+        requires index { index < window_of self.now.group.info }
+        ensures exact { result ≡ place_at self.now.group.info current.event index }
         ensures within { result < window_of self.now.group.info }
     {
         let window = self.window();
-        let place = self.place(event) + index;
+        let place = current.place + index;
         if place < window {
             place
         } else {

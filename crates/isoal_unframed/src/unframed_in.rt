@@ -8,12 +8,12 @@ ghost use Rattle.isoal_unframed.specs.Histories.{units_of};
 ghost use Rattle.isoal_unframed.specs.Units.{unframed};
 ghost use Rattle.isoal_unframed.specs.State.Windows.{Stands, after_hear, after_close, owed, held_in_event};
 
+use crate::parts::part_in;
 use crate::ring::Ring;
-use crate::stream::{Stream, numbers_of};
+use crate::stream::{OpenEvent, Stream, numbers_of};
 use crate::window::{answer_at, hand_event, held, keep};
 use bcast_base::{Bis, Memory};
 use big_info::Group;
-use iso_pdu::{Pdu, read_pdu};
 use isoal_base::Heard;
 use std::alloc::Global;
 use std::marker::Model;
@@ -24,7 +24,7 @@ use unit_outlets::{TakerFault, UnitTaker};
 #[derive(Drop)]
 pub struct UnframedIn {
     stream: Stream,
-    event: u64,
+    current: OpenEvent,
     ring: Ring,
 }
 
@@ -39,11 +39,11 @@ impl Model for UnframedIn {
 
     ghost view = { λ a. record {
       stay = stay_of a.stream;
-      event = a.event;
-      kept = turned (place_of a.stream.group.info a.event) (kept_of a.ring);
+      event = a.current.event;
+      kept = turned (place_of a.stream.group.info a.current.event) (kept_of a.ring);
     } };
 
-    ghost invariant = { λ a. IsReceiver a.stream a.event a.ring };
+    ghost invariant = { λ a. IsReceiver a.stream a.current a.ring };
 }
 
 impl UnframedIn {
@@ -79,7 +79,7 @@ impl UnframedIn {
         };
         Ok(UnframedIn {
             stream,
-            event: first_event,
+            current: stream.opened(first_event),
             ring: Ring::new(alloc, stream.window(), group.info.max_pdu)?,
         })
     }
@@ -90,7 +90,7 @@ impl UnframedIn {
         ensures bound { result ≤ 2 ^ 39 }
         ensures kept { length self.now.kept ≡ window_of self.now.stay.info }
     {
-        self.event
+        self.current.event
     }
 
     /// Hears a PDU under its payload number, and answers the first that holds: the octets are no PDU; it is none of an
@@ -108,11 +108,9 @@ impl UnframedIn {
     pub fn would_answer(&self, number: u64, pdu: &[u8]) -> Heard
         ensures { result ≡ answer_of unframed self.now.stay.info self.now.event self.now.kept number pdu.now }
     {
-        match read_pdu(pdu, self.stream.group.info.max_pdu) {
-            Err(fault) => Heard::Malformed(fault),
-            Ok(Pdu::Fragment(_)) => answer_at(&self.stream, self.event, &self.ring, number),
-            Ok(Pdu::End(_)) => answer_at(&self.stream, self.event, &self.ring, number),
-            Ok(_) => Heard::WrongKind,
+        match part_in(pdu, self.stream.group.info.max_pdu) {
+            Ok(_) => answer_at(&self.stream, self.current, &self.ring, number),
+            Err(answer) => answer,
         }
     }
 
@@ -136,22 +134,9 @@ impl UnframedIn {
         ensures step { self.new ≡ after_hear number pdu.now self.old }
         ensures bounds { Bounds self.old.stay.info }
     {
-        match read_pdu(pdu, self.stream.group.info.max_pdu) {
-            Err(fault) => Heard::Malformed(fault),
-            Ok(Pdu::Fragment(part)) => {
-                keep(
-                    &self.stream,
-                    self.event,
-                    &mut self.ring,
-                    number,
-                    false,
-                    part,
-                )
-            }
-            Ok(Pdu::End(part)) => {
-                keep(&self.stream, self.event, &mut self.ring, number, true, part)
-            }
-            Ok(_) => Heard::WrongKind,
+        match part_in(pdu, self.stream.group.info.max_pdu) {
+            Ok(part) => keep(&self.stream, self.current, &mut self.ring, number, part),
+            Err(answer) => answer,
         }
     }
 
@@ -164,11 +149,10 @@ impl UnframedIn {
         ensures bounds { Bounds self.old.stay.info }
         ensures plain { self.old.stay.info.framing ≡ 0 }
     {
-        let handed = hand_event(&self.stream, self.event, &mut self.ring, taker);
-        let first = self.stream.place(self.event);
+        let handed = hand_event(&self.stream, self.current, &mut self.ring, taker);
         self.ring
-            .clear(first, usize::from(self.stream.group.info.bn));
-        self.event += 1;
+            .clear(self.current.place, usize::from(self.stream.group.info.bn));
+        self.current = self.stream.next(self.current);
         handed
     }
 
@@ -177,6 +161,6 @@ impl UnframedIn {
         ensures held { result ≡ held_in_event self.now.stay self.now.kept }
         ensures bound { result ≤ per_event_of self.now.stay.info * self.now.stay.info.max_sdu }
     {
-        held(&self.stream, self.event, &self.ring)
+        held(&self.stream, self.current, &self.ring)
     }
 }

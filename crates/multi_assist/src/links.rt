@@ -1,4 +1,5 @@
-ghost use Rattle.std.specs.Prelude.{ℕ, ◌≡◌, ◌≢◌, ◌↔◌, ◌≤◌, ◌<◌, ◌∷◌, [], map, is_some, true, Some, None, Ok, Err, option_map, slice_index_or, slice_set, IfOk, OnOk, OnErr};
+ghost use Rattle.std.specs.Prelude.{ℕ, ◌≡◌, ◌≢◌, ◌↔◌, ◌≤◌, ◌<◌, ◌∷◌, [], map, is_some, true};
+ghost use Rattle.std.specs.Prelude.{Some, None, Ok, Err, option_map, slice_index_or, slice_set, IfOk, OnOk, OnErr};
 ghost use Rattle.std.specs.Borrow.{sem};
 ghost use Rattle.multi_assist.specs.Mtus.{IsMtu};
 ghost use Rattle.multi_assist.specs.declared.fault.LinkFault.TheVariants.{LinkTwice as Twice};

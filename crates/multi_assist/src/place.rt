@@ -1,7 +1,8 @@
 ghost use Rattle.std.specs.Prelude.{◌≡◌, ◌<◌, [], Some, None, is_some, option_map, IfOk, OnOk, OnErr, OnSome};
 ghost use Rattle.std.specs.VecDeque.{deque_len, deque_capacity};
 ghost use Rattle.std.specs.Borrow.{sem};
-ghost use Rattle.multi_assist.specs.State.Places.{LendsAssistant, assistant_in, copy_for, first_of, link_of, with_copy, with_notice, without_first};
+ghost use Rattle.multi_assist.specs.State.Places.{LendsAssistant, assistant_in, copy_for, first_of};
+ghost use Rattle.multi_assist.specs.State.Places.{link_of, with_copy, with_notice, without_first};
 
 use assistant_machine::AssistJoined;
 use bcast_base::Memory;

@@ -1,4 +1,5 @@
-ghost use Rattle.std.specs.Prelude.{◌≡◌, ◌≤◌, ◌<◌, ◌+◌, ◌-◌, ◌%◌, ◌^◌, ◌∷◌, [], List, Some, None, false, is_some, IfOk, IfErr, IfSome, OnOk, OnErr};
+ghost use Rattle.std.specs.Prelude.{◌≡◌, ◌≤◌, ◌<◌, ◌+◌, ◌-◌, ◌%◌, ◌^◌, ◌∷◌, [], List};
+ghost use Rattle.std.specs.Prelude.{Some, None, false, is_some, IfOk, IfErr, IfSome, OnOk, OnErr};
 ghost use Rattle.std.specs.Option.{option_map};
 ghost use Rattle.announcement_train.specs.Layout.{IsTrain};
 ghost use Rattle.iso_pdu.specs.Control.{terminate};
@@ -7,7 +8,8 @@ ghost use Rattle.iso_pdu.specs.Spelling.{pdu};
 ghost use Rattle.isoal_base.specs.Air.{Air as StreamAir};
 ghost use Rattle.source_machine.specs.Airs.{AreAirs, pdu_of, stale_of};
 ghost use Rattle.source_machine.specs.Calls.{Call, give as gives, event as performs, last_of, next_anchor_of, next_of};
-ghost use Rattle.source_machine.specs.Faults.{air_fault, announce_fault, answer_of, event_fault, give_fault, misfit_of, refused_event, refused_train, refused_unit};
+ghost use Rattle.source_machine.specs.Faults.{air_fault, announce_fault, answer_of, event_fault, give_fault};
+ghost use Rattle.source_machine.specs.Faults.{misfit_of, refused_event, refused_train, refused_unit};
 ghost use Rattle.source_machine.specs.Setups.{IsChecked, started};
 ghost use Rattle.source_machine.specs.State.Sources.{AfterFault, StandsFor, anchor_in, group_in};
 

@@ -1,4 +1,5 @@
-ghost use Rattle.std.specs.Prelude.{◌≡◌, ◌≤◌, ◌<◌, ◌-◌, ◌^◌, ◌*◌, ◌++◌, ◌∷◌, ℕ, List, [], length, Some, None, false, true, is_some, slice_set, IfOk, IfErr, OnOk, OnErr};
+ghost use Rattle.std.specs.Prelude.{◌≡◌, ◌≤◌, ◌<◌, ◌-◌, ◌^◌, ◌*◌, ◌++◌, ◌∷◌, ℕ, List, []};
+ghost use Rattle.std.specs.Prelude.{length, Some, None, false, true, is_some, slice_set, IfOk, IfErr, OnOk, OnErr};
 ghost use Rattle.circular_buffer.specs.Buffer.{keep_last};
 ghost use Rattle.big_info.specs.Widths.{FitsWidths};
 ghost use Rattle.isoal_base.specs.Air.{Air as StreamAir};
@@ -255,12 +256,8 @@ fn perform(
     ensures left { IfErr result (λ fault. EventLeaves fault place.old place.new) }
     ensures air { OnErr result (since.new ≡ since.old) }
 {
-    let Some(source) = place else {
-        return Err(EventFault::Memory);
-    };
-    let Some(begun) = since else {
-        return Err(EventFault::Memory);
-    };
+    let Some(source) = place else { unreachable!() };
+    let Some(begun) = since else { unreachable!() };
     match source.event() {
         Ok(sent) => {
             begun.put(sent.pdus);

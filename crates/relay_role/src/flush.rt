@@ -20,7 +20,8 @@ fn offer(source: &mut SourceStreaming, to: Bis, unit: &Unit) -> Result<Option<Dr
         Err(GiveFault::UnitTooLong) => Ok(Some(DropName::UnitTooLong)),
         Err(GiveFault::TimeOrder) => Ok(Some(DropName::TimeOrder)),
         Err(GiveFault::Backlog) => Ok(Some(DropName::Backlog)),
-        Err(_) => Err(Memory),
+        Err(GiveFault::NoSuchBis) => unreachable!(),
+        Err(GiveFault::Memory) => Err(Memory),
     }
 }
 

@@ -12,8 +12,8 @@ use Rattle.source_machine.specs.Calls.{Call, give, event, events, stream_calls}
 use Rattle.transcript_text.specs.declared.refusal.Refusal.TheVariants.{NoOutlet}
 use Rattle.scenario_text.specs.declared.step.Step.{Step}
 use Rattle.scenario_text.specs.declared.step.Step.TheVariants as kinds
-use Rattle.scenario_writing.specs.Draws.{drawn, next_state}
-use Rattle.scenario_writing.specs.Generated.{unit_of}
+use Rattle.scenario_lines.specs.Draws.{drawn, next_state}
+use Rattle.scenario_lines.specs.Generated.{unit_of}
 use Rattle.scenario_history.specs.Steps.{version_of}
 use Rattle.scenario_history.specs.Refusals.{refusal_of, has_beyond}
 use Rattle.sink_history.specs.Refusals.{refuse_if}

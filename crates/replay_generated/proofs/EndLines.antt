@@ -5,7 +5,7 @@ use Rattle.bcast_io.specs.TextLines.{TextLine, plain}
 use Rattle.scenario_text.specs.Steps.{read_of, step_of}
 use Rattle.scenario_text.specs.Table.{first_row_of, row_of}
 use Rattle.scenario_text.specs.declared.step.Step.TheVariants.{End}
-use Rattle.scenario_writing.specs.Generated.{generated_lines}
+use Rattle.scenario_lines.specs.Generated.{generated_lines}
 use Rattle.scenario_history.specs.Steps.{is_over, version_of}
 use Rattle.scenario_history.specs.Lines.{said_by, said_of, with_said}
 use Rattle.scenario_history.specs.Transcript.{has_end}

@@ -10,7 +10,7 @@ use Rattle.scenario_history.specs.Runs.{End, through, refused, end_of, end_unles
 use Rattle.scenario_text.specs.Lines.{LineIs}
 use Rattle.scenario_text.specs.Steps.{read_of}
 use Rattle.scenario_text.specs.declared.step.Step.{Step}
-use Rattle.scenario_writing.specs.Generated.{generated_lines, lines_from, unit_line}
+use Rattle.scenario_lines.specs.Generated.{generated_lines, lines_from, unit_line}
 use Rattle.scenario_history.specs.Lines.{a_step, refusal_said, rules_of, said_after, said_by, said_in, said_of, with_said}
 use Rattle.scenario_history.specs.Relays.{has_relay, makes_relay}
 use Rattle.scenario_laws.proofs.Gifts.Citable.{SaidNever, none_relayed, nothing_else, plain_after, says_no_relay}

@@ -5,13 +5,13 @@ use Rattle.std.specs.Prelude.{replicate, slice_index, ⊤}
 use Rattle.std.proofs.lemmas.Bool.{lt-leb, le-leb, leb-true, ne_eqb, and_parts}
 use Rattle.std.proofs.lemmas.Fmt.{decimal_digit}
 use Rattle.hex.specs.Hex.{encode_with, encode_lower, lower_digits}
-use Rattle.printed_words.specs.Lines.{joined}
-use Rattle.printed_words.specs.Digits.{digits}
+use Rattle.scenario_words.specs.Joined.{joined}
+use Rattle.scenario_words.specs.Digits.{digits}
 use Rattle.bcast_io.specs.TextLines.{plain, too_long, past, newline, line_limit, text_limit, line_of, lines_from, lines_of}
 use Rattle.bcast_io.proofs.Citable.{lines-nothing}
-use Rattle.scenario_writing.specs.Draws.{drawn, next_state}
-use Rattle.scenario_writing.specs.Generated as made
-use Rattle.scenario_writing.specs.Generated.{unit_of, unit_line, air_line, head_lines, generated_lines, generated, text_of}
+use Rattle.scenario_lines.specs.Draws.{drawn, next_state}
+use Rattle.scenario_lines.specs.Generated as made
+use Rattle.scenario_lines.specs.Generated.{unit_of, unit_line, air_line, head_lines, generated_lines, generated, text_of}
 
 -- ---- lines of a text
 

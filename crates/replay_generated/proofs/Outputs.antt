@@ -6,7 +6,7 @@ use Rattle.unit_outlets.specs.Account.{Account}
 use Rattle.unit_outlets.specs.Handed.{Handed, valid, lost}
 use Rattle.source_machine.specs.Airs.{airs_of}
 use Rattle.source_machine.specs.declared.sent.Stale.{Stale}
-use Rattle.printed_words.specs.Digits.{digits}
+use Rattle.scenario_words.specs.Digits.{digits}
 use Rattle.transcript_text.specs.Lines.{control_line, dropped_name, handed_line, hearing_name, hearing_number, numbers, stale_line}
 use Rattle.scenario_text.specs.declared.step.Step.{Step}
 use Rattle.scenario_text.specs.declared.step.Step.TheVariants as kinds

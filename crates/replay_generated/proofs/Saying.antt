@@ -3,7 +3,7 @@ use Rattle.std.proofs.Common.{◌≡◌, ℕ, zero, suc, ◌+◌, ◌%◌, ◌<�
 use Rattle.std.specs.Prelude.{replicate, ⊤}
 use Rattle.std.specs.Fmt.{digits as numerals}
 use Rattle.bcast_base.specs.Spelling.{IsOctets}
-use Rattle.printed_words.specs.Lines.{joined}
+use Rattle.scenario_words.specs.Joined.{joined}
 use Rattle.scenario_words.specs.Lines.{Values, ◌▸◌, AllHaveWords, all_words}
 use Rattle.scenario_words.proofs.CitableValues.{NoSpace, joined_split, unspaced}
 use Rattle.scenario_text.specs.declared.step.Step.{Step}
@@ -12,9 +12,9 @@ use Rattle.scenario_text.specs.Lines.{LineIs}
 use Rattle.scenario_text.specs.Table as rows
 use Rattle.scenario_text.specs.Table.{Row, first_row_of, row_of}
 use Rattle.scenario_text.proofs.Citable.{all_small, all_unspaced, made as made_of, says, takes_all_last}
-use Rattle.scenario_writing.specs.Draws.{drawn, next_state}
-use Rattle.scenario_writing.specs.Generated as made
-use Rattle.scenario_writing.specs.Generated.{unit_of, unit_line, air_line, generated_lines}
+use Rattle.scenario_lines.specs.Draws.{drawn, next_state}
+use Rattle.scenario_lines.specs.Generated as made
+use Rattle.scenario_lines.specs.Generated.{unit_of, unit_line, air_line, generated_lines}
 use Rattle.replay_generated.proofs.Accepting.{event_steps, group_step, made_steps, scenario_step, sink_step, tuned_step}
 
 -- ---- a line of a row

@@ -9,8 +9,8 @@ use Rattle.sink_history.specs.Calls as links
 use Rattle.sink_history.specs.Calls.{Call, writes_waiting}
 use Rattle.sink_history.specs.Drains.{repeated, served_out, told_out}
 use Rattle.sink_history.specs.Links.{notices_waiting, reads_waiting}
-use Rattle.printed_words.specs.Digits.{digits}
-use Rattle.printed_words.specs.Lines.{joined}
+use Rattle.scenario_words.specs.Digits.{digits}
+use Rattle.scenario_words.specs.Joined.{joined}
 use Rattle.transcript_text.specs.Lines.{line_of}
 use Rattle.transcript_text.specs.SinkLines.{Label, control_words, forged_words, on_link, plain, reply_line, reply_words, train_words, value_line}
 use Rattle.scenario_text.specs.declared.step.Step.{Step}

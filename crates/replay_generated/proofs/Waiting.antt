@@ -11,7 +11,7 @@ use Rattle.source_machine.specs.Calls.{Call, give, event, events, given, laid_wi
 use Rattle.source_machine.specs.Faults.{give_fault, event_fault}
 use Rattle.source_machine.specs.UnitFaults as give_faults
 use Rattle.source_machine.specs.declared.fault.EventFault.TheVariants as event_faults
-use Rattle.scenario_writing.specs.Generated.{unit_of}
+use Rattle.scenario_lines.specs.Generated.{unit_of}
 use Rattle.scenario_history.specs.Refusals.{counter_ends, give_refusal}
 use Rattle.replay_generated.proofs.Standing.{info_said, setup_said}
 

@@ -11,7 +11,7 @@ use Rattle.transcript_text.specs.declared.refusal.Refusal.{Refusal}
 use Rattle.transcript_text.specs.declared.refusal.Refusal.TheVariants.{NoOutlet}
 use Rattle.transcript_text.specs.Summary.{summary}
 use Rattle.scenario_history.specs.Runs.{End, through, refused, Accepted}
-use Rattle.scenario_writing.specs.Generated.{generated}
+use Rattle.scenario_lines.specs.Generated.{generated}
 use Rattle.scenario_history.specs.Airs.{MeetAirs}
 use Rattle.scenario_history.specs.Boxes.{RoomFor, SinkUnit, Took}
 use Rattle.scenario_history.specs.Lines.{rules_of, handed_on}

@@ -10,8 +10,8 @@ ghost use Rattle.replay_generated.specs.State.Comings.{Comes, IsComing, IsInRang
 
 use bcast_base::{Memory, Octets};
 use replay_steps::Machine;
+use scenario_lines::Lines;
 use scenario_text::Step;
-use scenario_writing::Lines;
 use std::alloc::Global;
 use transcript_text::Stop;
 use unit_outlets::Outlet;

@@ -14,7 +14,7 @@ ghost use Rattle.replay_steps.specs.Untaken.{UntakenRun};
 use crate::coming::{Coming, next_of, run_coming};
 use bcast_base::{Memory, Octets};
 use replay_steps::Machine;
-use scenario_writing::Lines;
+use scenario_lines::Lines;
 use std::alloc::Global;
 use transcript_text::{Counts, Refusal, Stop, put_refusal};
 use unit_outlets::Outlet;

@@ -1,5 +1,6 @@
 //! The loop over the lines of a text.
-ghost use Rattle.std.specs.Prelude.{◌≡◌, ◌≢◌, ◌<◌, ◌+◌, ◌∷◌, ℕ, List, Option, None, Some, Ok, length, map, true, IfNone, IfOk, OnOk, OnErr, IsSome};
+ghost use Rattle.std.specs.Prelude.{◌≡◌, ◌≢◌, ◌<◌, ◌+◌, ◌∷◌, ℕ, List, Option, None, Some};
+ghost use Rattle.std.specs.Prelude.{Ok, length, map, true, IfNone, IfOk, OnOk, OnErr, IsSome};
 ghost use Rattle.bcast_base.specs.Counts.{Rose};
 ghost use Rattle.bcast_io.specs.TextLines.{TextLine, lines_of, plain};
 ghost use Rattle.bcast_io.specs.State.Reading.{lines_left};
@@ -32,8 +33,8 @@ pub(crate) fn run_lines<S: ByteSource, K: ByteSink, L: Listener<K>>(
     listener: &mut L,
     outlets: &mut Vec<Box<dyn Outlet>>,
 ) -> Ending
-    ensures ended { Ended airs_of (as_told L.may_fail result) (map account outlets.old.items) (map account outlets.new.items) (S.left source.old)
-        (S.left source.new) (K.contents sink.old) (K.contents sink.new) }
+    ensures ended { Ended airs_of (as_told L.may_fail result) (map account outlets.old.items) (map account outlets.new.items)
+        (S.left source.old) (S.left source.new) (K.contents sink.old) (K.contents sink.new) }
     ensures untaken { (text : List ℕ) → S.left source.old ≡ Some text
         → UntakenRun (map account outlets.old.items) (lines_of true text) outlets.old.items outlets.new.items }
     ensures within { ReadsAtMost (S.left source.old) (S.left source.new) read_limit }

@@ -3,7 +3,8 @@ ghost use Rattle.std.specs.Prelude.{◌≡◌, ◌≤◌, ◌<◌, ◌+◌, ◌-
 ghost use Rattle.unit_outlets.specs.Account.{Account};
 ghost use Rattle.big_info.specs.declared.group.Group.{Group as Described};
 ghost use Rattle.scenario_text.specs.declared.step.Step.{Step};
-ghost use Rattle.scenario_text.specs.declared.step.Step.TheVariants.{Hear as HearStep, Air as AirStep, Inject as InjectStep, Sniff as SniffStep};
+ghost use Rattle.scenario_text.specs.declared.step.Step.TheVariants.{Hear as HearStep, Air as AirStep};
+ghost use Rattle.scenario_text.specs.declared.step.Step.TheVariants.{Inject as InjectStep, Sniff as SniffStep};
 ghost use Rattle.scenario_history.specs.Steps.{running, stage_of};
 ghost use Rattle.scenario_sources.specs.State.Standing.{SourcesStand};
 ghost use Rattle.scenario_sinks.specs.State.Standing.{SinksStand};
@@ -157,8 +158,8 @@ fn hear_spot(sources: &Sources, sinks: &mut Sinks, sink: u8, event: u64, spot: S
     requires event { event < 2 ^ 39 }
     requires stream { spot.stream < 31 }
     requires since { spot.since ≤ lose - 1 }
-    ensures { (steps : List Step) (group : Described) (n : ℕ) → n < group.info.num_bis * group.info.nse → IsSpot group.info event lose n spot
-        → OnAir steps sink event group → SourcesStand steps sources.now
+    ensures { (steps : List Step) (group : Described) (n : ℕ) → n < group.info.num_bis * group.info.nse
+        → IsSpot group.info event lose n spot → OnAir steps sink event group → SourcesStand steps sources.now
         → SinksStand (past_on_air steps sink lose n) sinks.old
         → SinksStand (past_on_air steps sink lose (n + 1)) sinks.new }
 {

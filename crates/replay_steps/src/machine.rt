@@ -6,7 +6,7 @@ ghost use Rattle.scenario_text.specs.Ranges.{IsInRange};
 
 use crate::version::Stage;
 use bcast_base::{Memory, Octets};
-use scenario_reading::{LineFault, read_line_in};
+use scenario_lines::{LineFault, read_line_in};
 use scenario_sinks::{Relays, Sinks};
 use scenario_sources::Sources;
 use scenario_text::{Step, a_line_says_one_step};

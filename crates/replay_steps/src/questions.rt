@@ -1,5 +1,5 @@
 //! What one may ask of a scenario between its lines. Nothing changes by it.
-ghost use Rattle.std.specs.Prelude.{◌≡◌, ◌≤◌, ◌<◌, ◌^◌, true, List, IfNone, IfSome, IsSome, None};
+ghost use Rattle.std.specs.Prelude.{◌≡◌, ◌≤◌, ◌<◌, ◌^◌, true, List, IfNone, IfOk, IfSome, IsSome, None};
 ghost use Rattle.bcast_io.specs.TextLines.{TextLine};
 ghost use Rattle.unit_outlets.specs.Account.{Account};
 ghost use Rattle.source_machine.specs.Airs.{airs_of};
@@ -9,11 +9,14 @@ ghost use Rattle.scenario_history.specs.Refusals.{no_place};
 ghost use Rattle.scenario_history.specs.Sinks.{sink_calls, source_of};
 ghost use Rattle.scenario_history.specs.Source.{event_back, is_heard, pdu_in};
 ghost use Rattle.scenario_history.specs.Steps.{steps_of_source};
+ghost use Rattle.scenario_history.specs.Worlds.{life};
 ghost use Rattle.scenario_sinks.specs.Hearing.{hearing_where};
+ghost use Rattle.sink_history.specs.Lives.{made_of};
+ghost use Rattle.sink_history.specs.Output.{state_where};
 ghost use Rattle.replay_steps.specs.LineMeets.{LinesStand};
 
 use crate::machine::Machine;
-use bcast_base::Bis;
+use bcast_base::{Bis, Memory, Octets};
 use isoal_base::Hearing;
 use scenario_sources::Place;
 
@@ -56,9 +59,21 @@ impl Machine {
         requires event { event ≤ 2 ^ 39 }
         ensures { (starts : List Account) (lines : List TextLine) (accounts : List Account) → LinesStand starts lines self.now accounts
             → let steps = steps_of airs_of lines in
-            result ≡ hearing_where (box_of sink steps) (source_of sink steps) (sink_calls airs_of sink steps) source event bis subevent octets.now }
+            result ≡ hearing_where (box_of sink steps) (source_of sink steps) (sink_calls airs_of sink steps)
+            source event bis subevent octets.now }
     {
         self.sinks
             .would_answer(sink, source, event, bis, subevent, octets)
+    }
+
+    /// The octets of the state of a slot of a sink, which are none where the slot is empty (Broadcast Audio Scan Service 1.0, section
+    /// 3.2): `None` where no sink of this number lives, or it has no such slot.
+    pub fn state_of(&self, sink: u8, slot: u8) -> Result<Option<Octets>, Memory>
+        requires { sink ≤ 7 }
+        ensures { (starts : List Account) (lines : List TextLine) (accounts : List Account) → LinesStand starts lines self.now accounts
+            → let steps = steps_of airs_of lines in
+            IfOk result (λ octets. octets ≡ state_where (made_of sink steps) (life sink steps) slot) }
+    {
+        self.sinks.state(sink, slot)
     }
 }

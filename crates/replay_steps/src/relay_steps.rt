@@ -1,5 +1,6 @@
 //! The step that makes a relay, and what relays do as an event of source 0 is closed.
-ghost use Rattle.std.specs.Prelude.{◌≡◌, ◌≤◌, ◌<◌, ◌^◌, ◌==◌, ◌||◌, ◌&&◌, not, ◌∷◌, [], nat_lt, ℕ, List, Option, None, Some, map, option_map};
+ghost use Rattle.std.specs.Prelude.{◌≡◌, ◌≤◌, ◌<◌, ◌^◌, ◌==◌, ◌||◌, ◌&&◌, not, ◌∷◌};
+ghost use Rattle.std.specs.Prelude.{[], nat_lt, ℕ, List, Option, None, Some, map, option_map};
 ghost use Rattle.std.specs.Option.{ForSome};
 ghost use Rattle.unit_outlets.specs.Account.{Account};
 ghost use Rattle.scenario_text.specs.declared.step.Step.{Step};

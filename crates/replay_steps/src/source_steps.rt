@@ -3,7 +3,8 @@ ghost use Rattle.std.specs.Prelude.{◌≡◌, ◌≤◌, ◌<◌, ◌^◌, ◌=
 ghost use Rattle.ltv_codec.specs.Reading.{bad_of};
 ghost use Rattle.big_info.specs.Widths.{FitsWidths};
 ghost use Rattle.scenario_text.specs.declared.step.Step.{Step};
-ghost use Rattle.scenario_text.specs.declared.step.Step.TheVariants.{Ident as IdentStep, Subgroup as SubgroupStep, Meta as MetaStep, Bis as BisStep, Cipher as CipherStep};
+ghost use Rattle.scenario_text.specs.declared.step.Step.TheVariants.{Ident as IdentStep, Subgroup as SubgroupStep, Meta as MetaStep};
+ghost use Rattle.scenario_text.specs.declared.step.Step.TheVariants.{Bis as BisStep, Cipher as CipherStep};
 ghost use Rattle.scenario_text.specs.declared.step.Step.TheVariants.{Start as StartStep, Unit as UnitStep, Source as SourceStep};
 ghost use Rattle.scenario_history.specs.Relays.{had_relay};
 ghost use Rattle.scenario_history.specs.Steps.{chosen_of, running, stage_of};

@@ -37,7 +37,8 @@ impl Spot {
         requires stream { self.stream < 31 }
         requires subevent { self.subevent < nse }
         requires since { self.since ≤ lose - 1 }
-        ensures next { (info : Info) (event n : ℕ) → info.nse ≡ nse → IsSpot info event lose n self → IsSpot info event lose (n + 1) result }
+        ensures next { (info : Info) (event n : ℕ) → info.nse ≡ nse → IsSpot info event lose n self
+            → IsSpot info event lose (n + 1) result }
         ensures within { result.since ≤ lose - 1 }
     {
         let since = one_more(self.since, lose);

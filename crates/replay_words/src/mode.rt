@@ -2,7 +2,8 @@ ghost use Rattle.std.specs.Prelude.{◌≡◌, ◌≤◌, [], Ok, map, option_ma
 ghost use Rattle.clap.specs.Words.{first_of, rows_of, found_of};
 ghost use Rattle.scenario_words.specs.Reading.{decimal_in};
 ghost use Rattle.replay_words.specs.declared.mode.Mode.TheVariants.{Replay};
-ghost use Rattle.replay_words.specs.Words.{HasNumbers, asked as mode_asked, asked_of, generating as mode_generating, is_yes, mode_of as mode_of_words};
+ghost use Rattle.replay_words.specs.Words.{HasNumbers, asked as mode_asked, asked_of};
+ghost use Rattle.replay_words.specs.Words.{generating as mode_generating, is_yes, mode_of as mode_of_words};
 
 use crate::command::matches_of;
 use bcast_base::{Items, Memory};

@@ -1,6 +1,7 @@
 //! What is done on one link.
 ghost use Rattle.std.specs.Option.{option_copied};
-ghost use Rattle.std.specs.Prelude.{ℕ, ◌≡◌, ◌≢◌, ◌∷◌, [], Some, Ok, Err, length, IfErr, IfOk, IfSome, IfNone, OnOk, slice_index_or, None, drop};
+ghost use Rattle.std.specs.Prelude.{ℕ, ◌≡◌, ◌≢◌, ◌∷◌, [], Some, Ok, Err, length};
+ghost use Rattle.std.specs.Prelude.{IfErr, IfOk, IfSome, IfNone, OnOk, slice_index_or, None, drop};
 ghost use Rattle.assistant_machine.specs.Answers.{IsCause, answer_of};
 ghost use Rattle.assistant_machine.specs.Calls as assistants;
 ghost use Rattle.assistant_machine.specs.State.Assistants.{Assistant, IsLowest, NoneWaits};
@@ -19,12 +20,12 @@ use receive_state::{ReceiveState, encode_state};
 use std::alloc::Global;
 
 /// Puts octets behind the writes that wait on a joined link.
-pub(crate) fn put(links: &mut Links, link: u8, octets: &[u8]) -> Result<(), Memory>
+pub(crate) fn put(links: &mut Links, link: u8, octets: Octets) -> Result<(), Memory>
     ensures { (before : Assistant) → assistant_in (link_at links.old link) ≡ Some before
-        → OnOk result (Takes (assistants.put octets.now ∷ []) link before links.old links.new) }
+        → OnOk result (Takes (assistants.put octets ∷ []) link before links.old links.new) }
 {
     match links.assistant(link) {
-        Some(assistant) => assistant.raw(octets),
+        Some(assistant) => assistant.raw_octets(octets),
         None => Ok(()),
     }
 }

@@ -1,12 +1,12 @@
 //! The states of a sink, and what its assistants know of them.
-ghost use Rattle.std.specs.Prelude.{◌≡◌, ◌<◌, ◌++◌, ◌∷◌, [], true, codes, decimal, None, IfOk, OnOk};
+ghost use Rattle.std.specs.Prelude.{◌≡◌, ◌<◌, ◌++◌, ◌∷◌, [], true, codes, decimal, None, Some, IfOk, OnOk};
 ghost use Rattle.std.specs.List.{concat};
 ghost use Rattle.delegator_history.specs.Values.{value};
 ghost use Rattle.sink_history.specs.Calls.{is_joined};
 ghost use Rattle.sink_history.specs.Links.{view};
 ghost use Rattle.scenario_text.specs.declared.step.Step.TheVariants.{Show};
 ghost use Rattle.sink_history.specs.Lives.{Source};
-ghost use Rattle.sink_history.specs.Output.{show_lines, view_lines, viewed};
+ghost use Rattle.sink_history.specs.Output.{show_lines, state_where, view_lines, viewed};
 ghost use Rattle.transcript_text.specs.SinkLines.{value_line};
 ghost use Rattle.scenario_sink.specs.Making.{LineMakes, LinkMakes, slot_lines};
 ghost use Rattle.scenario_sink.specs.Pasts.{SinkPast};
@@ -19,6 +19,18 @@ use receive_state::read_is_state;
 use transcript_text::{Refusal, Stop, put_link_view, put_state, put_view};
 
 impl LivingSink {
+    /// The octets of the state of a slot, which are none where it is empty (Broadcast Audio Scan Service 1.0, section 3.2): `None`
+    /// where the sink has no such slot.
+    pub fn state(&self, slot: u8) -> Result<Option<Octets>, Memory>
+        ensures { (past : SinkPast) → Lives past self.now → IfOk result (λ octets. octets ≡ state_where (Some past.made) past.life slot) }
+    {
+        if slot >= self.slots {
+            return Ok(None);
+        }
+        let state = self.delegator.read_state(slot)?;
+        Ok(Some(state))
+    }
+
     /// The octets of what the assistant of a joined link takes for the state of a slot; none where it takes the slot for empty
     /// (Broadcast Audio Scan Service 1.0, section 3.2).
     fn view(&mut self, link: u8, slot: u8) -> Result<Octets, Memory>

@@ -11,17 +11,18 @@ ghost use Rattle.scenario_sink.specs.State.Stands.{Lives};
 use crate::on_link::put;
 use crate::sink::LivingSink;
 use bass_operations::{Operation, encode_operation};
-use bcast_base::Memory;
+use bcast_base::{Memory, Octets, are_octets};
 use sink_history::links_law;
 use transcript_text::{Refusal, Stop};
 
 impl LivingSink {
     /// Puts octets behind the writes that wait on a joined link, whatever they are.
-    fn put_write(&mut self, link: u8, octets: &[u8]) -> Result<(), Memory>
+    fn put_write(&mut self, link: u8, octets: Octets) -> Result<(), Memory>
         ensures { (past : SinkPast) → Lives past self.old → is_joined link past.life ≡ true
-            → OnOk result (Lives (stayed (asked link octets.now ∷ past.life) past) self.new) }
+            → OnOk result (Lives (stayed (asked link octets ∷ past.life) past) self.new) }
     {
         links_law();
+        are_octets(octets.as_slice());
         put(&mut self.links, link, octets)
     }
 
@@ -33,14 +34,14 @@ impl LivingSink {
             → Quietly None (Unit {0}) past (stayed (asked 0 (spelling op.now) ∷ past.life) past) self.new result }
     {
         let octets = encode_operation(self.alloc, op)?;
-        self.put_write(0, octets.as_slice())?;
+        self.put_write(0, octets)?;
         Ok(())
     }
 
     /// `write` and `awrite`: puts octets behind the writes that wait on a link, whatever they are.
-    pub(crate) fn write(&mut self, link: u8, octets: &[u8]) -> Result<(), Stop>
+    pub(crate) fn write(&mut self, link: u8, octets: Octets) -> Result<(), Stop>
         ensures { (past : SinkPast) → Lives past self.old
-            → Quietly (option_or (no_link past.life (Some link)) None) (Unit {0}) past (stayed (asked link octets.now ∷ past.life) past)
+            → Quietly (option_or (no_link past.life (Some link)) None) (Unit {0}) past (stayed (asked link octets ∷ past.life) past)
             self.new result }
     {
         if !self.links.is_joined(link) {

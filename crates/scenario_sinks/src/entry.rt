@@ -1,5 +1,5 @@
 //! What comes to the sink of one number.
-ghost use Rattle.std.specs.Prelude.{◌≡◌, ◌≤◌, ◌^◌, ℕ, List, Option, Some, OnOk};
+ghost use Rattle.std.specs.Prelude.{◌≡◌, ◌≤◌, ◌^◌, ℕ, List, Option, Some, IfOk, OnOk};
 ghost use Rattle.group_sink.specs.Calls.{Call, hear};
 ghost use Rattle.group_sink.specs.Hearings.{hearing_of};
 ghost use Rattle.sink_history.specs.Calls as links;
@@ -10,6 +10,7 @@ ghost use Rattle.scenario_text.specs.Ranges.{IsInRange};
 ghost use Rattle.scenario_text.specs.declared.step.Step.TheVariants.{Announce};
 ghost use Rattle.delegator_history.specs.Trains.{Settings};
 ghost use Rattle.sink_history.specs.Lives.{Source};
+ghost use Rattle.sink_history.specs.Output.{state_where};
 ghost use Rattle.scenario_sink.specs.Making.{LineMakes};
 ghost use Rattle.scenario_sink.specs.Origins.{IsFrom};
 ghost use Rattle.scenario_sink.specs.Pasts.{SinkPast, after_tuning, receiving};
@@ -170,6 +171,18 @@ pub(crate) fn answer_entry(
         return Some(Hearing::NotOnGroup);
     }
     Some(sink.living.would_answer(event, bis, subevent, octets))
+}
+
+/// The octets of the state of a slot of the sink of an entry: none where there is no such slot.
+pub(crate) fn state_of_entry(entry: &Option<Sink>, slot: u8) -> Result<Option<Octets>, Memory>
+    ensures { (box : Option ℕ) (made : Option Settings) (own : Option ℕ) (life : List links.Call) (received : List Call)
+        → EntryIs box made own life received (Some entry.now)
+        → IfOk result (λ octets. octets ≡ state_where made life slot) }
+{
+    match entry {
+        None => Ok(None),
+        Some(sink) => sink.living.state(slot),
+    }
 }
 
 /// Hands a sink octets in the place of a PDU.

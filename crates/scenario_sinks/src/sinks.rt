@@ -2,7 +2,7 @@ ghost use Rattle.std.specs.Prelude.{◌≡◌, ◌≤◌, ◌<◌, ◌^◌, ◌+
 ghost use Rattle.std.specs.Option.{ForSome};
 
 use crate::close::close_sinks;
-use crate::entry::{answer_entry, hear_entry, tune_entry};
+use crate::entry::{answer_entry, hear_entry, state_of_entry, tune_entry};
 use crate::gathered::{Gathered, HandedUnit};
 use crate::sink::Sink;
 use crate::sums::{put_sum_at, put_sums};
@@ -32,6 +32,7 @@ impl Sinks {
     ghost use Rattle.multi_assist.specs.Mtus.{IsMtu};
     ghost use Rattle.unit_outlets.specs.Handed.{Handed};
     ghost use Rattle.scenario_history.specs.Boxes.{sink_numbers};
+    ghost use Rattle.sink_history.specs.Output.{state_where};
     ghost use Rattle.scenario_sinks.specs.Closing.{Closes, ClosesAt};
     ghost use Rattle.scenario_sinks.specs.Hearing.{Hears, hearing_where};
     ghost use Rattle.scenario_sinks.specs.Pasts.{Past, nothing, with_sink, with_tuning, without};
@@ -188,6 +189,16 @@ impl Sinks {
             subevent,
             octets,
         )
+    }
+
+    /// The octets of the state of a slot of a sink, which are none where the slot is empty (Broadcast Audio Scan Service 1.0, section
+    /// 3.2): `None` where no sink of this number lives, or it has no such slot.
+    pub fn state(&self, sink: u8, slot: u8) -> Result<Option<Octets>, Memory>
+        requires { sink ≤ 7 }
+        ensures { (past : Past) → SinksStand past self.now
+            → IfOk result (λ octets. octets ≡ state_where (past.mades sink) (past.lives sink) slot) }
+    {
+        state_of_entry(&self.entries[usize::from(sink)], slot)
     }
 
     /// Closes the open event of a source, where one is open: the sinks of the source hand their units up, by rising number

@@ -36,13 +36,16 @@ impl Sources {
     ghost use Rattle.source_machine.specs.Airs.{airs_of};
     ghost use Rattle.ltv_codec.specs.Reading.{bad_of};
     ghost use Rattle.scenario_text.specs.declared.step.Step.{Step};
-    ghost use Rattle.scenario_text.specs.declared.step.Step.TheVariants.{Ident as IdentStep, Subgroup as SubgroupStep, Meta as MetaStep, Bis as BisStep, Cipher as CipherStep};
-    ghost use Rattle.scenario_text.specs.declared.step.Step.TheVariants.{Start as StartStep, Unit as UnitStep, Stop as StopStep, Source as SourceStep};
+    ghost use Rattle.scenario_text.specs.declared.step.Step.TheVariants.{Ident as IdentStep, Subgroup as SubgroupStep, Meta as MetaStep};
+    ghost use Rattle.scenario_text.specs.declared.step.Step.TheVariants.{Bis as BisStep, Cipher as CipherStep};
+    ghost use Rattle.scenario_text.specs.declared.step.Step.TheVariants.{Start as StartStep, Unit as UnitStep};
+    ghost use Rattle.scenario_text.specs.declared.step.Step.TheVariants.{Stop as StopStep, Source as SourceStep};
     ghost use Rattle.scenario_history.specs.Refusals.{no_place, relayed_or};
     ghost use Rattle.sink_history.specs.Lives.{horizon_in};
     ghost use Rattle.scenario_history.specs.Source.{event_back, identity_of, is_ahead_in, is_heard, is_sending, open_event, pdu_in};
     ghost use Rattle.scenario_history.specs.Steps.{chosen_of, chosen_steps, is_over, running, stage_of, steps_of_source};
-    ghost use Rattle.scenario_sources.specs.Answers.{AnnouncesAs, Answers, Closes, GroupIs, JoinsAs, LastIs, NoPlace, Performs, TakesAs, Terminates};
+    ghost use Rattle.scenario_sources.specs.Answers.{AnnouncesAs, Answers, Closes, GroupIs, JoinsAs};
+    ghost use Rattle.scenario_sources.specs.Answers.{LastIs, NoPlace, Performs, TakesAs, Terminates};
     ghost use Rattle.scenario_sources.specs.Described.{IsPlain, group_step};
     ghost use Rattle.scenario_sources.specs.Faults.{fault_of};
     ghost use Rattle.scenario_sources.specs.State.Standing.{SourcesStand};
@@ -305,8 +308,10 @@ impl Sources {
         requires back { place.back ≤ 31 }
         ensures ok { IfOk result (λ pdu. (steps : List Step) → SourcesStand steps self.now
             → (no_place (steps_of_source source steps) place.back place.bis place.subevent ≡ None)
-            × (pdu.now ≡ pdu_in airs_of (steps_of_source source steps) (event_back (steps_of_source source steps) place.back) place.bis place.subevent)) }
-        ensures err { IfErr result (λ stop. (steps : List Step) → SourcesStand steps self.now → is_heard (steps_of_source source steps) ≡ true
+            × (pdu.now ≡ pdu_in airs_of (steps_of_source source steps) (event_back (steps_of_source source steps) place.back)
+            place.bis place.subevent)) }
+        ensures err { IfErr result (λ stop. (steps : List Step) → SourcesStand steps self.now
+            → is_heard (steps_of_source source steps) ≡ true
             → NoPlace (steps_of_source source steps) place.back place.bis place.subevent stop) }
     {
         heard_in(&self.phases[usize::from(source)], place)

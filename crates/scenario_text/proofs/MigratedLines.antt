@@ -4,7 +4,7 @@ use Rattle.std.proofs.Common.{length, get_or, take, drop, Option, None, Some, re
 use Rattle.std.specs.Borrow.{Bor}
 use Rattle.std.proofs.lemmas.List.{append-nil}
 use Rattle.std.proofs.lemmas.Bool.{false_from_ne_true}
-use Rattle.printed_words.specs.Lines.{onto_first}
+use Rattle.scenario_words.specs.Joined.{onto_first}
 use Rattle.scenario_text.specs.MigratedLines.{lines_of, behind, text_of, lines_after, text_after}
 use Rattle.scenario_text.specs.Migrated.{is_blank, migrated_line, migrated_lines, migrated}
 

@@ -2,7 +2,7 @@
 -- line. What stands behind the last of these is a line too.
 use Rattle.std.specs.Prelude.{ℕ, List, [], ◌∷◌, ◌++◌, ◌+◌, ◌==◌, if◌then◌else◌, length, Option, None, Some}
 use Rattle.std.specs.Borrow.{Bor}
-use Rattle.printed_words.specs.Lines.{onto_first}
+use Rattle.scenario_words.specs.Joined.{onto_first}
 
 -- the octet that ends a line
 abbrev pub newline : ℕ

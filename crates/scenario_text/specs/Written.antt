@@ -2,7 +2,7 @@
 -- project's own. In it each step of either version has its row: the first word of the row, and the words of the values of
 -- the step at the places of the row.
 use Rattle.std.specs.Prelude.{ℕ, List}
-use Rattle.printed_words.specs.Lines.{joined}
+use Rattle.scenario_words.specs.Joined.{joined}
 use Rattle.scenario_words.specs.Lines.{Values, ◌▸◌, AllHaveWords, all_words}
 use Rattle.scenario_words.specs.Given.{Placed}
 use Rattle.scenario_text.specs.declared.step.Step.{Step}

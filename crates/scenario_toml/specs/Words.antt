@@ -3,7 +3,7 @@ use Rattle.std.specs.Prelude.{ℕ, ◌==◌, ◌&&◌, not, nat_le, Bool, ℤ, L
 use Rattle.std.specs.Prelude.{Option, None, Some, if◌then◌else◌}
 use Rattle.std.specs.Fmt.{signed_decimal}
 use Rattle.std.specs.List.{list_all}
-use Rattle.printed_words.specs.Lines.{space}
+use Rattle.scenario_words.specs.Joined.{space}
 use Rattle.toml.specs.Data.{Data, as_str, as_integer, Members, get_member}
 use Rattle.scenario_toml.specs.Parts.{after, both, required}
 

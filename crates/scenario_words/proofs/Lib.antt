@@ -10,6 +10,8 @@ pub mod NextWords
 mod Octets
 pub mod OneWord
 mod Places
+pub mod Putting
+pub mod SameWords
 mod Spaces
 mod Spelling
 pub mod Splitting

@@ -3,7 +3,7 @@ use Rattle.std.proofs.Common.{◌≡◌, ◌≢◌, ◌↔◌, ℕ, Bool, true, 
 use Rattle.std.specs.Borrow.{Bor}
 use Rattle.std.specs.Option.{is_some}
 use Rattle.scenario_words.specs.declared.fault.LineFault.TheVariants.{BadLine}
-use Rattle.printed_words.specs.Lines.{onto_first}
+use Rattle.scenario_words.specs.Joined.{onto_first}
 use Rattle.scenario_words.specs.Words.{words_of}
 use Rattle.scenario_words.specs.Rests.{words_after}
 use Rattle.scenario_words.specs.Reading.{ended}

@@ -146,11 +146,8 @@ octets_range most (x ∷ word) bytes e = chosen_range _ most _ bytes e
 
 -- ---- a word that is compared with a text
 
-pub same_text : (word text known : List ℕ) (r : Bool) → r ≡ bytes_eq word text → text ≡ known → r ≡ true → word ≡ known
-same_text word text known r e is h = (bytes_eq-Decides word text).0 (sym e ∙ h) ∙ is
-
-pub other_text : (word text known : List ℕ) (r : Bool) → r ≡ bytes_eq word text → text ≡ known → r ≡ false → bytes_eq word known ≡ false
-other_text word text known r e is h = ap (bytes_eq word) (sym is) ∙ (sym e ∙ h)
+pub same_text : (word known : List ℕ) (r : Bool) → r ≡ bytes_eq word known → r ≡ true → word ≡ known
+same_text word known r e h = (bytes_eq-Decides word known).0 (sym e ∙ h)
 
 pub within_is : (most : ℕ) (read : Result (List ℕ) FromHexError) (bytes : List ℕ) → within most read ≡ Some bytes → (read ≡ Ok bytes) × (length bytes ≤ most)
 within_is most (Ok octets) bytes e =

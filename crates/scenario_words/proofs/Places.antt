@@ -9,7 +9,7 @@ use Rattle.bcast_base.specs.Numbers.{sum_from}
 use Rattle.bcast_base.specs.Spelling.{IsOctets, number}
 use Rattle.bcast_base.proofs.Citable.{number-length, number_below}
 use Rattle.bass_operations.specs.declared.wishes.Wish.{Wish}
-use Rattle.printed_words.specs.Digits.{digits}
+use Rattle.scenario_words.specs.Digits.{digits}
 use Rattle.scenario_words.specs.Places.{WordPlace, between, framing_word, time_up_to, octets_up_to, octets_exactly, number_in_octets, list_up_to, Place, one}
 use Rattle.scenario_words.specs.Places.{perhaps, rising, wishes, WordValue, PlaceValue}
 use Rattle.scenario_words.specs.Spelling.{SpellsOctets, SpellsWord, Rising, with_streams, SpellsWishes, Spells}

@@ -7,8 +7,8 @@ use Rattle.bcast_base.proofs.Citable.{IsOctets-rest}
 use Rattle.scenario_words.specs.Words.{words_of}
 use Rattle.scenario_words.proofs.Citable.{own}
 use Rattle.std.proofs.lemmas.Fmt.{digits_decimal}
-use Rattle.printed_words.specs.Digits.{digits}
-use Rattle.printed_words.specs.Lines.{behind, joined}
+use Rattle.scenario_words.specs.Digits.{digits}
+use Rattle.scenario_words.specs.Joined.{behind, joined}
 
 -- no octet of the word is a space
 abbrev pub NoSpace : List ℕ → Type 0

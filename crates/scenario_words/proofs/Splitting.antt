@@ -1,8 +1,10 @@
 -- The first word of a line ends at its first space.
-use Rattle.std.proofs.Common.{◌≡◌, ◌≤◌, ◌<◌, ℕ, zero, suc, Bool, true, false, nat_eq, List, [], ◌∷◌, length, get_or, take, drop, refl, arith}
+use Rattle.std.proofs.Common.{◌≡◌, ◌≤◌, ◌<◌, ◌+◌, ◌-◌, ◌⊎◌, inl, inr, ℕ, zero, suc, Bool, true, false, nat_eq, List, [], ◌∷◌, length, get_or, take, drop, refl, ap, ◌∙◌, eqb-true, arith}
+use Rattle.std.proofs.lemmas.Bool.{cases_lt}
+use Rattle.std.proofs.lemmas.List.{get_or-drop, length-drop, take_rest}
 use Rattle.scenario_words.specs.Words.{words_of}
 
-refused : (b : Bool) → (b ≡ true → ⊥) → b ≡ false
+pub refused : (b : Bool) → (b ≡ true → ⊥) → b ≡ false
 refused true h = absurd (h refl)
 refused false h = refl
 
@@ -21,3 +23,47 @@ first_space (x ∷ line) (suc end) inside before at =
     let other : nat_eq x 32 ≡ false = refused _ (before 0 (omega arith) (omega arith)) in
     let rest : words_of line ≡ take end line ∷ words_of (drop (suc end) line) = first_space line end (omega arith) (λ k low high. before (suc k) (omega arith) (omega arith)) at in
     rw (other, rest) refl
+
+-- none among the first n octets, and none of the next m behind them
+behind : (line : List ℕ) (n m k : ℕ) → ((j : ℕ) → 0 ≤ j → j < n → nat_eq (get_or line j 0) 32 ≡ true → ⊥)
+    → ((j : ℕ) → 0 ≤ j → j < m → nat_eq (get_or (drop n line) j 0) 32 ≡ true → ⊥)
+    → k < n + m → nat_eq (get_or line k 0) 32 ≡ true → (k < n) ⊎ (n ≤ k) → ⊥
+behind line n m k near far inside here (inl low) = near k (omega arith) low here
+behind line n m k near far inside here (inr high) =
+    let place : n + (k - n) ≡ k = omega arith in
+    far (k - n) (omega arith) (omega arith) (rw (get_or-drop n line (k - n) 0, place) here)
+
+-- the piece behind the first n octets
+long_behind : (line piece : List ℕ) (n : ℕ) → piece ≡ take (length line - n) (drop n line) → (piece ≡ drop n line) × (length piece ≡ length line - n)
+long_behind line piece n is =
+    let rest = is ∙ take_rest line n in
+    (rest, ap length rest ∙ length-drop n line)
+
+pub none_behind : (line piece : List ℕ) (n : ℕ) → n ≤ length line → piece ≡ take (length line - n) (drop n line)
+    → ((j : ℕ) → 0 ≤ j → j < n → nat_eq (get_or line j 0) 32 ≡ true → ⊥)
+    → ((j : ℕ) → 0 ≤ j → j < length piece → nat_eq (get_or piece j 0) 32 ≡ true → ⊥)
+    → (k : ℕ) → 0 ≤ k → k < length line → nat_eq (get_or line k 0) 32 ≡ true → ⊥
+none_behind line piece n fits is near far k low inside here =
+    let rest = long_behind line piece n is in
+    behind line n (length piece) k near (λ j bottom small space. far j bottom small (rw rest.0 space)) (omega (arith, rest.1, inside)) here (cases_lt k n)
+
+pub some_behind : (line piece : List ℕ) (n end : ℕ) → n ≤ length line → piece ≡ take (length line - n) (drop n line)
+    → ((j : ℕ) → 0 ≤ j → j < n → nat_eq (get_or line j 0) 32 ≡ true → ⊥) → end < length piece
+    → ((j : ℕ) → 0 ≤ j → j < end → nat_eq (get_or piece j 0) 32 ≡ true → ⊥) → nat_eq (get_or piece end 0) 32 ≡ true
+    → (n + end < length line) × ((k : ℕ) → 0 ≤ k → k < n + end → nat_eq (get_or line k 0) 32 ≡ true → ⊥) × (nat_eq (get_or line (n + end) 0) 32 ≡ true)
+some_behind line piece n end fits is near inside far at =
+    let rest = long_behind line piece n is in (
+      omega (arith, rest.1, inside),
+      λ k low small here. behind line n end k near (λ j bottom few space. far j bottom few (rw rest.0 space)) small here (cases_lt k n),
+      rw (← get_or-drop n line end 0, ← rest.0) at,
+    )
+
+-- one octet more is no space
+last : (line : List ℕ) (i k : ℕ) → ((j : ℕ) → 0 ≤ j → j < i → nat_eq (get_or line j 0) 32 ≡ true → ⊥) → (get_or line i 0 ≡ 32 → ⊥)
+    → k < i + 1 → nat_eq (get_or line k 0) 32 ≡ true → (k < i) ⊎ (i ≤ k) → ⊥
+last line i k before other small here (inl low) = before k (omega arith) low here
+last line i k before other small here (inr high) = let same : k ≡ i = omega arith in other (eqb-true _ _ (rw same at here))
+
+pub no_more : (line : List ℕ) (i : ℕ) → ((j : ℕ) → 0 ≤ j → j < i → nat_eq (get_or line j 0) 32 ≡ true → ⊥) → (get_or line i 0 ≡ 32 → ⊥)
+    → (k : ℕ) → 0 ≤ k → k < i + 1 → nat_eq (get_or line k 0) 32 ≡ true → ⊥
+no_more line i before other k low small here = last line i k before other small here (cases_lt k i)

@@ -1,7 +1,11 @@
+pub mod Digits
 pub mod Fitting
+pub mod Fronts
 pub mod Given
+pub mod Joined
 pub mod Lines
 pub mod Places
+pub mod PrintedWords
 pub mod Reading
 pub mod Rests
 pub mod Spelling

@@ -1,11 +1,7 @@
 -- The words of a line of a scenario, this project's own: what stands between single spaces. Between two spaces side by side
 -- stands an empty word.
 use Rattle.std.specs.Prelude.{ℕ, List, [], ◌∷◌, ◌==◌, if◌then◌else◌}
-use Rattle.printed_words.specs.Lines.{onto_first}
-
--- the octet of a space
-abbrev pub space : ℕ
-space = 32
+use Rattle.scenario_words.specs.Joined.{onto_first, space}
 
 abbrev pub words_of : List ℕ → List (List ℕ)
 words_of [] = [] ∷ []

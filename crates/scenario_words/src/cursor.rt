@@ -1,4 +1,5 @@
-ghost use Rattle.std.specs.Prelude.{◌≡◌, ◌≤◌, ◌^◌, ◌<◌, ◌+◌, ◌-◌, ◌*◌, ◌∷◌, ℕ, List, [], Some, None, Ok, Err, length, IfOk, IfSome, IsErr, IsNone, IsTrue, ◌≢◌, ◌↔◌};
+ghost use Rattle.std.specs.Prelude.{◌≡◌, ◌≤◌, ◌^◌, ◌<◌, ◌+◌, ◌-◌, ◌*◌, ◌∷◌, ℕ, List, [], Some};
+ghost use Rattle.std.specs.Prelude.{None, Ok, Err, length, IfOk, IfSome, IsErr, IsNone, IsTrue, ◌≢◌, ◌↔◌};
 ghost use Rattle.scenario_words.specs.declared.fault.LineFault.TheVariants.{Memory as NoMemory};
 ghost use Rattle.scenario_words.specs.Reading.{GivesNext, ReadsNext, SpellsNext, Left, next, any_word};
 ghost use Rattle.scenario_words.specs.Reading.{decimal_in, framing_in, time_in, octets_in, exact_in, number_in, list_in};
@@ -6,6 +7,8 @@ ghost use Rattle.scenario_words.specs.Reading.{wish_of, wishes_of, all_wishes_of
 ghost use Rattle.bass_operations.specs.Layout.{MetadataFits};
 ghost use Rattle.ltv_codec.specs.Reading.{bad_of};
 ghost use Rattle.scenario_words.specs.Places.{most_wishes, wishes_octets};
+ghost use Rattle.memchr.specs.Find.{IsFirstByte, is_byte};
+ghost use Rattle.scenario_words.specs.Joined.{space};
 ghost use Rattle.scenario_words.specs.Words.{words_of};
 ghost use Rattle.scenario_words.specs.Rests.{words_after, octets_after};
 
@@ -23,12 +26,34 @@ const MOST_WISHES: usize = 31;
 /// The greatest time that a unit may have, in µs.
 const GREATEST_TIME: u64 = 1 << 62;
 
+/// The most octets that are looked at one by one for the end of a word: most words are short.
+const NEAR: usize = 8;
+
+/// Where the first space is.
+fn first_space(line: &[u8]) -> Option<usize>
+    ensures { IsFirstByte (is_byte space) line.now result }
+{
+    let near = line.len().min(NEAR);
+    'near: for i in 0..near {
+        if line[i] == b' ' {
+            return Some(i);
+        }
+    }
+    if near == line.len() {
+        return None;
+    }
+    match memchr(b' ', &line[near..]) {
+        None => None,
+        Some(end) => Some(near + end),
+    }
+}
+
 /// The octets up to the first space, and those after it where there is one.
 fn split_word(line: &[u8]) -> (&[u8], Option<&[u8]>)
     ensures words { words_of line.now ≡ result.0.now ∷ words_after result.1 }
     ensures shorter { octets_after result.1 ≤ length line.now }
 {
-    match memchr(b' ', line) {
+    match first_space(line) {
         None => (line, None),
         Some(end) => (&line[..end], Some(&line[end + 1..])),
     }

@@ -1,4 +1,4 @@
-ghost use Rattle.std.specs.Prelude.{◌≡◌, ◌≤◌, ◌<◌, ◌^◌, ◌*◌, IfOk, IfSome, IsErr, length};
+ghost use Rattle.std.specs.Prelude.{◌≡◌, ◌≤◌, ◌<◌, ◌^◌, ◌*◌, IfOk, IfSome, IsErr, bytes_eq, length};
 ghost use Rattle.scenario_words.specs.Reading.{SpellsSome, decimal_in, framing_in, time_in, octets_in, exact_in, number_in, list_in};
 
 use crate::decimal::decimal;
@@ -22,14 +22,30 @@ pub fn decimal_within(word: &[u8], least: u64, greatest: u64) -> Option<u64>
     Some(n)
 }
 
+/// Whether a word is this one. A call for a word of a few octets is a few comparisons where it stands.
+#[inline(always)]
+pub fn is_word(word: &[u8], name: &[u8]) -> bool
+    ensures { result ≡ bytes_eq word.now name.now }
+{
+    if word.len() != name.len() {
+        return false;
+    }
+    'octets: for i in 0..name.len() {
+        if word[i] != name[i] {
+            return false;
+        }
+    }
+    true
+}
+
 /// `unframed` is 0 and `framed` is 1.
 #[tactic(auto, unfolding(crate::specs::Reading::framing_in))]
 pub fn framing_of(word: &[u8]) -> Option<u8>
     ensures { result ≡ framing_in word.now }
 {
-    if word == b"unframed".as_slice() {
+    if is_word(word, b"unframed") {
         Some(0)
-    } else if word == b"framed".as_slice() {
+    } else if is_word(word, b"framed") {
         Some(1)
     } else {
         None
@@ -41,7 +57,7 @@ pub fn framing_of(word: &[u8]) -> Option<u8>
 pub fn time_of(word: &[u8], greatest: u64) -> Option<Option<u64>>
     ensures { result ≡ time_in greatest word.now }
 {
-    if word == b"-".as_slice() {
+    if is_word(word, b"-") {
         return Some(None);
     }
     match decimal_within(word, 0, greatest) {
@@ -56,7 +72,7 @@ pub fn octets_of(alloc: Global, word: &[u8], most: usize) -> Result<Option<Octet
     ensures gives { IfOk result (λ octets. octets ≡ octets_in most word.now) }
     ensures memory { IsErr result → SpellsSome (octets_in most word.now) }
 {
-    if word == b"-".as_slice() {
+    if is_word(word, b"-") {
         return Ok(Some(Octets::new(alloc)));
     }
     if word.is_empty() {

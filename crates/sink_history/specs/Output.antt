@@ -1,6 +1,6 @@
 -- What a step prints of a sink and of its assistants, by the life of the sink before it (Basic Audio Profile 1.0, section 6.5;
 -- Broadcast Audio Scan Service 1.0, section 3). The lines are this project's own.
-use Rattle.std.specs.Prelude.{ℕ, zero, suc, List, [], ◌∷◌, ◌++◌, length, map, slice_get, Option, Some, None, option_map, codes, decimal}
+use Rattle.std.specs.Prelude.{ℕ, zero, suc, List, [], ◌∷◌, ◌++◌, length, map, slice_get, Option, Some, None, option_map, codes, decimal, if◌then◌else◌, nat_lt}
 use Rattle.std.specs.List.{flat_map, range_with_len}
 use Rattle.assistant_machine.specs.Answers.{answer_of as forged_answer}
 use Rattle.delegator_history.specs.declared.notice.Notice.{Notice}
@@ -37,6 +37,11 @@ notified made link calls = option_map (delivered made.mtu) (slice_get (notices_w
 -- a slot with the octets of its state
 abbrev pub stated : Settings → List Call → ℕ → Notice
 stated made calls slot = record { slot = slot; value = value (state made.setup slot calls) }
+
+-- the octets of the state of a slot that a sink has, where it lives
+abbrev pub state_where : Option Settings → List Call → ℕ → Option (List ℕ)
+state_where None calls slot = None
+state_where (Some made) calls slot = if nat_lt slot made.setup.slots then Some (stated made calls slot).value else None
 
 -- the read that waits of the lowest slot, with the octets of its state
 abbrev pub was_read : Settings → ℕ → List Call → Option Notice

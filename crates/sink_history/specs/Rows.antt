@@ -1,7 +1,7 @@
 -- Scenarios worked by hand: their steps, the newest first, and what they print of their sinks. The lines are this project's
 -- own.
 use Rattle.std.specs.Prelude.{ℕ, ◌≡◌, List, [], ◌∷◌, reverse, Some, None, codes, decimal}
-use Rattle.printed_words.specs.Digits.{digits}
+use Rattle.scenario_words.specs.Digits.{digits}
 use Rattle.scenario_text.specs.declared.step.Step.{Step}
 use Rattle.scenario_text.specs.declared.step.Step.TheVariants as steps
 use Rattle.transcript_text.specs.Lines.{line_of}

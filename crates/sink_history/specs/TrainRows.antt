@@ -8,7 +8,7 @@ use Rattle.base_grammar.specs.Layout.{Endpoint, lc3}
 use Rattle.big_info.specs.declared.info.Cipher.{Cipher}
 use Rattle.bass_operations.specs.declared.operation.AddSource.{AddSource}
 use Rattle.bass_operations.specs.declared.operation.ModifySource.{ModifySource}
-use Rattle.printed_words.specs.Digits.{digits}
+use Rattle.scenario_words.specs.Digits.{digits}
 use Rattle.scenario_text.specs.declared.step.Step.{Step}
 use Rattle.scenario_text.specs.declared.step.Step.TheVariants as steps
 use Rattle.transcript_text.specs.Lines.{line_of}

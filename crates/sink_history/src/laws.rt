@@ -1,7 +1,9 @@
 //! Scenarios worked by hand.
 ghost use Rattle.sink_history.specs.Lives.{World};
-ghost use Rattle.sink_history.specs.Rows.{PartedRefuses, Prints, an_add, its_value, known_source, known_source_lines, parted, parted_lines, second_assistant, second_assistant_lines};
-ghost use Rattle.sink_history.specs.TrainRows.{ForgedTrains, a_world, coded_world, encrypted, encrypted_lines, train_and_loss, train_and_loss_lines, whole_life, whole_life_lines};
+ghost use Rattle.sink_history.specs.Rows.{PartedRefuses, Prints, an_add, its_value, known_source};
+ghost use Rattle.sink_history.specs.Rows.{known_source_lines, parted, parted_lines, second_assistant, second_assistant_lines};
+ghost use Rattle.sink_history.specs.TrainRows.{ForgedTrains, a_world, coded_world, encrypted, encrypted_lines};
+ghost use Rattle.sink_history.specs.TrainRows.{train_and_loss, train_and_loss_lines, whole_life, whole_life_lines};
 ghost use Rattle.sink_history.specs.WriteRows.{RefusedWrites, a_longer_add, forged, forged_lines, longer_value, read_lines_of, read_of};
 
 /// Three scenarios worked by hand, whatever lies outside of the sinks: a source that is added twice, a second assistant, and

@@ -26,8 +26,8 @@ pub fn one_air()
         → airs ≡ airs_of setup calls }
 {}
 
-/// In an unframed group each subevent of an event that was performed carries the PDU that division gives at its payload number: `laid` where
-/// numbers count from the first event on, and `counted` where they are those of the payload counter.
+/// In an unframed group each subevent of an event that was performed carries the PDU that division gives at its payload number:
+/// `laid` where numbers count from the first event on, and `counted` where they are those of the payload counter.
 pub fn air_is_by_division()
     ensures laid { (group : Group) (setup : Setup) (calls : List Call) (airs : List Air) (event bis subevent : ℕ)
         → setup.info ≡ group.info → setup.info.framing ≡ 0 → AreAirs setup calls airs → setup.first ≤ event → event < next_of setup calls

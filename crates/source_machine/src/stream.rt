@@ -1,4 +1,5 @@
-ghost use Rattle.std.specs.Prelude.{◌≡◌, ◌<◌, ◌+◌, ◌*◌, ◌++◌, ◌↔◌, ℕ, [], ◌∷◌, length, map, get_or, All, Some, IfOk, IfErr, IsTrue, OnOk, OnErr};
+ghost use Rattle.std.specs.Prelude.{◌≡◌, ◌<◌, ◌+◌, ◌*◌, ◌++◌, ◌↔◌, ℕ, [], ◌∷◌, length};
+ghost use Rattle.std.specs.Prelude.{map, get_or, All, Some, IfOk, IfErr, IsTrue, OnOk, OnErr};
 ghost use Rattle.std.specs.List.{AllZip, range_with_len};
 ghost use Rattle.circular_buffer.specs.Buffer.{buffer, keep_last};
 ghost use Rattle.source_machine.specs.Airs.{stale_on};
@@ -107,9 +108,12 @@ impl Stream {
         requires subevent { subevent < group.now.info.nse }
         ensures { sent_of self.now back subevent ≡ Some result.now }
     {
-        let horizon = self.laid.capacity() as u64 - u64::from(EVENTS);
-        let behind = horizon - events_ahead(group, subevent) + u64::from(back);
-        let pdus = self.laid.nth_back(behind as usize).unwrap();
+        let horizon = self.laid.capacity() - EVENTS as usize;
+        let past = self.laid.len() + events_ahead(group, subevent) as usize;
+        let pdus = self
+            .laid
+            .get(past - (horizon + 1 + usize::from(back)))
+            .unwrap();
         pdus.pdu(usize::from(subevent % group.info.bn))
     }
 }

@@ -1,4 +1,5 @@
-ghost use Rattle.std.specs.Prelude.{◌≡◌, ◌≤◌, ◌<◌, ◌+◌, ◌-◌, ◌*◌, ◌%◌, ◌^◌, ◌∷◌, ◌↔◌, ℕ, List, length, Option, Some, None, is_some, true, false, IfOk, IfErr, IsTrue, OnOk, OnErr};
+ghost use Rattle.std.specs.Prelude.{◌≡◌, ◌≤◌, ◌<◌, ◌+◌, ◌-◌, ◌*◌, ◌%◌, ◌^◌, ◌∷◌, ◌↔◌, ℕ, List};
+ghost use Rattle.std.specs.Prelude.{length, Option, Some, None, is_some, true, false, IfOk, IfErr, IsTrue, OnOk, OnErr};
 ghost use Rattle.std.specs.Option.{option_map};
 ghost use Rattle.announcement_train.specs.Layout.{IsTrain};
 ghost use Rattle.announcement_train.specs.Told.{Tells};
@@ -17,7 +18,7 @@ ghost use Rattle.source_machine.specs.Setups.{IsChecked};
 ghost use Rattle.source_machine.specs.State.Sources.{StandsFor, anchor_in, configured_in, group_in};
 ghost use Rattle.source_machine.specs.State.Streams.{IsAsSetUp, IsFit, LaysNext, MayPerform, Performs, Refuses, limit_of};
 ghost use Rattle.source_machine.specs.declared.fault.AnnounceFault.TheVariants.{Memory as AnnounceMemory};
-ghost use Rattle.source_machine.specs.declared.fault.GiveFault.TheVariants.{Memory as GiveMemory};
+ghost use Rattle.source_machine.specs.declared.fault.GiveFault.TheVariants.{Memory as GiveMemory, NoSuchBis};
 
 use crate::configured::SourceConfigured;
 use crate::fault::{AnnounceFault, EventFault, GiveFault};
@@ -99,6 +100,8 @@ impl SourceStreaming {
         ensures cause { IfErr result (λ fault. (calls : List Call) (airs : List Air) → StandsFor calls self.old
             → AreAirs self.old.setup calls airs
             → give_fault self.old.setup calls airs bis time octets.now ≡ refused_unit fault) }
+        // Of a stream of the group the answer is another than NoSuchBis.
+        ensures stream { IfErr result (λ fault. fault ≡ NoSuchBis → self.old.setup.info.num_bis < bis) }
         ensures failed { self.old.failed ≡ true → IfErr result (λ fault. fault ≡ GiveMemory) }
         ensures works { OnOk result (self.old.failed ≡ false) }
         ensures checked { IsChecked self.old.setup.info }
@@ -298,6 +301,7 @@ impl SourceStreaming {
             → give_fault self.now.setup calls airs bis time octets.now ≡ refused_unit fault) }
         ensures misfit { IfErr result (λ fault. (calls : List Call) (time : Option ℕ)
             → Some fault ≡ option_map answer_of (misfit_of self.now.setup calls bis time octets.now)) }
+        ensures stream { IfErr result (λ fault. fault ≡ NoSuchBis → self.now.setup.info.num_bis < bis) }
     {
         if bis.get() > self.plan.group.info.num_bis {
             return Err(GiveFault::NoSuchBis);

@@ -1,6 +1,6 @@
 //! The text of the generator.
 
-use scenario_writing::generate;
+use scenario_lines::generate;
 use std::test::*;
 
 /// The lines of seed 1 with one event, of which the first two draws are 9 and 8.

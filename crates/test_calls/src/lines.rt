@@ -1,6 +1,6 @@
 ghost use Rattle.std.specs.Prelude.{◌≡◌, ◌⊎◌};
 
-use scenario_reading::{LineFault, read_line, read_line_in};
+use scenario_lines::{LineFault, read_line, read_line_in};
 use scenario_text::Step;
 use std::alloc::Global;
 

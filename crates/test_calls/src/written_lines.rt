@@ -1,8 +1,7 @@
 use crate::lines::{LINES_OF_1, LINES_OF_2};
 use bcast_base::Octets;
-use scenario_reading::read_line_in;
+use scenario_lines::{read_line_in, write_line};
 use scenario_text::migrate;
-use scenario_writing::write_line;
 use std::alloc::Global;
 
 fn written(alloc: Global, line: &[u8]) -> Option<Octets> {

@@ -6,7 +6,7 @@ use base_grammar::Effective;
 use bcast_base::{Memory, Octets};
 use ltv_codec::{Caps, Config, check_ltvs};
 use pacs_records::{Capability, NotTaken};
-use printed_words::{Word, put_words};
+use scenario_words::{Word, put_words};
 
 /// Capabilities of which none is said.
 const NONE_SAID: Caps = Caps {
@@ -64,6 +64,38 @@ pub(crate) fn put_values(
         ),
         _ => put_lc3(rows, reason, config, &caps),
     }
+}
+
+/// Puts behind a note of a stream that a record fits what was compared besides LC3: the codec, the locations and the contexts, each first
+/// that of the stream and then that of the sink.
+pub(crate) fn put_fitting(
+    rows: &mut Octets,
+    effective: &Effective,
+    capability: &Capability,
+) -> Result<(), Memory> {
+    put_words(
+        rows,
+        b"; here",
+        &[
+            Word::Text(b"codec"),
+            Word::Octets(effective.codec.as_slice()),
+            Word::Text(b"locations"),
+            Word::Octets(
+                effective
+                    .config
+                    .allocation
+                    .unwrap_or(0)
+                    .to_le_bytes()
+                    .as_slice(),
+            ),
+            Word::Text(b"and"),
+            Word::Octets(capability.locations.to_le_bytes().as_slice()),
+            Word::Text(b"contexts"),
+            Word::Octets(effective.contexts.unwrap_or(1).to_le_bytes().as_slice()),
+            Word::Text(b"and"),
+            Word::Octets(capability.contexts.to_le_bytes().as_slice()),
+        ],
+    )
 }
 
 /// The capabilities of a record.

@@ -1,13 +1,14 @@
 //! What each sink can take, as its lines said it, and why it takes no stream of a BASE.
 ghost use Rattle.std.specs.Prelude.{◌<◌, vec_len, IfSome};
 
-use crate::compared::{is_list, put_values};
+use crate::bases::put_base_fault;
+use crate::compared::{is_list, put_fitting, put_values};
 use crate::trains::Identity;
 use base_grammar::{Base, decode_base};
-use bcast_base::{Bis, Memory, Octets};
+use bcast_base::{Bis, BisSet, Memory, Octets};
 use pacs_records::{Capability, NotTaken, PacRecord, PushFault, Records, takes};
-use printed_words::{Word, put_words};
 use scenario_text::Step;
+use scenario_words::{Word, put_words};
 use std::alloc::Global;
 use unit_notes::put_note;
 
@@ -136,21 +137,22 @@ impl Ears {
         }
     }
 
-    /// Puts why a sink takes no stream of the BASE that these octets are: for each stream the first row of the match that
-    /// its last record doesn't meet (Published Audio Capabilities Service 1.0).
+    /// Puts why a sink takes these streams of the BASE that some octets are: for each other stream the first row of the match that
+    /// its last record doesn't meet (Published Audio Capabilities Service 1.0). Where the octets are no BASE, puts their fault.
     pub(crate) fn put_reasons(
         &self,
         rows: &mut Octets,
         sink: u8,
         octets: &[u8],
+        taken: BisSet,
     ) -> Result<(), Memory> {
         let Some(place) = self.place_of(sink) else {
             return Ok(());
         };
-        let Ok(base) = decode_base(self.alloc, octets) else {
-            return Ok(());
-        };
-        put_streams(rows, &self.ears[place].capability, &base)
+        match decode_base(self.alloc, octets) {
+            Ok(base) => put_streams(rows, &self.ears[place].capability, &base, taken),
+            Err(fault) => put_base_fault(rows, fault),
+        }
     }
 }
 
@@ -169,7 +171,12 @@ fn push_record(records: &mut Records, record: PacRecord) -> Result<(), Memory> {
 }
 
 /// Puts a note for each stream of a BASE.
-fn put_streams(rows: &mut Octets, capability: &Capability, base: &Base) -> Result<(), Memory> {
+fn put_streams(
+    rows: &mut Octets,
+    capability: &Capability,
+    base: &Base,
+    taken: BisSet,
+) -> Result<(), Memory> {
     if capability.entries.count() == 0 {
         return put_note(
             rows,
@@ -178,7 +185,7 @@ fn put_streams(rows: &mut Octets, capability: &Capability, base: &Base) -> Resul
     }
     'streams: for number in 1..32u8 {
         if let Some(bis) = Bis::new(number) {
-            put_stream(rows, capability, base, bis)?;
+            put_stream(rows, capability, base, bis, taken.has(bis))?;
         }
     }
     Ok(())
@@ -190,13 +197,16 @@ fn put_stream(
     capability: &Capability,
     base: &Base,
     bis: Bis,
+    is_taken: bool,
 ) -> Result<(), Memory> {
     let Some(effective) = base.effective(bis) else {
         return Ok(());
     };
     let unmet = takes(capability, base, bis).err();
     let row = match unmet {
-        None => "a record fits; so the slot doesn't want it, or it is above NUMBIS",
+        None if is_taken => "is taken: a record fits, and the slot wants it",
+        None =>
+            "is not taken: a record fits; so the slot doesn't want it, it is above NUMBIS, or the sink takes no more",
         Some(reason) => row_of(reason),
     };
     put_words(
@@ -206,12 +216,12 @@ fn put_stream(
             Word::Number(u64::from(bis.get())),
             Word::Text(b"of subgroup"),
             Word::Number(effective.subgroup as u64),
-            Word::Text(b"is not taken:"),
             Word::Text(row.as_bytes()),
         ],
     )?;
-    if let Some(reason) = unmet {
-        put_values(rows, reason, &effective, capability)?;
+    match unmet {
+        Some(reason) => put_values(rows, reason, &effective, capability)?,
+        None => put_fitting(rows, &effective, capability)?,
     }
     rows.push(b'\n')
 }
@@ -219,18 +229,20 @@ fn put_stream(
 /// The row of the match that is not met.
 fn row_of(reason: NotTaken) -> &'static str {
     match reason {
-        NotTaken::Codec => "Codec: CODEC of its subgroup is not that of the record",
+        NotTaken::Codec => "is not taken: Codec: CODEC of its subgroup is not that of the record",
         NotTaken::Frequency =>
-            "Frequency: its sampling frequency is left out, or not among those of the record",
+            "is not taken: Frequency: its sampling frequency is left out, or not among those of the record",
         NotTaken::Duration =>
-            "Duration: its frame duration is left out, or not among those of the record",
+            "is not taken: Duration: its frame duration is left out, or not among those of the record",
         NotTaken::FrameOctets =>
-            "FrameOctets: the octets of a frame are left out, or not from the least to the greatest of the record",
-        NotTaken::Channels => "Channels: its number of channels is not among those of the record",
+            "is not taken: FrameOctets: the octets of a frame are left out, or not from the least to the greatest of the record",
+        NotTaken::Channels =>
+            "is not taken: Channels: its number of channels is not among those of the record",
         NotTaken::FramesPerSdu =>
-            "FramesPerSdu: blocks x channels is above the frames of the record",
+            "is not taken: FramesPerSdu: blocks x channels is above the frames of the record",
         NotTaken::Location =>
-            "Location: its locations and those of `locate` share no bit: another ear",
-        NotTaken::Context => "Context: the contexts of `meta` and those of `context` share no bit",
+            "is not taken: Location: its locations and those of `locate` share no bit: another ear",
+        NotTaken::Context =>
+            "is not taken: Context: the contexts of `meta` and those of `context` share no bit",
     }
 }

@@ -1,7 +1,7 @@
 //! Which numbers of a group don't go together.
 use bcast_base::{Memory, Octets};
 use big_info::GroupFault;
-use printed_words::Word;
+use scenario_words::Word;
 use unit_notes::{Numbers, put_note, quotient};
 
 /// How many events a payload of such a group may be sent ahead.

@@ -2,6 +2,7 @@
 #![tactic(auto)]
 
 mod answers;
+mod bases;
 mod compared;
 mod ears;
 mod forms;
@@ -11,6 +12,7 @@ mod notes;
 mod phases;
 mod refusals;
 mod rows;
+mod slots;
 mod trains;
 mod words;
 

@@ -2,7 +2,7 @@
 use crate::forms::{FIRST, PLACES, SECOND};
 use crate::words::word_at;
 use bcast_base::{Memory, Octets};
-use printed_words::Word;
+use scenario_words::Word;
 use unit_notes::put_note;
 
 /// A line of the language.

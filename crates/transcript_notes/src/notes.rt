@@ -7,13 +7,14 @@ use crate::misfits::put_misfit;
 use crate::phases::{ABSENT, Source, order_of};
 use crate::refusals::row_of;
 use crate::rows::{is_joined, put_row_note};
+use crate::slots::put_slots;
 use crate::trains::{Train, is_ignored, put_compared};
-use crate::words::{digit_of, word_at};
+use crate::words::{digit_of, streams_at, word_at};
 use bcast_base::{Memory, Octets};
-use printed_words::Word;
 use replay_steps::Machine;
-use scenario_reading::read_line_in;
+use scenario_lines::read_line_in;
 use scenario_text::Step;
+use scenario_words::Word;
 use std::alloc::Global;
 use transcript_text::Refusal;
 use unit_notes::{Units, put_note};
@@ -97,7 +98,7 @@ impl Notes {
         match refused {
             Some(reason) => self.put_refusal(rows, line, step, reason),
             None => {
-                self.put_rows(rows, line, text)?;
+                self.put_rows(rows, line, machine, text)?;
                 self.put_units(rows, &step, text)?;
                 self.made(machine, step, text)
             }
@@ -167,7 +168,13 @@ impl Notes {
     }
 
     /// Puts the notes of the rows that a line brought.
-    fn put_rows(&mut self, rows: &mut Octets, line: &[u8], text: &[u8]) -> Result<(), Memory> {
+    fn put_rows(
+        &mut self,
+        rows: &mut Octets,
+        line: &[u8],
+        machine: &Machine,
+        text: &[u8],
+    ) -> Result<(), Memory> {
         let mut start = 0;
         let mut train = line;
         for end in 0..text.len() {
@@ -177,7 +184,7 @@ impl Notes {
                     train = row;
                 }
                 put_row_note(rows, row)?;
-                self.put_answer(rows, row, train)?;
+                self.put_answer(rows, row, machine, train)?;
                 start = end + 1;
             }
         }
@@ -185,7 +192,13 @@ impl Notes {
     }
 
     /// Puts what was compared, where the row is the answer of a sink to this train: a `train` line or a row of that form.
-    fn put_answer(&mut self, rows: &mut Octets, row: &[u8], train: &[u8]) -> Result<(), Memory> {
+    fn put_answer(
+        &mut self,
+        rows: &mut Octets,
+        row: &[u8],
+        machine: &Machine,
+        train: &[u8],
+    ) -> Result<(), Memory> {
         let (Some(sink), Some(answer)) = (word_at(row, 1), word_at(row, 2)) else {
             return Ok(());
         };
@@ -196,7 +209,19 @@ impl Notes {
             return Ok(());
         };
         let sink = digit_of(sink);
-        put_compared(rows, answer, &train, &self.ears, sink, self.is_second)?;
+        let taken = streams_at(row, 3);
+        put_compared(
+            rows,
+            answer,
+            &train,
+            &self.ears,
+            sink,
+            taken,
+            self.is_second,
+        )?;
+        if answer == b"NotWanted".as_slice() {
+            put_slots(rows, self.alloc, machine, sink, train.identity)?;
+        }
         if !is_ignored(answer) {
             self.ears.follow(sink, Some(train.identity));
         }

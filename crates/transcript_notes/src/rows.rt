@@ -2,7 +2,7 @@
 use crate::answers::{of_dropped, of_forged, of_heard, of_reply, of_train};
 use crate::words::word_at;
 use bcast_base::{Memory, Octets};
-use printed_words::Word;
+use scenario_words::Word;
 use unit_notes::put_note;
 
 /// The meaning of a row, where there is one to tell.

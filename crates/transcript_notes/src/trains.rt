@@ -6,9 +6,9 @@ use crate::group::put_fault;
 use crate::phases::Source;
 use crate::words::octets_at;
 use base_grammar::{broadcast_id, service_data, structure};
-use bcast_base::{Memory, Octets};
+use bcast_base::{BisSet, Memory, Octets};
 use big_info::{BigInfo, Limits, check_group_within, decode_big_info};
-use printed_words::Word;
+use scenario_words::Word;
 use std::alloc::Global;
 use unit_notes::{Numbers, put_note};
 
@@ -24,6 +24,15 @@ pub(crate) struct Identity {
     address_type: u8,
     sid: u8,
     broadcast_id: [u8; 3],
+}
+
+impl Identity {
+    /// Whether it is by these.
+    pub(crate) fn is_of(self, address_type: u8, sid: u8, broadcast_id: &[u8; 3]) -> bool {
+        self.address_type == address_type
+            && self.sid == sid
+            && self.broadcast_id.as_slice() == broadcast_id.as_slice()
+    }
 }
 
 /// A train that a sink heard.
@@ -70,13 +79,21 @@ pub(crate) fn is_ignored(answer: &[u8]) -> bool {
         || answer == b"AlreadyOnGroup".as_slice()
 }
 
-/// Puts what was compared for the answer of a sink to a train.
+/// Whether an answer to a train tells of its BASE.
+fn has_base(answer: &[u8]) -> bool {
+    answer == b"NoneTaken".as_slice()
+        || answer == b"OnGroup".as_slice()
+        || answer == b"BadBase".as_slice()
+}
+
+/// Puts what was compared for the answer of a sink to a train, which takes these streams of it.
 pub(crate) fn put_compared(
     rows: &mut Octets,
     answer: &[u8],
     train: &Train,
     ears: &Ears,
     sink: u8,
+    taken: BisSet,
     is_second: bool,
 ) -> Result<(), Memory> {
     if is_ignored(answer) {
@@ -94,7 +111,7 @@ pub(crate) fn put_compared(
         };
     }
     match train.base() {
-        Some(octets) if answer == b"NoneTaken".as_slice() => ears.put_reasons(rows, sink, octets),
+        Some(octets) if has_base(answer) => ears.put_reasons(rows, sink, octets, taken),
         _ => Ok(()),
     }
 }

@@ -1,5 +1,5 @@
 //! What words of a line or a row say.
-use bcast_base::Octets;
+use bcast_base::{BisSet, Octets};
 use scenario_words::Cursor;
 use std::alloc::Global;
 
@@ -22,6 +22,20 @@ pub(crate) fn digit_of(word: &[u8]) -> u8 {
     match word.first() {
         Some(digit) => digit.saturating_sub(b'0'),
         None => 0,
+    }
+}
+
+/// The streams that the words from this place on name, which rise; none where one names none.
+pub(crate) fn streams_at(line: &[u8], place: u64) -> BisSet {
+    let mut words = Cursor::new(line);
+    'words: for _ in 0..place {
+        if words.word().is_err() {
+            return BisSet::new();
+        }
+    }
+    match words.rising() {
+        Ok(which) => which,
+        Err(_) => BisSet::new(),
     }
 }
 

@@ -1,6 +1,6 @@
 -- A line is its words and its end: what was put of the words is a front of the line.
 use Rattle.std.proofs.Common.{◌≡◌, ℕ, List, [], ◌∷◌, ◌++◌, refl, ap, ◌∙◌, append_assoc}
-use Rattle.printed_words.specs.Fronts.{AFront}
+use Rattle.scenario_words.specs.Fronts.{AFront}
 
 pub all_put : (old now new words : List ℕ) → now ≡ old ++ words → new ≡ now ++ 10 ∷ [] → new ≡ old ++ (words ++ 10 ∷ [])
 all_put old now new words put more = more ∙ (ap (λ (l : List ℕ). l ++ 10 ∷ []) put ∙ append_assoc old words (10 ∷ []))

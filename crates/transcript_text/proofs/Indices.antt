@@ -2,7 +2,7 @@
 use Rattle.std.proofs.Common.{◌≡◌, ◌≤◌, ◌<◌, ◌+◌, ◌-◌, ℕ, suc, Bool, true, false, cond, nat_eq, List, [], ◌∷◌, ◌++◌, map, decimal, refl, ap, sym, ◌∙◌, append_assoc, arith}
 use Rattle.std.specs.Int.{bit_at}
 use Rattle.std.proofs.lemmas.List.{append-nil}
-use Rattle.printed_words.specs.Lines.{behind}
+use Rattle.scenario_words.specs.Joined.{behind}
 use Rattle.transcript_text.specs.SinkLines.{indices_from}
 
 abbrev pub indices_words : ℕ → ℕ → ℕ → List ℕ

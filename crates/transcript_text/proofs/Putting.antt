@@ -1,6 +1,6 @@
 -- Words that are put behind words, and the end of their line.
 use Rattle.std.proofs.Common.{◌≡◌, ℕ, List, [], ◌∷◌, ◌++◌, refl, ap, sym, ◌∙◌, append_assoc}
-use Rattle.printed_words.specs.Lines.{behind}
+use Rattle.scenario_words.specs.Joined.{behind}
 
 pub behind_more : (words more : List (List ℕ)) → behind (words ++ more) ≡ behind words ++ behind more
 behind_more [] more = refl

@@ -1,7 +1,7 @@
 -- Where the first line of a text ends.
 use Rattle.std.proofs.Common.{◌≡◌, ◌≤◌, ◌<◌, ◌-◌, ℕ, zero, suc, true, false, cond, nat_eq, List, [], ◌∷◌, length, get_or, take, drop, refl, ap, ◌∙◌, arith}
 use Rattle.std.proofs.lemmas.Bool.{false_from_ne_true}
-use Rattle.printed_words.specs.Lines.{onto_first}
+use Rattle.scenario_words.specs.Joined.{onto_first}
 use Rattle.transcript_text.specs.CountedLines.{lines_of}
 
 -- a text without an end is one line

@@ -1,6 +1,6 @@
 -- Texts of whole lines.
 use Rattle.std.proofs.Common.{◌≡◌, ℕ, Bool, true, false, cond, nat_eq, List, [], ◌∷◌, ◌++◌, refl, ap, sym, ◌∙◌, append_assoc}
-use Rattle.printed_words.specs.Lines.{onto_first}
+use Rattle.scenario_words.specs.Joined.{onto_first}
 use Rattle.transcript_text.specs.CountedLines.{lines_of, IsWhole}
 
 pub whole_none : IsWhole []

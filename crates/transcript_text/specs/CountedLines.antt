@@ -1,7 +1,7 @@
 -- The lines of a text, each with the octet that ends it. What stands behind the last of these is a line too, without an end.
 -- The transcript and its summary are this project's own.
 use Rattle.std.specs.Prelude.{ℕ, ◌≡◌, ◌==◌, List, [], ◌∷◌, ◌++◌, if◌then◌else◌}
-use Rattle.printed_words.specs.Lines.{onto_first}
+use Rattle.scenario_words.specs.Joined.{onto_first}
 use Rattle.transcript_text.specs.Lines.{newline}
 
 abbrev pub lines_of : List ℕ → List (List ℕ)

@@ -6,8 +6,8 @@ use Rattle.big_info.specs.Faults.{number_of as place_of}
 use Rattle.isoal_base.specs.declared.heard.Heard.TheVariants.{Malformed, WrongKind, Late, Beyond, Repeat, Kept}
 use Rattle.isoal_base.specs.declared.hearing.Hearing.{Hearing}
 use Rattle.isoal_base.specs.declared.hearing.Hearing.TheVariants.{NotOnGroup, NotTaken, NoNumber, Heard}
-use Rattle.printed_words.specs.Digits.{digits}
-use Rattle.printed_words.specs.Lines.{joined}
+use Rattle.scenario_words.specs.Digits.{digits}
+use Rattle.scenario_words.specs.Joined.{joined}
 use Rattle.unit_outlets.specs.Handed.{Handed, valid, lost}
 use Rattle.transcript_text.specs.declared.refusal.Refusal.{Refusal}
 use Rattle.transcript_text.specs.declared.refusal.Refusal.TheVariants.{TextTooLong, LineTooLong, BadLine, AfterEnd, Order, BadGroup, BaseTooLong}

@@ -20,7 +20,7 @@ use Rattle.delegator_history.specs.declared.train_heard.ControlHeard.{ControlHea
 use Rattle.delegator_history.specs.declared.train_heard.ControlHeard.TheVariants as controls
 use Rattle.delegator_history.specs.declared.train_heard.TrainHeard.{TrainHeard}
 use Rattle.delegator_history.specs.declared.train_heard.TrainHeard.TheVariants as trains
-use Rattle.printed_words.specs.Digits.{digits}
+use Rattle.scenario_words.specs.Digits.{digits}
 use Rattle.transcript_text.specs.Lines.{line_of}
 
 -- how the lines of a link begin: with these first words, and with these numbers behind them

@@ -2,7 +2,7 @@
 -- project's own.
 use Rattle.std.specs.Prelude.{ℕ, ◌+◌, ◌&&◌, not, nat_eq, Bool, List, [], ◌∷◌, ◌++◌, length, cond, codes, decimal}
 use Rattle.std.specs.List.{starts_with, ends_with, filter, concat}
-use Rattle.printed_words.specs.Lines.{joined}
+use Rattle.scenario_words.specs.Joined.{joined}
 use Rattle.transcript_text.specs.CountedLines.{lines_of}
 use Rattle.transcript_text.specs.Lines.{newline}
 use Rattle.transcript_text.specs.declared.counts.Counts.{Counts}

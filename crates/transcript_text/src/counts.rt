@@ -1,10 +1,11 @@
 ghost use Rattle.std.specs.Prelude.{◌≡◌, ◌<◌, ◌+◌, ◌++◌, ◌∷◌, [], IfOk, OnOk, cond, length, nat_eq};
 ghost use Rattle.transcript_text.specs.CountedLines.{lines_of};
-ghost use Rattle.transcript_text.specs.Summary.{begins_unit as begins_unit_in, ends_lost as ends_lost_in, is_sum_line, none_counted, summary_of, with_line, with_lines};
+ghost use Rattle.transcript_text.specs.Summary.{begins_unit as begins_unit_in, ends_lost as ends_lost_in, is_sum_line, none_counted};
+ghost use Rattle.transcript_text.specs.Summary.{summary_of, with_line, with_lines};
 
 use bcast_base::{Memory, Octets};
 use memchr::memchr;
-use printed_words::{Word, put_words};
+use scenario_words::{Word, put_words};
 use std::alloc::Global;
 
 /// What the lines of a transcript say of its units.

@@ -4,8 +4,8 @@ ghost use Rattle.transcript_text.specs.SinkLines.{bad_number, forged_line};
 use crate::put_named;
 use assistant_machine::{NoticeFault, NoticeTaken};
 use bcast_base::{Memory, Octets};
-use printed_words::Word;
 use receive_state::StateFault;
+use scenario_words::Word;
 
 /// The number of what is wrong with the octets of a value, from 1 to 3.
 fn number_of(fault: StateFault) -> u8

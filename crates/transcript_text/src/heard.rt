@@ -7,7 +7,7 @@ use crate::put_named;
 use crate::streams::put_streams;
 use bcast_base::{BisSet, Memory, Octets};
 use delegator_history::{ControlHeard, TrainHeard};
-use printed_words::{Word, put_words};
+use scenario_words::{Word, put_words};
 
 /// Puts a line of a sink: a name, and behind it a number where there is one.
 fn put_sink(text: &mut Octets, sink: u8, name: &[u8], number: Option<u64>) -> Result<(), Memory>

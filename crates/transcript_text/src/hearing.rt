@@ -1,11 +1,11 @@
 ghost use Rattle.std.specs.Prelude.{◌≡◌, ◌++◌, OnOk, OnErr};
-ghost use Rattle.printed_words.specs.Fronts.{AFront};
+ghost use Rattle.scenario_words.specs.Fronts.{AFront};
 ghost use Rattle.transcript_text.specs.Lines.{heard_line, hearing_name, hearing_number};
 
 use crate::word::put_named;
 use bcast_base::{Memory, Octets};
 use isoal_base::{Heard, Hearing};
-use printed_words::Word;
+use scenario_words::Word;
 
 /// The name of an answer of a sink in the scenario language.
 fn name_of(hearing: Hearing) -> &'static [u8]

@@ -1,11 +1,12 @@
 ghost use Rattle.std.specs.Prelude.{◌≡◌, ◌++◌, OnOk, OnErr};
-ghost use Rattle.printed_words.specs.Fronts.{AFront};
-ghost use Rattle.transcript_text.specs.Lines.{valid_line, lost_line, dropped_line, dropped_name, pdu_line, stale_line, control_line, sum_line};
+ghost use Rattle.scenario_words.specs.Fronts.{AFront};
+ghost use Rattle.transcript_text.specs.Lines.{valid_line, lost_line, dropped_line, dropped_name};
+ghost use Rattle.transcript_text.specs.Lines.{pdu_line, stale_line, control_line, sum_line};
 
 use crate::refusal::{Refusal, name_of};
 use crate::word::put_line;
 use bcast_base::{Memory, Octets};
-use printed_words::Word;
+use scenario_words::Word;
 
 /// Puts the line of a unit that was rebuilt, with its time in µs.
 ///

@@ -1,11 +1,11 @@
 ghost use Rattle.std.specs.Prelude.{◌≡◌, ◌++◌, OnOk, OnErr};
-ghost use Rattle.printed_words.specs.Fronts.{AFront};
+ghost use Rattle.scenario_words.specs.Fronts.{AFront};
 ghost use Rattle.transcript_text.specs.Lines.{refusal_line, refusal_name, refusal_number};
 
 use crate::word::put_named;
 use bcast_base::{Memory, Octets};
 use big_info::GroupFault;
-use printed_words::Word;
+use scenario_words::Word;
 
 /// Why a line of a scenario is refused, by the names of the scenario language.
 #[derive(Clone, Copy, Debug, PartialEq, Eq)]

@@ -7,7 +7,7 @@ use crate::label::Label;
 use crate::put_line;
 use bcast_base::{Memory, Octets};
 use delegator_history::{Cause, Reply};
-use printed_words::Word;
+use scenario_words::Word;
 
 /// The name of the cause of a refusal in the scenario language.
 fn name_of(cause: Cause) -> &'static [u8]

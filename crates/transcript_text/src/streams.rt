@@ -1,9 +1,9 @@
 ghost use Rattle.std.specs.Prelude.{◌≡◌, ◌≤◌, ◌++◌, OnOk, map, decimal};
-ghost use Rattle.printed_words.specs.Lines.{behind};
+ghost use Rattle.scenario_words.specs.Joined.{behind};
 ghost use Rattle.transcript_text.specs.SinkLines.{indices_from, indices_of};
 
 use bcast_base::{Bis, BisSet, Memory, Octets};
-use printed_words::{Word, put_words};
+use scenario_words::{Word, put_words};
 
 /// Puts an index behind a line where its stream is in the set.
 fn put_stream(line: &mut Octets, which: BisSet, bis: Bis) -> Result<(), Memory>

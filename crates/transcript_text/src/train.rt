@@ -4,7 +4,7 @@ ghost use Rattle.transcript_text.specs.SinkLines.{train_line};
 use crate::put_line;
 use announcement_train::Train;
 use bcast_base::{Memory, Octets};
-use printed_words::Word;
+use scenario_words::Word;
 
 /// Puts the line of what a source announces to a sink, with its time in µs.
 ///

@@ -6,7 +6,7 @@ use crate::label::Label;
 use crate::put_line;
 use bcast_base::{Memory, Octets};
 use delegator_history::Notice;
-use printed_words::Word;
+use scenario_words::Word;
 
 /// Puts a line with the octets of a slot.
 fn put_value(
@@ -88,7 +88,8 @@ pub fn put_read(text: &mut Octets, label: Label, notice: &Notice) -> Result<(), 
 ///
 /// After Memory a part of the line may stand at the end of the text.
 pub fn put_state(text: &mut Octets, sink: u8, slot: u8, value: &[u8]) -> Result<(), Memory>
-    ensures { OnOk result (text.new ≡ text.old ++ value_line (codes "state") (decimal sink ∷ []) (record { slot = slot; value = value.now })) }
+    ensures { OnOk result (text.new ≡ text.old
+        ++ value_line (codes "state") (decimal sink ∷ []) (record { slot = slot; value = value.now })) }
 {
     put_value(text, b"state", Label::Plain { sink }, slot, value)
 }
@@ -97,7 +98,8 @@ pub fn put_state(text: &mut Octets, sink: u8, slot: u8, value: &[u8]) -> Result<
 ///
 /// After Memory a part of the line may stand at the end of the text.
 pub fn put_view(text: &mut Octets, sink: u8, slot: u8, value: &[u8]) -> Result<(), Memory>
-    ensures { OnOk result (text.new ≡ text.old ++ value_line (codes "view") (decimal sink ∷ []) (record { slot = slot; value = value.now })) }
+    ensures { OnOk result (text.new ≡ text.old
+        ++ value_line (codes "view") (decimal sink ∷ []) (record { slot = slot; value = value.now })) }
 {
     put_value(text, b"view", Label::Plain { sink }, slot, value)
 }
@@ -112,7 +114,8 @@ pub fn put_link_view(
     slot: u8,
     value: &[u8],
 ) -> Result<(), Memory>
-    ensures { OnOk result (text.new ≡ text.old ++ value_line (codes "aview") (decimal sink ∷ decimal link ∷ []) (record { slot = slot; value = value.now })) }
+    ensures { OnOk result (text.new ≡ text.old
+        ++ value_line (codes "aview") (decimal sink ∷ decimal link ∷ []) (record { slot = slot; value = value.now })) }
 {
     put_value(text, b"aview", Label::OnLink { sink, link }, slot, value)
 }

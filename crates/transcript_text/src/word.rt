@@ -1,10 +1,10 @@
 ghost use Rattle.std.specs.Prelude.{◌≡◌, ◌++◌, map, OnOk, OnErr};
-ghost use Rattle.printed_words.specs.Fronts.{AFront};
-ghost use Rattle.printed_words.specs.Words.{spelled};
+ghost use Rattle.scenario_words.specs.Fronts.{AFront};
+ghost use Rattle.scenario_words.specs.PrintedWords.{spelled};
 ghost use Rattle.transcript_text.specs.Lines.{line_of, named_line};
 
 use bcast_base::{Memory, Octets};
-use printed_words::{Word, put_words};
+use scenario_words::{Word, put_words};
 
 /// Puts a line: its first word, the others each behind a space, and the end of the line.
 ///

@@ -3,7 +3,7 @@ use crate::ledger::Stream;
 use crate::marks::has;
 use crate::schedule::Schedule;
 use bcast_base::{Memory, Octets};
-use printed_words::{Word, put_words};
+use scenario_words::{Word, put_words};
 
 /// Where a unit is in the stream of its source.
 #[derive(Clone, Copy)]

@@ -3,7 +3,7 @@ use crate::marks::{has, with, without};
 use crate::note::put_note;
 use bcast_base::{Memory, Octets};
 use isoal_base::Heard;
-use printed_words::Word;
+use scenario_words::Word;
 
 /// A stream of a source at a sink.
 #[derive(Clone, Copy, PartialEq, Eq)]

@@ -1,9 +1,9 @@
 ghost use Rattle.std.specs.Prelude.{◌≡◌, ◌++◌, ◌∷◌, [], codes, map, OnOk};
-ghost use Rattle.printed_words.specs.Lines.{joined};
-ghost use Rattle.printed_words.specs.Words.{spelled};
+ghost use Rattle.scenario_words.specs.Joined.{joined};
+ghost use Rattle.scenario_words.specs.PrintedWords.{spelled};
 
 use bcast_base::{Memory, Octets};
-use printed_words::{Word, put_words};
+use scenario_words::{Word, put_words};
 
 /// Puts a note at the end of the rows: the words with a space between each two, behind the mark of a note.
 pub fn put_note(rows: &mut Octets, words: &[Word<'_>]) -> Result<(), Memory>

@@ -6,7 +6,7 @@ use crate::note::put_note;
 use crate::unit_row::{UnitRow, unit_in};
 use crate::units::Units;
 use bcast_base::{Memory, Octets};
-use printed_words::Word;
+use scenario_words::Word;
 
 impl Units {
     /// Puts the notes of the units in the rows that a line brought, and of those that were never begun.

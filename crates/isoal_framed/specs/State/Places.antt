@@ -7,7 +7,7 @@ use Rattle.isoal_framed.specs.declared.place.Place.{Place}
 use Rattle.isoal_framed.specs.declared.place.Places.{Places}
 
 abbrev pub octets_in : Place → List ℕ
-octets_in place = take place.count place.octets
+octets_in place = take place.count place.octets.items
 
 abbrev pub entry_in : ℕ → Place → Option (List Part)
 entry_in max_pdu place = read_as segmented max_pdu (octets_in place)

@@ -9,7 +9,7 @@ use Rattle.std.proofs.lemmas.List.{append-nil}
 use Rattle.std.proofs.lemmas.Slice.Eq.{bytes_eq-Decides}
 use Rattle.bcast_io.specs.TextLines.{TextLine, plain, past, line_of, lines_from, newline, text_limit}
 use Rattle.bcast_io.specs.TextLines.{lines_of as text_lines}
-use Rattle.printed_words.specs.Lines.{onto_first}
+use Rattle.scenario_words.specs.Joined.{onto_first}
 use Rattle.scenario_text.specs.MigratedLines.{behind, lines_of, text_of}
 use Rattle.scenario_text.specs.Migrated.{is_blank, migrated, migrated_line, migrated_lines}
 use Rattle.scenario_text.proofs.Citable.{text_again}

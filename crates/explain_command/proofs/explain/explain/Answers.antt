@@ -1,4 +1,4 @@
-use Rattle.explained_rows.specs.Told.{told_at}
+use Rattle.explain_command.specs.Rows.{told_at}
 use Rattle.explain_command.proofs.explain.explain.Goals as goal
 
 pub returns-clause-told : goal.returns-clause-told

@@ -5,7 +5,7 @@ use Rattle.isoal_base.specs.Hearing.{read_as}
 use Rattle.isoal_framed.specs.Tokens.{segmented, tokens_of}
 use Rattle.isoal_framed.specs.State.Buffers.{run_in}
 use Rattle.isoal_framed.specs.State.Joining.{hands, run_after}
-use Rattle.isoal_framed.specs.State.Places.{entry_in, kept_of, octets_in}
+use Rattle.isoal_framed.specs.State.Places.{entry_in, kept_of}
 use Rattle.isoal_framed.specs.State.Streams.{stay_of}
 use Rattle.isoal_framed.specs.State.Windows.{HandsOn}
 use Rattle.isoal_framed.proofs.Rings.{turned_more, first_left, left_more}
@@ -17,17 +17,16 @@ places-preserved g c =
     let size : length (kept_of c.args.store.now.places) ≡ length c.args.store.now.places.ring.items =
     length-map c.args.store.now.places.ring.items (entry_in c.args.store.now.places.max_pdu) in
     let below : c.places.counter < length (kept_of c.args.store.now.places) = omega (arith, c.places-test.true, c.requires.count) in
-    let entry : read_as segmented c.args.stream.now.group.info.max_pdu c.pdu.result.now ≡ get_or (kept_of c.args.store.now.places) c.places.counter None =
-    ap (read_as segmented c.args.stream.now.group.info.max_pdu) c.pdu.ensures
-    ∙ ap (λ max_pdu. read_as segmented max_pdu (octets_in c.turn-place.result)) (sym (c.places.invariant.max_pdu ∙ c.requires.max_pdu))
-    ∙ c.turn-place.ensures.first
+    let entry : read_as segmented c.args.stream.now.group.info.max_pdu c.first.result.now ≡ get_or (kept_of c.args.store.now.places) c.places.counter None =
+    ap (λ max_pdu. read_as segmented max_pdu c.first.result.now) (sym (c.places.invariant.max_pdu ∙ c.requires.max_pdu))
+    ∙ c.first.ensures
     ∙ first_left (kept_of c.args.store.now.places) (kept_of c.places.store.places) c.places.counter c.places.invariant.kept below in
     record {
-      places = c.turn-place.ensures.places ∙ c.places.invariant.places;
-      max_pdu = c.turn-place.ensures.max_pdu ∙ c.places.invariant.max_pdu;
+      places = c.turn.ensures.places ∙ c.places.invariant.places;
+      max_pdu = c.turn.ensures.max_pdu ∙ c.places.invariant.max_pdu;
       room = c.take_pdu-handed.ensures.room ∙ c.places.invariant.room;
-      kept = turned_more (kept_of c.args.store.now.places) (kept_of c.places.store.places) (kept_of c.turn-place.new.self) c.places.counter c.args.count
-          c.places.invariant.kept below c.turn-place.ensures.kept;
+      kept = turned_more (kept_of c.args.store.now.places) (kept_of c.places.store.places) (kept_of c.turn.new.self) c.places.counter c.args.count
+          c.places.invariant.kept below c.turn.ensures.kept;
       walked = walked_more (vec_len c.args.store.now.undecided.octets) c.args.stream.now.bis (run_in c.args.store.now.undecided) (run_in c.places.store.undecided) (run_in c.take_pdu-handed.new.undecided)
           (flat_map (tokens_of (stay_of c.args.stream.now) c.args.event) (take c.args.count (kept_of c.args.store.now.places)))
           (flat_map (tokens_of (stay_of c.args.stream.now) c.args.event) (take (c.args.count - c.places.counter) (drop c.places.counter (kept_of c.args.store.now.places))))
@@ -41,12 +40,12 @@ places-preserved g c =
           (c.args.count - (c.places.counter + 1)) below (omega (arith, c.places-test.true)))
           (c.take_pdu-handed.ensures.run
           ∙ ap (λ max_sdu. run_after max_sdu (run_in c.places.store.undecided)
-          (tokens_of (stay_of c.args.stream.now) c.args.event (read_as segmented c.args.stream.now.group.info.max_pdu c.pdu.result.now))) c.places.invariant.room
+          (tokens_of (stay_of c.args.stream.now) c.args.event (read_as segmented c.args.stream.now.group.info.max_pdu c.first.result.now))) c.places.invariant.room
           ∙ ap (λ kept. run_after (vec_len c.args.store.now.undecided.octets) (run_in c.places.store.undecided) (tokens_of (stay_of c.args.stream.now) c.args.event kept)) entry)
           (subst (λ kept. HandsOn (hands (vec_len c.args.store.now.undecided.octets) c.args.stream.now.bis (run_in c.places.store.undecided) (tokens_of (stay_of c.args.stream.now) c.args.event kept))
           c.places.handed (g.T.UnitTaker.calls c.places.taker) (g.T.UnitTaker.calls c.take_pdu-handed.new.taker) c.take_pdu-handed.result) entry
           (subst (λ max_sdu. HandsOn (hands max_sdu c.args.stream.now.bis (run_in c.places.store.undecided)
-          (tokens_of (stay_of c.args.stream.now) c.args.event (read_as segmented c.args.stream.now.group.info.max_pdu c.pdu.result.now)))
+          (tokens_of (stay_of c.args.stream.now) c.args.event (read_as segmented c.args.stream.now.group.info.max_pdu c.first.result.now)))
           c.places.handed (g.T.UnitTaker.calls c.places.taker) (g.T.UnitTaker.calls c.take_pdu-handed.new.taker) c.take_pdu-handed.result) c.places.invariant.room c.take_pdu-handed.ensures.hands))
           c.take_pdu-handed.ensures.cause;
     }

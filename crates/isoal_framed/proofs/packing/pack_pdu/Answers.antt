@@ -1,4 +1,4 @@
-use Rattle.std.proofs.Common.{ℕ, ◌≡◌, ◌∷◌, [], List, length, length-append, ◌∙◌, ap, sym, subst, take, true, false}
+use Rattle.std.proofs.Common.{◌≡◌, ◌∷◌, [], List, length, length-append, ◌∙◌, ap, sym, subst, true, false}
 use Rattle.std.proofs.lemmas.Result.{on_ok_weaker}
 use Rattle.isoal_framed.specs.Air.{pdus_ended}
 use Rattle.isoal_framed.specs.Places.{Act, ends}
@@ -32,13 +32,12 @@ returns-clause-packed c units earlier acts queue_is start =
     subst (Placed c.args.anchor c.args.queue.now.items c.acts.packing c.put_next.new.packing) c.if-branch.false c.in_ok-put_next.ensures.placed in
     let was : (own : List Act) × (pdus_ended own ≡ pdus_ended acts) × At c.args.max_pdu units c.args.anchor earlier own c.args.pdus.now c.acts.packing =
     c.acts.invariant.going units earlier acts c.args.pdus.now queue_is start in
-    let pdu : List ℕ = take c.write-count.result c.write-count.new.into in
     on_ok_weaker c.push.result
     (λ is. (
       was.0,
       was.1,
       subst (λ pdus. Going c.args.max_pdu units c.args.anchor earlier (ends ∷ was.0) c.put_next.new.packing.past c.put_next.new.packing.sent c.args.max_pdu []
           pdus c.put_next.new.packing.stale) (sym is)
-          (ended_is c.args.max_pdu units c.args.queue.now.items c.args.anchor earlier was.0 c.args.pdus.now pdu c.acts.packing c.put_next.new.packing
-          queue_is c.acts.invariant.partly was.2 placed c.write-count.ensures.spelled),
+          (ended_is c.args.max_pdu units c.args.queue.now.items c.args.anchor earlier was.0 c.args.pdus.now c.as_slice.result.now c.acts.packing c.put_next.new.packing
+          queue_is c.acts.invariant.partly was.2 placed c.as_slice.ensures),
     )) c.push.ensures.ok

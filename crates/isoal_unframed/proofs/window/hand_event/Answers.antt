@@ -6,13 +6,14 @@ use Rattle.isoal_unframed.specs.State.Windows.{handed_of, owed_of}
 use Rattle.unit_outlets.specs.Handed.{HandsOver}
 use Rattle.isoal_unframed.specs.State.Rings.{kept_of}
 use Rattle.isoal_unframed.proofs.Places.{places_fit}
+use Rattle.isoal_unframed.proofs.Windows.{place_at_most}
 use Rattle.isoal_unframed.proofs.Handing.{front_more, behind_more, owed_more, owed_stops, owed_all}
 use Rattle.isoal_unframed.proofs.window.hand_event.Goals as goal
 
 pub hand_slot-requires : goal.hand_slot-requires
 hand_slot-requires g c =
     subst (λ m. c.slots.first + m ≤ vec_len c.slots.ring.cells) c.places-places.ensures.exact
-    (places_fit _ _ _ _ _ _ _ _ _ c.slots.invariant.place c.slots-test.true c.slots-slot-end.ensures c.places-places.ensures.all c.place-first.ensures.within
+    (places_fit _ _ _ _ _ _ _ _ _ c.slots.invariant.place c.slots-test.true c.slots-slot-end.ensures c.places-places.ensures.all (place_at_most _ _ c.requires.is_open)
     (c.slots.invariant.cells ∙ c.requires.room))
 
 pub slots-preserved : goal.slots-preserved
@@ -20,11 +21,11 @@ slots-preserved g c = record {
   cells = c.hand_slot.ensures.places ∙ c.slots.invariant.cells;
   max_pdu = c.hand_slot.ensures.max_pdu ∙ c.slots.invariant.max_pdu;
   place = omega (arith, c.slots.invariant.place);
-  front = front_more c.place-first.result c.slots.first (kept_of c.args.ring.now) (kept_of c.slots.ring) (kept_of c.hand_slot.new.self)
+  front = front_more c.args.current.place c.slots.first (kept_of c.args.ring.now) (kept_of c.slots.ring) (kept_of c.hand_slot.new.self)
       (omega (arith, c.slots.invariant.place)) c.slots.invariant.front c.hand_slot.ensures.front;
   behind = behind_more c.slots.first _ (c.slots.first + c.places-places.result) (kept_of c.args.ring.now) (kept_of c.slots.ring) (kept_of c.hand_slot.new.self)
       c.slots.invariant.behind c.hand_slot.ensures.behind (omega (arith, c.places-places.ensures.exact));
-  handed = owed_more (stay_of c.args.stream.now) c.args.event c.slots.slot c.slots-slot-end.result c.time-time.result c.slots.first c.place-first.result c.places-places.result
+  handed = owed_more (stay_of c.args.stream.now) c.args.current.event c.slots.slot c.slots-slot-end.result c.time-time.result c.slots.first c.args.current.place c.places-places.result
       (kept_of c.args.ring.now) (kept_of c.slots.ring) _ _ _ c.time-time.ensures c.slots.invariant.place c.places-places.ensures.exact c.slots.invariant.behind
       c.slots-test.true c.slots-slot-end.ensures c.slots.invariant.handed c.in_ok-hand_slot.ensures.hands;
   counts = c.in_ok-hand_slot.ensures.cause ∙ c.slots.invariant.counts;
@@ -32,10 +33,10 @@ slots-preserved g c = record {
 
 pub returns-in_err-hand_slot-clause-hands : goal.returns-in_err-hand_slot-clause-hands
 returns-in_err-hand_slot-clause-hands g c =
-    subst (λ p. HandsOver (owed_of (stay_of c.args.stream.now) c.args.event (drop p (kept_of c.args.ring.now)))
-    (g.T.UnitTaker.calls c.args.taker.now) (g.T.UnitTaker.calls c.hand_slot.new.taker) c.from_residual.result) c.place-first.ensures.exact
-    (owed_stops (stay_of c.args.stream.now) c.args.event c.slots.slot c.slots-slot-end.result
-    (drop c.place-first.result (kept_of c.args.ring.now)) (g.T.UnitTaker.calls c.args.taker.now) (g.T.UnitTaker.calls c.slots.taker) (g.T.UnitTaker.calls c.hand_slot.new.taker)
+    subst (λ p. HandsOver (owed_of (stay_of c.args.stream.now) c.args.current.event (drop p (kept_of c.args.ring.now)))
+    (g.T.UnitTaker.calls c.args.taker.now) (g.T.UnitTaker.calls c.hand_slot.new.taker) c.from_residual.result) c.requires.is_open.place
+    (owed_stops (stay_of c.args.stream.now) c.args.current.event c.slots.slot c.slots-slot-end.result
+    (drop c.args.current.place (kept_of c.args.ring.now)) (g.T.UnitTaker.calls c.args.taker.now) (g.T.UnitTaker.calls c.slots.taker) (g.T.UnitTaker.calls c.hand_slot.new.taker)
     (handed_of c.args.stream.now.bis c.time-time.result (unit_of c.args.stream.now.group.info.max_sdu
     (take (per_unit_of c.args.stream.now.group.info) (drop c.slots.first (kept_of c.slots.ring)))))
     c.in_err-hand_slot.field-0.0 c.from_residual.result c.from_residual.ensures.0
@@ -43,22 +44,22 @@ returns-in_err-hand_slot-clause-hands g c =
 
 pub returns-in_err-hand_slot-clause-front : goal.returns-in_err-hand_slot-clause-front
 returns-in_err-hand_slot-clause-front g c =
-    subst (λ p. take p (kept_of c.hand_slot.new.self) ≡ take p (kept_of c.args.ring.now)) c.place-first.ensures.exact
-    (front_more c.place-first.result c.slots.first (kept_of c.args.ring.now) (kept_of c.slots.ring) (kept_of c.hand_slot.new.self)
+    subst (λ p. take p (kept_of c.hand_slot.new.self) ≡ take p (kept_of c.args.ring.now)) c.requires.is_open.place
+    (front_more c.args.current.place c.slots.first (kept_of c.args.ring.now) (kept_of c.slots.ring) (kept_of c.hand_slot.new.self)
     (omega (arith, c.slots.invariant.place)) c.slots.invariant.front c.hand_slot.ensures.front)
 
 pub returns-in_err-hand_slot-clause-behind : goal.returns-in_err-hand_slot-clause-behind
 returns-in_err-hand_slot-clause-behind g c =
-    subst (λ p. drop (p + c.args.stream.now.group.info.bn) (kept_of c.hand_slot.new.self) ≡ drop (p + c.args.stream.now.group.info.bn) (kept_of c.args.ring.now)) c.place-first.ensures.exact
-    (behind_more c.slots.first _ (c.place-first.result + c.args.stream.now.group.info.bn) (kept_of c.args.ring.now) (kept_of c.slots.ring) (kept_of c.hand_slot.new.self)
+    subst (λ p. drop (p + c.args.stream.now.group.info.bn) (kept_of c.hand_slot.new.self) ≡ drop (p + c.args.stream.now.group.info.bn) (kept_of c.args.ring.now)) c.requires.is_open.place
+    (behind_more c.slots.first _ (c.args.current.place + c.args.stream.now.group.info.bn) (kept_of c.args.ring.now) (kept_of c.slots.ring) (kept_of c.hand_slot.new.self)
     c.slots.invariant.behind c.hand_slot.ensures.behind
-    (subst (λ m. c.slots.first + m ≤ c.place-first.result + c.args.stream.now.group.info.bn) c.places-places.ensures.exact
+    (subst (λ m. c.slots.first + m ≤ c.args.current.place + c.args.stream.now.group.info.bn) c.places-places.ensures.exact
     (places_fit _ _ _ _ _ _ _ _ _ c.slots.invariant.place c.slots-test.true c.slots-slot-end.ensures c.places-places.ensures.all
     (omega arith) refl)))
 
 pub returns-clause-hands : goal.returns-clause-hands
 returns-clause-hands g c =
-    subst (λ p. g.T.UnitTaker.calls c.slots.taker ≡ g.T.UnitTaker.calls c.args.taker.now ++ owed_of (stay_of c.args.stream.now) c.args.event (drop p (kept_of c.args.ring.now)))
-    c.place-first.ensures.exact
-    (owed_all (stay_of c.args.stream.now) c.args.event c.slots.slot c.slots-slot-end.result (drop c.place-first.result (kept_of c.args.ring.now))
+    subst (λ p. g.T.UnitTaker.calls c.slots.taker ≡ g.T.UnitTaker.calls c.args.taker.now ++ owed_of (stay_of c.args.stream.now) c.args.current.event (drop p (kept_of c.args.ring.now)))
+    c.requires.is_open.place
+    (owed_all (stay_of c.args.stream.now) c.args.current.event c.slots.slot c.slots-slot-end.result (drop c.args.current.place (kept_of c.args.ring.now))
     (g.T.UnitTaker.calls c.args.taker.now) (g.T.UnitTaker.calls c.slots.taker) c.slots-test.false c.slots-slot-end.ensures c.slots.invariant.handed)

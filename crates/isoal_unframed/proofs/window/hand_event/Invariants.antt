@@ -12,6 +12,6 @@ invariant-slots g l = record {
   front : take l.initial.first (kept_of l.ring) ≡ take l.initial.first (kept_of l.initial.ring);
   behind : drop l.first (kept_of l.ring) ≡ drop l.first (kept_of l.initial.ring);
   handed : g.T.UnitTaker.calls l.taker ≡ g.T.UnitTaker.calls l.initial.taker
-      ++ take l.slot (owed_of (stay_of l.stream) l.event (drop l.initial.first (kept_of l.initial.ring)));
+      ++ take l.slot (owed_of (stay_of l.stream) l.current.event (drop l.initial.first (kept_of l.initial.ring)));
   counts : g.T.UnitTaker.counts l.taker ≡ g.T.UnitTaker.counts l.initial.taker;
 }

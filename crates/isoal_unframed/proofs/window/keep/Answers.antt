@@ -1,39 +1,35 @@
-use Rattle.std.proofs.Common.{◌∙◌, ◌+◌, ◌*◌, ◌≡◌, ◌≤◌, ◌<◌, true, false, length, subst, sym, arith, Some}
+use Rattle.std.proofs.Common.{◌∙◌, ◌-◌, ◌≡◌, ◌<◌, true, false, length, subst, sym, Some}
 use Rattle.isoal_base.specs.Stays.{window_of}
 use Rattle.isoal_unframed.specs.State.Cells.{part_of}
 use Rattle.isoal_unframed.specs.State.Rings.{kept_of}
-use Rattle.isoal_unframed.specs.State.Streams.{place_of}
 use Rattle.isoal_unframed.proofs.Kept.{length-kept}
-use Rattle.isoal_unframed.proofs.Windows.{is_placed, is_put, place_within}
+use Rattle.isoal_unframed.proofs.Windows.{is_placed, is_put}
 use Rattle.isoal_unframed.proofs.window.keep.Goals as goal
 
 pub returns-then-not-is_empty-clause-answer : goal.returns-then-not-is_empty-clause-answer
 returns-then-not-is_empty-clause-answer c =
     let size : length (kept_of c.args.ring.now) ≡ window_of c.args.stream.now.group.info =
     length-kept c.args.ring.now.max_pdu c.args.ring.now.cells.items c.args.ring.now.block.items ∙ sym c.args.ring.now.cells.ok.0 ∙ c.requires.room in
-    let within : place_of c.args.stream.now.group.info c.args.event + c.args.stream.now.group.info.bn ≤ window_of c.args.stream.now.group.info =
-    place_within c.args.stream.now.group.info c.args.event in
-    sym (is_placed c.args.stream.now.group.info c.args.event c.args.number c.place_at-place.result c.from.result (kept_of c.args.ring.now) c.is_empty.result true
-    c.from.ensures size (omega arith) c.if-number-first.false (subst (λ n. c.args.number < c.args.event * c.from.result + n) c.window.ensures c.if-number-first-2.false)
-    c.place_at-place.ensures.exact c.is_empty.ensures c.if-not-is_empty.true)
+    let below : c.args.number - c.args.current.number < window_of c.args.stream.now.group.info =
+    subst (λ n. c.args.number - c.args.current.number < n) c.window.ensures c.if-index-window.false in
+    sym (is_placed c.args.stream.now.group.info c.args.current c.args.number c.place_at-place.result (kept_of c.args.ring.now) c.is_empty.result true
+    c.requires.is_open size c.if-number-current.false below c.place_at-place.ensures.exact c.is_empty.ensures c.if-not-is_empty.true)
 
 pub returns-clause-answer : goal.returns-clause-answer
 returns-clause-answer c =
     let size : length (kept_of c.args.ring.now) ≡ window_of c.args.stream.now.group.info =
     length-kept c.args.ring.now.max_pdu c.args.ring.now.cells.items c.args.ring.now.block.items ∙ sym c.args.ring.now.cells.ok.0 ∙ c.requires.room in
-    let within : place_of c.args.stream.now.group.info c.args.event + c.args.stream.now.group.info.bn ≤ window_of c.args.stream.now.group.info =
-    place_within c.args.stream.now.group.info c.args.event in
-    sym (is_placed c.args.stream.now.group.info c.args.event c.args.number c.place_at-place.result c.from.result (kept_of c.args.ring.now) c.is_empty.result false
-    c.from.ensures size (omega arith) c.if-number-first.false (subst (λ n. c.args.number < c.args.event * c.from.result + n) c.window.ensures c.if-number-first-2.false)
-    c.place_at-place.ensures.exact c.is_empty.ensures c.if-not-is_empty.false)
+    let below : c.args.number - c.args.current.number < window_of c.args.stream.now.group.info =
+    subst (λ n. c.args.number - c.args.current.number < n) c.window.ensures c.if-index-window.false in
+    sym (is_placed c.args.stream.now.group.info c.args.current c.args.number c.place_at-place.result (kept_of c.args.ring.now) c.is_empty.result false
+    c.requires.is_open size c.if-number-current.false below c.place_at-place.ensures.exact c.is_empty.ensures c.if-not-is_empty.false)
 
 pub returns-clause-step : goal.returns-clause-step
 returns-clause-step c =
     let size : length (kept_of c.args.ring.now) ≡ window_of c.args.stream.now.group.info =
     length-kept c.args.ring.now.max_pdu c.args.ring.now.cells.items c.args.ring.now.block.items ∙ sym c.args.ring.now.cells.ok.0 ∙ c.requires.room in
-    let within : place_of c.args.stream.now.group.info c.args.event + c.args.stream.now.group.info.bn ≤ window_of c.args.stream.now.group.info =
-    place_within c.args.stream.now.group.info c.args.event in
-    is_put c.args.stream.now.group.info c.args.event c.args.number c.place_at-place.result c.from.result (kept_of c.args.ring.now) (kept_of c.put.new.self)
-    (Some (part_of c.args.is_end c.args.part.now))
-    c.from.ensures size (omega arith) c.if-number-first.false (subst (λ n. c.args.number < c.args.event * c.from.result + n) c.window.ensures c.if-number-first-2.false)
+    let below : c.args.number - c.args.current.number < window_of c.args.stream.now.group.info =
+    subst (λ n. c.args.number - c.args.current.number < n) c.window.ensures c.if-index-window.false in
+    is_put c.args.stream.now.group.info c.args.current c.args.number c.place_at-place.result (kept_of c.args.ring.now) (kept_of c.put.new.self)
+    (Some (part_of c.args.part.is_end c.args.part.octets.now)) c.requires.is_open size c.if-number-current.false below
     c.place_at-place.ensures.exact c.put.ensures.kept

@@ -2,10 +2,11 @@ use Rattle.std.proofs.Common.{ℕ, ◌≡◌, ◌<◌, ◌++◌, ◌∙◌, set,
 use Rattle.std.specs.Prelude.{IfSome}
 use Rattle.bass_operations.specs.declared.operation.Operation.TheVariants.{Remove}
 use Rattle.delegator_history.specs.declared.replies.Cause.TheVariants as causes
-use Rattle.delegator_history.specs.Notices.{change}
 use Rattle.delegator_history.specs.Writes.{slot_with}
 use Rattle.delegator_choices.proofs.Citable.{held_slot}
 use Rattle.delegator_control.specs.State.Machines.{Machine, machine}
+use Rattle.delegator_control.specs.State.Statuses.{status_at}
+use Rattle.delegator_control.proofs.Apart.{emptied, one}
 use Rattle.delegator_control.proofs.Serving.{refused, remove_unknown, remove_synced, remove_accepted}
 use Rattle.delegator_control.proofs.scan_delegator.ScanDelegator.remove.Goals as goal
 
@@ -32,4 +33,5 @@ returns c =
     remove_accepted m _ c.args.source_id c.in-Some.slot held.0 _ _ found held.1 (sym c.is_on.ensures ∙ c.if-is_on.false) within
     (subst (λ n. c.in-Some.slot < n) c.args.self.now.slots.ok.0 within) refl
     (ap (λ k. set m.sight.slots k None) c.from.ensures)
-    (c.in_ok-note.ensures.ok ∙ (λ i. m.waiting ++ change c.in-Some.slot (c.in_ok-before.ensures.value i) (c.new.ensures i)))
+    (c.in_ok-put_notice.ensures.ok ∙ ap (λ notices. m.waiting ++ notices)
+    (ap (one c.in-Some.slot) c.new.ensures ∙ sym (emptied c.in-Some.slot (status_at c.in-Some.slot m.sight) _ held.0 held.1)))

@@ -44,4 +44,5 @@ returns c =
     let last : c.indices.index ≡ 32 = omega (arith, c.indices-test.false) in
     let places = c.indices.invariant.places ∙ all_places joining.which c.indices.index last in
     let streams = c.indices.invariant.fresh ∙ all_streams (λ bis. fresh (stay_on joining bis)) joining.which c.indices.index last in
-    λ i. record { info = (c.joining.view_is i).info; places = places i; streams = streams i }
+    let info : c.new-2.result.group.info ≡ joining.info = c.new-2.ensures ∙ ap (λ j. j.info) c.joining.view_is in
+    λ i. record { info = info i; places = places i; streams = streams i }

@@ -9,8 +9,8 @@ places-preserved c =
     record {
       capacity = ap (λ ring. ring.capacity) c.push_back.ensures.items ∙ c.places.invariant.capacity;
       filled = ap (λ ring. map (entry_in c.args.max_pdu) ring.items) c.push_back.ensures.items
-          ∙ filled_more (entry_in c.args.max_pdu) c.places.ring.items c.empty.result c.places.ring.capacity c.places.counter
-          c.places.invariant.filled below (nothing_read c.args.max_pdu (octets_in c.empty.result) c.empty.ensures);
+          ∙ filled_more (entry_in c.args.max_pdu) c.places.ring.items c.in_ok-empty.field-0 c.places.ring.capacity c.places.counter
+          c.places.invariant.filled below (nothing_read c.args.max_pdu (octets_in c.in_ok-empty.field-0) c.in_ok-empty.ensures);
     }
 
 pub invariant_of-result : goal.invariant_of-result

@@ -11,9 +11,9 @@ pub returns-clause-held : goal.returns-clause-held
 returns-clause-held c =
     let size : length (kept_of c.self.inside.ring) ≡ window_of c.self.inside.stream.group.info =
     length-kept c.self.inside.ring.max_pdu c.self.inside.ring.cells.items c.self.inside.ring.block.items ∙ sym c.self.inside.ring.cells.ok.0 ∙ c.self.invariant.room in
-    let within : place_of c.self.inside.stream.group.info c.self.inside.event + c.self.inside.stream.group.info.bn ≤ window_of c.self.inside.stream.group.info =
-    place_within c.self.inside.stream.group.info c.self.inside.event in
+    let within : place_of c.self.inside.stream.group.info c.self.inside.current.event + c.self.inside.stream.group.info.bn ≤ window_of c.self.inside.stream.group.info =
+    place_within c.self.inside.stream.group.info c.self.inside.current.event in
     subst (λ w. c.held.result ≡ held_in_event w.stay w.kept) c.self.view_is
     (c.held.ensures.held
-    ∙ held-turned (stay_of c.self.inside.stream) (place_of c.self.inside.stream.group.info c.self.inside.event) (kept_of c.self.inside.ring)
+    ∙ held-turned (stay_of c.self.inside.stream) (place_of c.self.inside.stream.group.info c.self.inside.current.event) (kept_of c.self.inside.ring)
     (sym (c.self.inside.stream.group.bounds.whole_slots c.self.inside.stream.unframed)) (omega arith))

@@ -11,7 +11,7 @@ pub returns-clause-kept : goal.returns-clause-kept
 returns-clause-kept c =
     let size : length (kept_of c.self.inside.ring) ≡ window_of c.self.inside.stream.group.info =
     length-kept c.self.inside.ring.max_pdu c.self.inside.ring.cells.items c.self.inside.ring.block.items ∙ sym c.self.inside.ring.cells.ok.0 ∙ c.self.invariant.room in
-    let within : place_of c.self.inside.stream.group.info c.self.inside.event + c.self.inside.stream.group.info.bn ≤ window_of c.self.inside.stream.group.info =
-    place_within c.self.inside.stream.group.info c.self.inside.event in
+    let within : place_of c.self.inside.stream.group.info c.self.inside.current.event + c.self.inside.stream.group.info.bn ≤ window_of c.self.inside.stream.group.info =
+    place_within c.self.inside.stream.group.info c.self.inside.current.event in
     subst (λ w. length w.kept ≡ window_of w.stay.info) c.self.view_is
-    (length-turned (place_of c.self.inside.stream.group.info c.self.inside.event) (kept_of c.self.inside.ring) (omega arith) ∙ size)
+    (length-turned (place_of c.self.inside.stream.group.info c.self.inside.current.event) (kept_of c.self.inside.ring) (omega arith) ∙ size)

@@ -82,13 +82,13 @@ returns-in-Apart c source past from lives =
 
 pub returns-in-Write : goal.returns-in-Write
 returns-in-Write c source past from lives =
-    does_so source c.args.step _ past c.args.text.now c.write.new.self c.write.result (c.in-Write.is ∙ ap (λ octets. steps.Write c.in-Write.sink octets) (sym c.as_slice-in-Write.ensures)) refl
-    (subst (λ refusal. Quietly refusal (Unit {0}) past (stayed (calls.asked 0 c.as_slice-in-Write.result.now ∷ past.life) past) c.write.new.self c.write.result)
+    does_so source c.args.step _ past c.args.text.now c.write.new.self c.write.result c.in-Write.is refl
+    (subst (λ refusal. Quietly refusal (Unit {0}) past (stayed (calls.asked 0 c.in-Write.octets ∷ past.life) past) c.write.new.self c.write.result)
     (past_link (calls.is_joined 0 past.life) None (first_joined past c.args.self.now lives)) (c.write.ensures past lives))
 
 pub returns-in-AWrite : goal.returns-in-AWrite
 returns-in-AWrite c source past from lives =
-    does_so source c.args.step _ past c.args.text.now c.write-in-AWrite.new.self c.write-in-AWrite.result (c.in-AWrite.is ∙ ap (λ octets. steps.AWrite c.in-AWrite.sink c.in-AWrite.link octets) (sym c.as_slice-in-AWrite.ensures)) refl (c.write-in-AWrite.ensures past lives)
+    does_so source c.args.step _ past c.args.text.now c.write-in-AWrite.new.self c.write-in-AWrite.result c.in-AWrite.is refl (c.write-in-AWrite.ensures past lives)
 
 pub returns-in-Serve : goal.returns-in-Serve
 returns-in-Serve c source past from lives =

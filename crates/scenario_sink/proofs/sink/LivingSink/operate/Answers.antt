@@ -1,4 +1,4 @@
-use Rattle.std.proofs.Common.{◌∷◌, refl, ◌∙◌, subst}
+use Rattle.std.proofs.Common.{◌∷◌, refl, subst}
 use Rattle.std.proofs.lemmas.Result.{err_from_is_err_and}
 use Rattle.sink_history.specs.Calls.{asked}
 use Rattle.scenario_sink.specs.Making.{stayed}
@@ -9,7 +9,7 @@ use Rattle.scenario_sink.proofs.sink.LivingSink.operate.Goals as goal
 pub returns : goal.returns
 returns c past lives = (
   refl,
-  subst (λ octets. Lives (stayed (asked 0 octets ∷ past.life) past) c.put_write.new.self) (c.as_slice.ensures ∙ c.in_ok-octets.ensures.spelled)
+  subst (λ octets. Lives (stayed (asked 0 octets ∷ past.life) past) c.put_write.new.self) c.in_ok-octets.ensures.spelled
       (c.in_ok-put_write.ensures past lives (first_joined past c.args.self.now lives)),
 )
 

@@ -1,4 +1,4 @@
-use Rattle.std.proofs.Common.{arith}
+use Rattle.std.proofs.Common.{subst}
 use Rattle.bcast_base.specs.Spelling.{IsOctets}
 use Rattle.scenario_sink.proofs.Calls.{Here, asks, here, its_assistant}
 use Rattle.scenario_sink.proofs.Results.{on_ok}
@@ -8,8 +8,8 @@ pub returns : goal.returns
 returns c past lives on =
     let old = c.args.self.now in
     let h : Here c.args.link past old.links = here c.args.link past old.delegator old.links lives.stands on in
-    let octets : IsOctets c.args.octets.now = λ i. omega (arith, c.type_inv.octets i) in
+    let octets : IsOctets c.args.octets = subst IsOctets c.as_slice.ensures c.are_octets.ensures in
     on_ok c.put.result (λ took. record {
-      stands = asks c.links_law.ensures.apart c.args.link c.args.octets.now past old.delegator old.links _ lives.stands on octets took;
+      stands = asks c.links_law.ensures.apart c.args.link c.args.octets past old.delegator old.links _ lives.stands on octets took;
       source_is = lives.source_is;
     }) (c.put.ensures h.on.assistant (its_assistant c.args.link past old.links h))

@@ -1,0 +1,6 @@
+use Rattle.std.proofs.Common.{◌≡◌, drop}
+use Rattle.explain_command.specs.Rows.{place_after}
+use Rattle.explain_command.proofs.place.Place.after.Given as goal
+
+abbrev pub invariant-loop-octet : goal.invariant-loop-octet
+invariant-loop-octet l = place_after l.fn.self l.octets ≡ place_after l.place (drop l.octet-index l.octets)

@@ -1,0 +1,9 @@
+use Rattle.std.proofs.Common.{ℕ, ◌≡◌, ◌<◌, length, get_or}
+use Rattle.radio_schedule.specs.PayloadNumber.{payload_number}
+use Rattle.group_sink.proofs.numbers.offsets_of.Given as goal
+
+abbrev pub invariant-subevents : goal.invariant-subevents
+invariant-subevents l = record {
+  size : length l.offsets ≡ 31;
+  done : (s : ℕ) → s < l.subevent → get_or l.offsets s 0 ≡ payload_number l.group.info 0 s;
+}

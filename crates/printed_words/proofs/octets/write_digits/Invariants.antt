@@ -1,6 +1,0 @@
-use Rattle.std.proofs.Common.{◌≡◌, ◌*◌, ◌++◌, take, drop}
-use Rattle.hex.specs.Hex.{encode_with, lower_digits}
-use Rattle.printed_words.proofs.octets.write_digits.Given as goal
-
-abbrev pub invariant-octets : goal.invariant-octets
-invariant-octets l = take (2 * l.i) l.digits ++ encode_with lower_digits (drop l.i l.octets) ≡ encode_with lower_digits l.octets

@@ -1,4 +1,0 @@
-pub mod Digits
-pub mod Fronts
-pub mod Lines
-pub mod Words

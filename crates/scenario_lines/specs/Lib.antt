@@ -1,0 +1,5 @@
+pub mod Draws
+pub mod Generated
+pub mod NextSteps
+pub mod State
+pub mod Taking

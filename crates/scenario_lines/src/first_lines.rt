@@ -1,0 +1,133 @@
+//! The lines that each scenario needs, behind their first words.
+ghost use Rattle.std.specs.Prelude.{◌≡◌, ◌≤◌};
+ghost use Rattle.scenario_words.specs.Reading.{GivesNext, ReadsNext};
+ghost use Rattle.scenario_text.specs.Steps.{at_row};
+ghost use Rattle.scenario_text.specs.Table.{most_slots as slots_in, scenario_row, group_row, start_row, sink_row, tuned_row};
+ghost use Rattle.scenario_text.specs.Table.{unit_row, hear_row, air_row, inject_row, sniff_row, drop_row};
+
+use scenario_text::Step;
+use scenario_words::{Cursor, LineFault, Misfit};
+use std::alloc::Global;
+
+pub fn scenario(words: &mut Cursor<'_>) -> Result<Step, Misfit>
+    ensures { ReadsNext (λ step. step) result words.new (at_row scenario_row words.old) }
+{
+    let version = words.octet(1, 2)?;
+    Ok(Step::Scenario { version })
+}
+
+pub fn group(words: &mut Cursor<'_>) -> Result<Step, Misfit>
+    ensures { ReadsNext (λ step. step) result words.new (at_row group_row words.old) }
+{
+    Ok(Step::Group {
+        framing: words.framing()?,
+        origin: words.number(3_000, 1 << 48)?,
+        delay: words.bits(24)?,
+        iso: words.bits(12)? as u16,
+        sdu: words.bits(20)?,
+        max_sdu: words.bits(12)? as u16,
+        max_pdu: words.bits(8)? as u8,
+        num_bis: words.bits(5)? as u8,
+        bn: words.bits(3)? as u8,
+        nse: words.bits(5)? as u8,
+        irc: words.bits(4)? as u8,
+        pto: words.bits(4)? as u8,
+        sub: words.bits(20)?,
+        spacing: words.bits(20)?,
+        phy: words.bits(3)? as u8,
+    })
+}
+
+pub fn start(words: &mut Cursor<'_>) -> Result<Step, Misfit>
+    ensures { ReadsNext (λ step. step) result words.new (at_row start_row words.old) }
+{
+    let first = words.number(0, 549_755_813_887)?;
+    Ok(Step::Start { first })
+}
+
+/// The most receive states of a sink.
+fn most_slots(version: u8) -> u8
+    ensures same { result ≡ slots_in version }
+    ensures some { result ≤ 8 }
+{
+    if version == 2 { 8 } else { 4 }
+}
+
+pub fn sink(version: u8, words: &mut Cursor<'_>) -> Result<Step, Misfit>
+    ensures { ReadsNext (λ step. step) result words.new (at_row (sink_row version) words.old) }
+{
+    Ok(Step::Sink {
+        sink: words.octet(0, 7)?,
+        streams: words.octet(1, 31)?,
+        slots: words.octet(1, most_slots(version))?,
+        mtu: words.perhaps(23, 517)?,
+    })
+}
+
+pub fn tuned(words: &mut Cursor<'_>) -> Result<Step, Misfit>
+    ensures { ReadsNext (λ step. step) result words.new (at_row tuned_row words.old) }
+{
+    Ok(Step::Tuned {
+        sink: words.octet(0, 7)?,
+        which: words.rising()?,
+    })
+}
+
+pub fn unit(alloc: Global, words: &mut Cursor<'_>) -> Result<Step, LineFault>
+    ensures { GivesNext (λ step. step) result words.new (at_row unit_row words.old) }
+{
+    Ok(Step::Unit {
+        bis: words.bis(1)?,
+        time: words.time()?,
+        octets: words.octets(alloc, 4_095)?,
+    })
+}
+
+pub fn hear(words: &mut Cursor<'_>) -> Result<Step, Misfit>
+    ensures { ReadsNext (λ step. step) result words.new (at_row hear_row words.old) }
+{
+    Ok(Step::Hear {
+        sink: words.octet(0, 7)?,
+        back: words.octet(0, 31)?,
+        bis: words.bis(1)?,
+        subevent: words.octet(0, 30)?,
+    })
+}
+
+pub fn air(words: &mut Cursor<'_>) -> Result<Step, Misfit>
+    ensures { ReadsNext (λ step. step) result words.new (at_row air_row words.old) }
+{
+    Ok(Step::Air {
+        sink: words.octet(0, 7)?,
+        lose: words.octet(0, 255)?,
+    })
+}
+
+pub fn inject(alloc: Global, words: &mut Cursor<'_>) -> Result<Step, LineFault>
+    ensures { GivesNext (λ step. step) result words.new (at_row inject_row words.old) }
+{
+    Ok(Step::Inject {
+        sink: words.octet(0, 7)?,
+        back: words.octet(0, 31)?,
+        bis: words.bis(1)?,
+        subevent: words.octet(0, 30)?,
+        octets: words.octets(alloc, 300)?,
+    })
+}
+
+pub fn sniff(words: &mut Cursor<'_>) -> Result<Step, Misfit>
+    ensures { ReadsNext (λ step. step) result words.new (at_row sniff_row words.old) }
+{
+    Ok(Step::Sniff {
+        back: words.octet(0, 31)?,
+        bis: words.bis(1)?,
+        subevent: words.octet(0, 30)?,
+    })
+}
+
+pub fn drop_sink(words: &mut Cursor<'_>) -> Result<Step, Misfit>
+    ensures { ReadsNext (λ step. step) result words.new (at_row drop_row words.old) }
+{
+    let sink = words.octet(0, 7)?;
+    Ok(Step::Drop { sink })
+}

@@ -1,0 +1,159 @@
+//! The lines of a sink and of its first link, behind their first words.
+ghost use Rattle.scenario_words.specs.Reading.{GivesNext, ReadsNext};
+ghost use Rattle.scenario_text.specs.Steps.{at_row};
+ghost use Rattle.scenario_text.specs.Table.{pac_row, locate_row, context_row, write_row, add_row};
+ghost use Rattle.scenario_text.specs.Table.{modify_row, remove_row, code_row, serve_row, tell_row};
+ghost use Rattle.scenario_text.specs.Table.{read_row, drain_row, show_row, lose_row, control_row, forge_row};
+
+use bass_operations::{AddSource, ModifySource};
+use scenario_text::{BEFORE_ADD, BEFORE_MODIFY, MOST_OF_OPERATION, Step};
+use scenario_words::{Cursor, LineFault, Misfit};
+use std::alloc::Global;
+
+pub fn pac(alloc: Global, words: &mut Cursor<'_>) -> Result<Step, LineFault>
+    ensures { GivesNext (λ step. step) result words.new (at_row pac_row words.old) }
+{
+    Ok(Step::Pac {
+        sink: words.octet(0, 7)?,
+        codec: words.array()?,
+        caps: words.list(alloc, 255)?,
+        metadata: words.list(alloc, 255)?,
+    })
+}
+
+pub fn locate(words: &mut Cursor<'_>) -> Result<Step, Misfit>
+    ensures { ReadsNext (λ step. step) result words.new (at_row locate_row words.old) }
+{
+    Ok(Step::Locate {
+        sink: words.octet(0, 7)?,
+        bits: words.four_octets()?,
+    })
+}
+
+pub fn context(words: &mut Cursor<'_>) -> Result<Step, Misfit>
+    ensures { ReadsNext (λ step. step) result words.new (at_row context_row words.old) }
+{
+    Ok(Step::Context {
+        sink: words.octet(0, 7)?,
+        sink_bits: words.two_octets()?,
+        source_bits: words.two_octets()?,
+    })
+}
+
+pub fn write(alloc: Global, words: &mut Cursor<'_>) -> Result<Step, LineFault>
+    ensures { GivesNext (λ step. step) result words.new (at_row write_row words.old) }
+{
+    Ok(Step::Write {
+        sink: words.octet(0, 7)?,
+        octets: words.octets(alloc, 512)?,
+    })
+}
+
+pub fn add(alloc: Global, words: &mut Cursor<'_>) -> Result<Step, LineFault>
+    ensures { GivesNext (λ step. step) result words.new (at_row add_row words.old) }
+{
+    let sink = words.octet(0, 7)?;
+    let op = AddSource {
+        address_type: words.octet(0, 1)?,
+        address: words.array()?,
+        sid: words.octet(0, 15)?,
+        broadcast_id: words.array()?,
+        pa_sync: words.octet(0, 2)?,
+        pa_interval: words.number(0, 65_535)? as u16,
+        wishes: words.wishes(alloc, MOST_OF_OPERATION - BEFORE_ADD)?,
+    };
+    Ok(Step::Add { sink, op })
+}
+
+pub fn modify(alloc: Global, words: &mut Cursor<'_>) -> Result<Step, LineFault>
+    ensures { GivesNext (λ step. step) result words.new (at_row modify_row words.old) }
+{
+    let sink = words.octet(0, 7)?;
+    let op = ModifySource {
+        source_id: words.octet(0, 255)?,
+        pa_sync: words.octet(0, 2)?,
+        pa_interval: words.number(0, 65_535)? as u16,
+        wishes: words.wishes(alloc, MOST_OF_OPERATION - BEFORE_MODIFY)?,
+    };
+    Ok(Step::Modify { sink, op })
+}
+
+pub fn remove(words: &mut Cursor<'_>) -> Result<Step, Misfit>
+    ensures { ReadsNext (λ step. step) result words.new (at_row remove_row words.old) }
+{
+    Ok(Step::Remove {
+        sink: words.octet(0, 7)?,
+        source_id: words.octet(0, 255)?,
+    })
+}
+
+pub fn code(words: &mut Cursor<'_>) -> Result<Step, Misfit>
+    ensures { ReadsNext (λ step. step) result words.new (at_row code_row words.old) }
+{
+    Ok(Step::Code {
+        sink: words.octet(0, 7)?,
+        source_id: words.octet(0, 255)?,
+        code: words.array()?,
+    })
+}
+
+pub fn serve(words: &mut Cursor<'_>) -> Result<Step, Misfit>
+    ensures { ReadsNext (λ step. step) result words.new (at_row serve_row words.old) }
+{
+    let sink = words.octet(0, 7)?;
+    Ok(Step::Serve { sink })
+}
+
+pub fn tell(words: &mut Cursor<'_>) -> Result<Step, Misfit>
+    ensures { ReadsNext (λ step. step) result words.new (at_row tell_row words.old) }
+{
+    let sink = words.octet(0, 7)?;
+    Ok(Step::Tell { sink })
+}
+
+pub fn read(words: &mut Cursor<'_>) -> Result<Step, Misfit>
+    ensures { ReadsNext (λ step. step) result words.new (at_row read_row words.old) }
+{
+    let sink = words.octet(0, 7)?;
+    Ok(Step::Read { sink })
+}
+
+pub fn drain(words: &mut Cursor<'_>) -> Result<Step, Misfit>
+    ensures { ReadsNext (λ step. step) result words.new (at_row drain_row words.old) }
+{
+    let sink = words.octet(0, 7)?;
+    Ok(Step::Drain { sink })
+}
+
+pub fn show(words: &mut Cursor<'_>) -> Result<Step, Misfit>
+    ensures { ReadsNext (λ step. step) result words.new (at_row show_row words.old) }
+{
+    let sink = words.octet(0, 7)?;
+    Ok(Step::Show { sink })
+}
+
+pub fn lose(words: &mut Cursor<'_>) -> Result<Step, Misfit>
+    ensures { ReadsNext (λ step. step) result words.new (at_row lose_row words.old) }
+{
+    let sink = words.octet(0, 7)?;
+    Ok(Step::Lose { sink })
+}
+
+pub fn control(alloc: Global, words: &mut Cursor<'_>) -> Result<Step, LineFault>
+    ensures { GivesNext (λ step. step) result words.new (at_row control_row words.old) }
+{
+    Ok(Step::Control {
+        sink: words.octet(0, 7)?,
+        octets: words.octets(alloc, 300)?,
+    })
+}
+
+pub fn forge(alloc: Global, words: &mut Cursor<'_>) -> Result<Step, LineFault>
+    ensures { GivesNext (λ step. step) result words.new (at_row forge_row words.old) }
+{
+    Ok(Step::Forge {
+        sink: words.octet(0, 7)?,
+        slot: words.octet(0, 255)?,
+        octets: words.octets(alloc, 1_024)?,
+    })
+}

@@ -1,0 +1,6 @@
+use Rattle.std.proofs.Common.{◌≡◌, ◌*◌, ◌++◌, take, drop}
+use Rattle.hex.specs.Hex.{encode_with, lower_digits}
+use Rattle.scenario_words.proofs.printed_octets.write_digits.Given as goal
+
+abbrev pub invariant-octets : goal.invariant-octets
+invariant-octets l = take (2 * l.i) l.digits ++ encode_with lower_digits (drop l.i l.octets) ≡ encode_with lower_digits l.octets

@@ -1,0 +1,66 @@
+ghost use Rattle.std.specs.Prelude.{◌≡◌, ◌++◌, OnOk, OnErr, ◌<◌, ◌≤◌, ◌+◌, ◌*◌, ◌/◌, ◌%◌, length, slice_index};
+ghost use Rattle.hex.specs.Hex.{encode_lower, lower_digits};
+ghost use Rattle.scenario_words.specs.Fronts.{AFront};
+ghost use Rattle.scenario_words.specs.Digits.{digits};
+
+use bcast_base::{Memory, Octets};
+
+/// The most octets that are put at once as digits.
+const CHUNK: usize = 128;
+
+/// The two lower-case digits of an octet, the first of them in the low octet: the letters stand from 97 on, and the figures from 48 on.
+fn digits_of(octet: u8) -> u16
+    ensures first { result % 256 ≡ slice_index lower_digits (octet / 16) }
+    ensures second { result / 256 ≡ slice_index lower_digits (octet % 16) }
+{
+    let values = u16::from(octet) / 16 + u16::from(octet) % 16 * 256;
+    let letters = (values + 0x0606) / 16 % 2 + (values + 0x0606) / 4096 % 2 * 256;
+    values + 0x3030 + letters * 39
+}
+
+/// Writes the two digits of each octet.
+fn write_digits(octets: &[u8], digits: &mut [u8])
+    requires { length digits.old ≡ 2 * length octets.now }
+    ensures { digits.new ≡ encode_lower octets.now }
+{
+    'octets: for i in 0..octets.len() {
+        digits[2 * i..2 * i + 2].copy_from_slice(&digits_of(octets[i]).to_le_bytes());
+    }
+}
+
+/// At most 128 octets in lower-case digits.
+fn put_chunk(text: &mut Octets, octets: &[u8]) -> Result<(), Memory>
+    requires { length octets.now ≤ 128 }
+    ensures ok { OnOk result (text.new ≡ text.old ++ encode_lower octets.now) }
+    ensures err { OnErr result (text.new ≡ text.old) }
+{
+    let mut room = [0u8; 2 * CHUNK];
+    let digits = &mut room[..2 * octets.len()];
+    write_digits(octets, digits);
+    text.append(digits)
+}
+
+/// Octets in lower-case digits.
+pub(crate) fn put_digits(text: &mut Octets, octets: &[u8]) -> Result<(), Memory>
+    ensures ok { OnOk result (text.new ≡ text.old ++ encode_lower octets.now) }
+    ensures err { OnErr result (AFront text.old text.new (encode_lower octets.now)) }
+{
+    let mut rest = octets;
+    'chunks: while !rest.is_empty() {
+        let (chunk, others) = rest.split_at(rest.len().min(CHUNK));
+        put_chunk(text, chunk)?;
+        rest = others;
+    }
+    Ok(())
+}
+
+/// Octets in lower-case digits, or `-` for none.
+pub(crate) fn put_octets(text: &mut Octets, octets: &[u8]) -> Result<(), Memory>
+    ensures ok { OnOk result (text.new ≡ text.old ++ digits octets.now) }
+    ensures err { OnErr result (AFront text.old text.new (digits octets.now)) }
+{
+    if octets.is_empty() {
+        return text.push(b'-');
+    }
+    put_digits(text, octets)
+}

@@ -1,5 +1,0 @@
-use Rattle.scenario_writing.proofs.Putting.{StreamsLeft}
-use Rattle.scenario_writing.proofs.streams.put_streams.Given as goal
-
-abbrev pub invariant-indices : goal.invariant-indices
-invariant-indices l = StreamsLeft l.which l.initial.line l.line l.index
