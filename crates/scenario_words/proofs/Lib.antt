@@ -8,6 +8,7 @@ pub mod LastWord
 pub mod MoreWords
 pub mod NextWords
 mod Octets
+pub mod OneDigit
 pub mod OneWord
 mod Places
 pub mod Putting

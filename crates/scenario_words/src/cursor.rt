@@ -1,4 +1,4 @@
-ghost use Rattle.std.specs.Prelude.{◌≡◌, ◌≤◌, ◌^◌, ◌<◌, ◌+◌, ◌-◌, ◌*◌, ◌∷◌, ℕ, List, [], Some};
+ghost use Rattle.std.specs.Prelude.{◌≡◌, ◌≤◌, ◌^◌, ◌<◌, ◌+◌, ◌-◌, ◌*◌, ℕ, List, [], Some};
 ghost use Rattle.std.specs.Prelude.{None, Ok, Err, length, IfOk, IfSome, IsErr, IsNone, IsTrue, ◌≢◌, ◌↔◌};
 ghost use Rattle.scenario_words.specs.declared.fault.LineFault.TheVariants.{Memory as NoMemory};
 ghost use Rattle.scenario_words.specs.Reading.{GivesNext, ReadsNext, SpellsNext, Left, next, any_word};
@@ -7,16 +7,14 @@ ghost use Rattle.scenario_words.specs.Reading.{wish_of, wishes_of, all_wishes_of
 ghost use Rattle.bass_operations.specs.Layout.{MetadataFits};
 ghost use Rattle.ltv_codec.specs.Reading.{bad_of};
 ghost use Rattle.scenario_words.specs.Places.{most_wishes, wishes_octets};
-ghost use Rattle.memchr.specs.Find.{IsFirstByte, is_byte};
-ghost use Rattle.scenario_words.specs.Joined.{space};
 ghost use Rattle.scenario_words.specs.Words.{words_of};
 ghost use Rattle.scenario_words.specs.Rests.{words_after, octets_after};
 
 use crate::fault::{LineFault, Misfit};
+use crate::first_word::{one_digit, split_word};
 use crate::word::{array_of, decimal_within, framing_of, list_of, number_of, octets_of, time_of};
 use bass_operations::{Wish, Wishes};
 use bcast_base::{Bis, BisSet, Memory, Octets};
-use memchr::memchr;
 use std::alloc::Global;
 use std::marker::Model;
 
@@ -25,39 +23,6 @@ const MOST_WISHES: usize = 31;
 
 /// The greatest time that a unit may have, in µs.
 const GREATEST_TIME: u64 = 1 << 62;
-
-/// The most octets that are looked at one by one for the end of a word: most words are short.
-const NEAR: usize = 8;
-
-/// Where the first space is.
-fn first_space(line: &[u8]) -> Option<usize>
-    ensures { IsFirstByte (is_byte space) line.now result }
-{
-    let near = line.len().min(NEAR);
-    'near: for i in 0..near {
-        if line[i] == b' ' {
-            return Some(i);
-        }
-    }
-    if near == line.len() {
-        return None;
-    }
-    match memchr(b' ', &line[near..]) {
-        None => None,
-        Some(end) => Some(near + end),
-    }
-}
-
-/// The octets up to the first space, and those after it where there is one.
-fn split_word(line: &[u8]) -> (&[u8], Option<&[u8]>)
-    ensures words { words_of line.now ≡ result.0.now ∷ words_after result.1 }
-    ensures shorter { octets_after result.1 ≤ length line.now }
-{
-    match first_space(line) {
-        None => (line, None),
-        Some(end) => (&line[..end], Some(&line[end + 1..])),
-    }
-}
 
 /// The set with one stream more.
 fn with_stream(which: BisSet, bis: Bis) -> BisSet
@@ -142,9 +107,30 @@ impl<'a> Cursor<'a> {
         Ok(word)
     }
 
-    /// A decimal from `least` to `greatest`.
+    /// The next word where it is one digit from `least` to `greatest`. Else the answer is None, and no word is read.
+    fn digit(&mut self, least: u64, greatest: u64) -> Option<u64>
+        ensures found { IfSome result (λ n. (least ≤ n) × (n ≤ greatest) × (next (decimal_in least greatest) self.old ≡ Ok (n, self.new))) }
+        ensures other { IsNone result → self.new ≡ self.old }
+    {
+        let Some(rest) = self.rest else {
+            return None;
+        };
+        let (n, left) = one_digit(rest)?;
+        if n < least {
+            return None;
+        }
+        if greatest < n {
+            return None;
+        }
+        self.rest = left;
+        self.read += 1;
+        Some(n)
+    }
+
+    /// The same as `number`, for a word of any length; a function of its own, so that `number` is short where it is called.
+    #[inline(never)]
     #[tactic(auto, using(crate::proofs::NextWords::fits, crate::proofs::NextWords::misfit, crate::proofs::OneWord::decimal_range))]
-    pub fn number(&mut self, least: u64, greatest: u64) -> Result<u64, Misfit>
+    fn any_number(&mut self, least: u64, greatest: u64) -> Result<u64, Misfit>
         ensures range { IfOk result (λ n. (least ≤ n) × (n ≤ greatest)) }
         ensures gives { ReadsNext (λ n. n) result self.new (next (decimal_in least greatest) self.old) }
     {
@@ -152,6 +138,17 @@ impl<'a> Cursor<'a> {
         match decimal_within(word, least, greatest) {
             Some(n) => Ok(n),
             None => Err(self.misfit()),
+        }
+    }
+
+    /// A decimal from `least` to `greatest`. Most are one digit.
+    pub fn number(&mut self, least: u64, greatest: u64) -> Result<u64, Misfit>
+        ensures range { IfOk result (λ n. (least ≤ n) × (n ≤ greatest)) }
+        ensures gives { ReadsNext (λ n. n) result self.new (next (decimal_in least greatest) self.old) }
+    {
+        match self.digit(least, greatest) {
+            Some(n) => Ok(n),
+            None => self.any_number(least, greatest),
         }
     }
 

@@ -6,6 +6,7 @@ mod cursor;
 mod decimal;
 mod digits;
 mod fault;
+mod first_word;
 mod laws;
 mod printed_line;
 mod printed_octets;

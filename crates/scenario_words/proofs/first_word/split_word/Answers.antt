@@ -1,7 +1,7 @@
 use Rattle.std.proofs.Common.{◌+◌, add-one}
 use Rattle.std.proofs.lemmas.List.{take_rest}
 use Rattle.scenario_words.proofs.Splitting.{no_space, first_space}
-use Rattle.scenario_words.proofs.cursor.split_word.Goals as goal
+use Rattle.scenario_words.proofs.first_word.split_word.Goals as goal
 
 pub returns-in-None-clause-words : goal.returns-in-None-clause-words
 returns-in-None-clause-words c = no_space c.args.line.now c.in-None.ensures

@@ -1,7 +1,7 @@
 use Rattle.std.proofs.Common.{refl, arith}
 use Rattle.std.proofs.lemmas.Bool.{eq-eqb}
 use Rattle.scenario_words.proofs.Splitting.{none_behind, some_behind, no_more}
-use Rattle.scenario_words.proofs.cursor.first_space.Goals as goal
+use Rattle.scenario_words.proofs.first_word.first_space.Goals as goal
 
 pub returns-in-None : goal.returns-in-None
 returns-in-None c =
