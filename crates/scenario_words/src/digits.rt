@@ -36,6 +36,9 @@ fn values(pair: u16) -> u16
     pair % 16 + pair / 256 % 16 * 256 + letters * 9
 }
 
+/// A product with it is the number 12 bits to the left and the number itself.
+const SHIFTED_AND_SAME: u16 = 4_097;
+
 /// The octet that a pair of digits spells, the first of them in the low octet.
 fn joined(pair: u16) -> u8
     requires first { is_hex_digit (pair % 256) ≡ true }
@@ -43,7 +46,7 @@ fn joined(pair: u16) -> u8
     ensures { result ≡ unwrap_or (hex_digit_value (pair % 256)) 0 * 16 + unwrap_or (hex_digit_value (pair / 256)) 0 }
 {
     let values = values(pair);
-    (values % 256 * 16 + values / 256) as u8
+    (values.wrapping_mul(SHIFTED_AND_SAME) / 256) as u8
 }
 
 /// Whether a word is pairs of hexadecimal digits.
