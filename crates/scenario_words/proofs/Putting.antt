@@ -8,25 +8,36 @@ use Rattle.std.proofs.lemmas.List.{take-append-drop, append-nil}
 use borrow.Rule.Slice.PartMut.{put_mid}
 use Rattle.hex.proofs.Pairs.{encode_with-drop}
 use Rattle.hex.specs.Hex.{encode_with, encode_lower, lower_digits}
-use Rattle.scenario_words.specs.Fronts.{AFront}
+use Rattle.scenario_words.specs.Fronts.{AFront, PutUpTo}
 use Rattle.scenario_words.specs.Joined.{space, behind}
 use Rattle.scenario_words.specs.PrintedWords.{spelled}
 use Rattle.scenario_words.specs.declared.printed_word.Word.{Word}
 
-pub record PutUpTo (old new line rest : List ℕ) : Type 0 where
-  pub front : List ℕ
-  pub whole : line ≡ front ++ rest
-  pub put : new ≡ old ++ front
-
-pub put_more : (old now new line left piece rest : List ℕ) → PutUpTo old now line left → left ≡ piece ++ rest → new ≡ now ++ piece → PutUpTo old new line rest
-put_more old now new line left piece rest so_far split more = record {
-  front = so_far.front ++ piece;
-  whole = so_far.whole ∙ (ap (λ (l : List ℕ). so_far.front ++ l) split ∙ sym (append_assoc so_far.front piece rest));
-  put = more ∙ (ap (λ (l : List ℕ). l ++ piece) so_far.put ∙ append_assoc old so_far.front piece);
+-- more stands behind a line and behind its rest
+pub with_more : (old new line rest piece left : List ℕ) → PutUpTo old new line rest → left ≡ rest ++ piece → PutUpTo old new (line ++ piece) left
+with_more old new line rest piece left so_far more = record {
+  front = so_far.front;
+  whole = ap (λ (l : List ℕ). l ++ piece) so_far.whole ∙ (append_assoc so_far.front rest piece ∙ ap (λ (l : List ℕ). so_far.front ++ l) (sym more));
+  put = so_far.put;
 }
 
-pub put_all : (old new line : List ℕ) → PutUpTo old new line [] → new ≡ old ++ line
-put_all old new line all = all.put ∙ ap (λ (l : List ℕ). old ++ l) (sym (all.whole ∙ append-nil all.front))
+-- the next piece was put but for what waits of it
+pub put_more : (old now new line left piece waits rest : List ℕ) → PutUpTo old now line left → left ≡ piece ++ rest → PutUpTo now new piece waits
+    → PutUpTo old new line (waits ++ rest)
+put_more old now new line left piece waits rest so_far split more = record {
+  front = so_far.front ++ more.front;
+  whole = so_far.whole ∙ (ap (λ (l : List ℕ). so_far.front ++ l) (split ∙ (ap (λ (l : List ℕ). l ++ rest) more.whole ∙ append_assoc more.front waits rest))
+      ∙ sym (append_assoc so_far.front more.front (waits ++ rest)));
+  put = more.put ∙ (ap (λ (l : List ℕ). l ++ more.front) so_far.put ∙ append_assoc old so_far.front more.front);
+}
+
+pub put_all : (old now new line rest : List ℕ) → PutUpTo old now line rest → new ≡ now ++ rest → new ≡ old ++ line
+put_all old now new line rest so_far more =
+    more ∙ (ap (λ (l : List ℕ). l ++ rest) so_far.put ∙ (append_assoc old so_far.front rest ∙ ap (λ (l : List ℕ). old ++ l) (sym so_far.whole)))
+
+-- what waits, with a piece of what is behind it
+pub regrouped : (waits left piece rest : List ℕ) → left ≡ piece ++ rest → waits ++ left ≡ (waits ++ piece) ++ rest
+regrouped waits left piece rest split = ap (λ (l : List ℕ). waits ++ l) split ∙ sym (append_assoc waits piece rest)
 
 -- the next piece was put in part
 pub front_of : (old now new line left piece rest : List ℕ) → PutUpTo old now line left → left ≡ piece ++ rest → AFront now new piece → AFront old new line
@@ -37,6 +48,19 @@ front_of old now new line left piece rest so_far split part = record {
       ∙ sym (append_assoc so_far.front part.front (part.rest ++ rest)));
   put = part.put ∙ (ap (λ (l : List ℕ). l ++ part.front) so_far.put ∙ append_assoc old so_far.front part.front);
 }
+
+-- nothing was put
+begun : (old line : List ℕ) → PutUpTo old old line line
+begun old line = record { front = []; whole = refl; put = sym (append-nil old) }
+
+-- a front of a piece is one of the piece with its rest
+pub front_of_more : (old new waits piece rest : List ℕ) → AFront old new (waits ++ piece) → AFront old new (waits ++ (piece ++ rest))
+front_of_more old new waits piece rest part =
+    front_of old old new (waits ++ (piece ++ rest)) (waits ++ (piece ++ rest)) (waits ++ piece) rest (begun old (waits ++ (piece ++ rest)))
+    (regrouped waits (piece ++ rest) piece rest refl) part
+
+pub front_of_first : (old new waits first rest : List ℕ) → waits ≡ [] → AFront old new (waits ++ first) → AFront old new (first ++ rest)
+front_of_first old new waits first rest none part = front_of_more old new [] first rest (rw none at part)
 
 -- the digits of one octet more were put, as a pair
 pub pair_put : (octets digits put : List ℕ) (i k pair : ℕ) → i < length octets → 2 * i + 2 ≤ length digits → pair < 65536 → put ≡ pair % 256 ∷ pair / 256 % 256 ∷ []
@@ -58,27 +82,40 @@ pub encode_split : (n : ℕ) (octets front back : List ℕ) → front ≡ take n
 encode_split n octets front back is rest =
     rw (is, rest) (ap encode_lower (sym (take-append-drop n octets)) ∙ encode_append lower_digits (take n octets) (drop n octets))
 
-pub digits_put : (old new line rest : List ℕ) → length rest ≡ 0 → PutUpTo old new line (encode_lower rest) → new ≡ old ++ line
+pub digits_put : (old new line waits rest : List ℕ) → length rest ≡ 0 → PutUpTo old new line (waits ++ encode_lower rest) → PutUpTo old new line waits
 unfolding encode_with
-digits_put old new line [] none all = put_all old new line all
-digits_put old new line (octet ∷ rest) none all = absurd (omega arith)
+digits_put old new line waits [] none all = rw (append-nil waits) at all
+digits_put old new line waits (octet ∷ rest) none all = absurd (omega arith)
 
 -- the next word of a line, behind its space
-pub next_word : (words : List Word) (i : ℕ) (none : Word) → i < length words
-    → behind (map spelled (drop i words)) ≡ space ∷ (spelled (get_or words i none) ++ behind (map spelled (drop (suc i) words)))
+next_word : (words : List Word) (i : ℕ) (none : Word) → i < length words
+    → behind (map spelled (drop i words)) ≡ (space ∷ []) ++ (spelled (get_or words i none) ++ behind (map spelled (drop (suc i) words)))
 next_word words i none inside = rw (drop-cons words i none inside) refl
 
-pub word_front : (old now space_put new line : List ℕ) (words : List Word) (i : ℕ) (none : Word) → i < length words
-    → PutUpTo old now line (behind (map spelled (drop i words))) → space_put ≡ now ++ space ∷ [] → AFront space_put new (spelled (get_or words i none)) → AFront old new line
-word_front old now space_put new line words i none inside so_far more part =
-    let rest = behind (map spelled (drop (suc i) words)) in
-    let word = spelled (get_or words i none) in
-    front_of old space_put new line (word ++ rest) word rest
-    (put_more old now space_put line (behind (map spelled (drop i words))) (space ∷ []) (word ++ rest) so_far (next_word words i none inside) more) refl part
+-- the space before a word was put
+pub space_put : (old now new line waits waiting : List ℕ) (words : List Word) (i : ℕ) (none : Word) → i < length words
+    → PutUpTo old now line (waits ++ behind (map spelled (drop i words))) → PutUpTo now new (waits ++ space ∷ []) waiting
+    → PutUpTo old new line (waiting ++ (spelled (get_or words i none) ++ behind (map spelled (drop (suc i) words))))
+space_put old now new line waits waiting words i none inside so_far more =
+    put_more old now new line _ (waits ++ space ∷ []) waiting _ so_far (regrouped waits _ (space ∷ []) _ (next_word words i none inside)) more
+
+pub word_put : (old now new line waits waiting : List ℕ) (words : List Word) (i : ℕ) (none : Word)
+    → PutUpTo old now line (waits ++ (spelled (get_or words i none) ++ behind (map spelled (drop (suc i) words))))
+    → PutUpTo now new (waits ++ spelled (get_or words i none)) waiting → PutUpTo old new line (waiting ++ behind (map spelled (drop (i + 1) words)))
+word_put old now new line waits waiting words i none so_far more =
+    let next : i + 1 ≡ suc i = omega arith in
+    rw next (put_more old now new line _ (waits ++ spelled (get_or words i none)) waiting _ so_far (regrouped waits _ (spelled (get_or words i none)) _ refl) more)
+
+pub word_front : (old now new line waits : List ℕ) (words : List Word) (i : ℕ) (none : Word)
+    → PutUpTo old now line (waits ++ (spelled (get_or words i none) ++ behind (map spelled (drop (suc i) words))))
+    → AFront now new (waits ++ spelled (get_or words i none)) → AFront old new line
+word_front old now new line waits words i none so_far part =
+    front_of old now new line _ (waits ++ spelled (get_or words i none)) _ so_far (regrouped waits _ (spelled (get_or words i none)) _ refl) part
 
 -- a number below 10 is one digit
-pub digit_put : (old new : List ℕ) (number : ℕ) → number < 10 → new ≡ old ++ (48 + number) ∷ [] → new ≡ old ++ decimal number
-digit_put old new number small put = put ∙ ap (λ (l : List ℕ). old ++ l) (sym (decimal_digit number small))
+pub digit_put : (old new waits waiting : List ℕ) (number : ℕ) → number < 10 → PutUpTo old new (waits ++ (48 + number) ∷ []) waiting
+    → PutUpTo old new (waits ++ decimal number) waiting
+digit_put old new waits waiting number small put = rw (decimal_digit number small) put
 
 pub on_err : {A E : Type 0} (r : Result A E) (P : Type 0) → P → OnErr r P
 on_err (Ok x) P p = tt

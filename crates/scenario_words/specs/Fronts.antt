@@ -7,3 +7,9 @@ pub record AFront (old new text : List ℕ) : Type 0 where
   pub rest : List ℕ
   pub whole : text ≡ front ++ rest
   pub put : new ≡ old ++ front
+
+-- the text stands at the end of what was there, but for this rest of it
+pub record PutUpTo (old new text rest : List ℕ) : Type 0 where
+  pub front : List ℕ
+  pub whole : text ≡ front ++ rest
+  pub put : new ≡ old ++ front

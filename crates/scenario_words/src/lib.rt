@@ -12,6 +12,7 @@ mod printed_line;
 mod printed_octets;
 mod printed_word;
 mod value;
+mod waiting;
 mod word;
 
 pub use cursor::{Cursor, octets_of_wishes};

@@ -4,6 +4,7 @@ ghost use Rattle.scenario_words.specs.Joined.{joined};
 ghost use Rattle.scenario_words.specs.PrintedWords.{spelled};
 
 use crate::printed_word::{Word, put_word};
+use crate::waiting::Waiting;
 use bcast_base::{Memory, Octets};
 
 /// Puts words at the end of a text: the first, and each other behind a space.
@@ -13,10 +14,11 @@ pub fn put_words(text: &mut Octets, first: &[u8], others: &[Word<'_>]) -> Result
     ensures ok { OnOk result (text.new ≡ text.old ++ joined first.now (map spelled others.now)) }
     ensures err { OnErr result (AFront text.old text.new (joined first.now (map spelled others.now))) }
 {
-    text.append(first)?;
+    let mut waiting = Waiting::new();
+    waiting.put(text, first)?;
     for word in others {
-        text.push(b' ')?;
-        put_word(text, *word)?;
+        waiting.put_octet(text, b' ')?;
+        put_word(text, &mut waiting, *word)?;
     }
-    Ok(())
+    waiting.flush(text)
 }

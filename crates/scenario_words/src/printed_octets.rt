@@ -1,8 +1,9 @@
 ghost use Rattle.std.specs.Prelude.{◌≡◌, ◌++◌, OnOk, OnErr, ◌<◌, ◌≤◌, ◌+◌, ◌*◌, ◌/◌, ◌%◌, length, slice_index};
 ghost use Rattle.hex.specs.Hex.{encode_lower, lower_digits};
-ghost use Rattle.scenario_words.specs.Fronts.{AFront};
+ghost use Rattle.scenario_words.specs.Fronts.{AFront, PutUpTo};
 ghost use Rattle.scenario_words.specs.Digits.{digits};
 
+use crate::waiting::Waiting;
 use bcast_base::{Memory, Octets};
 
 /// The most octets that are put at once as digits.
@@ -19,7 +20,7 @@ fn digits_of(octet: u8) -> u16
 }
 
 /// Writes the two digits of each octet.
-fn write_digits(octets: &[u8], digits: &mut [u8])
+pub(crate) fn write_digits(octets: &[u8], digits: &mut [u8])
     requires { length digits.old ≡ 2 * length octets.now }
     ensures { digits.new ≡ encode_lower octets.now }
 {
@@ -28,39 +29,35 @@ fn write_digits(octets: &[u8], digits: &mut [u8])
     }
 }
 
-/// At most 128 octets in lower-case digits.
-fn put_chunk(text: &mut Octets, octets: &[u8]) -> Result<(), Memory>
-    requires { length octets.now ≤ 128 }
-    ensures ok { OnOk result (text.new ≡ text.old ++ encode_lower octets.now) }
-    ensures err { OnErr result (text.new ≡ text.old) }
-{
-    let mut room = [0u8; 2 * CHUNK];
-    let digits = &mut room[..2 * octets.len()];
-    write_digits(octets, digits);
-    text.append(digits)
-}
-
-/// Octets in lower-case digits.
-pub(crate) fn put_digits(text: &mut Octets, octets: &[u8]) -> Result<(), Memory>
-    ensures ok { OnOk result (text.new ≡ text.old ++ encode_lower octets.now) }
-    ensures err { OnErr result (AFront text.old text.new (encode_lower octets.now)) }
+/// Puts octets in lower-case digits behind those that wait.
+pub(crate) fn put_digits(
+    text: &mut Octets,
+    waiting: &mut Waiting,
+    octets: &[u8],
+) -> Result<(), Memory>
+    ensures ok { OnOk result (PutUpTo text.old text.new (waiting.old ++ encode_lower octets.now) waiting.new) }
+    ensures err { OnErr result (AFront text.old text.new (waiting.old ++ encode_lower octets.now)) }
 {
     let mut rest = octets;
     'chunks: while !rest.is_empty() {
         let (chunk, others) = rest.split_at(rest.len().min(CHUNK));
-        put_chunk(text, chunk)?;
+        waiting.put_chunk(text, chunk)?;
         rest = others;
     }
     Ok(())
 }
 
-/// Octets in lower-case digits, or `-` for none.
-pub(crate) fn put_octets(text: &mut Octets, octets: &[u8]) -> Result<(), Memory>
-    ensures ok { OnOk result (text.new ≡ text.old ++ digits octets.now) }
-    ensures err { OnErr result (AFront text.old text.new (digits octets.now)) }
+/// Puts octets in lower-case digits, or `-` for none, behind those that wait.
+pub(crate) fn put_octets(
+    text: &mut Octets,
+    waiting: &mut Waiting,
+    octets: &[u8],
+) -> Result<(), Memory>
+    ensures ok { OnOk result (PutUpTo text.old text.new (waiting.old ++ digits octets.now) waiting.new) }
+    ensures err { OnErr result (AFront text.old text.new (waiting.old ++ digits octets.now)) }
 {
     if octets.is_empty() {
-        return text.push(b'-');
+        return waiting.put_octet(text, b'-');
     }
-    put_digits(text, octets)
+    put_digits(text, waiting, octets)
 }

@@ -1,8 +1,9 @@
-ghost use Rattle.std.specs.Prelude.{◌≡◌, ◌++◌, decimal, codes, OnOk, OnErr};
-ghost use Rattle.scenario_words.specs.Fronts.{AFront};
+ghost use Rattle.std.specs.Prelude.{◌++◌, decimal, codes, OnOk, OnErr};
+ghost use Rattle.scenario_words.specs.Fronts.{AFront, PutUpTo};
 ghost use Rattle.scenario_words.specs.PrintedWords.{spelled};
 
 use crate::printed_octets::{put_digits, put_octets};
+use crate::waiting::Waiting;
 use bcast_base::{Memory, Octets};
 use itoa::Buffer;
 
@@ -21,46 +22,42 @@ pub enum Word<'a> {
     Digits(&'a [u8]),
 }
 
-/// Puts a number in decimal.
-#[inline(never)]
-fn put_long_number(text: &mut Octets, number: u64) -> Result<(), Memory>
-    ensures ok { OnOk result (text.new ≡ text.old ++ decimal number) }
-    ensures err { OnErr result (text.new ≡ text.old) }
-{
-    let mut buffer = Buffer::new();
-    text.append(buffer.format(number).as_bytes())
-}
-
-/// Puts a number in decimal. One digit takes no call.
+/// Puts a number in decimal behind the octets that wait. One digit takes no buffer.
 #[tactic(auto, using(crate::proofs::Putting::digit_put))]
 #[inline(always)]
-fn put_number(text: &mut Octets, number: u64) -> Result<(), Memory>
-    ensures ok { OnOk result (text.new ≡ text.old ++ decimal number) }
-    ensures err { OnErr result (text.new ≡ text.old) }
+fn put_number(text: &mut Octets, waiting: &mut Waiting, number: u64) -> Result<(), Memory>
+    ensures ok { OnOk result (PutUpTo text.old text.new (waiting.old ++ decimal number) waiting.new) }
+    ensures err { OnErr result (AFront text.old text.new (waiting.old ++ decimal number)) }
 {
     if number < 10 {
-        return text.push(b'0' + number as u8);
+        return waiting.put_octet(text, b'0' + number as u8);
     }
-    put_long_number(text, number)
+    let mut buffer = Buffer::new();
+    waiting.put(text, buffer.format(number).as_bytes())
 }
 
-fn put_label(text: &mut Octets, number: u64) -> Result<(), Memory>
-    ensures ok { OnOk result (text.new ≡ text.old ++ (decimal number ++ codes ":")) }
-    ensures err { OnErr result (AFront text.old text.new (decimal number ++ codes ":")) }
+fn put_label(text: &mut Octets, waiting: &mut Waiting, number: u64) -> Result<(), Memory>
+    ensures ok { OnOk result (PutUpTo text.old text.new (waiting.old ++ (decimal number ++ codes ":")) waiting.new) }
+    ensures err { OnErr result (AFront text.old text.new (waiting.old ++ (decimal number ++ codes ":"))) }
 {
-    put_number(text, number)?;
-    text.push(b':')
+    put_number(text, waiting, number)?;
+    waiting.put_octet(text, b':')
 }
 
-pub(crate) fn put_word(text: &mut Octets, word: Word<'_>) -> Result<(), Memory>
-    ensures ok { OnOk result (text.new ≡ text.old ++ spelled word.entry) }
-    ensures err { OnErr result (AFront text.old text.new (spelled word.entry)) }
+/// Puts a word behind the octets that wait.
+pub(crate) fn put_word(
+    text: &mut Octets,
+    waiting: &mut Waiting,
+    word: Word<'_>,
+) -> Result<(), Memory>
+    ensures ok { OnOk result (PutUpTo text.old text.new (waiting.old ++ spelled word.entry) waiting.new) }
+    ensures err { OnErr result (AFront text.old text.new (waiting.old ++ spelled word.entry)) }
 {
     match word {
-        Word::Text(octets) => text.append(octets),
-        Word::Number(number) => put_number(text, number),
-        Word::Label(number) => put_label(text, number),
-        Word::Octets(octets) => put_octets(text, octets),
-        Word::Digits(octets) => put_digits(text, octets),
+        Word::Text(octets) => waiting.put(text, octets),
+        Word::Number(number) => put_number(text, waiting, number),
+        Word::Label(number) => put_label(text, waiting, number),
+        Word::Octets(octets) => put_octets(text, waiting, octets),
+        Word::Digits(octets) => put_digits(text, waiting, octets),
     }
 }

@@ -1,9 +1,9 @@
-use Rattle.std.proofs.Common.{map, drop}
+use Rattle.std.proofs.Common.{map, drop, ◌++◌}
+use Rattle.scenario_words.specs.Fronts.{PutUpTo}
 use Rattle.scenario_words.specs.Joined.{joined, behind}
 use Rattle.scenario_words.specs.PrintedWords.{spelled}
-use Rattle.scenario_words.proofs.Putting.{PutUpTo}
 use Rattle.scenario_words.proofs.printed_line.put_words.Given as goal
 
 abbrev pub invariant-loop-word : goal.invariant-loop-word
 invariant-loop-word l =
-    PutUpTo l.fn.text l.text (joined l.first (map spelled l.others)) (behind (map spelled (drop l.word-index l.others)))
+    PutUpTo l.fn.text l.text (joined l.first (map spelled l.others)) (l.waiting ++ behind (map spelled (drop l.word-index l.others)))

@@ -1,10 +1,10 @@
-use Rattle.std.proofs.Common.{length}
+use Rattle.std.proofs.Common.{length, ◌++◌}
 use Rattle.hex.specs.Hex.{encode_lower}
-use Rattle.scenario_words.proofs.Putting.{PutUpTo}
+use Rattle.scenario_words.specs.Fronts.{PutUpTo}
 use Rattle.scenario_words.proofs.printed_octets.put_digits.Given as goal
 
 abbrev pub invariant-chunks : goal.invariant-chunks
-invariant-chunks l = PutUpTo l.fn.text l.text (encode_lower l.octets) (encode_lower l.rest)
+invariant-chunks l = PutUpTo l.fn.text l.text (l.fn.waiting ++ encode_lower l.octets) (l.waiting ++ encode_lower l.rest)
 
 abbrev pub decreases-chunks : goal.decreases-chunks
 decreases-chunks l = length l.rest
