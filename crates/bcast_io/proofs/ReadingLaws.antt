@@ -84,14 +84,6 @@ Finds-line read old mid next new at within end before fits p1 a1 t1 p2 a2 t2 nam
     named TextTooLong n r = absurd n
     named End n r = absurd n
 
--- the octets before the end of a line of at most 9,000 were kept as they are
-pub kept_whole : (at : ℕ) (ahead lent kept : List ℕ) → at ≤ line_limit → at < length ahead → lent ≡ ahead → kept ≡ take 9001 (take at lent)
-    → (kept ≡ take at ahead) × (length kept ≤ line_limit)
-kept_whole at ahead lent kept short within same e =
-    let count : length (take at ahead) ≡ at = length-take-le at ahead (omega arith) in
-    let is : kept ≡ take at ahead = e ∙ ap (λ l. take 9001 (take at l)) same ∙ take_all 9001 (take at ahead) (omega (arith, count)) in
-    (is, omega (arith, ap length is, count))
-
 -- a line that was ahead as a whole was taken with its end
 pub Finds-whole : (old new : Reading) (at : ℕ) → at < length old.ahead → get_or old.ahead at 0 ≡ newline → NoNewline (take at old.ahead)
     → old.taken + at < text_limit → at ≤ line_limit → old.part ≡ [] → new.line ≡ Some (take at old.ahead) → new.part ≡ old.part

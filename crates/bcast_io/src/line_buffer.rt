@@ -11,17 +11,17 @@ const KEPT: usize = 9001;
 #[derive(Drop)]
 pub(crate) struct LineBuffer {
     buffer: Vec<u8>,
-    len: usize,
 }
 
 impl Model for LineBuffer {
-    ghost use Rattle.std.specs.Prelude.{ℕ, List, ◌≡◌, ◌≤◌, take, length};
+    ghost use Rattle.std.specs.Prelude.{ℕ, List, ◌≤◌, length};
+    ghost use Rattle.std.specs.Vec.{vec_capacity};
 
     ghost Value = { List ℕ };
 
-    ghost view = { λ a. take a.len a.buffer.items };
+    ghost view = { λ a. a.buffer.items };
 
-    ghost invariant = { λ a. (length a.buffer.items ≡ 9001) × (a.len ≤ 9001) };
+    ghost invariant = { λ a. (length a.buffer.items ≤ 9001) × (9001 ≤ vec_capacity a.buffer) };
 }
 
 impl LineBuffer {
@@ -30,8 +30,7 @@ impl LineBuffer {
         ensures { IfOk result (λ line. line ≡ []) }
     {
         Ok(LineBuffer {
-            buffer: vec![in alloc; 0u8; KEPT]?,
-            len: 0,
+            buffer: Vec::with_capacity(alloc, KEPT)?,
         })
     }
 
@@ -39,46 +38,33 @@ impl LineBuffer {
     pub(crate) fn as_slice(&self) -> &[u8]
         ensures { result.now ≡ self.now }
     {
-        &self.buffer[..self.len]
+        self.buffer.as_slice()
     }
 
     /// How many octets are kept.
     pub(crate) fn len(&self) -> usize
         ensures { result ≡ length self.now }
     {
-        self.len
+        self.buffer.len()
     }
 
     /// Lets all octets go.
     pub(crate) fn clear(&mut self)
         ensures { self.new ≡ [] }
     {
-        self.len = 0;
-    }
-
-    /// Keeps these octets in the place of those before, as far as there is room.
-    pub(crate) fn set(&mut self, octets: &[u8])
-        ensures { self.new ≡ take 9001 octets.now }
-    {
-        self.len = keep(&mut self.buffer, 0, octets);
+        self.buffer.clear();
     }
 
     /// Puts octets at the end, as far as there is room.
     pub(crate) fn append(&mut self, more: &[u8])
         ensures { self.new ≡ take 9001 (self.old ++ more.now) }
     {
-        self.len = keep(&mut self.buffer, self.len, more);
-    }
-}
+        let count = more.len().min(KEPT - self.buffer.len());
+        match self.buffer.extend_from_slice(&more[..count]) {
+            Ok(()) => {}
 
-// Puts octets after the first `len` of the buffer, as far as it has room, and gives where they end.
-fn keep(buffer: &mut [u8], len: usize, more: &[u8]) -> usize
-    requires { len ≤ length buffer.old }
-    ensures end { result ≤ length buffer.new }
-    ensures kept { take result buffer.new ≡ take (length buffer.old) (take len buffer.old ++ more.now) }
-{
-    let count = more.len().min(buffer.len() - len);
-    let end = len + count;
-    buffer[len..end].copy_from_slice(&more[..count]);
-    end
+            // There is room for them.
+            Err(_) => unreachable!(),
+        }
+    }
 }

@@ -36,6 +36,17 @@ pub enum LineRead {
     End,
 }
 
+/// Where the last line stands.
+#[derive(Clone, Copy, Debug, PartialEq, Eq)]
+pub(crate) enum Place {
+    /// There is none.
+    Nowhere,
+    /// It stands where it was read.
+    Ahead,
+    /// It was put together of what several reads gave.
+    Apart,
+}
+
 /// Reads a text line by line.
 #[derive(Drop)]
 pub struct LineReader {
@@ -44,26 +55,27 @@ pub struct LineReader {
     line: LineBuffer,
     taken: usize,
     is_over: bool,
-    is_line: bool,
+    place: Place,
 }
 
 impl Model for LineReader {
-    ghost use Rattle.std.specs.Prelude.{◌≡◌, ◌≤◌, true, [], length};
+    ghost use Rattle.std.specs.Prelude.{◌≡◌, ◌≤◌, true, [], length, IfSome};
     ghost use Rattle.bcast_io.specs.TextLines.{text_limit, line_limit};
     ghost use Rattle.bcast_io.specs.State.Reading.{Reading, held};
 
     ghost Value = { Reading };
 
     ghost view = { λ a. record {
-      ahead = a.ahead;
+      ahead = a.ahead.octets;
       part = a.part;
       taken = a.taken;
       over = a.is_over;
-      line = held a.is_line a.line;
+      line = held a.place a.ahead.line a.line;
     } };
 
-    ghost invariant = { λ a. (length a.ahead ≤ 65536) × (a.taken ≤ text_limit)
-        × (length a.line ≤ line_limit) × (a.is_over ≡ true → (a.ahead ≡ []) × (a.part ≡ [])) };
+    ghost invariant = { λ a. (length a.ahead.octets ≤ 65536) × (a.taken ≤ text_limit)
+        × IfSome (held a.place a.ahead.line a.line) (λ octets. length octets ≤ line_limit)
+        × (a.is_over ≡ true → (a.ahead.octets ≡ []) × (a.part ≡ [])) };
 }
 
 impl LineReader {
@@ -83,7 +95,7 @@ impl LineReader {
             line: LineBuffer::new(alloc)?,
             taken: 0,
             is_over: false,
-            is_line: false,
+            place: Place::Nowhere,
         })
     }
 
@@ -93,7 +105,10 @@ impl LineReader {
         ensures value { self.now.line ≡ Some result.now }
         ensures least { length result.now ≤ line_limit }
     {
-        self.line.as_slice()
+        match self.place {
+            Place::Ahead => self.ahead.line(),
+            Place::Nowhere | Place::Apart => self.line.as_slice(),
+        }
     }
 
     // Ends the line so far.
@@ -105,16 +120,15 @@ impl LineReader {
         ensures over { self.new.over ≡ self.old.over }
         ensures sound { IsSound self.new }
     {
-        self.is_line = self.part.len() <= LINE_LIMIT;
-        if self.is_line {
-            mem::swap(&mut self.part, &mut self.line);
+        if self.part.len() > LINE_LIMIT {
+            self.part.clear();
+            self.place = Place::Nowhere;
+            return LineRead::LineTooLong;
         }
+        mem::swap(&mut self.part, &mut self.line);
         self.part.clear();
-        if self.is_line {
-            LineRead::Line
-        } else {
-            LineRead::LineTooLong
-        }
+        self.place = Place::Apart;
+        LineRead::Line
     }
 
     // Moves the first octets ahead to the line so far.
@@ -131,7 +145,7 @@ impl LineReader {
         self.part.append(&self.ahead.as_slice()[..n]);
         self.ahead.consume(n);
         self.taken += n;
-        self.is_line = false;
+        self.place = Place::Nowhere;
     }
 
     // Passes over the end of a line.
@@ -159,13 +173,12 @@ impl LineReader {
         ensures taken { self.new.taken ≡ self.old.taken + at + 1 }
         ensures over { self.new.over ≡ false }
     {
-        self.line.set(&self.ahead.as_slice()[..at]);
-        self.ahead.consume(at + 1);
+        self.ahead.pass_line(at);
         self.taken += at + 1;
-        self.is_line = true;
+        self.place = Place::Ahead;
     }
 
-    // Takes the line whose end is at this place ahead. Where all of it is ahead, as mostly, its octets are moved once.
+    // Takes the line whose end is at this place ahead. Where all of it is ahead, as mostly, its octets stay there.
     fn take_line(&mut self, at: usize) -> LineRead
         requires going { self.old.over ≡ false }
         requires within { at < length self.old.ahead }
@@ -183,6 +196,22 @@ impl LineReader {
                 return LineRead::Line;
             }
         }
+        self.take_rest(at)
+    }
+
+    // Takes the rest of a line of which a part was taken, or that is too long. It is not inlined, since it comes seldom.
+    #[inline(never)]
+    fn take_rest(&mut self, at: usize) -> LineRead
+        requires going { self.old.over ≡ false }
+        requires within { at < length self.old.ahead }
+        requires fits { self.old.taken + at < text_limit }
+        requires end { slice_index self.old.ahead at ≡ newline }
+        requires before { NoNewline (take at self.old.ahead) }
+        ensures found { Finds result self.old self.new }
+        ensures anew { Anew result self.new }
+        ensures over { self.new.over ≡ false }
+        ensures sound { IsSound self.new }
+    {
         self.take_part(at);
         self.skip_end();
         self.end_line()
@@ -196,7 +225,6 @@ impl LineReader {
         ensures none { IfNone result (Reads self.old self.new [] []) }
         ensures all { IfNone result (self.new.ahead ≡ []) }
         ensures taken { IfNone result (self.new.taken ≡ self.old.taken + length self.old.ahead) }
-        ensures line { IfNone result (self.new.line ≡ None) }
         ensures over { self.new.over ≡ false }
         ensures sound { IsSound self.new }
     {
@@ -208,7 +236,8 @@ impl LineReader {
         }
     }
 
-    // Takes all that may be taken of a line whose end is not ahead.
+    // Takes all that may be taken of a line whose end is not ahead. It is not inlined, since it comes seldom.
+    #[inline(never)]
     fn take_front(&mut self, n: usize) -> Option<LineRead>
         requires going { self.old.over ≡ false }
         requires most { n ≡ min (length self.old.ahead) (text_limit - self.old.taken) }
@@ -219,7 +248,6 @@ impl LineReader {
         ensures none { IfNone result (Reads self.old self.new [] []) }
         ensures all { IfNone result (self.new.ahead ≡ []) }
         ensures taken { IfNone result (self.new.taken ≡ self.old.taken + length self.old.ahead) }
-        ensures line { IfNone result (self.new.line ≡ None) }
         ensures over { self.new.over ≡ false }
         ensures sound { IsSound self.new }
     {
@@ -230,7 +258,7 @@ impl LineReader {
         Some(LineRead::TextTooLong)
     }
 
-    // One read where nothing is ahead. It gives how many octets came.
+    // One read where nothing is ahead. It gives how many octets came, which take the place of a line that stands there.
     fn fill<S: ByteSource>(&mut self, source: &mut S) -> Result<usize, Failed>
         requires empty { self.old.ahead ≡ [] }
         requires going { self.old.over ≡ false }
@@ -241,10 +269,11 @@ impl LineReader {
         ensures kept { OnErr result (self.new.ahead ≡ []) }
         ensures failed { OnErr result (Rose (S.faults source.old) (S.faults source.new)) }
         ensures taken { self.new.taken ≡ self.old.taken }
-        ensures line { self.new.line ≡ self.old.line }
+        ensures line { self.new.line ≡ None }
         ensures over { self.new.over ≡ false }
         ensures sound { IsSound self.new }
     {
+        self.place = Place::Nowhere;
         self.ahead.fill(source)
     }
 
@@ -259,7 +288,7 @@ impl LineReader {
     {
         if self.part.len() == 0 {
             self.is_over = true;
-            self.is_line = false;
+            self.place = Place::Nowhere;
             return LineRead::End;
         }
         let read = self.end_line();
@@ -272,7 +301,6 @@ impl LineReader {
         requires empty { self.old.ahead ≡ [] }
         requires going { self.old.over ≡ false }
         requires fits { self.old.taken ≤ text_limit }
-        requires line { self.old.line ≡ None }
         ensures answer { IfOk result (λ read. Answers read self.old self.new (S.left source.old) (S.left source.new)) }
         ensures failed { OnErr result (BreaksOff self.old self.new (S.left source.old) (S.left source.new)) }
         ensures none_failed { OnOk result (S.faults source.new ≡ S.faults source.old) }
@@ -318,7 +346,7 @@ impl LineReader {
         ensures anew { IfOk result (λ read. Anew read self.new) }
     {
         if self.is_over {
-            self.is_line = false;
+            self.place = Place::Nowhere;
             return Ok(LineRead::End);
         }
         match self.line_ahead() {

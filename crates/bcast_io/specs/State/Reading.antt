@@ -2,6 +2,13 @@
 use Rattle.std.specs.Prelude.{ℕ, ◌≡◌, ◌≢◌, ◌<◌, ◌≤◌, ◌+◌, ◌-◌, if◌then◌else◌, Bool, true, false, List, [], ◌++◌, length, Option, None, Some}
 use Rattle.std.specs.Io.KnownBytes.{Consumes}
 use Rattle.bcast_io.specs.TextLines.{TextLine, lines_from, text_limit}
+use Rattle.bcast_io.specs.declared.line_reader.Place.{Place}
+use Rattle.bcast_io.specs.declared.line_reader.Place.TheVariants.{Nowhere, Ahead, Apart}
+
+-- the octets that were read ahead, and the last line that was passed over whole
+pub record Window : Type 0 where
+  pub octets : List ℕ
+  pub line : List ℕ
 
 pub record Reading : Type 0 where
   -- the octets that were read ahead
@@ -15,10 +22,11 @@ pub record Reading : Type 0 where
   -- the last line, where the last answer was Line
   pub line : Option (List ℕ)
 
--- the octets of the last line, where there is one
-abbrev pub held : Bool → List ℕ → Option (List ℕ)
-held true octets = Some octets
-held false octets = None
+-- the octets of the last line, by where it stands: in the buffer of those read ahead, or apart
+abbrev pub held : Place → List ℕ → List ℕ → Option (List ℕ)
+held Nowhere passed apart = None
+held Ahead passed apart = Some passed
+held Apart passed apart = Some apart
 
 -- the lines of these octets, which follow those that were taken
 abbrev pub lines_after : Bool → Reading → List ℕ → List TextLine

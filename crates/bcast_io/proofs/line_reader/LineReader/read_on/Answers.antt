@@ -19,7 +19,6 @@ reads-preserved g c =
       took = Took-then c.args.self.now c.fill.new.self c.line_ahead.new.self _ _ _ [] [] c.fill.ensures.over so_far (Took-of _ _ _ [] c.in-None.ensures.none);
       empty = c.in-None.ensures.all;
       going = c.line_ahead.ensures.over;
-      line = c.in-None.ensures.line;
       fits = c.line_ahead.ensures.sound.fits;
       none_failed = c.in_ok-fill.ensures.none_failed ∙ c.reads.invariant.none_failed;
     }

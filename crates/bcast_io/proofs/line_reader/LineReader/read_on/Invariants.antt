@@ -1,4 +1,4 @@
-use Rattle.std.proofs.Common.{◌≡◌, ◌≤◌, ◌-◌, [], false, None}
+use Rattle.std.proofs.Common.{◌≡◌, ◌≤◌, ◌-◌, [], false}
 use Rattle.bcast_io.specs.TextLines.{text_limit}
 use Rattle.bcast_io.specs.State.Reading.{Took}
 use Rattle.bcast_io.proofs.line_reader.LineReader.read_on.Given as goal
@@ -8,7 +8,6 @@ invariant-reads g l = record {
   took : Took l.initial.self l.self (g.S.ByteSource.left l.initial.source) (g.S.ByteSource.left l.source) [];
   empty : l.self.ahead ≡ [];
   going : l.self.over ≡ false;
-  line : l.self.line ≡ None;
   fits : l.self.taken ≤ text_limit;
   none_failed : g.S.ByteSource.faults l.source ≡ g.S.ByteSource.faults l.initial.source;
 }
