@@ -8,3 +8,4 @@ pub mod Spots
 pub mod Untaken
 pub mod Relaying
 pub mod Between
+pub mod Rare

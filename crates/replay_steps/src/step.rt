@@ -6,6 +6,7 @@ ghost use Rattle.scenario_text.specs.declared.step.Step.{Step as Said};
 ghost use Rattle.scenario_history.specs.Steps.{running, stage_of, unbegun};
 ghost use Rattle.replay_steps.specs.Machines.{Stands};
 ghost use Rattle.replay_steps.specs.Meets.{BoxesStand, First, Meets, StepMeets};
+ghost use Rattle.replay_steps.specs.Rare.{IsRare};
 ghost use Rattle.replay_steps.specs.Untaken.{UntakenSame};
 ghost use Rattle.replay_steps.specs.Versions.{number_of};
 
@@ -20,7 +21,8 @@ use transcript_text::{Refusal, Stop};
 use unit_outlets::Outlet;
 
 impl Machine {
-    /// Makes a step that is not the first, and follows no `end`.
+    /// Makes a step that is not the first, and follows no `end`. Those that come again and again stand here alone, so that they
+    /// take no room for the others.
     #[inline(always)]
     fn later_step(
         &mut self,
@@ -30,6 +32,86 @@ impl Machine {
         text: &mut Octets,
     ) -> Result<(), Stop>
         requires { IsInRange step }
+        ensures meets { (starts : List Account) (steps : List Said) → Stands steps self.old → stage_of steps ≡ running (number_of version)
+            → BoxesStand starts steps (map account outlets.old.items)
+            → Meets starts steps step self.new text.old text.new (map account outlets.old.items) (map account outlets.new.items) result }
+        ensures untaken { (steps : List Said) → Stands steps self.old → UntakenSame steps outlets.old.items outlets.new.items }
+    {
+        match step {
+            Step::Unit { bis, time, octets } => self.unit(bis, time, octets.as_slice()),
+            Step::Event => self.event(outlets, text),
+            Step::Hear {
+                sink,
+                back,
+                bis,
+                subevent,
+            } => self.hear(
+                sink,
+                Place {
+                    back,
+                    bis,
+                    subevent,
+                },
+            ),
+            Step::Air { sink, lose } => self.air(sink, lose),
+            Step::Announce { sink } => self.announce(sink, text),
+            Step::Pac { sink, .. }
+            | Step::Locate { sink, .. }
+            | Step::Context { sink, .. }
+            | Step::Train { sink, .. }
+            | Step::Write { sink, .. }
+            | Step::Add { sink, .. }
+            | Step::Modify { sink, .. }
+            | Step::Remove { sink, .. }
+            | Step::Code { sink, .. }
+            | Step::Serve { sink, .. }
+            | Step::Tell { sink, .. }
+            | Step::Read { sink, .. }
+            | Step::Drain { sink, .. }
+            | Step::Show { sink, .. }
+            | Step::Lose { sink, .. }
+            | Step::Control { sink, .. }
+            | Step::Forge { sink, .. }
+            | Step::Assist { sink, .. }
+            | Step::Apart { sink, .. }
+            | Step::AWrite { sink, .. }
+            | Step::AServe { sink, .. }
+            | Step::ATell { sink, .. }
+            | Step::ARead { sink, .. }
+            | Step::ADrain { sink, .. }
+            | Step::AShow { sink, .. } => self.sink_line(sink, step, text),
+            Step::Scenario { .. }
+            | Step::Group { .. }
+            | Step::Ident { .. }
+            | Step::Subgroup { .. }
+            | Step::Meta { .. }
+            | Step::Bis { .. }
+            | Step::Cipher { .. }
+            | Step::Start { .. }
+            | Step::Sink { .. }
+            | Step::Tuned { .. }
+            | Step::Inject { .. }
+            | Step::Sniff { .. }
+            | Step::Drop { .. }
+            | Step::Stop
+            | Step::Terminate { .. }
+            | Step::End
+            | Step::Source { .. }
+            | Step::Relay { .. } => self.rare_step(version, step, outlets, text),
+        }
+    }
+
+    /// Makes such a step that a scenario says seldom.
+    #[inline(never)]
+    fn rare_step(
+        &mut self,
+        version: Version,
+        step: Step,
+        outlets: &mut Vec<Box<dyn Outlet>>,
+        text: &mut Octets,
+    ) -> Result<(), Stop>
+        requires range { IsInRange step }
+        requires rare { IsRare step }
         ensures meets { (starts : List Account) (steps : List Said) → Stands steps self.old → stage_of steps ≡ running (number_of version)
             → BoxesStand starts steps (map account outlets.old.items)
             → Meets starts steps step self.new text.old text.new (map account outlets.old.items) (map account outlets.new.items) result }
@@ -102,22 +184,6 @@ impl Machine {
                 mtu,
             } => self.sink(version, sink, streams, slots, mtu, outlets.len()),
             Step::Tuned { sink, which } => self.tuned(sink, which),
-            Step::Unit { bis, time, octets } => self.unit(bis, time, octets.as_slice()),
-            Step::Event => self.event(outlets, text),
-            Step::Hear {
-                sink,
-                back,
-                bis,
-                subevent,
-            } => self.hear(
-                sink,
-                Place {
-                    back,
-                    bis,
-                    subevent,
-                },
-            ),
-            Step::Air { sink, lose } => self.air(sink, lose),
             Step::Inject {
                 sink,
                 back,
@@ -145,37 +211,12 @@ impl Machine {
                 self.sniff(place, text)
             }
             Step::Drop { sink } => self.drop_sink(sink, outlets, text),
-            Step::Announce { sink } => self.announce(sink, text),
             Step::Stop => self.stop(outlets, text),
             Step::Terminate { reason } => self.terminate(reason, outlets, text),
             Step::End => self.end(version, outlets, text),
             Step::Source { source } => self.choose(source),
-            Step::Pac { sink, .. }
-            | Step::Locate { sink, .. }
-            | Step::Context { sink, .. }
-            | Step::Train { sink, .. }
-            | Step::Write { sink, .. }
-            | Step::Add { sink, .. }
-            | Step::Modify { sink, .. }
-            | Step::Remove { sink, .. }
-            | Step::Code { sink, .. }
-            | Step::Serve { sink, .. }
-            | Step::Tell { sink, .. }
-            | Step::Read { sink, .. }
-            | Step::Drain { sink, .. }
-            | Step::Show { sink, .. }
-            | Step::Lose { sink, .. }
-            | Step::Control { sink, .. }
-            | Step::Forge { sink, .. }
-            | Step::Assist { sink, .. }
-            | Step::Apart { sink, .. }
-            | Step::AWrite { sink, .. }
-            | Step::AServe { sink, .. }
-            | Step::ATell { sink, .. }
-            | Step::ARead { sink, .. }
-            | Step::ADrain { sink, .. }
-            | Step::AShow { sink, .. } => self.sink_line(sink, step, text),
             Step::Relay { sink, bis, to } => self.relay(sink, bis, to),
+            _ => unreachable!(),
         }
     }
 
@@ -201,7 +242,8 @@ impl Machine {
         }
     }
 
-    /// Makes the first step.
+    /// Makes the first step. It stands in its caller, so that no step is copied for a call.
+    #[inline(always)]
     fn first_step(&mut self, step: Step) -> Result<(), Stop>
         requires { IsInRange step }
         ensures { (boxes : ℕ) (steps : List Said) → Stands steps self.old → stage_of steps ≡ unbegun
