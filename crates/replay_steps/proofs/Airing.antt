@@ -5,8 +5,6 @@ use Rattle.std.proofs.lemmas.Bool.{le-ltb}
 use Rattle.std.proofs.lemmas.Nat.{div_below, mod_below}
 use Rattle.std.specs.Option.{option_or}
 use Rattle.unit_outlets.specs.Account.{Account}
-use Rattle.big_info.specs.declared.group.Group.{Group}
-use Rattle.big_info.specs.declared.info.BigInfo.{BigInfo}
 use Rattle.source_machine.specs.Airs.{airs_of}
 use Rattle.source_machine.specs.Calls.{events}
 use Rattle.source_machine.specs.Faults.{air_fault}
@@ -35,6 +33,7 @@ use Rattle.scenario_sinks.specs.Hearing.{Hears, hearing_by}
 use Rattle.scenario_sinks.specs.Pasts.{Past, with_hearing}
 use Rattle.scenario_sinks.specs.State.Standing.{SinksStand}
 use Rattle.scenario_sinks.proofs.Citable.{stands_same}
+use Rattle.replay_steps.specs.declared.grid.Grid.{Grid}
 use Rattle.replay_steps.specs.declared.machine.Machine.{Machine}
 use Rattle.replay_steps.specs.Airing.{OnAir, Reaches, past_on_air}
 use Rattle.replay_steps.specs.Machines.{Stands, past_of}
@@ -111,13 +110,13 @@ hearing_stays steps made n event bis subevent octets sinks boxes mades sources l
     stands_same (with_hearing n (chosen_of steps) event bis subevent octets (past_of steps)) (past_of (made ∷ steps)) sinks
     (record { boxes = boxes; mades = mades; sources = sources; lives = lives; received = received; made = count }) stands
 
-pub hear_meets : (boxes version n source event back bis subevent : ℕ) (pdu : List ℕ) (steps : List Step) (old new : Machine) (o : Option Hearing) (group : Group)
-    → Stands steps old → stage_of steps ≡ running version → Reaches steps n (Ok group)
+pub hear_meets : (boxes version n source event back bis subevent : ℕ) (pdu : List ℕ) (steps : List Step) (old new : Machine) (o : Option Hearing) (grid : Grid)
+    → Stands steps old → stage_of steps ≡ running version → Reaches steps n (Ok grid)
     → (no_place (chosen_steps steps) back bis subevent ≡ None) × (pdu ≡ pdu_in airs_of (chosen_steps steps) (event_back (chosen_steps steps) back) bis subevent)
     → source ≡ chosen_of steps → event ≡ event_back (chosen_steps steps) back
     → new.stage ≡ old.stage → new.sources ≡ old.sources → new.relays ≡ old.relays → Hears (past_of steps) n source event bis subevent pdu new.sinks o
     → Quiet boxes steps (Hear n back bis subevent) new (Ok tt)
-hear_meets boxes version n source event back bis subevent pdu steps old new o group stands e r place chosen is stage same held h = (
+hear_meets boxes version n source event back bis subevent pdu steps old new o grid stands e r place chosen is stage same held h = (
   own_fault boxes version n steps (Hear n back bis subevent) (hear_brings n back bis subevent) e r.0 r.2 ∙ place.0,
   brought steps (Hear n back bis subevent) old new stands (hear_says n back bis subevent) refl stage same refl held
       (hearing_stays steps (Hear n back bis subevent) n (event_back (chosen_steps steps) back) bis subevent
@@ -128,13 +127,13 @@ hear_meets boxes version n source event back bis subevent pdu steps old new o gr
       (some_heard (past_of steps) n source event bis subevent pdu new.sinks o r.2 h))),
 )
 
-pub place_fails : (boxes version n back bis subevent : ℕ) (steps : List Step) (made : Step) (new : Machine) (group : Group) (stop : Stop) → Stands steps new → Brings n made
+pub place_fails : (boxes version n back bis subevent : ℕ) (steps : List Step) (made : Step) (new : Machine) (grid : Grid) (stop : Stop) → Stands steps new → Brings n made
     → source_refusal airs_of version (chosen_steps steps) made ≡ no_place (chosen_steps steps) back bis subevent → stage_of steps ≡ running version
-    → Reaches steps n (Ok group) → NoPlace (chosen_steps steps) back bis subevent stop → Quiet boxes steps made new (Err stop)
-place_fails boxes version n back bis subevent steps made new group (Refused reason) stands brings own e r p =
+    → Reaches steps n (Ok grid) → NoPlace (chosen_steps steps) back bis subevent stop → Quiet boxes steps made new (Err stop)
+place_fails boxes version n back bis subevent steps made new grid (Refused reason) stands brings own e r p =
     (as_step boxes steps made brings.minds ∙ own_fault boxes version n steps made brings e r.0 r.2 ∙ own ∙ p, stands)
-place_fails boxes version n back bis subevent steps made new group OutletFault stands brings own e r p = p
-place_fails boxes version n back bis subevent steps made new group Memory stands brings own e r p = tt
+place_fails boxes version n back bis subevent steps made new grid OutletFault stands brings own e r p = p
+place_fails boxes version n back bis subevent steps made new grid Memory stands brings own e r p = tt
 
 -- ---- inject
 
@@ -144,12 +143,12 @@ quiet_tells starts steps made new text (Refused reason) minds q = (sym (as_step 
 quiet_tells starts steps made new text OutletFault minds q = q
 quiet_tells starts steps made new text Memory minds q = tt
 
-pub inject_meets : (starts : List Account) (version n source event back bis subevent : ℕ) (octets : List ℕ) (steps : List Step) (old new : Machine) (hearing : Hearing) (group : Group)
-    (text told : List ℕ) → Stands steps old → stage_of steps ≡ running version → Reaches steps n (Ok group)
+pub inject_meets : (starts : List Account) (version n source event back bis subevent : ℕ) (octets : List ℕ) (steps : List Step) (old new : Machine) (hearing : Hearing) (grid : Grid)
+    (text told : List ℕ) → Stands steps old → stage_of steps ≡ running version → Reaches steps n (Ok grid)
     → no_place (chosen_steps steps) back bis subevent ≡ None → source ≡ chosen_of steps → event ≡ event_back (chosen_steps steps) back
     → new.stage ≡ old.stage → new.sources ≡ old.sources → new.relays ≡ old.relays → Hears (past_of steps) n source event bis subevent octets new.sinks (Some hearing)
     → told ≡ text ++ heard_line n hearing → Tells starts steps (Inject n back bis subevent octets) new text told (Ok tt)
-inject_meets starts version n source event back bis subevent octets steps old new hearing group text told stands e r place chosen is stage same held h t =
+inject_meets starts version n source event back bis subevent octets steps old new hearing grid text told stands e r place chosen is stage same held h t =
     let made : Step = Inject n back bis subevent octets in
     let answer : hearing ≡ injected_hearing airs_of steps n back bis subevent octets =
     h.1 ∙ ap (λ s. hearing_by (source_of n steps) (sink_calls airs_of n steps) s event bis subevent octets) chosen
@@ -163,9 +162,9 @@ inject_meets starts version n source event back bis subevent octets steps old ne
     )
 
 -- the sink lives, so it hears
-pub inject_fails : (starts : List Account) (version n source event bis subevent : ℕ) (octets : List ℕ) (steps : List Step) (new : Sinks) (group : Group) → Reaches steps n (Ok group)
+pub inject_fails : (starts : List Account) (version n source event bis subevent : ℕ) (octets : List ℕ) (steps : List Step) (new : Sinks) (grid : Grid) → Reaches steps n (Ok grid)
     → Hears (past_of steps) n source event bis subevent octets new None → ⊥
-inject_fails starts version n source event bis subevent octets steps new group r h = let e : true ≡ false = sym r.2 ∙ ap is_some h in cc e
+inject_fails starts version n source event bis subevent octets steps new grid r h = let e : true ≡ false = sym r.2 ∙ ap is_some h in cc e
 
 -- ---- air
 
@@ -188,17 +187,17 @@ spot_within streams (suc k) i h =
 on_air : (n : ℕ) → 0 < n → refuse_if (n == 0) NotOnAir ≡ None
 on_air n h = ap (λ (b : Bool). refuse_if b NotOnAir) (ne_eqb n 0 (λ e. omega arith))
 
-pub air_meets : (boxes version n lose event : ℕ) (steps : List Step) (old new : Machine) (group : Group) → Stands steps old → stage_of steps ≡ running version
-    → OnAir steps n event group → new.stage ≡ old.stage → new.sources ≡ old.sources → new.relays ≡ old.relays → SinksStand (past_of (Air n lose ∷ steps)) new.sinks
+pub air_meets : (boxes version n lose event streams subevents : ℕ) (steps : List Step) (old new : Machine) → Stands steps old → stage_of steps ≡ running version
+    → OnAir steps n event streams subevents → new.stage ≡ old.stage → new.sources ≡ old.sources → new.relays ≡ old.relays → SinksStand (past_of (Air n lose ∷ steps)) new.sinks
     → Quiet boxes steps (Air n lose) new (Ok tt)
-air_meets boxes version n lose event steps old new group stands e on stage same held heard = (
+air_meets boxes version n lose event streams subevents steps old new stands e on stage same held heard = (
   own_fault boxes version n steps (Air n lose) (air_brings n lose) e on.started on.lives ∙ on_air (performed (chosen_steps steps)) on.some,
   brought steps (Air n lose) old new stands (air_says n lose) refl stage same refl held heard,
 )
 
-pub air_fails : (boxes version n lose : ℕ) (steps : List Step) (group : Group) → stage_of steps ≡ running version → Reaches steps n (Ok group)
+pub air_fails : (boxes version n lose : ℕ) (steps : List Step) (grid : Grid) → stage_of steps ≡ running version → Reaches steps n (Ok grid)
     → performed (chosen_steps steps) ≡ 0 → phase_refusal airs_of boxes steps (Air n lose) ≡ Some NotOnAir
-air_fails boxes version n lose steps group e r none =
+air_fails boxes version n lose steps grid e r none =
     own_fault boxes version n steps (Air n lose) (air_brings n lose) e r.0 r.2 ∙ ap (λ k. refuse_if (k == 0) NotOnAir) none
 
 pub air_begins : (steps : List Step) (n lose : ℕ) (sinks : Sinks) → SinksStand (past_of steps) sinks → SinksStand (past_on_air steps n lose 0) sinks
@@ -284,13 +283,10 @@ heard_next steps n lose i source event bis subevent pdu sinks o kept lives chose
     }) (subst S s (subst B b heard)))
 
 -- what was computed of a spot is what is said of it
-pub lost_at : (steps : List Step) (n event lose i : ℕ) (r b : Bool) (group : Group) → OnAir steps n event group
-    → r ≡ is_lost group.info event lose (spot_at group.info i) → r ≡ b
-    → is_lost (setup_of (chosen_steps steps)).info (event_back (chosen_steps steps) 0) lose (spot_at (setup_of (chosen_steps steps)).info i) ≡ b
-lost_at steps n event lose i r b group on is e =
-    let own : List Step = chosen_steps steps in
-    sym (is ∙ ap (λ (info : BigInfo). is_lost info event lose (spot_at info i)) on.info
-    ∙ ap (λ d. is_lost (setup_of own).info d lose (spot_at (setup_of own).info i)) on.event_is) ∙ e
+pub lost_at : (own : List Step) (event lose i : ℕ) (r b : Bool) → event ≡ event_back own 0 → r ≡ is_lost (setup_of own).info event lose (spot_at (setup_of own).info i) → r ≡ b
+    → is_lost (setup_of own).info (event_back own 0) lose (spot_at (setup_of own).info i) ≡ b
+lost_at own event lose i r b event_is is e =
+    sym (is ∙ ap (λ d. is_lost (setup_of own).info d lose (spot_at (setup_of own).info i)) event_is) ∙ e
 
 pub no_place_there : (own : List Step) (bis subevent : ℕ) (stop : Stop) → bis ≤ (setup_of own).info.num_bis → subevent < (setup_of own).info.nse → 0 < performed own
     → NoPlace own 0 bis subevent stop → ⊥

@@ -1,8 +1,7 @@
 -- The spots of an event one behind the other.
-use Rattle.std.proofs.Common.{◌≡◌, ℕ, ◌+◌, ◌*◌, ◌/◌, ◌%◌, ◌<◌, ◌^◌, sym, ◌∙◌, ap, arith}
+use Rattle.std.proofs.Common.{◌≡◌, ℕ, ◌+◌, ◌*◌, ◌/◌, ◌%◌, ◌<◌, ◌^◌, sym, ◌∙◌, ap, subst, arith}
 use Rattle.std.proofs.Math.Nat.{add-mul}
 use Rattle.std.proofs.lemmas.Nat.{div-add-mod', div-mul-add, mod-mul-add}
-use Rattle.big_info.specs.declared.info.BigInfo.{BigInfo}
 use Rattle.replay_steps.specs.declared.spot.Spot.{Spot}
 use Rattle.replay_steps.specs.Spots.{IsSpot}
 use Rattle.replay_steps.proofs.Airing.{spot_within}
@@ -30,34 +29,39 @@ begins_mod : (n k : ℕ) → 0 < k → n % k + 1 ≡ k → (n + 1) % k ≡ 0
 begins_mod n k some e = ap (λ m. m % k) (behind n k ∙ begins_at (n / k) k (n % k) e) ∙ mod-mul-add (n / k + 1) k 0 some
 
 -- the next spot, in the same stream and in the next one
-pub same_stream : (info : BigInfo) (event lose n since : ℕ) (spot : Spot) → spot.subevent + 1 < info.nse → IsSpot info event lose n spot
-    → (0 < lose → since ≡ (event * info.num_bis * info.nse + n + 1) % lose)
-    → IsSpot info event lose (n + 1) (record { stream = spot.stream; subevent = spot.subevent + 1; since = since })
-same_stream info event lose n since spot less at counts =
-    let within : n % info.nse + 1 < info.nse = omega (arith, less, at.subevent) in
+pub same_stream : (streams subevents event lose n since : ℕ) (spot : Spot) → spot.subevent + 1 < subevents → IsSpot streams subevents event lose n spot
+    → (0 < lose → since ≡ (event * streams * subevents + n + 1) % lose)
+    → IsSpot streams subevents event lose (n + 1) (record { stream = spot.stream; subevent = spot.subevent + 1; since = since })
+same_stream streams subevents event lose n since spot less at counts =
+    let within : n % subevents + 1 < subevents = omega (arith, less, at.subevent) in
     record {
-      stream = at.stream ∙ sym (goes_on_div n info.nse within);
-      subevent = ap (λ m. m + 1) at.subevent ∙ sym (goes_on_mod n info.nse within);
-      since = λ some. counts some ∙ ap (λ m. m % lose) (one_behind (event * info.num_bis * info.nse) n);
+      stream = at.stream ∙ sym (goes_on_div n subevents within);
+      subevent = ap (λ m. m + 1) at.subevent ∙ sym (goes_on_mod n subevents within);
+      since = λ some. counts some ∙ ap (λ m. m % lose) (one_behind (event * streams * subevents) n);
     }
 
-pub next_stream : (info : BigInfo) (event lose n since : ℕ) (spot : Spot) → spot.subevent + 1 ≡ info.nse → IsSpot info event lose n spot
-    → (0 < lose → since ≡ (event * info.num_bis * info.nse + n + 1) % lose)
-    → IsSpot info event lose (n + 1) (record { stream = spot.stream + 1; subevent = 0; since = since })
-next_stream info event lose n since spot last at counts =
-    let some : 0 < info.nse = omega (arith, last) in
-    let whole : n % info.nse + 1 ≡ info.nse = omega (arith, last, at.subevent) in
+pub next_stream : (streams subevents event lose n since : ℕ) (spot : Spot) → spot.subevent + 1 ≡ subevents → IsSpot streams subevents event lose n spot
+    → (0 < lose → since ≡ (event * streams * subevents + n + 1) % lose)
+    → IsSpot streams subevents event lose (n + 1) (record { stream = spot.stream + 1; subevent = 0; since = since })
+next_stream streams subevents event lose n since spot last at counts =
+    let some : 0 < subevents = omega (arith, last) in
+    let whole : n % subevents + 1 ≡ subevents = omega (arith, last, at.subevent) in
     record {
-      stream = ap (λ m. m + 1) at.stream ∙ sym (begins_div n info.nse some whole);
-      subevent = sym (begins_mod n info.nse some whole);
-      since = λ some. counts some ∙ ap (λ m. m % lose) (one_behind (event * info.num_bis * info.nse) n);
+      stream = ap (λ m. m + 1) at.stream ∙ sym (begins_div n subevents some whole);
+      subevent = sym (begins_mod n subevents some whole);
+      since = λ some. counts some ∙ ap (λ m. m % lose) (one_behind (event * streams * subevents) n);
     }
 
 -- a spot of an event lies in a stream and a subevent of the group
-pub stream_within : (info : BigInfo) (event lose n : ℕ) (spot : Spot) → IsSpot info event lose n spot → n < info.num_bis * info.nse → info.num_bis < 2 ^ 5 → spot.stream < 31
-stream_within info event lose n spot at within few =
-    let w = spot_within info.num_bis info.nse n within in omega (arith, at.stream, w.1)
+pub stream_within : (streams subevents event lose n : ℕ) (spot : Spot) → IsSpot streams subevents event lose n spot → n < streams * subevents → streams < 2 ^ 5 → spot.stream < 31
+stream_within streams subevents event lose n spot at within few =
+    let w = spot_within streams subevents n within in omega (arith, at.stream, w.1)
 
-pub subevent_within : (info : BigInfo) (event lose n : ℕ) (spot : Spot) → IsSpot info event lose n spot → n < info.num_bis * info.nse → spot.subevent < info.nse
-subevent_within info event lose n spot at within =
-    let w = spot_within info.num_bis info.nse n within in omega (arith, at.subevent, w.2)
+pub subevent_within : (streams subevents event lose n : ℕ) (spot : Spot) → IsSpot streams subevents event lose n spot → n < streams * subevents → spot.subevent < subevents
+subevent_within streams subevents event lose n spot at within =
+    let w = spot_within streams subevents n within in omega (arith, at.subevent, w.2)
+
+-- what is a spot by some numbers is one by equal ones
+pub spot_as : (streams subevents s t event lose n : ℕ) (spot : Spot) → streams ≡ s → subevents ≡ t → IsSpot streams subevents event lose n spot → IsSpot s t event lose n spot
+spot_as streams subevents s t event lose n spot a b at =
+    subst (λ k. IsSpot s k event lose n spot) b (subst (λ k. IsSpot k subevents event lose n spot) a at)

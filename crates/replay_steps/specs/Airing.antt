@@ -1,7 +1,6 @@
 -- What the sinks of a scenario hear of the air of the chosen source (Core 5.2, volume 6 part B, section 4.4.6).
 use Rattle.std.specs.Prelude.{ℕ, ◌≡◌, ◌<◌, not, true, is_some, List, Some, Result, Ok, Err, if◌then◌else◌}
 use Rattle.std.specs.Option.{option_or}
-use Rattle.big_info.specs.declared.group.Group.{Group}
 use Rattle.source_machine.specs.Airs.{airs_of}
 use Rattle.transcript_text.specs.declared.refusal.Refusal.TheVariants.{Order}
 use Rattle.transcript_text.specs.declared.stop.Stop.{Stop}
@@ -16,11 +15,14 @@ use Rattle.sink_history.specs.Lives.{made_of}
 use Rattle.scenario_history.specs.Refusals.{no_sink}
 use Rattle.sink_history.specs.Refusals.{refuse_if}
 use Rattle.scenario_sinks.specs.Pasts.{Past}
+use Rattle.replay_steps.specs.declared.grid.Grid.{Grid}
 
--- a PDU of the chosen source may be handed to a sink: the source was started and has this group, and the sink lives
-abbrev pub Reaches : List Step → ℕ → Result Group Stop → Type 0
-Reaches steps sink (Ok group) =
-    (is_heard (chosen_steps steps) ≡ true) × (group.info ≡ (setup_of (chosen_steps steps)).info) × (is_some (box_of sink steps) ≡ true)
+-- a PDU of the chosen source may be handed to a sink: the source was started, its events have this grid, and the sink lives
+abbrev pub Reaches : List Step → ℕ → Result Grid Stop → Type 0
+Reaches steps sink (Ok grid) =
+    (is_heard (chosen_steps steps) ≡ true)
+    × ((grid.streams ≡ (setup_of (chosen_steps steps)).info.num_bis) × (grid.subevents ≡ (setup_of (chosen_steps steps)).info.nse))
+    × (is_some (box_of sink steps) ≡ true)
 Reaches steps sink (Err (Refused reason)) =
     option_or (refuse_if (not (is_heard (chosen_steps steps))) Order) (no_sink sink steps) ≡ Some reason
 Reaches steps sink (Err OutletFault) = ⊥
@@ -37,10 +39,11 @@ past_on_air steps sink lose count = record {
   made = sinks_made steps;
 }
 
--- the chosen source was started, its group has these numbers, and this is the last event that it performed
-pub record OnAir (steps : List Step) (sink event : ℕ) (group : Group) : Type 0 where
+-- the chosen source was started, its group has so many streams and subevents, and this is the last event that it performed
+pub record OnAir (steps : List Step) (sink event streams subevents : ℕ) : Type 0 where
   pub started : is_heard (chosen_steps steps) ≡ true
-  pub info : group.info ≡ (setup_of (chosen_steps steps)).info
+  pub streams_are : streams ≡ (setup_of (chosen_steps steps)).info.num_bis
+  pub subevents_are : subevents ≡ (setup_of (chosen_steps steps)).info.nse
   pub lives : is_some (box_of sink steps) ≡ true
   pub some : 0 < performed (chosen_steps steps)
   pub event_is : event ≡ event_back (chosen_steps steps) 0

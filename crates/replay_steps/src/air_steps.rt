@@ -1,7 +1,6 @@
 //! The steps that bring PDUs of the air to the sinks and to the transcript.
 ghost use Rattle.std.specs.Prelude.{◌≡◌, ◌≤◌, ◌<◌, ◌+◌, ◌-◌, ◌*◌, ◌^◌, ◌∷◌, ℕ, List};
 ghost use Rattle.unit_outlets.specs.Account.{Account};
-ghost use Rattle.big_info.specs.declared.group.Group.{Group as Described};
 ghost use Rattle.scenario_text.specs.declared.step.Step.{Step};
 ghost use Rattle.scenario_text.specs.declared.step.Step.TheVariants.{Hear as HearStep, Air as AirStep};
 ghost use Rattle.scenario_text.specs.declared.step.Step.TheVariants.{Inject as InjectStep, Sniff as SniffStep};
@@ -13,17 +12,19 @@ ghost use Rattle.replay_steps.specs.Machines.{Stands, past_of};
 ghost use Rattle.replay_steps.specs.Meets.{Quiet, Tells};
 ghost use Rattle.replay_steps.specs.Spots.{IsSpot};
 
+use crate::grid::Grid;
 use crate::machine::Machine;
 use crate::spot::Spot;
 use bcast_base::{Bis, Memory, Octets};
-use big_info::Group;
 use scenario_sinks::Sinks;
 use scenario_sources::{Place, Sources};
 use transcript_text::{Refusal, Stop, put_heard, put_pdu};
 
 impl Machine {
-    /// Whether a PDU of the chosen source may be handed to a sink; the group of the source where it may.
-    fn reach(&self, sink: u8) -> Result<Group, Stop>
+    /// Whether a PDU of the chosen source may be handed to a sink; the grid of its events where it may. It stands alone, so that
+    /// its callers take no room for a group.
+    #[inline(never)]
+    fn reach(&self, sink: u8) -> Result<Grid, Stop>
         requires { sink ≤ 7 }
         ensures { (steps : List Step) → Stands steps self.now → Reaches steps sink result }
     {
@@ -33,7 +34,10 @@ impl Machine {
         if !self.sinks.lives(sink) {
             return Err(Stop::Refused(Refusal::NoSuchSink));
         }
-        Ok(group)
+        Ok(Grid {
+            streams: group.info.num_bis,
+            subevents: group.info.nse,
+        })
     }
 
     /// `hear`: hands a sink a PDU of an event that was performed.
@@ -67,14 +71,14 @@ impl Machine {
         ensures { (boxes version : ℕ) (steps : List Step) → Stands steps self.old → stage_of steps ≡ running version
             → Quiet boxes steps (AirStep sink lose) self.new result }
     {
-        let group = match self.reach(sink) {
-            Ok(group) => group,
+        let grid = match self.reach(sink) {
+            Ok(grid) => grid,
             Err(stop) => return Err(stop),
         };
         let Some(event) = self.sources.last_event() else {
             return Err(Stop::Refused(Refusal::NotOnAir));
         };
-        hear_all(&self.sources, &mut self.sinks, sink, &group, event, lose);
+        hear_all(&self.sources, &mut self.sinks, sink, grid, event, lose);
         Ok(())
     }
 
@@ -138,17 +142,17 @@ impl Machine {
 
 /// Hands a sink the PDUs of the last event, by rising index and subevent, but those that are lost.
 #[tactic(auto, using(crate::proofs::Spots::stream_within, crate::proofs::Spots::subevent_within))]
-fn hear_all(sources: &Sources, sinks: &mut Sinks, sink: u8, group: &Group, event: u64, lose: u8)
+fn hear_all(sources: &Sources, sinks: &mut Sinks, sink: u8, grid: Grid, event: u64, lose: u8)
     requires sink { sink ≤ 7 }
     requires event { event < 2 ^ 39 }
-    ensures { (steps : List Step) → OnAir steps sink event group.now → SourcesStand steps sources.now → SinksStand (past_of steps) sinks.old
-        → SinksStand (past_of (AirStep sink lose ∷ steps)) sinks.new }
+    ensures { (steps : List Step) → OnAir steps sink event grid.streams grid.subevents → SourcesStand steps sources.now
+        → SinksStand (past_of steps) sinks.old → SinksStand (past_of (AirStep sink lose ∷ steps)) sinks.new }
 {
-    let count = u16::from(group.info.num_bis) * u16::from(group.info.nse);
-    let mut spot = Spot::first(&group.info, event, lose);
+    let count = u16::from(grid.streams) * u16::from(grid.subevents);
+    let mut spot = Spot::first(grid, event, lose);
     'spots: for number in 0..count {
         hear_spot(sources, sinks, sink, event, spot, lose);
-        spot = spot.next(group.info.nse, lose);
+        spot = spot.next(grid.subevents, lose);
     }
 }
 
@@ -158,8 +162,8 @@ fn hear_spot(sources: &Sources, sinks: &mut Sinks, sink: u8, event: u64, spot: S
     requires event { event < 2 ^ 39 }
     requires stream { spot.stream < 31 }
     requires since { spot.since ≤ lose - 1 }
-    ensures { (steps : List Step) (group : Described) (n : ℕ) → n < group.info.num_bis * group.info.nse
-        → IsSpot group.info event lose n spot → OnAir steps sink event group → SourcesStand steps sources.now
+    ensures { (steps : List Step) (streams subevents n : ℕ) → n < streams * subevents
+        → IsSpot streams subevents event lose n spot → OnAir steps sink event streams subevents → SourcesStand steps sources.now
         → SinksStand (past_on_air steps sink lose n) sinks.old
         → SinksStand (past_on_air steps sink lose (n + 1)) sinks.new }
 {

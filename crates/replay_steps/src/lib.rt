@@ -3,6 +3,7 @@
 
 mod air_steps;
 mod close_steps;
+mod grid;
 mod life_steps;
 mod line_steps;
 mod machine;

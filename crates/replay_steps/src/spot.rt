@@ -1,11 +1,10 @@
 //! The spots of an event, one behind the other, and which of them are lost.
 ghost use Rattle.std.specs.Prelude.{◌≡◌, ◌<◌, ◌≤◌, ◌+◌, ◌-◌, ◌%◌, ◌^◌, ℕ};
-ghost use Rattle.big_info.specs.Widths.{FitsWidths};
 ghost use Rattle.big_info.specs.declared.info.BigInfo.{BigInfo as Info};
 ghost use Rattle.scenario_history.specs.Sinks.{is_lost as lost_by, spot_at};
 ghost use Rattle.replay_steps.specs.Spots.{IsSpot};
 
-use big_info::BigInfo;
+use crate::grid::Grid;
 
 /// A spot of an event: a stream and a subevent, from 0. Where of each `lose` PDUs the last one is lost, `since` PDUs came behind the
 /// last one that was.
@@ -18,13 +17,12 @@ pub(crate) struct Spot {
 
 impl Spot {
     /// The first spot of an event.
-    pub(crate) fn first(info: &BigInfo, event: u64, lose: u8) -> Spot
-        requires widths { FitsWidths info.now }
-        requires event { event < 2 ^ 39 }
-        ensures first { IsSpot info.now event lose 0 result }
+    pub(crate) fn first(grid: Grid, event: u64, lose: u8) -> Spot
+        requires { event < 2 ^ 39 }
+        ensures first { IsSpot grid.streams grid.subevents event lose 0 result }
         ensures within { result.since ≤ lose - 1 }
     {
-        let before = event * u64::from(info.num_bis) * u64::from(info.nse);
+        let before = event * u64::from(grid.streams) * u64::from(grid.subevents);
         Spot {
             stream: 0,
             subevent: 0,
@@ -32,17 +30,17 @@ impl Spot {
         }
     }
 
-    /// The spot behind this one, in a group with so many subevents.
-    pub(crate) fn next(self, nse: u8, lose: u8) -> Spot
+    /// The spot behind this one, where each stream has so many subevents.
+    pub(crate) fn next(self, subevents: u8, lose: u8) -> Spot
         requires stream { self.stream < 31 }
-        requires subevent { self.subevent < nse }
+        requires subevent { self.subevent < subevents }
         requires since { self.since ≤ lose - 1 }
-        ensures next { (info : Info) (event n : ℕ) → info.nse ≡ nse → IsSpot info event lose n self
-            → IsSpot info event lose (n + 1) result }
+        ensures next { (streams event n : ℕ) → IsSpot streams subevents event lose n self
+            → IsSpot streams subevents event lose (n + 1) result }
         ensures within { result.since ≤ lose - 1 }
     {
         let since = one_more(self.since, lose);
-        if self.subevent + 1 == nse {
+        if self.subevent + 1 == subevents {
             return Spot {
                 stream: self.stream + 1,
                 subevent: 0,
@@ -59,7 +57,8 @@ impl Spot {
     /// Whether the PDU of this spot is lost.
     pub(crate) fn is_lost(self, lose: u8) -> bool
         requires { self.since ≤ lose - 1 }
-        ensures { (info : Info) (event n : ℕ) → IsSpot info event lose n self → result ≡ lost_by info event lose (spot_at info n) }
+        ensures { (info : Info) (event n : ℕ) → IsSpot info.num_bis info.nse event lose n self
+            → result ≡ lost_by info event lose (spot_at info n) }
     {
         self.since + 1 == lose
     }

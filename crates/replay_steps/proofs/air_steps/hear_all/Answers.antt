@@ -1,5 +1,6 @@
-use Rattle.std.proofs.Common.{◌≡◌, ℕ, ◌*◌, ◌∙◌, refl, ap, subst, arith}
-use Rattle.big_info.specs.declared.info.BigInfo.{BigInfo}
+use Rattle.std.proofs.Common.{◌≡◌, ℕ, ◌*◌, ◌∙◌, ap, subst, arith}
+use Rattle.scenario_history.specs.Steps.{chosen_steps}
+use Rattle.scenario_history.specs.Source.{setup_of}
 use Rattle.scenario_sinks.specs.State.Standing.{SinksStand}
 use Rattle.replay_steps.specs.Airing.{past_on_air}
 use Rattle.replay_steps.proofs.Airing.{air_begins, air_ends}
@@ -10,17 +11,18 @@ spots-init c = (λ steps on sources sinks. air_begins steps c.args.sink c.args.l
 
 pub spots-preserved : goal.spots-preserved
 spots-preserved c =
-    let count : c.from.result * c.from-2.result ≡ c.args.group.now.info.num_bis * c.args.group.now.info.nse = cc in (
-      λ steps on sources sinks. c.hear_spot.ensures steps c.args.group.now c.spots.number (omega (arith, count)) c.spots.invariant.1 on sources
+    let count : c.from.result * c.from-2.result ≡ c.args.grid.streams * c.args.grid.subevents = cc in (
+      λ steps on sources sinks. c.hear_spot.ensures steps c.args.grid.streams c.args.grid.subevents c.spots.number (omega (arith, count)) c.spots.invariant.1 on sources
           (c.spots.invariant.0 steps on sources sinks),
-      c.next-spot.ensures.next c.args.group.now.info c.args.event c.spots.number refl c.spots.invariant.1,
+      c.next-spot.ensures.next c.args.grid.streams c.args.event c.spots.number c.spots.invariant.1,
       c.next-spot.ensures.within,
     )
 
 pub returns : goal.returns
 returns c steps on sources sinks =
     let P : ℕ → Type 0 = λ n. SinksStand (past_on_air steps c.args.sink c.args.lose n) c.spots.sinks in
-    let spots : BigInfo → ℕ = λ info. info.num_bis * info.nse in
     let all : c.spots.number ≡ c.from.result * c.from-2.result = omega arith in
-    let count : c.from.result * c.from-2.result ≡ c.args.group.now.info.num_bis * c.args.group.now.info.nse = cc in
-    air_ends steps c.args.sink c.args.lose c.spots.sinks (subst P (all ∙ count ∙ ap spots on.info) (c.spots.invariant.0 steps on sources sinks))
+    let count : c.from.result * c.from-2.result ≡ c.args.grid.streams * c.args.grid.subevents = cc in
+    let told : c.args.grid.streams * c.args.grid.subevents ≡ (setup_of (chosen_steps steps)).info.num_bis * (setup_of (chosen_steps steps)).info.nse =
+    ap (λ s. s * c.args.grid.subevents) on.streams_are ∙ ap (λ s. (setup_of (chosen_steps steps)).info.num_bis * s) on.subevents_are in
+    air_ends steps c.args.sink c.args.lose c.spots.sinks (subst P (all ∙ count ∙ told) (c.spots.invariant.0 steps on sources sinks))

@@ -9,6 +9,6 @@ use Rattle.replay_steps.proofs.air_steps.hear_all.Given as goal
 
 abbrev pub invariant-spots : goal.invariant-spots
 invariant-spots l =
-    ((steps : List Step) → OnAir steps l.sink l.event l.group → SourcesStand steps l.sources → SinksStand (past_of steps) l.initial.sinks
+    ((steps : List Step) → OnAir steps l.sink l.event l.grid.streams l.grid.subevents → SourcesStand steps l.sources → SinksStand (past_of steps) l.initial.sinks
     → SinksStand (past_on_air steps l.sink l.lose l.number) l.sinks)
-    × IsSpot l.group.info l.event l.lose l.number l.spot × (l.spot.since ≤ l.lose - 1)
+    × IsSpot l.grid.streams l.grid.subevents l.event l.lose l.number l.spot × (l.spot.since ≤ l.lose - 1)

@@ -1,33 +1,36 @@
-use Rattle.std.proofs.Common.{◌≡◌, ◌+◌, ◌/◌, ◌%◌, true, false, ◌∙◌, ap, arith}
+use Rattle.std.proofs.Common.{◌+◌, true, false, List, ◌∙◌, ap, arith}
 use Rattle.big_info.specs.declared.info.BigInfo.{BigInfo}
+use Rattle.scenario_text.specs.declared.step.Step.{Step}
 use Rattle.scenario_history.specs.Steps.{chosen_steps}
 use Rattle.scenario_history.specs.Source.{setup_of}
 use Rattle.replay_steps.proofs.Airing.{heard_next, lost_at, lost_next, no_place_there, spot_within}
+use Rattle.replay_steps.proofs.Spots.{spot_as}
 use Rattle.replay_steps.proofs.air_steps.hear_spot.Goals as goal
 
 pub returns-then-is_lost : goal.returns-then-is_lost
-returns-then-is_lost c steps group n within at on sources sinks =
+returns-then-is_lost c steps streams subevents n within at on sources sinks =
+    let own : List Step = chosen_steps steps in
+    let info : BigInfo = (setup_of own).info in
+    let there = spot_as streams subevents info.num_bis info.nse c.args.event c.args.lose n c.args.spot on.streams_are on.subevents_are at in
     lost_next steps c.args.sink c.args.lose n c.args.sinks.now
-    (lost_at steps c.args.sink c.args.event c.args.lose n c.is_lost.result true group on (c.is_lost.ensures group.info c.args.event n at) c.if-is_lost.true) sinks
+    (lost_at own c.args.event c.args.lose n c.is_lost.result true on.event_is (c.is_lost.ensures info c.args.event n there) c.if-is_lost.true) sinks
 
 pub returns-in_default : goal.returns-in_default
-returns-in_default c steps group n within at on sources sinks = absurd (c.in_default.ensures (omega arith, omega (arith, c.requires.stream)))
+returns-in_default c steps streams subevents n within at on sources sinks = absurd (c.in_default.ensures (omega arith, omega (arith, c.requires.stream)))
 
 pub returns-in-Err : goal.returns-in-Err
-returns-in-Err c steps group n within at on sources sinks =
-    let w = spot_within group.info.num_bis group.info.nse n within in
-    let info = on.info in
-    let streams : group.info.num_bis ≡ (setup_of (chosen_steps steps)).info.num_bis = ap (λ (i : BigInfo). i.num_bis) info in
-    let subevents : group.info.nse ≡ (setup_of (chosen_steps steps)).info.nse = ap (λ (i : BigInfo). i.nse) info in
-    absurd (no_place_there (chosen_steps steps) c.in-Some.bis c.args.spot.subevent c.in-Err.field-0 (omega (arith, c.in-Some.ensures.1, at.stream, w.1, streams))
-    (omega (arith, at.subevent, w.2, subevents)) on.some (c.in-Err.ensures.err steps sources on.started))
+returns-in-Err c steps streams subevents n within at on sources sinks =
+    let w = spot_within streams subevents n within in
+    absurd (no_place_there (chosen_steps steps) c.in-Some.bis c.args.spot.subevent c.in-Err.field-0 (omega (arith, c.in-Some.ensures.1, at.stream, w.1, on.streams_are))
+    (omega (arith, at.subevent, w.2, on.subevents_are)) on.some (c.in-Err.ensures.err steps sources on.started))
 
 pub returns-in-Ok : goal.returns-in-Ok
-returns-in-Ok c steps group n within at on sources sinks =
-    let info = on.info in
-    let nse : group.info.nse ≡ (setup_of (chosen_steps steps)).info.nse = ap (λ (i : BigInfo). i.nse) info in
+returns-in-Ok c steps streams subevents n within at on sources sinks =
+    let own : List Step = chosen_steps steps in
+    let info : BigInfo = (setup_of own).info in
+    let there = spot_as streams subevents info.num_bis info.nse c.args.event c.args.lose n c.args.spot on.streams_are on.subevents_are at in
     heard_next steps c.args.sink c.args.lose n c.chosen.result c.args.event c.in-Some.bis c.args.spot.subevent c.in-Ok.pdu.now c.hear.new.self c.hear.result
-    (lost_at steps c.args.sink c.args.event c.args.lose n c.is_lost.result false group on (c.is_lost.ensures group.info c.args.event n at) c.if-is_lost.false)
+    (lost_at own c.args.event c.args.lose n c.is_lost.result false on.event_is (c.is_lost.ensures info c.args.event n there) c.if-is_lost.false)
     on.lives (c.chosen.ensures.source steps sources) on.event_is
-    (c.in-Some.ensures.1 ∙ ap (λ k. k + 1) at.stream ∙ ap (λ k. n / k + 1) nse) (at.subevent ∙ ap (λ k. n % k) nse) (c.in-Ok.ensures.ok steps sources).1
+    (c.in-Some.ensures.1 ∙ ap (λ k. k + 1) there.stream) there.subevent (c.in-Ok.ensures.ok steps sources).1
     (c.hear.ensures _ sinks)

@@ -11,11 +11,12 @@ returns-in-Err c boxes version steps stands e =
 pub returns-in_default : goal.returns-in_default
 returns-in_default c boxes version steps stands e =
     let reach = c.in-Ok.ensures steps stands in
-    (air_fails boxes version c.args.sink c.args.lose steps c.in-Ok.group e reach (c.in_default.ensures.last steps stands.sources reach.0), stands)
+    (air_fails boxes version c.args.sink c.args.lose steps c.in-Ok.grid e reach (c.in_default.ensures.last steps stands.sources reach.0), stands)
 
 pub returns : goal.returns
 returns c boxes version steps stands e =
     let reach = c.in-Ok.ensures steps stands in
     let last = c.in-Some.ensures.last steps stands.sources reach.0 in
-    let on : OnAir steps c.args.sink c.in-Some.event c.in-Ok.group = record { started = reach.0; info = reach.1; lives = reach.2; some = last.0; event_is = last.1 } in
-    air_meets boxes version c.args.sink c.args.lose c.in-Some.event steps c.args.self.now _ c.in-Ok.group stands e on refl refl refl (c.hear_all.ensures steps on stands.sources stands.sinks)
+    let on : OnAir steps c.args.sink c.in-Some.event c.in-Ok.grid.streams c.in-Ok.grid.subevents =
+    record { started = reach.0; streams_are = reach.1.0; subevents_are = reach.1.1; lives = reach.2; some = last.0; event_is = last.1 } in
+    air_meets boxes version c.args.sink c.args.lose c.in-Some.event c.in-Ok.grid.streams c.in-Ok.grid.subevents steps c.args.self.now _ stands e on refl refl refl (c.hear_all.ensures steps on stands.sources stands.sinks)

@@ -1,4 +1,5 @@
-use Rattle.std.proofs.Common.{sym, ◌∙◌}
+use Rattle.std.proofs.Common.{sym, ◌∙◌, ap}
+use Rattle.big_info.specs.declared.info.BigInfo.{BigInfo}
 use Rattle.replay_steps.specs.Machines.{past_of}
 use Rattle.replay_steps.proofs.Airing.{no_sink_there}
 use Rattle.replay_steps.proofs.machine.Machine.reach.Goals as goal
@@ -10,4 +11,4 @@ returns-then-not-lives c steps stands =
 pub returns : goal.returns
 returns c steps stands =
     let group = c.in-Some.ensures steps stands.sources in
-    (group.0, group.1, sym (c.lives.ensures (past_of steps) stands.sinks) ∙ c.if-not-lives.false)
+    (group.0, (ap (λ (i : BigInfo). i.num_bis) group.1, ap (λ (i : BigInfo). i.nse) group.1), sym (c.lives.ensures (past_of steps) stands.sinks) ∙ c.if-not-lives.false)
