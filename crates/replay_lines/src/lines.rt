@@ -127,6 +127,7 @@ fn read_next<S: ByteSource>(reader: &mut LineReader, source: &mut S) -> Result<L
 }
 
 /// The end of the text, which may come only behind `end`.
+#[inline(never)]
 fn end_text<K: ByteSink>(number: u64, machine: &Machine, text: &mut Octets, sink: &mut K) -> Ending
     ensures ends { (starts : List Account) (lines : List TextLine) (left left' kept : Option (List ℕ)) (accounts : List Account)
         → number ≡ length lines + 1
@@ -143,6 +144,7 @@ fn end_text<K: ByteSink>(number: u64, machine: &Machine, text: &mut Octets, sink
 }
 
 /// Writes the line of a refusal.
+#[inline(never)]
 fn refuse<K: ByteSink>(number: u64, reason: Refusal, text: &mut Octets, sink: &mut K) -> Ending
     ensures refuses { Refuses number reason (K.contents sink.old) (K.contents sink.new) result }
     ensures never_read_fault { result ≢ Ending.ReadFault }
@@ -163,6 +165,7 @@ fn refuse<K: ByteSink>(number: u64, reason: Refusal, text: &mut Octets, sink: &m
 }
 
 /// Runs a line, and tells the listener of it before and after.
+#[inline(always)]
 fn hear_step<K: ByteSink, L: Listener<K>>(
     number: u64,
     line: &[u8],
@@ -196,6 +199,7 @@ fn hear_step<K: ByteSink, L: Listener<K>>(
 }
 
 /// Runs a line, and writes what it brings.
+#[inline(always)]
 fn run_step<K: ByteSink>(
     number: u64,
     line: &[u8],
