@@ -28,6 +28,7 @@ use Rattle.scenario_sinks.specs.Handing.{CutShort}
 use Rattle.replay_steps.specs.Failing.{CloseFails}
 use Rattle.replay_steps.specs.LineMeets.{LineMeets, LinesStand, answered_said}
 use Rattle.scenario_sinks.proofs.Citable.{accounts_append}
+use Rattle.replay_steps.proofs.StepLaws.{stands_beside}
 
 last_none : {A : Type 0} (a b : Option A) → option_or a b ≡ None → b ≡ None
 last_none None b e = e
@@ -157,3 +158,11 @@ meets_at starts history line new text told before after result r cleared is meet
     let P : Result (Unit {0}) Stop → Type 0 = λ x. LineMeets starts history line new text told before after x in
     let Q : List ℕ → Type 0 = λ t. LineMeets starts history line new t told before after r in
     subst Q cleared (subst P is meets)
+
+-- the memory that is kept for the octets of later units is no part of it
+pub lines_beside : (starts : List Account) (lines : List TextLine) (machine new : Machine) (accounts : List Account) → new.stage ≡ machine.stage
+    → new.sources ≡ machine.sources → new.sinks ≡ machine.sinks → new.relays ≡ machine.relays → LinesStand starts lines machine accounts → LinesStand starts lines new accounts
+lines_beside starts lines machine new accounts stage sources sinks relays stand = record {
+  stands = stands_beside (steps_of airs_of lines) machine new stage sources sinks relays stand.stands;
+  boxes = stand.boxes;
+}

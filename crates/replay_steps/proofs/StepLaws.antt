@@ -34,6 +34,23 @@ no_gifts steps made alone = ap (λ hit. after_offers airs_of (cond hit (offers_a
 not_relayed : (boxes : ℕ) (steps : List Step) (made : Step) → is_relayed steps made ≡ false → phase_line airs_of boxes steps made ≡ phase_refusal airs_of boxes steps made
 not_relayed boxes steps made gives_none = ap (λ relayed. relayed_or relayed (phase_refusal airs_of boxes steps made)) gives_none
 
+-- the memory that is kept for the octets of later units is no part of what the machine stands for
+pub stands_beside : (steps : List Step) (machine new : Machine) → new.stage ≡ machine.stage → new.sources ≡ machine.sources → new.sinks ≡ machine.sinks
+    → new.relays ≡ machine.relays → Stands steps machine → Stands steps new
+stands_beside steps machine new stage sources sinks relays stands = record {
+  stage = rw stage stands.stage;
+  sources = rw sources stands.sources;
+  sinks = rw sinks stands.sinks;
+  relays = rw relays stands.relays;
+}
+
+pub quiet_beside : (boxes : ℕ) (steps : List Step) (made : Step) (machine new : Machine) (r : Result (Unit {0}) Stop) → new.stage ≡ machine.stage
+    → new.sources ≡ machine.sources → new.sinks ≡ machine.sinks → new.relays ≡ machine.relays → Quiet boxes steps made machine r → Quiet boxes steps made new r
+quiet_beside boxes steps made machine new (Ok x) stage sources sinks relays q = (q.0, stands_beside (made ∷ steps) machine new stage sources sinks relays q.1)
+quiet_beside boxes steps made machine new (Err (Refused reason)) stage sources sinks relays q = (q.0, stands_beside steps machine new stage sources sinks relays q.1)
+quiet_beside boxes steps made machine new (Err OutletFault) stage sources sinks relays q = absurd q
+quiet_beside boxes steps made machine new (Err Memory) stage sources sinks relays q = q
+
 pub quiet_meets : (starts : List Account) (boxes : ℕ) (steps : List Step) (made : Step) (new : Machine) (text : List ℕ) (accounts : List Account) (r : Result (Unit {0}) Stop)
     → boxes ≡ length starts → output_of airs_of starts steps made ≡ [] → handed_by airs_of steps made ≡ [] → closes_first steps made ≡ false
     → Quiet boxes steps made new r → Meets starts steps made new text text accounts accounts r

@@ -6,7 +6,7 @@ ghost use Rattle.scenario_text.specs.Ranges.{IsInRange};
 
 use crate::version::Stage;
 use bcast_base::{Memory, Octets};
-use scenario_lines::{LineFault, read_line_in};
+use scenario_lines::{LineFault, read_line_over};
 use scenario_sinks::{Relays, Sinks};
 use scenario_sources::Sources;
 use scenario_text::{Step, a_line_says_one_step};
@@ -22,6 +22,8 @@ pub struct Machine {
     pub(crate) sources: Sources,
     pub(crate) sinks: Sinks,
     pub(crate) relays: Relays,
+    /// The memory of the octets of an earlier unit, for those of the next.
+    pub(crate) spare: Octets,
 }
 
 impl Machine {
@@ -41,6 +43,7 @@ impl Machine {
             sources: Sources::new(alloc)?,
             sinks: Sinks::new(alloc)?,
             relays: Relays::new(),
+            spare: Octets::new(alloc),
         })
     }
 
@@ -69,7 +72,7 @@ impl Machine {
             → UntakenSame (steps_of airs_of lines) outlets.old.items outlets.new.items }
     {
         let version = self.stage.version().number();
-        match read_line_in(self.alloc, version, line) {
+        match read_line_over(self.alloc, &mut self.spare, version, line) {
             Ok(Some(step)) => self.step(step, outlets, text),
             Ok(None) => Ok(()),
             Err(LineFault::BadLine { word }) => Err(Stop::Refused(Refusal::BadLine { word })),

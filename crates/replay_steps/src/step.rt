@@ -38,7 +38,11 @@ impl Machine {
         ensures untaken { (steps : List Said) → Stands steps self.old → UntakenSame steps outlets.old.items outlets.new.items }
     {
         match step {
-            Step::Unit { bis, time, octets } => self.unit(bis, time, octets.as_slice()),
+            Step::Unit { bis, time, octets } => {
+                let given = self.unit(bis, time, octets.as_slice());
+                self.spare = octets;
+                given
+            }
             Step::Event => self.event(outlets, text),
             Step::Hear {
                 sink,

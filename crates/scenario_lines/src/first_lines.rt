@@ -5,6 +5,7 @@ ghost use Rattle.scenario_text.specs.Steps.{at_row};
 ghost use Rattle.scenario_text.specs.Table.{most_slots as slots_in, scenario_row, group_row, start_row, sink_row, tuned_row};
 ghost use Rattle.scenario_text.specs.Table.{unit_row, hear_row, air_row, inject_row, sniff_row, drop_row};
 
+use bcast_base::Octets;
 use scenario_text::Step;
 use scenario_words::{Cursor, LineFault, Misfit};
 use std::alloc::Global;
@@ -73,13 +74,13 @@ pub fn tuned(words: &mut Cursor<'_>) -> Result<Step, Misfit>
     })
 }
 
-pub fn unit(alloc: Global, words: &mut Cursor<'_>) -> Result<Step, LineFault>
+pub fn unit(alloc: Global, spare: &mut Octets, words: &mut Cursor<'_>) -> Result<Step, LineFault>
     ensures { GivesNext (λ step. step) result words.new (at_row unit_row words.old) }
 {
     Ok(Step::Unit {
         bis: words.bis(1)?,
         time: words.time()?,
-        octets: words.octets(alloc, 4_095)?,
+        octets: words.octets_over(alloc, spare, 4_095)?,
     })
 }
 

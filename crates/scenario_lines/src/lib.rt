@@ -21,6 +21,6 @@ pub use laws::a_step_has_a_line_where_it_fits;
 pub use made_lines::Lines;
 pub use made_text::generate;
 pub use names::named_of_sink;
-pub use reading::{read_line, read_line_in};
+pub use reading::{read_line, read_line_in, read_line_over};
 pub use scenario_words::LineFault;
 pub use writing::write_line;

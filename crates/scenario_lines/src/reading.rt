@@ -10,6 +10,7 @@ ghost use Rattle.scenario_lines.specs.Taking.{LineTakes, RowTakes};
 ghost use Rattle.scenario_text.specs.declared.step.Step.{Step};
 
 use crate::{first_lines, named_of_sink, source_lines};
+use bcast_base::Octets;
 use scenario_text::Step;
 use scenario_words::{Cursor, LineFault, is_word};
 use std::alloc::Global;
@@ -52,12 +53,38 @@ pub fn read_line_in(alloc: Global, version: u8, line: &[u8]) -> Result<Option<St
     // Memory runs out only at a line whose step takes octets.
     ensures memory { result ≡ Err NoMemory → LineTakes version line.now }
 {
-    read(alloc, version, line)
+    let mut spare = Octets::new(alloc);
+    read_line_over(alloc, &mut spare, version, line)
+}
+
+/// Reads a line as `read_line_in` does. The octets of a unit are read into the memory of `spare`, which is given away with them.
+pub fn read_line_over(
+    alloc: Global,
+    spare: &mut Octets,
+    version: u8,
+    line: &[u8],
+) -> Result<Option<Step>, LineFault>
+    requires { (version ≡ 1) ⊎ (version ≡ 2) }
+    ensures in_range { IfOk result (λ read. IfSome read IsInRange) }
+    ensures found { IfOk result (λ read. IfSome read (λ step. LineIs version step line.now)) }
+    ensures only { (step : Step) → LineIs version step line.now → Gives (λ read. read) result (Ok (Some step)) }
+    ensures blank { IsBlank line.now → result ≡ Ok None }
+    ensures none { IfOk result (λ read. IfNone read (IsBlank line.now)) }
+    ensures misfit { (k : ℕ) → result ≡ Err (BadLine k) → IsMisfit version line.now k }
+    ensures reads { Gives (λ read. read) result (read_of version line.now) }
+    ensures memory { result ≡ Err NoMemory → LineTakes version line.now }
+{
+    read(alloc, spare, version, line)
 }
 
 /// What the line reads as.
 #[tactic(auto, unfolding(scenario_text::specs::Steps::read_of))]
-fn read(alloc: Global, version: u8, line: &[u8]) -> Result<Option<Step>, LineFault>
+fn read(
+    alloc: Global,
+    spare: &mut Octets,
+    version: u8,
+    line: &[u8],
+) -> Result<Option<Step>, LineFault>
     ensures blank { IsBlank line.now → result ≡ Ok None }
     ensures reads { Gives (λ read. read) result (read_of version line.now) }
     ensures memory { result ≡ Err NoMemory → LineTakes version line.now }
@@ -65,31 +92,37 @@ fn read(alloc: Global, version: u8, line: &[u8]) -> Result<Option<Step>, LineFau
     match line.first() {
         None => Ok(None),
         Some(b'#') => Ok(None),
-        Some(_) => Ok(Some(step_of(alloc, version, line)?)),
+        Some(_) => Ok(Some(step_of(alloc, spare, version, line)?)),
     }
 }
 
 /// The step of a line that is neither empty nor a comment.
 #[tactic(auto, unfolding(scenario_text::specs::Steps::step_of))]
-fn step_of(alloc: Global, version: u8, line: &[u8]) -> Result<Step, LineFault>
+fn step_of(alloc: Global, spare: &mut Octets, version: u8, line: &[u8]) -> Result<Step, LineFault>
     ensures gives { Gives (λ step. step) result (step_in version line.now) }
     ensures memory { result ≡ Err NoMemory → LineTakes version line.now }
 {
     let mut words = Cursor::new(line);
     let name = words.word()?;
-    let step = named(alloc, version, name, &mut words)?;
+    let step = named(alloc, spare, version, name, &mut words)?;
     words.finish()?;
     Ok(step)
 }
 
 /// The step that the words after this first word spell.
 #[tactic(auto, unfolding(scenario_text::specs::Table::row_of))]
-fn named(alloc: Global, version: u8, name: &[u8], words: &mut Cursor<'_>) -> Result<Step, LineFault>
+fn named(
+    alloc: Global,
+    spare: &mut Octets,
+    version: u8,
+    name: &[u8],
+    words: &mut Cursor<'_>,
+) -> Result<Step, LineFault>
     ensures gives { GivesNext (λ step. step) result words.new (at_known (row_of version name.now) words.old) }
     ensures memory { result ≡ Err NoMemory → RowTakes (row_of version name.now) }
 {
     if is_word(name, b"unit") {
-        return first_lines::unit(alloc, words);
+        return first_lines::unit(alloc, spare, words);
     }
     if is_word(name, b"event") {
         return Ok(Step::Event);

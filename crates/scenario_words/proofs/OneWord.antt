@@ -128,6 +128,25 @@ spells_some most word some e even all fits =
     let len = (decode_of-ok word read.0 read.1).2 in
     rw (pairs most word read.0 some e read.1 fits) (λ none. let no : length read.0 ≡ 0 = ap length none in some (omega (arith, len, no)))
 
+-- ---- pairs of digits, one or more
+
+dash_has_one : (word : List ℕ) (same : Bool) → bytes_eq word (45 ∷ []) ≡ same → length word % 2 ≡ 0 → bytes_eq word (45 ∷ []) ≡ false
+dash_has_one word true e even = let is : length word ≡ 1 = ap length ((bytes_eq-Decides word (45 ∷ [])).0 e) in absurd (omega (arith, is, even))
+dash_has_one word false e even = e
+
+pub record ArePairs (most : ℕ) (word : List ℕ) : Type 0 where
+  pub some : 0 < length word
+  pub fit : length word / 2 ≤ most
+  pub even : length word % 2 ≡ 0
+  pub digits : list_all is_hex_digit word ≡ true
+
+pub pairs_read : (most : ℕ) (word bytes : List ℕ) → ArePairs most word → decode_of word ≡ Ok bytes → octets_in most word ≡ Some bytes
+pairs_read most word bytes are ok = pairs most word bytes (λ none. let some = are.some in omega (arith, none, some)) (dash_has_one word _ refl are.even) ok are.fit
+
+pub pairs_spell : (most : ℕ) (word : List ℕ) → ArePairs most word → SpellsSome (octets_in most word)
+pairs_spell most word are =
+    spells_some most word (λ none. let some = are.some in omega (arith, none, some)) (dash_has_one word _ refl are.even) are.even are.digits are.fit
+
 pub whole_front : (n : ℕ) (octets rest : List ℕ) → n ≡ length octets → take n (octets ++ rest) ≡ octets
 whole_front n octets rest e = rw e (take-append_seam octets rest)
 

@@ -52,8 +52,8 @@ pub fn octets_of_wishes(wishes: &Wishes) -> usize
 /// behind the word or before it.
 #[derive(Drop)]
 pub struct Cursor<'a> {
-    rest: Option<&'a [u8]>,
-    read: u64,
+    pub(crate) rest: Option<&'a [u8]>,
+    pub(crate) read: u64,
 }
 
 impl<'a> Model for Cursor<'a> {

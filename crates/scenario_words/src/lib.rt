@@ -7,6 +7,7 @@ mod decimal;
 mod digits;
 mod fault;
 mod first_word;
+mod last_word;
 mod laws;
 mod printed_line;
 mod printed_octets;

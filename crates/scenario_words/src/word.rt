@@ -1,8 +1,10 @@
-ghost use Rattle.std.specs.Prelude.{◌≡◌, ◌≤◌, ◌<◌, ◌^◌, ◌*◌, IfOk, IfSome, IsErr, bytes_eq, length};
+ghost use Rattle.std.specs.Prelude.{◌≡◌, ◌≤◌, ◌<◌, ◌^◌, ◌*◌, ◌/◌, ◌%◌, true, Some, IfOk, IfSome, IsErr, IsTrue, bytes_eq, length};
+ghost use Rattle.std.specs.List.{list_all};
+ghost use Rattle.hex.specs.Hex.{is_hex_digit};
 ghost use Rattle.scenario_words.specs.Reading.{SpellsSome, decimal_in, framing_in, time_in, octets_in, exact_in, number_in, list_in};
 
 use crate::decimal::decimal;
-use crate::digits::{are_pairs, decode};
+use crate::digits::{are_pairs, decode, decode_over};
 use bcast_base::{Memory, Octets, read_le};
 use ltv_codec::check_ltvs;
 use std::alloc::Global;
@@ -88,6 +90,30 @@ pub fn octets_of(alloc: Global, word: &[u8], most: usize) -> Result<Option<Octet
     let mut octets = vec![in alloc; 0u8; count]?;
     decode(word, octets.as_mut_slice());
     Ok(Some(Octets::of(octets)))
+}
+
+/// Whether a word is pairs of hexadecimal digits, one or more, that spell at most `most` octets.
+fn are_octets(word: &[u8], most: usize) -> bool
+    ensures some { IsTrue result → 0 < length word.now }
+    ensures fit { IsTrue result → length word.now / 2 ≤ most }
+    ensures even { IsTrue result → length word.now % 2 ≡ 0 }
+    ensures digits { IsTrue result → list_all is_hex_digit word.now ≡ true }
+{
+    !word.is_empty() && word.len() / 2 <= most && are_pairs(word)
+}
+
+/// At most `most` octets as pairs of hexadecimal digits, of which one is there at least, in the place of others and in their memory. For
+/// any other word the answer is false, and the others stay.
+#[tactic(auto, using(crate::proofs::OneWord::pairs_read, crate::proofs::OneWord::pairs_spell))]
+pub fn octets_over(octets: &mut Octets, word: &[u8], most: usize) -> Result<bool, Memory>
+    ensures gives { IfOk result (λ fits. IsTrue fits → octets_in most word.now ≡ Some octets.new) }
+    ensures memory { IsErr result → SpellsSome (octets_in most word.now) }
+{
+    if !are_octets(word, most) {
+        return Ok(false);
+    }
+    decode_over(octets, word)?;
+    Ok(true)
 }
 
 /// An LTV list of at most `most` octets. Memory is wanted only for a word that spells an octet.

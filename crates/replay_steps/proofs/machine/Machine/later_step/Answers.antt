@@ -5,13 +5,15 @@ use Rattle.sink_history.specs.Lives.{named_by}
 use Rattle.scenario_sink.specs.SinkLines.{IsSinkLine}
 use Rattle.replay_steps.specs.Versions.{number_of}
 use Rattle.replay_steps.proofs.SinkLines.{closes_none_by, gives_none_by, nothing_handed_by}
-use Rattle.replay_steps.proofs.StepLaws.{quiet_as, tells_as, meets_as}
+use Rattle.replay_steps.proofs.StepLaws.{quiet_as, quiet_beside, tells_as, meets_as}
 use Rattle.replay_steps.proofs.machine.Machine.later_step.Goals as goal
 
 pub returns-in-Unit-clause-meets : goal.returns-in-Unit-clause-meets
 returns-in-Unit-clause-meets g c starts steps stands e boxes =
-    quiet_as starts (length starts) steps c.args.step _ c.unit.new.self c.args.text.now _ c.unit.result (c.in-Unit.is ∙ ap (λ octets. UnitStep c.in-Unit.bis c.in-Unit.time octets) (sym
-    c.as_slice.ensures)) refl refl refl refl (c.unit.ensures (length starts) (number_of c.args.version) steps stands e)
+    let is = c.in-Unit.is ∙ ap (λ octets. UnitStep c.in-Unit.bis c.in-Unit.time octets) (sym c.as_slice.ensures) in
+    quiet_as starts (length starts) steps c.args.step _ _ c.args.text.now _ c.unit.result is refl refl refl refl
+    (quiet_beside (length starts) steps _ c.unit.new.self _ c.unit.result refl refl refl refl
+    (c.unit.ensures (length starts) (number_of c.args.version) steps stands e))
 
 pub returns-in-Hear-clause-meets : goal.returns-in-Hear-clause-meets
 returns-in-Hear-clause-meets g c starts steps stands e boxes =

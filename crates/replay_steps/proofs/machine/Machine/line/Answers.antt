@@ -1,4 +1,4 @@
-use Rattle.std.proofs.Common.{Err, Ok, Option, ◌∙◌, ap, subst}
+use Rattle.std.proofs.Common.{Err, Ok, Option, refl, ◌∙◌, ap, subst}
 use Rattle.scenario_history.specs.Lines.{steps_of}
 use Rattle.scenario_history.specs.Steps.{version_at}
 use Rattle.scenario_text.specs.Steps.{read_of}
@@ -6,13 +6,14 @@ use Rattle.scenario_text.specs.declared.step.Step.{Step}
 use Rattle.scenario_words.specs.Reading.{Gives}
 use Rattle.scenario_words.specs.declared.fault.LineFault.{LineFault}
 use Rattle.source_machine.specs.Airs.{airs_of}
-use Rattle.replay_steps.proofs.LineLaws.{line_meets, misfit_meets, none_meets, version_said}
+use Rattle.replay_steps.proofs.LineLaws.{line_meets, lines_beside, misfit_meets, none_meets, version_said}
+use Rattle.replay_steps.proofs.StepLaws.{stands_beside}
 use Rattle.replay_steps.proofs.machine.Machine.line.Goals as goal
 
 pub returns-in-Ok-None-clause-meets : goal.returns-in-Ok-None-clause-meets
 returns-in-Ok-None-clause-meets g c starts lines stand =
     let version = c.number-version.ensures ∙ c.version.ensures ∙ ap version_at stand.stands.stage ∙ version_said lines in
-    none_meets starts lines c.args.line.now c.number-version.result c.args.self.now c.args.text.now _ stand version
+    none_meets starts lines c.args.line.now c.number-version.result _ c.args.text.now _ (lines_beside starts lines c.args.self.now _ _ refl refl refl refl stand) version
     (c.in-Ok-None.ensures.reads ∙ ap (λ o. Ok o) c.in-Ok-None.field-0-is)
 
 pub returns-in-Err-BadLine-clause-meets : goal.returns-in-Err-BadLine-clause-meets
@@ -20,14 +21,17 @@ returns-in-Err-BadLine-clause-meets g c starts lines stand =
     let version = c.number-version.ensures ∙ c.version.ensures ∙ ap version_at stand.stands.stage ∙ version_said lines in
     let P : LineFault → Type 0 = λ fault.
     Gives {X = Option Step} {Y = Option Step} (λ read. read) (Err fault) (read_of c.number-version.result c.args.line.now) in
-    misfit_meets starts lines c.args.line.now c.number-version.result c.in-Err-BadLine.word c.args.self.now c.args.text.now _ stand version
+    misfit_meets starts lines c.args.line.now c.number-version.result c.in-Err-BadLine.word _ c.args.text.now _
+    (lines_beside starts lines c.args.self.now _ _ refl refl refl refl stand) version
     (subst P c.in-Err-BadLine.field-0-is c.in-Err-BadLine.ensures.reads)
 
 pub returns-in-Ok-Some-clause-meets : goal.returns-in-Ok-Some-clause-meets
 returns-in-Ok-Some-clause-meets g c starts lines stand =
     let version = c.number-version.ensures ∙ c.version.ensures ∙ ap version_at stand.stands.stage ∙ version_said lines in
     line_meets starts lines c.args.line.now c.number-version.result c.in-Ok-Some.step c.step.new.self c.args.text.now c.step.new.text _ _ c.step.result stand.boxes version
-    (c.in-Ok-Some.ensures.reads ∙ ap (λ o. Ok o) c.in-Ok-Some.field-0-is) (c.step.ensures.meets starts (steps_of airs_of lines) stand.stands stand.boxes)
+    (c.in-Ok-Some.ensures.reads ∙ ap (λ o. Ok o) c.in-Ok-Some.field-0-is) (c.step.ensures.meets starts (steps_of airs_of lines)
+    (stands_beside (steps_of airs_of lines) c.args.self.now _ refl refl refl refl stand.stands) stand.boxes)
 
 pub returns-in-Ok-Some-clause-untaken : goal.returns-in-Ok-Some-clause-untaken
-returns-in-Ok-Some-clause-untaken g c starts lines accounts stand = c.step.ensures.untaken (steps_of airs_of lines) stand.stands
+returns-in-Ok-Some-clause-untaken g c starts lines accounts stand = c.step.ensures.untaken (steps_of airs_of lines)
+    (stands_beside (steps_of airs_of lines) c.args.self.now _ refl refl refl refl stand.stands)

@@ -1,5 +1,5 @@
 use Rattle.scenario_text.proofs.Citable.{is_in_range, is_found, is_read, is_blank, result_misfit}
-use Rattle.scenario_lines.proofs.reading.read_line_in.Goals as goal
+use Rattle.scenario_lines.proofs.reading.read_line_over.Goals as goal
 
 pub returns-clause-in_range : goal.returns-clause-in_range
 returns-clause-in_range c = is_in_range c.args.version c.args.line.now c.read.result c.read.ensures.reads

@@ -1,0 +1,68 @@
+-- Pairs of digits that are read some at a time.
+use Rattle.std.proofs.Common.{◌≡◌, ◌+◌, ◌*◌, ◌%◌, ℕ, true, List, [], ◌∷◌, ◌++◌, take, drop, length, Ok, refl, sym, ap, ◌∙◌, append_assoc, arith}
+use Rattle.std.proofs.lemmas.List.{take-append-drop, append-nil}
+use Rattle.std.proofs.lemmas.List.Folds.{list_all-append}
+use Rattle.std.specs.List.{list_all}
+use Rattle.std.specs.Option.{unwrap_or}
+use Rattle.hex.specs.Hex.{decode_of, decode_pairs, hex_digit_value, is_hex_digit}
+use Rattle.hex.proofs.HexLemmas.{decode_of-even, decode_of-same}
+use Rattle.hex.proofs.Pairs.{cons_byte, decode_pairs-ok_pair}
+use Rattle.scenario_words.proofs.DigitPairs.{both_digits, pair_reads}
+
+-- the octets that pairs of digits spell
+unfoldable pub pairs_of : List ℕ → List ℕ
+pairs_of [] = []
+pairs_of (a ∷ []) = []
+pairs_of (a ∷ b ∷ rest) = (unwrap_or (hex_digit_value a) 0 * 16 + unwrap_or (hex_digit_value b) 0) ∷ pairs_of rest
+
+reads : (i : ℕ) (word : List ℕ) → length word % 2 ≡ 0 → list_all is_hex_digit word ≡ true → decode_pairs i word ≡ Ok (pairs_of word)
+unfolding decode_pairs pairs_of
+reads i [] even all = refl
+reads i (digit ∷ []) even all = absurd cc
+reads i (a ∷ b ∷ rest) even all =
+    let first = both_digits (is_hex_digit a) (list_all is_hex_digit (b ∷ rest)) all in
+    let second = both_digits (is_hex_digit b) (list_all is_hex_digit rest) first.1 in
+    decode_pairs-ok_pair i a b _ rest (pair_reads a b i first.0 second.0) ∙ ap (cons_byte _) (reads (i + 2) rest (omega (arith, even)) second.1)
+
+spells : (word : List ℕ) → length word % 2 ≡ 0 → list_all is_hex_digit word ≡ true → decode_of word ≡ Ok (pairs_of word)
+spells word even all = decode_of-even word even ∙ reads 0 word even all
+
+pairs_split : (front back : List ℕ) → length front % 2 ≡ 0 → pairs_of (front ++ back) ≡ pairs_of front ++ pairs_of back
+unfolding pairs_of
+pairs_split [] back even = refl
+pairs_split (digit ∷ []) back even = absurd cc
+pairs_split (a ∷ b ∷ rest) back even = rw (pairs_split rest back (omega (arith, even))) refl
+
+-- these octets stand for the front of a word, and this is its rest
+pub record ReadTo (word octets rest : List ℕ) : Type 0 where
+  pub even : length rest % 2 ≡ 0
+  pub digits : list_all is_hex_digit rest ≡ true
+  pub so_far : octets ++ pairs_of rest ≡ pairs_of word
+
+pub none_read : (word octets : List ℕ) → octets ≡ [] → length word % 2 ≡ 0 → list_all is_hex_digit word ≡ true → ReadTo word octets word
+none_read word octets none even all = record { even = even; digits = all; so_far = rw none refl }
+
+-- a piece of a word of digits, and what is behind it
+pub parted : (rest : List ℕ) (n : ℕ) → list_all is_hex_digit rest ≡ true → (list_all is_hex_digit (take n rest) ≡ true) × (list_all is_hex_digit (drop n rest) ≡ true)
+parted rest n all =
+    both_digits (list_all is_hex_digit (take n rest)) (list_all is_hex_digit (drop n rest))
+    (sym (list_all-append is_hex_digit (take n rest) (drop n rest)) ∙ ap (list_all is_hex_digit) (take-append-drop n rest) ∙ all)
+
+pub piece_read : (word octets rest piece left bytes new : List ℕ) (n : ℕ) → ReadTo word octets rest → piece ≡ take n rest → left ≡ drop n rest
+    → length piece % 2 ≡ 0 → length left % 2 ≡ 0 → decode_of piece ≡ Ok bytes → new ≡ octets ++ bytes → ReadTo word new left
+piece_read word octets rest piece left bytes new n before front back even_piece even_left read put =
+    let all = parted rest n before.digits in
+    let digits : list_all is_hex_digit piece ≡ true = rw front all.0 in
+    let same : bytes ≡ pairs_of piece = decode_of-same piece bytes (pairs_of piece) read (spells piece even_piece digits) in
+    let whole : rest ≡ piece ++ left = rw (front, back) (sym (take-append-drop n rest)) in
+    record {
+      even = even_left;
+      digits = rw back all.1;
+      so_far = rw (put, same) (append_assoc octets (pairs_of piece) (pairs_of left) ∙ ap (λ l. octets ++ l) (sym (pairs_split piece left even_piece))
+          ∙ ap (λ l. octets ++ pairs_of l) (sym whole) ∙ before.so_far);
+    }
+
+pub all_read : (word octets rest : List ℕ) → length rest ≡ 0 → length word % 2 ≡ 0 → list_all is_hex_digit word ≡ true → ReadTo word octets rest → decode_of word ≡ Ok octets
+unfolding pairs_of
+all_read word octets [] none even all read = spells word even all ∙ ap (λ l. Ok l) (sym read.so_far ∙ append-nil octets)
+all_read word octets (digit ∷ rest) none even all read = absurd (omega arith)
