@@ -109,7 +109,8 @@ impl<'a> Cursor<'a> {
 
     /// The next word where it is one digit from `least` to `greatest`. Else the answer is None, and no word is read.
     fn digit(&mut self, least: u64, greatest: u64) -> Option<u64>
-        ensures found { IfSome result (λ n. (least ≤ n) × (n ≤ greatest) × (next (decimal_in least greatest) self.old ≡ Ok (n, self.new))) }
+        ensures found { IfSome result (λ n.
+            (least ≤ n) × (n ≤ greatest) × (next (decimal_in least greatest) self.old ≡ Ok (n, self.new))) }
         ensures other { IsNone result → self.new ≡ self.old }
     {
         let Some(rest) = self.rest else {
