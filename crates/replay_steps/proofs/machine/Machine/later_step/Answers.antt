@@ -1,8 +1,10 @@
 use Rattle.std.proofs.Common.{◌≡◌, Some, refl, sym, ◌∙◌, ap, subst, length, arith}
 use Rattle.std.proofs.lemmas.Grind.{common_steps}
+use Rattle.scenario_text.specs.declared.step.Step.{Step}
 use Rattle.scenario_text.specs.declared.step.Step.TheVariants.{Unit as UnitStep}
 use Rattle.sink_history.specs.Lives.{named_by}
 use Rattle.scenario_sink.specs.SinkLines.{IsSinkLine}
+use Rattle.replay_steps.specs.declared.machine.Machine.{Machine}
 use Rattle.replay_steps.specs.Versions.{number_of}
 use Rattle.replay_steps.proofs.SinkLines.{closes_none_by, gives_none_by, nothing_handed_by}
 use Rattle.replay_steps.proofs.StepLaws.{quiet_as, quiet_beside, tells_as, meets_as}
@@ -10,10 +12,20 @@ use Rattle.replay_steps.proofs.machine.Machine.later_step.Goals as goal
 
 pub returns-in-Unit-clause-meets : goal.returns-in-Unit-clause-meets
 returns-in-Unit-clause-meets g c starts steps stands e boxes =
-    let is = c.in-Unit.is ∙ ap (λ octets. UnitStep c.in-Unit.bis c.in-Unit.time octets) (sym c.as_slice.ensures) in
-    quiet_as starts (length starts) steps c.args.step _ _ c.args.text.now _ c.unit.result is refl refl refl refl
-    (quiet_beside (length starts) steps _ c.unit.new.self _ c.unit.result refl refl refl refl
-    (c.unit.ensures (length starts) (number_of c.args.version) steps stands e))
+    let made : Step = UnitStep c.in-Unit.bis c.in-Unit.time c.as_slice.result.now in
+    let is : c.args.step ≡ made = c.in-Unit.is ∙ ap (λ octets. UnitStep c.in-Unit.bis c.in-Unit.time octets) (sym c.as_slice.ensures) in
+    let given = c.unit-given.new.self in
+    let kept : Machine = record {
+      alloc = given.alloc;
+      stage = given.stage;
+      sources = given.sources;
+      sinks = given.sinks;
+      relays = given.relays;
+      spare = c.in-Unit.octets;
+    } in
+    quiet_as starts (length starts) steps c.args.step made kept c.args.text.now _ c.unit-given.result is refl refl refl refl
+    (quiet_beside (length starts) steps made given kept c.unit-given.result refl refl refl refl
+    (c.unit-given.ensures (length starts) (number_of c.args.version) steps stands e))
 
 pub returns-in-Hear-clause-meets : goal.returns-in-Hear-clause-meets
 returns-in-Hear-clause-meets g c starts steps stands e boxes =

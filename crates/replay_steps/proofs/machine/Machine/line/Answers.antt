@@ -6,6 +6,7 @@ use Rattle.scenario_text.specs.declared.step.Step.{Step}
 use Rattle.scenario_words.specs.Reading.{Gives}
 use Rattle.scenario_words.specs.declared.fault.LineFault.{LineFault}
 use Rattle.source_machine.specs.Airs.{airs_of}
+use Rattle.replay_steps.specs.declared.machine.Machine.{Machine}
 use Rattle.replay_steps.proofs.LineLaws.{line_meets, lines_beside, misfit_meets, none_meets, version_said}
 use Rattle.replay_steps.proofs.StepLaws.{stands_beside}
 use Rattle.replay_steps.proofs.machine.Machine.line.Goals as goal
@@ -13,7 +14,16 @@ use Rattle.replay_steps.proofs.machine.Machine.line.Goals as goal
 pub returns-in-Ok-None-clause-meets : goal.returns-in-Ok-None-clause-meets
 returns-in-Ok-None-clause-meets g c starts lines stand =
     let version = c.number-version.ensures ∙ c.version.ensures ∙ ap version_at stand.stands.stage ∙ version_said lines in
-    none_meets starts lines c.args.line.now c.number-version.result _ c.args.text.now _ (lines_beside starts lines c.args.self.now _ _ refl refl refl refl stand) version
+    let now = c.args.self.now in
+    let kept : Machine = record {
+      alloc = now.alloc;
+      stage = now.stage;
+      sources = now.sources;
+      sinks = now.sinks;
+      relays = now.relays;
+      spare = c.read_line_over.new.spare;
+    } in
+    none_meets starts lines c.args.line.now c.number-version.result kept c.args.text.now _ (lines_beside starts lines now kept _ refl refl refl refl stand) version
     (c.in-Ok-None.ensures.reads ∙ ap (λ o. Ok o) c.in-Ok-None.field-0-is)
 
 pub returns-in-Err-BadLine-clause-meets : goal.returns-in-Err-BadLine-clause-meets
@@ -21,17 +31,45 @@ returns-in-Err-BadLine-clause-meets g c starts lines stand =
     let version = c.number-version.ensures ∙ c.version.ensures ∙ ap version_at stand.stands.stage ∙ version_said lines in
     let P : LineFault → Type 0 = λ fault.
     Gives {X = Option Step} {Y = Option Step} (λ read. read) (Err fault) (read_of c.number-version.result c.args.line.now) in
-    misfit_meets starts lines c.args.line.now c.number-version.result c.in-Err-BadLine.word _ c.args.text.now _
-    (lines_beside starts lines c.args.self.now _ _ refl refl refl refl stand) version
+    let now = c.args.self.now in
+    let kept : Machine = record {
+      alloc = now.alloc;
+      stage = now.stage;
+      sources = now.sources;
+      sinks = now.sinks;
+      relays = now.relays;
+      spare = c.read_line_over.new.spare;
+    } in
+    misfit_meets starts lines c.args.line.now c.number-version.result c.in-Err-BadLine.word kept c.args.text.now _
+    (lines_beside starts lines now kept _ refl refl refl refl stand) version
     (subst P c.in-Err-BadLine.field-0-is c.in-Err-BadLine.ensures.reads)
 
 pub returns-in-Ok-Some-clause-meets : goal.returns-in-Ok-Some-clause-meets
 returns-in-Ok-Some-clause-meets g c starts lines stand =
     let version = c.number-version.ensures ∙ c.version.ensures ∙ ap version_at stand.stands.stage ∙ version_said lines in
+    let now = c.args.self.now in
+    let kept : Machine = record {
+      alloc = now.alloc;
+      stage = now.stage;
+      sources = now.sources;
+      sinks = now.sinks;
+      relays = now.relays;
+      spare = c.read_line_over.new.spare;
+    } in
     line_meets starts lines c.args.line.now c.number-version.result c.in-Ok-Some.step c.step.new.self c.args.text.now c.step.new.text _ _ c.step.result stand.boxes version
     (c.in-Ok-Some.ensures.reads ∙ ap (λ o. Ok o) c.in-Ok-Some.field-0-is) (c.step.ensures.meets starts (steps_of airs_of lines)
-    (stands_beside (steps_of airs_of lines) c.args.self.now _ refl refl refl refl stand.stands) stand.boxes)
+    (stands_beside (steps_of airs_of lines) now kept refl refl refl refl stand.stands) stand.boxes)
 
 pub returns-in-Ok-Some-clause-untaken : goal.returns-in-Ok-Some-clause-untaken
-returns-in-Ok-Some-clause-untaken g c starts lines accounts stand = c.step.ensures.untaken (steps_of airs_of lines)
-    (stands_beside (steps_of airs_of lines) c.args.self.now _ refl refl refl refl stand.stands)
+returns-in-Ok-Some-clause-untaken g c starts lines accounts stand =
+    let now = c.args.self.now in
+    let kept : Machine = record {
+      alloc = now.alloc;
+      stage = now.stage;
+      sources = now.sources;
+      sinks = now.sinks;
+      relays = now.relays;
+      spare = c.read_line_over.new.spare;
+    } in
+    c.step.ensures.untaken (steps_of airs_of lines)
+    (stands_beside (steps_of airs_of lines) now kept refl refl refl refl stand.stands)
