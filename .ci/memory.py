@@ -2,8 +2,9 @@
 """memory.py PROGRAM: counts the allocations of the built program, and refuses one.
 
 Nothing is allocated by reading a line, by handing a sink a PDU, by closing an event, once the memory is there that a valid unit has
-until it goes to its box, and by laying one, once the streams keep all events that they may: runs that differ only in how often they do
-so make as many allocations. A run whose first allocation is refused ends with status 6, says so and writes nothing."""
+until it goes to its box, and by laying one, once the streams keep all events that they may, nor by all of it together, from the line of
+a unit to the line that its sink prints: runs that differ only in how often they do so make as many allocations. A run whose first
+allocation is refused ends with status 6, says so and writes nothing."""
 import os
 import sys
 import tempfile
@@ -42,6 +43,14 @@ def lays(group):
     return lambda times: group.format('', '') + 'event\n' * (KEPT + times) + 'end\n'
 
 
+def streams(group, unit):
+    """A text in which a source is given a unit, lays it, and a sink hears and hands it up, so often more than its streams keep events."""
+    def text(times):
+        events = ''.join(unit(event) + 'air 0 0\n' for event in range(KEPT + times))
+        return group.format(*SINK) + events + 'end\n'
+    return text
+
+
 def closes(count, group, unit, heard):
     """How many allocations more so many events take where a sink closes them than where none is there."""
     def more(times):
@@ -63,6 +72,8 @@ def differences(allocator):
         ('PDUs of a framed stream', hears(FRAMED, framed_unit)),
         ('events of an unframed source', lays(UNFRAMED)),
         ('events of a framed source', lays(FRAMED)),
+        ('units of an unframed stream', streams(UNFRAMED, unframed_unit)),
+        ('units of a framed stream', streams(FRAMED, framed_unit)),
     ]:
         yield name, [count(text(times)) for times in TIMES]
     for name, group, unit in [('unframed', UNFRAMED, unframed_unit), ('framed', FRAMED, framed_unit)]:
