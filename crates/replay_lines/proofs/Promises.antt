@@ -62,6 +62,9 @@ module _ (old new : World) (ending : Ending) where
     one_transcript = one_of old.boxes laws;
     units_law = laws.units;
     order_law = laws.order;
+    moment_law = laws.moment;
+    in_time_law = laws.in_time;
+    hearing_law = laws.hearing;
     agreement_law = laws.agreement;
     links_law = laws.links;
     isolation_law = laws.isolation;

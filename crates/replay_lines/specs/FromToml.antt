@@ -2,6 +2,8 @@
 use Rattle.std.specs.Prelude.{ℕ, ◌≡◌, ◌≢◌, ◌⊎◌, ◌+◌, List, Some, Result, Ok, Err}
 use Rattle.bcast_base.specs.Counts.{Rose}
 use Rattle.bcast_io.specs.Documents.{ReadFront, document_limit}
+use Rattle.scenario_laws.specs.InTime.{InTimeLaw}
+use Rattle.scenario_laws.specs.HearingLaw.{AllHearingLaw}
 use Rattle.scenario_laws.specs.Isolation.{IsolationLaw}
 use Rattle.scenario_history.specs.Runs.{End, through, refused}
 use Rattle.scenario_laws.specs.Versions.{MigrationLaw}
@@ -16,6 +18,7 @@ use Rattle.scenario_history.specs.Boxes.{Took}
 use Rattle.source_machine.specs.Airs.{Airs}
 use Rattle.scenario_laws.specs.Laws.{UnitsLaw, OrderLaw}
 use Rattle.scenario_laws.specs.Links.{AgreementLaw, LinksLaw}
+use Rattle.scenario_laws.specs.Moments.{MomentLaw}
 use Rattle.scenario_sinks.specs.Faults.{CountsStay, OneCounts}
 use Rattle.transcript_text.specs.declared.refusal.Refusal.{Refusal}
 use Rattle.unit_outlets.specs.Account.{Account}
@@ -74,6 +77,9 @@ pub record DocumentLaws (boxes : List Account) : Type 0 where
       → transcript_over airs boxes standing ≡ transcript_over others boxes standing
   pub units_law : UnitsLaw boxes
   pub order_law : OrderLaw boxes
+  pub moment_law : MomentLaw boxes
+  pub in_time_law : InTimeLaw boxes
+  pub hearing_law : AllHearingLaw boxes
   pub agreement_law : AgreementLaw
   pub links_law : LinksLaw
   pub migration_law : MigrationLaw boxes

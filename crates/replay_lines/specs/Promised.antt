@@ -12,9 +12,12 @@ use Rattle.replay_lines.specs.declared.ending.Ending.{Ending}
 use Rattle.replay_lines.specs.declared.ending.Ending.TheVariants as endings
 use Rattle.replay_lines.specs.Ended.{AheadOf, Complete, Ended, IsCut, IsWhole}
 use Rattle.replay_lines.specs.Replayed.{FaultCut, ReadsAtMost, read_limit}
+use Rattle.scenario_laws.specs.InTime.{InTimeLaw}
+use Rattle.scenario_laws.specs.HearingLaw.{AllHearingLaw}
 use Rattle.scenario_laws.specs.Isolation.{IsolationLaw}
 use Rattle.scenario_laws.specs.Laws.{UnitsLaw, OrderLaw}
 use Rattle.scenario_laws.specs.Links.{AgreementLaw, LinksLaw}
+use Rattle.scenario_laws.specs.Moments.{MomentLaw}
 use Rattle.scenario_laws.specs.Versions.{MigrationLaw}
 use Rattle.scenario_laws.specs.Relayed.{RelayLinesLaw, RelayedUnitsLaw}
 use Rattle.replay_lines.specs.World.{World}
@@ -68,6 +71,19 @@ pub record Promised (old new : World) (ending : Ending) : Type 0 where
   pub units_law : UnitsLaw old.boxes
   -- The units of a sink to which no train was given by its octets are in the order of the source, and each comes at most once.
   pub order_law : OrderLaw old.boxes
+  -- What two sinks, to which no train was given by its octets, hand up of one source is rendered at the same µs, whichever streams they
+  -- take: of an unframed group where it is for one slot of one event, at the event's anchor, BIG_Sync_Delay, SDU_Interval for each slot
+  -- before it and Presentation_Delay; of a framed one, where no PDU was injected, where it is of units with one time, at that time,
+  -- BIG_Sync_Delay, SDU_Interval, ISO_Interval and Presentation_Delay (Core 5.2, volume 6 part G, section 3.2).
+  pub moment_law : MomentLaw old.boxes
+  -- Such a sink hands up a slot of an event by the anchor of the source's next event: so no later than it is rendered, where
+  -- BIG_Sync_Delay and Presentation_Delay are together no less than ISO_Interval. A framed unit it hands up by the close of the event
+  -- of the unit's last PDU: so no later than it is rendered, where that event's anchor is no more than BIG_Sync_Delay, SDU_Interval and
+  -- Presentation_Delay past the unit's time.
+  pub in_time_law : InTimeLaw old.boxes
+  -- In a text with further `hear` and `air` lines, or with an `air` line that loses nothing in the place of one that loses some, such a
+  -- sink, into which no PDU was injected, hands up each valid unit of its streams too, with its octets and its time.
+  pub hearing_law : AllHearingLaw old.boxes
   -- On each link of a living sink over which no notice was forged since it was joined, a slot for which neither a notice nor a
   -- read waits has its state as the assistant's view; once the waiting notices are delivered and the waiting reads are served,
   -- all views are the states (Broadcast Audio Scan Service 1.0, section 3.2).

@@ -15,8 +15,9 @@ use crate::lines::run_lines;
 use crate::listener::{Listener, Silent};
 use bcast_io::{ByteSink, ByteSource};
 use scenario_laws::{
-    agreement_law, isolation_law, links_law, migration_law, one_transcript, order_law,
-    relay_lines_law, relayed_units_law, some_airs_meet, units_law,
+    agreement_law, all_hearing_law, in_time_law, isolation_law, links_law, migration_law,
+    moment_law, one_transcript, order_law, relay_lines_law, relayed_units_law, some_airs_meet,
+    units_law,
 };
 use std::alloc::Global;
 use unit_outlets::Outlet;
@@ -84,6 +85,9 @@ fn laws_hold()
     one_transcript();
     units_law();
     order_law();
+    moment_law();
+    in_time_law();
+    all_hearing_law();
     agreement_law();
     links_law();
     isolation_law();

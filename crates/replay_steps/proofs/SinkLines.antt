@@ -42,30 +42,17 @@ use Rattle.replay_steps.proofs.Stepping.{brought, or_none, sinks_stand}
 
 -- it says nothing of a source
 line_says : (made : Step) → IsSinkLine made → SaysNothing made
-line_says (Scenario version) line = absurd line
-line_says (Group framing origin delay iso sdu max_sdu max_pdu num_bis bn nse irc pto sub spacing phy) line = absurd line
-line_says (Ident address_type address sid broadcast_id) line = absurd line
-line_says (Subgroup codec config) line = absurd line
-line_says (Meta metadata) line = absurd line
-line_says (Bis bis config) line = absurd line
-line_says (Cipher giv gskd) line = absurd line
-line_says (Start first) line = absurd line
-line_says (UnitLine bis time octets) line = absurd line
-line_says Event line = absurd line
-line_says StopLine line = absurd line
-line_says (Terminate reason) line = absurd line
 line_says End line = absurd line
-line_says (SourceLine source) line = absurd line
 line_says made line = record {
-  chosen = refl;
-  phase = λ own. refl;
-  group = λ own. refl;
-  ident = λ own. refl;
-  cipher = λ own. refl;
-  lines = λ own. refl;
-  setup = λ own going. refl;
-  under_way = λ own going. going;
-  calls = λ own. refl;
+  chosen = search;
+  phase = λ own. search;
+  group = λ own. search;
+  ident = λ own. search;
+  cipher = λ own. search;
+  lines = λ own. search;
+  setup = λ own going. search;
+  under_way = λ own going. search;
+  calls = λ own. search;
 }
 
 -- the past of the sinks with a line that names this sink
@@ -81,49 +68,22 @@ record Runs (made : Step) : Type 0 where
   handed : (steps : List Step) → handed_by airs_of steps made ≡ []
 
 line_runs : (made : Step) → IsSinkLine made → Runs made
-line_runs (Scenario version) line = absurd line
-line_runs (Group framing origin delay iso sdu max_sdu max_pdu num_bis bn nse irc pto sub spacing phy) line = absurd line
-line_runs (Ident address_type address sid broadcast_id) line = absurd line
-line_runs (Subgroup codec config) line = absurd line
-line_runs (Meta metadata) line = absurd line
-line_runs (Bis bis config) line = absurd line
-line_runs (Cipher giv gskd) line = absurd line
-line_runs (Start first) line = absurd line
-line_runs (Sink sink streams slots mtu) line = absurd line
-line_runs (Tuned sink which) line = absurd line
-line_runs (UnitLine bis time octets) line = absurd line
-line_runs Event line = absurd line
-line_runs (Hear sink back bis subevent) line = absurd line
-line_runs (Air sink lose) line = absurd line
-line_runs (Inject sink back bis subevent octets) line = absurd line
-line_runs (Sniff back bis subevent) line = absurd line
-line_runs (Announce sink) line = absurd line
-line_runs (Drop sink) line = absurd line
-line_runs StopLine line = absurd line
-line_runs (Terminate reason) line = absurd line
 line_runs End line = absurd line
-line_runs (SourceLine source) line = absurd line
-line_runs (Relay sink bis to) line = absurd line
 line_runs made line = record {
-  stage = λ stage. refl;
-  refusal = λ boxes version steps e. rw e (or_none (refusal_of the_world steps made));
-  past = λ steps. refl;
-  handed = λ steps. refl;
+  stage = λ stage. search;
+  refusal = λ boxes version steps e. search (line, e, or_none (refusal_of the_world steps made)) depth 2 fits 20 parts 0 steps 300000;
+  past = λ steps. search;
+  handed = λ steps. search;
 }
 
 line_minds : (made : Step) → IsSinkLine made → minds_relays made ≡ false
-line_minds (Relay sink bis to) line = absurd line
-line_minds (Drop sink) line = absurd line
-line_minds (UnitLine bis time octets) line = absurd line
-line_minds made line = refl
+line_minds End line = absurd line
+line_minds made line = search
 
 -- it closes no event, and gives no unit
 pub closes_none_by : (steps : List Step) (made : Step) → IsSinkLine made → closes_first steps made ≡ false
-closes_none_by steps Event line = absurd line
-closes_none_by steps StopLine line = absurd line
-closes_none_by steps (Terminate reason) line = absurd line
 closes_none_by steps End line = absurd line
-closes_none_by steps made line = refl
+closes_none_by steps made line = search
 
 pub gives_none_by : (steps : List Step) (made : Step) → IsSinkLine made → is_relayed steps made ≡ false
 gives_none_by steps made line = (beside made (line_minds made line)).none steps
@@ -140,44 +100,8 @@ silent source made calls None quiet = refl
 silent source made calls (Some sink) quiet = ap concat (sym (quiet sink))
 
 line_prints : (starts : List Account) (steps : List Step) (made : Step) → IsSinkLine made → output_of airs_of starts steps made ≡ sink_lines steps made
-line_prints starts steps (Pac sink codec caps metadata) line =
-    silent (source_at steps) (Pac sink codec caps metadata) (life sink steps) (made_of sink steps) (λ one. refl)
-line_prints starts steps (Locate sink bits) line = silent (source_at steps) (Locate sink bits) (life sink steps) (made_of sink steps) (λ one. refl)
-line_prints starts steps (Context sink as_sink as_source) line =
-    silent (source_at steps) (Context sink as_sink as_source) (life sink steps) (made_of sink steps) (λ one. refl)
-line_prints starts steps (Write sink octets) line = silent (source_at steps) (Write sink octets) (life sink steps) (made_of sink steps) (λ one. refl)
-line_prints starts steps (Add sink op) line = silent (source_at steps) (Add sink op) (life sink steps) (made_of sink steps) (λ one. refl)
-line_prints starts steps (Modify sink op) line = silent (source_at steps) (Modify sink op) (life sink steps) (made_of sink steps) (λ one. refl)
-line_prints starts steps (Remove sink source_id) line = silent (source_at steps) (Remove sink source_id) (life sink steps) (made_of sink steps) (λ one. refl)
-line_prints starts steps (Code sink source_id code) line =
-    silent (source_at steps) (Code sink source_id code) (life sink steps) (made_of sink steps) (λ one. refl)
-line_prints starts steps (Assist sink link) line = silent (source_at steps) (Assist sink link) (life sink steps) (made_of sink steps) (λ one. refl)
-line_prints starts steps (Apart sink link) line = silent (source_at steps) (Apart sink link) (life sink steps) (made_of sink steps) (λ one. refl)
-line_prints starts steps (AWrite sink link octets) line =
-    silent (source_at steps) (AWrite sink link octets) (life sink steps) (made_of sink steps) (λ one. refl)
-line_prints starts steps (Scenario version) line = absurd line
-line_prints starts steps (Group framing origin delay iso sdu max_sdu max_pdu num_bis bn nse irc pto sub spacing phy) line = absurd line
-line_prints starts steps (Ident address_type address sid broadcast_id) line = absurd line
-line_prints starts steps (Subgroup codec config) line = absurd line
-line_prints starts steps (Meta metadata) line = absurd line
-line_prints starts steps (Bis bis config) line = absurd line
-line_prints starts steps (Cipher giv gskd) line = absurd line
-line_prints starts steps (Start first) line = absurd line
-line_prints starts steps (Sink sink streams slots mtu) line = absurd line
-line_prints starts steps (Tuned sink which) line = absurd line
-line_prints starts steps (UnitLine bis time octets) line = absurd line
-line_prints starts steps Event line = absurd line
-line_prints starts steps (Hear sink back bis subevent) line = absurd line
-line_prints starts steps (Air sink lose) line = absurd line
-line_prints starts steps (Inject sink back bis subevent octets) line = absurd line
-line_prints starts steps (Sniff back bis subevent) line = absurd line
-line_prints starts steps (Drop sink) line = absurd line
-line_prints starts steps StopLine line = absurd line
-line_prints starts steps (Terminate reason) line = absurd line
 line_prints starts steps End line = absurd line
-line_prints starts steps (SourceLine source) line = absurd line
-line_prints starts steps (Relay sink bis to) line = absurd line
-line_prints starts steps made line = refl
+line_prints starts steps made line = search (line, silent) depth 2 fits 30 parts 0 steps 500000
 
 -- ---- what it does
 

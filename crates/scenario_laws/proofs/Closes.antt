@@ -188,7 +188,7 @@ close_moves true false last_open calls calls' next next' past more within is =
 close_moves false true last_open calls calls' next next' past more within is = record { climbs_on = more; within = omega arith }
 close_moves false false last_open calls calls' next next' past more within is = record { climbs_on = more; within = omega arith }
 
-open_if : (shut : Bool) (last event : ℕ) → cond shut None (Some last) ≡ Some event → (shut ≡ false) × (last ≡ event)
+pub open_if : (shut : Bool) (last event : ℕ) → cond shut None (Some last) ≡ Some event → (shut ≡ false) × (last ≡ event)
 open_if true last event is = absurd (none-some event is)
 open_if false last event is = (refl, same_Some last event is)
 
@@ -341,7 +341,7 @@ closes_rise laws airs boxes s n made legal ungiven least =
 
 -- ---- the open event of one stay
 
-stay_front : (airs : Airs) (s n : ℕ) (made : List Step) (tuning : Joining) → IsOn airs s n made tuning → its_front airs s n made ≡ tuning.first + closes tuning (sink_calls airs n made)
+pub stay_front : (airs : Airs) (s n : ℕ) (made : List Step) (tuning : Joining) → IsOn airs s n made tuning → its_front airs s n made ≡ tuning.first + closes tuning (sink_calls airs n made)
 stay_front airs s n made tuning is =
     ap (λ source. front (is_of s source) (sink_calls airs n made) (next_in (steps_of_source s made))) is.source_is
     ∙ ap (λ b. front b (sink_calls airs n made) (next_in (steps_of_source s made))) (eq-eqb s s refl)

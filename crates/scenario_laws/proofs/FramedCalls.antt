@@ -27,7 +27,7 @@ pub record LaidBy (setup : Setup) (count : ℕ) (calls : List FramedCall) : Type
   pub count_is : length (layings_of calls) ≡ count
   pub each : (n : ℕ) → (laying : Laying) → slice_get (layings_of calls) n ≡ Some laying → laying.anchor ≡ lay_anchor setup n
 
-get_last : {A : Type 0} (xs : List A) (y : A) (n : ℕ) (x : A) → slice_get (xs ++ y ∷ []) n ≡ Some x → (slice_get xs n ≡ Some x) ⊎ ((n ≡ length xs) × (x ≡ y))
+pub get_last : {A : Type 0} (xs : List A) (y : A) (n : ℕ) (x : A) → slice_get (xs ++ y ∷ []) n ≡ Some x → (slice_get xs n ≡ Some x) ⊎ ((n ≡ length xs) × (x ≡ y))
 get_last [] y zero x is = inr (refl, sym (same_Some y x is))
 get_last [] y (suc n) x is = absurd (none-some x is)
 get_last (z ∷ xs) y zero x is = inl is

@@ -115,7 +115,7 @@ next_of_whole setup whole own within started =
     let same : (setup_of own).first ≡ setup.first = ap (λ (setup' : Setup). setup'.first) (within.setup_is started) in
     omega (arith, more, same)
 
-laid_least : (none : Bool) (count h : ℕ) → (none ≡ true → count ≡ 0) → count ≤ cond none 0 (count + h)
+pub laid_least : (none : Bool) (count h : ℕ) → (none ≡ true → count ≡ 0) → count ≤ cond none 0 (count + h)
 laid_least true count h is = omega (arith, is refl)
 laid_least false count h is = omega arith
 
@@ -147,7 +147,7 @@ stay_decided below airs meets boxes s n bis setup whole units all made tuning le
 
 -- ---- the framed units law of a stay
 
-same_air : (airs : Airs) (own : List Step) (bis : ℕ) (has : HasAir (setup_of own) (source_calls own) bis (airs (setup_of own) (source_calls own))) → air_in airs own bis ≡ has.air
+pub same_air : (airs : Airs) (own : List Step) (bis : ℕ) (has : HasAir (setup_of own) (source_calls own) bis (airs (setup_of own) (source_calls own))) → air_in airs own bis ≡ has.air
 same_air airs own bis has = ap (λ o. unwrap_or o []) has.there
 
 pub framed_law : Below → (airs : Airs) → MeetAirs airs → (boxes s n bis : ℕ) (made : List Step) (tuning : Joining) → Legal airs boxes made → s ≤ 1 → IsOn airs s n made tuning

@@ -94,33 +94,11 @@ code_octets source_id code small octets =
 
 octets_by : (source : Source) (step : Step) (made : Option Settings) (calls : List Call) → IsInRange step → AreOctets calls
     → AreOctets (lived_by source step made calls)
-octets_by source (steps.Drop sink) made calls ranged before = tt
-octets_by source (steps.Pac sink codec caps metadata) made calls ranged before = (tt, before)
-octets_by source (steps.Locate sink bits) made calls ranged before = (tt, before)
-octets_by source (steps.Context sink sink_bits source_bits) made calls ranged before = (tt, before)
-octets_by source (steps.Tuned sink which) made calls ranged before = (tt, before)
-octets_by source (steps.Announce sink) made calls ranged before = (tt, before)
-octets_by source (steps.Train sink time ext adv acad) made calls ranged before = (tt, before)
-octets_by source (steps.Lose sink) made calls ranged before = (tt, before)
-octets_by source (steps.Control sink octets) made calls ranged before = (tt, before)
-octets_by source (steps.Write sink octets) made calls ranged before = (ranged.2, before)
-octets_by source (steps.Add sink op) made calls ranged before = (ranged.2, before)
-octets_by source (steps.Modify sink op) made calls ranged before = (ranged.2, before)
 octets_by source (steps.Remove sink source_id) made calls ranged before = (remove_octets source_id ranged.1, before)
 octets_by source (steps.Code sink source_id code) made calls ranged before = (code_octets source_id code ranged.2 ranged.3, before)
-octets_by source (steps.Serve sink) made calls ranged before = (tt, before)
-octets_by source (steps.Tell sink) made calls ranged before = (tt, before)
-octets_by source (steps.Read sink) made calls ranged before = (tt, before)
 octets_by source (steps.Drain sink) made calls ranged before = octets_drained made 0 calls before
-octets_by source (steps.Forge sink slot octets) made calls ranged before = (tt, before)
-octets_by source (steps.Assist sink link) made calls ranged before = (tt, before)
-octets_by source (steps.Apart sink link) made calls ranged before = (tt, before)
-octets_by source (steps.AWrite sink link octets) made calls ranged before = (ranged.3, before)
-octets_by source (steps.AServe sink link) made calls ranged before = (tt, before)
-octets_by source (steps.ATell sink link) made calls ranged before = (tt, before)
-octets_by source (steps.ARead sink link) made calls ranged before = (tt, before)
 octets_by source (steps.ADrain sink link) made calls ranged before = octets_drained made link calls before
-octets_by source _ made calls ranged before = before
+octets_by source _ made calls ranged before = search
 
 octets_at : (world : World) (n : ℕ) (named : Option ℕ) (step : Step) (earlier : List Step) (made : Option Settings) (calls : List Call)
     → IsInRange step → AreOctets calls

@@ -159,7 +159,7 @@ zip_if : (setup : Setup) (bis : ℕ) (its : Bool) (closed : List Closed) (units 
 zip_if setup bis true closed units all = all
 zip_if setup bis false closed units all = tt
 
-step_zip : Below → (airs : Airs) (s n bis : ℕ) (setup : Setup) (step : Step) (earlier : List Step)
+pub step_zip : Below → (airs : Airs) (s n bis : ℕ) (setup : Setup) (step : Step) (earlier : List Step)
     → (is_of s (source_of n earlier) ≡ true → (tuning : Joining) → place (sink_calls airs n earlier) ≡ Some tuning → TunedTo setup tuning) → setup.info.framing ≡ 0 → 1 ≤ bis → bis ≤ 31
     → AllZip (IsOfSlot setup bis) (slots_closed setup bis (closed_by airs s n earlier step)) (of_stream bis (shown_by airs s n earlier step))
 step_zip below airs s n bis setup steps.Event earlier on plain least within =

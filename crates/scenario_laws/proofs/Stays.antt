@@ -246,7 +246,7 @@ tuned_to airs boxes s earlier tuning which started same within chosen =
       streams = subst (λ (t : Joining). has_beyond (setup_of (chosen_steps earlier)).info.num_bis t.which ≡ false) same within;
     })
 
-begins_to : Announcing → (airs : Airs) (boxes s n : ℕ) (step : Step) (earlier : List Step) (tuning : Joining) → Legal airs boxes earlier → Permitted airs boxes earlier step
+pub begins_to : Announcing → (airs : Airs) (boxes s n : ℕ) (step : Step) (earlier : List Step) (tuning : Joining) → Legal airs boxes earlier → Permitted airs boxes earlier step
     → BeginsBy airs s n step earlier tuning → OnSource (steps_of_source s earlier) tuning
 begins_to laws airs boxes s n (steps.Tuned sink which) earlier tuning legal permits begins =
     tuned_to airs boxes s earlier tuning which (takes (chosen_steps earlier) permits.in_phase) begins.0

@@ -43,7 +43,7 @@ all_closed airs s n (step ∷ earlier) = ap (λ closed. cond (is_made n earlier 
 abbrev pub here_at : Airs → ℕ → ℕ → List Step → Option Joining
 here_at airs s n made = stay_if (mine_in s n made) (sink_calls airs n made)
 
-stay_is : (mine : Bool) (calls : List Call) (tuning : Joining) → stay_if mine calls ≡ Some tuning → (mine ≡ true) × (place calls ≡ Some tuning)
+pub stay_is : (mine : Bool) (calls : List Call) (tuning : Joining) → stay_if mine calls ≡ Some tuning → (mine ≡ true) × (place calls ≡ Some tuning)
 stay_is true calls tuning is = (refl, is)
 stay_is false calls tuning is = absurd (none-some tuning is)
 
@@ -82,7 +82,7 @@ first_rises : (Q : ℕ → List Closed → List Handed → Type 0) → Rises Q �
 first_rises Q rises None next later closed entries more claim = rises next later closed entries more claim
 first_rises Q rises (Some tuning) next later closed entries more claim = claim
 
-more_list : {A : Type 0} (all past now more : List A) (here : Option Joining) → all ≡ past ++ in_stay here now → (here ≡ None → more ≡ []) → all ++ more ≡ past ++ in_stay here (now ++ more)
+pub more_list : {A : Type 0} (all past now more : List A) (here : Option Joining) → all ≡ past ++ in_stay here now → (here ≡ None → more ≡ []) → all ++ more ≡ past ++ in_stay here (now ++ more)
 more_list all past now more (Some tuning) is none = ap (λ xs. xs ++ more) is ∙ append_assoc past now more
 more_list all past now more None is none = ap (λ xs. all ++ xs) (none refl) ∙ append-nil all ∙ is
 
@@ -151,7 +151,7 @@ none_by airs s n (steps.Terminate reason) earlier nowhere =
 none_by airs s n steps.End earlier nowhere = shown_none (mine_in s n earlier) (sink_calls airs n earlier) (open_event (steps_of_source s earlier)) nowhere
 none_by airs s n _ earlier nowhere = refl
 
-none_shown : (airs : Airs) (boxes s n bis : ℕ) (step : Step) (earlier : List Step) → Legal airs boxes earlier → s ≤ 1 → n ≤ 7 → here_at airs s n earlier ≡ None
+pub none_shown : (airs : Airs) (boxes s n bis : ℕ) (step : Step) (earlier : List Step) → Legal airs boxes earlier → s ≤ 1 → n ≤ 7 → here_at airs s n earlier ≡ None
     → shown s n bis (handed_by airs earlier step) ≡ []
 none_shown airs boxes s n bis step earlier legal least within nowhere =
     ap (of_stream bis) (step_shown airs boxes s n step earlier legal least within ∙ none_by airs s n step earlier nowhere)
@@ -226,12 +226,12 @@ still_turn Q Fine airs boxes s n bis step earlier before begins_not source_same 
 
 -- ---- a step by which a stay is over, or another begins: all that came is past
 
-past_list : {A : Type 0} (made : Bool) (xs more : List A) → made ≡ false → more ≡ [] → cond made [] (xs ++ more) ≡ xs
+pub past_list : {A : Type 0} (made : Bool) (xs more : List A) → made ≡ false → more ≡ [] → cond made [] (xs ++ more) ≡ xs
 past_list true xs more made_not none = absurd (false≢true (sym made_not))
 past_list false xs more made_not none = ap (λ ys. xs ++ ys) none ∙ append-nil xs
 
 -- the stay has nothing yet
-abbrev IsFresh : Option Joining → Bool → Type 0
+abbrev pub IsFresh : Option Joining → Bool → Type 0
 IsFresh here begins = (here ≡ None) ⊎ (begins ≡ true)
 
 fresh_closed : (here : Option Joining) (begins : Bool) (closed : List Closed) → IsFresh here begins → in_stay here (cond begins [] closed) ≡ []
@@ -240,7 +240,7 @@ fresh_closed here begins closed fresh = elim fresh [
   | inr anew ↦ ap (λ b. in_stay here (cond b [] closed)) anew ∙ in_stay_none here
 ]
 
-fresh_shown : (s n bis : ℕ) (here : Option Joining) (begins : Bool) (units : List SinkUnit) → IsFresh here begins → in_stay here (shown s n bis (cond begins [] units)) ≡ []
+pub fresh_shown : (s n bis : ℕ) (here : Option Joining) (begins : Bool) (units : List SinkUnit) → IsFresh here begins → in_stay here (shown s n bis (cond begins [] units)) ≡ []
 fresh_shown s n bis here begins units fresh = elim fresh [
   | inl nowhere ↦ ap (λ h. in_stay h (shown s n bis (cond begins [] units))) nowhere
   | inr anew ↦ ap (λ b. in_stay here (shown s n bis (cond b [] units))) anew ∙ in_stay_none here

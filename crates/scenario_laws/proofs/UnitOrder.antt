@@ -52,7 +52,7 @@ abbrev pub IsSent : Setup → List SourceCall → ℕ → ℕ → Sent → Type 
 IsSent setup whole bis n unit =
     (one : Sent) × (unit ≡ by_payload setup one) × IsNumbered setup.info.bn (layings_of (framed_calls setup bis whole)) (accepted (framed_calls setup bis whole)) n one
 
-numbered_on : (setup : Setup) (whole : List SourceCall) (bis low : ℕ) (ns : List ℕ) (units : List Sent)
+pub numbered_on : (setup : Setup) (whole : List SourceCall) (bis low : ℕ) (ns : List ℕ) (units : List Sent)
     → Numbered (IsNumbered setup.info.bn (layings_of (framed_calls setup bis whole)) (accepted (framed_calls setup bis whole))) low ns units
     → Numbered (IsSent setup whole bis) low ns (map (by_payload setup) units)
 numbered_on setup whole bis low [] [] all = tt
@@ -110,7 +110,7 @@ entry_octets bis time octets all whole entry of_unit is bis' time' octets' same 
   | inr here ↦ ap octets_of (sym same ∙ here.1) ∙ of_unit here.0
 ]
 
-one_entry : (setup : Setup) (whole : List SourceCall) (tuning : Joining) (bis n : ℕ) (one : Sent) (entry : Handed) (calls : List stays.Call) → 1 ≤ setup.info.bn → TunedTo setup tuning
+pub one_entry : (setup : Setup) (whole : List SourceCall) (tuning : Joining) (bis n : ℕ) (one : Sent) (entry : Handed) (calls : List stays.Call) → 1 ≤ setup.info.bn → TunedTo setup tuning
     → opened (stay_on tuning bis) calls ≤ next_of setup whole
     → IsNumbered setup.info.bn (layings_of (framed_calls setup bis whole)) (accepted (framed_calls setup bis whole)) n one
     → IsEntry (stay_on tuning bis) (is_heard (stay_on tuning bis) calls) (closed_end (stay_on tuning bis) calls) (by_payload setup one) entry

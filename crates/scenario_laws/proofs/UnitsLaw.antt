@@ -1,7 +1,7 @@
 -- The units law of a stay.
 use Rattle.std.proofs.Common.{ℕ, zero, suc, ◌≡◌, ◌≤◌, ◌+◌, ◌-◌, ◌==◌, cond, ltb, eqb, Bool, true, false, List, [], ◌∷◌, ◌++◌, length, Option, None, Some, refl, sym, ◌∙◌, ap, subst, inl, inr}
 use Rattle.std.specs.Prelude.{slice_get}
-use Rattle.std.specs.List.{AllByRecursion}
+use Rattle.std.specs.List.{AllByRecursion, Contains}
 use Rattle.std.proofs.lemmas.Bool.{eq-eqb, eqb-true, ltb-false}
 use Rattle.std.proofs.lemmas.List.{append-nil}
 use Rattle.std.proofs.lemmas.Option.{none-some, same_Some}
@@ -19,7 +19,7 @@ use Rattle.source_machine.specs.Faults.{give_fault}
 use Rattle.group_sink.specs.Calls.{Call, tune, hear, place}
 use Rattle.sync_reference.specs.Joining.{Joining}
 use Rattle.group_sink.specs.Handing.{handed_since as ticked_since, of_stream}
-use Rattle.group_sink.specs.Streams.{stay_on}
+use Rattle.group_sink.specs.Streams.{stay_on, streams_of}
 use Rattle.group_sink.proofs.Citable.{member_is}
 use Rattle.scenario_text.specs.declared.step.Step.{Step}
 use Rattle.scenario_text.specs.declared.step.Step.TheVariants as steps
@@ -32,7 +32,7 @@ use Rattle.scenario_history.specs.Worlds.{joining_on}
 use Rattle.scenario_history.specs.Boxes.{SinkUnit, handed_by}
 use Rattle.scenario_history.specs.Refusals.{give_refusal}
 use Rattle.scenario_history.specs.Lines.{steps_of}
-use Rattle.scenario_laws.specs.Laws.{UnitsLaw, any_since, calls_on, handed_since, injected_since, is_given, is_tuned, of_sink}
+use Rattle.scenario_laws.specs.Laws.{IsStayStruck, UnitsLaw, any_since, calls_on, handed_since, injected_since, is_given, is_tuned, of_sink}
 use Rattle.scenario_laws.proofs.Below.{Below}
 use Rattle.scenario_laws.proofs.Legals.{Legal, legal, maps_none}
 use Rattle.scenario_laws.proofs.Sources.{Allowed, Lawful, Settled, bounds_in, lawful, no_group_yet, settled}
@@ -299,28 +299,35 @@ numbers airs boxes s n (step ∷ earlier) tuning legal is = elim (on_before airs
 
 -- ---- the law
 
-pub units_law_holds : Below → (starts : List Account) → UnitsLaw starts
-units_law_holds below starts airs meets lines accepted s n bis tuning there of_source taken clean =
-    let lawful_steps : Legal airs (length starts) (steps_of airs lines) = legal below.in_range airs starts lines accepted in
-    let is : IsOn airs s n (steps_of airs lines) tuning = record { place_is = there; source_is = of_source; ungiven = none_given (is_tuned n) n (steps_of airs lines) clean } in
-    let are : Numbers s n = numbers airs (length starts) s n (steps_of airs lines) tuning lawful_steps is in
-    let ticks : of_stream bis (of_sink s n (handed_since (is_tuned n) airs (steps_of airs lines))) ≡ of_stream bis (ticked_since (sink_calls airs n (steps_of airs lines))) =
-    ap (of_stream bis) (since airs (length starts) s n (steps_of airs lines) tuning lawful_steps are.source_within are.sink_within is) in
-    let on : OnSource (steps_of_source s (steps_of airs lines)) tuning = on_source below.announcing airs (length starts) s n (steps_of airs lines) tuning lawful_steps is in
-    let tuned_framing : tuning.info.framing ≡ (setup_of (steps_of_source s (steps_of airs lines))).info.framing = ap (λ (i : BigInfo). i.framing) on.tuned.info in
+-- of any steps of which none was refused
+pub stay_is_struck : Below → (airs : Airs) → MeetAirs airs → (boxes s n bis : ℕ) (made : List Step) (tuning : Joining) → Legal airs boxes made
+    → place (sink_calls airs n made) ≡ Some tuning → source_of n made ≡ Some s → Contains (streams_of tuning.which) bis → injected_since (is_tuned n) n made ≡ false
+    → IsStayStruck airs made s n tuning bis
+stay_is_struck below airs meets boxes s n bis made tuning lawful_steps there of_source taken clean =
+    let is : IsOn airs s n made tuning = record { place_is = there; source_is = of_source; ungiven = none_given (is_tuned n) n made clean } in
+    let are : Numbers s n = numbers airs boxes s n made tuning lawful_steps is in
+    let ticks : of_stream bis (of_sink s n (handed_since (is_tuned n) airs made)) ≡ of_stream bis (ticked_since (sink_calls airs n made)) =
+    ap (of_stream bis) (since airs boxes s n made tuning lawful_steps are.source_within are.sink_within is) in
+    let on : OnSource (steps_of_source s made) tuning = on_source below.announcing airs boxes s n made tuning lawful_steps is in
+    let tuned_framing : tuning.info.framing ≡ (setup_of (steps_of_source s made)).info.framing = ap (λ (i : BigInfo). i.framing) on.tuned.info in
     record {
       of_source = record {
         info = on.tuned.info;
         delay = on.tuned.delay;
-        streams = λ stream has. taken_within (setup_of (steps_of_source s (steps_of airs lines))).info.num_bis tuning.which stream on.streams has;
-        first_is = first_next below.announcing airs (length starts) s n (steps_of airs lines) tuning lawful_steps is;
+        streams = λ stream has. taken_within (setup_of (steps_of_source s made)).info.num_bis tuning.which stream on.streams has;
+        first_is = first_next below.announcing airs boxes s n made tuning lawful_steps is;
         anchor = on.tuned.anchor;
-        open_is = stay_within below.announcing airs (length starts) s n (steps_of airs lines) tuning lawful_steps are.source_within is;
+        open_is = stay_within below.announcing airs boxes s n made tuning lawful_steps are.source_within is;
       };
       unframed = λ plain.
-          subst (λ units. Struck (stay_on tuning bis) (slots_of (setup_of (steps_of_source s (steps_of airs lines))) (source_calls (steps_of_source s (steps_of airs lines))) bis)
-          (calls_on airs (steps_of airs lines) n tuning bis) units)
-          (sym (ticks ∙ below.hands tuning (sink_calls airs n (steps_of airs lines)) bis (tuned_framing ∙ plain) there taken))
-          (stay_struck below airs meets (length starts) s n bis (steps_of airs lines) tuning lawful_steps is (member_is tuning.which bis taken).1 plain clean);
-      framed = λ is_framed. framed_law below airs meets (length starts) s n bis (steps_of airs lines) tuning lawful_steps are.source_within is is_framed taken clean ticks;
+          subst (λ units. Struck (stay_on tuning bis) (slots_of (setup_of (steps_of_source s made)) (source_calls (steps_of_source s made)) bis)
+          (calls_on airs made n tuning bis) units)
+          (sym (ticks ∙ below.hands tuning (sink_calls airs n made) bis (tuned_framing ∙ plain) there taken))
+          (stay_struck below airs meets boxes s n bis made tuning lawful_steps is (member_is tuning.which bis taken).1 plain clean);
+      framed = λ is_framed. framed_law below airs meets boxes s n bis made tuning lawful_steps are.source_within is is_framed taken clean ticks;
     }
+
+pub units_law_holds : Below → (starts : List Account) → UnitsLaw starts
+units_law_holds below starts airs meets lines accepted s n bis tuning there of_source taken clean =
+    stay_is_struck below airs meets (length starts) s n bis (steps_of airs lines) tuning (legal below.in_range airs starts lines accepted) there of_source
+    taken clean

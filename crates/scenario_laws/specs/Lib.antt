@@ -1,7 +1,13 @@
+pub mod InTime
+pub mod HearingLaw
+pub mod HearingMore
+pub mod HearingRows
 pub mod Isolation
 pub mod IsolationRows
 pub mod Laws
 pub mod Links
+pub mod MomentRows
+pub mod Moments
 pub mod Only
 pub mod Relayed
 pub mod SourceUnits

@@ -3,9 +3,11 @@
 #![tactic(auto)]
 
 mod gift_laws;
+mod hearing_laws;
 mod history_laws;
 mod isolation_laws;
 mod link_laws;
+mod moment_laws;
 mod relay_laws;
 mod version_laws;
 
@@ -13,8 +15,12 @@ pub use gift_laws::{
     gifts_are_permitted, gifts_leave_all_else, nothing_happens_without_relays, relay_law,
     units_are_dropped_by_name, what_is_not_dropped_is_accepted,
 };
+pub use hearing_laws::{
+    all_hearing_law, hearing_law, hearing_more_keeps_units, hearings_are_worked,
+};
 pub use history_laws::{one_transcript, order_law, some_airs_meet, steps_keep_order, units_law};
 pub use isolation_laws::{a_scenario_is_left, isolation_law};
 pub use link_laws::{agreement_law, links_law};
+pub use moment_laws::{in_time_law, moment_law, moments_are_worked};
 pub use relay_laws::{relay_lines_law, relayed_units_law};
 pub use version_laws::migration_law;

@@ -11,8 +11,11 @@ use Rattle.scenario_laws.specs.Isolation.{IsolationLaw}
 use Rattle.scenario_laws.specs.Versions.{MigrationLaw}
 use Rattle.scenario_laws.specs.Relayed.{RelayLinesLaw, RelayedUnitsLaw}
 use Rattle.replay_steps.specs.LineMeets.{answered_on}
+use Rattle.scenario_laws.specs.InTime.{InTimeLaw}
+use Rattle.scenario_laws.specs.HearingLaw.{AllHearingLaw}
 use Rattle.scenario_laws.specs.Laws.{UnitsLaw, OrderLaw}
 use Rattle.scenario_laws.specs.Links.{AgreementLaw, LinksLaw}
+use Rattle.scenario_laws.specs.Moments.{MomentLaw}
 
 -- both airs give the same
 pub record Same (airs others : Airs) : Type 0 where
@@ -40,6 +43,9 @@ pub record Laws (boxes : List Account) : Type 0 where
   pub meet : MeetAirs airs_of
   pub units : UnitsLaw boxes
   pub order : OrderLaw boxes
+  pub moment : MomentLaw boxes
+  pub in_time : InTimeLaw boxes
+  pub hearing : AllHearingLaw boxes
   pub agreement : AgreementLaw
   pub links : LinksLaw
   pub isolation : IsolationLaw boxes

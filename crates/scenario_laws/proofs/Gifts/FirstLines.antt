@@ -1,5 +1,5 @@
 -- A line of version 1 is no `relay` line: no row of the table that version 1 knows makes one.
-use Rattle.std.proofs.Common.{ℕ, ◌≡◌, ◌==◌, Bool, true, false, cond, nat_eq, List, [], ◌∷◌, Option, None, Some, Result, Ok, Err, refl, sym, ◌∙◌, ap, subst}
+use Rattle.std.proofs.Common.{ℕ, ◌≡◌, ◌==◌, Bool, true, false, cond, nat_eq, List, [], ◌∷◌, Option, None, Some, Result, Ok, Err, refl}
 use Rattle.std.specs.Prelude.{bytes_eq}
 use Rattle.bcast_io.specs.TextLines.{TextLine, plain, too_long, past}
 use Rattle.bcast_base.specs.Tries.{◌>>=◌}
@@ -9,7 +9,7 @@ use Rattle.scenario_words.specs.Places.{Place, PlaceValue}
 use Rattle.scenario_words.specs.Reading.{Left, any_word, at_place, ended, next}
 use Rattle.scenario_words.specs.Words.{words_of}
 use Rattle.scenario_text.specs.Lines.{comment}
-use Rattle.scenario_text.specs.Steps.{at_known, at_row, built_at, line_after, read_of, step_of, whole}
+use Rattle.scenario_text.specs.Steps.{at_known, built_at, line_after, read_of, step_of, whole}
 use Rattle.scenario_text.specs.Table.{Build, Row, event_rows, first_row_of, first_rows, link_row_of, link_rows, row_in, row_of, row_of_2, sink_row_of, sink_rows, source_row_of, source_rows}
 use Rattle.scenario_text.specs.declared.step.Step.{Step}
 use Rattle.scenario_history.specs.Lines.{Said, a_step, nothing, said_by, said_in, unsaid}

@@ -108,33 +108,18 @@ life_stays n (steps.Air sink lose) made is not =
 life_stays n (steps.Inject sink back bis subevent octets) made is not =
     lives_equal (made_of n made) (life n (steps.Inject sink back bis subevent octets ∷ made)) (life n made)
     (same_if (sink == n) (life n made))
-life_stays n (steps.Group framing origin delay iso sdu max_sdu max_pdu num_bis bn nse irc pto sub spacing phy) made is not =
-    lives_itself (made_of n made) (life n made)
-life_stays n (steps.Ident address_type address sid broadcast_id) made is not = lives_itself (made_of n made) (life n made)
-life_stays n (steps.Subgroup codec config) made is not = lives_itself (made_of n made) (life n made)
-life_stays n (steps.Meta metadata) made is not = lives_itself (made_of n made) (life n made)
-life_stays n (steps.Bis bis config) made is not = lives_itself (made_of n made) (life n made)
-life_stays n (steps.Cipher giv gskd) made is not = lives_itself (made_of n made) (life n made)
-life_stays n (steps.Start first) made is not = lives_itself (made_of n made) (life n made)
-life_stays n (steps.Unit bis time octets) made is not = lives_itself (made_of n made) (life n made)
-life_stays n steps.Event made is not = lives_itself (made_of n made) (life n made)
-life_stays n (steps.Sniff back bis subevent) made is not = lives_itself (made_of n made) (life n made)
-life_stays n steps.Stop made is not = lives_itself (made_of n made) (life n made)
-life_stays n (steps.Terminate reason) made is not = lives_itself (made_of n made) (life n made)
-life_stays n _ made is not = absurd (false≢true is)
+life_stays n _ made is not = search (false≢true, lives_itself (made_of n made) (life n made))
 
 -- ---- the source that it is of
 
 source_stays : (n : ℕ) (step : Step) (made : List Step) → is_source_line step ≡ true → puts n made step ≡ false
     → source_of n (step ∷ made) ≡ source_of n made
-source_stays n (steps.Sink sink streams slots mtu) made is not = absurd (false≢true is)
-source_stays n (steps.Drop sink) made is not = absurd (false≢true is)
 source_stays n (steps.Tuned sink which) made is not = cond-false (sink == n) (Some (chosen_of made)) (source_of n made) not
 source_stays n (steps.Announce sink) made is not =
     miss_both (sink == n) (is_followed n made (steps.Announce sink)) (Some (chosen_of made)) (source_of n made) not
 source_stays n (steps.Train sink time ext adv acad) made is not =
     miss_both (sink == n) (is_followed n made (steps.Train sink time ext adv acad)) (Some (chosen_of made)) (source_of n made) not
-source_stays n _ made is not = refl
+source_stays n _ made is not = search
 
 -- ---- its receivers, where it isn't of the source that the line means
 
@@ -169,30 +154,15 @@ calls_stay airs n (steps.Inject sink back bis subevent octets) made is not apart
     cond-false ((sink == n) && is_of (chosen_of made) (source_of n made))
     (hear (event_back (chosen_steps made) back) bis subevent octets ∷ sink_calls airs n made)
     (sink_calls airs n made) (and_right (sink == n) (is_of (chosen_of made) (source_of n made)) apart)
-calls_stay airs n steps.Event made is not apart = close_stays airs n made apart
-calls_stay airs n steps.Stop made is not apart = close_stays airs n made apart
-calls_stay airs n (steps.Terminate reason) made is not apart = close_stays airs n made apart
-calls_stay airs n (steps.Group framing origin delay iso sdu max_sdu max_pdu num_bis bn nse irc pto sub spacing phy) made is not apart = refl
-calls_stay airs n (steps.Ident address_type address sid broadcast_id) made is not apart = refl
-calls_stay airs n (steps.Subgroup codec config) made is not apart = refl
-calls_stay airs n (steps.Meta metadata) made is not apart = refl
-calls_stay airs n (steps.Bis bis config) made is not apart = refl
-calls_stay airs n (steps.Cipher giv gskd) made is not apart = refl
-calls_stay airs n (steps.Start first) made is not apart = refl
-calls_stay airs n (steps.Unit bis time octets) made is not apart = refl
-calls_stay airs n (steps.Sniff back bis subevent) made is not apart = refl
-calls_stay airs n _ made is not apart = absurd (false≢true is)
+calls_stay airs n _ made is not apart = search (false≢true, close_stays airs n made apart)
 
 -- ---- what it hands up
 
 units_stay : (airs : Airs) (n : ℕ) (step : Step) (made : List Step) → is_source_line step ≡ true
     → is_of (chosen_of made) (source_of n made) ≡ false
     → units_by n (handed_by airs made step) ≡ []
-units_stay airs n steps.Event made is apart = closing_none airs (chosen_of made) n (open_event (chosen_steps made)) made apart
-units_stay airs n steps.Stop made is apart = closing_none airs (chosen_of made) n (open_event (chosen_steps made)) made apart
-units_stay airs n (steps.Terminate reason) made is apart = closing_none airs (chosen_of made) n (open_event (chosen_steps made)) made apart
 units_stay airs n steps.End made is apart = absurd (false≢true is)
-units_stay airs n _ made is apart = refl
+units_stay airs n _ made is apart = search (closing_none airs (chosen_of made) n (open_event (chosen_steps made)) made apart)
 
 not_own : (s : ℕ) (step : Step) (made : List Step) → is_source_line step ≡ true → chosen_of made ≢ s → is_of_source s made step ≡ false
 not_own s step made is other =

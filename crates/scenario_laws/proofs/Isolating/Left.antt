@@ -7,19 +7,18 @@ use Rattle.std.proofs.lemmas.Bool.{false≢true}
 use Rattle.std.proofs.lemmas.List.{append-nil}
 use Rattle.delegator_history.specs.LastGiven.{last_given as last_of}
 use Rattle.delegator_history.specs.Trains.{Settings}
-use Rattle.group_sink.specs.Calls.{Call, hear, tune}
+use Rattle.group_sink.specs.Calls.{Call}
 use Rattle.sink_history.specs.Calls as links
 use Rattle.scenario_text.specs.declared.step.Step.{Step}
 use Rattle.scenario_text.specs.declared.step.Step.TheVariants as steps
 use Rattle.scenario_history.specs.Boxes.{box_of, handed_by, handed_up}
-use Rattle.scenario_history.specs.Sinks.{hear_at, heard_on_air, is_of, moved, sink_calls, source_of, spots_of}
-use Rattle.scenario_history.specs.Source.{event_back}
+use Rattle.scenario_history.specs.Sinks.{is_of, moved, sink_calls, source_of}
 use Rattle.source_machine.specs.Airs.{Airs}
-use Rattle.scenario_history.specs.Steps.{chosen_given, chosen_of, chosen_steps, last_given, sinks_made, steps_of_source}
-use Rattle.scenario_history.specs.Worlds.{joining_on, life, source_at, the_world}
-use Rattle.sink_history.specs.Lives.{horizon_of, lived_at, lived_by, made_of, named_by, version_given}
+use Rattle.scenario_history.specs.Steps.{chosen_given, last_given, steps_of_source}
+use Rattle.scenario_history.specs.Worlds.{life, source_at, the_world}
+use Rattle.sink_history.specs.Lives.{lived_at, lived_by, made_of, named_by, version_given}
 use Rattle.sink_history.specs.Calls.{born}
-use Rattle.sink_history.specs.Moves.{received_by, source_by}
+use Rattle.sink_history.specs.Moves.{received_by}
 use Rattle.scenario_laws.specs.Isolation.{units_by}
 use Rattle.scenario_laws.specs.Only.{is_other, sink_in}
 use Rattle.scenario_laws.proofs.Isolating.Lives.{alike_itself, alike_then}
@@ -88,29 +87,12 @@ pub record Quiet (step : Step) : Type 0 where
 
 -- a step that names a sink says nothing of a source
 quiet : (n : ℕ) (step : Step) → is_other n (sink_in step) ≡ true → Quiet step
-quiet n (steps.Scenario version) other = absurd (false≢true other)
-quiet n (steps.Group framing origin delay iso sdu max_sdu max_pdu num_bis bn nse irc pto sub spacing phy) other = absurd (false≢true other)
-quiet n (steps.Ident address_type address sid broadcast_id) other = absurd (false≢true other)
-quiet n (steps.Subgroup codec config) other = absurd (false≢true other)
-quiet n (steps.Meta metadata) other = absurd (false≢true other)
-quiet n (steps.Bis bis config) other = absurd (false≢true other)
-quiet n (steps.Cipher giv gskd) other = absurd (false≢true other)
-quiet n (steps.Start first) other = absurd (false≢true other)
-quiet n (steps.Unit bis time octets) other = absurd (false≢true other)
-quiet n steps.Event other = absurd (false≢true other)
-quiet n (steps.Sniff back bis subevent) other = absurd (false≢true other)
-quiet n (steps.Source source) other = absurd (false≢true other)
-quiet n steps.Stop other = absurd (false≢true other)
-quiet n (steps.Terminate reason) other = absurd (false≢true other)
 quiet n steps.End other = absurd (false≢true other)
-quiet n _ other = record { chosen = refl; version = refl; says = λ said. refl; hands = λ airs made. refl }
+quiet n _ other = record { chosen = search; version = search; says = λ said. search; hands = λ airs made. search }
 
 made_other : (n : ℕ) (step : Step) (made : List Step) → is_other n (sink_in step) ≡ true → made_of n (step ∷ made) ≡ made_of n made
-made_other n (steps.Sink sink streams slots mtu) made other =
-    pass (sink == n) (Some (record { setup = record { streams = streams; slots = slots; horizon = horizon_of made }; mtu = mtu }))
-    (made_of n made) other
-made_other n (steps.Drop sink) made other = pass (sink == n) None (made_of n made) other
-made_other n _ made other = refl
+made_other n (steps.Drop sink) made other = search pass
+made_other n _ made other = search pass
 
 named_life : (n : ℕ) (named : Option ℕ) (line : Step) (made : List Step) (sink : Option Settings) (calls : List links.Call)
     → is_other n named ≡ true
@@ -123,16 +105,8 @@ life_other n (steps.Sink sink streams slots mtu) made other = pass (sink == n) (
 life_other n step made other = named_life n (named_by step) step made (made_of n made) (life n made) other
 
 source_other : (n : ℕ) (step : Step) (made : List Step) → is_other n (sink_in step) ≡ true → source_of n (step ∷ made) ≡ source_of n made
-source_other n (steps.Sink sink streams slots mtu) made other = pass (sink == n) None (source_of n made) other
-source_other n (steps.Drop sink) made other = pass (sink == n) None (source_of n made) other
-source_other n (steps.Tuned sink which) made other = pass (sink == n) (Some (chosen_of made)) (source_of n made) other
-source_other n (steps.Announce sink) made other =
-    pass (sink == n) (source_by (source_at made) (steps.Announce sink) (made_of n made) (life n made) (source_of n made))
-    (source_of n made) other
-source_other n (steps.Train sink time ext adv acad) made other =
-    pass (sink == n) (source_by (source_at made) (steps.Train sink time ext adv acad) (made_of n made) (life n made) (source_of n made))
-    (source_of n made) other
-source_other n _ made other = refl
+source_other n (steps.Drop sink) made other = search pass
+source_other n _ made other = search pass
 
 moved_other : (n : ℕ) (named : Option ℕ) (line : Step) (made : List Step) (calls : List Call) → is_other n named ≡ true
     → moved n named line made calls ≡ calls
@@ -142,31 +116,13 @@ moved_other n (Some m) line made calls other =
 
 calls_other : (airs : Airs) (n : ℕ) (step : Step) (made : List Step) → is_other n (sink_in step) ≡ true
     → sink_calls airs n (step ∷ made) ≡ sink_calls airs n made
-calls_other airs n (steps.Sink sink streams slots mtu) made other = pass (sink == n) [] (sink_calls airs n made) other
-calls_other airs n (steps.Drop sink) made other = pass (sink == n) [] (sink_calls airs n made) other
-calls_other airs n (steps.Tuned sink which) made other =
-    pass (sink == n) (tune (joining_on (chosen_steps made) which) ∷ sink_calls airs n made) (sink_calls airs n made) other
-calls_other airs n (steps.Hear sink back bis subevent) made other =
-    pass_and (sink == n) (is_of (chosen_of made) (source_of n made))
-    (hear_at airs (chosen_steps made) (event_back (chosen_steps made) back)
-    (record { bis = bis; subevent = subevent }) ∷ sink_calls airs n made) (sink_calls airs n made) other
-calls_other airs n (steps.Air sink lose) made other =
-    pass_and (sink == n) (is_of (chosen_of made) (source_of n made))
-    (heard_on_air airs (chosen_steps made) lose (spots_of (chosen_steps made)) (sink_calls airs n made)) (sink_calls airs n made) other
-calls_other airs n (steps.Inject sink back bis subevent octets) made other =
-    pass_and (sink == n) (is_of (chosen_of made) (source_of n made))
-    (hear (event_back (chosen_steps made) back) bis subevent octets ∷ sink_calls airs n made)
-    (sink_calls airs n made) other
-calls_other airs n steps.Event made other = absurd (false≢true other)
-calls_other airs n steps.Stop made other = absurd (false≢true other)
-calls_other airs n (steps.Terminate reason) made other = absurd (false≢true other)
-calls_other airs n steps.End made other = absurd (false≢true other)
-calls_other airs n step made other = moved_other n (named_by step) step made (sink_calls airs n made) other
+calls_other airs n (steps.Sink sink streams slots mtu) made other = search pass
+calls_other airs n (steps.Drop sink) made other = search pass
+calls_other airs n step made other = search (pass, pass_and, moved_other n (named_by step) step made (sink_calls airs n made) other)
 
 box_other : (n : ℕ) (step : Step) (made : List Step) → is_other n (sink_in step) ≡ true → box_of n (step ∷ made) ≡ box_of n made
-box_other n (steps.Sink sink streams slots mtu) made other = pass (sink == n) (Some (sinks_made made)) (box_of n made) other
-box_other n (steps.Drop sink) made other = pass (sink == n) None (box_of n made) other
-box_other n _ made other = refl
+box_other n (steps.Drop sink) made other = search pass
+box_other n _ made other = search pass
 
 pub another_sink : (airs : Airs) (s n : ℕ) (step : Step) (made : List Step) → is_other n (sink_in step) ≡ true → Leaves airs s n step made
 another_sink airs s n step made other =

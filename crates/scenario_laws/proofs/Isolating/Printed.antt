@@ -93,28 +93,4 @@ lines_same airs s n (steps.Sniff back bis subevent) made others this means same 
     (back_same (chosen_steps made) (chosen_steps others) back (own_alike airs s n made others (means refl) same))
     ∙ ap (pdu_line (event_back (chosen_steps others) back) bis subevent)
     (pdu_back_same airs (chosen_steps made) (chosen_steps others) back bis subevent (own_alike airs s n made others (means refl) same))
-lines_same airs s n (steps.Announce sink) made others this means same =
-    named_same airs s n sink (steps.Announce sink) made others this means same
-lines_same airs s n (steps.Train sink time ext adv acad) made others this means same =
-    named_same airs s n sink (steps.Train sink time ext adv acad) made others this means same
-lines_same airs s n (steps.Serve sink) made others this means same = named_same airs s n sink (steps.Serve sink) made others this means same
-lines_same airs s n (steps.Tell sink) made others this means same = named_same airs s n sink (steps.Tell sink) made others this means same
-lines_same airs s n (steps.Read sink) made others this means same = named_same airs s n sink (steps.Read sink) made others this means same
-lines_same airs s n (steps.Drain sink) made others this means same = named_same airs s n sink (steps.Drain sink) made others this means same
-lines_same airs s n (steps.Show sink) made others this means same = named_same airs s n sink (steps.Show sink) made others this means same
-lines_same airs s n (steps.Lose sink) made others this means same = named_same airs s n sink (steps.Lose sink) made others this means same
-lines_same airs s n (steps.Control sink octets) made others this means same =
-    named_same airs s n sink (steps.Control sink octets) made others this means same
-lines_same airs s n (steps.Forge sink slot octets) made others this means same =
-    named_same airs s n sink (steps.Forge sink slot octets) made others this means same
-lines_same airs s n (steps.AServe sink link) made others this means same =
-    named_same airs s n sink (steps.AServe sink link) made others this means same
-lines_same airs s n (steps.ATell sink link) made others this means same =
-    named_same airs s n sink (steps.ATell sink link) made others this means same
-lines_same airs s n (steps.ARead sink link) made others this means same =
-    named_same airs s n sink (steps.ARead sink link) made others this means same
-lines_same airs s n (steps.ADrain sink link) made others this means same =
-    named_same airs s n sink (steps.ADrain sink link) made others this means same
-lines_same airs s n (steps.AShow sink link) made others this means same =
-    named_same airs s n sink (steps.AShow sink link) made others this means same
-lines_same airs s n _ made others this means same = refl
+lines_same airs s n step made others this means same = search (named_same, this, means, same)

@@ -2,66 +2,22 @@
 -- 1.0, section 6.5). Lists of steps and of calls have the newest first.
 use Rattle.std.proofs.Common.{ℕ, ◌≡◌, ◌≤◌, ◌==◌, cond, Bool, true, false, List, [], ◌∷◌, Option, None, Some, refl, ◌∙◌, ap, ap₂}
 use Rattle.std.proofs.lemmas.Bool.{eqb-true}
-use Rattle.delegator_history.specs.Octets.{train_of}
 use Rattle.delegator_history.specs.Trains.{Settings}
-use Rattle.announcement_train.specs.declared.train.Train.{Train as Announced}
 use Rattle.sink_history.specs.Calls.{Call, born}
 use Rattle.sink_history.specs.Drains.{drained}
-use Rattle.source_machine.specs.Calls.{Setup, Call as SourceCall, next_anchor_of, next_of}
-use Rattle.source_machine.specs.declared.setup.Identity.{Identity}
 use Rattle.scenario_text.specs.declared.step.Step.{Step}
 use Rattle.scenario_text.specs.declared.step.Step.TheVariants as steps
 use Rattle.sink_history.specs.Lives.{Source, horizon_of, lived, lived_at, lived_by, made_by, made_of, named_by, with_drain}
 use Rattle.sink_history.specs.Moves.{train_by}
-use Rattle.scenario_history.specs.Bases.{base_of}
-use Rattle.scenario_history.specs.Source.{checked_info, identity_of, setup_of, source_calls}
-use Rattle.scenario_history.specs.Steps.{chosen_of, chosen_steps}
-use Rattle.scenario_history.specs.Worlds.{announced_of, life, source_at, the_world}
+use Rattle.scenario_history.specs.Worlds.{life, source_at, the_world}
 use Rattle.scenario_laws.proofs.Versions.Lives.{AreQuietCalls, drained_same, quiet_drained, quiet_served}
 use Rattle.scenario_laws.proofs.Versions.Printed.{HearsNear, IsQuietLife, reaching_made}
-use Rattle.scenario_laws.proofs.Versions.Seconds.{at_second, chosen_own, chosen_same, second, seconds, sink_grows}
-use Rattle.scenario_laws.proofs.Versions.Sources.{base_is_same, identity_same, info_same, of_calls}
+use Rattle.scenario_laws.proofs.Versions.Seconds.{at_second, same, second, seconds, sink_grows}
 
 -- ---- the source that a line means
 
-announced_same : (own : List Step) → announced_of (seconds own) ≡ announced_of own
-announced_same own =
-    let theirs : List Step = seconds own in
-    ap (λ (identity : Identity). train_of identity.broadcast_id (base_of theirs) (checked_info theirs)
-    (next_of (setup_of theirs) (source_calls theirs)) (next_anchor_of (setup_of theirs) (source_calls theirs))) (identity_same own)
-    ∙ ap₂ (λ base info. train_of (identity_of own).broadcast_id base info
-    (next_of (setup_of theirs) (source_calls theirs)) (next_anchor_of (setup_of theirs) (source_calls theirs))) (base_is_same own)
-    (info_same own)
-    ∙ of_calls (λ setup calls. train_of (identity_of own).broadcast_id (base_of own) (checked_info own) (next_of setup calls)
-    (next_anchor_of setup calls))
-    (λ ahead setup calls. refl) own
-
-abbrev source_with : ℕ → Identity → Announced → Setup → List SourceCall → Source
-source_with number identity announced setup calls = record {
-  number = number;
-  address_type = identity.address_type;
-  sid = identity.sid;
-  announced = announced;
-  joining = λ which. record {
-    info = setup.info;
-    which = which;
-    first = next_of setup calls;
-    anchor = next_anchor_of setup calls;
-    delay = setup.delay;
-  };
-}
-
-abbrev source_from : ℕ → List Step → Source
-source_from number own = source_with number (identity_of own) (announced_of own) (setup_of own) (source_calls own)
-
-from_same : (number : ℕ) (own : List Step) → source_from number (seconds own) ≡ source_from number own
-from_same number own =
-    ap₂ (λ identity announced. source_with number identity announced (setup_of (seconds own)) (source_calls (seconds own)))
-    (identity_same own) (announced_same own)
-    ∙ of_calls (source_with number (identity_of own) (announced_of own)) (λ ahead setup calls. refl) own
-
 pub source_same : (made : List Step) → source_at (seconds made) ≡ source_at made
-source_same made = ap₂ source_from (chosen_same made) (chosen_own made) ∙ from_same (chosen_of made) (chosen_steps made)
+source_same made = search same
 
 -- ---- the sink that a line made
 
@@ -114,20 +70,11 @@ QuietLife (Some made) calls = AreQuietCalls made.setup calls
 quiet_lived : (source : Source) (step : Step) (made : Settings) (calls : List Call) → AreQuietCalls made.setup calls
     → HearsNear made calls (train_by source step)
     → AreQuietCalls made.setup (lived_by source step (Some made) calls)
-quiet_lived source (steps.Drop sink) made calls quiet near = tt
-quiet_lived source (steps.Pac sink codec caps metadata) made calls quiet near = (quiet, tt)
-quiet_lived source (steps.Locate sink bits) made calls quiet near = (quiet, tt)
-quiet_lived source (steps.Context sink sink_bits source_bits) made calls quiet near = (quiet, tt)
-quiet_lived source (steps.Tuned sink which) made calls quiet near = (quiet, tt)
-quiet_lived source (steps.Announce sink) made calls quiet near = (quiet, near)
-quiet_lived source (steps.Train sink time ext adv acad) made calls quiet near = (quiet, near)
-quiet_lived source (steps.Lose sink) made calls quiet near = (quiet, tt)
-quiet_lived source (steps.Control sink octets) made calls quiet near = (quiet, tt)
 quiet_lived source (steps.Serve sink) made calls quiet near = quiet_served made.setup 0 calls quiet
 quiet_lived source (steps.AServe sink link) made calls quiet near = quiet_served made.setup link calls quiet
 quiet_lived source (steps.Drain sink) made calls quiet near = quiet_drained made.setup made.mtu 0 calls quiet
 quiet_lived source (steps.ADrain sink link) made calls quiet near = quiet_drained made.setup made.mtu link calls quiet
-quiet_lived source _ made calls quiet near = quiet
+quiet_lived source _ made calls quiet near = search
 
 quiet_if : (b : Bool) (one made : Option Settings) (first calls : List Call) → QuietLife one first → QuietLife made calls
     → QuietLife (cond b one made) (cond b first calls)

@@ -2,7 +2,7 @@
 -- TimeOrder. Lists of steps have the newest first; where a list is called `own` its steps are those of one source.
 use Rattle.std.proofs.Common.{ℕ, ◌≡◌, ◌⊎◌, ◌≤◌, ◌==◌, ◌||◌, ◌&&◌, not, cond, leb, ltb, Bool, true, false, List, [], ◌∷◌, Option, None, Some}
 use Rattle.std.proofs.Common.{refl, sym, subst, ◌∙◌, ap, ap₂, inl, inr}
-use Rattle.std.specs.Prelude.{is_none, is_some, length, nat_le}
+use Rattle.std.specs.Prelude.{is_none, length, nat_le}
 use Rattle.std.specs.Option.{option_map, option_or}
 use Rattle.big_info.specs.declared.info.BigInfo.{BigInfo}
 use Rattle.big_info.specs.Rows.{first_fault}
@@ -10,41 +10,37 @@ use Rattle.isoal_base.specs.Air.{Air}
 use Rattle.isoal_framed.specs.Calls.{last_time}
 use Rattle.source_machine.specs.Airs.{airs_of, waiting_of}
 use Rattle.source_machine.specs.Calls.{Setup, Call, framed_calls, next_anchor_of}
-use Rattle.source_machine.specs.Faults.{air_fault, announce_fault, event_fault, give_fault, has_its_time, is_above, is_in_time}
-use Rattle.source_machine.specs.Setups.{are_twins}
+use Rattle.source_machine.specs.Faults.{give_fault, has_its_time, is_above, is_in_time}
 use Rattle.source_machine.specs.UnitFaults.{UnitFault}
 use Rattle.source_machine.specs.UnitFaults as give_faults
 use Rattle.sink_history.specs.Calls as links
 use Rattle.scenario_text.specs.declared.step.Step.{Step}
 use Rattle.scenario_text.specs.declared.step.Step.TheVariants as steps
 use Rattle.transcript_text.specs.declared.refusal.Refusal.{Refusal}
-use Rattle.transcript_text.specs.declared.refusal.Refusal.TheVariants.{AfterEnd, BaseTooLong, IdentTwice, NoOutlet, NoSuchBis, NoSuchSink}
-use Rattle.transcript_text.specs.declared.refusal.Refusal.TheVariants.{NotOnAir, Order, RelayTaken, SinkTwice}
+use Rattle.transcript_text.specs.declared.refusal.Refusal.TheVariants.{AfterEnd, BaseTooLong}
+use Rattle.transcript_text.specs.declared.refusal.Refusal.TheVariants.{Order}
 use Rattle.delegator_history.specs.Trains.{Settings}
 use Rattle.sink_history.specs.Lives.{made_of, named_by, horizon_in}
 use Rattle.sink_history.specs.Refusals.{refused_at, refused_by, refused_where, refuse_if}
 use Rattle.scenario_history.specs.Bases.{is_base_too_long}
 use Rattle.scenario_history.specs.Boxes.{box_after, box_of}
-use Rattle.scenario_history.specs.Refusals.{air_refusal, counter_ends, give_refusal, group_refusal, has_beyond, is_ident_twice}
-use Rattle.scenario_history.specs.Refusals.{is_misplaced, is_out_of_order, is_out_of_phase}
-use Rattle.scenario_history.specs.Refusals.{no_place, no_sink, own_refusal, refusal_of, sink_refusal}
-use Rattle.scenario_history.specs.Refusals.{relay_refusal, source_refusal, train_ends, twin_refusal}
-use Rattle.scenario_history.specs.Source.{GroupLine, checked_info, identity_of, is_absent_at}
-use Rattle.scenario_history.specs.Source.{is_described_at, is_started, setup_of, source_calls}
-use Rattle.scenario_history.specs.Steps.{chosen_of, chosen_steps, is_over, other_of, stage_of, steps_of_source, version_of}
+use Rattle.scenario_history.specs.Refusals.{give_refusal, group_refusal}
+use Rattle.scenario_history.specs.Refusals.{is_out_of_order}
+use Rattle.scenario_history.specs.Refusals.{own_refusal, refusal_of, sink_refusal}
+use Rattle.scenario_history.specs.Refusals.{source_refusal, twin_refusal}
+use Rattle.scenario_history.specs.Source.{checked_info}
+use Rattle.scenario_history.specs.Source.{setup_of, source_calls}
+use Rattle.scenario_history.specs.Steps.{chosen_steps, is_over, version_of}
 use Rattle.scenario_history.specs.Worlds.{life, the_world}
 use Rattle.scenario_laws.specs.Versions.{IsLasting}
 use Rattle.scenario_laws.proofs.Versions.Groups.{first_same, near_or_far}
 use Rattle.scenario_laws.proofs.Versions.Lived.{AreCalm, AreFar, QuietLife, is_quiet, life_same, made_far, quiet_life}
 use Rattle.scenario_laws.proofs.Versions.Printed.{refused_same}
-use Rattle.scenario_laws.proofs.Versions.Received.{of_chosen}
-use Rattle.scenario_laws.proofs.Versions.Relays.{beyond_same, may_same, taken_same}
-use Rattle.scenario_laws.proofs.Versions.Seconds.{IsLater, ahead_stays, at_second, calls_same, chosen_own, chosen_same, horizon_grows, ident_same}
-use Rattle.scenario_laws.proofs.Versions.Seconds.{is_later, over_same, own_same, phase_same}
-use Rattle.scenario_laws.proofs.Versions.Seconds.{seconds, sinks_same, unbegun_same}
-use Rattle.scenario_laws.proofs.Versions.Sources.{airs_same, bare_same, ciphered_same, framed_same, has_same, heard_same, identity_same, info_same}
-use Rattle.scenario_laws.proofs.Versions.Sources.{is_ahead, line_same, of_calls, performed_same}
-use Rattle.scenario_laws.proofs.Versions.Sources.{sending_same, setup_same, started_same, stream_same, takes_same, too_long_same, with_ahead}
+use Rattle.scenario_laws.proofs.Versions.Relays.{relays_same}
+use Rattle.scenario_laws.proofs.Versions.Seconds.{IsLater, ahead_stays, at_second, calls_same, horizon_grows}
+use Rattle.scenario_laws.proofs.Versions.Seconds.{is_later, over_same, same}
+use Rattle.scenario_laws.proofs.Versions.Seconds.{seconds, unbegun_same}
+use Rattle.scenario_laws.proofs.Versions.Sources.{airs_same, framed_same, is_ahead, setup_same, with_ahead}
 
 -- the reason is one that version 2 may not have
 abbrev pub IsGone : Option Refusal → Type 0
@@ -137,44 +133,24 @@ unit_lasts own bis time octets =
 
 -- ---- a step of a source
 
-place_same : (own : List Step) (back bis subevent : ℕ) → no_place (seconds own) back bis subevent ≡ no_place own back bis subevent
-place_same own back bis subevent =
-    of_calls (λ setup calls. option_map air_refusal (air_fault setup calls back bis subevent)) (λ ahead setup calls. refl) own
-
 source_lasts : (version later : ℕ) (own : List Step) (step : Step) → IsLater version later
     → Lasts (source_refusal airs_of version own step) (source_refusal airs_of later (seconds own) step)
-source_lasts version later own (steps.Bis bis config) is =
-    inl (ap₂ (λ (group : GroupLine) stands. refuse_if (ltb group.info.num_bis bis || stands) NoSuchBis) (line_same own)
-    (stream_same own bis))
 source_lasts version later own (steps.Start first) is =
     subst (λ there. Lasts (source_refusal airs_of version own (steps.Start first)) there)
-    (sym (ap₂ (λ info long. option_or (group_refusal (first_fault (horizon_in later) info)) (refuse_if long BaseTooLong)) (info_same own)
-    (too_long_same own)))
+    (search same)
     (lasts_or (group_refusal (first_fault (horizon_in version) (checked_info own)))
     (group_refusal (first_fault (horizon_in later) (checked_info own)))
     (refuse_if (is_base_too_long own) BaseTooLong) (group_lasts (horizon_in version) (horizon_in later) (checked_info own)
     (horizon_grows version later is)))
-source_lasts version later own (steps.Tuned sink which) is =
-    inl (of_calls (λ setup calls. refuse_if (has_beyond setup.info.num_bis which) NoSuchBis) (λ ahead setup calls. refl) own)
 source_lasts version later own (steps.Unit bis time octets) is = unit_lasts own bis time octets
-source_lasts version later own steps.Event is = inl
-    (of_calls (λ setup calls. counter_ends (event_fault setup calls)) (λ ahead setup calls. refl) own)
-source_lasts version later own (steps.Hear sink back bis subevent) is = inl (place_same own back bis subevent)
-source_lasts version later own (steps.Air sink lose) is = inl (ap (λ count. refuse_if (count == 0) NotOnAir) (performed_same own))
-source_lasts version later own (steps.Inject sink back bis subevent octets) is = inl (place_same own back bis subevent)
-source_lasts version later own (steps.Sniff back bis subevent) is = inl (place_same own back bis subevent)
-source_lasts version later own (steps.Announce sink) is = inl
-    (of_calls (λ setup calls. train_ends (announce_fault setup calls)) (λ ahead setup calls. refl) own)
-source_lasts version later own _ is = inl refl
+source_lasts version later own _ is = inl (search same)
 
 -- ---- a step of a sink
 
 box_next : (n : ℕ) (step : Step) (earlier : List Step) (box other : Option ℕ) → other ≡ box
     → box_after n step (seconds earlier) other ≡ box_after n step earlier box
-box_next n (steps.Sink sink streams slots mtu) earlier box other same =
-    ap₂ (λ made its. cond (sink == n) (Some made) its) (sinks_same earlier) same
-box_next n (steps.Drop sink) earlier box other same = ap (λ its. cond (sink == n) None its) same
-box_next n _ earlier box other same = same
+box_next n (steps.Drop sink) earlier box other stays = search stays
+box_next n _ earlier box other stays = search (same, stays)
 
 pub box_same : (n : ℕ) (made : List Step) → box_of n (seconds made) ≡ box_of n made
 box_same n [] = refl
@@ -187,7 +163,7 @@ where_same : (step : Step) (made other : Option Settings) (calls : List links.Ca
     → refused_where step other calls ≡ refused_where step made calls
 where_same this None None calls far quiet = refl
 where_same this (Some made) (Some other) calls far quiet =
-    ap (λ sink. refused_by this sink calls) far.is ∙ refused_same far.horizon this made calls (is_quiet made other calls far quiet)
+    ap (λ sink. refused_by this sink calls) far.is ∙ refused_same this far.horizon made calls (is_quiet made other calls far quiet)
 where_same this None (Some other) calls far quiet = absurd far
 where_same this (Some made) None calls far quiet = absurd far
 
@@ -198,90 +174,26 @@ named_same this (Some n) made calm =
     ap (refused_where this (made_of n (seconds made))) (life_same n made calm)
     ∙ where_same this (made_of n made) (made_of n (seconds made)) (life n made) (made_far n made) (quiet_life n made calm)
 
-no_sink_same : (n : ℕ) (made : List Step) → no_sink n (seconds made) ≡ no_sink n made
-no_sink_same n made = ap (λ box. refuse_if (not (is_some box)) NoSuchSink) (box_same n made)
-
 sink_same : (boxes : ℕ) (made : List Step) (step : Step) → AreCalm made
     → sink_refusal boxes (seconds made) step ≡ sink_refusal boxes made step
-sink_same boxes made (steps.Sink sink streams slots mtu) calm =
-    ap₂ (λ box count. option_or (refuse_if (is_some box) SinkTwice) (refuse_if (leb boxes count) NoOutlet)) (box_same sink made)
-    (sinks_same made)
-sink_same boxes made (steps.Drop sink) calm = no_sink_same sink made
-sink_same boxes made (steps.Tuned sink which) calm = no_sink_same sink made
-sink_same boxes made (steps.Hear sink back bis subevent) calm = no_sink_same sink made
-sink_same boxes made (steps.Air sink lose) calm = no_sink_same sink made
-sink_same boxes made (steps.Inject sink back bis subevent octets) calm = no_sink_same sink made
+sink_same boxes made (steps.Sink sink streams slots mtu) calm = search (same, box_same)
+sink_same boxes made (steps.Drop sink) calm = search box_same
+sink_same boxes made (steps.Tuned sink which) calm = search box_same
+sink_same boxes made (steps.Hear sink back bis subevent) calm = search box_same
+sink_same boxes made (steps.Air sink lose) calm = search box_same
+sink_same boxes made (steps.Inject sink back bis subevent octets) calm = search box_same
 sink_same boxes made (steps.Relay sink bis to) calm = refl
 sink_same boxes made this calm = named_same this (named_by this) made calm
 
--- ---- the order of steps
-
-phase_stays : (own : List Step) (step : Step) → is_out_of_phase (seconds own) step ≡ is_out_of_phase own step
-phase_stays own (steps.Group framing origin delay iso sdu max_sdu max_pdu num_bis bn nse irc pto sub spacing phy) =
-    ap (λ phase. not (is_absent_at phase)) (phase_same own)
-phase_stays own (steps.Ident address_type address sid broadcast_id) =
-    ap₂ (λ phase ident. not (is_described_at phase) || is_some ident) (phase_same own) (ident_same own)
-phase_stays own (steps.Subgroup codec config) = ap₂ (λ phase bare. not (is_described_at phase) || bare) (phase_same own) (bare_same own)
-phase_stays own (steps.Meta metadata) = ap₂ (λ phase has. not (is_described_at phase) || not has) (phase_same own) (has_same own)
-phase_stays own (steps.Bis bis config) = ap₂ (λ phase has. not (is_described_at phase) || not has) (phase_same own) (has_same own)
-phase_stays own (steps.Cipher giv gskd) = ap₂ (λ phase ciphered. not (is_described_at phase) || ciphered) (phase_same own)
-    (ciphered_same own)
-phase_stays own (steps.Start first) = ap₂ (λ phase bare. not (is_described_at phase) || bare) (phase_same own) (bare_same own)
-phase_stays own (steps.Tuned sink which) = ap not (takes_same own)
-phase_stays own (steps.Unit bis time octets) = ap not (takes_same own)
-phase_stays own steps.Event = ap not (takes_same own)
-phase_stays own (steps.Announce sink) = ap not (sending_same own)
-phase_stays own steps.Stop = ap not (sending_same own)
-phase_stays own (steps.Terminate reason) = ap not (sending_same own)
-phase_stays own (steps.Hear sink back bis subevent) = ap not (heard_same own)
-phase_stays own (steps.Air sink lose) = ap not (heard_same own)
-phase_stays own (steps.Inject sink back bis subevent octets) = ap not (heard_same own)
-phase_stays own (steps.Sniff back bis subevent) = ap not (heard_same own)
-phase_stays own _ = refl
-
-placed_same : (made : List Step) (step : Step) → is_misplaced (stage_of (seconds made)) step ≡ is_misplaced (stage_of made) step
-placed_same made (steps.Scenario version) = ap not (unbegun_same made)
-placed_same made _ = unbegun_same made
+-- ---- the order of steps, and both sources
 
 order_same : (made : List Step) (step : Step) → is_out_of_order (seconds made) step ≡ is_out_of_order made step
-order_same made step =
-    ap₂ (λ misplaced out. misplaced || out) (placed_same made step)
-    (of_chosen (λ own. is_out_of_phase own step) (λ own. phase_stays own step) made)
-
--- ---- both sources
-
-started_in : (s : ℕ) (made : List Step) → is_started (steps_of_source s (seconds made)) ≡ is_started (steps_of_source s made)
-started_in s made = ap is_started (own_same s made) ∙ started_same (steps_of_source s made)
-
-identity_in : (s : ℕ) (made : List Step) → identity_of (steps_of_source s (seconds made)) ≡ identity_of (steps_of_source s made)
-identity_in s made = ap identity_of (own_same s made) ∙ identity_same (steps_of_source s made)
-
-twice_by : (chosen : ℕ) (made : List Step) → Bool
-twice_by chosen made =
-    is_started (steps_of_source (other_of chosen) made)
-    && are_twins (identity_of (steps_of_source chosen made)) (identity_of (steps_of_source (other_of chosen) made))
-
-twice_same : (made : List Step) → is_ident_twice (seconds made) ≡ is_ident_twice made
-unfolding twice_by
-twice_same made =
-    ap (λ chosen. twice_by chosen (seconds made)) (chosen_same made)
-    ∙ ap (λ started. started && are_twins (identity_of (steps_of_source (chosen_of made) (seconds made)))
-    (identity_of (steps_of_source (other_of (chosen_of made)) (seconds made))))
-    (started_in (other_of (chosen_of made)) made)
-    ∙ ap₂ (λ one two. is_started (steps_of_source (other_of (chosen_of made)) made) && are_twins one two)
-    (identity_in (chosen_of made) made) (identity_in (other_of (chosen_of made)) made)
-
-relay_row : (made : List Step) (sink bis to : ℕ) → relay_refusal (seconds made) sink bis to ≡ relay_refusal made sink bis to
-relay_row made sink bis to =
-    ap₂ (λ may rest. option_or (refuse_if (not may) Order) rest) (may_same made)
-    (ap₂ option_or (no_sink_same sink made)
-    (ap₂ (λ beyond taken. option_or (refuse_if beyond NoSuchBis) (refuse_if taken RelayTaken)) (beyond_same made bis to)
-    (taken_same made sink to)))
+order_same made steps.End = search unbegun_same
+order_same made _ = search (same, unbegun_same)
 
 twin_same : (made : List Step) (step : Step) → twin_refusal (seconds made) step ≡ twin_refusal made step
-twin_same made (steps.Start first) = ap (λ twice. refuse_if twice IdentTwice) (twice_same made)
-twin_same made (steps.Relay sink bis to) = relay_row made sink bis to
-twin_same made _ = refl
+twin_same made steps.End = refl
+twin_same made _ = search (same, relays_same, box_same)
 
 -- ---- the first reason that holds
 
@@ -299,7 +211,7 @@ step_lasts boxes made step calm =
     (option_or (refuse_if out Order) (own_refusal airs_of boxes (seconds made) step)))
     (over_same made) (order_same made step)
     ∙ ap₂ (λ by_sink source. option_or ended (option_or order (option_or by_sink (option_or source (twin_refusal (seconds made) step)))))
-    (sink_same boxes made step calm) (ap (λ own. source_refusal airs_of (version_of (seconds made)) own step) (chosen_own made))
+    (sink_same boxes made step calm) (search same)
     ∙ ap (λ twins. option_or ended (option_or order (option_or sink (option_or later twins)))) (twin_same made step)))
     (or_lasts ended _ _ (or_lasts order _ _ (or_lasts sink _ _
     (lasts_or here later twin (source_lasts (version_of made) (version_of (seconds made)) (chosen_steps made) step (is_later made))))))

@@ -9,10 +9,10 @@ use Rattle.scenario_text.specs.declared.step.Step.{Step}
 use Rattle.scenario_text.specs.declared.step.Step.TheVariants as steps
 use Rattle.sink_history.specs.Lives.{horizon_in, horizon_of, version_given}
 use Rattle.scenario_history.specs.Bases.{base_lines, with_base_line}
-use Rattle.scenario_history.specs.Source.{absent, cipher_given, cipher_of, group_given, group_of, ident_of, identity_given, is_ahead_in}
-use Rattle.scenario_history.specs.Source.{phase_given, phase_of, source_calls}
+use Rattle.scenario_history.specs.Source.{cipher_given, cipher_of, group_given, group_of, ident_of, identity_given, is_ahead_in}
+use Rattle.scenario_history.specs.Source.{phase_given, source_calls}
 use Rattle.scenario_history.specs.Source.{start_given, start_of, with_source_call}
-use Rattle.scenario_history.specs.Steps.{Stage, unbegun, running, over, chosen_given, chosen_of, chosen_steps, is_common, is_of_source}
+use Rattle.scenario_history.specs.Steps.{Stage, unbegun, running, over, chosen_given, is_common, is_of_source}
 use Rattle.scenario_history.specs.Steps.{is_over, is_source_line}
 use Rattle.scenario_history.specs.Steps.{is_over_at, is_unbegun_at, last_given, sinks_made, sinks_made_by, stage_after, stage_of}
 use Rattle.scenario_laws.proofs.Sources.{horizon_greatest}
@@ -50,42 +50,40 @@ given_same gives first made =
     gathered (last_given gives) (λ step given. option_or (gives step) given) (λ step earlier. refl)
     (λ version given. ap (λ one. option_or one given) (first version)) made
 
--- ---- a source
+-- ---- what the steps of a source say, and which source a line means
 
 pub group_same : (own : List Step) → group_of (seconds own) ≡ group_of own
-group_same own = given_same group_given (λ version. refl) own
+group_same = given_same group_given (λ version. refl)
 
 pub start_same : (own : List Step) → start_of (seconds own) ≡ start_of own
-start_same own = given_same start_given (λ version. refl) own
+start_same = given_same start_given (λ version. refl)
 
 pub ident_same : (own : List Step) → ident_of (seconds own) ≡ ident_of own
-ident_same own = given_same identity_given (λ version. refl) own
+ident_same = given_same identity_given (λ version. refl)
 
 pub cipher_same : (own : List Step) → cipher_of (seconds own) ≡ cipher_of own
-cipher_same own = given_same cipher_given (λ version. refl) own
+cipher_same = given_same cipher_given (λ version. refl)
 
-pub phase_same : (own : List Step) → phase_of (seconds own) ≡ phase_of own
-phase_same own = ap (λ given. unwrap_or given absent) (given_same phase_given (λ version. refl) own)
+pub phase_same : (own : List Step) → last_given phase_given (seconds own) ≡ last_given phase_given own
+phase_same = given_same phase_given (λ version. refl)
 
 pub base_same : (own : List Step) → base_lines (seconds own) ≡ base_lines own
-base_same own = gathered base_lines with_base_line (λ step earlier. refl) (λ version lines. refl) own
+base_same = gathered base_lines with_base_line (λ step earlier. refl) (λ version lines. refl)
 
 pub calls_same : (own : List Step) → source_calls (seconds own) ≡ source_calls own
-calls_same own = gathered source_calls with_source_call (λ step earlier. refl) (λ version calls. refl) own
+calls_same = gathered source_calls with_source_call (λ step earlier. refl) (λ version calls. refl)
 
 pub sinks_same : (made : List Step) → sinks_made (seconds made) ≡ sinks_made made
-sinks_same made = gathered sinks_made sinks_made_by (λ step earlier. refl) (λ version count. refl) made
+sinks_same = gathered sinks_made sinks_made_by (λ step earlier. refl) (λ version count. refl)
 
--- ---- which source a line means
-
-pub chosen_same : (made : List Step) → chosen_of (seconds made) ≡ chosen_of made
-chosen_same made = ap (λ given. unwrap_or given 0) (given_same chosen_given (λ version. refl) made)
+pub chosen_same : (made : List Step) → last_given chosen_given (seconds made) ≡ last_given chosen_given made
+chosen_same = given_same chosen_given (λ version. refl)
 
 its_same : (s : ℕ) (earlier : List Step) (step : Step) → is_of_source s (seconds earlier) (second step) ≡ is_of_source s earlier step
 its_same s earlier step =
     at_second (λ one other. is_of_source s (seconds earlier) other ≡ is_of_source s (seconds earlier) one) (λ version. refl) (λ same. refl)
     step
-    ∙ ap (λ chosen. is_common step || (is_source_line step && (chosen == s))) (chosen_same earlier)
+    ∙ ap (λ chosen. is_common step || (is_source_line step && (unwrap_or chosen 0 == s))) (chosen_same earlier)
 
 seconds_if : (is_its : Bool) (step : Step) (own : List Step)
     → cond is_its (second step ∷ seconds own) (seconds own) ≡ seconds (cond is_its (step ∷ own) own)
@@ -100,8 +98,19 @@ own_same s (step ∷ earlier) =
     (its_same s earlier step)
     ∙ seconds_if (is_of_source s earlier step) step (steps_of_source s earlier)
 
-pub chosen_own : (made : List Step) → chosen_steps (seconds made) ≡ seconds (chosen_steps made)
-chosen_own made = ap (λ s. steps_of_source s (seconds made)) (chosen_same made) ∙ own_same (chosen_of made) made
+-- what says nothing of the version
+pub ruleset same = (
+  group_same,
+  start_same,
+  ident_same,
+  cipher_same,
+  phase_same,
+  base_same,
+  calls_same,
+  sinks_same,
+  chosen_same,
+  own_same,
+)
 
 -- ---- the version
 
@@ -120,34 +129,19 @@ version_later : (stage later : Stage) → StandsLater stage later → IsLater (v
 version_later unbegun unbegun is = inl refl
 version_later (running version) (running later) is = is
 version_later (over version) (over later) is = is
-version_later unbegun (running later) is = absurd is
-version_later unbegun (over later) is = absurd is
-version_later (running version) unbegun is = absurd is
-version_later (running version) (over later) is = absurd is
-version_later (over version) unbegun is = absurd is
-version_later (over version) (running later) is = absurd is
+version_later _ _ is = search
 
 over_later : (stage later : Stage) → StandsLater stage later → is_over_at later ≡ is_over_at stage
 over_later unbegun unbegun is = refl
 over_later (running version) (running later) is = refl
 over_later (over version) (over later) is = refl
-over_later unbegun (running later) is = absurd is
-over_later unbegun (over later) is = absurd is
-over_later (running version) unbegun is = absurd is
-over_later (running version) (over later) is = absurd is
-over_later (over version) unbegun is = absurd is
-over_later (over version) (running later) is = absurd is
+over_later _ _ is = search
 
 unbegun_later : (stage later : Stage) → StandsLater stage later → is_unbegun_at later ≡ is_unbegun_at stage
 unbegun_later unbegun unbegun is = refl
 unbegun_later (running version) (running later) is = refl
 unbegun_later (over version) (over later) is = refl
-unbegun_later unbegun (running later) is = absurd is
-unbegun_later unbegun (over later) is = absurd is
-unbegun_later (running version) unbegun is = absurd is
-unbegun_later (running version) (over later) is = absurd is
-unbegun_later (over version) unbegun is = absurd is
-unbegun_later (over version) (running later) is = absurd is
+unbegun_later _ _ is = search
 
 stands_after : (stage later : Stage) (step : Step) → StandsLater stage later
     → StandsLater (stage_after step stage) (stage_after (second step) later)
