@@ -1,6 +1,7 @@
-ghost use Rattle.std.specs.Prelude.{◌≡◌, ◌<◌, ◌^◌, [], OnOk, OnErr, IfOk, MatchResult, None, Some};
+ghost use Rattle.std.specs.Prelude.{◌≡◌, ◌<◌, ◌^◌, [], length, OnOk, OnErr, IfOk, MatchResult, Err, None, Some};
 ghost use Rattle.std.specs.Option.{ForSome};
 ghost use Rattle.ltv_codec.specs.Layout.{AreLtvs};
+ghost use Rattle.base_grammar.specs.declared.fault.DraftFault.TheVariants.{Memory as NoMemory};
 ghost use Rattle.base_grammar.specs.Draft.{last_of, opened, with_subgroup, with_metadata, with_entry, subgroup_fault, metadata_fault, entry_fault, finish_fault, Refuses};
 ghost use Rattle.base_grammar.specs.Layout.{endpoint, is_lc3, IsBase, IsConfig};
 
@@ -56,12 +57,13 @@ impl BaseDraft {
     }
 
     /// Gives the last subgroup this metadata, an LTV list, in place of what it had. `NoSubgroup` where there is none. A
-    /// refusal changes nothing.
+    /// refusal changes nothing. No octets take no memory.
     pub fn metadata(&mut self, from: &[u8]) -> Result<(), DraftFault>
         requires { AreLtvs from.now }
         ensures ok { OnOk result (self.new ≡ with_metadata from.now self.old) }
         ensures err { OnErr result (self.new ≡ self.old) }
         ensures refuses { Refuses (metadata_fault self.old.subgroups) result }
+        ensures memory { result ≡ Err NoMemory → 0 < length from.now }
     {
         put_metadata(self.alloc, &mut self.subgroups, from)
     }

@@ -1,6 +1,7 @@
 //! The steps of a draft, over its subgroups.
-ghost use Rattle.std.specs.Prelude.{◌≡◌, ◌≤◌, ◌+◌, ◌++◌, ◌∷◌, [], length, OnOk, OnErr};
+ghost use Rattle.std.specs.Prelude.{◌≡◌, ◌≤◌, ◌<◌, ◌+◌, ◌++◌, ◌∷◌, [], length, OnOk, OnErr, Err};
 ghost use Rattle.std.specs.List.{flat_map};
+ghost use Rattle.base_grammar.specs.declared.fault.DraftFault.TheVariants.{Memory as NoMemory};
 ghost use Rattle.base_grammar.specs.Draft.{opened, with_last, is_empty_last, last_of, subgroup_fault, metadata_fault, entry_fault, draft_fault, Refuses};
 ghost use Rattle.base_grammar.specs.Layout.{subgroup};
 
@@ -57,6 +58,7 @@ pub(crate) fn put_metadata(
     ensures ok { OnOk result (subgroups.new.items ≡ with_last (λ s. record s { metadata = from.now }) subgroups.old.items) }
     ensures err { OnErr result (subgroups.new.items ≡ subgroups.old.items) }
     ensures refuses { Refuses (metadata_fault subgroups.old.items) result }
+    ensures memory { result ≡ Err NoMemory → 0 < length from.now }
 {
     if subgroups.is_empty() {
         return Err(DraftFault::NoSubgroup);

@@ -174,10 +174,11 @@ are_given : (octets : List ℕ) (read : Result (List Ltv) LtvBad) → IsOctets o
 are_given octets (Ok ltvs) fits e given = record { ltvs = ltvs; list = read_list ltvs octets fits e }
 are_given octets (Err bad) fits e given = absurd cc
 
-pub decoded_cut : (octets : List ℕ) (result : Result (List Ltv) LtvFault) → IsOctets octets → Answers told result (ltvs_of octets) → IfErr result (λ fault. IsFault fault octets)
-decoded_cut octets (Ok ltvs) fits given = tt
-decoded_cut octets (Err faults.Memory) fits given = are_given octets (ltvs_of octets) fits refl given
-decoded_cut octets (Err (faults.Bad bad)) fits given = read_bad bad octets fits given
+pub decoded_cut : (octets : List ℕ) (result : Result (List Ltv) LtvFault) → IsOctets octets → Answers told result (ltvs_of octets) → (result ≡ Err faults.Memory → 0 < length octets)
+    → IfErr result (λ fault. IsFault fault octets)
+decoded_cut octets (Ok ltvs) fits given some = tt
+decoded_cut octets (Err faults.Memory) fits given some = (are_given octets (ltvs_of octets) fits refl given, some refl)
+decoded_cut octets (Err (faults.Bad bad)) fits given some = read_bad bad octets fits given
 
 -- ---- encoding
 

@@ -28,7 +28,7 @@ abbrev pub IsBad : LtvBad → List ℕ → Type 0
 IsBad (ZeroLength place) octets = AtCut StandsZero place octets
 IsBad (Short place) octets = AtCut StandsShort place octets
 
--- why they were not decoded; only a list is refused for want of memory
+-- why they were not decoded; only a list that has octets is refused for want of memory
 abbrev pub IsFault : LtvFault → List ℕ → Type 0
 IsFault (Bad bad) octets = IsBad bad octets
-IsFault Memory octets = AreLtvs octets
+IsFault Memory octets = AreLtvs octets × (0 < length octets)

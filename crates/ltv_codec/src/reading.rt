@@ -1,9 +1,10 @@
-ghost use Rattle.std.specs.Prelude.{◌≡◌, ◌<◌, ◌≤◌, List, length, IfOk, IfErr, OnOk, Ok, None};
+ghost use Rattle.std.specs.Prelude.{◌≡◌, ◌<◌, ◌≤◌, List, length, IfOk, IfErr, OnOk, OnErr, Ok, Err, None};
 ghost use Rattle.std.specs.Result.{result_err};
 ghost use Rattle.ltv_codec.specs.Faults.{IsBad, IsFault};
 ghost use Rattle.ltv_codec.specs.Layout.{IsLtvList, AreLtvs};
 ghost use Rattle.ltv_codec.specs.Reading.{ltvs_of, ltvs_in, bad_of, told, IsStructure, IsBadAt};
 ghost use Rattle.ltv_codec.specs.Values.{first_in};
+ghost use Rattle.ltv_codec.specs.declared.fault.LtvFault.TheVariants.{Memory as NoMemory};
 ghost use Rattle.ltv_codec.specs.declared.ltvs.Ltv.{Ltv};
 ghost use Rattle.bcast_base.specs.Reading.{Gives, place_in};
 ghost use Rattle.bcast_base.specs.Tries.{Answers};
@@ -24,7 +25,7 @@ pub fn check_ltvs(from: &[u8]) -> Result<(), LtvBad>
 }
 
 /// The LTV list that the octets are. Else it is the first bad length octet. Want of memory comes only for octets that are
-/// a list.
+/// a list. No octets take none.
 pub fn decode_ltvs(alloc: Global, from: &[u8]) -> Result<Ltvs, LtvFault>
     ensures exact { Answers told result (ltvs_of from.now) }
     ensures list { IfOk result (λ ltvs. IsLtvList ltvs from.now) }
@@ -66,7 +67,8 @@ fn check_structures(from: &[u8]) -> Result<(), LtvBad>
 
 // The structures, looked through where they lie before any memory is taken.
 fn decode_structures(alloc: Global, from: &[u8]) -> Result<Ltvs, LtvFault>
-    ensures { Answers told result (ltvs_of from.now) }
+    ensures exact { Answers told result (ltvs_of from.now) }
+    ensures memory { result ≡ Err NoMemory → 0 < length from.now }
 {
     check_structures(from)?;
     let list = own_structures(alloc, from)?;
@@ -76,7 +78,8 @@ fn decode_structures(alloc: Global, from: &[u8]) -> Result<Ltvs, LtvFault>
 // The structures of octets that are a list, in memory of their own.
 fn own_structures(alloc: Global, from: &[u8]) -> Result<Ltvs, Memory>
     requires { bad_of from.now ≡ None }
-    ensures { IfOk result (λ ltvs. ltvs_of from.now ≡ Ok ltvs) }
+    ensures ok { IfOk result (λ ltvs. ltvs_of from.now ≡ Ok ltvs) }
+    ensures err { OnErr result (0 < length from.now) }
 {
     let mut list = Ltvs::new(alloc);
     let mut rest = from;

@@ -1,5 +1,5 @@
 -- A fault is the one at the cut.
-use Rattle.std.proofs.Common.{◌≡◌, ℕ, zero, suc, ◌+◌, ◌<◌, ◌≤◌, ◌⊎◌, Bool, true, false, cond, eqb, ltb, List, [], ◌∷◌, ◌++◌, length, take, drop, Option, Some, None, Result}
+use Rattle.std.proofs.Common.{◌≡◌, ℕ, zero, suc, ◌+◌, ◌<◌, ◌≤◌, ◌⊎◌, Bool, true, false, cond, eqb, ltb, List, [], ◌∷◌, ◌++◌, length, get_or, take, drop, Option, Some, None, Result}
 use Rattle.std.proofs.Common.{Ok, Err, refl, sym, ap, subst, ◌∙◌, append_assoc, arith, inl, inr}
 use Rattle.std.specs.Prelude.{IfErr, IsOk}
 use Rattle.std.specs.List.{flat_map, AllByRecursion}
@@ -292,10 +292,17 @@ a_value : (octets : List ℕ) (read : Result (List PacRecord) PacFault) → IsOc
 a_value octets (Ok records) fits e ok = (records, value_takes octets records fits e)
 a_value octets (Err fault) fits e ok = absurd cc
 
-pub is_fault : (octets : List ℕ) (result : Result (List PacRecord) PacFault) → IsOctets octets → Answers told result (value_in octets) → IfErr result (λ fault. IsFault fault octets)
-is_fault octets (Ok records) fits given = tt
-is_fault octets (Err Memory) fits given = a_value octets (value_in octets) fits refl given
-is_fault octets (Err TooLong) fits given = value_stops TooLong octets fits given
-is_fault octets (Err (Short place)) fits given = value_stops (Short place) octets fits given
-is_fault octets (Err (Ltv place bad)) fits given = value_stops (Ltv place bad) octets fits given
-is_fault octets (Err (Trailing place)) fits given = value_stops (Trailing place) octets fits given
+-- the number in front is that of the records
+some_records : (octets : List ℕ) (records : List PacRecord) → PacIs records octets → 0 < get_or octets 0 0 → 0 < length records
+some_records octets records p some = subst (λ (z : List ℕ). 0 < get_or z 0 0) p.is some
+
+pub is_fault : (octets : List ℕ) (result : Result (List PacRecord) PacFault) → IsOctets octets → Answers told result (value_in octets)
+    → (result ≡ Err Memory → 0 < get_or octets 0 0) → IfErr result (λ fault. IsFault fault octets)
+is_fault octets (Ok records) fits given some = tt
+is_fault octets (Err Memory) fits given some =
+    let v = a_value octets (value_in octets) fits refl given in
+    (v.0, v.1, some_records octets v.0 v.1 (some refl))
+is_fault octets (Err TooLong) fits given some = value_stops TooLong octets fits given
+is_fault octets (Err (Short place)) fits given some = value_stops (Short place) octets fits given
+is_fault octets (Err (Ltv place bad)) fits given some = value_stops (Ltv place bad) octets fits given
+is_fault octets (Err (Trailing place)) fits given some = value_stops (Trailing place) octets fits given

@@ -89,6 +89,14 @@ refuses octets Memory fits e = absurd (no_wants octets fits e)
 pub refused : (octets : List ℕ) (fault : PacFault) → IsOctets octets → Some fault ≡ result_err (value_in octets) → Finds (told fault) (value_in octets)
 refused octets fault fits e = refuses octets fault fits (err_by (value_in octets) fault e)
 
+-- what is wrong with the octets is no want of memory
+pub not_wanting : {X : Type 0} (octets : List ℕ) (fault : PacFault) (result : Result X PacFault) → IsOctets octets → Some fault ≡ result_err (value_in octets) → result ≡ Err fault
+    → result ≡ Err Memory → ⊥
+not_wanting octets fault result fits e is wants = no_wants octets fits (err_by (value_in octets) Memory (ap (λ f. Some f) (sym (err_same (sym is ∙ wants))) ∙ e))
+  where
+    err_same : {X : Type 0} {a b : PacFault} → (let r : PacFault → Result X PacFault = λ z. Err z in r a ≡ r b) → a ≡ b
+    err_same h = cc
+
 pub owned : {M : Type 0} (octets : List ℕ) (count : ℕ) (from : List ℕ) (result : Result (List PacRecord) M) → octet_in octets ≡ Some (count, from) → IsOk (value_in octets)
     → IfOk result (λ records. list_of (records_in octets count from) ≡ Ok records) → IfOk result (λ records. value_in octets ≡ Ok records)
 owned octets count from (Ok records) first ok h = value_is octets count from records first ok h

@@ -94,10 +94,10 @@ pub record IsTrailing (place : ℕ) (octets : List ℕ) : Type 0 where
   pub parts : octets ≡ value records ++ rest
   pub at : place ≡ length (value records)
 
--- this is what is wrong with the octets; only a value is refused for want of memory
+-- this is what is wrong with the octets; only a value that has a record is refused for want of memory
 abbrev pub IsFault : PacFault → List ℕ → Type 0
 IsFault TooLong octets = greatest_value < length octets
 IsFault (Short place) octets = (length octets ≤ greatest_value) × IsShort place octets
 IsFault (Ltv place bad) octets = (length octets ≤ greatest_value) × IsNoList place bad octets
 IsFault (Trailing place) octets = (length octets ≤ greatest_value) × IsTrailing place octets
-IsFault Memory octets = (records : List PacRecord) × PacIs records octets
+IsFault Memory octets = (records : List PacRecord) × PacIs records octets × (0 < length records)

@@ -1,9 +1,10 @@
-ghost use Rattle.std.specs.Prelude.{◌≡◌, ◌≤◌, List, length, IfOk, IfErr, IsOk, Ok};
+ghost use Rattle.std.specs.Prelude.{◌≡◌, ◌<◌, ◌≤◌, List, length, get_or, IfOk, IfErr, IsOk, OnErr, Ok, Err};
 ghost use Rattle.std.specs.Result.{result_err};
 ghost use Rattle.pacs_records.specs.Layout.{PacIs};
 ghost use Rattle.pacs_records.specs.Faults.{IsFault};
 ghost use Rattle.bcast_base.specs.Tries.{Answers, Reads};
 ghost use Rattle.pacs_records.specs.Reading.{told, codec_in, run_in, record_in, records_in, list_of, rest_of, value_in};
+ghost use Rattle.pacs_records.specs.declared.fault.PacFault.TheVariants.{Memory as NoMemory};
 ghost use Rattle.pacs_records.specs.declared.record.PacRecord.{PacRecord};
 
 use crate::fault::PacFault;
@@ -29,7 +30,7 @@ struct LentRecord<'a> {
 ///
 /// TooLong comes first, where there are more than 512 octets. Else it is the first fault from the left: Short where a
 /// field is not whole, Ltv where the capabilities of LC3 or the metadata are no LTV list, Trailing where octets follow
-/// the last record. Want of memory comes only for octets that are a value.
+/// the last record. Want of memory comes only for octets that are a value. No records take none.
 pub fn decode_pacs(alloc: Global, from: &[u8]) -> Result<Records, PacFault>
     ensures exact { Answers told result (value_in from.now) }
     ensures value { IfOk result (λ records. PacIs records from.now) }
@@ -41,7 +42,8 @@ pub fn decode_pacs(alloc: Global, from: &[u8]) -> Result<Records, PacFault>
 
 // The list of the records.
 fn decode_records(alloc: Global, from: &[u8]) -> Result<Records, PacFault>
-    ensures { Answers told result (value_in from.now) }
+    ensures exact { Answers told result (value_in from.now) }
+    ensures memory { result ≡ Err NoMemory → 0 < get_or from.now 0 0 }
 {
     check_value(from)?;
     let list = own_value(alloc, from)?;
@@ -85,7 +87,8 @@ fn records_end<'a>(whole: &[u8], from: &'a [u8], count: u8) -> Result<&'a [u8], 
 // The records of octets that are a value, in memory of their own.
 fn own_value(alloc: Global, from: &[u8]) -> Result<Items<PacRecord>, Memory>
     requires { IsOk (value_in from.now) }
-    ensures { IfOk result (λ records. value_in from.now ≡ Ok records) }
+    ensures ok { IfOk result (λ records. value_in from.now ≡ Ok records) }
+    ensures err { OnErr result (0 < get_or from.now 0 0) }
 {
     let Some((count, rest)) = octet_at(from) else {
         unreachable!()
@@ -102,7 +105,8 @@ fn own_records(
 ) -> Result<Items<PacRecord>, Memory>
     requires within { length from.now ≤ length whole.now }
     requires read { IsOk (records_in whole.now count from.now) }
-    ensures { IfOk result (λ records. list_of (records_in whole.now count from.now) ≡ Ok records) }
+    ensures ok { IfOk result (λ records. list_of (records_in whole.now count from.now) ≡ Ok records) }
+    ensures err { OnErr result (0 < count) }
 {
     let mut records = Items::new(alloc);
     let mut rest = from;

@@ -17,6 +17,6 @@ loop-preserved c =
     (goes_on c.args.whole.now c.loop.records c.args.count c.loop.counter c.loop.rest.now lent c.in-Ok.after.now (records_in c.args.whole.now c.args.count c.args.from.now)
     c.loop-test.true c.in-Ok.ensures.exact c.in-Ok.ensures.within c.loop.invariant)
 
-pub returns : goal.returns
-returns c =
+pub returns-clause-ok : goal.returns-clause-ok
+returns-clause-ok c =
     list_done c.args.whole.now c.loop.records c.args.count c.loop.counter c.loop.rest.now (records_in c.args.whole.now c.args.count c.args.from.now) c.loop-test.false c.loop.invariant

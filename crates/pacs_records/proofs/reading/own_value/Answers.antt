@@ -7,5 +7,5 @@ unreachable-requires c = has_count c.args.from.now c.requires c.in_default.ensur
 pub own_records-requires-clause-read : goal.own_records-requires-clause-read
 own_records-requires-clause-read c = records_ok c.args.from.now c.in-Some.count c.in-Some.rest.now c.in-Some.ensures c.requires
 
-pub returns : goal.returns
-returns c = owned c.args.from.now c.in-Some.count c.in-Some.rest.now c.own_records.result c.in-Some.ensures c.requires c.own_records.ensures
+pub returns-clause-ok : goal.returns-clause-ok
+returns-clause-ok c = owned c.args.from.now c.in-Some.count c.in-Some.rest.now c.own_records.result c.in-Some.ensures c.requires c.own_records.ensures.ok
