@@ -6,15 +6,19 @@ build.py           proves each crate that the program stands on and isn't proved
 build.py sum       prints the sum of all that the program is made from
 build.py record S  takes the program that `rt ci` has just built for built, where that sum is still S
 
+While `rt ci` runs in this checkout, what was proved is set aside, so nothing is built, and the status is 70. What a run of
+`rt ci` that was killed had set aside is put back first.
+
 It runs the prover by the Rattle kit's own `rt`, as `rt ci` does: each crate from nothing, over the statements of the crates
 below it, but for the search for contracts that no call can meet, which `rt ci` makes behind each proof and `rt lib` doesn't: it
-changes no proof, and takes nearly a fifth of the time. It differs from `rt lib` in two things. A crate that was proved is known by its own files and by what the prover reads
-of the crates below, their libraries as they were built: so a change that changes no library, as one of a comment, proves
-one crate again and not all above it. And each sum is taken once; `rt lib` takes a crate's sum anew for each way in which
-another crate reaches it, which are 65,000 from the top. It was made for the kit whose logic is dac8208d650f15bf; where the
-kit's `rt` lacks what it calls, it says so and calls plain `rt`, crate by crate.
+changes no proof, and takes nearly a fifth of the time. It differs from `rt lib` in two things. A crate that was proved is known
+by its own files and by what the prover reads of the crates below, their libraries as they were built: so a change that changes
+no library, as one of a comment, proves one crate again and not all above it. And each sum is taken once; `rt lib` takes a
+crate's sum anew for each way in which another crate reaches it, which are 65,000 from the top. It was made for the kit whose
+logic is dac8208d650f15bf; where the kit's `rt` lacks what it calls, it says so and calls plain `rt`, crate by crate.
 """
 import contextlib
+import fcntl
 import functools
 import hashlib
 import importlib.machinery
@@ -27,28 +31,29 @@ import sys
 import tempfile
 import threading
 import time
+import types
 from concurrent.futures import FIRST_COMPLETED, ThreadPoolExecutor, wait
 
 sys.dont_write_bytecode = True
 TOP = os.path.dirname(os.path.dirname(os.path.realpath(__file__)))
 PROGRAMS = {'replay': 'replay_command', 'explain': 'explain_command'}
-WORDS = sys.argv[1:]
-NAME = WORDS.pop(0) if WORDS and WORDS[0] in PROGRAMS else 'replay'
-PROGRAM = PROGRAMS[NAME]
+USAGE = 'usage: build.py [replay | explain] [sum | record SUM]'
+# what is built: who says so, and the crate of the program
+TARGET = types.SimpleNamespace(name='replay', program=PROGRAMS['replay'])
 PARTS = ('src', 'specs', 'proofs')
 
 
 def say(text):
-    print(f'{NAME}: {text}', file=sys.stderr, flush=True)
+    print(f'{TARGET.name}: {text}', file=sys.stderr, flush=True)
 
 
 def program_file():
-    return f'{TOP}/crates/{PROGRAM}/out/{PROGRAM}'
+    return f'{TOP}/crates/{TARGET.program}/out/{TARGET.program}'
 
 
 def built_file():
     """Has the sum of what the program was built of."""
-    return f'{TOP}/crates/{PROGRAM}/out/built'
+    return f'{TOP}/crates/{TARGET.program}/out/built'
 
 
 def text_of(path):
@@ -97,6 +102,43 @@ def add_files(total, folder, inside):
                     total.update(hashlib.blake2b(file.read()).digest())
 
 
+def git_folder():
+    """Where git keeps the state of this checkout: a worktree has a file that names it."""
+    named = text_of(f'{TOP}/.git')
+    return os.path.join(TOP, named.strip().removeprefix('gitdir: ')) if named else f'{TOP}/.git'
+
+
+def is_tested():
+    """Whether `rt ci` runs in this checkout. It holds a lock until it ends, however it ends."""
+    with contextlib.suppress(OSError), open(f'{git_folder()}/rt-ci.lock', 'rb') as lock:
+        try:
+            fcntl.flock(lock, fcntl.LOCK_SH | fcntl.LOCK_NB)
+        except BlockingIOError:
+            return True
+    return False
+
+
+def stop_where_tested():
+    """Ends with 70 while `rt ci` runs here."""
+    if is_tested():
+        say('a test run (.ci/run or rt ci) is under way in this checkout and has set aside what was proved: run this again when it ended')
+        sys.exit(70)
+
+
+def put_back(rt):
+    """Puts back what a run of `rt ci` that was killed had set aside, as the next one would, and the program too."""
+    aside = f'{git_folder()}/rt-aside'
+    if not os.path.isdir(aside):
+        return
+    for program in PROGRAMS.values():
+        if os.path.isfile(f'{aside}/{program}/{program}'):
+            os.makedirs(f'{TOP}/crates/{program}/out', exist_ok=True)
+            for name in (program, 'proved', 'built'):
+                with contextlib.suppress(FileNotFoundError):
+                    shutil.move(f'{aside}/{program}/{name}', f'{TOP}/crates/{program}/out/{name}')
+    rt.put_back(TOP, aside, was_killed=True)
+
+
 def kit():
     """The first `rt` on the path, and the logic of its kit as it names it."""
     found = shutil.which('rt')
@@ -135,7 +177,7 @@ class Kept:
     def of_program(self):
         """The sum of all that the program is made from, without what was made on the way."""
         total = hashlib.sha256()
-        for it in in_order(self.below, PROGRAM):
+        for it in in_order(self.below, TARGET.program):
             total.update(self.of_files(it).digest())
         return total.hexdigest()
 
@@ -171,7 +213,8 @@ def load(path):
         # what `rt` reads here of the prover's flags is whether it has that of the search for contracts that no call can meet
         help_of = lib.help_of
         lib.help_of = lambda verb: help_of(verb).replace('--empty-contracts', '')
-        calls = crate.build_rlib, crate.words, crate.prove, crate.link, lib.crates_below, lib.lock, rt.need, rt.free, rt.processors
+        calls = (crate.build_rlib, crate.words, crate.prove, crate.link, lib.crates_below, lib.lock, rt.need, rt.free, rt.processors,
+                 rt.put_back)
         lib.guarded()
     except (AttributeError, SystemExit):
         return None
@@ -295,10 +338,10 @@ def build_plainly(order):
     say("this kit's rt is not the one that tools/build.py was made for: plain rt proves crate by crate, the last of them for long")
     for name in order:
         say(f'proving {name}')
-        words = ['rt', 'run' if name == PROGRAM else 'lib', '--jobs', str(os.cpu_count())]
+        words = ['rt', 'run' if name == TARGET.program else 'lib', '--jobs', str(os.cpu_count())]
         ran = subprocess.run(words, cwd=f'{TOP}/crates/{name}', stdin=subprocess.DEVNULL, stdout=subprocess.PIPE,
                              stderr=subprocess.STDOUT, errors='replace', check=False)
-        if ran.returncode and name != PROGRAM:
+        if ran.returncode and name != TARGET.program:
             print('\n'.join(ran.stdout.splitlines()[-20:]), file=sys.stderr)
             return False
     return os.path.isfile(program_file())
@@ -308,6 +351,7 @@ def build_by_lanes(rt, order, kept):
     crates = [it for it in rt.rtlib.crates_below(TOP) if it.name in order]
     held = rt.rtlib.lock(crates)
     try:
+        put_back(rt)
         return Lanes(rt, sorted(crates, key=lambda it: len(it.below())), kept).run()
     finally:
         for it in held:
@@ -317,7 +361,7 @@ def build_by_lanes(rt, order, kept):
 def build():
     path, version = kit()
     below, lines = listed()
-    kept, order, begun = Kept(lines, below, version), in_order(below, PROGRAM), time.monotonic()
+    kept, order, begun = Kept(lines, below, version), in_order(below, TARGET.program), time.monotonic()
     whole = kept.of_program()
     if os.path.isfile(program_file()) and text_of(built_file()) == whole:
         os.utime(built_file())
@@ -336,19 +380,29 @@ def build():
 
 
 def main(words):
+    if words in (['-h'], ['--help']):
+        print(USAGE)
+        return 0
+    if words and words[0] in PROGRAMS:
+        TARGET.name, TARGET.program = words[0], PROGRAMS[words[0]]
+        words = words[1:]
     if not words:
+        stop_where_tested()
         return 0 if build() else 70
-    path, version = kit()
+    if words != ['sum'] and (len(words) != 2 or words[0] != 'record'):
+        print(USAGE, file=sys.stderr)
+        return 2
+    _, version = kit()
     below, lines = listed()
     whole = Kept(lines, below, version).of_program()
     if words == ['sum']:
         print(whole)
         return 0
-    if words == ['record', whole] and os.path.isfile(program_file()):
-        write(built_file(), whole)
-        return 0
-    return 2
+    if words[1] != whole or not os.path.isfile(program_file()):
+        return 2
+    write(built_file(), whole)
+    return 0
 
 
 if __name__ == '__main__':
-    sys.exit(main(WORDS))
+    sys.exit(main(sys.argv[1:]))
