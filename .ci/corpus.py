@@ -7,6 +7,7 @@ import sys
 
 sys.dont_write_bytecode = True
 sys.path.insert(0, os.path.dirname(os.path.abspath(__file__)))
+import given  # noqa: E402
 import scenarios  # noqa: E402
 
 
@@ -26,7 +27,7 @@ def difference(program, scenario, environment=None):
 
 
 def main():
-    program = os.path.abspath(sys.argv[1])
+    [program] = given.programs('PROGRAM')
     found = list(scenarios.corpus())
     failed = 0
     with concurrent.futures.ThreadPoolExecutor(os.cpu_count()) as pool:

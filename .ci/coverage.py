@@ -36,6 +36,9 @@ def write(table):
 
 
 def main():
+    if set(sys.argv[1:]) - {'--all', '--write'}:
+        print('usage: coverage.py [--all] [--write]', file=sys.stderr)
+        return 2
     counts, number = collections.Counter(), 0
     for _, scenario in scenarios.everything():
         number += 1

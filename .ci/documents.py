@@ -4,8 +4,13 @@
 Each document has what is written: the transcript of the lines that it stands for, or the line of its refusal. The first table has whole
 documents, for the forms of TOML and those of the language. The second has the keys of a document that has them all, each of which is
 left out, written twice, of each other type, and of a value that fits no place: that shows which word of which line it becomes."""
+import os
 import subprocess
 import sys
+
+sys.dont_write_bytecode = True
+sys.path.insert(0, os.path.dirname(os.path.abspath(__file__)))
+import given  # noqa: E402
 
 NO_TOML = 'line 0: BadToml\n'
 NO_FORM = 'line 0: BadDocument\n'
@@ -302,6 +307,7 @@ def differs(document, written):
 
 
 def main():
+    given.programs('PROGRAM')
     documents = FORMS + [('all keys', spelled(TABLES), ALL)] + list(changed_keys()) + list(changed_tables())
     failed = [name for name, document, written in documents if differs(document, written)]
     for name in failed:

@@ -8,6 +8,10 @@ import os
 import subprocess
 import sys
 
+sys.dont_write_bytecode = True
+sys.path.insert(0, os.path.dirname(os.path.abspath(__file__)))
+import given  # noqa: E402
+
 USAGE = b'usage: replay [--migrate | --toml | --seed N --events M]\n'
 UNIT = b'scenario 1\ngroup unframed 20000 40000 8 10000 4 4 1 1 1 1 0 0 0 1\nsink 0 1 1\nstart 0\ntuned 0 1\nunit 1 - 0a\nevent\nhear 0 0 1 0\nend\n'
 HEARD = b'unit 0 1 at 60060 valid 1 0a\nsum 0 1 1\n'
@@ -60,6 +64,7 @@ def differences():
 
 
 def main():
+    given.programs('PROGRAM')
     tried = list(differences())
     failed = [name for name, differs in tried if differs]
     for name in failed:

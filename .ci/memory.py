@@ -9,7 +9,10 @@ import os
 import sys
 import tempfile
 
-sys.path.insert(0, os.path.join(os.path.dirname(os.path.abspath(__file__)), '..', 'bench'))
+sys.dont_write_bytecode = True
+HERE = os.path.dirname(os.path.abspath(__file__))
+sys.path[:0] = [HERE, os.path.join(HERE, '..', 'bench')]
+import given  # noqa: E402
 from allocations import Allocator  # noqa: E402
 
 TIMES = [10, 300]
@@ -83,9 +86,9 @@ def differences(allocator):
 
 
 def main():
-    failed = 0
+    [program], failed = given.programs('PROGRAM'), 0
     with tempfile.TemporaryDirectory() as folder:
-        allocator = Allocator(sys.argv[1], folder)
+        allocator = Allocator(program, folder)
         for name, counts in differences(allocator):
             if counts[1] != counts[0]:
                 failed += 1

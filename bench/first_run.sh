@@ -4,6 +4,10 @@
 # crates, and apart what is neither the prover's nor the compiler's. Nothing that was proved before is used.
 # Then once more with nothing changed, after a file of the lowest crate was touched, and after a comment was changed there.
 set -eu
+if [ $# -gt 1 ] || [[ ${1:-} == -* ]]; then
+    echo "usage: first_run.sh [FOLDER]" >&2
+    exit 2
+fi
 top=$(cd "$(dirname "$0")/.." && pwd)
 folder=${1:-$(mktemp -d)}
 [ $# -gt 0 ] || trap 'rm -rf "$folder"' EXIT

@@ -108,7 +108,8 @@ def others(files):
 
 def main(words):
     if words not in ([], ['--check'], ['--others']):
-        sys.exit(__doc__)
+        print(__doc__, file=sys.stderr)
+        sys.exit(2)
     items, kit = reached()
     files = by_file(items)
     if words == ['--check']:

@@ -44,6 +44,10 @@ def tried(path, allocator):
 
 def main():
     stored = [os.path.join(TOP, 'examples', '*.scn'), os.path.join(CRATE, 'stdin')]
+    for path in sys.argv[1:]:
+        if not os.path.isfile(path):
+            print(f'{path} is no file; usage: want_of_memory.py [SCENARIO ..]', file=sys.stderr)
+            return 2
     paths = sys.argv[1:] or [path for pattern in stored for path in sorted(glob.glob(pattern))]
     with tempfile.TemporaryDirectory() as folder:
         allocator = Allocator(PROGRAM, folder)
