@@ -130,13 +130,18 @@ def put_back(rt):
     aside = f'{git_folder()}/rt-aside'
     if not os.path.isdir(aside):
         return
-    for program in PROGRAMS.values():
-        if os.path.isfile(f'{aside}/{program}/{program}'):
-            os.makedirs(f'{TOP}/crates/{program}/out', exist_ok=True)
-            for name in (program, 'proved', 'built'):
-                with contextlib.suppress(FileNotFoundError):
-                    shutil.move(f'{aside}/{program}/{name}', f'{TOP}/crates/{program}/out/{name}')
-    rt.put_back(TOP, aside, was_killed=True)
+    with open(f'{git_folder()}/rt-ci.lock', 'w', encoding='utf-8') as lock:
+        fcntl.flock(lock, fcntl.LOCK_EX)
+        if not os.path.isdir(aside):
+            return
+        for program in PROGRAMS.values():
+            if os.path.isfile(f'{aside}/{program}/{program}'):
+                os.makedirs(f'{TOP}/crates/{program}/out', exist_ok=True)
+                for name in (program, 'proved', 'built'):
+                    with contextlib.suppress(FileNotFoundError):
+                        shutil.move(f'{aside}/{program}/{name}', f'{TOP}/crates/{program}/out/{name}')
+        rt.put_back(TOP, aside, was_killed=True)
+        say('put back what a test run that was killed had set aside')
 
 
 def kit():
@@ -351,7 +356,6 @@ def build_by_lanes(rt, order, kept):
     crates = [it for it in rt.rtlib.crates_below(TOP) if it.name in order]
     held = rt.rtlib.lock(crates)
     try:
-        put_back(rt)
         return Lanes(rt, sorted(crates, key=lambda it: len(it.below())), kept).run()
     finally:
         for it in held:
@@ -360,13 +364,15 @@ def build_by_lanes(rt, order, kept):
 
 def build():
     path, version = kit()
+    rt = load(path)
+    if rt:
+        put_back(rt)
     below, lines = listed()
     kept, order, begun = Kept(lines, below, version), in_order(below, TARGET.program), time.monotonic()
     whole = kept.of_program()
     if os.path.isfile(program_file()) and text_of(built_file()) == whole:
         os.utime(built_file())
         return True
-    rt = load(path)
     try:
         is_well = build_by_lanes(rt, order, kept) if rt else build_plainly(order)
     except (AttributeError, TypeError):
