@@ -1,24 +1,34 @@
--- When memory may be wanted: the octets are an operation, or what a train announces as BASE is one.
-use Rattle.std.proofs.Common.{ℕ, ◌≡◌, Bool, true, false, List, length, Option, Some, None, Result, Ok, Err, refl, ap, ◌∙◌}
-use Rattle.std.specs.Prelude.{◌==◌, is_none, if◌then◌else◌, IsOk, OnErr}
+-- When memory may be wanted: for an operation that keeps something, or what a train announces as BASE is one.
+use Rattle.std.proofs.Common.{ℕ, ◌≡◌, ◌<◌, Bool, true, false, List, length, Option, Some, None, Result, Ok, Err, refl, ap, arith, ◌∙◌}
+use Rattle.std.specs.Prelude.{◌==◌, ◌||◌, nat_lt, is_none, if◌then◌else◌, IsOk, OnErr}
+use Rattle.std.proofs.lemmas.Bool.{lt-ltb}
 use Rattle.base_grammar.specs.declared.fault.BaseFault.{BaseFault}
 use Rattle.base_grammar.specs.Layout.{Endpoint}
 use Rattle.base_grammar.specs.Reading.{base_of}
 use Rattle.bass_operations.specs.declared.fault.OpFault.{OpFault}
 use Rattle.bass_operations.specs.declared.fault.OpFault.TheVariants as faults
 use Rattle.bass_operations.specs.declared.operation.Operation.{Operation}
+use Rattle.bass_operations.specs.declared.operation.Operation.TheVariants.{ScanStopped, ScanStarted, Add, Modify, Code, Remove}
 use Rattle.bass_operations.specs.declared.wishes.Wish.{Wish}
-use Rattle.bass_operations.specs.Reading.{told}
+use Rattle.bass_operations.specs.Faults.{IsFault}
+use Rattle.bass_operations.specs.Layout.{OpIs, wishes_of}
+use Rattle.bass_operations.specs.Reading.{op_of}
 use Rattle.big_info.specs.declared.big_fault.BigFault.{BigFault}
 use Rattle.big_info.specs.declared.fault.GroupFault.{GroupFault}
 use Rattle.big_info.specs.declared.info.BigInfo.{BigInfo}
 use Rattle.big_info.specs.Reading.{info_of}
 use Rattle.big_info.specs.Rows.{first_fault}
+use Rattle.bcast_base.specs.declared.memory.Memory.{Memory}
 use Rattle.bcast_base.specs.Tries.{Finds}
 use Rattle.pacs_records.specs.declared.capability.Capability.{Capability}
 use Rattle.delegator_history.specs.Trains.{Setup, Train, Brought, are_none, big_info_in, by_base, by_big_info, by_endpoint, by_group, by_info, first_candidates}
-use Rattle.delegator_history.specs.Writes.{cause_of_fault}
+use Rattle.delegator_history.specs.declared.replies.Cause.{Cause}
+use Rattle.delegator_history.specs.declared.replies.Reply.{Reply}
+use Rattle.delegator_history.specs.Sights.{Sight}
+use Rattle.delegator_history.specs.Writes.{cause_of_fault, cause_read}
 use Rattle.delegator_control.specs.Following.{has_base}
+use Rattle.delegator_control.specs.Serving.{Serves, has_value, wants_for, wants_memory}
+use Rattle.delegator_control.specs.State.Machines.{Machine}
 
 pub on_any_err : {T E P : Type 0} (result : Result T E) → P → OnErr result P
 on_any_err (Ok x) p = tt
@@ -30,13 +40,33 @@ pub is_read : {Y E : Type 0} (fault : Option E) (read : Result Y E) → is_none 
 is_read None read none finds = finds
 is_read (Some fault) read none finds = absurd cc
 
-pub op_read : (fault : OpFault) (read : Result Operation OpFault) → cause_of_fault fault ≡ None → Finds (told fault) read → IsOk read
-op_read faults.Empty read none finds = absurd cc
-op_read faults.Opcode read none finds = absurd cc
-op_read faults.Length read none finds = absurd cc
-op_read (faults.Rfu place) read none finds = absurd cc
-op_read (faults.BisTwice bis) read none finds = absurd cc
-op_read faults.Memory read none finds = finds
+some_kept : (count : ℕ) → 0 < count → (b : Bool) → (nat_lt 0 count || b) ≡ true
+some_kept count some b = ap (λ any. any || b) (lt-ltb 0 count some)
+
+op_kept : (op : Operation) (cause : Option Cause) → 0 < length (wishes_of op) → wants_for op cause ≡ true
+op_kept ScanStopped cause some = absurd omega (arith, some)
+op_kept ScanStarted cause some = absurd omega (arith, some)
+op_kept (Add add) cause some = some_kept (length add.wishes) some (has_value cause)
+op_kept (Modify modify) cause some = some_kept (length modify.wishes) some (has_value cause)
+op_kept (Code source_id code) cause some = absurd omega (arith, some)
+op_kept (Remove source_id) cause some = absurd omega (arith, some)
+
+-- memory is wanted for an operation that is read where one of its subgroups is kept
+pub fault_wants : (fault : OpFault) (octets : List ℕ) (sight : Sight) → cause_of_fault fault ≡ None → IsFault fault octets
+    → ((op : Operation) → OpIs op octets → op_of octets ≡ Ok op) → wants_memory sight (op_of octets) ≡ true
+fault_wants faults.Empty octets sight none is reads = absurd cc
+fault_wants faults.Opcode octets sight none is reads = absurd cc
+fault_wants faults.Length octets sight none is reads = absurd cc
+fault_wants (faults.Rfu place) octets sight none is reads = absurd cc
+fault_wants (faults.BisTwice bis) octets sight none is reads = absurd cc
+fault_wants faults.Memory octets sight none (op, laid, some) reads =
+    ap (wants_memory sight) (reads op laid) ∙ op_kept op (cause_read sight (Ok op)) some
+
+-- what an operation wants that is served
+pub served_wants : (op : Operation) (octets : List ℕ) (before after : Machine) (result : Result Reply Memory) → op_of octets ≡ Ok op → Serves op before after result
+    → OnErr result (wants_memory before.sight (op_of octets) ≡ true)
+served_wants op octets before after (Ok reply) read serves = tt
+served_wants op octets before after (Err memory) read serves = ap (wants_memory before.sight) read ∙ serves.1
 
 -- ---- the stages behind the BASE
 

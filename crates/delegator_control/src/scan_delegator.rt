@@ -1,12 +1,12 @@
-ghost use Rattle.std.specs.Prelude.{◌≡◌, ◌≤◌, ◌<◌, vec_len, option_map, replicate, slice_get, None, Option};
-ghost use Rattle.std.specs.Prelude.{IfOk, IsOk, IsSome, OnOk, OnErr};
+ghost use Rattle.std.specs.Prelude.{◌≡◌, ◌≤◌, ◌<◌, vec_len, option_map, replicate, slice_get, None, Option, true};
+ghost use Rattle.std.specs.Prelude.{IfOk, IsSome, OnOk, OnErr};
 ghost use Rattle.delegator_history.specs.Notices.{handed_out};
 ghost use Rattle.delegator_control.specs.State.Places.{IsWithin};
 
 use crate::control::{heard_control, leaves};
 use crate::place::{Move, Place, SinkIdle, join, make_move};
 use crate::values::{note_standing, status_after, value_as};
-use bass_operations::decode_operation;
+use bass_operations::{decode_operation, read_is_operation};
 use bcast_base::{Memory, Octets};
 use big_info::Limits;
 use delegator_choices::{Slot, cause_of, refused};
@@ -42,6 +42,7 @@ impl ScanDelegator {
     ghost use Rattle.delegator_history.specs.Controls.{control_heard, done_by_control};
     ghost use Rattle.delegator_history.specs.Values.{value_at};
     ghost use Rattle.delegator_history.specs.Writes.{reply_of, done_by_write};
+    ghost use Rattle.delegator_control.specs.Serving.{wants_memory};
     ghost use Rattle.delegator_control.specs.State.Places.{place_by, place_of};
     ghost use Rattle.delegator_control.specs.State.Machines.{gone, machine, moved, step_on, StandsFor};
 
@@ -89,13 +90,14 @@ impl ScanDelegator {
     }
 
     /// Serves a write to the control point (Broadcast Audio Scan Service 1.0, section 3.1.1). The reply is the first cause
-    /// that holds, or that it is accepted; a refused write changes nothing. Memory is wanted only for octets that are an
-    /// operation; the sink is then as before.
+    /// that holds, or that it is accepted; a refused write changes nothing. Memory is wanted only for the subgroups of an Add or a Modify
+    /// Source, for the value of its slot, which is made before it is found too long, and for the notice of a Remove Source that
+    /// is accepted; the sink is then as before.
     pub fn serve(&mut self, write: &[u8]) -> Result<Reply, Memory>
         ensures answer { IfOk result (λ reply. reply ≡ reply_of (machine self.old).sight write.now) }
         ensures step { OnOk result (machine self.new ≡ moved (done_by_write (machine self.old).sight write.now) (machine self.old)) }
         ensures err { OnErr result (machine self.new ≡ machine self.old) }
-        ensures memory { OnErr result (IsOk (op_of write.now)) }
+        ensures memory { OnErr result (wants_memory (machine self.old).sight (op_of write.now) ≡ true) }
         ensures stands { OnOk result ((steps : List Step) → StandsFor steps (machine self.old)
             → StandsFor (written write.now ∷ steps) (machine self.new)) }
     {
@@ -166,8 +168,9 @@ impl ScanDelegator {
         ensures answer { IfOk result (λ reply. reply ≡ reply_of (machine self.old).sight write.now) }
         ensures step { OnOk result (machine self.new ≡ moved (done_by_write (machine self.old).sight write.now) (machine self.old)) }
         ensures err { OnErr result (machine self.new ≡ machine self.old) }
-        ensures memory { OnErr result (IsOk (op_of write.now)) }
+        ensures memory { OnErr result (wants_memory (machine self.old).sight (op_of write.now) ≡ true) }
     {
+        read_is_operation();
         match decode_operation(self.alloc, write) {
             Ok(op) => self.operate(op),
             Err(fault) => match cause_of(fault) {

@@ -1,5 +1,5 @@
-ghost use Rattle.std.specs.Prelude.{◌≡◌, ◌+◌, ◌≤◌, ◌<◌, ◌^◌, ◌&&◌, ◌∷◌, not, List, [], option_map, slice_get};
-ghost use Rattle.std.specs.Prelude.{IfOk, IsOk, IsSome, OnOk, OnErr};
+ghost use Rattle.std.specs.Prelude.{◌≡◌, ◌+◌, ◌≤◌, ◌<◌, ◌^◌, ◌&&◌, ◌∷◌, not, List, [], option_map, slice_get, true};
+ghost use Rattle.std.specs.Prelude.{IfOk, IsSome, OnOk, OnErr};
 ghost use Rattle.bass_operations.specs.Reading.{op_of};
 ghost use Rattle.delegator_history.specs.Controls.{control_heard};
 ghost use Rattle.delegator_history.specs.Notices.{handed_out, mtu_in, waiting};
@@ -14,6 +14,7 @@ ghost use Rattle.group_sink.specs.Hearings.{hearing_of};
 ghost use Rattle.group_sink.specs.State.Sinks.{StandsFor as SinkStands};
 ghost use Rattle.unit_outlets.specs.Handed.{HandsOver, Caused};
 ghost use Rattle.delegator_control.specs.Groups.{has_group};
+ghost use Rattle.delegator_control.specs.Serving.{wants_memory};
 ghost use Rattle.delegator_control.specs.State.Machines.{step_on};
 ghost use Rattle.delegator_machine.specs.Calls.{Call, control, hear, steps_of, tick};
 ghost use Rattle.delegator_machine.specs.Groups.{group_calls, with_leave};
@@ -132,8 +133,9 @@ impl Delegator {
     }
 
     /// Serves a write to the control point (Broadcast Audio Scan Service 1.0, section 3.1.1). The reply is the first cause that
-    /// holds, or that it is accepted; a refused write changes nothing. Memory is wanted only for octets that are an operation;
-    /// all is then as before.
+    /// holds, or that it is accepted; a refused write changes nothing. Memory is wanted only for the subgroups of an Add or a
+    /// Modify Source, for the value of its slot, which is made before it is found too long, and for the notice of a Remove
+    /// Source that is accepted; all is then as before.
     pub fn serve(&mut self, write: &[u8]) -> Result<Reply, Memory>
         ensures answer { (setup : Setup) (calls : List Call) → StandsFor setup calls self.old
             → IfOk result (λ reply. reply ≡ reply_of (sight_of setup (steps_of calls)) write.now) }
@@ -141,7 +143,8 @@ impl Delegator {
             → OnOk result (StandsFor setup (control (written write.now) ∷ calls) self.new) }
         ensures settings { settings_of self.new ≡ settings_of self.old }
         ensures err { OnErr result (self.new ≡ self.old) }
-        ensures memory { OnErr result (IsOk (op_of write.now)) }
+        ensures memory { (setup : Setup) (calls : List Call) → StandsFor setup calls self.old
+            → OnErr result (wants_memory (sight_of setup (steps_of calls)) (op_of write.now) ≡ true) }
     {
         let was_on_group = self.scan.is_on_group();
         let reply = self.scan.serve(write)?;

@@ -1,5 +1,6 @@
-use Rattle.std.proofs.Common.{ℕ, ◌≡◌, ◌<◌, ◌++◌, ◌∙◌, set, ap, sym, subst, refl, Option, Some, None, true}
-use Rattle.std.specs.Prelude.{IfSome}
+use Rattle.std.proofs.Common.{ℕ, ◌≡◌, ◌<◌, ◌++◌, ◌∙◌, set, ap, sym, subst, refl, Option, Some, None, true, false}
+use Rattle.std.specs.Prelude.{IfSome, is_none}
+use Rattle.std.proofs.lemmas.Result.{err_from_is_err_and}
 use Rattle.bass_operations.specs.declared.operation.Operation.TheVariants.{Remove}
 use Rattle.delegator_history.specs.declared.replies.Cause.TheVariants as causes
 use Rattle.delegator_history.specs.Writes.{slot_with}
@@ -35,3 +36,12 @@ returns c =
     (ap (λ k. set m.sight.slots k None) c.from.ensures)
     (c.in_ok-put_notice.ensures.ok ∙ ap (λ notices. m.waiting ++ notices)
     (ap (one c.in-Some.slot) c.new.ensures ∙ sym (emptied c.in-Some.slot (status_at c.in-Some.slot m.sight) _ held.0 held.1)))
+
+pub returns-in_err-put_notice : goal.returns-in_err-put_notice
+returns-in_err-put_notice c =
+    let m : Machine = machine c.args.self.now in
+    let found : slot_with c.args.source_id m.sight.slots ≡ Some c.in-Some.slot = sym c.find_slot-found.ensures.first ∙ c.in-Some.is in
+    let held = held_slot c.args.source_id m.sight.slots c.in-Some.slot found in
+    let p = err_from_is_err_and c.from_residual.result c.from_residual.ensures.1 in
+    let none = remove_synced m.sight c.args.source_id c.in-Some.slot held.0 false found held.1 (sym c.is_on.ensures ∙ c.if-is_on.false) in
+    rw p.1 (ap (λ waiting. record m { waiting = waiting }) c.in_err-put_notice.ensures.err, ap is_none none)

@@ -1,8 +1,6 @@
-use Rattle.std.proofs.Common.{◌∙◌, ap, sym}
-use Rattle.std.specs.Prelude.{is_ok}
-use Rattle.bass_operations.specs.Reading.{op_of}
+use Rattle.std.proofs.Common.{◌∙◌, arith, sym}
 use Rattle.delegator_control.specs.State.Machines.{machine}
-use Rattle.delegator_control.proofs.Wanting.{on_any_err, op_read}
+use Rattle.delegator_control.proofs.Wanting.{fault_wants, served_wants}
 use Rattle.delegator_control.proofs.Written.{fault_step}
 use Rattle.delegator_control.proofs.scan_delegator.ScanDelegator.serve_write.Goals as goal
 
@@ -11,7 +9,10 @@ returns-in-Some-clause-step c =
     fault_step (machine c.args.self.now) c.args.write.now c.in-Err.fault c.in-Some.cause c.in-Err.ensures.exact (sym c.cause_of.ensures ∙ c.in-Some.is)
 
 pub returns-in-Ok-clause-memory : goal.returns-in-Ok-clause-memory
-returns-in-Ok-clause-memory c = on_any_err c.operate.result (ap is_ok c.in-Ok.ensures.exact)
+returns-in-Ok-clause-memory c =
+    served_wants c.in-Ok.op c.args.write.now (machine c.args.self.now) (machine c.operate.new.self) c.operate.result c.in-Ok.ensures.exact c.operate.ensures
 
 pub returns-in-None-clause-memory : goal.returns-in-None-clause-memory
-returns-in-None-clause-memory c = op_read c.in-Err.fault (op_of c.args.write.now) (sym c.cause_of.ensures ∙ c.in-None.is) c.in-Err.ensures.exact
+returns-in-None-clause-memory c =
+    fault_wants c.in-Err.fault c.args.write.now (machine c.args.self.now).sight (sym c.cause_of.ensures ∙ c.in-None.is) c.in-Err.ensures.fault
+    (λ op laid. (c.read_is_operation.ensures op c.args.write.now (λ i. omega (arith, c.type_inv.write i))).1 laid)

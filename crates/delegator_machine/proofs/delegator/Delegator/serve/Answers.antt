@@ -1,9 +1,12 @@
-use Rattle.std.proofs.Common.{refl, sym, ap, subst}
+use Rattle.std.proofs.Common.{refl, sym, ◌∙◌, ap, subst}
+use Rattle.bass_operations.specs.Reading.{op_of}
 use Rattle.delegator_history.specs.States.{written}
+use Rattle.delegator_control.specs.Serving.{wants_memory}
 use Rattle.delegator_control.specs.State.Machines.{Machine, machine}
+use Rattle.delegator_control.proofs.Wanting.{on_any_err}
 use Rattle.delegator_machine.specs.Calls.{steps_of}
 use Rattle.delegator_machine.specs.State.Halves.{Halves, StandsFor}
-use Rattle.delegator_machine.proofs.Standing.{stands_settled}
+use Rattle.delegator_machine.proofs.Standing.{sight_is, stands_settled}
 use Rattle.delegator_machine.proofs.delegator.Delegator.serve.Goals as goal
 
 pub returns-clause-stands : goal.returns-clause-stands
@@ -13,3 +16,10 @@ returns-clause-stands c setup calls stands =
     stands_settled setup (written c.args.write.now) calls old c.settle.new.self (machine c.serve.new.self) c.is_on_group-was_on_group.result
     refl (ap (λ (m : Machine). m.setup) c.in_ok-reply.ensures.step) (c.in_ok-reply.ensures.stands (steps_of calls) before.steps)
     c.is_on_group-was_on_group.ensures c.settle.ensures.scan c.settle.ensures.sink before
+
+pub returns-in_err-reply-clause-memory : goal.returns-in_err-reply-clause-memory
+returns-in_err-reply-clause-memory c setup calls stands =
+    let old : Halves = record { scan = machine c.self.inside.scan; sink = c.self.inside.sink } in
+    let before : StandsFor setup calls old = subst (StandsFor setup calls) (sym c.self.view_is) stands in
+    on_any_err c.from_residual.result
+    (ap (λ sight. wants_memory sight (op_of c.args.write.now)) (sym (sight_is setup calls old before)) ∙ c.in_err-reply.ensures.memory)
