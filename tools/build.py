@@ -141,6 +141,7 @@ def put_back(rt):
                     with contextlib.suppress(FileNotFoundError):
                         shutil.move(f'{aside}/{program}/{name}', f'{TOP}/crates/{program}/out/{name}')
         rt.put_back(TOP, aside, was_killed=True)
+        rt.clear(aside)
         say('put back what a test run that was killed had set aside')
 
 
@@ -219,7 +220,7 @@ def load(path):
         help_of = lib.help_of
         lib.help_of = lambda verb: help_of(verb).replace('--empty-contracts', '')
         calls = (crate.build_rlib, crate.words, crate.prove, crate.link, lib.crates_below, lib.lock, rt.need, rt.free, rt.processors,
-                 rt.put_back)
+                 rt.put_back, rt.clear)
         lib.guarded()
     except (AttributeError, SystemExit):
         return None
