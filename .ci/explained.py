@@ -219,7 +219,7 @@ def difference(replay, explain, text):
 def texts():
     """Where each text stands, its name, and the text."""
     for file, scenario in [*scenarios.rows(), *scenarios.examples(), *scenarios.corpus()]:
-        if scenario.boxes > 1 and not scenario.words and scenario.text:
+        if not scenario.words and scenario.text:
             yield file, scenario.name, scenario.text
 
 

@@ -1,5 +1,5 @@
 #!/usr/bin/env python3
-"""pieces.py PROGRAM: runs the built program on the examples, and on every tenth scenario of corpus/ and every tenth document of
+"""pieces.py PROGRAM: runs the built program on the examples, the worked rows, every tenth scenario of corpus/ and every tenth document of
 documents.py, over reads and writes that move at most 1, 7 and 4,096 octets a call. What is written, and the exit status, are the same
 whatever the pieces are."""
 import concurrent.futures
@@ -58,6 +58,7 @@ def every_tenth(found):
 def chosen():
     """Where each stands, and the scenario."""
     found = list(scenarios.examples())
+    found += ((f'corpus/rows/{file}', scenario) for file, scenario in scenarios.rows())
     found += every_tenth((f'corpus/{file}', scenario) for file, scenario in scenarios.corpus())
     found += every_tenth(('documents.py', Document(*form)) for form in documents.FORMS)
     return [it for it in found if len(it[1].text) <= LONGEST]

@@ -1,4 +1,4 @@
-"""Scenarios with their transcripts, from where they stand: the corpus, the worked rows of the tests, and the examples.
+"""Scenarios with their transcripts, from where they stand: the corpus, the worked rows in it, and the examples.
 
 corpus/README.md tells how a file of the corpus is written."""
 import glob
@@ -8,9 +8,6 @@ import re
 import documents
 
 TOP = os.path.dirname(os.path.dirname(os.path.abspath(__file__)))
-TESTS = os.path.join(TOP, 'crates/replay_command/src/tests')
-ROW = re.compile(r'name: "(.*)",\s+boxes: (\d+),\s+text: "(.*)",\s+transcript: "(.*)",\s+exit_code: (\d+),')
-TOO_LONG = re.compile(r'b"(line \d+: (?:TextTooLong|LineTooLong))\\n"')
 REPEATED = re.compile(r'\{([^{}]*)\*(\d+)\}')
 OCTET = re.compile(rb'\\x([0-9a-f]{2})')
 STEP = re.compile(r'(\d*)>(?: (.*))?')
@@ -34,8 +31,8 @@ class Scenario:
     with the lines of the transcript that it brings; None stands for no line at all. Those
     before `counted_from` lead to the others and stand in another scenario too."""
 
-    def __init__(self, name, steps, exit_code, words=(), boxes=8, is_whole=True, is_ended=True, counted_from=0):
-        self.name, self.steps, self.exit_code, self.words, self.boxes = name, steps, exit_code, list(words), boxes
+    def __init__(self, name, steps, exit_code, words=(), is_whole=True, is_ended=True, counted_from=0):
+        self.name, self.steps, self.exit_code, self.words = name, steps, exit_code, list(words)
         self.counted_from = counted_from
         self.text = b''.join(line + b'\n' for line, _ in steps if line is not None)
         if not is_whole:
@@ -101,10 +98,20 @@ def corpus_file(path):
                 steps[-1][1].extend([printed] * int(many[1] if many else 1))
 
 
-def corpus():
-    for path in sorted(glob.glob(os.path.join(TOP, 'corpus', '*.txt'))):
+def files_of(*folders):
+    """The scenarios of the files of a folder."""
+    for path in sorted(glob.glob(os.path.join(TOP, *folders, '*.txt'))):
         for scenario in corpus_file(path):
             yield os.path.basename(path), scenario
+
+
+def corpus():
+    return files_of('corpus')
+
+
+def rows():
+    """The worked rows."""
+    return files_of('corpus', 'rows')
 
 
 def steps_of(text, transcript):
@@ -133,18 +140,6 @@ def steps_of(text, transcript):
         here = steps[number - 1] if 0 < number <= len(steps) else steps[-1]
         here[1].extend(printed)
     return steps
-
-
-def rows():
-    """The worked rows of the tests, and the two limits of a text that the tests make line by line."""
-    for file in ('rows.rt', 'sink_rows.rt'):
-        with open(os.path.join(TESTS, file), encoding='ascii') as table:
-            for name, boxes, text, transcript, exit_code in ROW.findall(table.read()):
-                text, transcript = (it.replace('\\n', '\n').encode() for it in (text, transcript))
-                yield file, Scenario(name, steps_of(text, transcript), int(exit_code), boxes=int(boxes))
-    with open(os.path.join(TESTS, 'limits.rt'), encoding='utf-8') as table:
-        for refusal in TOO_LONG.findall(table.read()):
-            yield 'limits.rt', Scenario(refusal, [(None, [refusal.encode()])], 1)
 
 
 def examples():

@@ -221,7 +221,7 @@ def missed_in(data, unit):
 def over_all(explain):
     """Each text of the repository whose page can't be made, or has a unit that its PDUs don't bear out; and how many were tried."""
     found = [(f'{file}: {it.name}', it.text) for file, it in [*scenarios.rows(), *scenarios.examples(), *scenarios.corpus()]
-             if it.boxes > 1 and not it.words and it.text]
+             if not it.words and it.text]
 
     def tried(case):
         try:
