@@ -3,7 +3,9 @@ ghost use Rattle.std.specs.Prelude.{false, length, replicate, drop, slice_get, s
 ghost use Rattle.std.specs.Prelude.{option_to_list, Option, Some, None, List, ◌++◌, Ok, Err};
 ghost use Rattle.std.specs.Prelude.{IfOk, IfErr, IfSome, IfNone, OnSome, OnOk, OnErr};
 ghost use Rattle.bass_operations.specs.Layout.{MetadataFits, spelling, wishes_of};
+ghost use Rattle.receive_state.specs.Faults.{IsFault};
 ghost use Rattle.receive_state.specs.Reading.{state_of};
+ghost use Rattle.receive_state.specs.declared.fault.StateFault.TheVariants as state_faults;
 ghost use Rattle.bass_operations.specs.declared.operation.Operation.TheVariants as operations;
 ghost use Rattle.assistant_machine.specs.Answers.{IsCause, answer_of, by_reading};
 ghost use Rattle.assistant_machine.specs.Calls.{Call, limited, put, sent, told, all_asked, asked, read as gives};
@@ -161,10 +163,11 @@ impl AssistJoined {
     /// of the slot waits then. Else the value is the view of the slot.
     ///
     /// The first refusal that holds is answered: NoSuchSlot where the slot is not below the number of slots; BadNotice
-    /// where the octets are no value. A refused notice changes nothing.
+    /// where the octets are no value. A refused notice changes nothing. Memory is wanted only for a state that has a subgroup.
     pub fn notice(&mut self, slot: u8, value: &[u8]) -> Result<NoticeTaken, NoticeFault>
         ensures answer { IfOk result (λ taken. answer_of (length self.old.views) self.old.mtu slot value.now ≡ Ok taken) }
         ensures cause { IfErr result (λ fault. IsCause fault (answer_of (length self.old.views) self.old.mtu slot value.now)) }
+        ensures memory { result ≡ Err NoMemory → IsFault state_faults.Memory value.now }
         ensures step { result ≢ Err NoMemory → self.new ≡ after_notice slot value.now self.old }
         ensures err { OnErr result (self.new ≡ self.old) }
         ensures stands { result ≢ Err NoMemory → (slots : ℕ) (calls : List Call) → StandsFor slots calls self.old
@@ -189,10 +192,11 @@ impl AssistJoined {
     /// Takes the value that a read of a slot gave: it is the view of the slot.
     ///
     /// NoSuchSlot comes where the slot is not below the number of slots, BadNotice where the octets are no value. A refused
-    /// value changes nothing.
+    /// value changes nothing. Memory is wanted only for a state that has a subgroup.
     pub fn answer_read(&mut self, slot: u8, value: &[u8]) -> Result<(), NoticeFault>
         ensures ok { OnOk result (answer_of (length self.old.views) None slot value.now ≡ Ok View) }
         ensures cause { IfErr result (λ fault. IsCause fault (answer_of (length self.old.views) None slot value.now)) }
+        ensures memory { result ≡ Err NoMemory → IsFault state_faults.Memory value.now }
         ensures step { result ≢ Err NoMemory → self.new ≡ after_read slot value.now self.old }
         ensures err { OnErr result (self.new ≡ self.old) }
         ensures stands { result ≢ Err NoMemory → (slots : ℕ) (calls : List Call) → StandsFor slots calls self.old
@@ -227,6 +231,7 @@ impl AssistJoined {
     fn hear(&mut self, slot: u8, value: &[u8]) -> Result<NoticeTaken, NoticeFault>
         ensures answer { IfOk result (λ taken. answer_of (length self.old.views) self.old.mtu slot value.now ≡ Ok taken) }
         ensures cause { IfErr result (λ fault. IsCause fault (answer_of (length self.old.views) self.old.mtu slot value.now)) }
+        ensures memory { result ≡ Err NoMemory → IsFault state_faults.Memory value.now }
         ensures step { result ≢ Err NoMemory → self.new ≡ after_notice slot value.now self.old }
         ensures err { OnErr result (self.new ≡ self.old) }
     {
@@ -246,6 +251,7 @@ impl AssistJoined {
     fn keep(&mut self, slot: u8, value: &[u8]) -> Result<(), NoticeFault>
         ensures ok { OnOk result (answer_of (length self.old.views) None slot value.now ≡ Ok View) }
         ensures cause { IfErr result (λ fault. IsCause fault (answer_of (length self.old.views) None slot value.now)) }
+        ensures memory { result ≡ Err NoMemory → IsFault state_faults.Memory value.now }
         ensures step { result ≢ Err NoMemory → self.new ≡ after_read slot value.now self.old }
         ensures err { OnErr result (self.new ≡ self.old) }
     {
@@ -302,6 +308,7 @@ impl AssistJoined {
         requires { place < length self.old.views }
         ensures ok { OnOk result (by_reading (state_of value.now) ≡ Ok View) }
         ensures cause { IfErr result (λ fault. IsCause fault (by_reading (state_of value.now))) }
+        ensures memory { result ≡ Err NoMemory → IsFault state_faults.Memory value.now }
         ensures step { result ≢ Err NoMemory → self.new ≡ with_reading place (reading_of value.now) self.old }
         ensures err { OnErr result (self.new ≡ self.old) }
     {
@@ -315,6 +322,7 @@ impl AssistJoined {
 fn view_in(alloc: Global, value: &[u8]) -> Result<Option<ReceiveState>, NoticeFault>
     ensures ok { IfOk result (λ view. state_of value.now ≡ Ok view) }
     ensures cause { IfErr result (λ fault. IsCause fault (by_reading (state_of value.now))) }
+    ensures memory { result ≡ Err NoMemory → IsFault state_faults.Memory value.now }
 {
     match decode_state(alloc, value) {
         Ok(view) => Ok(view),
