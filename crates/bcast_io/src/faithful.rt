@@ -1,4 +1,4 @@
-ghost use Rattle.std.specs.Prelude.{◌≡◌, ◌<◌, ◌≤◌, [], Ok, Some, IfOk, IfErr, length, min, take, drop};
+ghost use Rattle.std.specs.Prelude.{◌≡◌, ◌<◌, ◌≤◌, [], Ok, Some, IfOk, IfErr, OnErr, length, min, take, drop};
 ghost use Rattle.std.specs.Io.{ReadsAtMost, WritesAtMost};
 ghost use Rattle.std.specs.Io.KnownBytes.{ReadConsumes, WriteAppends};
 
@@ -69,7 +69,7 @@ pub(crate) fn give(left: &[u8], piece: usize, into: &mut [u8]) -> usize
     n
 }
 
-/// A sink into memory that never fails but for want of memory.
+/// A sink into memory that never fails but for want of memory. No octets take none.
 #[derive(Drop)]
 pub struct FaithfulSink {
     taken: Octets,
@@ -112,6 +112,7 @@ impl ByteSink for FaithfulSink {
         ensures bytes { WriteAppends (Some self.old) (Some self.new) result from.now }
         ensures all { IfOk result (λ n. n ≡ length from.now) }
         ensures memory { IfErr result (λ fault. fault ≡ SinkFault.Memory) }
+        ensures none { OnErr result (0 < length from.now) }
     {
         match self.taken.append(from) {
             Ok(()) => Ok(from.len()),

@@ -67,7 +67,8 @@ impl ByteSource for MemorySource {
     }
 }
 
-/// A sink into memory. It takes at most `piece` octets a call, and fails exactly at the listed calls.
+/// A sink into memory. It takes at most `piece` octets a call, and fails exactly at the listed calls. No octets take no
+/// memory.
 #[derive(Drop)]
 pub struct MemorySink {
     taken: Octets,
@@ -122,6 +123,7 @@ impl ByteSink for MemorySink {
         ensures bytes { WriteAppends (Some self.old.taken) (Some self.new.taken) result from.now }
         ensures never_falls { self.old.script.faults ≤ self.new.script.faults }
         ensures fails { (result ≡ Err SinkFault.Failed) ↔ FailsNext self.old.script }
+        ensures none { result ≡ Err SinkFault.Memory → 0 < length from.now }
         ensures pass { result ≢ Err SinkFault.Failed → self.new.script ≡ after_pass self.old.script }
         ensures fail { result ≡ Err SinkFault.Failed → self.new.script ≡ after_fail self.old.script }
         ensures count { IfOk result (λ n. n ≡ min self.old.piece (length from.now)) }

@@ -73,6 +73,7 @@ pub(crate) fn offer_all(
     ensures ok { IfOk result (λ dropped. Flushes to waiting.old.items dropped (Some source.old) (Some source.new)) }
     ensures none { OnOk result (waiting.new.items ≡ []) }
     ensures err { OnErr result (OffersSome to waiting.old.items waiting.new.items (Some source.old) (Some source.new)) }
+    ensures some { OnErr result (0 < length waiting.old.items) }
 {
     let mut dropped = Dropped::new(alloc);
     'units: for number in 0..waiting.len() {
@@ -109,6 +110,7 @@ pub(crate) fn drop_all(
     ensures ok { IfOk result (λ dropped. Flushes to waiting.old.items dropped None None) }
     ensures none { OnOk result (waiting.new.items ≡ []) }
     ensures err { OnErr result (OffersSome to waiting.old.items waiting.new.items None None) }
+    ensures some { OnErr result (0 < length waiting.old.items) }
 {
     let mut dropped = Dropped::new(alloc);
     'units: for number in 0..waiting.len() {

@@ -1,4 +1,4 @@
-ghost use Rattle.std.specs.Prelude.{◌≡◌, ◌==◌, [], ℕ, List, IfOk, IfSome, OnOk, OnErr};
+ghost use Rattle.std.specs.Prelude.{◌≡◌, ◌<◌, ◌==◌, [], ℕ, List, length, IfOk, IfSome, OnOk, OnErr};
 
 use crate::dropped::Dropped;
 use crate::flush::{drop_all, offer_all};
@@ -48,13 +48,14 @@ impl Relay {
     /// the last unit that stream `to` took, Backlog where 16 units of that stream wait.
     ///
     /// After want of memory the first units, in order, were offered, and the rest waits; which of the first were dropped is
-    /// not told. The source is of a framed group that has stream `to` and isn't encrypted, and was configured with limits
+    /// not told. Where no unit waits it takes no memory. The source is of a framed group that has stream `to` and isn't encrypted, and was configured with limits
     /// that let times be ahead.
     pub fn flush(&mut self, source: Option<&mut SourceStreaming>) -> Result<Dropped, Memory>
         requires { IfSome (second_in source) (MayTake self.old.to) }
         ensures ok { IfOk result (λ dropped. Flushes self.old.to self.old.waiting dropped (second_in source.entry) (left_by source.exit)) }
         ensures none { OnOk result (self.new ≡ record self.old { waiting = [] }) }
         ensures err { OnErr result (StopsShort self.old self.new (second_in source.entry) (left_by source.exit)) }
+        ensures some { OnErr result (0 < length self.old.waiting) }
     {
         match source {
             Some(source) => offer_all(self.alloc, &mut self.waiting, self.to, source),
