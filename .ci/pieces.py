@@ -1,7 +1,7 @@
 #!/usr/bin/env python3
 """pieces.py PROGRAM: runs the built program on the examples, the worked rows, every tenth scenario of corpus/ and every tenth document of
-documents.py, over reads and writes that move at most 1, 7 and 4,096 octets a call. What is written, and the exit status, are the same
-whatever the pieces are."""
+documents.py, over reads and writes that move at most 1, 7 and 4,096 octets a call, and over those of which each second or third is
+interrupted before it moves any. What is written, and the exit status, are the same whatever the pieces are."""
 import concurrent.futures
 import os
 import subprocess
@@ -14,12 +14,15 @@ import corpus  # noqa: E402
 import documents  # noqa: E402
 import scenarios  # noqa: E402
 
-PIECES = [1, 7, 4096]
+# The most octets a call, and each which call is interrupted: 0 for none.
+TURNS = [(1, 0), (7, 0), (4096, 0), (7, 2), (4096, 3)]
 # A text of 64 MiB an octet a call takes a minute.
 LONGEST = 200_000
 SOURCE = r'''
 #define _GNU_SOURCE
 #include <dlfcn.h>
+#include <errno.h>
+#include <stdio.h>
 #include <stdlib.h>
 #include <unistd.h>
 static size_t cut(size_t count) {
@@ -27,13 +30,27 @@ static size_t cut(size_t count) {
     if (!piece) piece = (size_t) atol(getenv("OCTETS_A_CALL"));
     return count < piece ? count : piece;
 }
+static long interrupted;
+static int is_interrupted(void) {
+    static long every = -1, calls;
+    if (every < 0) every = atol(getenv("INTERRUPTED_CALL"));
+    if (!every || ++calls % every) return 0;
+    interrupted++;
+    errno = EINTR;
+    return 1;
+}
+__attribute__((destructor)) static void tell(void) {
+    if (getenv("TELL_INTERRUPTED")) fprintf(stderr, "%ld", interrupted);
+}
 ssize_t read(int file, void *into, size_t count) {
     static ssize_t (*next)(int, void *, size_t);
+    if (is_interrupted()) return -1;
     if (!next) next = (ssize_t (*)(int, void *, size_t)) dlsym(RTLD_NEXT, "read");
     return next(file, into, cut(count));
 }
 ssize_t write(int file, const void *from, size_t count) {
     static ssize_t (*next)(int, const void *, size_t);
+    if (is_interrupted()) return -1;
     if (!next) next = (ssize_t (*)(int, const void *, size_t)) dlsym(RTLD_NEXT, "write");
     return next(file, from, cut(count));
 }
@@ -64,19 +81,29 @@ def chosen():
     return [it for it in found if len(it[1].text) <= LONGEST]
 
 
+def are_interrupted(program, scenario, environment):
+    """Whether calls of a run are interrupted, as the library tells."""
+    told = subprocess.run([program] + scenario.words, input=scenario.text, capture_output=True, env=dict(environment, TELL_INTERRUPTED='1'),
+                          timeout=60, check=False)
+    return told.stderr.isdigit() and int(told.stderr) > 1
+
+
 def main():
     program, found, failed = os.path.abspath(sys.argv[1]), chosen(), 0
     with tempfile.TemporaryDirectory() as folder, concurrent.futures.ThreadPoolExecutor(os.cpu_count()) as pool:
         library = os.path.join(folder, 'pieces.so')
         subprocess.run(['cc', '-shared', '-fPIC', '-x', 'c', '-o', library, '-', '-ldl'], input=SOURCE.encode(), check=True)
-        for piece in PIECES:
-            of = dict(os.environ, LD_PRELOAD=library, OCTETS_A_CALL=str(piece))
+        for piece, every in TURNS:
+            of = dict(os.environ, LD_PRELOAD=library, OCTETS_A_CALL=str(piece), INTERRUPTED_CALL=str(every))
+            if every and not are_interrupted(program, found[0][1], of):
+                failed += 1
+                print(f'no call is interrupted of each {every}')
             results = pool.map(lambda it, of=of: corpus.difference(program, it[1], of), found)
             for (name, scenario), result in zip(found, results):
                 if result:
                     failed += 1
-                    print(f'{name}: {scenario.name}, {piece} octets a call: {result[:600]}')
-    print(f'pieces: {len(found)} scenarios and documents at {PIECES} octets a call, {failed} differ')
+                    print(f'{name}: {scenario.name}, {piece} octets a call, each {every} interrupted: {result[:600]}')
+    print(f'pieces: {len(found)} scenarios and documents at {len(TURNS)} kinds of calls, {failed} differ')
     return 1 if failed or not found else 0
 
 
