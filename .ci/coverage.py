@@ -1,5 +1,5 @@
 #!/usr/bin/env python3
-"""coverage.py [--all] [--write]: counts how often each case comes in the worked rows of the tests, the examples and the corpus, and
+"""coverage.py [--all] [--write]: counts how often each case comes in the worked rows, the examples and the corpus, and
 prints a table, or writes it into docs/gate.md. It fails where one that can come never does. With --all every case has its count."""
 import collections
 import os
