@@ -14,6 +14,7 @@ from collections import Counter
 
 sys.dont_write_bytecode = True
 sys.path.insert(0, os.path.dirname(os.path.abspath(__file__)))
+import given  # noqa: E402
 import scenarios  # noqa: E402
 
 GROUP = 'group unframed 20000 40000 8 10000 100 100 2 1 1 1 0 0 1800 1'
@@ -253,7 +254,7 @@ def ends(explain):
 
 
 def main():
-    replay, explain = map(os.path.abspath, sys.argv[1:3])
+    replay, explain = given.programs('REPLAY', 'EXPLAIN')
     found = list(texts())
     with concurrent.futures.ThreadPoolExecutor(os.cpu_count()) as pool:
         results = list(pool.map(lambda it: difference(replay, explain, it[2]), found))

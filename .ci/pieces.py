@@ -12,6 +12,7 @@ sys.dont_write_bytecode = True
 sys.path.insert(0, os.path.dirname(os.path.abspath(__file__)))
 import corpus  # noqa: E402
 import documents  # noqa: E402
+import given  # noqa: E402
 import scenarios  # noqa: E402
 
 # The most octets a call, and each which call is interrupted: 0 for none.
@@ -89,7 +90,7 @@ def are_interrupted(program, scenario, environment):
 
 
 def main():
-    program, found, failed = os.path.abspath(sys.argv[1]), chosen(), 0
+    [program], found, failed = given.programs('PROGRAM'), chosen(), 0
     with tempfile.TemporaryDirectory() as folder, concurrent.futures.ThreadPoolExecutor(os.cpu_count()) as pool:
         library = os.path.join(folder, 'pieces.so')
         subprocess.run(['cc', '-shared', '-fPIC', '-x', 'c', '-o', library, '-', '-ldl'], input=SOURCE.encode(), check=True)

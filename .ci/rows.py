@@ -10,6 +10,7 @@ import sys
 sys.dont_write_bytecode = True
 sys.path.insert(0, os.path.dirname(os.path.abspath(__file__)))
 import corpus  # noqa: E402
+import given  # noqa: E402
 import scenarios  # noqa: E402
 
 
@@ -33,7 +34,7 @@ def long_runs():
 
 
 def main():
-    program, tried, failed = os.path.abspath(sys.argv[1]), 0, 0
+    [program], tried, failed = given.programs('PROGRAM'), 0, 0
     for file, scenario in scenarios.rows():
         tried += 1
         differs = corpus.difference(program, scenario)
