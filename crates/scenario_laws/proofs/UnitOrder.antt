@@ -1,5 +1,5 @@
 -- The entries of a framed stream over all stays of a sink with a source: each is of a unit that the source accepted, in order.
-use Rattle.std.proofs.Common.{ℕ, ◌≡◌, ◌⊎◌, ◌<◌, ◌≤◌, ◌+◌, ◌-◌, ◌*◌, ◌/◌, true, false, List, [], ◌∷◌, ◌++◌, map, refl, sym, ◌∙◌, ap, subst, arith, inl, inr}
+use Rattle.std.proofs.Common.{ℕ, suc, ◌≡◌, ◌⊎◌, ◌<◌, ◌≤◌, ◌+◌, ◌-◌, ◌*◌, ◌/◌, true, false, List, [], ◌∷◌, ◌++◌, map, Some, refl, sym, ◌∙◌, ap, subst, arith, inl, inr}
 use Rattle.std.specs.Prelude.{slice_get}
 use Rattle.std.specs.List.{Contains}
 use Rattle.std.proofs.Math.Nat.{add-mul, mul-le-mul}
@@ -9,6 +9,7 @@ use Rattle.std.proofs.lemmas.Nat.{div-mul-add}
 use Rattle.big_info.specs.declared.info.BigInfo.{BigInfo}
 use Rattle.big_info.specs.Time.{iso_us_of}
 use Rattle.unit_outlets.specs.Handed.{Handed, valid, lost}
+use Rattle.isoal_base.specs.Air.{Air}
 use Rattle.isoal_base.specs.Stays as stays
 use Rattle.isoal_base.specs.Stays.{opened}
 use Rattle.isoal_framed.specs.Calls.{Timed, accepted, layings_of}
@@ -28,8 +29,8 @@ use Rattle.scenario_history.specs.Source.{is_started, setup_of, source_calls}
 use Rattle.source_machine.specs.Airs.{Airs}
 use Rattle.scenario_history.specs.Airs.{MeetAirs}
 use Rattle.scenario_history.specs.Sinks.{sink_calls}
-use Rattle.scenario_laws.specs.SourceUnits.{InUnitOrder, IsOfUnit, anchor_in, by_payload, time_in, whole_stay}
-use Rattle.scenario_laws.specs.Laws.{Closed, calls_on, given_since_made, injected_since, is_given, is_injected, is_made, is_tuned, shown_since}
+use Rattle.scenario_laws.specs.SourceUnits.{AreSent, InUnitOrder, IsOfUnit, IsSentAs, anchor_in, by_payload, time_in, whole_stay}
+use Rattle.scenario_laws.specs.Laws.{Closed, air_in, calls_on, given_since_made, injected_since, is_given, is_injected, is_made, is_tuned, shown_since}
 use Rattle.scenario_laws.proofs.Below.{Below}
 use Rattle.scenario_laws.proofs.Legals.{Legal}
 use Rattle.scenario_laws.proofs.Sources.{Lawful, lawful, true_not_false}
@@ -40,7 +41,7 @@ use Rattle.scenario_laws.proofs.UnitsLaw.{since}
 use Rattle.scenario_laws.proofs.InOrder.{clean_stay}
 use Rattle.scenario_laws.proofs.FramedCalls.{laid_by}
 use Rattle.scenario_laws.proofs.FramedSends.{FramedWhole, laid_end, sent_in_order}
-use Rattle.scenario_laws.proofs.FramedStays.{heard_least, mul_least, next_of_whole, opened_within, stay_decided, stay_on_whole, taken_within, whole_units}
+use Rattle.scenario_laws.proofs.FramedStays.{heard_least, mul_least, next_of_whole, opened_within, same_air, stay_decided, stay_on_whole, taken_within, whole_units}
 use Rattle.scenario_laws.proofs.Entries.{Gives, IsEntry, IsNumbered, Numbered, Ordered, are_numbered, has_entry, ordered_later, ordered_none, ordered_on}
 use Rattle.scenario_laws.proofs.StaysInTurn.{OverStay, Turns}
 use Rattle.scenario_laws.proofs.Turning.{over_stays}
@@ -59,6 +60,28 @@ numbered_on setup whole bis low [] [] all = tt
 numbered_on setup whole bis low (n ∷ ns) [] all = absurd all
 numbered_on setup whole bis low [] (unit ∷ units) all = absurd all
 numbered_on setup whole bis low (n ∷ ns) (unit ∷ units) all = (all.0, (unit, refl, all.1), numbered_on setup whole bis (n + 1) ns units all.2)
+
+-- the air sends the unit, which is of the one of this number among those accepted
+abbrev pub IsInAir : Setup → List SourceCall → ℕ → Air → ℕ → Sent → Type 0
+IsInAir setup whole bis air n unit =
+    (given : Timed) × (slice_get (accepted (framed_calls setup bis whole)) n ≡ Some given) × IsSentAs setup whole bis air n given unit
+
+pub in_air : (setup : Setup) (whole : List SourceCall) (bis : ℕ) (air : Air) (units : List Sent) → AreSent setup whole bis air units
+    → (place n : ℕ) (unit : Sent) → slice_get units place ≡ Some unit → IsSent setup whole bis n unit → IsInAir setup whole bis air n unit
+in_air setup whole bis air units are place n unit at sent = (
+  sent.2.0,
+  sent.2.1,
+  record { units = units; are_sent = are; place = place; is_sent = at; in_air = sent.0; numbered = sent.1; is_of = sent.2.2 },
+)
+
+numbered_each : (R Q : ℕ → Sent → Type 0) (low : ℕ) (ns : List ℕ) (units : List Sent)
+    → ((place : ℕ) → (n : ℕ) → (unit : Sent) → slice_get units place ≡ Some unit → R n unit → Q n unit)
+    → Numbered R low ns units → Numbered Q low ns units
+numbered_each R Q low [] [] each all = tt
+numbered_each R Q low (n ∷ ns) [] each all = absurd all
+numbered_each R Q low [] (unit ∷ units) each all = absurd all
+numbered_each R Q low (n ∷ ns) (unit ∷ units) each all =
+    (all.0, each 0 n unit refl all.1, numbered_each R Q (n + 1) ns units (λ place. each (suc place)) all.2)
 
 -- ---- an entry is of its unit
 
@@ -110,17 +133,24 @@ entry_octets bis time octets all whole entry of_unit is bis' time' octets' same 
   | inr here ↦ ap octets_of (sym same ∙ here.1) ∙ of_unit here.0
 ]
 
-pub one_entry : (setup : Setup) (whole : List SourceCall) (tuning : Joining) (bis n : ℕ) (one : Sent) (entry : Handed) (calls : List stays.Call) → 1 ≤ setup.info.bn → TunedTo setup tuning
+pub one_entry : (setup : Setup) (whole : List SourceCall) (tuning : Joining) (bis : ℕ) (air : Air) (n : ℕ) (sent : Sent) (entry : Handed) (calls : List stays.Call) → 1 ≤ setup.info.bn
+    → TunedTo setup tuning
     → opened (stay_on tuning bis) calls ≤ next_of setup whole
-    → IsNumbered setup.info.bn (layings_of (framed_calls setup bis whole)) (accepted (framed_calls setup bis whole)) n one
-    → IsEntry (stay_on tuning bis) (is_heard (stay_on tuning bis) calls) (closed_end (stay_on tuning bis) calls) (by_payload setup one) entry
-    → IsOfUnit setup whole bis n entry
-one_entry setup whole tuning bis n one entry calls some on opens numbered is =
+    → IsInAir setup whole bis air n sent
+    → IsEntry (stay_on tuning bis) (is_heard (stay_on tuning bis) calls) (closed_end (stay_on tuning bis) calls) sent entry
+    → IsOfUnit setup whole bis air n entry
+one_entry setup whole tuning bis air n sent entry calls some on opens numbered is_entry =
     let unit : Timed = numbered.0 in
-    let is_of : IsOf setup.info.bn (layings_of (framed_calls setup bis whole)) n unit one = numbered.2 in
+    let sends : IsSentAs setup whole bis air n unit sent = numbered.2 in
+    let one : Sent = sends.in_air in
+    let is_of : IsOf setup.info.bn (layings_of (framed_calls setup bis whole)) n unit one = sends.is_of in
+    let is : IsEntry (stay_on tuning bis) (is_heard (stay_on tuning bis) calls) (closed_end (stay_on tuning bis) calls) (by_payload setup one) entry =
+    subst (λ u. IsEntry (stay_on tuning bis) (is_heard (stay_on tuning bis) calls) (closed_end (stay_on tuning bis) calls) u entry) sends.numbered is_entry in
     let bn_is : tuning.info.bn ≡ setup.info.bn = ap (λ (i : BigInfo). i.bn) on.info in
+    let begins : (setup.first * setup.info.bn + one.first) / setup.info.bn ≡ setup.first + is_of.timed.event =
+    event_is setup.first setup.info.bn is_of.timed.event one.first is_of.timed.least is_of.timed.below in
     let at : (setup.first * setup.info.bn + one.first) / tuning.info.bn ≡ setup.first + is_of.timed.event =
-    ap (λ b. (setup.first * setup.info.bn + one.first) / b) bn_is ∙ event_is setup.first setup.info.bn is_of.timed.event one.first is_of.timed.least is_of.timed.below in
+    ap (λ b. (setup.first * setup.info.bn + one.first) / b) bn_is ∙ begins in
     let event : ℕ = setup.first + is_of.timed.event in
     let anchor : is_of.timed.laying.anchor ≡ setup.origin + is_of.timed.event * iso_us_of setup.info =
     (laid_by setup bis whole).each is_of.timed.event is_of.timed.laying is_of.timed.laying_is in
@@ -134,8 +164,11 @@ one_entry setup whole tuning bis n one entry calls some on opens numbered is =
     event_below event (setup.first * setup.info.bn + one.first) (opened (stay_on tuning bis) calls) setup.info.bn (omega (arith, product, is_of.timed.least)) closed in
     let parts = entry_stream bis (time_of (stay_on tuning bis) ((setup.first * setup.info.bn + one.first) / tuning.info.bn) one.offset) (octets_in one.segments) (one.whole ≡ true) entry is.is in
     record {
-      event = event;
       unit = unit;
+      sent = sent;
+      is_sent = sends;
+      event = event;
+      event_is = sym (ap (λ (u : Sent). u.first / setup.info.bn) sends.numbered ∙ begins);
       least = omega arith;
       performed = omega (arith, below, opens);
       accepted = numbered.1;
@@ -152,22 +185,20 @@ one_entry setup whole tuning bis n one entry calls some on opens numbered is =
           is_of.octets is.is;
     }
 
-stay_gives : (setup : Setup) (whole : List SourceCall) (tuning : Joining) (bis : ℕ) (calls : List stays.Call) → 1 ≤ setup.info.bn → TunedTo setup tuning
+stay_gives : (setup : Setup) (whole : List SourceCall) (tuning : Joining) (bis : ℕ) (air : Air) (calls : List stays.Call) → 1 ≤ setup.info.bn → TunedTo setup tuning
     → opened (stay_on tuning bis) calls ≤ next_of setup whole
-    → Gives (IsSent setup whole bis) (IsOfUnit setup whole bis) (tuning.first * tuning.info.bn) (closed_end (stay_on tuning bis) calls)
+    → Gives (IsInAir setup whole bis air) (IsOfUnit setup whole bis air) (tuning.first * tuning.info.bn) (closed_end (stay_on tuning bis) calls)
     (entry_of (stay_on tuning bis) (is_heard (stay_on tuning bis) calls) (closed_end (stay_on tuning bis) calls))
-stay_gives setup whole tuning bis calls some on opens n unit sent long =
+stay_gives setup whole tuning bis air calls some on opens n unit sent long =
     elim (has_entry (stay_on tuning bis) (is_heard (stay_on tuning bis) calls) (closed_end (stay_on tuning bis) calls) unit long) [
       | inl none ↦ inl none
       | inr one ↦
-          let is : IsEntry (stay_on tuning bis) (is_heard (stay_on tuning bis) calls) (closed_end (stay_on tuning bis) calls) (by_payload setup sent.0) one.0 =
-          subst (λ u. IsEntry (stay_on tuning bis) (is_heard (stay_on tuning bis) calls) (closed_end (stay_on tuning bis) calls) u one.0) sent.1 one.2 in
           inr (
             one.0,
             one.1,
             mul_least tuning.first unit.first tuning.info.bn (heard_least (stay_on tuning bis) calls unit.first one.2.start_heard),
             one.2.start_closed,
-            one_entry setup whole tuning bis n sent.0 one.0 calls some on opens sent.2 is,
+            one_entry setup whole tuning bis air n unit one.0 calls some on opens sent one.2,
           )
     ]
 
@@ -180,14 +211,14 @@ record Fine (airs : Airs) (boxes s n : ℕ) (setup : Setup) (whole : List Source
   pub clean : injected_since (is_made n) n made ≡ false
   pub started : is_started (steps_of_source s made) ≡ true → all_started
 
-abbrev Claim : Setup → List SourceCall → ℕ → List ℕ → List Sent → ℕ → List Closed → List Handed → Type 0
-Claim setup whole bis ns units e closed entries = Ordered (IsOfUnit setup whole bis) (e * setup.info.bn) ns units entries
+abbrev Claim : Setup → List SourceCall → ℕ → Air → List ℕ → List Sent → ℕ → List Closed → List Handed → Type 0
+Claim setup whole bis air ns units e closed entries = Ordered (IsOfUnit setup whole bis air) (e * setup.info.bn) ns units entries
 
-over : Below → (airs : Airs) → MeetAirs airs → (boxes s n bis : ℕ) (setup : Setup) (whole : List SourceCall) (all_started : Type 0) (ns : List ℕ) (units : List Sent) → s ≤ 1 → n ≤ 7
+over : Below → (airs : Airs) → MeetAirs airs → (boxes s n bis : ℕ) (setup : Setup) (whole : List SourceCall) (air : Air) (all_started : Type 0) (ns : List ℕ) (units : List Sent) → s ≤ 1 → n ≤ 7
     → 1 ≤ bis → bis ≤ 31
-    → setup.info.framing ≡ 1 → Numbered (IsSent setup whole bis) 0 ns units → (all_started → bis ≤ setup.info.num_bis → FramedWhole airs setup whole bis units)
-    → OverStay (Claim setup whole bis ns units) (Fine airs boxes s n setup whole all_started) airs s n bis
-over below airs meets boxes s n bis setup whole all_started ns units source_within sink_within least greatest is_framed numbered facts made fine tuning is past entries claim =
+    → setup.info.framing ≡ 1 → Numbered (IsInAir setup whole bis air) 0 ns units → (all_started → bis ≤ setup.info.num_bis → FramedWhole airs setup whole bis units)
+    → OverStay (Claim setup whole bis air ns units) (Fine airs boxes s n setup whole all_started) airs s n bis
+over below airs meets boxes s n bis setup whole air all_started ns units source_within sink_within least greatest is_framed numbered facts made fine tuning is past entries claim =
     let own : List Step = steps_of_source s made in
     let on : OnSource own tuning = on_source below.announcing airs boxes s n made tuning fine.legal_is is in
     let to : TunedTo setup tuning = stay_on_whole below.announcing airs boxes s n setup whole made tuning fine.legal_is fine.within is in
@@ -200,10 +231,10 @@ over below airs meets boxes s n bis setup whole all_started ns units source_with
     let most : tuning.first * setup.info.bn ≤ next_in own * setup.info.bn = mul-le-mul first_within (omega arith) in
     elim (cases_Bool (is_in tuning.which bis)) [
       | inr free ↦
-          subst (λ us. Ordered (IsOfUnit setup whole bis) (next_in own * setup.info.bn) ns units us)
+          subst (λ us. Ordered (IsOfUnit setup whole bis air) (next_in own * setup.info.bn) ns units us)
           (sym (ap (λ us. entries ++ us) (shown ∙ below.others tuning (sink_calls airs n made) bis is.place_is
           (λ taken. true_not_false (is_in tuning.which bis) (member_is tuning.which bis taken).0 free)) ∙ append-nil entries))
-          (ordered_later (IsOfUnit setup whole bis) (tuning.first * setup.info.bn) (next_in own * setup.info.bn) ns units entries most claim)
+          (ordered_later (IsOfUnit setup whole bis air) (tuning.first * setup.info.bn) (next_in own * setup.info.bn) ns units entries most claim)
       | inl taken ↦
           let member : Contains (streams_of tuning.which) bis = is_member tuning.which bis least greatest taken in
           let num_bis : (setup_of own).info.num_bis ≡ setup.info.num_bis = ap (λ (setup' : Setup). setup'.info.num_bis) (fine.within.setup_is on.started) in
@@ -218,36 +249,37 @@ over below airs meets boxes s n bis setup whole all_started ns units source_with
           mul-le-mul (opened_least (stay_on tuning bis) (calls_on airs made n tuning bis)) (omega arith) in
           let middle : tuning.first * setup.info.bn ≤ tuning.first * tuning.info.bn = subst (λ (b : ℕ). tuning.first * b ≤ tuning.first * tuning.info.bn) bn_is (omega arith) in
           let past_opens : opened (stay_on tuning bis) (calls_on airs made n tuning bis) ≤ next_of setup whole = omega (arith, opens, next_of_whole setup whole own fine.within on.started) in
-          subst (λ us. Ordered (IsOfUnit setup whole bis) (next_in own * setup.info.bn) ns units (entries ++ us)) (sym struck_is)
-          (ordered_later (IsOfUnit setup whole bis) (closed_end (stay_on tuning bis) (calls_on airs made n tuning bis)) (next_in own * setup.info.bn) ns units _ until
-          (ordered_on (IsSent setup whole bis) (IsOfUnit setup whole bis) (tuning.first * setup.info.bn) (tuning.first * tuning.info.bn)
+          subst (λ us. Ordered (IsOfUnit setup whole bis air) (next_in own * setup.info.bn) ns units (entries ++ us)) (sym struck_is)
+          (ordered_later (IsOfUnit setup whole bis air) (closed_end (stay_on tuning bis) (calls_on airs made n tuning bis)) (next_in own * setup.info.bn) ns units _ until
+          (ordered_on (IsInAir setup whole bis air) (IsOfUnit setup whole bis air) (tuning.first * setup.info.bn) (tuning.first * tuning.info.bn)
           (closed_end (stay_on tuning bis) (calls_on airs made n tuning bis)) 0 (laid_end setup all.has.air)
           (entry_of (stay_on tuning bis) (is_heard (stay_on tuning bis) (calls_on airs made n tuning bis)) (closed_end (stay_on tuning bis) (calls_on airs made n tuning bis)))
           ns units entries numbered (sent_in_order setup whole bis all.has.air units all.sent)
-          (stay_gives setup whole tuning bis (calls_on airs made n tuning bis) all.bounds.bn to past_opens) middle from_until claim))
+          (stay_gives setup whole tuning bis air (calls_on airs made n tuning bis) all.bounds.bn to past_opens) middle from_until claim))
     ]
 
 -- the units that the air sends, with their numbers, where the source was started and has the stream
-record Known (airs : Airs) (setup : Setup) (whole : List SourceCall) (bis : ℕ) (all_started : Type 0) : Type 0 where
+record Known (airs : Airs) (setup : Setup) (whole : List SourceCall) (bis : ℕ) (air : Air) (all_started : Type 0) : Type 0 where
   pub ns : List ℕ
   pub units : List Sent
-  pub numbered : Numbered (IsSent setup whole bis) 0 ns units
+  pub numbered : Numbered (IsInAir setup whole bis air) 0 ns units
   pub facts : all_started → bis ≤ setup.info.num_bis → FramedWhole airs setup whole bis units
 
 in_order : Below → (airs : Airs) → MeetAirs airs → (boxes s n bis : ℕ) (made : List Step) → Legal airs boxes made → (setup_of (steps_of_source s made)).info.framing ≡ 1 → s ≤ 1 → n ≤ 7 → 1 ≤ bis
     → bis ≤ 31 → given_since_made n made ≡ false → injected_since (is_made n) n made ≡ false → (all_started : Type 0) → (is_started (steps_of_source s made) ≡ true → all_started)
-    → Known airs (setup_of (steps_of_source s made)) (source_calls (steps_of_source s made)) bis all_started
-    → InUnitOrder (setup_of (steps_of_source s made)) (source_calls (steps_of_source s made)) bis (shown_since (is_made n) airs s n bis made)
+    → Known airs (setup_of (steps_of_source s made)) (source_calls (steps_of_source s made)) bis (air_in airs (steps_of_source s made) bis) all_started
+    → InUnitOrder (setup_of (steps_of_source s made)) (source_calls (steps_of_source s made)) bis (air_in airs (steps_of_source s made) bis) (shown_since (is_made n) airs s n bis made)
 in_order below airs meets boxes s n bis made legal is_framed source_within sink_within least greatest ungiven clean all_started started known =
     let own : List Step = steps_of_source s made in
     let setup : Setup = setup_of own in
     let whole : List SourceCall = source_calls own in
-    let E : ℕ → Handed → Type 0 = IsOfUnit setup whole bis in
-    let turns : Turns (Claim setup whole bis known.ns known.units) (Fine airs boxes s n setup whole all_started) airs boxes s n bis = record {
+    let air : Air = air_in airs own bis in
+    let E : ℕ → Handed → Type 0 = IsOfUnit setup whole bis air in
+    let turns : Turns (Claim setup whole bis air known.ns known.units) (Fine airs boxes s n setup whole all_started) airs boxes s n bis = record {
       laws = below.announcing;
-      none = λ e. ordered_none (IsSent setup whole bis) E (e * setup.info.bn) known.ns known.units known.numbered;
+      none = λ e. ordered_none (IsInAir setup whole bis air) E (e * setup.info.bn) known.ns known.units known.numbered;
       rises = λ e later closed entries more claim. ordered_later E (e * setup.info.bn) (later * setup.info.bn) known.ns known.units entries (mul-le-mul more (omega arith)) claim;
-      over = over below airs meets boxes s n bis setup whole all_started known.ns known.units source_within sink_within least greatest is_framed known.numbered known.facts;
+      over = over below airs meets boxes s n bis setup whole air all_started known.ns known.units source_within sink_within least greatest is_framed known.numbered known.facts;
       legal = λ part fine. fine.legal_is;
       ungiven = λ part fine. fine.ungiven;
       before = λ step earlier still fine. record {
@@ -260,12 +292,12 @@ in_order below airs meets boxes s n bis made legal is_framed source_within sink_
       source_within = source_within;
       sink_within = sink_within;
     } in
-    let all = over_stays (Claim setup whole bis known.ns known.units) (Fine airs boxes s n setup whole all_started) airs boxes s n bis turns made
+    let all = over_stays (Claim setup whole bis air known.ns known.units) (Fine airs boxes s n setup whole all_started) airs boxes s n bis turns made
     (record { legal_is = legal; within = within_itself own; ungiven = ungiven; clean = clean; started = started }) in
     record { numbers = all.all.numbers; rising = climbs 0 all.all.numbers all.all.high all.all.climb; each = all.all.each }
 
 known_units : Below → (airs : Airs) → MeetAirs airs → (own : List Step) (bis : ℕ) → Lawful airs own → is_started own ≡ true → (setup_of own).info.framing ≡ 1 → 1 ≤ bis
-    → Known airs (setup_of own) (source_calls own) bis (Unit {0})
+    → Known airs (setup_of own) (source_calls own) bis (air_in airs own bis) (Unit {0})
 known_units below airs meets own bis legal started is_framed least = elim (cases_low bis (setup_of own).info.num_bis) [
   | inl within ↦
       let units = whole_units below airs meets own bis legal started is_framed least within in
@@ -274,8 +306,11 @@ known_units below airs meets own bis legal started is_framed least = elim (cases
       record {
         ns = numbered.0;
         units = units.0;
-        numbered = subst (Numbered (IsSent (setup_of own) (source_calls own) bis) 0 numbered.0) (sym units.1.sent.numbered)
-            (numbered_on (setup_of own) (source_calls own) bis 0 numbered.0 units.1.sent.in_air numbered.1);
+        numbered = numbered_each (IsSent (setup_of own) (source_calls own) bis) (IsInAir (setup_of own) (source_calls own) bis (air_in airs own bis)) 0 numbered.0 units.0
+            (in_air (setup_of own) (source_calls own) bis (air_in airs own bis) units.0
+            (subst (λ air. AreSent (setup_of own) (source_calls own) bis air units.0) (sym (same_air airs own bis units.1.has)) units.1.sent))
+            (subst (Numbered (IsSent (setup_of own) (source_calls own) bis) 0 numbered.0) (sym units.1.sent.numbered)
+            (numbered_on (setup_of own) (source_calls own) bis 0 numbered.0 units.1.sent.in_air numbered.1));
         facts = λ all_started below_num. units.1;
       }
   | inr past ↦ record { ns = []; units = []; numbered = tt; facts = λ all_started below_num. absurd (omega (arith, past, below_num)) }
@@ -283,7 +318,7 @@ known_units below airs meets own bis legal started is_framed least = elim (cases
 
 pub entries_in_order : Below → (airs : Airs) → MeetAirs airs → (boxes s n bis : ℕ) (made : List Step) → Legal airs boxes made → (setup_of (steps_of_source s made)).info.framing ≡ 1 → s ≤ 1 → n ≤ 7
     → 1 ≤ bis → bis ≤ 31 → given_since_made n made ≡ false → injected_since (is_made n) n made ≡ false
-    → InUnitOrder (setup_of (steps_of_source s made)) (source_calls (steps_of_source s made)) bis (shown_since (is_made n) airs s n bis made)
+    → InUnitOrder (setup_of (steps_of_source s made)) (source_calls (steps_of_source s made)) bis (air_in airs (steps_of_source s made) bis) (shown_since (is_made n) airs s n bis made)
 entries_in_order below airs meets boxes s n bis made legal is_framed source_within sink_within least greatest ungiven clean = elim (cases_Bool (is_started (steps_of_source s made))) [
   | inl started ↦
       in_order below airs meets boxes s n bis made legal is_framed source_within sink_within least greatest ungiven clean (Unit {0}) (λ is. tt)

@@ -261,8 +261,8 @@ pub record InStartOrder (airs : Airs) (steps : List Step) (s n bis : ℕ) (entri
 -- order, of starts that it heard in these stays, each at most once, at the time by the source's anchor of the event of the
 -- start's payload number and the start's TimeOffset. And where no PDU was injected into the sink, its valid units of an unframed
 -- stream are, in order, units that the source accepted on the stream, each at most once and the own one of its slot; and its
--- entries of a framed stream are, in order, of such units, each at most once and accepted before its event was laid: each at the
--- time by the source's anchor of the event of its start and its TimeOffset, and the valid ones with the unit's octets
+-- entries of a framed stream are, in order, of such units, each at most once and accepted before the event of its first payload number
+-- was laid: each at the time by the source's anchor of that event and its TimeOffset, and the valid ones with the unit's octets
 pub record StaysInOrder (airs : Airs) (steps : List Step) (s n : ℕ) : Type 0 where
   pub rising : IsStrictlyIncreasing (map (λ (closed : Closed). closed.event) (closed_since airs s n steps))
   pub slots : (bis : ℕ) → n ≤ 7 → 1 ≤ bis → bis ≤ 31 → (setup_of (steps_of_source s steps)).info.framing ≡ 0
@@ -277,7 +277,7 @@ pub record StaysInOrder (airs : Airs) (steps : List Step) (s n : ℕ) : Type 0 w
   pub in_unit_order : (bis : ℕ) → n ≤ 7 → 1 ≤ bis → bis ≤ 31 → (setup_of (steps_of_source s steps)).info.framing ≡ 1
       → injected_since (is_made n) n steps ≡ false
       → InUnitOrder (setup_of (steps_of_source s steps)) (source_calls (steps_of_source s steps)) bis
-      (shown_since (is_made n) airs s n bis steps)
+      (air_in airs (steps_of_source s steps) bis) (shown_since (is_made n) airs s n bis steps)
 
 -- over steps of which none was refused, be they those of lines or gifts of relays, the stays of each sink with each source are in
 -- order, where no train was given to the sink by its octets since it was made

@@ -9,6 +9,7 @@ pub mod Links
 pub mod MomentRows
 pub mod Moments
 pub mod Only
+pub mod OrderRows
 pub mod Relayed
 pub mod SourceUnits
 pub mod Versions

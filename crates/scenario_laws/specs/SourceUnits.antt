@@ -1,7 +1,7 @@
 -- Units by the source's own anchors and numbers: which unit of the source an entry is that a sink hands up, and when it is
 -- due (Core 5.2, volume 6 part G, sections 2.1, 2.2 and 3.2). Lists of calls have the newest first; lists of events, of
 -- slots and of units have the oldest first.
-use Rattle.std.specs.Prelude.{ℕ, ◌+◌, ◌-◌, ◌*◌, ◌<◌, ◌≤◌, ◌≡◌, Bool, true, false, List, map, Some, slice_get}
+use Rattle.std.specs.Prelude.{ℕ, ◌+◌, ◌-◌, ◌*◌, ◌/◌, ◌<◌, ◌≤◌, ◌≡◌, Bool, true, false, List, map, Some, slice_get}
 use Rattle.std.specs.List.{AllZip, filter}
 use Rattle.std.specs.List.Sorted.{IsStrictlyIncreasing}
 use Rattle.big_info.specs.Schedule.{per_event_of}
@@ -10,7 +10,7 @@ use Rattle.unit_outlets.specs.Handed.{Handed, valid, lost}
 use Rattle.isoal_base.specs.Air.{Air}
 use Rattle.isoal_base.specs.Stays.{Stay}
 use Rattle.isoal_framed.specs.Calls.{Laying, Timed, accepted, layings_of}
-use Rattle.isoal_framed.specs.Sends.{Sends}
+use Rattle.isoal_framed.specs.Sends.{IsOf, Sends}
 use Rattle.isoal_framed.specs.Struck.{Sent}
 use Rattle.isoal_framed.specs.Tokens.{time_of as start_time}
 use Rattle.isoal_unframed.specs.Struck.{Place}
@@ -89,13 +89,27 @@ pub record AreSent (setup : Setup) (calls : List Call) (bis : ℕ) (air : Air) (
   pub sends : Sends setup.info (framed_calls setup bis calls) air in_air
   pub numbered : units ≡ map (by_payload setup) in_air
 
--- the entry is of the unit of this number among those that the source accepted on the stream, which starts in an event that
--- was performed, and was accepted before the step that laid the event: its time is by that event's anchor, less the TimeOffset
--- from the unit's own time to the anchor, by the synchronization reference of a framed unit, which is never below 0, and the
--- presentation delay; if it is valid it has the unit's octets
-pub record IsOfUnit (setup : Setup) (calls : List Call) (bis number : ℕ) (entry : Handed) : Type 0 where
-  pub event : ℕ
+-- the air sends the unit that has this number among those that the source accepted on the stream: this is one of the units that it
+-- sends, by payload numbers
+pub record IsSentAs (setup : Setup) (calls : List Call) (bis : ℕ) (air : Air) (number : ℕ) (given : Timed) (sent : Sent) : Type 0 where
+  pub units : List Sent
+  pub are_sent : AreSent setup calls bis air units
+  pub place : ℕ
+  pub is_sent : slice_get units place ≡ Some sent
+  pub in_air : Sent
+  pub numbered : sent ≡ by_payload setup in_air
+  pub is_of : IsOf setup.info.bn (layings_of (framed_calls setup bis calls)) number given in_air
+
+-- the entry is of the unit of this number among those that the source accepted on the stream, which the air sends: the first payload
+-- number that carries it is of an event that was performed, and the unit was accepted before the step that laid that event: its time
+-- is by that event's anchor, less the TimeOffset from the unit's own time to the anchor, by the synchronization reference of a framed
+-- unit, which is never below 0, and the presentation delay; if it is valid it has the unit's octets
+pub record IsOfUnit (setup : Setup) (calls : List Call) (bis : ℕ) (air : Air) (number : ℕ) (entry : Handed) : Type 0 where
   pub unit : Timed
+  pub sent : Sent
+  pub is_sent : IsSentAs setup calls bis air number unit sent
+  pub event : ℕ
+  pub event_is : event ≡ sent.first / setup.info.bn
   pub least : setup.first ≤ event
   pub performed : event < next_of setup calls
   pub accepted : slice_get (accepted (framed_calls setup bis calls)) number ≡ Some unit
@@ -108,7 +122,7 @@ pub record IsOfUnit (setup : Setup) (calls : List Call) (bis number : ℕ) (entr
   pub valid_is : (stream : ℕ) → (time : ℕ) → (octets : List ℕ) → entry ≡ valid stream time octets → octets ≡ unit.octets
 
 -- there are rising numbers such that the entries are, in order, of the units of these numbers that the source accepted
-pub record InUnitOrder (setup : Setup) (calls : List Call) (bis : ℕ) (entries : List Handed) : Type 0 where
+pub record InUnitOrder (setup : Setup) (calls : List Call) (bis : ℕ) (air : Air) (entries : List Handed) : Type 0 where
   pub numbers : List ℕ
   pub rising : IsStrictlyIncreasing numbers
-  pub each : AllZip (IsOfUnit setup calls bis) numbers entries
+  pub each : AllZip (IsOfUnit setup calls bis air) numbers entries

@@ -11,6 +11,7 @@ ghost use Rattle.scenario_text.specs.declared.step.Step.{Step};
 ghost use Rattle.scenario_history.specs.Lines.{handed_on, rules_of, steps_of};
 ghost use Rattle.scenario_history.specs.Transcript.{end_after, out_of, transcript_end, transcript_of, units_of};
 ghost use Rattle.scenario_laws.specs.Laws.{OrderLaw, StepsInOrder, UnitsLaw};
+ghost use Rattle.scenario_laws.specs.OrderRows.{IsBeginWorked};
 
 use announcement_train::an_announcement_is_read;
 use delegator_history::{a_sink_is_put_where_its_source_is, a_source_has_one_train};
@@ -94,7 +95,7 @@ pub fn units_law()
 /// these stays, each at most once, at the time by the source's anchor of the event of the start and its TimeOffset. Where no PDU
 /// was injected into it, its valid units of an unframed stream are, in order, units that the source accepted on the stream, each
 /// at most once and the own one of its slot; and its entries of a framed stream are, in order, of such units, each at most once
-/// and accepted before the event of its start was laid.
+/// and accepted before the event was laid that its first payload number is of.
 pub fn order_law()
     ensures { (starts : List Account) → OrderLaw starts }
 {
@@ -130,3 +131,8 @@ pub fn steps_keep_order()
     an_announcement_is_read();
     a_sink_is_put_where_its_source_is();
 }
+
+/// A framed unit that crosses two events, by hand: each entry of it is by the event that it begins in.
+pub fn beginnings_are_worked()
+    ensures { IsBeginWorked }
+{}

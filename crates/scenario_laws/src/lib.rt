@@ -18,9 +18,11 @@ pub use gift_laws::{
 pub use hearing_laws::{
     all_hearing_law, hearing_law, hearing_more_keeps_units, hearings_are_worked,
 };
-pub use history_laws::{one_transcript, order_law, some_airs_meet, steps_keep_order, units_law};
+pub use history_laws::{
+    beginnings_are_worked, one_transcript, order_law, some_airs_meet, steps_keep_order, units_law,
+};
 pub use isolation_laws::{a_scenario_is_left, isolation_law};
 pub use link_laws::{agreement_law, links_law};
 pub use moment_laws::{in_time_law, moment_law, moments_are_worked};
-pub use relay_laws::{relay_lines_law, relayed_units_law};
+pub use relay_laws::{relay_lines_law, relayed_units_are_worked, relayed_units_law};
 pub use version_laws::migration_law;

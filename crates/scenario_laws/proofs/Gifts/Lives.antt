@@ -128,7 +128,7 @@ chosen_next : (chosen before others : Option ℕ) → unwrap_or before 0 ≡ unw
 chosen_next None before others same = same
 chosen_next (Some source) before others same = refl
 
-chosen_happened : (airs : Airs) (said : List Step) → chosen_of (happened airs said) ≡ chosen_of said
+pub chosen_happened : (airs : Airs) (said : List Step) → chosen_of (happened airs said) ≡ chosen_of said
 chosen_happened airs [] = refl
 chosen_happened airs (step ∷ earlier) =
     chosen_next (chosen_given step) (last_given chosen_given (with_gifts airs (happened airs earlier) step)) (last_given chosen_given earlier)

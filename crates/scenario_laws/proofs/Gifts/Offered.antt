@@ -178,7 +178,7 @@ by_chosen airs n made gifted true is same closes =
 by_chosen airs n made gifted false is same closes = not_first airs n (chosen_of gifted) gifted (ap (λ c. c == 0) same ∙ is)
 
 -- what the sink hands up of source 0 by a step, behind the gifts
-first_handed : (airs : Airs) (n : ℕ) (made : List Step) (step : Step)
+pub first_handed : (airs : Airs) (n : ℕ) (made : List Step) (step : Step)
     → handed_of 0 n (handed_by airs (with_gifts airs made step) step)
     ≡ cond (closes_first made step) (handed_of 0 n (closing airs 0 made)) []
 first_handed airs n made steps.Event =

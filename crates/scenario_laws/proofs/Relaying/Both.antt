@@ -1,7 +1,7 @@
 -- The relayed units law: what is in the order of source 1 is in the order of what the relaying sink handed up, and that is in the
 -- order of source 0.
 use Rattle.std.proofs.Common.{ℕ, zero, suc, ◌≡◌, ◌<◌, ◌+◌, ◌∙◌, List, [], ◌∷◌, length, map}
-use Rattle.std.proofs.Common.{arith}
+use Rattle.std.proofs.Common.{refl, sym, ap, subst, arith}
 use Rattle.std.specs.Prelude.{slice_index}
 use Rattle.std.specs.List.{AllZip}
 use Rattle.std.specs.List.Sorted.{IsStrictlyIncreasing}
@@ -17,8 +17,8 @@ use Rattle.scenario_history.specs.Source.{setup_of, source_calls}
 use Rattle.scenario_history.specs.Steps.{steps_of_source}
 use Rattle.scenario_laws.proofs.Gifts.Citable.{had_happened, happens_legally, has_had, settled}
 use Rattle.scenario_laws.specs.Gifts.Laws.{RelayLaw, offered}
-use Rattle.scenario_laws.specs.Laws.{StepsInOrder, is_made, shown_since}
-use Rattle.scenario_laws.specs.Relayed.{InFirstOrder, InRelayOrder, IsOfFirst, IsOfOffered, RelayedUnits}
+use Rattle.scenario_laws.specs.Laws.{StepsInOrder, air_in, is_made, shown_since}
+use Rattle.scenario_laws.specs.Relayed.{InFirstOrder, InRelayOrder, IsOfFirst, IsOfOffered, RelayedUnits, UnitPlace}
 use Rattle.scenario_laws.proofs.Relaying.Numbered.{Numbered}
 use Rattle.scenario_laws.proofs.Relaying.Offering.{offered_numbered, ungiven}
 use Rattle.scenario_laws.proofs.Relaying.Order.{at_map, in_relay_order, zip_map}
@@ -45,12 +45,24 @@ rising_units octets units numbered setup to entries order k within =
     (bounded setup to units order.numbers entries (k + 1) order.each long) in
     omega (arith, one, next, now)
 
+-- ---- the entries
+
+abbrev unit_place : (ℕ → ℕ) → ℕ → UnitPlace
+unit_place number k = record { number = number k; place = k }
+
+numbers_are : (number : ℕ → ℕ) (ks : List ℕ) → map (λ (at : UnitPlace). at.number) (map (unit_place number) ks) ≡ map number ks
+numbers_are number [] = refl
+numbers_are number (k ∷ ks) = ap (λ l. number k ∷ l) (numbers_are number ks)
+
+places_are : (number : ℕ → ℕ) (ks : List ℕ) → map (λ (at : UnitPlace). at.place) (map (unit_place number) ks) ≡ ks
+places_are number [] = refl
+places_are number (k ∷ ks) = ap (λ l. k ∷ l) (places_are number ks)
+
 of_first : (octets : List (List ℕ)) (units : List AudioUnit) (numbered : Numbered octets units) (setup : Setup) (to k : ℕ) (entry : Handed)
-    → IsOfOffered setup to units k entry → IsOfFirst octets units setup to (numbered.number k) entry
+    → IsOfOffered setup to units k entry → IsOfFirst octets units setup to (unit_place numbered.number k) entry
 of_first octets units numbered setup to k entry of_offered = record {
   unit = of_offered.unit;
   is_given = numbered.gives k of_offered.unit of_offered.is_offered;
-  place = k;
   is_handed = of_offered.is_offered;
   stream = of_offered.stream;
   time_is = of_offered.time_is;
@@ -60,9 +72,11 @@ of_first octets units numbered setup to k entry of_offered = record {
 in_first_order : (octets : List (List ℕ)) (units : List AudioUnit) → Numbered octets units → (setup : Setup) (to : ℕ) (entries : List Handed)
     → InRelayOrder setup to units entries → InFirstOrder octets units setup to entries
 in_first_order octets units numbered setup to entries order = record {
-  numbers = map numbered.number order.numbers;
-  rising = rising_units octets units numbered setup to entries order;
-  each = zip_map numbered.number (IsOfOffered setup to units) (IsOfFirst octets units setup to)
+  units = map (unit_place numbered.number) order.numbers;
+  numbers_rise = subst IsStrictlyIncreasing (sym (numbers_are numbered.number order.numbers))
+      (rising_units octets units numbered setup to entries order);
+  places_rise = subst IsStrictlyIncreasing (sym (places_are numbered.number order.numbers)) order.rising;
+  each = zip_map (unit_place numbered.number) (IsOfOffered setup to units) (IsOfFirst octets units setup to)
       (of_first octets units numbered setup to) order.numbers entries order.each;
 }
 
@@ -80,4 +94,5 @@ relayed_units law order boxes airs meets said legal n bis to within least greate
     in_first_order (given bis (source_calls (steps_of_source 0 made))) (offered airs n bis to said)
     (offered_numbered order airs meets boxes n bis to said legal within least greatest first_clean) (setup_of (steps_of_source 1 made)) to
     (shown_since (is_made m) airs 1 m to made)
-    (in_relay_order law airs boxes said legal n bis to within (shown_since (is_made m) airs 1 m to made) second)
+    (in_relay_order law airs boxes said legal n bis to within (air_in airs (steps_of_source 1 made) to)
+    (shown_since (is_made m) airs 1 m to made) second)

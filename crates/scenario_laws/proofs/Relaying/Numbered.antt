@@ -9,6 +9,7 @@ use Rattle.std.proofs.lemmas.List.Kept.{AllPairs-from_increasing}
 use Rattle.std.proofs.lemmas.Option.{none-some, same_Some, slice_get-map}
 use Rattle.bcast_base.specs.declared.unit.Unit.{Unit as AudioUnit}
 use Rattle.group_sink.specs.Handing.{of_stream}
+use Rattle.isoal_base.specs.Air.{Air}
 use Rattle.isoal_framed.specs.Calls.{Call as FramedCall, accept, accepted}
 use Rattle.source_machine.specs.Calls.{Call, Setup, event, framed_calls, given, give}
 use Rattle.unit_outlets.specs.Handed.{Handed, lost, valid}
@@ -130,15 +131,15 @@ given_units setup bis (give stream time octets ∷ earlier) =
 given_units setup bis (event ∷ earlier) =
     ap (map (λ (unit : AudioUnit). unit.octets)) (event_accepts_none setup bis earlier) ∙ given_units setup bis earlier
 
-of_unit : (setup : Setup) (calls : List Call) (bis number : ℕ) (entry : Handed) (unit : AudioUnit) → IsOfUnit setup calls bis number entry
-    → shown entry ≡ Some unit → slice_get (given bis calls) number ≡ Some unit.octets
-of_unit setup calls bis number (valid stream time octets) unit its is =
+of_unit : (setup : Setup) (calls : List Call) (bis : ℕ) (air : Air) (number : ℕ) (entry : Handed) (unit : AudioUnit)
+    → IsOfUnit setup calls bis air number entry → shown entry ≡ Some unit → slice_get (given bis calls) number ≡ Some unit.octets
+of_unit setup calls bis air number (valid stream time octets) unit its is =
     ap (λ l. slice_get l number) (sym (given_units setup bis calls))
     ∙ slice_get-map (λ (u : AudioUnit). u.octets) (accepted (framed_calls setup bis calls)) number
     ∙ ap (option_map (λ (u : AudioUnit). u.octets)) its.accepted
     ∙ ap Some (sym (its.valid_is stream time octets refl))
     ∙ ap (λ (u : AudioUnit). Some u.octets) (same_Some (record { time = time; octets = octets }) unit is)
-of_unit setup calls bis number (lost stream time) unit its is = absurd (none-some unit is)
+of_unit setup calls bis air number (lost stream time) unit its is = absurd (none-some unit is)
 
 within_by : {A : Type 0} (hit : Bool) (x : A) (xs kept : List A) (later : ℕ → ℕ) → ((k : ℕ) → k < length kept → later k < length xs)
     → (k : ℕ) → k < length (cond hit (x ∷ kept) kept) → place_by hit later k < length (x ∷ xs)
@@ -151,12 +152,12 @@ place_within : {A : Type 0} (test : A → Bool) (xs : List A) (k : ℕ) → k < 
 place_within test [] k below = below
 place_within test (x ∷ xs) k below = within_by (test x) x xs (filter test xs) (place test xs) (place_within test xs) k below
 
-pub numbered_units : (setup : Setup) (calls : List Call) (bis : ℕ) (entries : List Handed)
-    → InUnitOrder setup calls bis (of_stream bis entries) → Numbered (given bis calls) (units_on bis entries)
-numbered_units setup calls bis entries order =
+pub numbered_units : (setup : Setup) (calls : List Call) (bis : ℕ) (air : Air) (entries : List Handed)
+    → InUnitOrder setup calls bis air (of_stream bis entries) → Numbered (given bis calls) (units_on bis entries)
+numbered_units setup calls bis air entries order =
     let all = of_stream bis entries in
     let index = place is_valid all in
-    let long : length order.numbers ≡ length all = zip_long (IsOfUnit setup calls bis) order.numbers all order.each in
+    let long : length order.numbers ≡ length all = zip_long (IsOfUnit setup calls bis air) order.numbers all order.each in
     let same = same_long bis entries in
     record {
       number = λ k. slice_index order.numbers (index k);
@@ -165,8 +166,8 @@ numbered_units setup calls bis entries order =
           AllPairs-from_increasing order.numbers order.rising (index j) (index k) 0 (place_rises is_valid all j k below)
           (omega (arith, last, long));
       gives = λ k unit is.
-          let found = zip_get (IsOfUnit setup calls bis) shown order.numbers all (index k) (shown (valid 0 unit.time unit.octets))
+          let found = zip_get (IsOfUnit setup calls bis air) shown order.numbers all (index k) (shown (valid 0 unit.time unit.octets))
           order.each
           (place_gets is_valid shown all (shown (valid 0 unit.time unit.octets)) k (shown_at bis entries k unit is)) in
-          of_unit setup calls bis (slice_index order.numbers (index k)) found.one unit found.holds found.is;
+          of_unit setup calls bis air (slice_index order.numbers (index k)) found.one unit found.holds found.is;
     }

@@ -1,9 +1,11 @@
--- What the relay of a sink offered is in the order of source 0: while the relay stands it is the end of what the sink handed up, and
--- nothing is offered behind its `drop`.
-use Rattle.std.proofs.Common.{ℕ, zero, suc, ◌≡◌, ◌⊎◌, ◌<◌, ◌≤◌, ◌==◌, ◌||◌, ◌∙◌, cond, Bool, true, false, List, [], ◌∷◌, ◌++◌}
-use Rattle.std.proofs.Common.{length, slice_get, Option, None, Some, refl, sym, ap, subst, arith, inl, inr}
-use Rattle.std.specs.List.{Contains, list_any}
-use Rattle.std.proofs.lemmas.Bool.{and_parts, cases_Bool, eq-eqb, eqb-true, false≢true, or_parts}
+-- What the relay of a sink offered is in the order of source 0: as an event of source 0 is closed while the relay stands, it is the end
+-- of what the sink handed up, and no other step offers anything.
+use Rattle.std.proofs.Common.{ℕ, zero, suc, ◌≡◌, ◌⊎◌, ◌<◌, ◌≤◌, ◌==◌, ◌&&◌, ◌||◌, ◌∙◌, cond, Bool, true, false, List, [], ◌∷◌, ◌++◌}
+use Rattle.std.proofs.Common.{length, slice_get, Option, None, Some, refl, sym, ap, ap₂, subst, arith, inl, inr}
+use Rattle.std.specs.Prelude.{unwrap_or}
+use Rattle.std.specs.List.{Contains}
+use Rattle.std.specs.Option.{option_or}
+use Rattle.std.proofs.lemmas.Bool.{and_parts, cases_Bool, eqb-true, false≢true, or_parts}
 use Rattle.std.proofs.lemmas.List.{append-nil}
 use Rattle.std.proofs.lemmas.Option.{none-some}
 use Rattle.bcast_base.specs.declared.unit.Unit.{Unit as AudioUnit}
@@ -11,20 +13,23 @@ use Rattle.scenario_text.specs.Ranges.{IsInRange}
 use Rattle.scenario_text.specs.declared.step.Step.{Step}
 use Rattle.scenario_text.specs.declared.step.Step.TheVariants as steps
 use Rattle.source_machine.specs.Calls.{given}
+use Rattle.unit_outlets.specs.Handed.{Handed}
 use Rattle.transcript_text.specs.declared.refusal.Refusal.{Refusal}
 use Rattle.scenario_history.specs.Airs.{MeetAirs}
-use Rattle.scenario_history.specs.Gifts.{Offer, after_offer, after_offers, dropped_for, happened, offers_before, units_on}
-use Rattle.scenario_history.specs.Gifts.{with_gift_unless, with_gifts}
-use Rattle.scenario_history.specs.Relays.{Route, relay_of}
+use Rattle.scenario_history.specs.Boxes.{closing}
+use Rattle.scenario_history.specs.Gifts.{Offer, after_offer, after_offers, closes_first, dropped_for, handed_of, happened, offers_before}
+use Rattle.scenario_history.specs.Gifts.{units_on, with_gift_unless, with_gifts}
+use Rattle.scenario_history.specs.Relays.{Route, had_relay, relay_given, relay_of}
 use Rattle.scenario_history.specs.Source.{setup_of, source_calls}
 use Rattle.source_machine.specs.Airs.{Airs}
-use Rattle.scenario_history.specs.Steps.{is_of_source, steps_of_source}
-use Rattle.scenario_laws.proofs.Gifts.Citable.{contains_cases, happens_legally, in_range, left_by_gifts}
-use Rattle.scenario_laws.specs.Gifts.Laws.{handed_on, is_route, offered}
+use Rattle.scenario_history.specs.Steps.{chosen_of, is_of_source, last_given, steps_of_source}
+use Rattle.scenario_laws.proofs.Gifts.Citable.{chosen_happened, contains_cases, first_free, first_handed, had_happened, happens_legally}
+use Rattle.scenario_laws.proofs.Gifts.Citable.{in_range, left_by_gifts, not_yet}
+use Rattle.scenario_laws.specs.Gifts.Laws.{is_route, offered}
 use Rattle.scenario_laws.specs.Gifts.Legal.{AreLegal, AreSaidLegally}
 use Rattle.scenario_laws.specs.Laws.{StepsInOrder, any_since, given_since_made, handed_since, injected_since, is_given, is_injected, is_made}
-use Rattle.scenario_laws.specs.Laws.{of_sink}
-use Rattle.scenario_laws.specs.Relayed.{EndsWith}
+use Rattle.scenario_laws.specs.Laws.{air_in, of_sink}
+use Rattle.scenario_laws.specs.Relayed.{EndsWith, injected_till_last_offer}
 use Rattle.scenario_laws.proofs.Relaying.Ending.{ends_with}
 use Rattle.scenario_laws.proofs.Relaying.Numbered.{Numbered, numbered_slots, numbered_units}
 
@@ -111,10 +116,6 @@ ungiven n (step ∷ earlier) none =
     given_if (is_made n earlier step) (is_injected n step) (is_given n step) (any_since (is_made n) (is_injected n) earlier)
     (any_since (is_made n) (is_given n) earlier) (either_given n step) (ungiven n earlier) none
 
-uninjected_if : (begins one rest : Bool) → one ≡ false → rest ≡ false → cond begins one (one || rest) ≡ false
-uninjected_if true one rest now before = now
-uninjected_if false one rest now before = ap (λ b. b || rest) now ∙ before
-
 -- gifts inject nothing
 injected_unless : (n : ℕ) (reason : Option Refusal) (offer : Offer) (made : List Step)
     → injected_since (is_made n) n (with_gift_unless reason offer made) ≡ injected_since (is_made n) n made
@@ -127,14 +128,55 @@ injected_offers airs n [] made = refl
 injected_offers airs n (offer ∷ offers) made =
     injected_offers airs n offers (after_offer airs offer made) ∙ injected_unless n (dropped_for airs offer made) offer made
 
-pub uninjected : (airs : Airs) (n : ℕ) (said : List Step) → list_any (is_injected n) said ≡ false
-    → injected_since (is_made n) n (happened airs said) ≡ false
-uninjected airs n [] none = refl
-uninjected airs n (step ∷ earlier) none =
-    let parts = or_parts (is_injected n step) (list_any (is_injected n) earlier) none in
+made_alike : (n : ℕ) (one other : List Step) (step : Step) → is_made n one step ≡ is_made n other step
+made_alike n one other (steps.Sink sink streams slots mtu) = refl
+made_alike n one other step = refl
+
+injected_happened : (airs : Airs) (n : ℕ) (said : List Step)
+    → injected_since (is_made n) n (happened airs said) ≡ injected_since (is_made n) n said
+injected_happened airs n [] = refl
+injected_happened airs n (step ∷ earlier) =
+    let now = is_injected n step in
     let gifted = with_gifts airs (happened airs earlier) step in
-    uninjected_if (is_made n gifted step) (is_injected n step) (injected_since (is_made n) n gifted) parts.0
-    (injected_offers airs n (offers_before airs (happened airs earlier) step) (happened airs earlier) ∙ uninjected airs n earlier parts.1)
+    ap (λ begins. cond begins now (now || injected_since (is_made n) n gifted)) (made_alike n gifted earlier step)
+    ∙ ap (λ rest. cond (is_made n earlier step) now (now || rest))
+    (injected_offers airs n (offers_before airs (happened airs earlier) step) (happened airs earlier) ∙ injected_happened airs n earlier)
+
+-- ---- a step that closes an event of source 0
+
+relay_next : (given one other : Option (Option Route)) → unwrap_or one None ≡ unwrap_or other None
+    → unwrap_or (option_or given one) None ≡ unwrap_or (option_or given other) None
+relay_next None one other same = same
+relay_next (Some route) one other same = refl
+
+-- gifts are no part of the relays
+relay_happened : (airs : Airs) (n : ℕ) (said : List Step) → relay_of n (happened airs said) ≡ relay_of n said
+relay_happened airs n [] = refl
+relay_happened airs n (step ∷ earlier) =
+    relay_next (relay_given n step) (last_given (relay_given n) (with_gifts airs (happened airs earlier) step))
+    (last_given (relay_given n) earlier)
+    ((left_by_gifts airs (happened airs earlier) step).relay n ∙ relay_happened airs n earlier)
+
+closes_alike : (one other : List Step) (step : Step) → chosen_of one ≡ chosen_of other → closes_first one step ≡ closes_first other step
+closes_alike one other steps.Event same = ap (λ s. s == 0) same
+closes_alike one other steps.Stop same = ap (λ s. s == 0) same
+closes_alike one other (steps.Terminate reason) same = ap (λ s. s == 0) same
+closes_alike one other step same = refl
+
+-- it leaves the relays
+close_relays : (n : ℕ) (said gifted : List Step) (step : Step) → closes_first said step ≡ true
+    → relay_of n (step ∷ gifted) ≡ relay_of n gifted
+close_relays n said gifted (steps.Relay sink from into) is = absurd (false≢true is)
+close_relays n said gifted (steps.Drop sink) is = absurd (false≢true is)
+close_relays n said gifted step is = refl
+
+-- and it injects nothing
+close_injects : (n : ℕ) (said gifted : List Step) (step : Step) → closes_first said step ≡ true
+    → injected_since (is_made n) n (step ∷ gifted) ≡ injected_since (is_made n) n gifted
+close_injects n said gifted (steps.Sink sink streams slots mtu) is = absurd (false≢true is)
+close_injects n said gifted (steps.Inject sink back bis subevent octets) is = absurd (false≢true is)
+close_injects n said gifted (steps.Train sink time ext adv acad) is = absurd (false≢true is)
+close_injects n said gifted step is = refl
 
 -- ---- what it handed up
 
@@ -170,7 +212,9 @@ numbered_since order airs meets boxes n bis made legal below least greatest clea
     let units = of_sink 0 n (handed_since (is_made n) airs made) in
     elim (at_most_one setup.info.framing (framing_fits airs boxes made legal)) [
       | inl plain ↦ numbered_slots setup calls bis units (stays.in_source_order bis below least greatest plain clean)
-      | inr framed ↦ numbered_units setup calls bis units (stays.in_unit_order bis below least greatest framed clean)
+      | inr framed ↦
+          numbered_units setup calls bis (air_in airs (steps_of_source 0 made) bis) units
+          (stays.in_unit_order bis below least greatest framed clean)
     ]
 
 -- ---- while the relay stands, and behind its `drop`
@@ -185,29 +229,31 @@ way_of bis to None is = absurd (false≢true is)
 way_of bis to (Some route) is =
     record { route = route; is = refl; goes = eqb-true route.to to (and_parts (route.bis == bis) (route.to == to) is).1 }
 
-stands_now : (n bis to : ℕ) (gifted : List Step) → is_route bis to (relay_of n (steps.Relay n bis to ∷ gifted)) ≡ true
-stands_now n bis to gifted = rw (eq-eqb n n refl, eq-eqb bis bis refl, eq-eqb to to refl) refl
+none_if : (route closes : Bool) (bis : ℕ) (units : List Handed) → (route && closes) ≡ false
+    → cond route (units_on bis (cond closes units [])) [] ≡ []
+none_if true true bis units not = absurd (false≢true (sym not))
+none_if true false bis units not = refl
+none_if false closes bis units not = refl
 
--- the step that ends the relay hands nothing up
-none_handed : (airs : Airs) (n bis to : ℕ) (made : List Step) (step : Step) → is_route bis to (relay_of n made) ≡ true
-    → is_route bis to (relay_of n (step ∷ with_gifts airs made step)) ≡ false → handed_on airs n bis made step ≡ []
-none_handed airs n bis to made (steps.Drop sink) was gone = refl
-none_handed airs n bis to made (steps.Relay sink from into) was gone = refl
-none_handed airs n bis to made step was gone =
-    absurd (false≢true (sym gone ∙ ap (is_route bis to) ((left_by_gifts airs made step).relay n) ∙ was))
-
+-- a step that closes no event of source 0 while the relay stands offers nothing
 none_offered : (airs : Airs) (n bis to : ℕ) (step : Step) (earlier : List Step)
-    → is_route bis to (relay_of n (happened airs (step ∷ earlier))) ≡ false
+    → (is_route bis to (relay_of n earlier) && closes_first earlier step) ≡ false
     → offered airs n bis to (step ∷ earlier) ≡ offered airs n bis to earlier
-none_offered airs n bis to step earlier gone =
+none_offered airs n bis to step earlier not =
     let made = happened airs earlier in
     let before = offered airs n bis to earlier in
-    elim (cases_Bool (is_route bis to (relay_of n made))) [
-      | inl was ↦
-          ap (λ hit. before ++ cond hit (handed_on airs n bis made step) []) was
-          ∙ ap (λ l. before ++ l) (none_handed airs n bis to made step was gone) ∙ append-nil before
-      | inr not ↦ ap (λ hit. before ++ cond hit (handed_on airs n bis made step) []) not ∙ append-nil before
-    ]
+    let route = is_route bis to (relay_of n made) in
+    let closes = closes_first made step in
+    let same : (route && closes) ≡ (is_route bis to (relay_of n earlier) && closes_first earlier step) =
+    ap₂ (λ relay hit. is_route bis to relay && hit) (relay_happened airs n earlier)
+    (closes_alike made earlier step (chosen_happened airs earlier)) in
+    ap (λ units. before ++ cond route (units_on bis units) []) (first_handed airs n made step)
+    ∙ ap (λ l. before ++ l) (none_if route closes bis (handed_of 0 n (closing airs 0 made)) (same ∙ not))
+    ∙ append-nil before
+
+numbered_none : (octets : List (List ℕ)) → Numbered octets []
+numbered_none octets =
+    record { number = λ k. k; rises = λ j k below within. below; gives = λ k unit is. absurd (none-some unit is) }
 
 -- a step more gives source 0 the same units, and may be more
 happens_more : (airs : Airs) (bis : ℕ) (made : List Step) (step : Step)
@@ -220,7 +266,7 @@ happens_more airs bis made step k octets is =
 
 pub offered_numbered : StepsInOrder → (airs : Airs) → MeetAirs airs → (boxes n bis to : ℕ) (said : List Step)
     → AreSaidLegally airs boxes said
-    → Contains said (steps.Relay n bis to) → 1 ≤ bis → bis ≤ 31 → list_any (is_injected n) said ≡ false
+    → Contains said (steps.Relay n bis to) → 1 ≤ bis → bis ≤ 31 → injected_till_last_offer n bis to said ≡ false
     → Numbered (given bis (source_calls (steps_of_source 0 (happened airs said)))) (offered airs n bis to said)
 offered_numbered order airs meets boxes n bis to [] legal within least greatest clean = absurd (omega (arith, within.1))
 offered_numbered order airs meets boxes n bis to (step ∷ earlier) legal within least greatest clean =
@@ -228,20 +274,33 @@ offered_numbered order airs meets boxes n bis to (step ∷ earlier) legal within
     let made = happened airs earlier in
     let gifted = with_gifts airs made step in
     let octets = given bis (source_calls (steps_of_source 0 (step ∷ gifted))) in
-    elim (cases_Bool (is_route bis to (relay_of n (step ∷ gifted)))) [
-      | inl stands ↦
-          let way = way_of bis to (relay_of n (step ∷ gifted)) stands in
+    let left = left_by_gifts airs made step in
+    let one = injected_since (is_made n) n earlier in
+    let other = injected_till_last_offer n bis to earlier in
+    elim (cases_Bool (is_route bis to (relay_of n earlier) && closes_first earlier step)) [
+      | inl here ↦
+          let parts = and_parts (is_route bis to (relay_of n earlier)) (closes_first earlier step) here in
+          let relay : relay_of n (step ∷ gifted) ≡ relay_of n earlier =
+          close_relays n earlier gifted step parts.1 ∙ left.relay n ∙ relay_happened airs n earlier in
+          let way = way_of bis to (relay_of n (step ∷ gifted)) (ap (is_route bis to) relay ∙ parts.0) in
+          let clean_now : injected_since (is_made n) n (step ∷ gifted) ≡ false =
+          close_injects n earlier gifted step parts.1
+          ∙ injected_offers airs n (offers_before airs made step) made
+          ∙ injected_happened airs n earlier ∙ ap (λ b. cond b one other) (sym here) ∙ clean in
           numbered_end octets (units_on bis (of_sink 0 n (handed_since (is_made n) airs (step ∷ gifted)))) (offered airs n bis to said)
           (ends_with airs boxes n bis to said legal within way.route way.is way.goes)
           (numbered_since order airs meets boxes n bis (step ∷ gifted) (happens_legally airs boxes said legal)
-          (in_range airs boxes n bis to said legal within) least greatest (uninjected airs n said clean))
-      | inr gone ↦ elim (contains_cases step earlier (steps.Relay n bis to) within) [
-        | inl is ↦ absurd (false≢true (sym gone ∙ ap (λ s. is_route bis to (relay_of n (s ∷ gifted))) is ∙ stands_now n bis to gifted))
+          (in_range airs boxes n bis to said legal within) least greatest clean_now)
+      | inr not ↦ elim (contains_cases step earlier (steps.Relay n bis to) within) [
+        | inl is ↦
+            let free : had_relay to earlier ≡ false =
+            sym (had_happened airs to earlier) ∙ first_free airs boxes n bis to step made is legal.1 in
+            subst (Numbered octets) (sym (not_yet airs n bis to step earlier free)) (numbered_none octets)
         | inr before ↦
-            subst (Numbered octets) (sym (none_offered airs n bis to step earlier gone))
+            subst (Numbered octets) (sym (none_offered airs n bis to step earlier not))
             (numbered_more (given bis (source_calls (steps_of_source 0 made))) octets (offered airs n bis to earlier)
             (happens_more airs bis made step)
             (offered_numbered order airs meets boxes n bis to earlier legal.0 before least greatest
-            (or_parts (is_injected n step) (list_any (is_injected n) earlier) clean).1))
+            (ap (λ b. cond b one other) (sym not) ∙ clean)))
       ]
     ]

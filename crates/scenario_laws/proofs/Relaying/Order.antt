@@ -7,6 +7,7 @@ use Rattle.std.specs.List.Sorted.{IsStrictlyIncreasing}
 use Rattle.std.proofs.lemmas.List.{length-map}
 use Rattle.bcast_base.specs.declared.unit.Unit.{Unit as AudioUnit}
 use Rattle.big_info.specs.Time.{iso_us_of, sync_delay_of}
+use Rattle.isoal_base.specs.Air.{Air}
 use Rattle.isoal_framed.specs.Calls.{accepted}
 use Rattle.source_machine.specs.Calls.{Call, Setup, framed_calls}
 use Rattle.unit_outlets.specs.Handed.{Handed}
@@ -72,8 +73,8 @@ rising_map f rises xs increasing k within =
     let now : f (slice_index xs k) < f (slice_index xs (k + 1)) = rises (slice_index xs k) (slice_index xs (k + 1)) (increasing k long) in
     omega (arith, one, next, now)
 
-pub zip_map : {A B : Type 0} (f : A → A) (R S : A → B → Type 0) → ((a : A) → (b : B) → R a b → S (f a) b) → (xs : List A) (ys : List B)
-    → AllZip R xs ys
+pub zip_map : {A B C : Type 0} (f : A → C) (R : A → B → Type 0) (S : C → B → Type 0) → ((a : A) → (b : B) → R a b → S (f a) b)
+    → (xs : List A) (ys : List B) → AllZip R xs ys
     → AllZip S (map f xs) ys
 zip_map f R S each [] [] all = tt
 zip_map f R S each [] (b ∷ ys) all = absurd all
@@ -88,9 +89,9 @@ rendered anchor sync sdu iso delay time ready = omega (arith, ready)
 
 of_offered : (setup : Setup) (calls : List Call) (to : ℕ) (answers : List Answered) (units : List AudioUnit)
     → accepted (framed_calls setup to calls) ≡ passed answers → map (λ (answer : Answered). answer.offer.unit) answers ≡ units
-    → (number : ℕ) (entry : Handed) → IsOfUnit setup calls to number entry
+    → (air : Air) (number : ℕ) (entry : Handed) → IsOfUnit setup calls to air number entry
     → IsOfOffered setup to units (place (λ (answer : Answered). is_none answer.reason) answers number) entry
-of_offered setup calls to answers units passes offers number entry of_unit =
+of_offered setup calls to answers units passes offers air number entry of_unit =
     let unit = λ (answer : Answered). answer.offer.unit in
     let taken = λ (answer : Answered). is_none answer.reason in
     let there : slice_get (passed answers) number ≡ Some of_unit.unit = ap (λ l. slice_get l number) (sym passes) ∙ of_unit.accepted in
@@ -106,10 +107,10 @@ of_offered setup calls to answers units passes offers number entry of_unit =
     }
 
 pub in_relay_order : ((boxes : ℕ) → RelayLaw boxes) → (airs : Airs) (boxes : ℕ) (said : List Step) → AreSaidLegally airs boxes said
-    → (n bis to : ℕ) → Contains said (steps.Relay n bis to) → (entries : List Handed)
-    → InUnitOrder (setup_of (steps_of_source 1 (happened airs said))) (source_calls (steps_of_source 1 (happened airs said))) to entries
+    → (n bis to : ℕ) → Contains said (steps.Relay n bis to) → (air : Air) (entries : List Handed)
+    → InUnitOrder (setup_of (steps_of_source 1 (happened airs said))) (source_calls (steps_of_source 1 (happened airs said))) to air entries
     → InRelayOrder (setup_of (steps_of_source 1 (happened airs said))) to (offered airs n bis to said) entries
-in_relay_order law airs boxes said legal n bis to within entries order =
+in_relay_order law airs boxes said legal n bis to within air entries order =
     let own = steps_of_source 1 (happened airs said) in
     let answers = offered_to to (all_answered airs said) in
     let taken = λ (answer : Answered). is_none answer.reason in
@@ -117,8 +118,8 @@ in_relay_order law airs boxes said legal n bis to within entries order =
     record {
       numbers = map (place taken answers) order.numbers;
       rising = rising_map (place taken answers) (place_rises taken answers) order.numbers order.rising;
-      each = zip_map (place taken answers) (IsOfUnit (setup_of own) (source_calls own) to)
+      each = zip_map (place taken answers) (IsOfUnit (setup_of own) (source_calls own) to air)
           (IsOfOffered (setup_of own) to (offered airs n bis to said))
-          (of_offered (setup_of own) (source_calls own) to answers (offered airs n bis to said) relayed.passed_is relayed.offered_is)
+          (of_offered (setup_of own) (source_calls own) to answers (offered airs n bis to said) relayed.passed_is relayed.offered_is air)
           order.numbers entries order.each;
     }

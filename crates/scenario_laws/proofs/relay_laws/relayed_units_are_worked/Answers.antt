@@ -1,0 +1,60 @@
+use Rattle.std.proofs.Common.{ℕ, zero, suc, ◌≡◌, ◌+◌, List, [], ◌∷◌, map, Some, refl, sym, ap, arith}
+use Rattle.std.specs.Prelude.{slice_get}
+use Rattle.std.specs.List.{AllZip}
+use Rattle.std.specs.List.Sorted.{IsStrictlyIncreasing}
+use Rattle.std.proofs.lemmas.Option.{none-some, same_Some}
+use Rattle.bcast_base.specs.declared.unit.Unit.{Unit as AudioUnit}
+use Rattle.unit_outlets.specs.Handed.{Handed, lost, valid}
+use Rattle.scenario_laws.specs.OrderRows.{equal_units, handed_both, its_setup}
+use Rattle.scenario_laws.specs.Relayed.{IsOfFirst, UnitPlace}
+use Rattle.scenario_laws.proofs.relay_laws.relayed_units_are_worked.Goals as goal
+
+abbrev octets_of : Handed → List ℕ
+octets_of (valid stream time octets) = octets
+octets_of (lost stream time) = []
+
+first_two : IsStrictlyIncreasing (0 ∷ 1 ∷ [])
+first_two zero within = omega arith
+first_two (suc k) within = absurd (omega (arith, within))
+
+-- only the first was handed up at this time
+first_place : (k : ℕ) (unit : AudioUnit) → slice_get handed_both k ≡ Some unit → unit.time ≡ 61460 → k ≡ 0
+first_place zero unit is time = refl
+first_place (suc zero) unit is time = let at = ap (λ (u : AudioUnit). u.time) (same_Some _ unit is) in absurd (omega (arith, at, time))
+first_place (suc (suc k)) unit is time = absurd (none-some unit is)
+
+its_place : (at : UnitPlace) → IsOfFirst equal_units handed_both its_setup 2 at (valid 2 122544 (0xa0 ∷ [])) → at.place ≡ 0
+its_place at is = first_place at.place is.unit is.is_handed (omega (arith, is.time_is))
+
+-- so no unit stands before it
+none_before : (first : Handed) (units : List UnitPlace)
+    → AllZip (IsOfFirst equal_units handed_both its_setup 2) units (first ∷ valid 2 122544 (0xa0 ∷ []) ∷ [])
+    → IsStrictlyIncreasing (map (λ (at : UnitPlace). at.place) units) → ⊥
+none_before first [] all rising = all
+none_before first (one ∷ []) all rising = all.1
+none_before first (one ∷ other ∷ []) all rising = let rises = rising 0 (omega arith) in omega (arith, rises, its_place other all.1.0)
+none_before first (one ∷ other ∷ third ∷ more) all rising = all.1.1
+
+of_unit : (k time : ℕ) → slice_get handed_both k ≡ Some (record { time = time; octets = 0xa0 ∷ [] })
+    → slice_get equal_units k ≡ Some (0xa0 ∷ [])
+    → IsOfFirst equal_units handed_both its_setup 2 (record { number = k; place = k }) (valid 2 (time + 61084) (0xa0 ∷ []))
+of_unit k time handed given = record {
+  unit = record { time = time; octets = 0xa0 ∷ [] };
+  is_given = given;
+  is_handed = handed;
+  stream = refl;
+  time_is = refl;
+  valid_is = λ stream time' octets is. sym (ap octets_of is);
+}
+
+pub returns : goal.returns
+returns c = record {
+  both = record {
+    units = record { number = 0; place = 0 } ∷ record { number = 1; place = 1 } ∷ [];
+    numbers_rise = first_two;
+    places_rise = first_two;
+    each = (of_unit 0 61460 refl refl, (of_unit 1 71460 refl refl, tt));
+  };
+  one_twice = λ order. none_before _ order.units order.each order.places_rise;
+  turned = λ order. none_before _ order.units order.each order.places_rise;
+}
