@@ -57,4 +57,6 @@ returns c = record {
   };
   one_twice = λ order. none_before _ order.units order.each order.places_rise;
   turned = λ order. none_before _ order.units order.each order.places_rise;
+  others_injected = refl;
+  injected = refl;
 }
