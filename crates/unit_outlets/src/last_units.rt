@@ -1,5 +1,6 @@
-ghost use Rattle.std.specs.Prelude.{◌≡◌, ◌≤◌, true, Some, [], reverse, slice_get, option_copied, unwrap_or, IfOk};
+ghost use Rattle.std.specs.Prelude.{◌≡◌, ◌<◌, ◌≤◌, true, Some, Err, [], length, reverse, slice_get, option_copied, unwrap_or, IfOk};
 ghost use Rattle.unit_outlets.specs.Account.{fresh};
+ghost use Rattle.unit_outlets.specs.Took.{Took};
 
 use crate::fault::OutletFault;
 use crate::outlet::Outlet;
@@ -9,7 +10,7 @@ use circular_buffer::HeapCircularBuffer;
 use std::alloc::Global;
 use std::marker::Model;
 
-/// A sound box that also keeps its newest units.
+/// A sound box that also keeps its newest units. A unit of no octets takes no memory.
 #[derive(Drop)]
 pub struct LastUnits {
     sums: Sums,
@@ -57,7 +58,10 @@ impl LastUnits {
 impl Outlet for LastUnits {
     ghost account = { λ b. b };
 
-    fn take(&mut self, octets: &[u8]) -> Result<(), OutletFault> {
+    fn take(&mut self, octets: &[u8]) -> Result<(), OutletFault>
+        ensures took { Took octets.now self.old self.new result }
+        ensures memory { result ≡ Err OutletFault.Memory → 0 < length octets.now }
+    {
         match self.sums.with_unit(octets.len()) {
             Some(sums) => {
                 let unit = Octets::copy(self.alloc, octets)?;
