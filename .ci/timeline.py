@@ -1,55 +1,29 @@
 #!/usr/bin/env python3
-"""timeline.py EXPLAIN [PICTURE]: makes pages of runs by tools/timeline.py and prints each in which something is wrong. Where it is named,
-the file PICTURE becomes the picture of the page of whole-life, as docs/whole-life.svg is.
+"""timeline.py EXPLAIN: reads runs as tools/timeline.py does, and prints each in which something is wrong.
 
-What a page embeds of a few runs is compared with values worked out by hand. Of each worked row, example and scenario of corpus/ each unit
-is valid exactly where each payload that carries it was heard in time, and the notes of `explain` on units and its counts are what the page
-works out of the lines. Where node is, the script of the pages is run over a document of its own (.ci/drawn.js), and what it drew and told
-after a click is compared too; and where a Chromium is, the same in it."""
+What the pages of a few runs embed is compared with values worked out by hand. Of each worked row, example and scenario of corpus/ each
+unit is valid exactly where each payload that carries it was heard in time, and the notes of `explain` on units and its counts are what is
+worked out of the lines. The tool itself is called with good and bad words and texts. What a page shows in a browser, pages.py asks."""
 import concurrent.futures
 import os
 import re
-import shutil
 import subprocess
 import sys
 import tempfile
 from collections import Counter
 
 sys.dont_write_bytecode = True
-HERE = os.path.dirname(os.path.abspath(__file__))
-TOP = os.path.dirname(HERE)
-sys.path[:0] = [os.path.join(TOP, 'tools'), HERE]
+from page_runs import TOP, explained, run_of, rows_of, text_of  # noqa: E402
 import scenarios  # noqa: E402
-from timeline_page import page_of, read_data  # noqa: E402
+from timeline_data import column, data_of, read_run  # noqa: E402
+from timeline_page import page_of  # noqa: E402
 from timeline_reading import OCTETS, RunFault, read_lines  # noqa: E402
 
-CHROMIUMS = ('chromium', 'chromium-browser', 'google-chrome')
 MOST_OCTETS = 1000000  # of the page of 3 s of stereo
 HEARD = ('heard', 'injected')
 MISSED = re.compile(r'unit (\d) (\d+) at (\d+): payload (\d+) was not heard, sent in event (.*)')
 COUNTED = re.compile(r'sink (\d) stream (\d+) of source (\d): units (\d+) valid, (\d+) lost, (\d+) never begun, (\d+) slots')
 
-
-def hundred():
-    """100 events of two streams, each payload sent once. Of stream b event e is place 2e + b - 1, and of three places the third is lost:
-    the events 1, 4 .. 97 of stream 1 and 2, 5 .. 98 of stream 2."""
-    lines = ['scenario 1', 'group unframed 20000 40000 8 10000 100 100 2 1 1 1 0 0 1800 1', 'sink 0 2 1', 'start 0', 'tuned 0 1 2']
-    for event in range(100):
-        lines += [f'unit {stream} - {event:02x}' for stream in (1, 2)] + ['event', 'air 0 3']
-    return lines + ['end']
-
-
-def stereo():
-    """3 s of stereo, as the generator would make them."""
-    lines = ['scenario 1', 'group unframed 20000 40000 8 10000 100 100 2 1 3 2 1 600 1800 1', 'sink 0 2 1', 'start 0', 'tuned 0 1 2']
-    for event in range(300):
-        lines += [f'unit {stream} - {event % 256:02x}' + 99 * '5a' for stream in (1, 2)] + ['event', f'air 0 {event % 9 + 1}']
-    return lines + ['end']
-
-
-# A unit is rendered a second after its event.
-GAP = ['scenario 1', 'group unframed 20000 1000000 8 10000 4 4 1 1 1 1 0 0 0 1', 'sink 0 1 1', 'start 0', 'tuned 0 1', 'unit 1 - aa',
-       'event', 'air 0 0', 'end']
 # Of each example its units: the sink and the stream, when it is rendered, its fate, the line that gave it, and its PDUs as payload, event,
 # subevent, when it is sent, and what it was to the sink.
 UNITS = {
@@ -93,13 +67,15 @@ UNITS = {
                                             (2, 2, 1, 40400, 'missed')]),
     ],
 }
-# The loss rates of each run: the sink, the source and the stream, the units that are valid, lost, and never begun, and the rate.
+# The loss rates of each run: the sink, the source and the stream, the units that are valid, lost, and never begun, and the rate; and the
+# longest gap: how many units, from when to when.
 RATES = {
-    'whole-life': [(0, 0, 1, 1, 1, 0, 0.5)],
-    'two-sources': [(0, 0, 1, 1, 0, 0, 0.0), (0, 1, 1, 1, 0, 0, 0.0), (1, 1, 1, 1, 1, 0, 0.5)],
-    'stereo': [(0, 0, 1, 2, 0, 0, 0.0), (0, 0, 2, 2, 0, 0, 0.0), (1, 0, 2, 1, 1, 0, 0.5)],
-    'framed-losses': [(0, 0, 1, 2, 1, 2, 0.6)],
-    'hundred': [(0, 0, 1, 67, 33, 0, 0.33), (0, 0, 2, 67, 33, 0, 0.33)],
+    'whole-life': [(0, 0, 1, 1, 1, 0, 0.5, [1, 70060, 80060])],
+    'two-sources': [(0, 0, 1, 1, 0, 0, 0.0, []), (0, 1, 1, 1, 0, 0, 0.0, []), (1, 1, 1, 1, 1, 0, 0.5, [1, 77444, 87444])],
+    'stereo': [(0, 0, 1, 2, 0, 0, 0.0, []), (0, 0, 2, 2, 0, 0, 0.0, []), (1, 0, 2, 1, 1, 0, 0.5, [1, 61460, 66460])],
+    'framed-losses': [(0, 0, 1, 2, 1, 2, 0.6, [3, 135124, 165124])],
+    'early-copies': [(0, 0, 1, 1, 2, 0, 0.666667, [2, 61260, 81260]), (1, 0, 1, 0, 2, 0, 1.0, [2, 71260, 91260])],
+    'hundred': [(0, 0, 1, 67, 33, 0, 0.33, [1, 72244, 82244]), (0, 0, 2, 67, 33, 0, 0.33, [1, 82244, 92244])],
 }
 # What stands in the lanes of each run beside events and units, in the order of the lines.
 MARKS = {
@@ -115,79 +91,73 @@ MARKS = {
 }
 
 
-def explained(explain, text):
-    return subprocess.run([explain], input=text, stdout=subprocess.PIPE, timeout=120, check=False).stdout.decode(OCTETS)
-
-
-def text_of(name):
-    made = {'hundred': hundred, 'three-seconds': stereo, 'gap': lambda: GAP, 'no-end': lambda: GAP[:-1]}
-    if name in made:
-        return '\n'.join([*made[name](), '']).encode()
-    with open(os.path.join(TOP, 'examples', name + '.scn'), 'rb') as file:
-        return file.read()
-
-
-def lane_of(data, shown):
-    return data['lanes'][shown['lane']]
-
-
-def units_of(data):
-    for unit in data['units']:
-        given = data['sources'][unit['source']]['given'][unit['given']]
-        yield lane_of(data, unit).removeprefix('sink '), unit['at'], unit['fate'], given[1], [tuple(it) for it in unit['pdus']]
+def units_of(run):
+    for unit in run.units:
+        pdus = [tuple(it) for it in unit.pdus()]
+        yield f'{unit.sink}, stream {unit.stream}', unit.at, unit.fate, unit.given.line, pdus
 
 
 def marks_of(data):
     lanes = {}
     for mark in data['marks']:
-        lanes.setdefault(lane_of(data, mark), []).append(mark['kind'])
+        lanes.setdefault(data['lanes'][mark['lane']], []).append(mark['kind'])
     return lanes
 
 
-def worked(pages):
+def worked(runs):
     """Each value that isn't the one that was worked out."""
-    for name, data in pages.items():
-        if name in UNITS and list(units_of(data)) != UNITS[name]:
-            yield f'{name}: the units are {list(units_of(data))}'
-        got = [tuple(it[key] for key in ('sink', 'source', 'stream', 'valid', 'lost', 'unbegun', 'rate')) for it in data['rates']]
+    for name, (run, data) in runs.items():
+        if name in UNITS and list(units_of(run)) != UNITS[name]:
+            yield f'{name}: the units are {list(units_of(run))}'
+        keys = ('sink', 'source', 'stream', 'valid', 'lost', 'unbegun', 'rate', 'longest')
+        got = [tuple(it[key] for key in keys) for it in data['rates']]
         if name in RATES and got != RATES[name]:
             yield f'{name}: the rates are {got}'
         if name in MARKS and marks_of(data) != MARKS[name]:
             yield f'{name}: the marks are {marks_of(data)}'
-    lost = [(lane_of(pages['hundred'], it), it['event'], it['at']) for it in pages['hundred']['units'] if it['fate'] == 'lost']
-    wanted = [(f'sink 0, stream {stream}', event, 62244 + 10000 * event) for event in range(100) for stream in (1, 2)
-              if event % 3 == stream]
+    lost = [(it.stream, it.event, it.at) for it in runs['hundred'][0].units if it.fate == 'lost']
+    wanted = [(stream, event, 62244 + 10000 * event) for event in range(100) for stream in (1, 2) if event % 3 == stream]
     if lost != wanted:
         yield f'hundred: lost are {lost}'
-    parts = pages['gap']['parts']
+    parts = runs['gap'][1]['parts']
     if len(parts) != 2 or parts[0][1] > 30000 or parts[1] != [1020060, 1030060]:
         yield f'gap: the parts are {parts}'
-    cut = pages['no-end']
-    if (cut['refusal'], cut['sources'][0]['events'], marks_of(cut)['source 0']) != ('line 9: NoEnd', [[0, 20000, 7]], ['start', 'refused']):
+    cut = runs['no-end'][1]
+    if (cut['refusal'], cut['sources'][0]['events'], marks_of(cut)['source 0']) != ('line 9: NoEnd', [7, 1], ['start', 'refused']):
         yield f'no-end: the refusal is {cut["refusal"]}, the marks are {marks_of(cut)}'
-    size = len(page_of(pages['three-seconds']).encode())
+    size = len(page_of(runs['three-seconds'][1], '').encode())
     if size > MOST_OCTETS:
         yield f'three seconds of stereo are {size} octets'
+    if column([5, 15, 25, 25, None]) != [5, 1, 10, 2, 0, 1, -26, 1] or column([]) != []:
+        yield f'a column is {column([5, 15, 25, 25, None])}'
 
 
-def differs_from_pdus(data):
+def differs_from_pdus(run):
     """A unit whose fate is not the one that what was heard of its PDUs gives, or None."""
-    for unit in data['units']:
-        if unit['given'] is None or 'octets' in unit or any(it[4] == 'injected' for it in unit['pdus']):
+    for unit in run.units:
+        pdus = unit.pdus()
+        if unit.given is None or unit.fate == 'valid' and (unit.given.octets or '-') != unit.octets or is_injected(pdus):
             continue
-        numbers = {it[0] for it in unit['pdus']}
-        heard = {it[0] for it in unit['pdus'] if it[4] in HEARD}
-        begun = unit['pdus'] and min(numbers) in heard
-        if (unit['fate'] == 'valid') != (numbers == heard) or unit['fate'] == 'unbegun' and begun:
+        numbers, heard = {it[0] for it in pdus}, heard_in(pdus)
+        begun = pdus and min(numbers) in heard
+        if (unit.fate == 'valid') != (numbers == heard) or unit.fate == 'unbegun' and begun:
             return unit
     return None
 
 
-def notes_differ(data, text):
-    """What of the notes on units and of the counts is not what the page works out, or None."""
-    lines = read_lines(text)
+def is_injected(pdus):
+    return any(it[4] == 'injected' for it in pdus)
+
+
+def heard_in(pdus):
+    return {it[0] for it in pdus if it[4] in HEARD}
+
+
+def told_of(told):
+    """What the notes tell: of each unit, by the line that told it, its sink, its stream and its time, the payloads that were missed with
+    their places, and the counts of units."""
     missed, counts = {}, Counter()
-    for line in lines:
+    for line in read_lines(rows_of(told)):
         for note in line.notes:
             found = MISSED.fullmatch(note)
             if found:
@@ -197,25 +167,29 @@ def notes_differ(data, text):
             if found:
                 sink, stream, source, *units = map(int, found.groups())
                 counts.update({(sink, source, stream, fate): count for fate, count in zip(('valid', 'lost', 'unbegun', 'empty'), units)})
+    return missed, counts
+
+
+def notes_differ(run, told):
+    """What of the notes on units and of the counts is not what is worked out here, or None."""
+    missed, counts = told_of(told)
     wanted = Counter()
-    for unit in data['units']:
-        sink, stream = map(int, re.fullmatch(r'sink (\d), stream (\d+)', lane_of(data, unit)).groups())
-        wanted[sink, unit['source'], stream, unit['fate']] += 1
-        if unit['fate'] in ('lost', 'unbegun') and not any(it[4] == 'injected' for it in unit['pdus']):
-            told = missed.get((unit['line'], sink, stream, unit['at']), {})
-            if told != missed_in(data, unit):
-                return f'{unit}: told as missed is {told}'
-    return f'the counts are {+counts}, not {wanted}' if not data['refusal'] and +counts != wanted else None
+    for unit in run.units:
+        wanted[unit.sink, unit.stay.source.number, unit.stream, unit.fate] += 1
+        if unit.fate in ('lost', 'unbegun') and not is_injected(unit.pdus()):
+            noted = missed.get((unit.line, unit.sink, unit.stream, unit.at), {})
+            if noted != missed_in(unit):
+                return f'{unit}: told as missed is {noted}'
+    return f'the counts are {+counts}, not {wanted}' if not run.refusal and +counts != wanted else None
 
 
-def missed_in(data, unit):
+def missed_in(unit):
     """The payloads of a unit that weren't heard, each with the events and subevents in which it was sent: of a framed one the first."""
-    heard = {it[0] for it in unit['pdus'] if it[4] in HEARD}
-    missed = {}
-    for number, event, subevent, *_ in unit['pdus']:
+    heard, missed = heard_in(unit.pdus()), {}
+    for number, event, subevent, *_ in unit.pdus():
         if number not in heard:
             missed.setdefault(number, []).append((event, subevent))
-    return missed if unit['slot'] is not None else dict(sorted(missed.items())[:1])
+    return missed if unit.slot is not None else dict(sorted(missed.items())[:1])
 
 
 def over_all(explain):
@@ -225,125 +199,89 @@ def over_all(explain):
 
     def tried(case):
         try:
-            text = explained(explain, case[1])
-            data = read_data(text)
+            told = explained(explain, case[1])
+            run, _ = run_of(told)
         except RunFault as fault:
             return f'{case[0]}: {fault}'
-        wrong = differs_from_pdus(data) or notes_differ(data, text)
+        wrong = differs_from_pdus(run) or notes_differ(run, told)
         return wrong and f'{case[0]}: {wrong}'
     with concurrent.futures.ThreadPoolExecutor(os.cpu_count()) as pool:
         return [it for it in pool.map(tried, found) if it], len(found)
 
 
-def by_words(explain, folder):
-    """The tool by its words: a page, and what is no run."""
+# What the tool is called with behind the page, the text on its standard input, its exit status, and what it says. A run's text is changed
+# by one replacement.
+WORDS = (
+    ([], None, 0, ''),
+    (['--title', 'a <run> & more'], None, 0, ''),
+    (['--fold', '5'], None, 0, ''),
+    (['--fold', '\u00b2'], None, 2, 'no time in ms'),
+    (['--fold', '-1'], None, 2, 'no time in ms'),
+    (['--folded'], None, 2, 'unrecognized arguments'),
+    (['another.html'], None, 2, 'unrecognized arguments'),
+    ([], ('60060', '60061'), 1, 'is not of slot 0'),
+    ([], ('unit 0 1 at 60060', 'unit \u00b2 1 at 60060'), 1, 'hands up the unit'),
+    ([], ('unit 0 1 at 60060', 'unit 0 1 at \u00b2'), 1, 'are not those of the lines'),
+    ([], ('40000 8 10000', '40000 0 10000'), 1, 'no source starts on this group'),
+    ([], ('4 4 1 1 1 1', '4 4 0 1 1 1'), 1, 'no source starts on this group'),
+    ([], ('4 4 1 1 1 1', '4 4 1 1 0 1'), 1, 'no source starts on this group'),
+    ([], ('4 4 1 1 1 1', '4 4 1 1 999999999 1'), 1, 'out of its bounds'),
+)
+NO_RUNS = (('no run\n', 'row 1 is not what'), ('', 'no run is told'), ('\n', 'row 1 is not what'), ('2 end\n', 'row 1 is not what'))
+
+
+def by_words(told, folder):
+    """Each end of the tool that isn't the one that its words and its text should bring."""
     tool, page = os.path.join(TOP, 'tools', 'timeline.py'), os.path.join(folder, 'page.html')
-    told = explained(explain, text_of('whole-life'))
-    cases = [(told, 0, ''), ('no run\n', 1, 'timeline: row 1 is not what'), (told.replace('60060', '60061'), 1, 'is not of slot 0')]
-    for text, status, said in cases:
-        done = subprocess.run([sys.executable, tool, page], input=text.encode(OCTETS), capture_output=True, check=False)
-        if done.returncode != status or said not in done.stderr.decode():
-            yield f'the tool ends with {done.returncode} and says {done.stderr.decode()!r}'
+
+    def ends(words, text, status, said, **more):
+        more = {'input': text.encode(OCTETS), 'capture_output': True, **more}
+        done = subprocess.run([sys.executable, tool, *words], check=False, timeout=60, **more)
+        errors = done.stderr.decode(errors='replace')
+        if done.returncode != status or said not in errors or 'Traceback' in errors or status == 1 and errors.count('\n') != 1:
+            yield f'the tool with {words} ends with {done.returncode} and says {errors!r}'
+
+    for words, change, status, said in WORDS:
+        yield from ends([page, *words], told.replace(*change) if change else told, status, said)
+    for text, said in NO_RUNS:
+        yield from ends([page], text, 1, said)
+    for unwritten in (folder, os.path.join(folder, 'none', 'page.html'), *(['/dev/full'] if os.path.exists('/dev/full') else [])):
+        yield from ends([unwritten], told, 1, 'timeline: [Errno')
+    yield from ends(['--help'], '', 0, '')
+    yield from ends([], '', 2, 'required')
+    closed = subprocess.run(['sh', '-c', 'exec "$@" <&-', 'sh', sys.executable, tool, page], capture_output=True, check=False, timeout=60)
+    if closed.returncode != 1 or closed.stderr != b'timeline: standard input is closed\n':
+        yield f'the tool without standard input ends with {closed.returncode} and says {closed.stderr!r}'
+    yield from page_differs(told, tool, page)
+
+
+def page_differs(told, tool, page):
+    """Whether the tool writes another page than its parts, or a name that isn't taken as text."""
+    name = '</title><script>0</script>'
+    subprocess.run([sys.executable, tool, page, '--title', name], input=told.encode(OCTETS), check=True)
     with open(page, encoding='utf-8') as file:
-        if file.read() != page_of(read_data(told)):
-            yield 'the tool writes another page'
-
-
-def by_chromium(browser, folder):
-    """The words of the browser that prints a page as it is once it was drawn."""
-    return lambda page, asked: [
-        browser, '--headless', '--no-sandbox', '--disable-gpu', f'--user-data-dir={folder}/profile', '--virtual-time-budget=5000',
-        '--window-size=1200,900', '--dump-dom', f'file://{page}#{asked}']
-
-
-def by_node(node):
-    """The words of node that runs the script of a page over a document of its own."""
-    return lambda page, asked: [node, os.path.join(HERE, 'drawn.js'), page, asked]
-
-
-def opened(words):
-    """The page as the script has it once it was drawn."""
-    return subprocess.run(words, capture_output=True, timeout=120, check=True).stdout.decode()
-
-
-def drawn_in(document):
-    """How many units of each fate are drawn in each lane."""
-    return Counter(re.findall(r'class="unit (\w+)(?: chosen)?"[^>]*data-lane="([^"]*)"', document))
-
-
-def differs_drawn(words_for, pages, folder):
-    """Each page that is drawn otherwise, and each click that tells something else."""
-    for name in ('whole-life', 'two-sources', 'stereo', 'hundred', 'framed-losses', 'gap'):
-        page, data = os.path.join(folder, name + '.html'), pages[name]
-        with open(page, 'w', encoding='utf-8') as file:
-            file.write(page_of(data))
-        document = opened(words_for(page, f'show=unit-{len(data["units"]) - 1}'))
-        wanted = Counter((it['fate'], lane_of(data, it)) for it in data['units'])
-        if drawn_in(document) != wanted:
-            yield f'{name}: units are drawn as {drawn_in(document)}, not {wanted}'
-        if document.count('class="fold"') != len(data['parts']) - 1:
-            yield f'{name}: not all gaps are folded'
-        if len(re.findall(r'class="mark ', document)) != len(data['marks']):
-            yield f'{name}: not all marks are drawn'
-        told = document.partition('id="pdus"')[2].partition('</table>')[0]
-        cells = [re.findall(r'<td>([^<]*)</td>', row) for row in told.split('</tr>')[1:-1]]
-        wanted = [[*map(str, it[:3]), f'{it[3] / 1000:.3f} ms', it[4]] for it in data['units'][-1]['pdus']]
-        if cells != wanted:
-            yield f'{name}: a click on the last unit tells {cells}'
-    part = drawn_in(opened(words_for(os.path.join(folder, 'hundred.html'), 'from=62244&to=92243')))
-    if part != Counter({('valid', 'sink 0, stream 1'): 2, ('lost', 'sink 0, stream 1'): 1, ('valid', 'sink 0, stream 2'): 2,
-                        ('lost', 'sink 0, stream 2'): 1}):
-        yield f'hundred: in a window of three events units are drawn as {part}'
-
-
-def picture_of(page, document):
-    """The picture that was drawn in a page, as a file of its own."""
-    style, svg = (re.search(f'<{it}[^>]*>.*?</{it}>', text, re.DOTALL)[0] for it, text in (('style', page), ('svg', document)))
-    width = re.search(r'viewBox="0 0 (\d+)', svg)[1]
-    ground = '<rect width="100%" height="100%" fill="#fff"/>'
-    return svg.replace('<svg ', f'<svg xmlns="http://www.w3.org/2000/svg" width="{width}" ', 1).replace('>', f'>{style}{ground}', 1) + '\n'
-
-
-def pictured(words_for, pages, folder, written):
-    """Whether docs/ has the picture of the page of whole-life, which is written to a file where one is named."""
-    page, file = page_of(pages['whole-life']), os.path.join(folder, 'whole-life.html')
-    with open(file, 'w', encoding='utf-8') as opened_file:
-        opened_file.write(page)
-    picture = picture_of(page, opened(words_for(file, '')))
-    if written:
-        with open(written, 'w', encoding='utf-8') as opened_file:
-            opened_file.write(picture)
-    with open(os.path.join(TOP, 'docs', 'whole-life.svg'), encoding='utf-8') as opened_file:
-        if opened_file.read() != picture:
-            yield 'docs/whole-life.svg is not what the page of whole-life draws'
+        written = file.read()
+    if written != page_of(data_of(read_run(rows_of(told)), None), name) or name in written:
+        yield 'the tool writes another page'
 
 
 def main():
-    explain, written = os.path.abspath(sys.argv[1]), next(iter(sys.argv[2:]), None)
-    names = [*UNITS, 'hundred', 'three-seconds', 'gap', 'no-end']
-    pages = {name: read_data(explained(explain, text_of(name))) for name in names}
-    failed = list(worked(pages))
+    if len(sys.argv) != 2:
+        print('usage: timeline.py EXPLAIN', file=sys.stderr)
+        return 2
+    explain = os.path.abspath(sys.argv[1])
+    told = {name: explained(explain, text_of(name)) for name in (*UNITS, 'hundred', 'three-seconds', 'gap', 'no-end')}
+    runs = {name: run_of(text) for name, text in told.items()}
+    failed = list(worked(runs))
     wrong, tried = over_all(explain)
     failed += wrong
-    chromium, node = next(filter(None, map(shutil.which, CHROMIUMS)), None), shutil.which('node')
     with tempfile.TemporaryDirectory() as folder:
-        failed += by_words(explain, folder)
-        failed += pictured(by_node(node), pages, folder, written) if node else []
-        drawing = [by_node(node)] if node else []
-        drawing += [by_chromium(chromium, folder)] if chromium else []
-        for words_for in drawing:
-            try:
-                failed += differs_drawn(words_for, pages, folder)
-            except subprocess.SubprocessError as error:
-                failed.append(f'{error}: {(error.stderr or b"").decode()}')
-    if not node:
-        print('skipped: what the script of pages draws, since node is missing (apt-get install nodejs)')
-    if not chromium:
-        print('skipped: pages of runs in a browser, since a Chromium is missing (apt-get install chromium)')
+        failed += by_words(told['whole-life'], folder)
     for it in failed:
         print(f'timeline: {it[:1000]}')
-    size = len(page_of(pages['three-seconds']).encode()) // 1000
-    print(f'timeline: {len(pages)} pages, 3 s of stereo are {size} KB; {tried} runs, {len(failed)} cases fail')
+    size = len(page_of(runs['three-seconds'][1], '').encode()) // 1000
+    print(f'timeline: {len(runs)} runs by hand, 3 s of stereo are {size} KB; {tried} runs by their notes; '
+          f'{len(WORDS) + len(NO_RUNS)} texts and words; {len(failed)} cases fail')
     return 1 if failed else 0
 
 

@@ -5,6 +5,8 @@ volume 6 part B, section 4.4.6, and the air of part G, sections 2 and 3.2."""
 from dataclasses import dataclass, field
 
 GREATEST_OFFSET = 2 ** 24 - 1  # a TimeOffset, µs
+# How many bits each number of a `group` line has, as docs/scenario-language.md says: `origin`, `delay`, and those of the BIGInfo.
+WIDTHS = (49, 24, 12, 20, 12, 8, 5, 3, 5, 4, 4, 20, 20, 3)
 HEADER, START_HEADER = 2, 5  # octets of a segment before those of the unit
 MOST_WAITING = 16
 
@@ -30,7 +32,15 @@ class Group:
 
     @classmethod
     def of_words(cls, words):
-        return cls(words[1], *map(int, words[2:]))
+        numbers = list(map(int, words[2:]))
+        if len(numbers) != len(WIDTHS) or any(not 0 <= it < 2 ** width for it, width in zip(numbers, WIDTHS)):
+            raise ValueError('a number of the group is out of its bounds')
+        return cls(words[1], *numbers)
+
+    @property
+    def can_start(self):
+        """Whether nothing that is worked out here divides by 0. What else a group must meet, the program tested."""
+        return min(self.iso, self.sdu, self.max_pdu, self.num_bis, self.bn, self.nse) > 0 and self.nse % self.bn == 0
 
     @property
     def is_framed(self):
@@ -55,10 +65,14 @@ class Group:
         return -(-self.max_sdu // self.max_pdu)
 
     @property
+    def longest(self):
+        """How long a PDU of the greatest length is sent, in µs."""
+        return (self.max_pdu + 10) * 8 if self.phy == 0 else (self.max_pdu + 11) * 4
+
+    @property
     def sync_delay(self):
         """BIG_Sync_Delay: from the anchor to the end of the last PDU of the greatest length."""
-        longest = (self.max_pdu + 10) * 8 if self.phy == 0 else (self.max_pdu + 11) * 4
-        return (self.num_bis - 1) * self.spacing + (self.nse - 1) * self.sub + longest
+        return (self.num_bis - 1) * self.spacing + (self.nse - 1) * self.sub + self.longest
 
     def later(self, subevent):
         """How many events later the payload that this subevent carries is due."""
@@ -83,7 +97,7 @@ class Group:
         return self.sync_delay + self.sdu + self.interval + self.delay
 
 
-@dataclass
+@dataclass(slots=True)
 class Given:
     """A unit that a source took: by this line, at its time where its stream is framed, and the payload numbers that carry it."""
     index: int
@@ -146,7 +160,7 @@ class Air:
         return max(0, room - left)
 
 
-@dataclass
+@dataclass(slots=True)
 class Event:
     """An event that was performed, by this line."""
     number: int
@@ -163,6 +177,8 @@ class Source:
         self.is_stopped, self.airs, self.events, self.given = False, {}, [], []
 
     def start(self, first):
+        if not self.group.can_start:
+            raise ValueError('no source starts on this group')
         self.first = self.next = first
         self.airs = {stream: Air(self.group) for stream in range(1, self.group.num_bis + 1)}
 
@@ -173,8 +189,13 @@ class Source:
         """When the PDU of this place begins."""
         return self.anchor(event) + (stream - 1) * self.group.spacing + subevent * self.group.sub
 
+    @property
+    def upcoming(self):
+        """The event that is performed next; 0 of a source that isn't started, as long as that is not known."""
+        return 0 if self.next is None else self.next
+
     def is_performed(self, event):
-        return self.first <= event < self.next
+        return self.first is not None and self.first <= event < self.next
 
     def accept(self, stream, line, time, octets):
         unit = Given(len(self.given), stream, line, time, octets)

@@ -3,25 +3,24 @@ import re
 from dataclasses import dataclass, field
 
 OCTETS = 'latin-1'  # each octet of a text is a character, whatever it is
-NUMBERED = re.compile(r'(\d+) (.*)', re.DOTALL)
-REFUSAL = re.compile(r'line (\d+): ')
+REFUSAL = re.compile(r'line ([0-9]{1,18}): ')
 
 
 class RunFault(Exception):
     """The run can't be read, with why."""
 
 
-@dataclass
+@dataclass(slots=True)
 class Line:
     """A line of the scenario, with the rows of the transcript that it brings and the notes on it."""
     number: int
     text: str
     rows: list[str] = field(default_factory=list)
     notes: list[str] = field(default_factory=list)
+    words: list[str] = field(init=False)
 
-    @property
-    def words(self):
-        return [] if self.text.startswith('#') else self.text.split(' ') if self.text else []
+    def __post_init__(self):
+        self.words = self.text.split(' ') if self.text and not self.text.startswith('#') else []
 
     @property
     def refusal(self):
@@ -34,17 +33,22 @@ class Line:
         return self.refusal is not None and int(REFUSAL.match(self.refusal)[1]) == self.number
 
 
-def read_lines(text):
-    """The lines in what `explain` wrote. What is told before the first of them, as of an empty text, is of a line 0."""
-    lines = [Line(0, '')]
-    for place, row in enumerate(text.removesuffix('\n').split('\n'), 1):
-        numbered = NUMBERED.fullmatch(row)
+def read_lines(rows):
+    """The lines in the rows that `explain` wrote, each once the next one begins. What is told before the first of them, as of an empty
+    text, is of a line 0."""
+    line = None
+    for place, row in enumerate(rows, 1):
+        row, line = row.removesuffix('\n'), line or Line(0, '')
+        number, space, text = row.partition(' ')
         if row.startswith('  # '):
-            lines[-1].notes.append(row[4:])
+            line.notes.append(row[4:])
         elif row.startswith('  '):
-            lines[-1].rows.append(row[3:] if row.startswith('  ##') else row[2:])
-        elif numbered and int(numbered[1]) == len(lines):
-            lines.append(Line(len(lines), numbered[2]))
-        elif row or place > 1:
+            line.rows.append(row[3:] if row.startswith('  ##') else row[2:])
+        elif space and number == str(line.number + 1):
+            yield line
+            line = Line(line.number + 1, text)
+        else:
             raise RunFault(f'row {place} is not what `explain` writes: {row[:60]!r}')
-    return lines
+    if line is None:
+        raise RunFault('no run is told on standard input')
+    yield line

@@ -14,7 +14,7 @@ TOLD_OF_SINKS = ('sink', 'heard', 'state', 'relay', 'sum')
 LEFT = ('Idle', 'Left')
 
 
-@dataclass
+@dataclass(slots=True)
 class Unit:
     """A unit at a sink, by the line that closed its event. `fate` is valid, lost, empty (a lost one for a slot to which no unit was
     given) or unbegun (a framed one whose start was not heard, which has no row)."""
@@ -35,7 +35,7 @@ class Unit:
         return [copy for number in numbers for copy in self.stay.copies(self.stream, number)]
 
 
-@dataclass
+@dataclass(slots=True)
 class Mark:
     """What is shown of a line beside units and events, in a lane. Without a time of its own it stands where its line does."""
     lane: tuple
@@ -50,8 +50,10 @@ class Run:
     """What the lines did, so far."""
     sources: list = field(default_factory=lambda: [Source(0), Source(1)])
     sinks: dict = field(default_factory=dict)
+    stays: list = field(default_factory=list)
     units: list = field(default_factory=list)
     marks: list = field(default_factory=list)
+    lines: dict = field(default_factory=dict)  # those with marks, by their numbers
     moments: list = field(default_factory=list)  # of each line its number and the time that it fixes, or None
     refusal: str | None = None
     chosen: int = 0
@@ -69,6 +71,8 @@ class Run:
             self.mark(('source', self.chosen), line.number, 'refused', line.refusal)
         if line.words or line.refusal:
             self.moments.append((line.number, self.fixed_time(line)))
+        if self.marks and self.marks[-1].line == line.number:
+            self.lines[line.number] = line
 
     def fixed_time(self, line):
         """The time that a line has of its own, or None."""
@@ -124,12 +128,15 @@ class Run:
         self.mark(('sink', int(words[1])), line.number, 'begun', line.text)
 
     def do_drop(self, words, line):
-        del self.sinks[int(words[1])]
+        self.sinks.pop(int(words[1])).leave()
         self.mark(('sink', int(words[1])), line.number, 'left', line.text)
 
     def do_tuned(self, words, line):
-        self.of_sink(words).join(self.source, [int(it) for it in words[2:]], True, False)
+        self.join(words, words[2:], True, False)
         self.mark(('sink', int(words[1])), line.number, 'joined', f'source {self.chosen}, by tuned: {" ".join(words[2:])}')
+
+    def join(self, words, streams, is_tuned, is_told):
+        self.stays.append(self.of_sink(words).join(self.source, [int(it) for it in streams], is_tuned, is_told))
 
     def do_assist(self, words, line):
         self.of_sink(words).writes[int(words[2])] = []
@@ -211,6 +218,8 @@ class Run:
             unit.event, unit.slot, unit.given = event, slot, air.in_slot.get((event, slot))
             if unit.given is None and unit.fate == 'lost':
                 unit.fate = 'empty'
+            if unit.given and unit.given.octets == unit.octets:
+                unit.octets = unit.given.octets  # one text in place of two
         return units
 
     def relay(self, stream, units, line):
@@ -245,11 +254,10 @@ class Run:
         """The kind of a mark on a sink, and what an answer does to the sink."""
         if kind != 'sink':
             return {'relay': 'dropped'}.get(kind, kind)
-        sink = self.of_sink(words)
         if told[0] == 'OnGroup':
-            sink.join(self.source, [int(it) for it in told[1:]], False, words[0] == 'train')
+            self.join(words, told[1:], False, words[0] == 'train')
             return 'joined'
         if told[0] in LEFT:
-            sink.stay = None
+            self.of_sink(words).leave()
             return 'left'
         return 'control' if words[0] == 'control' else 'train'

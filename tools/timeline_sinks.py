@@ -3,6 +3,9 @@ from dataclasses import dataclass, field
 
 ADD, MODIFY, REMOVE = 2, 3, 5
 END_OF_NUMBERS = 2 ** 39
+MOST_BACK = 32  # events before the first one of a stay, as far as `hear` goes back
+# What a PDU was to a sink, by the letter that stands for it. The last two are of PDUs that were not handed to it.
+FATES = {'h': 'heard', 'r': 'repeated', 'l': 'late', 'i': 'injected', 'm': 'missed', 'b': 'before it joined'}
 
 
 def octets_of(word):
@@ -11,19 +14,33 @@ def octets_of(word):
 
 @dataclass
 class Stay:
-    """A sink on a group. `open` is its open event; `fates` has what each PDU handed to it was, by stream, event and subevent."""
+    """A sink on a group, from its event `first` to its event `last`. `open` is its open event. `fates` has for each stream the letter of
+    what each PDU was that was handed to it, by event from `since` on and by subevent, and 0 for one that was not."""
+    sink: int
     source: object
     streams: list[int]
     first: int
     slot: int | None
     is_told: bool  # by `train`, whose octets may give other numbers than the source has
     open: int = 0
+    since: int = 0
+    last: int | None = None
     kept: set = field(default_factory=set)
     fates: dict = field(default_factory=dict)
     had: set = field(default_factory=set)  # the units that had a row, by their index
 
     def __post_init__(self):
-        self.open = self.first
+        self.open, self.since = self.first, max(self.source.first or 0, self.first - MOST_BACK)
+
+    def put(self, stream, event, subevent, fate):
+        """Keeps what the first PDU was that was handed in this place."""
+        group, source = self.source.group, self.source
+        if not (1 <= stream <= group.num_bis and 0 <= subevent < group.nse and self.since <= event and source.is_performed(event)):
+            raise ValueError(f'no PDU was sent in event {event}, subevent {subevent} of stream {stream}')
+        place, fates = (event - self.since) * group.nse + subevent, self.fates.setdefault(stream, bytearray())
+        if len(fates) <= place:
+            fates.extend(bytes(place + 1 - len(fates)))
+        fates[place] = fates[place] or ord(fate)
 
     def hand(self, stream, event, subevent):
         """Hands the sink a PDU of its source."""
@@ -32,20 +49,20 @@ class Stay:
         if stream not in self.streams or number >= END_OF_NUMBERS:
             return
         if number // group.bn < self.open:
-            fate = 'late'
+            fate = 'l'
         elif (stream, number) in self.kept:
-            fate = 'repeated'
+            fate = 'r'
         else:
-            fate = 'heard'
+            fate = 'h'
             self.kept.add((stream, number))
-        self.fates.setdefault((stream, event, subevent), fate)
+        self.put(stream, event, subevent, fate)
 
     def inject(self, stream, event, subevent, answer):
         """Takes the answer to octets that were handed in the place of a PDU."""
         if answer == 'Kept':
             self.kept.add((stream, self.source.group.number(event, subevent)))
         if answer in ('Kept', 'Repeat', 'Late'):
-            self.fates.setdefault((stream, event, subevent), 'injected')
+            self.put(stream, event, subevent, 'i')
 
     def begun(self, given):
         """The framed unit, or None where a row is not of it, but of a start of the same time that was injected: its own start was not
@@ -63,11 +80,22 @@ class Stay:
             yield [number, event, subevent, self.source.sent_at(event, stream, subevent), self.fate(stream, event, subevent)]
 
     def fate(self, stream, event, subevent):
-        if (stream, event, subevent) in self.fates:
-            return self.fates[stream, event, subevent]
+        place, fates = (event - self.since) * self.source.group.nse + subevent, self.fates.get(stream, b'')
+        if 0 <= place < len(fates) and fates[place]:
+            return FATES[chr(fates[place])]
         if not self.source.is_performed(event):
             return 'not sent'
-        return 'before it joined' if event < self.first else 'missed'
+        if self.last is not None and event > self.last:
+            return 'after it left'
+        return FATES['b' if event < self.first else 'm']
+
+    def letters(self, stream):
+        """The letter of each PDU of a stream, from the events `since` to `last`."""
+        nse = self.source.group.nse
+        last = self.source.upcoming - 1 if self.last is None else self.last
+        fates = bytes(self.fates.get(stream, b'')).ljust(max(0, last + 1 - self.since) * nse, b'\0')
+        before = (self.first - self.since) * nse
+        return (fates[:before].replace(b'\0', b'b') + fates[before:].replace(b'\0', b'm')).decode()
 
 
 @dataclass
@@ -102,12 +130,21 @@ class Sink:
         elif octets[0] == MODIFY:
             slot, wishes = self.slots[octets[1]], wishes_in(octets[5:])
             if self.stay and self.stay.slot == octets[1] and (octets[2] == 0 or wishes != slot.wishes):
-                self.stay = None
+                self.leave()
             slot.wishes = wishes
 
+    def leave(self):
+        """Leaves the group that it is on, if any."""
+        if self.stay:
+            self.stay.last = self.stay.source.upcoming - 1
+        self.stay = None
+
     def join(self, source, streams, is_tuned, is_told):
+        """Joins a group from its next event on, and gives the stay."""
+        self.leave()
         slots = [] if is_tuned else [number for number, slot in self.slots.items() if slot.ident == source.ident]
-        self.stay = Stay(source, streams, source.next, next(iter(slots), None), is_told)
+        self.stay = Stay(self.number, source, streams, source.upcoming, next(iter(slots), None), is_told)
+        return self.stay
 
 
 def wishes_in(octets):

@@ -1,0 +1,58 @@
+"""Runs that the tests of pages make: examples, and texts that are made here. timeline.py and pages.py use them."""
+import os
+import subprocess
+import sys
+
+HERE = os.path.dirname(os.path.abspath(__file__))
+TOP = os.path.dirname(HERE)
+sys.path[:0] = [os.path.join(TOP, 'tools'), HERE]
+from long_run import long_run  # noqa: E402
+from timeline_data import data_of, read_run  # noqa: E402
+from timeline_reading import OCTETS  # noqa: E402
+
+
+def hundred():
+    """100 events of two streams, each payload sent once. Of stream b event e is place 2e + b - 1, and of three places the third is lost:
+    the events 1, 4 .. 97 of stream 1 and 2, 5 .. 98 of stream 2."""
+    lines = ['scenario 1', 'group unframed 20000 40000 8 10000 100 100 2 1 1 1 0 0 1800 1', 'sink 0 2 1', 'start 0', 'tuned 0 1 2']
+    for event in range(100):
+        lines += [f'unit {stream} - {event:02x}' for stream in (1, 2)] + ['event', 'air 0 3']
+    return lines + ['end']
+
+
+def stereo():
+    """3 s of stereo, as the generator would make them."""
+    lines = ['scenario 1', 'group unframed 20000 40000 8 10000 100 100 2 1 3 2 1 600 1800 1', 'sink 0 2 1', 'start 0', 'tuned 0 1 2']
+    for event in range(300):
+        lines += [f'unit {stream} - {event % 256:02x}' + 99 * '5a' for stream in (1, 2)] + ['event', f'air 0 {event % 9 + 1}']
+    return lines + ['end']
+
+
+# A unit is rendered a second after its event.
+GAP = ['scenario 1', 'group unframed 20000 1000000 8 10000 4 4 1 1 1 1 0 0 0 1', 'sink 0 1 1', 'start 0', 'tuned 0 1', 'unit 1 - aa',
+       'event', 'air 0 0', 'end']
+
+
+MADE = {'hundred': hundred, 'three-seconds': stereo, 'gap': lambda: GAP, 'no-end': lambda: GAP[:-1], 'ten-minutes': long_run}
+
+
+def explained(explain, text):
+    return subprocess.run([explain], input=text, stdout=subprocess.PIPE, timeout=300, check=False).stdout.decode(OCTETS)
+
+
+def text_of(name):
+    if name in MADE:
+        return '\n'.join([*MADE[name](), '']).encode()
+    with open(os.path.join(TOP, 'examples', name + '.scn'), 'rb') as file:
+        return file.read()
+
+
+def rows_of(text):
+    """The rows of what `explain` wrote."""
+    return text.removesuffix('\n').split('\n')
+
+
+def run_of(told):
+    """The run that was told, and what its page embeds."""
+    run = read_run(rows_of(told))
+    return run, data_of(run, None)
