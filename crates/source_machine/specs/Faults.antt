@@ -23,10 +23,10 @@ use Rattle.source_machine.specs.declared.fault.EventFault.{EventFault}
 use Rattle.source_machine.specs.declared.fault.EventFault.TheVariants as event_faults
 
 -- why a source takes no group, where a payload may be sent so many events ahead: the first row of the group check that
--- holds, where that is not the row of a cipher; nothing is said of want of memory
+-- holds, where that is not the row of a cipher; no memory is taken, so none is wanting
 abbrev pub ConfigureFails : ℕ → BigInfo → ConfigureFault → Type 0
 ConfigureFails horizon info (configure_faults.BadGroup fault) = IsBadFor horizon info fault
-ConfigureFails horizon info configure_faults.Memory = Unit {0}
+ConfigureFails horizon info configure_faults.Memory = ⊥
 
 -- a time is above the last one, where there is one
 abbrev pub is_above : Option ℕ → ℕ → Bool

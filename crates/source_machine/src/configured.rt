@@ -30,7 +30,7 @@ impl SourceIdle {
     /// Gives the source its group, by the limits of version 1.
     ///
     /// BadGroup comes exactly where a row of the group check (Core 5.2, volume 6 part B, section 4.4.6) but Encrypted
-    /// holds, with the first that does. The anchor of the first event is 3,000 µs at least.
+    /// holds, with the first that does. The anchor of the first event is 3,000 µs at least. It takes no memory.
     pub fn configure(
         self,
         setup: Setup,
@@ -47,7 +47,7 @@ impl SourceIdle {
     /// Gives the source its group, where a payload may be sent `limits.horizon` events ahead, and the time of a framed unit
     /// may be past the next anchor where the limits say so.
     ///
-    /// BadGroup comes exactly where a row of the group check but Encrypted holds, with the first that does.
+    /// BadGroup comes exactly where a row of the group check but Encrypted holds, with the first that does. It takes no memory.
     pub fn configure_within(
         self,
         setup: Setup,
