@@ -3,20 +3,29 @@
 differs.
 
 What is read of a capture that was bent must bring the program to the units of the run by its `hear` lines. Where no unit depends on
-framing, these are also worked out here, by the payloads that were heard. Where tshark is there, it must find nothing malformed in what
-was written, and the access addresses of the streams that it works out itself must be those of the capture."""
-import contextlib
-import io
+framing, these are also worked out here, by the payloads that were heard. All scenarios of corpus/, of the worked rows and of examples/ go
+out, and in again where a sink heard all. Where tshark is there, it must find nothing malformed in what was written, and the access
+addresses of the streams that it works out itself must be those of the capture.
+
+Exit status 1: something differs; 3: scapy or tshark is missing, so that all or a part was left out."""
+import importlib.util
 import os
 import random
-import shutil
-import subprocess
 import sys
 import tempfile
+from collections import Counter
+
+if importlib.util.find_spec('scapy') is None:
+    print('skipped: captures out and in again, since this python3 has no scapy (apt-get install python3-scapy)')
+    sys.exit(3)
 
 sys.dont_write_bytecode = True
 sys.path.insert(0, os.path.dirname(os.path.abspath(__file__)))
+import scapy  # noqa: E402
 from bent_captures import BEGIN, DRIFT, EPOCH, GROUPS, IDENT, JITTER, ORIGIN, TOP, Bent, Run, records, write  # noqa: E402
+from corpus_captures import (  # noqa: E402
+    BETWEEN, FIELDS, by_tshark, captures_of_all, has_tshark, malformed_in, replay, said, tshark, tshark_version, units_of)
+import air_pieces  # noqa: E402
 import capture_in  # noqa: E402
 import capture_out  # noqa: E402
 import link_layer  # noqa: E402
@@ -25,10 +34,6 @@ from anchor_fit import Fit, Heard, Mark  # noqa: E402
 SHIFT = 20  # us by which a fitted anchor may be wrong
 # The access addresses of control and of stream 1 for the seed 0, by section 2.1.2: 42 is 0101010, 77 is 1001101.
 WORKED_ADDRESSES = {0: 0x02A40000, 1: 0xFD060000}
-
-
-def replay(program, text):
-    return subprocess.run([program], input=text.encode(), capture_output=True, check=True, timeout=60).stdout.decode()
 
 
 def register_crc(pdu, start):
@@ -49,20 +54,6 @@ def wrong_crcs(written):
     numbers = [(octets, 0 if 'control;' in comment else int(comment.split(', stream ')[1].split(',')[0]))
                for _, octets, comment in written if 'control;' in comment or ', stream ' in comment]
     return sum(register_crc(octets[14:-3], base << 8 | number) != octets[-3:] for octets, number in numbers)
-
-
-def units_of(transcript):
-    """The stream, the time and the rest of each `unit` line."""
-    words = [line.split(' ', 5) for line in transcript.split('\n') if line.startswith('unit ')]
-    return [(stream, int(time), rest) for _, _, stream, _, time, rest in words]
-
-
-def said(tool, words):
-    """The exit status of a tool and what it says on standard error."""
-    told = io.StringIO()
-    with contextlib.redirect_stderr(told):
-        status = tool.main(words)
-    return status, told.getvalue()
 
 
 def taken_out(program, text, path, *words):
@@ -106,7 +97,7 @@ def bent_runs(program, folder, counts):
         draw = random.Random(place)
         run = Run(name, draw)
         written = taken_out(program, run.text, os.path.join(folder, f'run{place}'))
-        expected = units_of(replay(program, run.text))
+        expected = units_of(replay(program, run.text), '0')
         wrong = wrong_crcs(written)
         yield f'{name}: CRCs', f'{wrong} are not those of the standard' if wrong else None
         for train, words in ((run.events // 2, ()), (run.events // 3, ('--once',)), (1, ('--follow',))):
@@ -119,12 +110,12 @@ def bent_runs(program, folder, counts):
                 yield what, told
                 continue
             transcript = replay(program, text)
-            wrong, why = different(run, expected, units_of(transcript), base_of(text))
+            wrong, why = different(run, expected, units_of(transcript, '0'), base_of(text))
             if run.is_ended and 'sink 0 Left' not in transcript:
                 why = why or 'the end of the group was not heard'
             for key, number in (('captures', 1), ('deleted', bent.deleted), ('put', bent.put), ('units', len(expected)),
                                 ('wrong', wrong)):
-                counts[key] = counts.get(key, 0) + number
+                counts[key] += number
             yield what, why
         if place == 0:
             yield from circles(program, folder, path, counts)
@@ -190,35 +181,47 @@ def missing(program, folder, written):
         yield example, None if told in taken_in(path)[1] else 'it is not named'
 
 
-def by_tshark(program, folder):
-    """All examples and the runs in one capture, and behind them a packet that is broken, which tshark must find, and no other."""
-    packets, addresses = [], set()
-    for place, name in enumerate(sorted(os.listdir(os.path.join(TOP, 'examples')))):
-        if name.endswith('.scn'):
-            with open(os.path.join(TOP, 'examples', name), encoding='ascii') as file:
-                taken_out(program, file.read(), os.path.join(folder, f'example{place}'))
-    for place, name in enumerate(sorted(it for it in os.listdir(folder) if it.rstrip('0123456789') in ('example', 'run'))):
-        for time, octets, comment in records(os.path.join(folder, name))[:400]:
+def in_pieces(program, folder):
+    """A text that has no room for the `sniff` lines of all its PDUs is the same capture by several runs; without any room it goes out
+    too, and what is left out is counted."""
+    draw, path = random.Random(9), os.path.join(folder, 'pieces')
+    for name in ('early copies', 'framed, interleaved'):
+        text = Run(name, draw).text
+        whole = taken_out(program, text, path)
+        lines = sum(len(line) + 1 for line in text.split('\n') if line.split(' ')[0] in ('unit', 'event', 'group'))
+        for room in (2000, 311):
+            cut, air_pieces.GREATEST_TEXT = air_pieces.GREATEST_TEXT, lines + room
+            try:
+                yield f'{name}, in pieces', None if taken_out(program, text, path) == whole else 'the capture differs'
+            finally:
+                air_pieces.GREATEST_TEXT = cut
+        cut, air_pieces.GREATEST_TEXT = air_pieces.GREATEST_TEXT, lines // 2
+        try:
+            status, told = said(capture_out, [path + '.scn', path, '--program', program])
+        finally:
+            air_pieces.GREATEST_TEXT = cut
+        yield f'{name}, without room', None if status == 0 and 'has no room' in told else told
+
+
+def addresses_by_tshark(folder, captures, counts):
+    """The access addresses of the streams that tshark works out from each BIGInfo are those of the capture. Behind all packets comes one
+    that is broken, which tshark must find."""
+    path, packets, addresses = os.path.join(folder, 'all'), [], set()
+    for place, (_, capture) in enumerate(captures):
+        for time, octets, comment in records(capture)[:400]:
             packets.append((time + place * 1000000000, octets))
             if ', stream ' in comment:
                 addresses.add(int.from_bytes(octets[10:14], 'little'))
     announcement = next(octets for _, octets in reversed(packets) if b'\x22\x2c' in octets)
     packets.append((packets[-1][0] + 1, announcement.replace(b'\x22\x2c', b'\x72\x2c')))
-    path = os.path.join(folder, 'all')
     write(path, packets)
-    fields = ('_ws.malformed', '_ws.expert.severity', 'btcommon.eir_ad.entry.biginfo.bis_access_address')
-    words = ['tshark', '-r', path, '-T', 'fields', '-E', 'separator=|'] + [word for field in fields for word in ('-e', field)]
-    done = subprocess.run(words, capture_output=True, check=False, timeout=60)
-    if done.returncode:
-        yield 'tshark', done.stderr.decode(errors='replace')
-        return
-    told = [line.split('|') for line in done.stdout.decode().rstrip('\n').split('\n')]
-    severe = [number for number, (malformed, severity, _) in enumerate(told)
-              if malformed or any(int(it, 0) >= 0x600000 for it in severity.split(',') if it)]
+    told = tshark(path, *FIELDS, 'btcommon.eir_ad.entry.biginfo.bis_access_address')
+    severe = malformed_in(told)
     yield f'tshark: {len(packets)} packets', None if len(told) == len(packets) and severe == [len(packets) - 1] else (
         f'{len(told)} packets, malformed are those at {severe}, not the last alone')
-    worked = {int(it, 0) for _, _, listed in told for it in listed.split(',') if it}
+    worked = {int(it, 0) for *_, listed in told for it in listed.split(BETWEEN) if it}
     yield f'tshark: {len(addresses)} access addresses', None if addresses and addresses <= worked else 'they differ from those worked out'
+    counts['packets by tshark'] += len(packets)
 
 
 def fits():
@@ -248,24 +251,47 @@ def fits():
         yield name, f'of {len(places)} PDUs {wrong} are in a wrong place, {left} in none' if wrong or left else None
 
 
+def guarded(name, results):
+    """The results; a step that fails is one more, and what comes behind it goes on."""
+    try:
+        yield from results
+    except Exception as error:
+        yield name, f'{type(error).__name__}: {error}'
+
+
+def all_results(program, folder, counts):
+    is_right = all(link_layer.stream_address(0, number) == address for number, address in WORKED_ADDRESSES.items())
+    yield 'access addresses', None if is_right else 'they are not those of the standard'
+    captures = []
+    yield from guarded('fits', fits())
+    yield from guarded('bent runs', bent_runs(program, folder, counts))
+    yield from guarded('in pieces', in_pieces(program, folder))
+    yield from guarded('all scenarios', captures_of_all(program, folder, counts, captures))
+    if has_tshark():
+        runs = [(f'run{place}', os.path.join(folder, f'run{place}')) for place in [*range(len(GROUPS)), 9]]
+        yield from guarded('tshark', addresses_by_tshark(folder, runs + [it for it in captures if it[0].startswith('examples')], counts))
+        yield from guarded('tshark', by_tshark(captures, folder, counts))
+
+
 def main():
-    program, counts, failed, tried = os.path.abspath(sys.argv[1]), {}, 0, 0
+    program, counts, failed = os.path.abspath(sys.argv[1]), Counter(), 0
     with tempfile.TemporaryDirectory() as folder:
-        results = [('access addresses', None if all(link_layer.stream_address(0, number) == address for number, address in
-                                                    WORKED_ADDRESSES.items()) else 'they are not those of the standard')]
-        results += list(fits()) + list(bent_runs(program, folder, counts))
-        if shutil.which('tshark'):
-            results += by_tshark(program, folder)
-        else:
-            print('skipped: the captures as Wireshark reads them, since tshark is missing (apt-get install tshark)')
-    for name, why in results:
-        tried += 1
-        if why:
-            failed += 1
-            print(f'captures: {name}: {why.strip()}')
-    print(f'captures: {counts["captures"]} out and in again, {counts["deleted"]} PDUs deleted, {counts["put"]} packets put between, '
-          f'{counts["wrong"]} of {counts["units"]} units differ; {tried} cases, {failed} fail')
-    return 1 if failed else 0
+        for name, why in all_results(program, folder, counts):
+            counts['cases'] += 1
+            if why:
+                failed += 1
+                print(f'captures: {name}: {why.strip()}')
+    print(f'captures: with scapy {scapy.__version__}{" and " + tshark_version() if has_tshark() else ""}: {counts["captures"]} out and in '
+          f'again, {counts["deleted"]} PDUs deleted, {counts["put"]} packets put between, {counts["wrong"]} of {counts["units"]} units '
+          f'differ; {counts["scenarios out"]} scenarios out, {counts["refusals named"]} of them with their refusal, '
+          f'{counts["scenarios in again"]} in again with {counts["units of these"]} units; {counts["packets by tshark"]} packets by tshark, '
+          f'{counts["malformed on purpose"]} malformed on purpose; {counts["cases"]} cases, {failed} fail')
+    if failed:
+        return 1
+    if not has_tshark():
+        print('skipped: the captures as Wireshark reads them, since tshark is missing (apt-get install tshark)')
+        return 3
+    return 0
 
 
 if __name__ == '__main__':

@@ -3,10 +3,15 @@
 The layouts and the times are those of docs/formats.md and docs/scenario-language.md. What a run leaves open is chosen here: the access
 addresses and what the CRCs begin with, which the program announces as 0, and the interval of the periodic train."""
 import link_layer
-from att_links import octets_of
+from att_links import number, octets_of
 
 LC3 = bytes([6, 0, 0, 0, 0])
-NUMBERS = ('origin', 'delay', 'iso', 'sdu', 'max_sdu', 'max_pdu', 'num_bis', 'bn', 'nse', 'irc', 'pto', 'sub', 'spacing', 'phy')
+# The numbers of a `group` line, each with the greatest one.
+NUMBERS = (('origin', 2 ** 48), ('delay', 2 ** 24 - 1), ('iso', 2 ** 12 - 1), ('sdu', 2 ** 20 - 1), ('max_sdu', 2 ** 12 - 1), ('max_pdu', 255),
+           ('num_bis', 31), ('bn', 7), ('nse', 31), ('irc', 15), ('pto', 15), ('sub', 2 ** 20 - 1), ('spacing', 2 ** 20 - 1), ('phy', 7))
+NEEDED = ('iso', 'num_bis', 'bn', 'nse')  # with one of them 0 no group starts
+GREATEST_EVENT = 2 ** 39 - 1
+GREATEST_BASE = 252  # octets, with which its service data fills a structure of advertising data
 TRAIN_BEFORE = 3000  # µs from the start of an announcement to the anchor that it speaks of
 OFFSET_UNIT = 30  # µs
 LEAST_INTERVAL = 6  # of a periodic train, in units of 1.25 ms
@@ -21,30 +26,54 @@ CRC_BASES, TRAIN_CRCS = (0x3A51, 0x3AC6), (0x51A7C0, 0x51A7D3)
 class Source:
     """One source. `group` has the numbers of its `group` line, and `event` its next event."""
 
-    def __init__(self, number):
-        self.number = number
+    def __init__(self, place):
+        self.number = place
         self.group, self.ident, self.cipher, self.subgroups = {}, (0, bytes(6), 0, bytes(3)), b'', []
         self.first = self.event = None
-        self.seed, self.crc_base = SEEDS[number], CRC_BASES[number]
-        self.train_address, self.train_crc = TRAIN_ADDRESSES[number], TRAIN_CRCS[number]
+        self.seed, self.crc_base = SEEDS[place], CRC_BASES[place]
+        self.train_address, self.train_crc = TRAIN_ADDRESSES[place], TRAIN_CRCS[place]
 
     def describe(self, words):
         """Takes a line that describes the source."""
         kind, rest = words[0], words[1:]
         if kind == 'group':
-            self.group = dict(zip(NUMBERS, map(int, rest[1:])), framing=int(rest[0] == 'framed'))
+            self.group = {name: number(word, 0, most) for word, (name, most) in zip(rest[1:], NUMBERS, strict=True)}
+            self.group['framing'] = int(rest[0] == 'framed')
         elif kind == 'ident':
-            self.ident = int(rest[0]), octets_of(rest[1]), int(rest[2]), octets_of(rest[3])
+            self.ident = number(rest[0], 0, 1), octets_of(rest[1], 6), number(rest[2], 0, 15), octets_of(rest[3], 3)
         elif kind == 'cipher':
-            self.cipher = octets_of(rest[0]) + octets_of(rest[1])
+            self.cipher = octets_of(rest[0], 8) + octets_of(rest[1], 16)
         elif kind == 'subgroup':
-            self.subgroups.append([octets_of(rest[0]), octets_of(rest[1]), b'', []])
+            self.subgroups.append([octets_of(rest[0], 5), octets_of(rest[1]), b'', []])
         elif kind == 'meta':
             self.subgroups[-1][2] = octets_of(rest[0])
         elif kind == 'bis':
-            self.subgroups[-1][3].append((int(rest[0]), octets_of(rest[1])))
+            self.subgroups[-1][3].append((number(rest[0], 1, 31), octets_of(rest[1])))
         elif kind == 'start':
-            self.first = self.event = int(rest[0])
+            if not all(map(self.group.get, NEEDED)) or len(self.base()) > GREATEST_BASE:
+                raise ValueError('no group that can start')
+            self.first = self.event = number(rest[0], 0, GREATEST_EVENT)
+
+    def performed(self):
+        """Takes the next event, and gives its number."""
+        if self.event is None:
+            raise ValueError('no event before the start')
+        self.event += 1
+        return self.event - 1
+
+    def last_event(self):
+        """The number of the event that was performed last."""
+        if self.event in (None, self.first):
+            raise ValueError('no event yet')
+        return self.event - 1
+
+    def events(self):
+        """How many events were performed."""
+        return 0 if self.event is None else self.event - self.first
+
+    def places(self):
+        """The places of an event as stream and subevent, by rising stream."""
+        return [(stream, subevent) for stream in range(1, self.group['num_bis'] + 1) for subevent in range(self.group['nse'])]
 
     def packet_time(self):
         """How long a PDU of the greatest length is on the air, in µs."""

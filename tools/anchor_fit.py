@@ -7,10 +7,13 @@ have drifted too far, the anchor is settled once more as at a BIGInfo, and so it
 sniffer's clock jumped."""
 import bisect
 import typing
+from collections import Counter
 
 SLACK = 60  # µs by which a single time may be wrong; two subevents of a stream are at least 230 µs apart
 NEARBY = 500000  # µs around a BIGInfo in which no clock drifts by as much as the slack
 UNKNOWN_DRIFT, FITTED_DRIFT = 150e-6, 15e-6  # of the two clocks together, before and after they were compared
+MOST_NEARBY = 2000  # PDUs around a BIGInfo by which an anchor is settled; these are enough where more are heard
+MOST_TRIED = 300  # BIGInfos of which one has to settle its anchor
 EVENTS_TO_COMPARE = 150
 MEMORY = 0.998  # how much an event counts beside the one after it
 LIKELY_ERROR, LIKELY_DRIFT = 15.0, 50e-6
@@ -67,7 +70,7 @@ class Anchors:
 
     def event_near(self, time):
         """The event whose anchor is nearest."""
-        length = self.length + self.slope()
+        length = max(self.length + self.slope(), self.length / 2)
         return self.last + round((time - self.at(self.last)) / length)
 
     def tolerance(self, event):
@@ -109,7 +112,7 @@ class Fit:
 
     def start(self):
         """The first BIGInfo whose anchor the PDUs nearby settle, and that anchor."""
-        for mark in self.marks:
+        for mark in self.marks[::1 + len(self.marks) // MOST_TRIED]:
             anchor, is_settled = self.anchor_by(mark, self.length)
             if is_settled:
                 return mark, anchor
@@ -121,7 +124,8 @@ class Fit:
         """The anchor of this event for which the most PDUs nearby are in some subevent of some event, and whether no other place of the
         window is as good."""
         aside, window = [], mark.latest - mark.earliest
-        low, high = (bisect.bisect_left(self.times, mark.earliest + side) for side in (-NEARBY, NEARBY))
+        low, middle, high = (bisect.bisect_left(self.times, mark.earliest + side) for side in (-NEARBY, 0, NEARBY))
+        low, high = max(low, middle - MOST_NEARBY // 2), min(high, middle + MOST_NEARBY // 2)
         for number, heard in enumerate(self.heard[low:high]):
             for subevent in range(self.nse):
                 behind = heard.time - mark.earliest - (heard.stream - 1) * self.spacing - subevent * self.sub + SLACK
@@ -219,11 +223,15 @@ def take_mean(anchors, event, together):
 def most_within(found, width):
     """Of sorted pairs of a place and a number those in a range of this width that have the most numbers: the least of the places with
     the pairs, and how many numbers; or None where there are no pairs."""
-    best, begin = None, 0
-    for end in range(len(found)):
-        while found[end][0] - found[begin][0] > width:
+    best, begin, inside = None, 0, Counter()
+    for end, (place, number) in enumerate(found):
+        inside[number] += 1
+        while place - found[begin][0] > width:
+            gone = found[begin][1]
             begin += 1
-        number = len({it[1] for it in found[begin:end + 1]})
-        if best is None or number > best[1]:
-            best = (found[begin][0], found[begin:end + 1]), number
-    return best
+            inside[gone] -= 1
+            if not inside[gone]:
+                del inside[gone]
+        if best is None or len(inside) > best[2]:
+            best = begin, end, len(inside)
+    return best and ((found[best[0]][0], found[best[0]:best[1] + 1]), best[2])

@@ -3,6 +3,8 @@
 Core 5.2, volume 3 part F, and volume 6 part B, section 2.4. A run tells what was written, answered, told and read on a link. All
 else is put around it here so that a reader of captures follows it: a connection, an exchange of the MTU, and the handles with the UUIDs
 of the Broadcast Audio Scan Service 1.0. The assistant is the central, the sink the peripheral."""
+import functools
+
 from link_layer import ADVERTISING_ADDRESS, ADVERTISING_CRC, FROM_CENTRAL, FROM_PERIPHERAL, UNTOLD, framed
 from scapy.layers.bluetooth import (
     ATT_Error_Response, ATT_Exchange_MTU_Request, ATT_Exchange_MTU_Response, ATT_Execute_Write_Request, ATT_Execute_Write_Response,
@@ -10,6 +12,7 @@ from scapy.layers.bluetooth import (
     ATT_Prepare_Write_Request, ATT_Prepare_Write_Response, ATT_Read_Blob_Request, ATT_Read_Blob_Response, ATT_Read_Request,
     ATT_Read_Response, ATT_Write_Request, ATT_Write_Response, L2CAP_Hdr)
 from scapy.layers.bluetooth4LE import BTLE_ADV, BTLE_CONNECT_REQ, BTLE_CTRL, BTLE_DATA, LL_TERMINATE_IND
+from scapy.packet import Packet
 
 GREATEST_MTU = 517  # of an ATT whose attributes have at most 512 octets
 LEAST_MTU = 23
@@ -35,9 +38,29 @@ def attributes(slots):
     return listed
 
 
+@functools.lru_cache(maxsize=2048)
+def data_header(sort, number, expected, size):
+    """The header of a PDU of a connection."""
+    return bytes(BTLE_DATA(LLID=sort, SN=number, NESN=expected, len=size))
+
+
+@functools.lru_cache(maxsize=64)
+def introduced(slots, mtu):
+    """How a link begins, as requests with their responses, each an L2CAP frame: the MTU and the handles with their UUIDs."""
+    exchanges = []
+    if mtu > LEAST_MTU:
+        exchanges.append((ATT_Exchange_MTU_Request(mtu=GREATEST_MTU), ATT_Exchange_MTU_Response(mtu=mtu)))
+    listed, fitting = attributes(slots), (mtu - 2) // 4
+    for place in range(0, len(listed), fitting):
+        part = listed[place:place + fitting]
+        answer = ATT_Find_Information_Response(format=1, handles=[ATT_Handle(handle=handle, value=uuid) for handle, uuid in part])
+        exchanges.append((ATT_Find_Information_Request(start=part[0][0], end=0xFFFF), answer))
+    return [tuple(bytes(L2CAP_Hdr(cid=ATTRIBUTE) / ATT_Hdr() / value) for value in exchange) for exchange in exchanges]
+
+
 class Link:
     """A link of a sink: the connection of this number. Each call gives the events of the connection that it takes, each a list of
-    packets."""
+    packets with their comments."""
 
     def __init__(self, connection, sink, number, slots, mtu):
         self.name = f'sink {sink}, link {number}'
@@ -49,21 +72,19 @@ class Link:
         self.is_open, self.events = False, 0
 
     def event(self, from_central, from_peripheral, comment):
-        """A packet of the central and one of the peripheral, of which one has no octets."""
+        """A packet of the central and one of the peripheral, of which one has no octets, each with its comment."""
         number = self.events & 1
         self.events += 1
         packets = []
         for kind, (sort, octets), expected in ((FROM_CENTRAL, from_central, number), (FROM_PERIPHERAL, from_peripheral, 1 - number)):
-            pdu = bytes(BTLE_DATA(LLID=sort, SN=number, NESN=expected, len=len(octets))) + octets
+            pdu = data_header(sort, number, expected, len(octets)) + octets
             packet = framed(pdu, self.access_address, self.crc_start, self.channel, kind)
-            if octets:
-                packet.comment = f'{self.name}: {comment}'.encode()
-            packets.append(packet)
+            packets.append((packet, f'{self.name}: {comment}' if octets else ''))
         return packets
 
     def sent(self, value, comment, is_request=True):
-        """The events in which an ATT PDU is sent."""
-        octets = bytes(L2CAP_Hdr(cid=ATTRIBUTE) / ATT_Hdr() / value)
+        """The events in which an ATT PDU is sent, given as a layer of scapy or by the octets of its L2CAP frame."""
+        octets = bytes(L2CAP_Hdr(cid=ATTRIBUTE) / ATT_Hdr() / value) if isinstance(value, Packet) else value
         nothing, events = (FURTHER, b''), []
         for place in range(0, len(octets), FRAGMENT):
             part = (START if place == 0 else FURTHER, octets[place:place + FRAGMENT])
@@ -80,13 +101,8 @@ class Link:
         self.is_open, self.events = True, 0
         comment = 'of the capture, not of the run'
         events = [[self.connection(comment)]]
-        if self.mtu > LEAST_MTU:
-            events += self.exchanged(ATT_Exchange_MTU_Request(mtu=GREATEST_MTU), ATT_Exchange_MTU_Response(mtu=self.mtu), comment)
-        listed, fitting = attributes(self.slots), (self.mtu - 2) // 4
-        for place in range(0, len(listed), fitting):
-            part = listed[place:place + fitting]
-            answer = ATT_Find_Information_Response(format=1, handles=[ATT_Handle(handle=handle, value=uuid) for handle, uuid in part])
-            events += self.exchanged(ATT_Find_Information_Request(start=part[0][0], end=0xFFFF), answer, comment)
+        for request, response in introduced(self.slots, self.mtu):
+            events += self.exchanged(request, response, comment)
         return events
 
     def connection(self, comment):
@@ -95,9 +111,7 @@ class Link:
         request = BTLE_CONNECT_REQ(InitA=self.assistant_address, AdvA=self.sink_address, AA=backwards[0], crc_init=backwards[1],
                                    win_size=1, interval=8, timeout=100, chM=2 ** 37 - 1, hop=5)
         pdu = bytes(BTLE_ADV(PDU_type=CONNECT_IND, TxAdd=1, RxAdd=1, ChSel=1) / request)
-        packet = framed(pdu, ADVERTISING_ADDRESS, ADVERTISING_CRC, 0, UNTOLD)
-        packet.comment = f'{self.name}: {comment}'.encode()
-        return packet
+        return framed(pdu, ADVERTISING_ADDRESS, ADVERTISING_CRC, 0, UNTOLD), f'{self.name}: {comment}'
 
     def closed(self):
         if not self.is_open:
@@ -143,22 +157,33 @@ def written_octets(words):
     if kind == 'write':
         return octets_of(rest[0])
     if kind == 'add':
-        front = bytes([2, int(rest[0])]) + octets_of(rest[1]) + bytes([int(rest[2])]) + octets_of(rest[3])
+        front = bytes([2, number(rest[0], 0, 1)]) + octets_of(rest[1], 6) + bytes([number(rest[2], 0, 15)]) + octets_of(rest[3], 3)
         return front + wishes_of(rest[4:])
     if kind == 'modify':
-        return bytes([3, int(rest[0])]) + wishes_of(rest[1:])
+        return bytes([3, number(rest[0], 0, 255)]) + wishes_of(rest[1:])
     if kind == 'remove':
-        return bytes([5, int(rest[0])])
-    return bytes([4, int(rest[0])]) + octets_of(rest[1])
+        return bytes([5, number(rest[0], 0, 255)])
+    return bytes([4, number(rest[0], 0, 255)]) + octets_of(rest[1], 16)
 
 
 def wishes_of(words):
-    octets = bytes([int(words[0])]) + int(words[1]).to_bytes(2, 'little') + bytes([len(words[2:]) // 2])
-    for streams, metadata in zip(words[2::2], words[3::2]):
+    octets = bytes([number(words[0], 0, 2)]) + number(words[1], 0, 65535).to_bytes(2, 'little') + bytes([len(words[2:]) // 2])
+    for streams, metadata in zip(words[2::2], words[3::2], strict=True):
         metadata = octets_of(metadata)
-        octets += octets_of(streams) + bytes([len(metadata)]) + metadata
+        octets += octets_of(streams, 4) + bytes([len(metadata)]) + metadata
     return octets
 
 
-def octets_of(word):
-    return b'' if word == '-' else bytes.fromhex(word)
+def octets_of(word, size=None):
+    """The octets that a word spells; ValueError where it spells none, or not as many as these."""
+    octets = b'' if word == '-' else bytes.fromhex(word)
+    if size is not None and len(octets) != size:
+        raise ValueError(f'{len(octets)} octets in place of {size}')
+    return octets
+
+
+def number(word, least, most):
+    """The number that a word spells; ValueError where it spells none from the least to the most."""
+    if not (word.isascii() and word.isdigit() and len(word) < 20 and least <= int(word) <= most):
+        raise ValueError(f'no number from {least} to {most}: {word[:20]}')
+    return int(word)

@@ -1,21 +1,30 @@
 """The Link Layer of a broadcast as it stands in a capture of link type 256. capture_out.py and capture_in.py use it.
 
 The layouts are those of Core 5.2, volume 6 part B: the access addresses of a group are of section 2.1.2, extended advertising is of
-2.3.4, the BIGInfo of 4.4.6.11, and the CRC of 3.1. The layers are scapy's, and what they lack stands here: extended advertising, what
+2.3.4, the BIGInfo of 4.4.6.11, and the CRC of 3.1. Headers are scapy's, and what its layers lack stands here: extended advertising, what
 it carries, and the address and the CRC of a stream."""
 import contextlib
+import functools
+import gzip
 import logging
+import shutil
+import struct
+import tempfile
 import typing
-from decimal import Decimal
+import zlib
+from collections.abc import Iterable, Iterator
 
-logging.getLogger('scapy.runtime').setLevel(logging.ERROR)
+from run_reading import at_rest
+
+logging.getLogger('scapy.runtime').setLevel(logging.CRITICAL)
 from scapy.error import Scapy_Exception  # noqa: E402
-from scapy.layers.bluetooth4LE import BTLE, BTLE_ADV, BTLE_RF  # noqa: E402
-from scapy.packet import Raw  # noqa: E402
-from scapy.utils import PcapNgWriter, RawPcapReader  # noqa: E402
+from scapy.layers.bluetooth4LE import BTLE_ADV, BTLE_RF  # noqa: E402
+from scapy.utils import RawPcapReader  # noqa: E402
 
 LINK_TYPE = 256
 HEADER = 10  # octets of the pseudo header of this link type
+GZIP = b'\x1f\x8b'
+MOST_COMMENT = 4096  # octets of a comment; a longer one is cut
 ADVERTISING_ADDRESS, ADVERTISING_CRC = 0x8E89BED6, 0x555555
 EXTENDED = 7  # the PDU type of all PDUs of extended and of periodic advertising
 ALL_CHANNELS = 2 ** 37 - 1
@@ -23,6 +32,7 @@ BROADCAST_AUDIO, BASIC_AUDIO = 0x1852, 0x1851
 SERVICE_DATA, BIG_INFO_TYPE = 0x16, 0x2C
 
 # The PDU types of the pseudo header, and the sorts of an auxiliary PDU, which stand in the places of the MIC.
+CRC_CHECKED, CRC_VALID = 0x0400, 0x0800  # flags of the pseudo header
 UNTOLD, AUXILIARY, FROM_CENTRAL, FROM_PERIPHERAL, BROADCAST_STREAM = 0, 1, 2, 3, 6
 AUX_ADV_IND, AUX_CHAIN_IND, AUX_SYNC_IND = 0, 1, 2
 
@@ -39,7 +49,7 @@ HEADER_FIELDS = (('address', 6), ('target', 6), ('tone', 1), ('data_info', 2), (
 
 
 class CaptureFault(Exception):
-    """The file can't be read as a capture, with why."""
+    """The file can't be read or written as a capture, with why."""
 
 
 class Captured(typing.NamedTuple):
@@ -52,9 +62,32 @@ class Captured(typing.NamedTuple):
     crc: bytes
 
 
-def crc_of(pdu, start):
-    """The CRC of a PDU as it stands on the air. scapy takes the octets of what it begins with the other way round."""
-    return BTLE.compute_crc(pdu, int.from_bytes(start.to_bytes(3, 'little'), 'big'))
+def crc_steps() -> list[int]:
+    """What the register of the CRC becomes for each octet, where the rest of it is 0: x^24 + x^10 + x^9 + x^6 + x^4 + x^3 + x + 1, each
+    octet and the register with the bit first that is first on the air, as the least one."""
+    steps = []
+    for register in range(256):
+        for _ in range(8):
+            register = register >> 1 ^ (0xDA6000 if register & 1 else 0)
+        steps.append(register)
+    return steps
+
+
+CRC_STEPS = crc_steps()
+
+
+@functools.lru_cache(maxsize=256)
+def crc_register(start: int) -> int:
+    """What the CRC begins with, its 24 bits the other way round."""
+    return int(f'{start & 0xFFFFFF:024b}'[::-1], 2)
+
+
+def crc_of(pdu: bytes, start: int) -> bytes:
+    """The CRC of a PDU as it stands on the air."""
+    register = crc_register(start)
+    for octet in pdu:
+        register = register >> 8 ^ CRC_STEPS[(register ^ octet) & 255]
+    return register.to_bytes(3, 'little')
 
 
 def spell(layout, **values):
@@ -159,12 +192,16 @@ def big_info_of(acad):
     return None
 
 
-def framed(pdu, address, crc_start, channel, kind, phy=0, sort=0):
-    """A packet of the PDU as a sniffer gives it: without whitening, its CRC checked and right. `channel` is that of the radio."""
-    header = BTLE_RF(rf_channel=channel, dewhitened=1, type=kind, crc_checked=1, crc_valid=1, phy=phy,
-                     mic_checked=sort & 1, mic_valid=sort >> 1)
-    crc = int.from_bytes(crc_of(pdu, crc_start), 'big')
-    return header / BTLE(access_addr=address, crc=crc) / Raw(pdu)
+@functools.lru_cache(maxsize=1024)
+def pseudo_header(channel: int, kind: int, phy: int, sort: int) -> bytes:
+    """The header of a packet that a sniffer gives without whitening, its CRC checked and right. `channel` is that of the radio."""
+    return bytes(BTLE_RF(rf_channel=channel, dewhitened=1, type=kind, crc_checked=1, crc_valid=1, phy=phy, mic_checked=sort & 1,
+                         mic_valid=sort >> 1))
+
+
+def framed(pdu: bytes, address: int, crc_start: int, channel: int, kind: int, phy=0, sort=0) -> bytes:
+    """A packet of the PDU as a sniffer gives it."""
+    return pseudo_header(channel, kind, phy, sort) + address.to_bytes(4, 'little') + pdu + crc_of(pdu, crc_start)
 
 
 def extended(payload, address, crc_start, channel, sort, is_random=0, kind=AUXILIARY):
@@ -173,14 +210,40 @@ def extended(payload, address, crc_start, channel, sort, is_random=0, kind=AUXIL
     return framed(pdu, address, crc_start, channel, kind, sort=sort)
 
 
-def write_capture(path, packets):
-    """Writes pairs of a time in µs and a packet, by rising time, each with its comment where it has one."""
-    writer = PcapNgWriter(path)
-    writer.linktype = LINK_TYPE
-    writer.write_header(None)
-    for time, packet in sorted(packets, key=lambda it: it[0]):
-        writer.write_packet(packet, sec=Decimal(time) / 1000000)
-    writer.close()
+class Packet(typing.NamedTuple):
+    """A packet of a capture that is written: its time in µs, its octets, and a comment or none."""
+    time: int
+    octets: bytes
+    comment: str = ''
+
+
+def write_capture(path: str, packets: Iterable[Packet], link_type=LINK_TYPE) -> int:
+    """Writes packets as a pcapng, one by one as they come, and gives how many these were."""
+    written = 0
+    with open(path, 'wb') as file:
+        file.write(block(0x0A0D0D0A, struct.pack('<IHHq', 0x1A2B3C4D, 1, 0, -1)) + block(1, struct.pack('<HHI', link_type, 0, 0)))
+        for time, octets, comment in packets:
+            if not 0 <= time < 1 << 64:
+                raise CaptureFault(f'a packet at {time} us, a time that no capture holds')
+            size = len(octets)
+            body = struct.pack('<IIIII', 0, time >> 32, time & 0xFFFFFFFF, size, size) + octets + bytes(-size % 4)
+            file.write(block(6, body + option(comment)))
+            written += 1
+    return written
+
+
+def block(kind: int, body: bytes) -> bytes:
+    """A block of a pcapng."""
+    size = struct.pack('<I', 12 + len(body))
+    return struct.pack('<I', kind) + size + body + size
+
+
+def option(comment: str) -> bytes:
+    """The options of a packet with this comment. scapy takes a comment up to its first line end."""
+    if not comment:
+        return b''
+    octets = comment.encode()[:MOST_COMMENT] + b'\n'
+    return struct.pack('<HH', 1, len(octets)) + octets + bytes(-len(octets) % 4) + bytes(4)
 
 
 def has_good_crc(packet, crc_start):
@@ -190,22 +253,42 @@ def has_good_crc(packet, crc_start):
     return crc_of(packet.pdu, crc_start) == packet.crc
 
 
-def read_capture(path, skipped):
-    """The packets of a file of pcap or pcapng. `skipped` counts by their reason those that can't be used."""
-    try:
-        reader = RawPcapReader(path)
-    except Scapy_Exception as error:
-        raise CaptureFault(f'{path} is neither pcap nor pcapng') from error
-    with contextlib.closing(reader):
-        for octets, about in reader:
-            link_type = getattr(about, 'linktype', None) if hasattr(about, 'tsresol') else reader.linktype
-            reason = 'without a time' if getattr(about, 'tshigh', 0) is None else unusable(octets, link_type)
-            if reason:
-                skipped[reason] += 1
-                continue
-            header = BTLE_RF(octets[:HEADER])
-            is_right = bool(header.crc_valid) if header.crc_checked else None
-            yield Captured(time_of(about, reader), is_right, int.from_bytes(octets[10:14], 'little'), octets[14:-3], octets[-3:])
+def read_capture(path: str, skipped: dict[str, int]) -> Iterator[Captured]:
+    """The packets of a file of pcap or pcapng, which may be in a gzip. `skipped` counts by their reason those that can't be used."""
+    with unpacked(path) as name:
+        try:
+            reader = RawPcapReader(name)
+        except (Scapy_Exception, struct.error, EOFError) as error:
+            raise CaptureFault(f'{path} is neither pcap nor pcapng') from error
+        with contextlib.closing(reader):
+            for octets, about in reader:
+                link_type = getattr(about, 'linktype', None) if hasattr(about, 'tsresol') else reader.linktype
+                reason = 'without a time' if getattr(about, 'tshigh', 0) is None else unusable(octets, link_type)
+                if reason:
+                    skipped[reason] += 1
+                    continue
+                flags = octets[8] | octets[9] << 8
+                is_right = bool(flags & CRC_VALID) if flags & CRC_CHECKED else None
+                yield Captured(time_of(about, reader), is_right, int.from_bytes(octets[10:14], 'little'), octets[14:-3], octets[-3:])
+
+
+@contextlib.contextmanager
+def unpacked(path: str) -> Iterator[str]:
+    """The path of the capture, or of a copy where it is a gzip."""
+    with at_rest(path) as name:
+        with open(name, 'rb') as file:
+            is_packed = file.read(2) == GZIP
+        if not is_packed:
+            yield name
+            return
+        with tempfile.NamedTemporaryFile() as copy:
+            try:
+                with gzip.open(name) as file:
+                    shutil.copyfileobj(file, copy)
+            except (EOFError, zlib.error, gzip.BadGzipFile) as error:
+                raise CaptureFault(f'{path} is a gzip that is cut or broken') from error
+            copy.flush()
+            yield copy.name
 
 
 def time_of(about, reader):

@@ -1,0 +1,122 @@
+#!/usr/bin/env python3
+"""transcript_rows.py: compares the table of what a line prints, tools/printed_rows.py, with the words of the language (.ci/words), with
+what the reader of the corpus takes for it (.ci/scenarios.py), and with all rows of the corpus, the worked rows and the examples.
+
+Each row has to have a form of the table and to come where a line brings it, as tools/run_reading.py reads them; each form of the table has
+to come somewhere; and rows that are changed must be refused. It needs neither scapy nor a program."""
+import os
+import random
+import sys
+
+sys.dont_write_bytecode = True
+HERE = os.path.dirname(os.path.abspath(__file__))
+sys.path[:0] = [os.path.join(os.path.dirname(HERE), 'tools'), HERE]
+import run_reading  # noqa: E402
+import scenarios  # noqa: E402
+import printed_rows  # noqa: E402
+
+CHANGED = 20  # rows of each form that are changed
+
+
+def words_of_the_language():
+    with open(os.path.join(HERE, 'words'), encoding='ascii') as file:
+        return set(file.read().split())
+
+
+def transcripts():
+    """The scenarios whose transcripts are whole: a name, the text, the transcript, and whether the text is a document."""
+    for file, scenario in scenarios.everything():
+        whole = scenario.transcript.endswith(b'\n') or not scenario.transcript
+        if whole and scenario.words in ([], ['--toml']) and scenario.exit_code in (0, 1):
+            yield f'{file}: {scenario.name}', scenario.text, scenario.transcript.decode(run_reading.OCTETS), '--toml' in scenario.words
+
+
+def read(text, rows):
+    """The steps of a scenario, each with what it printed."""
+    lines = [line.decode(run_reading.OCTETS) for line in text.splitlines(keepends=True)] if isinstance(text, bytes) else text
+    return list(run_reading.Reading(lines, rows))
+
+
+def split(text):
+    """The lines of a text. A line ends with 0x0A alone."""
+    return [line + b'\n' for line in text.split(b'\n')]
+
+
+def tables():
+    """Where the tables differ."""
+    words, lines = words_of_the_language(), set(printed_rows.LINES)
+    if words != lines:
+        yield f'words: only in .ci/words {sorted(words - lines)}, only in the table {sorted(lines - words)}'
+    ours = {word: {kind for it in prints for kind in it.kinds} for word, prints in printed_rows.LINES.items() if prints}
+    theirs = {word: set(kinds) for word, kinds in scenarios.PRINTS.items()}
+    for word in sorted(ours.keys() | theirs.keys()):
+        if ours.get(word) != theirs.get(word):
+            yield f'{word}: the table has {ours.get(word)}, .ci/scenarios.py {theirs.get(word)}'
+    printed = set().union(*ours.values()) | {printed_rows.REFUSAL}
+    if printed != set(printed_rows.KINDS):
+        yield f'rows: of no line {sorted(set(printed_rows.KINDS) - printed)}, of no form {sorted(printed - set(printed_rows.KINDS))}'
+
+
+def rows_of(told, examples):
+    """The rows that have no form, and the scenarios that can't be read with their rows. `examples` becomes for each form rows of it."""
+    for name, text, transcript, is_document in told:
+        rows = transcript.split('\n')[:-1]
+        for row in rows:
+            form = printed_rows.form_of(row)
+            if form is None:
+                yield f'{name}: the row "{run_reading.shown(row)}" has no form'
+            else:
+                examples.setdefault(form, []).append((row, text, rows, is_document))
+        if is_document:
+            continue
+        try:
+            read([line.decode(run_reading.OCTETS) for line in split(text)], rows)
+        except run_reading.RunFault as fault:
+            yield f'{name}: {fault}'
+
+
+def changes_of(row, draw):
+    """The row as another release might print it."""
+    words = row.split(' ')
+    place = draw.randrange(len(words))
+    yield ' '.join([words[0] + 's'] + words[1:])
+    yield ' '.join(words[:place] + ['new'] + words[place:])
+    yield ' '.join(words[:place] + [words[place] + 'x'] + words[place + 1:])
+    yield row + ' '
+    yield row.upper() if words[-1] == '-' or words[0] == 'line' else ' '.join(words[:-1])
+
+
+def changed_rows(examples, counts):
+    """The rows that are changed, and read all the same."""
+    draw = random.Random(1)
+    for form, found in examples.items():
+        for row, text, rows, is_document in draw.sample(found, min(CHANGED, len(found))):
+            for other in changes_of(row, draw):
+                counts['changed'] += 1
+                if printed_rows.is_row(other) and printed_rows.form_of(other) == form and ' '.join(row.split(' ')[:-1]) != other:
+                    yield f'"{run_reading.shown(row)}" may become "{run_reading.shown(other)}"'
+                if is_document or printed_rows.is_row(other):
+                    continue
+                place = rows.index(row)
+                try:
+                    read([line.decode(run_reading.OCTETS) for line in split(text)], rows[:place] + [other] + rows[place + 1:])
+                    yield f'a transcript with "{run_reading.shown(other)}" in place of "{run_reading.shown(row)}" is read'
+                except run_reading.RunFault:
+                    pass
+
+
+def main():
+    told, examples, counts = list(transcripts()), {}, {'changed': 0}
+    wrong = list(tables()) + list(rows_of(told, examples))
+    wrong += [f'no row has the form "{form}"' for form in printed_rows.FORMS if form not in examples]
+    wrong += changed_rows(examples, counts)
+    for one in wrong:
+        print(f'transcript rows: {one}')
+    rows = sum(map(len, examples.values()))
+    print(f'transcript rows: {len(printed_rows.LINES)} words, {len(printed_rows.FORMS)} forms, {rows} rows of {len(told)} scenarios, '
+          f'{counts["changed"]} changed rows, {len(wrong)} wrong')
+    return 1 if wrong or not rows else 0
+
+
+if __name__ == '__main__':
+    sys.exit(main())
