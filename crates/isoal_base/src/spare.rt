@@ -1,32 +1,46 @@
 //! Memory that is used again.
-ghost use Rattle.std.specs.Prelude.{◌≡◌, ◌<◌, ◌≤◌, length, MatchResult, OnOk, OnErr};
+ghost use Rattle.std.specs.Prelude.{◌≡◌, ◌<◌, ◌≤◌, ◌+◌, ◌-◌, ◌⊎◌, length, min, MatchResult, OnOk, OnErr};
 
 use bcast_base::{Memory, Octets};
 use std::alloc::Global;
+use std::marker::Model;
 
 /// The most strings of octets that are kept for their memory.
 const SPARES: usize = 16;
 
-/// At most 16 strings of octets that are kept for their memory alone.
+/// At most 16 strings of octets that are kept for their memory alone. It is seen as how many are kept.
 #[derive(Drop)]
 pub struct SpareOctets {
     alloc: Global,
     spares: Vec<Octets>,
-    ghost few: { length spares.items ≤ 16 },
+}
+
+impl Model for SpareOctets {
+    ghost use Rattle.std.specs.Prelude.{ℕ, ◌≤◌, length};
+
+    ghost Value = { ℕ };
+
+    ghost view = { λ a. length a.spares.items };
+
+    ghost invariant = { λ a. length a.spares.items ≤ 16 };
 }
 
 impl SpareOctets {
     /// Nothing to use again. It takes no memory.
-    pub fn new(alloc: Global) -> SpareOctets {
+    pub fn new(alloc: Global) -> SpareOctets
+        ensures { result ≡ 0 }
+    {
         SpareOctets {
             alloc,
             spares: Vec::new(alloc),
         }
     }
 
-    /// The same octets, in the memory of a string that was kept where there is one. No octets take no new memory.
+    /// The same octets, in the memory of a string that was kept where there is one; that string is no longer kept. No octets
+    /// take no new memory.
     pub fn copy(&mut self, from: &[u8]) -> Result<Octets, Memory>
-        ensures { MatchResult result (λ octets. octets ≡ from.now) (λ _. 0 < length from.now) }
+        ensures copied { MatchResult result (λ octets. octets ≡ from.now) (λ _. 0 < length from.now) }
+        ensures one_less { self.new ≡ self.old - 1 }
     {
         let Some(mut octets) = self.spares.pop() else {
             return Octets::copy(self.alloc, from);
@@ -35,8 +49,10 @@ impl SpareOctets {
         Ok(octets)
     }
 
-    /// Keeps the memory of a string, where there is room for it.
-    pub fn keep(&mut self, octets: Octets) {
+    /// Keeps the memory of a string, where fewer than 16 are kept and there is memory for one more in the list of them.
+    pub fn keep(&mut self, octets: Octets)
+        ensures { (self.new ≡ min (self.old + 1) 16) ⊎ (self.new ≡ self.old) }
+    {
         if self.spares.len() < SPARES {
             let _ = self.spares.push(octets);
         }
