@@ -1,41 +1,11 @@
-ghost use Rattle.std.specs.Prelude.{◌≡◌, ◌⊎◌};
-
-use scenario_lines::{LineFault, read_line, read_line_in};
+//! Lines that are read and written.
+use bcast_base::Octets;
+use scenario_lines::{read_line, read_line_in, write_line};
 use scenario_text::Step;
 use std::alloc::Global;
 
-fn has_fault(alloc: Global, line: &[u8], word: u64) -> bool {
-    match read_line(alloc, line) {
-        Ok(_) => false,
-        Err(fault) => fault == LineFault::BadLine { word },
-    }
-}
-
-// Lines, and the number of the first word of each that doesn't fit. Two spaces and a space at the end make an empty word;
-// an odd number of words behind PA_Interval lacks a word; a list of one octet that counts two is none.
-const FAULTS: [(&[u8], u64); 11] = [
-    (b"hear 0 0 1", 4),
-    (b"unit 1 - 0g", 3),
-    (b"event ", 1),
-    (b"air  0 1", 1),
-    (b" end", 0),
-    (b"drop 8", 1),
-    (b"stop 0", 1),
-    (b"modify 0 0 0 65535 ffffffff", 6),
-    (b"modify 0 0 0 65535 ffffff -", 5),
-    (b"meta 02", 1),
-    (b"ident 0 0000000000 1 000000", 2),
-];
-
-#[test]
-fn a_fault_has_the_number_of_the_first_word_that_does_not_fit(rt: HostRuntime) {
-    for (line, word) in FAULTS {
-        assert!(rt; has_fault(rt.alloc(), line, word));
-    }
-}
-
 // A line of each kind, out of the worked scenarios.
-pub(crate) const LINES_OF_1: [&[u8]; 37] = [
+const LINES_OF_1: [&[u8]; 37] = [
     b"scenario 2",
     b"group unframed 20000 40000 8 10000 100 100 2 1 3 2 1 600 1800 1",
     b"ident 0 000000000000 1 000000",
@@ -75,7 +45,7 @@ pub(crate) const LINES_OF_1: [&[u8]; 37] = [
     b"end",
 ];
 
-pub(crate) const LINES_OF_2: [&[u8]; 10] = [
+const LINES_OF_2: [&[u8]; 10] = [
     b"assist 0 1",
     b"apart 0 1",
     b"awrite 0 1 0200",
@@ -88,33 +58,50 @@ pub(crate) const LINES_OF_2: [&[u8]; 10] = [
     b"relay 0 1 1",
 ];
 
-fn is_read(alloc: Global, version: u8, line: &[u8]) -> bool
-    requires { (version ≡ 1) ⊎ (version ≡ 2) }
-{
-    read_line_in(alloc, version, line).is_ok()
+fn written(alloc: Global, line: &[u8]) -> Option<Octets> {
+    let Ok(Some(step)) = read_line_in(alloc, 2, line) else {
+        return None;
+    };
+    if !step.fits() {
+        return None;
+    }
+    write_line(alloc, &step).ok()
 }
 
+fn is_written(alloc: Global, line: &[u8], wanted: &[u8]) -> bool {
+    match &written(alloc, line) {
+        Some(text) => text.as_slice() == wanted,
+        None => false,
+    }
+}
+
+// Pairs stand in their order, and digits of either case are written in lower case.
 #[test]
-fn each_version_has_its_lines(rt: HostRuntime) {
+fn a_line_that_is_read_is_written_back(rt: HostRuntime) {
     for line in LINES_OF_1 {
-        assert!(rt; is_read(rt.alloc(), 1, line) && is_read(rt.alloc(), 2, line));
+        assert!(rt; is_written(rt.alloc(), line, line));
     }
     for line in LINES_OF_2 {
-        assert!(rt; has_fault(rt.alloc(), line, 0) && is_read(rt.alloc(), 2, line));
+        assert!(rt; is_written(rt.alloc(), line, line));
     }
-    assert!(rt; has_fault(rt.alloc(), b"sink 0 1 5", 3));
-    assert!(rt; is_read(rt.alloc(), 2, b"sink 0 1 5"));
+    let sink = b"sink 7 31 8 517";
+    assert!(rt; is_written(rt.alloc(), sink, sink));
+    let pairs = b"modify 0 255 2 0 01000000 - 06000000 0304aa";
+    assert!(rt; is_written(rt.alloc(), pairs, pairs));
+    assert!(rt; is_written(rt.alloc(), b"unit 31 60060 0A0b", b"unit 31 60060 0a0b"));
+}
+
+/// Whether a unit is read in version 1.
+fn is_unit(alloc: Global, line: &[u8], wanted: &[u8]) -> bool {
+    match &read_line(alloc, line) {
+        Ok(Some(Step::Unit { bis, time, octets })) => {
+            bis.get() == 31 && *time == Some(60_060) && octets.as_slice() == wanted
+        }
+        _ => false,
+    }
 }
 
 #[test]
 fn a_unit_is_read_with_ample_memory(rt: HostRuntime) {
-    let read = read_line(rt.alloc(), b"unit 31 60060 0A0b");
-    match &read {
-        Ok(Some(Step::Unit { bis, time, octets })) => {
-            assert!(rt; bis.get() == 31);
-            assert!(rt; *time == Some(60_060));
-            assert!(rt; octets.as_slice() == [0x0a, 0x0b].as_slice());
-        }
-        _ => assert!(rt; false),
-    }
+    assert!(rt; is_unit(rt.alloc(), b"unit 31 60060 0A0b", &[0x0a, 0x0b]));
 }

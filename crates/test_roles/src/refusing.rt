@@ -43,6 +43,11 @@ impl Refusing {
         answer == Some(Ok(())) && self.calls == calls
     }
 
+    /// Whether so many calls were made, and so many units were taken.
+    pub(crate) fn has_counts(&self, calls: usize, units: usize) -> bool {
+        self.calls == calls && self.taken.units.len() == units
+    }
+
     /// Counts a call: whether it is the one that is refused.
     fn is_refused(&mut self) -> bool
         ensures { self.new.taken ≡ self.old.taken }

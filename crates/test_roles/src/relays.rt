@@ -2,8 +2,8 @@
 ghost use Rattle.std.specs.Prelude.{◌≡◌, None, IfOk, true};
 ghost use Rattle.relay_role.specs.State.Flushing.{MayTake};
 
-use crate::failing_taken::Taken;
 use crate::numbers::SINGLE;
+use crate::refusing::Refusing;
 use base_grammar::decode_base;
 use bcast_base::Bis;
 use big_info::{BigInfo, Limits};
@@ -28,9 +28,6 @@ const HALL: BigInfo = BigInfo {
 
 /// A BASE of a presentation delay of 40 ms and one stream of a codec other than LC3.
 const BASE: [u8; 14] = [0x40, 0x9c, 0, 1, 1, 0xff, 1, 0, 2, 0, 0, 0, 1, 0];
-
-/// A PDU that holds nothing.
-const PADDING: [u8; 2] = [0x02, 0x00];
 
 /// More octets than a unit of the source may have.
 const LONG: [u8; 9] = [0; 9];
@@ -92,7 +89,7 @@ fn hall(alloc: Global) -> Result<SourceStreaming, &'static str>
 }
 
 /// Hands units of a stream to a taker, each at its time in µs.
-fn hands(taker: &mut RelayTaker<Taken>, bis: Bis, units: &[(u64, &[u8])]) -> bool
+fn hands(taker: &mut RelayTaker<Refusing>, bis: Bis, units: &[(u64, &[u8])]) -> bool
     ensures { taker.new.relay.to ≡ taker.old.relay.to }
 {
     'units: for (time, octets) in units {
@@ -110,7 +107,7 @@ fn relay_of(alloc: Global, to: Bis, units: &[(u64, &[u8])]) -> Result<Relay, &'s
     let Some(one) = Bis::new(1) else {
         return Err("no stream");
     };
-    let mut taker = RelayTaker::new(Relay::new(alloc, one, to), Taken::new(alloc, 0));
+    let mut taker = RelayTaker::new(Relay::new(alloc, one, to), Refusing::new(alloc));
     if !hands(&mut taker, one, units) {
         return Err("no memory");
     }
@@ -143,31 +140,13 @@ fn drops_all(relay: &mut Relay, count: usize) -> bool {
     dropped.count() == count
 }
 
-/// Whether the next event sends these PDUs, two of each stream.
-fn sends(source: &mut SourceStreaming, pdus: [&[u8]; 4]) -> bool
-    requires { source.old.cipher ≡ None }
-{
-    let Ok(sent) = source.event() else {
-        return false;
-    };
-    match sent.pdus.as_slice() {
-        [first, second, third, fourth] => {
-            first.as_slice() == pdus[0]
-                && second.as_slice() == pdus[1]
-                && third.as_slice() == pdus[2]
-                && fourth.as_slice() == pdus[3]
-        }
-        _ => false,
-    }
-}
-
 /// A unit that was dropped, by its place and the reason.
 fn dropped(number: u64, name: DropName) -> DroppedUnit {
     DroppedUnit { number, name }
 }
 
 /// Hands a unit of each of two streams, a lost one, one that is refused, and one of no octets.
-fn is_handed_each(taker: &mut RelayTaker<Taken>, one: Bis, two: Bis) -> bool {
+fn is_handed_each(taker: &mut RelayTaker<Refusing>, one: Bis, two: Bis) -> bool {
     taker.valid(one, 100, &[0xaa]).is_ok()
         && taker.valid(two, 100, &[0xbb]).is_ok()
         && taker.lost(one, 200).is_ok()
@@ -180,58 +159,13 @@ fn a_relay_copies_what_its_stream_hands_and_the_taker_takes(rt: HostRuntime) {
     let (Some(one), Some(two)) = (Bis::new(1), Bis::new(2)) else {
         return assert!(rt; false);
     };
-    let mut taker = RelayTaker::new(Relay::new(rt.alloc(), one, two), Taken::new(rt.alloc(), 4));
+    let mut refusing = Refusing::new(rt.alloc());
+    refusing.refuse(4, TakerFault::Failed);
+    let mut taker = RelayTaker::new(Relay::new(rt.alloc(), one, two), refusing);
     assert!(rt; is_handed_each(&mut taker, one, two));
     let (mut relay, taken) = taker.parts();
-    assert!(rt; taken.counts() == (5, 4));
-    assert!(rt; drops_all(&mut relay, 2));
-    assert!(rt; drops_all(&mut relay, 0));
-}
-
-#[test]
-fn a_unit_that_is_given_is_sent(rt: HostRuntime) {
-    let Some(one) = Bis::new(1) else {
-        return assert!(rt; false);
-    };
-    let Ok(mut relay) = relay_of(rt.alloc(), one, &[(60060, &[0xaa]), (60061, &[])]) else {
-        return assert!(rt; false);
-    };
-    let Ok(mut source) = hall(rt.alloc()) else {
-        return assert!(rt; false);
-    };
-    let unit = [0x02, 0x06, 0x02, 0x04, 0xd4, 0x26, 0x00, 0xaa];
-    let empty = [0x02, 0x05, 0x02, 0x03, 0xd3, 0x26, 0x00];
-    assert!(rt; drops(&mut relay, &mut source, &[]));
-    assert!(rt; sends(&mut source, [&unit, &empty, &PADDING, &PADDING]));
-}
-
-#[test]
-fn a_unit_is_dropped_for_the_first_reason(rt: HostRuntime) {
-    let Some(one) = Bis::new(1) else {
-        return assert!(rt; false);
-    };
-    let units: [(u64, &[u8]); 4] = [
-        (1000, &[0xaa]),
-        (1000, &[0xbb]),
-        (1000, &LONG),
-        (1001, &[1, 2, 3, 4, 5, 6, 7, 8]),
-    ];
-    let Ok(mut relay) = relay_of(rt.alloc(), one, &units) else {
-        return assert!(rt; false);
-    };
-    let Ok(mut source) = hall(rt.alloc()) else {
-        return assert!(rt; false);
-    };
-    assert!(rt;
-        drops(
-            &mut relay,
-            &mut source,
-            &[
-                dropped(1, DropName::TimeOrder),
-                dropped(2, DropName::UnitTooLong)
-            ]
-        )
-    );
+    assert!(rt; taken.has_counts(5, 4));
+    assert!(rt; drops_all(&mut relay, 2) && drops_all(&mut relay, 0));
 }
 
 #[test]
@@ -256,24 +190,4 @@ fn no_more_than_16_units_of_a_relay_wait(rt: HostRuntime) {
             ]
         )
     );
-}
-
-#[test]
-fn two_relays_give_to_two_streams(rt: HostRuntime) {
-    let (Some(one), Some(two)) = (Bis::new(1), Bis::new(2)) else {
-        return assert!(rt; false);
-    };
-    let Ok(mut first) = relay_of(rt.alloc(), one, &[(60060, &[0xaa])]) else {
-        return assert!(rt; false);
-    };
-    let Ok(mut second) = relay_of(rt.alloc(), two, &[(60060, &[0xbb])]) else {
-        return assert!(rt; false);
-    };
-    let Ok(mut source) = hall(rt.alloc()) else {
-        return assert!(rt; false);
-    };
-    assert!(rt; drops(&mut first, &mut source, &[]) && drops(&mut second, &mut source, &[]));
-    let unit = [0x02, 0x06, 0x02, 0x04, 0xd4, 0x26, 0x00, 0xaa];
-    let other = [0x02, 0x06, 0x02, 0x04, 0xd4, 0x26, 0x00, 0xbb];
-    assert!(rt; sends(&mut source, [&unit, &PADDING, &other, &PADDING]));
 }

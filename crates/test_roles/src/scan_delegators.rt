@@ -1,30 +1,29 @@
 //! A Scan Delegator by itself, with no receivers.
-use crate::links::tells;
-use crate::source_octets::{ADD, ADDED};
 use delegator_control::ScanDelegator;
-use delegator_history::{Cause, Reply};
-use std::alloc::Global;
+use delegator_history::{Notice, Reply};
+use delegator_machine::Delegator;
+
+/// An Add Source that wants the train, and any stream of one subgroup.
+const ADD: [u8; 21] = [
+    0x02, 0x00, 0x66, 0x55, 0x44, 0x33, 0x22, 0x11, 0x03, 0x56, 0x34, 0x12, 0x02, 0xff, 0xff, 0x01,
+    0xff, 0xff, 0xff, 0xff, 0x00,
+];
+
+/// The state of the source that is added.
+const ADDED: [u8; 20] = [
+    0x00, 0x00, 0x66, 0x55, 0x44, 0x33, 0x22, 0x11, 0x03, 0x56, 0x34, 0x12, 0x00, 0x00, 0x01, 0x00,
+    0x00, 0x00, 0x00, 0x00,
+];
 
 /// A Remove Source of the first Source_ID.
 const REMOVE: [u8; 2] = [0x05, 0x00];
 
-/// Whether a new sink refuses a write with this code for this cause.
-fn refuses(alloc: Global, write: &[u8], code: u8, cause: Cause) -> bool {
-    let Ok(mut sink) = ScanDelegator::new(alloc, 1, 1) else {
-        return false;
-    };
-    sink.serve(write) == Ok(Reply::Refused { code, cause })
-}
-
-#[test]
-fn a_write_is_refused_for_its_first_cause(rt: HostRuntime) {
-    let mut reserved = ADD;
-    reserved[12] = 0x03;
-    assert!(rt; refuses(rt.alloc(), &[5, 5], 0x81, Cause::SourceUnknown));
-    assert!(rt; refuses(rt.alloc(), &[6], 0x80, Cause::Opcode));
-    assert!(rt; refuses(rt.alloc(), &[], 0xfc, Cause::Empty));
-    assert!(rt; refuses(rt.alloc(), &[2], 0xfc, Cause::Length));
-    assert!(rt; refuses(rt.alloc(), &reserved, 0xfc, Cause::Rfu));
+/// Whether the notice is that of slot 0 with this value.
+fn tells(notice: Option<Notice>, value: &[u8]) -> bool {
+    match notice {
+        Some(notice) => notice.slot == 0 && notice.value.as_slice() == value,
+        None => false,
+    }
 }
 
 /// Whether a source that comes and goes nine times is told of each time, by notices that all wait.
@@ -48,4 +47,9 @@ fn eighteen_notices_wait_at_a_delegator(rt: HostRuntime) {
         return assert!(rt; false);
     };
     assert!(rt; eighteen_wait(&mut sink));
+}
+
+#[test]
+fn a_delegator_is_made_where_there_is_memory(rt: HostRuntime) {
+    assert!(rt; Delegator::new(rt.alloc(), 1, 1).is_ok());
 }
