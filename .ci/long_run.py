@@ -8,7 +8,7 @@ import sys
 
 FRONT = ('scenario 1', 'group unframed 20000 40000 8 10000 100 100 2 1 3 2 1 600 1800 1', 'sink 0 2 1', 'sink 1 2 1', 'start 0',
          'tuned 0 1 2', 'tuned 1 1 2')
-STREAMS, SUBEVENTS, OCTETS = (1, 2), range(3), 100
+STREAMS, SUBEVENTS = (1, 2), range(3)
 FADES, HALVES = 1 / 600, 1 / 900  # how often a sink begins to hear nothing, and nothing of stream 2
 
 
@@ -29,13 +29,13 @@ class Ear:
         return [f'air {self.sink} 1'] if self.is_deaf else [f'hear {self.sink} 0 1 {subevent}' for subevent in SUBEVENTS]
 
 
-def long_run(events=60000, seed=1):
+def long_run(events=60000, seed=1, octets=100):
     draws = random.Random(seed)
     ears = [Ear(sink, draws) for sink in (0, 1)]
     yield from FRONT
     for event in range(-1, events):
         for stream in STREAMS:
-            yield f'unit {stream} - {draws.randbytes(OCTETS).hex()}'
+            yield f'unit {stream} - {draws.randbytes(octets).hex()}'
         if event >= 0:
             yield 'event'
             for ear in ears:

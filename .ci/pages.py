@@ -310,13 +310,13 @@ def over_pages(browser, explain, folder, figures):
 def pictured(browser, explain, folder, file):
     """Writes a picture of 30 s of stereo at two sinks, near its first loss, and gives its octets."""
     name = 'stereo-at-two-sinks'
-    _, data = run_of(explained(explain, '\n'.join([*long_run(3000), '']).encode()))
+    _, data = run_of(explained(explain, '\n'.join([*long_run(3000, octets=30), '']).encode()))
     page = os.path.join(folder, name + '.html')
     with open(page, 'w', encoding='utf-8') as written:
         written.write(page_of(data, name))
     browser.resize(1100, 900)
     browser.open(page)
-    for key in 'n+++':
+    for key in ('n', '+', '+', '+', '+', 'ArrowLeft'):
         browser.press(key)
     browser.resize(1100, browser.value('document.documentElement.scrollHeight'))
     browser.value(chromium.PAINTED)

@@ -4,7 +4,7 @@ A column of numbers is embedded as the differences between neighbours, each with
 anchors of 300 events. Times are µs, and -1 stands for none."""
 from collections import Counter, defaultdict
 
-from timeline_reading import RunFault, read_lines
+from timeline_reading import named_fault, read_lines
 from timeline_run import Run
 
 SPAN = 10000  # µs, what is drawn where no event fixes a time
@@ -167,6 +167,7 @@ def octets_kept(sources):
     return max([*lengths, 0]) if sum(lengths) <= MOST_GIVEN else max(LEAST_GIVEN, MOST_GIVEN // len(lengths))
 
 
+@named_fault
 def data_of(run, fold):
     """The data of a run. A gap in which nothing is for longer than `fold` is folded, or than five ISO intervals."""
     started = [source for source in run.sources if source.first is not None]
@@ -191,14 +192,12 @@ def data_of(run, fold):
     }
 
 
+@named_fault
 def read_run(rows, tell=lambda _: None):
     """The run that `explain` told in these rows. `tell` is called now and then with the line that was taken."""
     run = Run()
-    try:
-        for line in read_lines(rows):
-            run.take(line)
-            if line.number % 1000 == 0:
-                tell(line.number)
-    except (LookupError, ValueError, AttributeError, TypeError, ArithmeticError) as error:
-        raise RunFault(f'the rows are not those of the lines: {error!r}') from error
+    for line in read_lines(rows):
+        run.take(line)
+        if line.number % 1000 == 0:
+            tell(line.number)
     return run

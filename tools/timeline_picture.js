@@ -89,9 +89,9 @@ function rowsOf(scale, isNarrow) {
 const laneRow = (lane) => shown.rows.find((it) => it.lane === lane && !it.isOfPdus);
 
 function box(id, kind, row, from, to, title, more = {}) {
-  const x = shown.scale.place(from), width = Math.max(2, shown.scale.place(to) - x - (more.isTight ? 0 : 1)), tall = row.height - 8;
-  const part = more.part ?? 1;
-  return element('rect', { id, class: kind, x: x.toFixed(2), y: (row.y + 4 + tall * (1 - part)).toFixed(2), width: width.toFixed(2),
+  const x = shown.scale.place(from), width = Math.max(2, shown.scale.place(to) - x - (more.isTight ? 0 : 1));
+  const inset = row.isOfPdus ? 2 : 4, tall = row.height - 2 * inset, part = more.part ?? 1;
+  return element('rect', { id, class: kind, x: x.toFixed(2), y: (row.y + inset + tall * (1 - part)).toFixed(2), width: width.toFixed(2),
     height: (tall * part).toFixed(2), ...more.data }, element('title', {}, title));
 }
 
@@ -148,11 +148,15 @@ function unitBox(row, track, index) {
 // The units of a stretch of a track in cells of a few px: of each cell its first and last unit, and how many have each fate.
 function cellsOf(track, first, end) {
   const cells = [];
+  let cell = { until: -Infinity };
   for (let index = first; index < end; index += 1) {
-    const x = Math.floor(shown.scale.place(track.at[index]) / CELL);
-    if (cells.at(-1)?.x !== x) cells.push({ x, first: index, counts: [0, 0, 0, 0] });
-    cells.at(-1).last = index;
-    cells.at(-1).counts[track.fate[index]] += 1;
+    if (track.at[index] >= cell.until) {
+      const x = Math.floor(shown.scale.place(track.at[index]) / CELL);
+      cell = { x, until: shown.scale.time((x + 1) * CELL), first: index, counts: [0, 0, 0, 0] };
+      cells.push(cell);
+    }
+    cell.last = index;
+    cell.counts[track.fate[index]] += 1;
   }
   return cells;
 }

@@ -1,4 +1,5 @@
 """What `explain` writes of a run, line by line (docs/explain.md). timeline.py uses it."""
+import functools
 import re
 from dataclasses import dataclass, field
 
@@ -8,6 +9,17 @@ REFUSAL = re.compile(r'line ([0-9]{1,18}): ')
 
 class RunFault(Exception):
     """The run can't be read, with why."""
+
+
+def named_fault(function):
+    """The function with each fault that rows which belong to no lines bring told as RunFault."""
+    @functools.wraps(function)
+    def called(*words):
+        try:
+            return function(*words)
+        except (LookupError, ValueError, AttributeError, TypeError, ArithmeticError) as error:
+            raise RunFault(f'the rows are not those of the lines: {error!r}'.replace('\n', ' ')) from error
+    return called
 
 
 @dataclass(slots=True)

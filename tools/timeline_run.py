@@ -202,6 +202,8 @@ class Run:
         group, air = stay.source.group, stay.source.airs.get(stream)
         while rows and rows[0][:3] == ['unit', str(sink.number), str(stream)]:
             row = rows.popleft()
+            if row[5] not in ('valid', 'lost'):
+                raise ValueError(f'a unit is {row[5]}')
             unit = Unit(sink.number, stream, int(row[4]), row[5], line, stay, octets=row[7] if row[5] == 'valid' else '')
             units.append(unit)
         if stay.is_told or air is None:
