@@ -20,7 +20,7 @@ use Rattle.replay_lines.specs.World.{World}
 use Rattle.replay_lines.proofs.LineEndings.{step_memory}
 use Rattle.replay_lines.proofs.Promises.{promised_run}
 
-kept_on : (a b c : Option (List ℕ)) (xs : List ℕ) → Appends a b xs → Keeps b c → Appends a c xs
+pub kept_on : (a b c : Option (List ℕ)) (xs : List ℕ) → Appends a b xs → Keeps b c → Appends a c xs
 kept_on None b c xs p q = tt
 kept_on (Some x) None c xs p q = absurd p
 kept_on (Some x) (Some y) None xs p q = absurd q

@@ -8,6 +8,7 @@ mod Hearing
 mod LineEndings
 mod LineSteps
 mod LineUnits
+mod Listening
 mod OtherAirs
 mod Promises
 mod Reading

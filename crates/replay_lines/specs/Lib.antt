@@ -2,8 +2,10 @@ pub mod Documents
 pub mod Ended
 pub mod FromToml
 pub mod Heard
+pub mod Listening
 pub mod Promised
 pub mod Replayed
 pub mod Standing
 pub mod State
+pub mod Tellings
 pub mod World

@@ -1,6 +1,7 @@
 //! The loop over the lines of a text.
 ghost use Rattle.std.specs.Prelude.{◌≡◌, ◌≢◌, ◌<◌, ◌+◌, ◌∷◌, ℕ, List, Option, None, Some};
 ghost use Rattle.std.specs.Prelude.{Ok, length, map, true, IfNone, IfOk, OnOk, OnErr, IsSome};
+ghost use Rattle.std.specs.Io.KnownBytes.{Keeps};
 ghost use Rattle.bcast_base.specs.Counts.{Rose};
 ghost use Rattle.bcast_io.specs.TextLines.{TextLine, lines_of, plain};
 ghost use Rattle.bcast_io.specs.State.Reading.{lines_left};
@@ -14,12 +15,14 @@ ghost use Rattle.replay_steps.specs.Untaken.{UntakenRun};
 ghost use Rattle.replay_lines.specs.Replayed.{Comes, ReadsAhead, ReadsAtMost, read_limit};
 ghost use Rattle.replay_lines.specs.Ended.{Ended};
 ghost use Rattle.replay_lines.specs.Heard.{as_told};
+ghost use Rattle.replay_lines.specs.Listening.{EndsAt, EndsText, HasTold, LineTold, StepTold, Told};
+ghost use Rattle.replay_lines.specs.Tellings.{Listened, listened, tellings};
 ghost use Rattle.replay_lines.specs.State.Between.{ReadTo, TextIs, NextIs, RunTo, Refuses, Puts, StepRuns, StepHeard, LineRuns};
 
 use crate::ending::Ending;
 use crate::listener::Listener;
 use bcast_base::{Memory, Octets};
-use bcast_io::{ByteSink, ByteSource, Failed, LineRead, LineReader, SinkFault, write_whole};
+use bcast_io::{ByteSink, ByteSource, Failed, LineRead, LineReader, SinkFault};
 use replay_steps::Machine;
 use std::alloc::Global;
 use transcript_text::{Refusal, Stop, put_refusal};
@@ -37,6 +40,8 @@ pub(crate) fn run_lines<S: ByteSource, K: ByteSink, L: Listener<K>>(
         (S.left source.old) (S.left source.new) (K.contents sink.old) (K.contents sink.new) }
     ensures untaken { (text : List ℕ) → S.left source.old ≡ Some text
         → UntakenRun (map account outlets.old.items) (lines_of true text) outlets.old.items outlets.new.items }
+    ensures told { Told L.row_of (S.left source.old) (S.left source.new) (listened L.told L.rows listener.old sink.old)
+        (listened L.told L.rows listener.new sink.new) result }
     ensures within { ReadsAtMost (S.left source.old) (S.left source.new) read_limit }
     ensures read_fault { result ≡ Ending.ReadFault → Rose (S.faults source.old) (S.faults source.new) }
     ensures no_read_fault { result ≢ Ending.ReadFault → S.faults source.new ≡ S.faults source.old }
@@ -87,6 +92,10 @@ fn run_line<S: ByteSource, K: ByteSink, L: Listener<K>>(
     ensures untaken { (starts : List Account) (lines : List TextLine) (accounts : List Account)
         → LinesStand starts lines machine.old accounts
         → UntakenSame (steps_of airs_of lines) outlets.old.items outlets.new.items }
+    ensures told { (lines : List TextLine) (left : Option (List ℕ)) (start : Listened) → number ≡ length lines + 1
+        → ReadTo left (S.left source.old) lines reader.old
+        → HasTold L.row_of start (listened L.told L.rows listener.old sink.old) (tellings lines)
+        → LineTold L.row_of left (S.left source.new) start (listened L.told L.rows listener.new sink.new) lines reader.new result }
     ensures within { (left : Option (List ℕ)) (lines : List TextLine) → ReadTo left (S.left source.old) lines reader.old
         → ReadsAtMost left (S.left source.new) read_limit }
     ensures nearer { IfNone result (lines_left reader.new < lines_left reader.old) }
@@ -97,9 +106,21 @@ fn run_line<S: ByteSource, K: ByteSink, L: Listener<K>>(
 {
     match read_next(reader, source) {
         Err(Failed) => Some(Ending::ReadFault),
-        Ok(LineRead::End) => Some(end_text(number, machine, text, sink)),
-        Ok(LineRead::TextTooLong) => Some(refuse(number, Refusal::TextTooLong, text, sink)),
-        Ok(LineRead::LineTooLong) => Some(refuse(number, Refusal::LineTooLong, text, sink)),
+        Ok(LineRead::End) => Some(end_text(number, machine, text, listener, sink)),
+        Ok(LineRead::TextTooLong) => Some(refuse(
+            number,
+            Refusal::TextTooLong,
+            text,
+            listener,
+            sink,
+        )),
+        Ok(LineRead::LineTooLong) => Some(refuse(
+            number,
+            Refusal::LineTooLong,
+            text,
+            listener,
+            sink,
+        )),
         Ok(LineRead::Line) => hear_step(
             number,
             reader.line(),
@@ -128,11 +149,19 @@ fn read_next<S: ByteSource>(reader: &mut LineReader, source: &mut S) -> Result<L
 
 /// The end of the text, which may come only behind `end`.
 #[inline(never)]
-fn end_text<K: ByteSink>(number: u64, machine: &Machine, text: &mut Octets, sink: &mut K) -> Ending
+fn end_text<K: ByteSink, L: Listener<K>>(
+    number: u64,
+    machine: &Machine,
+    text: &mut Octets,
+    listener: &L,
+    sink: &mut K,
+) -> Ending
     ensures ends { (starts : List Account) (lines : List TextLine) (left left' kept : Option (List ℕ)) (accounts : List Account)
         → number ≡ length lines + 1
         → TextIs left left' lines true → RunTo starts lines kept (K.contents sink.old) machine.now accounts
         → Ended airs_of result starts accounts left left' kept (K.contents sink.new) }
+    ensures behind { EndsText result }
+    ensures rows { Keeps (L.rows sink.old) (L.rows sink.new) }
     ensures never_read_fault { result ≢ Ending.ReadFault }
     ensures write_fault { result ≡ Ending.WriteFault → Rose (K.faults sink.old) (K.faults sink.new) }
     ensures no_write_fault { result ≢ Ending.WriteFault → K.faults sink.new ≡ K.faults sink.old }
@@ -140,13 +169,21 @@ fn end_text<K: ByteSink>(number: u64, machine: &Machine, text: &mut Octets, sink
     if machine.is_over() {
         return Ending::Done;
     }
-    refuse(number, Refusal::NoEnd, text, sink)
+    refuse(number, Refusal::NoEnd, text, listener, sink)
 }
 
 /// Writes the line of a refusal.
 #[inline(never)]
-fn refuse<K: ByteSink>(number: u64, reason: Refusal, text: &mut Octets, sink: &mut K) -> Ending
+fn refuse<K: ByteSink, L: Listener<K>>(
+    number: u64,
+    reason: Refusal,
+    text: &mut Octets,
+    listener: &L,
+    sink: &mut K,
+) -> Ending
     ensures refuses { Refuses number reason (K.contents sink.old) (K.contents sink.new) result }
+    ensures at { EndsAt number (Some result) }
+    ensures rows { Keeps (L.rows sink.old) (L.rows sink.new) }
     ensures never_read_fault { result ≢ Ending.ReadFault }
     ensures write_fault { result ≡ Ending.WriteFault → Rose (K.faults sink.old) (K.faults sink.new) }
     ensures no_write_fault { result ≢ Ending.WriteFault → K.faults sink.new ≡ K.faults sink.old }
@@ -154,7 +191,7 @@ fn refuse<K: ByteSink>(number: u64, reason: Refusal, text: &mut Octets, sink: &m
     text.clear();
     match put_refusal(text, number, reason) {
         Err(Memory) => Ending::Memory,
-        Ok(()) => match put(text, sink) {
+        Ok(()) => match put(text, listener, sink) {
             Some(fault) => fault,
             None => Ending::Refused {
                 line: number,
@@ -180,6 +217,10 @@ fn hear_step<K: ByteSink, L: Listener<K>>(
         → RunTo starts lines kept (K.contents sink.old) machine.old (map account outlets.old.items)
         → StepHeard L.may_fail starts (plain line.now ∷ lines) left left' kept (K.contents sink.new) machine.new
         (map account outlets.new.items) result }
+    ensures told { (lines : List TextLine) (left left' : Option (List ℕ)) (start : Listened) → number ≡ length lines + 1
+        → Comes left left' lines (plain line.now)
+        → HasTold L.row_of start (listened L.told L.rows listener.old sink.old) (tellings lines)
+        → StepTold L.row_of left left' start (listened L.told L.rows listener.new sink.new) (plain line.now ∷ lines) result }
     ensures untaken { (starts : List Account) (lines : List TextLine) (accounts : List Account)
         → LinesStand starts lines machine.old accounts
         → UntakenSame (steps_of airs_of lines) outlets.old.items outlets.new.items }
@@ -189,7 +230,7 @@ fn hear_step<K: ByteSink, L: Listener<K>>(
 {
     match listener.begin_line(number, line, machine, sink) {
         Ok(()) => {
-            let ended = run_step(number, line, machine, text, sink, outlets);
+            let ended = run_step(number, line, machine, text, listener, sink, outlets);
             listener.end_line(line, machine, text, ended);
             ended
         }
@@ -200,11 +241,12 @@ fn hear_step<K: ByteSink, L: Listener<K>>(
 
 /// Runs a line, and writes what it brings.
 #[inline(always)]
-fn run_step<K: ByteSink>(
+fn run_step<K: ByteSink, L: Listener<K>>(
     number: u64,
     line: &[u8],
     machine: &mut Machine,
     text: &mut Octets,
+    listener: &L,
     sink: &mut K,
     outlets: &mut Vec<Box<dyn Outlet>>,
 ) -> Option<Ending>
@@ -213,6 +255,8 @@ fn run_step<K: ByteSink>(
         → RunTo starts lines kept (K.contents sink.old) machine.old (map account outlets.old.items)
         → StepRuns starts (plain line.now ∷ lines) left left' kept (K.contents sink.new) machine.new
         (map account outlets.new.items) result }
+    ensures at { EndsAt number result }
+    ensures rows { Keeps (L.rows sink.old) (L.rows sink.new) }
     ensures untaken { (starts : List Account) (lines : List TextLine) (accounts : List Account)
         → LinesStand starts lines machine.old accounts
         → UntakenSame (steps_of airs_of lines) outlets.old.items outlets.new.items }
@@ -222,9 +266,9 @@ fn run_step<K: ByteSink>(
 {
     text.clear();
     match machine.line(line, outlets, text) {
-        Ok(()) => put(text, sink),
-        Err(Stop::Refused(reason)) => Some(refuse(number, reason, text, sink)),
-        Err(Stop::OutletFault) => match put(text, sink) {
+        Ok(()) => put(text, listener, sink),
+        Err(Stop::Refused(reason)) => Some(refuse(number, reason, text, listener, sink)),
+        Err(Stop::OutletFault) => match put(text, listener, sink) {
             Some(fault) => Some(fault),
             None => Some(Ending::OutletFault),
         },
@@ -233,13 +277,14 @@ fn run_step<K: ByteSink>(
 }
 
 /// Writes a text: an ending where it was not written whole.
-fn put<K: ByteSink>(text: &Octets, sink: &mut K) -> Option<Ending>
+fn put<K: ByteSink, L: Listener<K>>(text: &Octets, listener: &L, sink: &mut K) -> Option<Ending>
     ensures puts { Puts text.now (K.contents sink.old) (K.contents sink.new) result }
+    ensures rows { Keeps (L.rows sink.old) (L.rows sink.new) }
     ensures never_read_fault { result ≢ Some Ending.ReadFault }
     ensures write_fault { result ≡ Some Ending.WriteFault → Rose (K.faults sink.old) (K.faults sink.new) }
     ensures no_write_fault { result ≢ Some Ending.WriteFault → K.faults sink.new ≡ K.faults sink.old }
 {
-    match write_whole(sink, text.as_slice()) {
+    match listener.write(text.as_slice(), sink) {
         Ok(()) => None,
         Err(SinkFault::Failed) => Some(Ending::WriteFault),
         Err(SinkFault::Memory) => Some(Ending::Memory),

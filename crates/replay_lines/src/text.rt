@@ -6,6 +6,8 @@ ghost use Rattle.scenario_history.specs.Airs.{MeetAirs};
 ghost use Rattle.source_machine.specs.Airs.{Airs};
 ghost use Rattle.replay_steps.specs.Untaken.{UntakenBy};
 ghost use Rattle.replay_lines.specs.Heard.{Heard};
+ghost use Rattle.replay_lines.specs.Listening.{Told};
+ghost use Rattle.replay_lines.specs.Tellings.{listened};
 ghost use Rattle.replay_lines.specs.Promised.{Promised};
 ghost use Rattle.replay_lines.specs.State.Laws.{Laws};
 ghost use Rattle.replay_lines.specs.World.{World, world_of};
@@ -62,6 +64,8 @@ pub fn run_heard<S: ByteSource, K: ByteSink, L: Listener<K>>(
     ensures heard { let old = world_of S.left S.faults K.contents K.faults source.old sink.old (map account outlets.old.items) in
         let new = world_of S.left S.faults K.contents K.faults source.new sink.new (map account outlets.new.items) in
         Heard old new result }
+    ensures told { Told L.row_of (S.left source.old) (S.left source.new) (listened L.told L.rows listener.old sink.old)
+        (listened L.told L.rows listener.new sink.new) result }
     ensures untaken { (text : List ℕ) (airs : Airs) → S.left source.old ≡ Some text → MeetAirs airs
         → UntakenBy airs (map account outlets.old.items) (lines_of true text) outlets.old.items outlets.new.items }
 {

@@ -1,7 +1,9 @@
-use Rattle.std.proofs.Common.{◌∷◌, map}
+use Rattle.std.proofs.Common.{◌∷◌, inl, inr, map}
 use Rattle.source_machine.specs.Airs.{airs_of}
 use Rattle.bcast_io.specs.TextLines.{plain}
 use Rattle.replay_lines.proofs.Hearing.{broken_before, failed_told, run_kept, step_told, wanted_told}
+use Rattle.replay_lines.proofs.Listening.{has_run, told_at, told_before}
+use Rattle.replay_lines.specs.Tellings.{Listened, listened}
 use Rattle.replay_lines.proofs.lines.hear_step.Goals as goal
 
 pub returns-in-Ok-clause-runs : goal.returns-in-Ok-clause-runs
@@ -29,3 +31,28 @@ returns-in-Err-Memory-clause-runs g c =
     wanted_told airs_of starts boxes left left' kept (g.K.ByteSink.contents c.begin_line.new.sink) g.L.Listener.may_fail
     (broken_before starts lines (plain c.args.line.now) left left' kept (g.K.ByteSink.contents c.args.sink.now) (g.K.ByteSink.contents c.begin_line.new.sink)
     c.args.machine.now boxes comes run c.begin_line.ensures.kept)
+
+pub returns-in-Ok-clause-told : goal.returns-in-Ok-clause-told
+returns-in-Ok-clause-told g c =
+    λ lines left left' start e comes has.
+    let row = g.L.Listener.row_of in
+    let old = listened g.L.Listener.told g.L.Listener.rows c.args.listener.now c.args.sink.now in
+    let new = listened g.L.Listener.told g.L.Listener.rows c.end_line.new.self c.run_step-ended.new.sink in
+    told_at row left left' start new lines (plain c.args.line.now) c.args.number c.run_step-ended.result comes e c.run_step-ended.ensures.at
+    (has_run row start old lines c.args.number c.args.line.now has e (g.L.Listener.told c.begin_line.new.self) (g.L.Listener.told c.end_line.new.self)
+    (g.L.Listener.rows c.begin_line.new.sink) (g.L.Listener.rows c.run_step-ended.new.sink) c.begin_line.ensures.told c.in-Ok.ensures.shown
+    c.run_step-ended.ensures.rows c.end_line.ensures.told)
+
+pub returns-in-Err-Failed-clause-told : goal.returns-in-Err-Failed-clause-told
+returns-in-Err-Failed-clause-told g c =
+    λ lines left left' start e comes has.
+    let old = listened g.L.Listener.told g.L.Listener.rows c.args.listener.now c.args.sink.now in
+    inr (inr (told_before g.L.Listener.row_of start old lines c.args.number c.args.line.now has e left left' (g.L.Listener.told c.begin_line.new.self)
+    (g.L.Listener.rows c.begin_line.new.sink) comes c.begin_line.ensures.told c.in-Err-Failed.ensures.shown))
+
+pub returns-in-Err-Memory-clause-told : goal.returns-in-Err-Memory-clause-told
+returns-in-Err-Memory-clause-told g c =
+    λ lines left left' start e comes has.
+    let old = listened g.L.Listener.told g.L.Listener.rows c.args.listener.now c.args.sink.now in
+    inr (inr (inl (told_before g.L.Listener.row_of start old lines c.args.number c.args.line.now has e left left' (g.L.Listener.told c.begin_line.new.self)
+    (g.L.Listener.rows c.begin_line.new.sink) comes c.begin_line.ensures.told c.in-Err-Memory.ensures.shown)))

@@ -1,4 +1,4 @@
-use Rattle.std.proofs.Common.{◌+◌, ◌∙◌, true, map, refl, arith}
+use Rattle.std.proofs.Common.{◌+◌, ◌∙◌, inr, true, map, refl, arith}
 use Rattle.bcast_io.specs.TextLines.{lines_of}
 use Rattle.replay_steps.proofs.Citable.{none_run}
 use Rattle.source_machine.specs.Airs.{airs_of}
@@ -6,7 +6,9 @@ use Rattle.replay_lines.proofs.Endings.{ends_at_once}
 use Rattle.replay_lines.proofs.Hearing.{wanted_told}
 use Rattle.replay_lines.proofs.ReadingOn.{none_within}
 use Rattle.replay_lines.proofs.LineSteps.{running_none, bound_none, running_more, running_ends}
+use Rattle.replay_lines.proofs.Listening.{has_none, telling_ends, telling_more, telling_none}
 use Rattle.replay_lines.proofs.Untaken.{untaken_at}
+use Rattle.replay_lines.specs.Tellings.{listened}
 use Rattle.replay_lines.proofs.lines.run_lines.Goals as goal
 
 pub returns-in_default-clause-ended : goal.returns-in_default-clause-ended
@@ -37,6 +39,8 @@ pub lines-init : goal.lines-init
 lines-init g c = record {
   running = running_none c.args.outlets.now.items (map (λ b. (goal.Outlet-dyn g (b.vtable, b.value)).account b.value) c.args.outlets.now.items) (g.S.ByteSource.left c.args.source.now) (g.K.ByteSink.contents c.args.sink.now)
       c.in-Ok.reader c.in-Ok-new.machine c.in-Ok.ensures c.in-Ok-new.ensures;
+  telling = telling_none g.L.Listener.row_of (g.S.ByteSource.left c.args.source.now)
+      (listened g.L.Listener.told g.L.Listener.rows c.args.listener.now c.args.sink.now) c.in-Ok.reader c.in-Ok.ensures;
   bound = bound_none c.in-Ok.reader c.in-Ok.ensures;
   reads = refl;
   writes = refl;
@@ -55,6 +59,13 @@ lines-preserved g c = record {
       (map (λ b. (goal.Outlet-dyn g (b.vtable, b.value)).account b.value) c.lines.outlets.items))
       (λ lines. c.run_line.ensures.runs (map (λ b. (goal.Outlet-dyn g (b.vtable, b.value)).account b.value) c.args.outlets.now.items) lines
       (g.S.ByteSource.left c.args.source.now) (g.K.ByteSink.contents c.args.sink.now));
+  telling =
+      let start = listened g.L.Listener.told g.L.Listener.rows c.args.listener.now c.args.sink.now in
+      let old = listened g.L.Listener.told g.L.Listener.rows c.lines.listener c.lines.sink in
+      let new = listened g.L.Listener.told g.L.Listener.rows c.run_line.new.listener c.run_line.new.sink in
+      telling_more g.L.Listener.row_of (g.S.ByteSource.left c.args.source.now) (g.S.ByteSource.left c.lines.source) (g.S.ByteSource.left c.run_line.new.source)
+      start old new c.lines.number (c.lines.number + 1) c.lines.reader c.run_line.new.reader c.run_line.result c.lines.invariant.telling refl c.in-None.is
+      (λ lines. c.run_line.ensures.told lines (g.S.ByteSource.left c.args.source.now) start);
   bound = omega (arith, c.in-None.ensures.nearer, c.lines.invariant.bound);
   reads = c.in-None.ensures.no_read_fault (λ e. cc) ∙ c.lines.invariant.reads;
   writes = c.in-None.ensures.no_write_fault (λ e. cc) ∙ c.lines.invariant.writes;
@@ -85,3 +96,20 @@ returns-in-Some-clause-untaken g c =
     untaken_at c.args.outlets.now.items c.lines.outlets.items c.run_line.new.outlets.items starts before
     (g.S.ByteSource.left c.args.source.now) (g.S.ByteSource.left c.lines.source) (g.K.ByteSink.contents c.args.sink.now) (g.K.ByteSink.contents c.lines.sink)
     c.lines.number c.lines.reader c.lines.machine c.lines.invariant.running (λ lines. c.run_line.ensures.untaken starts lines before)
+
+pub returns-in_default-clause-told : goal.returns-in_default-clause-told
+returns-in_default-clause-told g c =
+    inr (inr (inr (has_none g.L.Listener.row_of (listened g.L.Listener.told g.L.Listener.rows c.args.listener.now c.args.sink.now))))
+
+pub returns-in_default-new-clause-told : goal.returns-in_default-new-clause-told
+returns-in_default-new-clause-told g c =
+    inr (inr (inr (has_none g.L.Listener.row_of (listened g.L.Listener.told g.L.Listener.rows c.args.listener.now c.args.sink.now))))
+
+pub returns-in-Some-clause-told : goal.returns-in-Some-clause-told
+returns-in-Some-clause-told g c =
+    let start = listened g.L.Listener.told g.L.Listener.rows c.args.listener.now c.args.sink.now in
+    let old = listened g.L.Listener.told g.L.Listener.rows c.lines.listener c.lines.sink in
+    let new = listened g.L.Listener.told g.L.Listener.rows c.run_line.new.listener c.run_line.new.sink in
+    telling_ends g.L.Listener.row_of (g.S.ByteSource.left c.args.source.now) (g.S.ByteSource.left c.lines.source) (g.S.ByteSource.left c.run_line.new.source)
+    start old new c.lines.number c.lines.reader c.run_line.new.reader c.run_line.result c.in-Some.ending c.lines.invariant.telling c.in-Some.is
+    (λ lines. c.run_line.ensures.told lines (g.S.ByteSource.left c.args.source.now) start)

@@ -1,0 +1,173 @@
+-- What a listener was told once one line more was run, or where a run ended.
+use Rattle.std.proofs.Common.{◌≡◌, ℕ, ◌+◌, ◌∙◌, Bool, true, false, List, [], ◌∷◌, ◌++◌, length, refl, sym, ap, subst, arith}
+use Rattle.std.proofs.Common.{Option, None, Some, inl, inr, append_assoc}
+use Rattle.std.proofs.lemmas.List.{append-nil}
+use Rattle.std.specs.Io.KnownBytes.{Appends, Keeps}
+use Rattle.bcast_io.specs.State.Reading.{Reading}
+use Rattle.bcast_io.specs.TextLines.{TextLine, plain}
+use Rattle.bcast_io.specs.Writing.{AppendsFront}
+use Rattle.bcast_io.proofs.Citable.{Appends-nothing, Appends-then, AppendsFront-then}
+use Rattle.transcript_text.specs.declared.refusal.Refusal.TheVariants.{NoEnd}
+use Rattle.replay_lines.specs.Listening.{EndsAt, EndsText, HasTold, LineTold, StepTold, Told, ToldAll, ToldBefore, ToldUpTo}
+use Rattle.replay_lines.specs.Replayed.{Comes}
+use Rattle.replay_lines.specs.State.Between.{Puts, ReadTo, Refuses, TextIs}
+use Rattle.replay_lines.specs.Tellings.{Listened, Telling, Tells, begun, rows_of, tellings, was_run}
+use Rattle.transcript_text.specs.declared.refusal.Refusal.{Refusal}
+use Rattle.replay_lines.specs.declared.ending.Ending.{Ending}
+use Rattle.replay_lines.specs.declared.ending.Ending.TheVariants as endings
+use Rattle.replay_lines.proofs.Hearing.{kept_on}
+use Rattle.replay_lines.proofs.ReadingOn.{read_none}
+
+tells_none : (told : Option (List Telling)) → Tells told told []
+tells_none None = tt
+tells_none (Some told) = refl
+
+tells_then : (a b c : Option (List Telling)) (first then : List Telling) → Tells a b first → Tells b c then → Tells a c (then ++ first)
+tells_then None None None first then p q = tt
+tells_then None None (Some z) first then p q = absurd q
+tells_then None (Some y) c first then p q = absurd p
+tells_then (Some x) None c first then p q = absurd p
+tells_then (Some x) (Some y) None first then p q = absurd q
+tells_then (Some x) (Some y) (Some z) first then p q = q ∙ ap (λ l. then ++ l) p ∙ sym (append_assoc then first x)
+
+module _ (row : ℕ → List ℕ → List ℕ) (start old : Listened) (lines : List TextLine) (number : ℕ) (line : List ℕ)
+    (has : HasTold row start old (tellings lines)) (is_next : number ≡ length lines + 1) where
+  -- the line began, was run, and its end was told
+  pub has_run : (begins new : Option (List Telling)) (rows rows' : Option (List ℕ)) → Tells old.told begins (begun number line ∷ [])
+      → Appends old.rows rows (row number line) → Keeps rows rows' → Tells begins new (was_run line ∷ [])
+      → HasTold row start (record { told = new; rows = rows' }) (tellings (plain line ∷ lines))
+  has_run begins new rows rows' first shown kept last =
+      let P : ℕ → Type 0 = λ n. Tells start.told new (was_run line ∷ begun n line ∷ tellings lines) in
+      let Q : ℕ → Type 0 = λ n. Appends start.rows rows' (rows_of row (tellings lines) ++ row n line) in
+      record {
+        counted = subst P is_next
+            (tells_then start.told begins new (begun number line ∷ tellings lines) (was_run line ∷ [])
+            (tells_then start.told old.told begins (tellings lines) (begun number line ∷ []) has.counted first) last);
+        shown = subst Q is_next
+            (kept_on start.rows rows rows' (rows_of row (tellings lines) ++ row number line)
+            (Appends-then start.rows old.rows rows (rows_of row (tellings lines)) (row number line) has.shown shown) kept);
+      }
+
+  -- the listener failed at the line
+  pub told_before : (left left' : Option (List ℕ)) (begins : Option (List Telling)) (rows : Option (List ℕ)) → Comes left left' lines (plain line)
+      → Tells old.told begins (begun number line ∷ []) → AppendsFront old.rows rows (row number line)
+      → ToldBefore row left left' start (record { told = begins; rows = rows })
+  told_before left left' begins rows comes first shown =
+      let P : ℕ → Type 0 = λ n. Tells start.told begins (begun n line ∷ tellings lines) in
+      let Q : ℕ → Type 0 = λ n. AppendsFront start.rows rows (rows_of row (tellings lines) ++ row n line) in
+      record {
+        earlier = lines;
+        line = line;
+        comes = comes;
+        counted = subst P is_next (tells_then start.told old.told begins (tellings lines) (begun number line ∷ []) has.counted first);
+        shown = subst Q is_next (AppendsFront-then start.rows old.rows rows (rows_of row (tellings lines)) (row number line) has.shown shown);
+      }
+
+pub has_kept : (row : ℕ → List ℕ → List ℕ) (start old : Listened) (rows : Option (List ℕ)) (more : List Telling) → HasTold row start old more → Keeps old.rows rows
+    → HasTold row start (record { told = old.told; rows = rows }) more
+has_kept row start old rows more has kept =
+    record { counted = has.counted; shown = kept_on start.rows old.rows rows (rows_of row more) has.shown kept }
+
+module _ (row : ℕ → List ℕ → List ℕ) (left left' : Option (List ℕ)) (start new : Listened) (lines : List TextLine) where
+  -- the run goes on behind a line or ended at it
+  pub told_at : (line : TextLine) (number : ℕ) (result : Option Ending) → Comes left left' lines line → number ≡ length lines + 1 → EndsAt number result
+      → HasTold row start new (tellings (line ∷ lines)) → StepTold row left left' start new (line ∷ lines) result
+  told_at line number result comes is_next at has = by result at
+    where
+      upto : ToldUpTo row left left' start new number
+      upto = record { earlier = lines; line = line; comes = comes; is_next = is_next; has = has }
+
+      by : (r : Option Ending) → EndsAt number r → StepTold row left left' start new (line ∷ lines) r
+      by None ends = has
+      by (Some endings.Done) ends = absurd ends
+      by (Some (endings.Refused other reason)) ends = inl (subst (ToldUpTo row left left' start new) (sym ends) upto)
+      by (Some endings.ReadFault) ends = absurd ends
+      by (Some endings.WriteFault) ends = inl (number, upto)
+      by (Some endings.OutletFault) ends = (number, upto)
+      by (Some endings.Memory) ends = inl (number, upto)
+
+  -- it ended behind the last line
+  pub told_text : (ending : Ending) → TextIs left left' lines true → EndsText ending → HasTold row start new (tellings lines)
+      → Told row left left' start new ending
+  told_text ending text ends has = by ending ends
+    where
+      all : ToldAll row left left' start new true
+      all = record { lines = lines; text = text; has = has }
+
+      by : (e : Ending) → EndsText e → Told row left left' start new e
+      by endings.Done ends = all
+      by (endings.Refused line reason) ends = inr (ends, all)
+      by endings.ReadFault ends = absurd ends
+      by endings.WriteFault ends = inr (inl all)
+      by endings.OutletFault ends = absurd ends
+      by endings.Memory ends = inr (inl all)
+
+  -- the next line was read
+  pub told_line : (line : TextLine) (reader : Reading) (result : Option Ending) → ReadTo left left' (line ∷ lines) reader
+      → StepTold row left left' start new (line ∷ lines) result → LineTold row left left' start new lines reader result
+  told_line line reader None read told = (line, read, told)
+  told_line line reader (Some ending) read told = told
+
+-- ---- how a line ends
+
+pub puts_at : (number : ℕ) (octets : List ℕ) (kept kept' : Option (List ℕ)) (result : Option Ending) → Puts octets kept kept' result → EndsAt number result
+puts_at number octets kept kept' None puts = tt
+puts_at number octets kept kept' (Some endings.Done) puts = absurd puts
+puts_at number octets kept kept' (Some (endings.Refused line reason)) puts = absurd puts
+puts_at number octets kept kept' (Some endings.ReadFault) puts = absurd puts
+puts_at number octets kept kept' (Some endings.WriteFault) puts = tt
+puts_at number octets kept kept' (Some endings.OutletFault) puts = tt
+puts_at number octets kept kept' (Some endings.Memory) puts = tt
+
+pub behind_text : (number : ℕ) (kept kept' : Option (List ℕ)) (ending : Ending) → Refuses number NoEnd kept kept' ending → EndsText ending
+behind_text number kept kept' endings.Done f = tt
+behind_text number kept kept' (endings.Refused line reason) f = f.1
+behind_text number kept kept' endings.ReadFault f = f
+behind_text number kept kept' endings.WriteFault f = tt
+behind_text number kept kept' endings.OutletFault f = f
+behind_text number kept kept' endings.Memory f = tt
+
+-- ---- the loop
+
+-- the lines so far were read and told
+pub record TellingOn (row : ℕ → List ℕ → List ℕ) (left left' : Option (List ℕ)) (start now : Listened) (number : ℕ) (reader : Reading) : Type 0 where
+  pub lines : List TextLine
+  pub is_next : number ≡ length lines + 1
+  pub read : ReadTo left left' lines reader
+  pub has : HasTold row start now (tellings lines)
+
+pub has_none : (row : ℕ → List ℕ → List ℕ) (start : Listened) → HasTold row start start []
+has_none row start = record { counted = tells_none start.told; shown = Appends-nothing start.rows }
+
+pub telling_none : (row : ℕ → List ℕ → List ℕ) (left : Option (List ℕ)) (start : Listened) (reader : Reading)
+    → reader ≡ record { ahead = []; part = []; taken = 0; over = false; line = None } → TellingOn row left left start start 1 reader
+telling_none row left start reader new = record {
+  lines = [];
+  is_next = omega arith;
+  read = read_none left reader new;
+  has = has_none row start;
+}
+
+pub telling_more : (row : ℕ → List ℕ → List ℕ) (left mid left' : Option (List ℕ)) (start old new : Listened) (number next : ℕ) (reader reader' : Reading) (result : Option Ending)
+    → TellingOn row left mid start old number reader → next ≡ number + 1 → result ≡ None
+    → ((lines : List TextLine) → number ≡ length lines + 1 → ReadTo left mid lines reader → HasTold row start old (tellings lines)
+    → LineTold row left left' start new lines reader' result)
+    → TellingOn row left left' start new next reader'
+telling_more row left mid left' start old new number next reader reader' result t is none told =
+    let P : Option Ending → Type 0 = λ x. LineTold row left left' start new t.lines reader' x in
+    let m = subst P none (told t.lines t.is_next t.read t.has) in
+    record {
+      lines = m.0 ∷ t.lines;
+      is_next = omega (arith, t.is_next, is);
+      read = m.1;
+      has = m.2;
+    }
+
+pub telling_ends : (row : ℕ → List ℕ → List ℕ) (left mid left' : Option (List ℕ)) (start old new : Listened) (number : ℕ) (reader reader' : Reading) (result : Option Ending) (ending : Ending)
+    → TellingOn row left mid start old number reader → result ≡ Some ending
+    → ((lines : List TextLine) → number ≡ length lines + 1 → ReadTo left mid lines reader → HasTold row start old (tellings lines)
+    → LineTold row left left' start new lines reader' result)
+    → Told row left left' start new ending
+telling_ends row left mid left' start old new number reader reader' result ending t some told =
+    let P : Option Ending → Type 0 = λ x. LineTold row left left' start new t.lines reader' x in
+    subst P some (told t.lines t.is_next t.read t.has)
