@@ -83,7 +83,7 @@ impl Field {
     ///
     /// The first refusal that holds is answered: BadGroup where a row of the group check but Encrypted holds by these
     /// limits, IdentTwice where the other source was started with the same address type, SID and Broadcast_ID, be it
-    /// stopped or not. A refusal changes nothing.
+    /// stopped or not. Neither takes memory, so want of memory comes only where neither holds. A refusal changes nothing.
     pub fn start(
         &mut self,
         s: u8,

@@ -59,11 +59,12 @@ pub record Starts (setup : Configured) (first : ℕ) (place : Option Source) (si
   pub cipher : sending.source.cipher ≡ setup.cipher
   pub begun : sending.begun.identity ≡ setup.identity
 
--- why a source is not started, where a payload may be sent so many events ahead; nothing is said of want of memory
+-- why a source is not started, where a payload may be sent so many events ahead; memory is wanted only for one that the
+-- group check and the other source leave
 abbrev pub StartFails : ℕ → Given → Option Begun → FieldFault → Type 0
 StartFails horizon setup other (BadGroup fault) = IsBadFor horizon setup.info fault
 StartFails horizon setup other IdentTwice = MayBeSent horizon setup.info × (is_taken setup.identity other ≡ true)
-StartFails horizon setup other Memory = Unit {0}
+StartFails horizon setup other Memory = MayBeSent horizon setup.info × (is_taken setup.identity other ≡ false)
 
 -- the air of a source is of its group
 abbrev pub HasOwnAir : Option Source → Option Begun → Type 0
