@@ -3,6 +3,7 @@
 All of this is worked out from the lines of the scenario, by the formulas of docs/definitions.md: the schedule and the times of Core 5.2,
 volume 6 part B, section 4.4.6, and the air of part G, sections 2 and 3.2."""
 from dataclasses import dataclass, field
+from functools import cached_property
 
 GREATEST_OFFSET = 2 ** 24 - 1  # a TimeOffset, µs
 # How many bits each number of a `group` line has, as docs/scenario-language.md says: `origin`, `delay`, and those of the BIGInfo.
@@ -46,12 +47,12 @@ class Group:
     def is_framed(self):
         return self.framing == 'framed'
 
-    @property
+    @cached_property
     def interval(self):
         """The ISO interval in µs."""
         return self.iso * 1250
 
-    @property
+    @cached_property
     def horizon(self):
         """H: how many events ahead the last group of subevents is sent."""
         return self.pto * (self.nse // self.bn - self.irc)
@@ -60,16 +61,16 @@ class Group:
     def units_an_event(self):
         return self.interval // self.sdu
 
-    @property
+    @cached_property
     def numbers_a_unit(self):
         return -(-self.max_sdu // self.max_pdu)
 
-    @property
+    @cached_property
     def longest(self):
         """How long a PDU of the greatest length is sent, in µs."""
         return (self.max_pdu + 10) * 8 if self.phy == 0 else (self.max_pdu + 11) * 4
 
-    @property
+    @cached_property
     def sync_delay(self):
         """BIG_Sync_Delay: from the anchor to the end of the last PDU of the greatest length."""
         return (self.num_bis - 1) * self.spacing + (self.nse - 1) * self.sub + self.longest
