@@ -1,6 +1,6 @@
 -- Octets are short at a place exactly where they end within the field at it.
 use Rattle.std.proofs.Common.{◌≡◌, ℕ, ◌+◌, ◌<◌, ◌≤◌, List, [], ◌∷◌, ◌++◌, length, Option, Some, None, Result, Ok, Err, refl, sym, ap, subst, ◌∙◌, inl, inr, arith}
-use Rattle.std.specs.Prelude.{nat_lt, IsOk, IfErr}
+use Rattle.std.specs.Prelude.{nat_lt, IfErr}
 use Rattle.std.specs.List.{flat_map}
 use Rattle.bcast_base.specs.Layout.{free, unless, reserved_from}
 use Rattle.bcast_base.specs.Reading.{place_in}
@@ -10,9 +10,9 @@ use Rattle.receive_state.specs.declared.fault.StateFault.{StateFault}
 use Rattle.receive_state.specs.declared.fault.StateFault.TheVariants.{Short, Rfu, Trailing, Memory}
 use Rattle.receive_state.specs.declared.state.ReceiveState.{ReceiveState}
 use Rattle.receive_state.specs.Faults.{EndsIn, IsShort, IsFault}
-use Rattle.receive_state.specs.Layout.{StateFields, fields, StateIs}
+use Rattle.receive_state.specs.Layout.{StateFields, fields}
 use Rattle.receive_state.specs.Reading.{head_in, end_in, subgroups_of, state_from, first_fault, answered, behind, judged, judged_of, lifted, state_of, told}
-use Rattle.bcast_base.specs.Tries.{Answers, Finds}
+use Rattle.bcast_base.specs.Tries.{Answers}
 use Rattle.receive_state.proofs.Causes.{lifted_err, reserved_found, reserved_told, trailing_found, trailing_told}
 use Rattle.receive_state.proofs.CutGroups.{found_groups, told_groups}
 use Rattle.receive_state.proofs.HeadsFound.{found_head}
@@ -167,16 +167,12 @@ fault_told (Rfu place) octets some f = reserved_told place octets f
 fault_told (Trailing place) octets some f = trailing_told place octets f
 fault_told Memory octets some f = absurd (some refl)
 
-a_value : (octets : List ℕ) (read : Result (Option ReceiveState) StateFault) → IsOctets octets → state_of octets ≡ read → IsOk read → (value : Option ReceiveState) × StateIs value octets
-a_value octets (Ok value) h e some = (value, read_is value octets h e)
-a_value octets (Err fault) h e some = absurd cc
-
-failed : (fault : StateFault) (octets : List ℕ) → IsOctets octets → Finds (told fault) (state_of octets) → IsFault fault octets
-failed (Short place) octets h f = short_found place octets h f
-failed (Rfu place) octets h f = reserved_found place octets h f
-failed (Trailing place) octets h f = trailing_found place octets h f
-failed Memory octets h f = a_value octets (state_of octets) h refl f
-
-pub gave_fault : (result : Result (Option ReceiveState) StateFault) (octets : List ℕ) → IsOctets octets → Answers told result (state_of octets) → IfErr result (λ fault. IsFault fault octets)
-gave_fault (Ok value) octets h g = tt
-gave_fault (Err fault) octets h g = failed fault octets h g
+pub gave_fault : (result : Result (Option ReceiveState) StateFault) (octets : List ℕ) → IsOctets octets → Answers told result (state_of octets)
+    → (result ≡ Err Memory → (state : ReceiveState) × (state_of octets ≡ Ok (Some state)) × (0 < length state.groups)) → IfErr result (λ fault. IsFault fault octets)
+gave_fault (Ok value) octets h g wants = tt
+gave_fault (Err (Short place)) octets h g wants = short_found place octets h g
+gave_fault (Err (Rfu place)) octets h g wants = reserved_found place octets h g
+gave_fault (Err (Trailing place)) octets h g wants = trailing_found place octets h g
+gave_fault (Err Memory) octets h g wants =
+    let w = wants refl in
+    (w.0, read_is (Some w.0) octets h w.1, w.2)

@@ -1,14 +1,14 @@
 -- What a state is judged as, by the steps of reading.
-use Rattle.std.proofs.Common.{◌≡◌, ℕ, ◌+◌, Bool, true, false, cond, ltb, eqb, List, [], ◌∷◌, length, map, Option, Some, None, is_some, Result, Ok, Err, refl, sym, ap, ◌∙◌, arith}
+use Rattle.std.proofs.Common.{◌≡◌, ℕ, ◌+◌, ◌<◌, Bool, true, false, cond, ltb, eqb, List, [], ◌∷◌, length, map, Option, Some, None, is_some, Result, Ok, Err, refl, sym, ap, ◌∙◌, arith}
 use Rattle.std.specs.Prelude.{IsOk}
 use Rattle.std.specs.List.{flat_map}
 use Rattle.std.proofs.lemmas.Bool.{eqb-true}
-use Rattle.std.proofs.lemmas.List.{nil_from_length}
+use Rattle.std.proofs.lemmas.List.{nil_from_length, length-map}
 use Rattle.bcast_base.specs.Layout.{reserved_from}
 use Rattle.bcast_base.specs.Reading.{place_in}
 use Rattle.bcast_base.specs.Spelling.{IsOctets}
 use Rattle.bcast_base.specs.Subgroups.{Subgroup, subgroup_fields, subgroups_in, reserved_in}
-use Rattle.bcast_base.proofs.Citable.{reserved_found}
+use Rattle.bcast_base.proofs.Citable.{reserved_found, subgroups_take}
 use Rattle.receive_state.specs.declared.fault.StateFault.{StateFault}
 use Rattle.receive_state.specs.declared.fault.StateFault.TheVariants.{Rfu, Trailing}
 use Rattle.receive_state.specs.declared.state.GroupState.{GroupState}
@@ -107,3 +107,10 @@ is_done whole s count tail rest state r head found none groups same =
     let told : map state_of_group r.groups ≡ state.groups = some_same (map state_of_group r.groups) state.groups (sym (ap states_of r.read) ∙ groups) in
     ended whole s count tail rest r head found none
     ∙ (ap (λ (gs : List GroupState). Ok (record (state_from (record s { groups = [] })) { groups = gs })) told ∙ ap (λ (x : ReceiveState). Ok x) (sym same))
+
+-- a state of at least one subgroup
+pub has_group : (whole : List ℕ) (s : StateFields) (count : ℕ) (tail rest : List ℕ) → IsOctets whole → head_in whole ≡ Ok (s, count, tail) → IsRead whole s count tail rest → None ≡ head_of s → None ≡ reserved_in whole count tail
+    → eqb (length rest) 0 ≡ true → 0 < count → (state : ReceiveState) × (judged_of whole ≡ Ok state) × (0 < length state.groups)
+has_group whole s count tail rest h e r head found none some =
+    let long : length r.groups ≡ count = (subgroups_take count tail (r.groups, rest) (head_takes whole (s, count, tail) h e).octets r.read).2 in
+    (state_from (record s { groups = r.groups }), ended whole s count tail rest r head found none, omega (arith, length-map r.groups state_of_group, long, some))

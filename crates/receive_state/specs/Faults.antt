@@ -1,11 +1,11 @@
 -- Why octets are no receive state (Broadcast Audio Scan Service 1.0, section 3.2): a field passes their end, or has a value
 -- that is reserved for future use, or octets are left. At most one of these holds.
-use Rattle.std.specs.Prelude.{ℕ, ◌≡◌, ◌<◌, List, ◌∷◌, ◌++◌, length, Option}
+use Rattle.std.specs.Prelude.{ℕ, ◌≡◌, ◌<◌, List, ◌∷◌, ◌++◌, length}
 use Rattle.bcast_base.specs.Layout.{Field, laid, NoneReserved, FirstReserved}
 use Rattle.receive_state.specs.declared.fault.StateFault.{StateFault}
 use Rattle.receive_state.specs.declared.fault.StateFault.TheVariants.{Short, Rfu, Trailing, Memory}
 use Rattle.receive_state.specs.declared.state.ReceiveState.{ReceiveState}
-use Rattle.receive_state.specs.Layout.{StateFields, fields, FieldsFit, StateIs}
+use Rattle.receive_state.specs.Layout.{StateFields, fields, FieldsFit, IsSpelled}
 
 -- the octets end within the field at this place
 abbrev pub EndsIn : ℕ → List Field → List ℕ → Type 0
@@ -31,9 +31,9 @@ abbrev pub IsTrailing : ℕ → List ℕ → Type 0
 IsTrailing place octets =
     (s : StateFields) × (rest : List ℕ) × IsFollowed s octets rest × NoneReserved (fields s) × (0 < length rest) × (place ≡ length (laid (fields s)))
 
--- this is what is wrong with the octets; only a value is refused for want of memory
+-- this is what is wrong with the octets; only a state that has a subgroup is refused for want of memory
 abbrev pub IsFault : StateFault → List ℕ → Type 0
 IsFault (Short place) octets = IsShort place octets
 IsFault (Rfu place) octets = IsReserved place octets
 IsFault (Trailing place) octets = IsTrailing place octets
-IsFault Memory octets = (value : Option ReceiveState) × StateIs value octets
+IsFault Memory octets = (state : ReceiveState) × IsSpelled state octets × (0 < length state.groups)

@@ -1,5 +1,5 @@
 //! The subgroups of a receive state, looked through where they lie before any memory is taken.
-ghost use Rattle.std.specs.Prelude.{◌≡◌, ◌≤◌, length, is_some, true, IfOk, Some};
+ghost use Rattle.std.specs.Prelude.{◌≡◌, ◌<◌, ◌≤◌, length, is_some, true, IfOk, OnErr, Some};
 ghost use Rattle.bcast_base.specs.Subgroups.{subgroups_in};
 ghost use Rattle.receive_state.specs.Reading.{end_in, group_end_in, groups_of};
 ghost use Rattle.bcast_base.specs.Tries.{ReadsAs};
@@ -38,7 +38,8 @@ fn group_end<'a>(whole: &[u8], octets: &'a [u8]) -> Result<&'a [u8], ShortAt>
 // What is told of so many subgroups.
 pub(crate) fn read_groups(alloc: Global, count: u8, octets: &[u8]) -> Result<GroupStates, Memory>
     requires { is_some (subgroups_in count octets.now) ≡ true }
-    ensures { IfOk result (λ groups. groups_of count octets.now ≡ Some groups) }
+    ensures ok { IfOk result (λ groups. groups_of count octets.now ≡ Some groups) }
+    ensures err { OnErr result (0 < count) }
 {
     let mut groups = GroupStates::new(alloc);
     let mut rest = octets;

@@ -1,9 +1,10 @@
-ghost use Rattle.std.specs.Prelude.{◌≡◌, ◌≤◌, [], length, is_some, true, Option, Some, IfOk, IfErr, Ok};
+ghost use Rattle.std.specs.Prelude.{◌≡◌, ◌<◌, ◌≤◌, [], length, is_some, true, Option, Some, IfOk, IfErr, OnErr, Ok, Err};
 ghost use Rattle.receive_state.specs.Faults.{IsFault};
 ghost use Rattle.receive_state.specs.Layout.{StateIs, code_width};
 ghost use Rattle.receive_state.specs.Reading.{told, state_of, judged_of, head_in, reserved_head, encryption_of, groups_of};
 ghost use Rattle.bcast_base.specs.Subgroups.{subgroups_in};
 ghost use Rattle.bcast_base.specs.Tries.{Answers, ReadsAs};
+ghost use Rattle.receive_state.specs.declared.fault.StateFault.TheVariants.{Memory as NoMemory};
 ghost use Rattle.receive_state.specs.declared.state.ReceiveState.{ReceiveState};
 
 use crate::fault::StateFault;
@@ -41,7 +42,8 @@ struct LentState<'a> {
 /// Reads a receive state, all of the octets (Broadcast Audio Scan Service 1.0, section 3.2). The empty value is `None`.
 ///
 /// Else it is the first fault in this order: Short with the place of the field that passes the end, Rfu with the place of
-/// the first field that has a reserved value, Trailing with the place of the first octet behind all fields, and Memory.
+/// the first field that has a reserved value, Trailing with the place of the first octet behind all fields, and Memory. The
+/// empty value and a state without subgroups take none.
 pub fn decode_state(alloc: Global, from: &[u8]) -> Result<Option<ReceiveState>, StateFault>
     ensures exact { Answers told result (state_of from.now) }
     ensures layout { IfOk result (λ state. StateIs state from.now) }
@@ -53,7 +55,9 @@ pub fn decode_state(alloc: Global, from: &[u8]) -> Result<Option<ReceiveState>, 
 
 // The empty value, or a state.
 fn read_value(alloc: Global, from: &[u8]) -> Result<Option<ReceiveState>, StateFault>
-    ensures { Answers told result (state_of from.now) }
+    ensures exact { Answers told result (state_of from.now) }
+    ensures memory { result ≡ Err NoMemory
+        → (state : ReceiveState) × (state_of from.now ≡ Ok (Some state)) × (0 < length state.groups) }
 {
     if from.is_empty() {
         return Ok(None);
@@ -64,7 +68,9 @@ fn read_value(alloc: Global, from: &[u8]) -> Result<Option<ReceiveState>, StateF
 
 // A state.
 fn read_state(alloc: Global, from: &[u8]) -> Result<ReceiveState, StateFault>
-    ensures { Answers told result (judged_of from.now) }
+    ensures exact { Answers told result (judged_of from.now) }
+    ensures memory { result ≡ Err NoMemory
+        → (state : ReceiveState) × (judged_of from.now ≡ Ok state) × (0 < length state.groups) }
 {
     let lent = head_at(from)?;
     let rest = groups_end(from, lent.count, lent.groups)?;
@@ -160,6 +166,7 @@ fn own_state(alloc: Global, lent: &LentState<'_>) -> Result<ReceiveState, Memory
     requires bad_code { length lent.now.bad_code.now ≡ code_width lent.now.encryption }
     requires encryption { lent.now.encryption ≤ 3 }
     requires groups { is_some (subgroups_in lent.now.count lent.now.groups.now) ≡ true }
+    ensures err { OnErr result (0 < lent.now.count) }
     ensures groups { IfOk result (λ state. groups_of lent.now.count lent.now.groups.now ≡ Some state.groups) }
     ensures head { IfOk result (λ state. state ≡ record {
       source_id = lent.now.source_id;

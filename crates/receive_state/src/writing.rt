@@ -1,4 +1,4 @@
-ghost use Rattle.std.specs.Prelude.{◌≡◌, ◌≤◌, ◌++◌, ◌∷◌, [], length, map, Option, IfOk, IfSome, OnOk};
+ghost use Rattle.std.specs.Prelude.{◌≡◌, ◌≤◌, ◌++◌, ◌∷◌, [], length, map, Option, IfOk, IfSome, IsSome, MatchResult, OnOk};
 ghost use Rattle.std.specs.List.{flat_map, AllByRecursion};
 ghost use Rattle.std.specs.Option.{option_copied};
 ghost use Rattle.bcast_base.specs.Layout.{laid};
@@ -13,10 +13,10 @@ use std::alloc::Global;
 const ROOM: usize = 64;
 
 /// The octets of a receive state that fits, or none where there is no source (Broadcast Audio Scan Service 1.0, section
-/// 3.2).
+/// 3.2). No source takes no memory.
 pub fn encode_state(alloc: Global, state: Option<&ReceiveState>) -> Result<Octets, Memory>
     requires { IfSome state (λ s. HasSpelling s.now) }
-    ensures { IfOk result (λ octets. StateIs (option_copied state.entry) octets) }
+    ensures { MatchResult result (λ octets. StateIs (option_copied state.entry) octets) (λ _. IsSome state.entry) }
 {
     let Some(state) = state else {
         return Ok(Octets::new(alloc));

@@ -13,5 +13,5 @@ groups-preserved c =
     let pushed : c.push.new.self ≡ c.groups.groups ++ state_of_group group ∷ [] = rw (← c.in_ok-metadata.ensures) c.in_ok-push.ensures.ok in
     rw pushed (read_next c.groups.groups c.args.count c.groups.counter c.groups.rest.now group c.in-Some.after.now _ c.groups-test.true c.in-Some.ensures c.groups.invariant)
 
-pub returns : goal.returns
-returns c = read_end c.groups.groups c.args.count c.groups.counter c.groups.rest.now _ c.groups-test.false c.groups.invariant
+pub returns-clause-ok : goal.returns-clause-ok
+returns-clause-ok c = read_end c.groups.groups c.args.count c.groups.counter c.groups.rest.now _ c.groups-test.false c.groups.invariant
