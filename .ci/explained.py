@@ -2,10 +2,11 @@
 """explained.py REPLAY EXPLAIN: runs both built programs on the examples, the worked rows and the scenarios of corpus/.
 
 The rows of the transcript in what `explain` writes, without their blanks, are what `replay` writes, the exit status and what is said on
-standard error are the same, and each line stands there with its number, up to the last that is run. Each `unit` row has its note, and the
-counts at the ends of sinks and scenarios are those of the rows. Behind them come mistakes, each with words that a note has of it, answers
-to trains with what was compared, runs with all notes of their units, and the ends of the program."""
+standard error are the same, and each line stands there with its number, up to the last that is run. Each `unit` row has its notes, and
+the sum in them is its time; the counts at the ends of sinks and scenarios are those of the rows. Behind them come mistakes, each with
+words that a note has of it, answers to trains with what was compared, runs with all notes of their units, and the ends of the program."""
 import concurrent.futures
+import math
 import os
 import re
 import subprocess
@@ -106,10 +107,26 @@ COMPARED = [
     ('Context', [*HEARD, RECORD, 'context 0 0200 0000', *WANTED], 'here 0400 and 0200'),
     ('the context of no meta', [it for it in HEARD if it != BASE[1]] + [RECORD, 'context 0 0200 0000', *WANTED], 'here 0100 and 0200'),
 ]
+
+
+def slot_note(time, anchor, sync, slot, sdu, delay, told):
+    """The note of an unframed unit that has the sum of its time, and when it is handed up."""
+    return (f'unit 0 1 at {time}: anchor {anchor} + BIG_Sync_Delay {sync} + {slot} x SDU_Interval {sdu} + Presentation_Delay {delay}; '
+            f'handed up by {told}')
+
+
+def framed_note(time, own, told):
+    """The same of a framed unit of the group below."""
+    return (f'unit 0 1 at {time}: unit time {own} + BIG_Sync_Delay 124 + SDU_Interval 10000 + ISO_Interval 10000 + Presentation_Delay 40000; '
+            f'handed up by {told}')
+
+
 # A unit takes two PDUs, a payload each: those of event e are 2e and 2e + 1. 20000 + 400 + (4 + 11) x 4 + 40000 = 60460.
 HALVES = ['scenario 1', 'group unframed 20000 40000 8 10000 8 4 1 2 2 1 0 400 0 1', 'sink 0 1 1', 'start 0', 'tuned 0 1']
 # The payload of event e is sent in subevent 2 of e - 1 and in the subevents 0 and 1 of e: 20000 + 2 x 400 + 60 + 40000 = 60860.
 COPIES = ['scenario 1', 'group unframed 20000 40000 8 10000 4 4 1 1 3 2 1 400 0 1', 'sink 0 1 1', 'start 0', 'tuned 0 1']
+# Two units an event, which are rendered at once: 20000 + 400 + 60, and 5000 later. The next anchor is 30000.
+AT_ONCE = ['scenario 1', 'group unframed 20000 0 8 5000 4 4 1 2 2 1 0 400 0 1', 'sink 0 1 1', 'start 0', 'tuned 0 1']
 # A unit comes at its time + (20 + 11) x 4 + 10000 + 10000 + 40000, and a PDU has room for two short ones.
 FRAMED = ['scenario 1', 'group framed 70000 40000 8 10000 20 20 1 1 1 1 0 0 0 1', 'sink 0 1 1', 'start 0', 'tuned 0 1']
 # a run, its lines, and all notes of its units and their counts
@@ -117,23 +134,30 @@ UNITS = [
     ('the second half of a unit', [*HALVES, 'unit 1 - 0011223344', 'event', 'hear 0 0 1 0', 'event', 'stop', 'end'], [
         'unit 0 1 at 60460: source 0 event 0 slot 0',
         'unit 0 1 at 60460: payload 1 was not heard, sent in event 0 subevent 1',
+        slot_note(60460, 20000, 460, 0, 10000, 40000, '30000 us, 30460 us in time'),
         'unit 0 1 at 70460: source 0 event 1 slot 0, for which no unit was given',
+        slot_note(70460, 30000, 460, 0, 10000, 40000, '40000 us, 30460 us in time'),
         'sink 0 stream 1 of source 0: units 0 valid, 1 lost, 0 never begun, 1 slots without a unit; '
         'PDUs 1 heard, 0 repeated, 0 late, 3 missed']),
     ('a short unit without its padding', [*HALVES, 'unit 1 - 00', 'event', 'hear 0 0 1 0', 'end'], [
         'unit 0 1 at 60460: source 0 event 0 slot 0',
+        slot_note(60460, 20000, 460, 0, 10000, 40000, '30000 us, 30460 us in time'),
         'sink 0 stream 1 of source 0: units 1 valid, 0 lost, 0 never begun, 0 slots without a unit; '
         'PDUs 1 heard, 0 repeated, 0 late, 1 missed']),
     ('a payload of three PDUs', [*COPIES, 'unit 1 - 00', 'unit 1 - 11', 'event', 'air 0 0', 'event', 'hear 0 1 1 0', 'event', 'air 0 3',
                                  'drop 0', 'end'], [
         'unit 0 1 at 60860: source 0 event 0 slot 0',
+        slot_note(60860, 20000, 860, 0, 10000, 40000, '30000 us, 30860 us in time'),
         'unit 0 1 at 70860: source 0 event 1 slot 0',
+        slot_note(70860, 30000, 860, 0, 10000, 40000, '40000 us, 30860 us in time'),
         'sink 0 stream 1 of source 0: units 2 valid, 0 lost, 0 never begun, 0 slots without a unit; '
         'PDUs 3 heard, 2 repeated, 1 late, 4 missed']),
     ('an early copy that was missed too', [*COPIES, 'unit 1 - 00', 'unit 1 - 11', 'event', 'hear 0 0 1 1', 'event', 'end'], [
         'unit 0 1 at 60860: source 0 event 0 slot 0',
+        slot_note(60860, 20000, 860, 0, 10000, 40000, '30000 us, 30860 us in time'),
         'unit 0 1 at 70860: source 0 event 1 slot 0',
         'unit 0 1 at 70860: payload 1 was not heard, sent in event 0 subevent 2 and event 1 subevent 0 and event 1 subevent 1',
+        slot_note(70860, 30000, 860, 0, 10000, 40000, '40000 us, 30860 us in time'),
         'sink 0 stream 1 of source 0: units 1 valid, 1 lost, 0 never begun, 0 slots without a unit; '
         'PDUs 1 heard, 0 repeated, 0 late, 5 missed']),
     ('two starts in a PDU that was missed', [*FRAMED, 'unit 1 65000 a0', 'unit 1 66000 b0', 'event', 'event', 'air 0 0', 'end'], [
@@ -146,12 +170,21 @@ UNITS = [
     ('the end of a framed unit', [*FRAMED, 'unit 1 65000 ' + 20 * 'c0', 'event', 'air 0 0', 'event', 'event', 'end'], [
         'unit 0 1 at 125124: source 0 event 0 start in payload 0',
         'unit 0 1 at 125124: payload 1 was not heard, sent in event 1 subevent 0',
+        framed_note(125124, 65000, '90000 us, 35124 us in time'),
         'sink 0 stream 1 of source 0: units 0 valid, 1 lost, 0 never begun, 0 slots without a unit; '
         'PDUs 1 heard, 0 repeated, 0 late, 2 missed']),
+    ('units that are rendered before they are handed up', [*AT_ONCE, 'unit 1 - 00', 'event', 'air 0 0', 'end'], [
+        'unit 0 1 at 20460: source 0 event 0 slot 0',
+        slot_note(20460, 20000, 460, 0, 5000, 0, '30000 us, 9540 us late'),
+        'unit 0 1 at 25460: source 0 event 0 slot 1, for which no unit was given',
+        slot_note(25460, 20000, 460, 1, 5000, 0, '30000 us, 4540 us late'),
+        'sink 0 stream 1 of source 0: units 1 valid, 0 lost, 0 never begun, 1 slots without a unit; '
+        'PDUs 2 heard, 0 repeated, 0 late, 0 missed']),
     ('octets in the place of a PDU', [*FRAMED, 'unit 1 65000 a0', 'event', 'inject 0 0 1 0 0200', 'event', 'end'], [
         'sink 0 stream 1 of source 0: units 0 valid, 0 lost, 0 never begun, 0 slots without a unit; '
         'PDUs 1 heard, 0 repeated, 0 late, 1 missed']),
 ]
+SUMMED = re.compile(rb'  # unit (\d) (\d+) at (\d+): (?:anchor|unit time) (.*); handed up by (\d+) us, (\d+) us (in time|late)')
 PLACED = re.compile(rb'  # unit (\d) (\d+) at (\d+): source \d')
 COUNTED = re.compile(rb'  # sink (\d) stream (\d+) of source \d: units (\d+) valid, (\d+) lost, \d+ never begun, (\d+) slots')
 # a name, the words, the text, what is written, the exit status, and what is said on standard error
@@ -182,6 +215,13 @@ def lines_in(octets):
     return [it[2] for it in numbered] if [it[0] for it in numbered] == [b'%d' % (place + 1) for place in range(len(rows))] else None
 
 
+def is_sum(time, terms, close, count, word):
+    """Whether the terms of a note make this time, which is so much before or behind the close."""
+    numbers = [[int(it) for it in term.split(b' ') if it.isdigit()] for term in terms.split(b' + ')]
+    ahead = int(time) - int(close)
+    return sum(map(math.prod, numbers)) == int(time) and (abs(ahead), ahead < 0) == (int(count), word == b'late')
+
+
 def notes_differ(octets, is_done):
     """What of the notes of units differs from their rows, or None. Only a run that is done counts all of them."""
     rows = octets.split(b'\n')
@@ -189,6 +229,12 @@ def notes_differ(octets, is_done):
     placed = [match.groups() for match in map(PLACED.match, rows) if match]
     if placed != [(sink, stream, time) for _, sink, stream, _, time in (it[:5] for it in units)]:
         return f'its notes are of the units {placed}'
+    sums = [match.groups() for match in map(SUMMED.fullmatch, rows) if match]
+    if [it[:3] for it in sums] != [match.groups() for match in map(PLACED.match, rows) if match and b' by octets ' not in match.string]:
+        return f'its sums are of the units {sums}'
+    wrong = [it for it in sums if not is_sum(*it[2:])]
+    if wrong:
+        return f'no sums are {wrong}'
     wanted, counts = Counter(), Counter()
     for row in rows:
         words, match = row.split(b' '), COUNTED.match(row)

@@ -1,5 +1,5 @@
-//! Notes of the units of a scenario: of each its source and its event, which payload numbers were not heard, and the counts of each stream
-//! at a sink. No contract says what they say; tests do.
+//! Notes of the units of a scenario: of each its source and its event, which payload numbers were not heard, the sum that its time is and
+//! whether it comes in time, and the counts of each stream at a sink. No contract says what they say; tests do.
 #![tactic(auto)]
 
 mod asking;
@@ -7,6 +7,7 @@ mod closing;
 mod fate;
 mod ledger;
 mod marks;
+mod moment;
 mod note;
 mod numbers;
 mod pdus;

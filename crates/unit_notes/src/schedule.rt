@@ -8,7 +8,7 @@ pub(crate) struct Schedule {
     pub(crate) numbers: Numbers,
     pub(crate) is_framed: bool,
     origin: u64,
-    delay: u64,
+    pub(crate) delay: u64,
     first: u64,
     /// How many events were performed, and whether the last one is open.
     performed: u64,
@@ -107,7 +107,8 @@ impl Schedule {
         quotient(self.numbers.bn, self.slots())
     }
 
-    fn anchor(&self, event: u64) -> u64 {
+    /// The anchor of an event.
+    pub(crate) fn anchor(&self, event: u64) -> u64 {
         self.origin.saturating_add(
             event
                 .saturating_sub(self.first)
@@ -123,13 +124,19 @@ impl Schedule {
             .saturating_add(self.delay)
     }
 
+    /// How long behind its own time a framed unit is rendered.
+    pub(crate) fn unit_delay(&self) -> u64 {
+        self.numbers
+            .delay(false)
+            .saturating_add(self.numbers.sdu)
+            .saturating_add(self.numbers.interval())
+            .saturating_add(self.delay)
+    }
+
     /// When a unit is rendered that begins in this event with this offset.
     pub(crate) fn unit_time(&self, event: u64, offset: u32) -> u64 {
         self.anchor(event)
-            .saturating_add(self.numbers.delay(false))
-            .saturating_add(self.numbers.sdu)
-            .saturating_add(self.numbers.interval())
+            .saturating_add(self.unit_delay())
             .saturating_sub(u64::from(offset))
-            .saturating_add(self.delay)
     }
 }

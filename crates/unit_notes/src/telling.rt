@@ -44,7 +44,8 @@ impl Units {
         match found {
             Some(told) => {
                 let is_so = (told.fate == Fate::Valid) == unit.is_valid;
-                told.put(rows, self.schedule(source), is_so)
+                told.put(rows, self.schedule(source), is_so)?;
+                told.put_moment(rows, self.schedule(source))
             }
             None => put_note(
                 rows,
