@@ -269,7 +269,8 @@ def all_results(program, folder, counts):
     yield from guarded('all scenarios', captures_of_all(program, folder, counts, captures))
     if has_tshark():
         runs = [(f'run{place}', os.path.join(folder, f'run{place}')) for place in [*range(len(GROUPS)), 9]]
-        yield from guarded('tshark', addresses_by_tshark(folder, runs + [it for it in captures if it[0].startswith('examples')], counts))
+        runs += [it for it in captures if it[0].startswith('examples')]
+        yield from guarded('tshark', addresses_by_tshark(folder, runs, counts))
         yield from guarded('tshark', by_tshark(captures, folder, counts))
 
 
@@ -284,8 +285,8 @@ def main():
     print(f'captures: with scapy {scapy.__version__}{" and " + tshark_version() if has_tshark() else ""}: {counts["captures"]} out and in '
           f'again, {counts["deleted"]} PDUs deleted, {counts["put"]} packets put between, {counts["wrong"]} of {counts["units"]} units '
           f'differ; {counts["scenarios out"]} scenarios out, {counts["refusals named"]} of them with their refusal, '
-          f'{counts["scenarios in again"]} in again with {counts["units of these"]} units; {counts["packets by tshark"]} packets by tshark, '
-          f'{counts["malformed on purpose"]} malformed on purpose; {counts["cases"]} cases, {failed} fail')
+          f'{counts["scenarios in again"]} in again with {counts["units of these"]} units; {counts["packets by tshark"]} packets by '
+          f'tshark, {counts["malformed on purpose"]} malformed on purpose; {counts["cases"]} cases, {failed} fail')
     if failed:
         return 1
     if not has_tshark():

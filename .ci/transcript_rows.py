@@ -16,6 +16,19 @@ import scenarios  # noqa: E402
 import printed_rows  # noqa: E402
 
 CHANGED = 20  # rows of each form that are changed
+UNIT = 'unit 0 1 at 5 lost'
+# Drains with lines behind them that print rows of the same kinds: the lines, the rows, and how many rows each line has.
+DRAINS = (
+    (['drain 0', 'tuned 0 1', 'tell 0'], ['notice 0 0 aa', 'notice 0 0 bb'], [1, 0, 1]),
+    (['drain 0', 'tuned 0 1', 'tell 0', 'read 0'], ['notice 0 0 aa', 'notice 0 0 bb', 'read 0 0 cc'], [1, 0, 1, 1]),
+    (['drain 0', 'event', 'tuned 0 1', 'tell 0', 'event'], ['notice 0 0 aa', 'notice 0 0 bb', UNIT], [1, 0, 0, 1, 1]),
+    (['drain 0', 'event', 'tuned 0 1', 'tell 0'], ['notice 0 0 aa', UNIT, 'notice 0 0 bb'], [1, 1, 0, 1]),
+    (['drain 0', 'tuned 0 1', 'drain 0', 'tuned 0 2', 'tell 0'], ['notice 0 0 aa', 'notice 0 0 bb'], [1, 0, 0, 0, 1]),
+    (['write 0 -', 'drain 0', 'write 0 -', 'drain 0'], ['reply 0 ok', 'reply 0 ok', 'read 0 0 aa'], [0, 1, 0, 2]),
+    (['write 0 -', 'write 0 -', 'drain 0'], ['reply 0 ok', 'reply 0 ok', 'notice 0 1 -', 'read 0 0 aa'], [0, 0, 4]),
+    (['adrain 0 1', 'apart 0 1', 'assist 0 1', 'aread 0 1'], ['aread 0 1 0 aa', 'aread 0 1 0 aa'], [1, 0, 0, 1]),
+    (['adrain 0 1', 'apart 0 1', 'assist 0 1', 'aread 0 1'], ['aread 0 1 0 aa'], [0, 0, 0, 1]),
+)
 
 
 def words_of_the_language():
@@ -31,15 +44,14 @@ def transcripts():
             yield f'{file}: {scenario.name}', scenario.text, scenario.transcript.decode(run_reading.OCTETS), '--toml' in scenario.words
 
 
-def read(text, rows):
+def read(lines, rows):
     """The steps of a scenario, each with what it printed."""
-    lines = [line.decode(run_reading.OCTETS) for line in text.splitlines(keepends=True)] if isinstance(text, bytes) else text
     return list(run_reading.Reading(lines, rows))
 
 
-def split(text):
+def lines_of(text):
     """The lines of a text. A line ends with 0x0A alone."""
-    return [line + b'\n' for line in text.split(b'\n')]
+    return [line + '\n' for line in text.decode(run_reading.OCTETS).split('\n')]
 
 
 def tables():
@@ -70,9 +82,20 @@ def rows_of(told, examples):
         if is_document:
             continue
         try:
-            read([line.decode(run_reading.OCTETS) for line in split(text)], rows)
+            read(lines_of(text), rows)
         except run_reading.RunFault as fault:
             yield f'{name}: {fault}'
+
+
+def drains():
+    """The drains whose rows are read otherwise."""
+    for lines, rows, expected in DRAINS:
+        try:
+            got = [len(step.printed) for step in read([line + '\n' for line in lines + ['end']], rows)][:-1]
+        except run_reading.RunFault as fault:
+            got = fault
+        if got != expected:
+            yield f'{lines} with {rows}: {got}, not {expected}'
 
 
 def changes_of(row, draw):
@@ -99,7 +122,7 @@ def changed_rows(examples, counts):
                     continue
                 place = rows.index(row)
                 try:
-                    read([line.decode(run_reading.OCTETS) for line in split(text)], rows[:place] + [other] + rows[place + 1:])
+                    read(lines_of(text), rows[:place] + [other] + rows[place + 1:])
                     yield f'a transcript with "{run_reading.shown(other)}" in place of "{run_reading.shown(row)}" is read'
                 except run_reading.RunFault:
                     pass
@@ -107,7 +130,7 @@ def changed_rows(examples, counts):
 
 def main():
     told, examples, counts = list(transcripts()), {}, {'changed': 0}
-    wrong = list(tables()) + list(rows_of(told, examples))
+    wrong = list(tables()) + list(rows_of(told, examples)) + list(drains())
     wrong += [f'no row has the form "{form}"' for form in printed_rows.FORMS if form not in examples]
     wrong += changed_rows(examples, counts)
     for one in wrong:

@@ -7,8 +7,9 @@ from att_links import number, octets_of
 
 LC3 = bytes([6, 0, 0, 0, 0])
 # The numbers of a `group` line, each with the greatest one.
-NUMBERS = (('origin', 2 ** 48), ('delay', 2 ** 24 - 1), ('iso', 2 ** 12 - 1), ('sdu', 2 ** 20 - 1), ('max_sdu', 2 ** 12 - 1), ('max_pdu', 255),
-           ('num_bis', 31), ('bn', 7), ('nse', 31), ('irc', 15), ('pto', 15), ('sub', 2 ** 20 - 1), ('spacing', 2 ** 20 - 1), ('phy', 7))
+NUMBERS = (('origin', 2 ** 48), ('delay', 2 ** 24 - 1), ('iso', 2 ** 12 - 1), ('sdu', 2 ** 20 - 1), ('max_sdu', 2 ** 12 - 1),
+           ('max_pdu', 255), ('num_bis', 31), ('bn', 7), ('nse', 31), ('irc', 15), ('pto', 15), ('sub', 2 ** 20 - 1),
+           ('spacing', 2 ** 20 - 1), ('phy', 7))
 NEEDED = ('iso', 'num_bis', 'bn', 'nse')  # with one of them 0 no group starts
 GREATEST_EVENT = 2 ** 39 - 1
 GREATEST_BASE = 252  # octets, with which its service data fills a structure of advertising data

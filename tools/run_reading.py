@@ -60,15 +60,17 @@ class Reading:
         self.lines, self.rows = Ahead(steps_among(lines)), Ahead(rows)
         self.waiting: dict[tuple[str, str], int] = {}  # of each link the writes that wait
         self.refusal: str | None = None
-        self.last = 0
+        self.last, self.is_ended, self.sinks = 0, False, set()
 
     def __iter__(self) -> Iterator[Step]:
         while (line := self.lines.peek()) is not None and not self.is_refused(line[0], self.rows.peek()):
             self.last, words = self.lines.take()
             try:
-                yield Step(self.last, words, list(self.printed(words)))
+                step = Step(self.last, words, list(self.printed(words)))
+                self.check_end(step)
             except LookupError:
                 raise self.fault('has too few words') from None
+            yield step
         row = self.rows.peek()
         if row is not None and row.startswith(printed_rows.REFUSAL + ' '):
             self.refusal = self.rows.take()
@@ -76,6 +78,20 @@ class Reading:
                 raise RunFault(f'{NOT_OF_IT}: "{shown(row)}" refuses no line of it')
         if self.rows.peek() is not None:
             raise RunFault(f'{NOT_OF_IT}: no line of it brings "{shown(self.rows.take())}"')
+        if not self.is_ended and self.refusal is None:
+            raise RunFault(f'{NOT_OF_IT}: it has neither an end nor a refusal')
+
+    def check_end(self, step: Step):
+        """An `end` prints a sum for each sink that lives."""
+        kind, name = step.words[0], ''.join(step.words[1:2])
+        if kind == 'sink':
+            self.sinks.add(name)
+        elif kind == 'drop':
+            self.sinks.discard(name)
+        elif kind == 'end':
+            self.is_ended = True
+            if [row[1] for row in step.printed if row[0] == 'sum'] != sorted(self.sinks):
+                raise self.fault('brings no "sum" of each sink')
 
     def fault(self, what: str) -> RunFault:
         return RunFault(f'{NOT_OF_IT}: line {self.last} {what}')
