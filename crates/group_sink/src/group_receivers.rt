@@ -1,4 +1,4 @@
-ghost use Rattle.std.specs.Prelude.{◌≡◌, ◌≤◌, ◌<◌, ◌^◌, map, IfOk};
+ghost use Rattle.std.specs.Prelude.{◌≡◌, ◌≤◌, ◌<◌, ◌^◌, map, MatchResult};
 ghost use Rattle.std.specs.List.{flat_map};
 ghost use Rattle.big_info.specs.Bounds.{Bounds};
 ghost use Rattle.unit_outlets.specs.Handed.{Caused, HandsOver};
@@ -32,9 +32,9 @@ impl Model for GroupReceivers {
 }
 
 impl GroupReceivers {
-    /// Receivers that heard nothing yet.
+    /// Receivers that heard nothing yet. No streams take no memory.
     pub(crate) fn new(alloc: Global, joining: &Joining) -> Result<GroupReceivers, Memory>
-        ensures { IfOk result (λ on. on ≡ fresh_on joining.now) }
+        ensures { MatchResult result (λ on. on ≡ fresh_on joining.now) (λ _. 0 < joining.now.which) }
     {
         let mut places = [31; 31];
         let mut streams = Vec::with_capacity(alloc, joining.which.count() as usize)?;

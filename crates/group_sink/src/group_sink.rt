@@ -1,4 +1,4 @@
-ghost use Rattle.std.specs.Prelude.{◌≡◌, ◌≤◌, ◌<◌, ◌^◌, List, [], ◌∷◌, IfOk, OnOk, OnErr};
+ghost use Rattle.std.specs.Prelude.{◌≡◌, ◌≤◌, ◌<◌, ◌^◌, List, [], ◌∷◌, MatchResult, OnOk, OnErr};
 ghost use Rattle.unit_outlets.specs.Handed.{Caused, HandsOver};
 ghost use Rattle.group_sink.specs.Calls.{Call, tune, hear, tick, leave};
 ghost use Rattle.sync_reference.specs.Joining.{Joining};
@@ -39,9 +39,9 @@ impl GroupSink {
         GroupSink { alloc, group: None }
     }
 
-    /// The receivers of a group that the sink is to be put on.
+    /// The receivers of a group that the sink is to be put on. No streams take no memory.
     pub fn receivers(&self, joining: &Joining) -> Result<GroupReceivers, Memory>
-        ensures { IfOk result (λ receivers. AreFor joining.now receivers) }
+        ensures { MatchResult result (λ receivers. AreFor joining.now receivers) (λ _. 0 < joining.now.which) }
     {
         GroupReceivers::new(self.alloc, joining)
     }
@@ -63,10 +63,11 @@ impl GroupSink {
 
     /// Puts the sink on a group. It leaves what it was on, and what it held is dropped.
     ///
-    /// After want of memory the sink is as before.
+    /// After want of memory the sink is as before. No streams take no memory.
     pub fn tune(&mut self, joining: &Joining) -> Result<(), Memory>
         ensures stands { (calls : List Call) → OnOk result (StandsFor (tune joining.now ∷ calls) self.new) }
         ensures err { OnErr result (self.new ≡ self.old) }
+        ensures some { OnErr result (0 < joining.now.which) }
     {
         let receivers = self.receivers(joining)?;
         self.put_on(receivers);

@@ -1,5 +1,6 @@
 //! What a sink does with the receiver of a stream.
-ghost use Rattle.std.specs.Prelude.{◌≡◌, ◌≤◌, ◌<◌, ◌^◌, Some, slice_get, IfOk};
+ghost use Rattle.std.specs.Prelude.{◌≡◌, ◌≤◌, ◌<◌, ◌^◌, Some, slice_get, MatchResult};
+ghost use Rattle.bcast_base.specs.Bis.{Has};
 ghost use Rattle.unit_outlets.specs.Handed.{Caused, HandsOver};
 ghost use Rattle.group_sink.specs.State.Steps.{answer_at, fresh_at, hear_at, heard_at, owed_by, tick_at};
 ghost use Rattle.group_sink.specs.Streams.{number_of};
@@ -19,7 +20,7 @@ pub(crate) fn stream_of(
     joining: &Joining,
     bis: Bis,
 ) -> Result<Option<Receiver>, Memory>
-    ensures { IfOk result (λ stream. stream ≡ fresh_at joining.now bis) }
+    ensures { MatchResult result (λ stream. stream ≡ fresh_at joining.now bis) (λ _. Has joining.now.which bis) }
 {
     if !joining.which.has(bis) {
         return Ok(None);
