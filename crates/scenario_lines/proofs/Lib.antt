@@ -1,7 +1,8 @@
 mod LowFirst
-mod Putting
-mod StepLines
-mod Rows
-mod Said
 mod MadeSteps
 mod NextLines
+mod Putting
+mod Rows
+mod Said
+mod StepLines
+mod Taking

@@ -1,6 +1,8 @@
 //! The lines that each scenario needs, behind their first words.
-ghost use Rattle.std.specs.Prelude.{◌≡◌, ◌≤◌};
+ghost use Rattle.std.specs.Prelude.{◌≡◌, ◌≤◌, true, Err};
+ghost use Rattle.scenario_words.specs.declared.fault.LineFault.TheVariants.{Memory as NoMemory};
 ghost use Rattle.scenario_words.specs.Reading.{GivesNext, ReadsNext};
+ghost use Rattle.scenario_lines.specs.Taking.{some_takes};
 ghost use Rattle.scenario_text.specs.Steps.{at_row};
 ghost use Rattle.scenario_text.specs.Table.{most_slots as slots_in, scenario_row, group_row, start_row, sink_row, tuned_row};
 ghost use Rattle.scenario_text.specs.Table.{unit_row, hear_row, air_row, inject_row, sniff_row, drop_row};
@@ -74,8 +76,10 @@ pub fn tuned(words: &mut Cursor<'_>) -> Result<Step, Misfit>
     })
 }
 
+#[tactic(auto, using(crate::proofs::Taking::next_spells, crate::proofs::Taking::some_left))]
 pub fn unit(alloc: Global, spare: &mut Octets, words: &mut Cursor<'_>) -> Result<Step, LineFault>
-    ensures { GivesNext (λ step. step) result words.new (at_row unit_row words.old) }
+    ensures gives { GivesNext (λ step. step) result words.new (at_row unit_row words.old) }
+    ensures memory { result ≡ Err NoMemory → some_takes unit_row.places words.old ≡ true }
 {
     Ok(Step::Unit {
         bis: words.bis(1)?,
@@ -104,8 +108,10 @@ pub fn air(words: &mut Cursor<'_>) -> Result<Step, Misfit>
     })
 }
 
+#[tactic(auto, using(crate::proofs::Taking::next_spells, crate::proofs::Taking::some_left))]
 pub fn inject(alloc: Global, words: &mut Cursor<'_>) -> Result<Step, LineFault>
-    ensures { GivesNext (λ step. step) result words.new (at_row inject_row words.old) }
+    ensures gives { GivesNext (λ step. step) result words.new (at_row inject_row words.old) }
+    ensures memory { result ≡ Err NoMemory → some_takes inject_row.places words.old ≡ true }
 {
     Ok(Step::Inject {
         sink: words.octet(0, 7)?,

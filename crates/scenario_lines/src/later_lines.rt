@@ -1,5 +1,8 @@
 //! The lines of version 2 alone, behind their first words.
+ghost use Rattle.std.specs.Prelude.{◌≡◌, true, Err};
+ghost use Rattle.scenario_words.specs.declared.fault.LineFault.TheVariants.{Memory as NoMemory};
 ghost use Rattle.scenario_words.specs.Reading.{GivesNext, ReadsNext};
+ghost use Rattle.scenario_lines.specs.Taking.{some_takes};
 ghost use Rattle.scenario_text.specs.Steps.{at_row};
 ghost use Rattle.scenario_text.specs.Table.{assist_row, apart_row, awrite_row, aserve_row, atell_row};
 ghost use Rattle.scenario_text.specs.Table.{aread_row, adrain_row, ashow_row, source_row, relay_row};
@@ -26,8 +29,10 @@ pub fn apart(words: &mut Cursor<'_>) -> Result<Step, Misfit>
     })
 }
 
+#[tactic(auto, using(crate::proofs::Taking::next_spells, crate::proofs::Taking::some_left))]
 pub fn awrite(alloc: Global, words: &mut Cursor<'_>) -> Result<Step, LineFault>
-    ensures { GivesNext (λ step. step) result words.new (at_row awrite_row words.old) }
+    ensures gives { GivesNext (λ step. step) result words.new (at_row awrite_row words.old) }
+    ensures memory { result ≡ Err NoMemory → some_takes awrite_row.places words.old ≡ true }
 {
     Ok(Step::AWrite {
         sink: words.octet(0, 7)?,

@@ -13,7 +13,7 @@ use std::alloc::Global;
 
 /// The step that the words behind this first word spell, where it is that of a line of a sink, or in version 2 that of a line
 /// of version 2 alone. BadLine has number 0 for any other first word, and else that of the words that fit. Memory comes only at a
-/// line whose step takes octets.
+/// line that spells octets for its step to keep.
 #[tactic(auto, unfolding(scenario_text::specs::Table::sink_row_of))]
 pub fn named_of_sink(
     alloc: Global,
@@ -22,7 +22,7 @@ pub fn named_of_sink(
     words: &mut Cursor<'_>,
 ) -> Result<Step, LineFault>
     ensures gives { GivesNext (λ step. step) result words.new (at_known (sink_row_of version name.now) words.old) }
-    ensures memory { result ≡ Err NoMemory → RowTakes (sink_row_of version name.now) }
+    ensures memory { result ≡ Err NoMemory → RowTakes (sink_row_of version name.now) words.old }
 {
     if is_word(name, b"pac") {
         return sink_lines::pac(alloc, words);
@@ -60,7 +60,7 @@ fn named_of_link(
     words: &mut Cursor<'_>,
 ) -> Result<Step, LineFault>
     ensures gives { GivesNext (λ step. step) result words.new (at_known (link_row_of version name.now) words.old) }
-    ensures memory { result ≡ Err NoMemory → RowTakes (link_row_of version name.now) }
+    ensures memory { result ≡ Err NoMemory → RowTakes (link_row_of version name.now) words.old }
 {
     if is_word(name, b"serve") {
         return Ok(sink_lines::serve(words)?);
@@ -98,7 +98,7 @@ fn named_of_2(
     words: &mut Cursor<'_>,
 ) -> Result<Step, LineFault>
     ensures gives { GivesNext (λ step. step) result words.new (at_known (row_of_2 version name.now) words.old) }
-    ensures memory { result ≡ Err NoMemory → RowTakes (row_of_2 version name.now) }
+    ensures memory { result ≡ Err NoMemory → RowTakes (row_of_2 version name.now) words.old }
 {
     if version != 2 {
         return Err(LineFault::BadLine { word: 0 });

@@ -29,7 +29,7 @@ pub fn read_line(alloc: Global, line: &[u8]) -> Result<Option<Step>, LineFault>
     ensures misfit { (k : ℕ) → result ≡ Err (BadLine k) → IsMisfit 1 line.now k }
     // What it answers is what the line reads as.
     ensures reads { Gives (λ read. read) result (read_of 1 line.now) }
-    // Memory runs out only at a line whose step takes octets.
+    // Memory runs out only at a line that spells octets for its step to keep.
     ensures memory { result ≡ Err NoMemory → LineTakes 1 line.now }
 {
     read_line_in(alloc, 1, line)
@@ -50,7 +50,7 @@ pub fn read_line_in(alloc: Global, version: u8, line: &[u8]) -> Result<Option<St
     ensures misfit { (k : ℕ) → result ≡ Err (BadLine k) → IsMisfit version line.now k }
     // What it answers is what the line reads as.
     ensures reads { Gives (λ read. read) result (read_of version line.now) }
-    // Memory runs out only at a line whose step takes octets.
+    // Memory runs out only at a line that spells octets for its step to keep.
     ensures memory { result ≡ Err NoMemory → LineTakes version line.now }
 {
     let mut spare = Octets::new(alloc);
@@ -119,7 +119,7 @@ fn named(
     words: &mut Cursor<'_>,
 ) -> Result<Step, LineFault>
     ensures gives { GivesNext (λ step. step) result words.new (at_known (row_of version name.now) words.old) }
-    ensures memory { result ≡ Err NoMemory → RowTakes (row_of version name.now) }
+    ensures memory { result ≡ Err NoMemory → RowTakes (row_of version name.now) words.old }
 {
     if is_word(name, b"unit") {
         return first_lines::unit(alloc, spare, words);
@@ -151,7 +151,7 @@ fn named_of_first(
     words: &mut Cursor<'_>,
 ) -> Result<Step, LineFault>
     ensures gives { GivesNext (λ step. step) result words.new (at_known (first_row_of version name.now) words.old) }
-    ensures memory { result ≡ Err NoMemory → RowTakes (first_row_of version name.now) }
+    ensures memory { result ≡ Err NoMemory → RowTakes (first_row_of version name.now) words.old }
 {
     if is_word(name, b"scenario") {
         return Ok(first_lines::scenario(words)?);
@@ -189,7 +189,7 @@ fn named_of_source(
     words: &mut Cursor<'_>,
 ) -> Result<Step, LineFault>
     ensures gives { GivesNext (λ step. step) result words.new (at_known (source_row_of version name.now) words.old) }
-    ensures memory { result ≡ Err NoMemory → RowTakes (source_row_of version name.now) }
+    ensures memory { result ≡ Err NoMemory → RowTakes (source_row_of version name.now) words.old }
 {
     if is_word(name, b"ident") {
         return Ok(source_lines::ident(words)?);

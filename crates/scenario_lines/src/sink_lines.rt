@@ -1,5 +1,8 @@
 //! The lines of a sink and of its first link, behind their first words.
+ghost use Rattle.std.specs.Prelude.{◌≡◌, true, Err};
+ghost use Rattle.scenario_words.specs.declared.fault.LineFault.TheVariants.{Memory as NoMemory};
 ghost use Rattle.scenario_words.specs.Reading.{GivesNext, ReadsNext};
+ghost use Rattle.scenario_lines.specs.Taking.{some_takes};
 ghost use Rattle.scenario_text.specs.Steps.{at_row};
 ghost use Rattle.scenario_text.specs.Table.{pac_row, locate_row, context_row, write_row, add_row};
 ghost use Rattle.scenario_text.specs.Table.{modify_row, remove_row, code_row, serve_row, tell_row};
@@ -10,8 +13,10 @@ use scenario_text::{BEFORE_ADD, BEFORE_MODIFY, MOST_OF_OPERATION, Step};
 use scenario_words::{Cursor, LineFault, Misfit};
 use std::alloc::Global;
 
+#[tactic(auto, using(crate::proofs::Taking::next_spells, crate::proofs::Taking::some_left))]
 pub fn pac(alloc: Global, words: &mut Cursor<'_>) -> Result<Step, LineFault>
-    ensures { GivesNext (λ step. step) result words.new (at_row pac_row words.old) }
+    ensures gives { GivesNext (λ step. step) result words.new (at_row pac_row words.old) }
+    ensures memory { result ≡ Err NoMemory → some_takes pac_row.places words.old ≡ true }
 {
     Ok(Step::Pac {
         sink: words.octet(0, 7)?,
@@ -40,8 +45,10 @@ pub fn context(words: &mut Cursor<'_>) -> Result<Step, Misfit>
     })
 }
 
+#[tactic(auto, using(crate::proofs::Taking::next_spells, crate::proofs::Taking::some_left))]
 pub fn write(alloc: Global, words: &mut Cursor<'_>) -> Result<Step, LineFault>
-    ensures { GivesNext (λ step. step) result words.new (at_row write_row words.old) }
+    ensures gives { GivesNext (λ step. step) result words.new (at_row write_row words.old) }
+    ensures memory { result ≡ Err NoMemory → some_takes write_row.places words.old ≡ true }
 {
     Ok(Step::Write {
         sink: words.octet(0, 7)?,
@@ -49,8 +56,10 @@ pub fn write(alloc: Global, words: &mut Cursor<'_>) -> Result<Step, LineFault>
     })
 }
 
+#[tactic(auto, using(crate::proofs::Taking::next_spells, crate::proofs::Taking::some_left))]
 pub fn add(alloc: Global, words: &mut Cursor<'_>) -> Result<Step, LineFault>
-    ensures { GivesNext (λ step. step) result words.new (at_row add_row words.old) }
+    ensures gives { GivesNext (λ step. step) result words.new (at_row add_row words.old) }
+    ensures memory { result ≡ Err NoMemory → some_takes add_row.places words.old ≡ true }
 {
     let sink = words.octet(0, 7)?;
     let op = AddSource {
@@ -65,8 +74,10 @@ pub fn add(alloc: Global, words: &mut Cursor<'_>) -> Result<Step, LineFault>
     Ok(Step::Add { sink, op })
 }
 
+#[tactic(auto, using(crate::proofs::Taking::next_spells, crate::proofs::Taking::some_left))]
 pub fn modify(alloc: Global, words: &mut Cursor<'_>) -> Result<Step, LineFault>
-    ensures { GivesNext (λ step. step) result words.new (at_row modify_row words.old) }
+    ensures gives { GivesNext (λ step. step) result words.new (at_row modify_row words.old) }
+    ensures memory { result ≡ Err NoMemory → some_takes modify_row.places words.old ≡ true }
 {
     let sink = words.octet(0, 7)?;
     let op = ModifySource {
@@ -139,8 +150,10 @@ pub fn lose(words: &mut Cursor<'_>) -> Result<Step, Misfit>
     Ok(Step::Lose { sink })
 }
 
+#[tactic(auto, using(crate::proofs::Taking::next_spells, crate::proofs::Taking::some_left))]
 pub fn control(alloc: Global, words: &mut Cursor<'_>) -> Result<Step, LineFault>
-    ensures { GivesNext (λ step. step) result words.new (at_row control_row words.old) }
+    ensures gives { GivesNext (λ step. step) result words.new (at_row control_row words.old) }
+    ensures memory { result ≡ Err NoMemory → some_takes control_row.places words.old ≡ true }
 {
     Ok(Step::Control {
         sink: words.octet(0, 7)?,
@@ -148,8 +161,10 @@ pub fn control(alloc: Global, words: &mut Cursor<'_>) -> Result<Step, LineFault>
     })
 }
 
+#[tactic(auto, using(crate::proofs::Taking::next_spells, crate::proofs::Taking::some_left))]
 pub fn forge(alloc: Global, words: &mut Cursor<'_>) -> Result<Step, LineFault>
-    ensures { GivesNext (λ step. step) result words.new (at_row forge_row words.old) }
+    ensures gives { GivesNext (λ step. step) result words.new (at_row forge_row words.old) }
+    ensures memory { result ≡ Err NoMemory → some_takes forge_row.places words.old ≡ true }
 {
     Ok(Step::Forge {
         sink: words.octet(0, 7)?,

@@ -1,5 +1,8 @@
 //! The lines of a source, behind their first words.
+ghost use Rattle.std.specs.Prelude.{◌≡◌, true, Err};
+ghost use Rattle.scenario_words.specs.declared.fault.LineFault.TheVariants.{Memory as NoMemory};
 ghost use Rattle.scenario_words.specs.Reading.{GivesNext, ReadsNext};
+ghost use Rattle.scenario_lines.specs.Taking.{some_takes};
 ghost use Rattle.scenario_text.specs.Steps.{at_row};
 ghost use Rattle.scenario_text.specs.Table.{ident_row, subgroup_row, meta_row, bis_row, cipher_row, announce_row, train_row, terminate_row};
 
@@ -18,8 +21,10 @@ pub fn ident(words: &mut Cursor<'_>) -> Result<Step, Misfit>
     })
 }
 
+#[tactic(auto, using(crate::proofs::Taking::next_spells, crate::proofs::Taking::some_left))]
 pub fn subgroup(alloc: Global, words: &mut Cursor<'_>) -> Result<Step, LineFault>
-    ensures { GivesNext (λ step. step) result words.new (at_row subgroup_row words.old) }
+    ensures gives { GivesNext (λ step. step) result words.new (at_row subgroup_row words.old) }
+    ensures memory { result ≡ Err NoMemory → some_takes subgroup_row.places words.old ≡ true }
 {
     Ok(Step::Subgroup {
         codec: words.array()?,
@@ -27,15 +32,19 @@ pub fn subgroup(alloc: Global, words: &mut Cursor<'_>) -> Result<Step, LineFault
     })
 }
 
+#[tactic(auto, using(crate::proofs::Taking::next_spells, crate::proofs::Taking::some_left))]
 pub fn meta(alloc: Global, words: &mut Cursor<'_>) -> Result<Step, LineFault>
-    ensures { GivesNext (λ step. step) result words.new (at_row meta_row words.old) }
+    ensures gives { GivesNext (λ step. step) result words.new (at_row meta_row words.old) }
+    ensures memory { result ≡ Err NoMemory → some_takes meta_row.places words.old ≡ true }
 {
     let metadata = words.list(alloc, 255)?;
     Ok(Step::Meta { metadata })
 }
 
+#[tactic(auto, using(crate::proofs::Taking::next_spells, crate::proofs::Taking::some_left))]
 pub fn bis(alloc: Global, words: &mut Cursor<'_>) -> Result<Step, LineFault>
-    ensures { GivesNext (λ step. step) result words.new (at_row bis_row words.old) }
+    ensures gives { GivesNext (λ step. step) result words.new (at_row bis_row words.old) }
+    ensures memory { result ≡ Err NoMemory → some_takes bis_row.places words.old ≡ true }
 {
     Ok(Step::Bis {
         bis: words.bis(1)?,
@@ -59,8 +68,10 @@ pub fn announce(words: &mut Cursor<'_>) -> Result<Step, Misfit>
     Ok(Step::Announce { sink })
 }
 
+#[tactic(auto, using(crate::proofs::Taking::next_spells, crate::proofs::Taking::some_left))]
 pub fn train(alloc: Global, words: &mut Cursor<'_>) -> Result<Step, LineFault>
-    ensures { GivesNext (λ step. step) result words.new (at_row train_row words.old) }
+    ensures gives { GivesNext (λ step. step) result words.new (at_row train_row words.old) }
+    ensures memory { result ≡ Err NoMemory → some_takes train_row.places words.old ≡ true }
 {
     Ok(Step::Train {
         sink: words.octet(0, 7)?,
