@@ -22,7 +22,7 @@ if importlib.util.find_spec('scapy') is None:
 sys.dont_write_bytecode = True
 sys.path.insert(0, os.path.dirname(os.path.abspath(__file__)))
 import scapy  # noqa: E402
-from bent_captures import BEGIN, DRIFT, EPOCH, GROUPS, IDENT, JITTER, ORIGIN, TOP, Bent, Run, records, write  # noqa: E402
+from bent_captures import BEGIN, DRIFT, EPOCH, GROUPS, IDENT, JITTER, ORIGIN, SUBGROUP, TOP, Bent, Run, records, write  # noqa: E402
 from corpus_captures import (  # noqa: E402
     BETWEEN, FIELDS, by_tshark, captures_of_all, has_tshark, malformed_in, replay, said, tshark, tshark_version, units_of)
 import air_pieces  # noqa: E402
@@ -203,6 +203,22 @@ def in_pieces(program, folder):
         yield f'{name}, without room', None if status == 0 and 'has no room' in told else told
 
 
+def greatest_group(program, folder):
+    """31 streams of 31 subevents, whose `sniff` lines have no room in one text: each PDU goes out, and all are placed again."""
+    path, events = os.path.join(folder, 'greatest'), 6
+    lines = ['scenario 2', f'group unframed {ORIGIN} 40000 200 250000 1 1 31 1 31 15 1 250 7750 1', IDENT, SUBGROUP]
+    lines += [f'bis {it} -' for it in range(1, 32)] + ['start 0'] + ['event'] * events + ['end', '']
+    cut, air_pieces.GREATEST_TEXT = air_pieces.GREATEST_TEXT, 30000
+    try:
+        written = taken_out(program, '\n'.join(lines), path)
+    finally:
+        air_pieces.GREATEST_TEXT = cut
+    pdus = sum(', stream ' in comment for _, _, comment in written)
+    text, told = taken_in(path)
+    placed = 0 if text is None else text.count('\ninject ')
+    yield 'the greatest group', None if pdus == placed == events * 31 * 31 else f'{pdus} PDUs are out, and {placed} in again: {told}'
+
+
 def addresses_by_tshark(folder, captures, counts):
     """The access addresses of the streams that tshark works out from each BIGInfo are those of the capture. Behind all packets comes one
     that is broken, which tshark must find."""
@@ -266,6 +282,7 @@ def all_results(program, folder, counts):
     yield from guarded('fits', fits())
     yield from guarded('bent runs', bent_runs(program, folder, counts))
     yield from guarded('in pieces', in_pieces(program, folder))
+    yield from guarded('the greatest group', greatest_group(program, folder))
     yield from guarded('all scenarios', captures_of_all(program, folder, counts, captures))
     if has_tshark():
         runs = [(f'run{place}', os.path.join(folder, f'run{place}')) for place in [*range(len(GROUPS)), 9]]
@@ -285,8 +302,9 @@ def main():
     print(f'captures: with scapy {scapy.__version__}{" and " + tshark_version() if has_tshark() else ""}: {counts["captures"]} out and in '
           f'again, {counts["deleted"]} PDUs deleted, {counts["put"]} packets put between, {counts["wrong"]} of {counts["units"]} units '
           f'differ; {counts["scenarios out"]} scenarios out, {counts["refusals named"]} of them with their refusal, '
-          f'{counts["scenarios in again"]} in again with {counts["units of these"]} units; {counts["packets by tshark"]} packets by '
-          f'tshark, {counts["malformed on purpose"]} malformed on purpose; {counts["cases"]} cases, {failed} fail')
+          f'{counts["scenarios in again"]} in again with {counts["units of these"]} units, {counts["not taken in"]} not; '
+          f'{counts["packets by tshark"]} packets by tshark, {counts["malformed on purpose"]} malformed on purpose; {counts["cases"]} cases, '
+          f'{failed} fail')
     if failed:
         return 1
     if not has_tshark():

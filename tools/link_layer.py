@@ -122,6 +122,7 @@ def payload_number(group, event, subevent):
     return (event + later) * group['bn'] + place
 
 
+@functools.lru_cache(maxsize=256)
 def stream_address(seed, number):
     """The access address of the stream of this BIS_Number, or with 0 that of the control PDUs of the group."""
     d = (35 * number + 42) % 128
@@ -255,9 +256,9 @@ def has_good_crc(packet, crc_start):
 
 def read_capture(path: str, skipped: dict[str, int]) -> Iterator[Captured]:
     """The packets of a file of pcap or pcapng, which may be in a gzip. `skipped` counts by their reason those that can't be used."""
-    with unpacked(path) as name:
+    with unpacked(path) as name, open(name, 'rb') as file:
         try:
-            reader = RawPcapReader(name)
+            reader = RawPcapReader(file)  # of a name it would open a gzip by itself
         except (Scapy_Exception, struct.error, EOFError) as error:
             raise CaptureFault(f'{path} is neither pcap nor pcapng') from error
         with contextlib.closing(reader):
