@@ -1,4 +1,4 @@
-ghost use Rattle.std.specs.Prelude.{◌≡◌, ◌+◌, ◌≤◌, ◌<◌, ◌^◌, ◌&&◌, ◌∷◌, not, List, [], option_map, slice_get, true};
+ghost use Rattle.std.specs.Prelude.{◌≡◌, ◌+◌, ◌≤◌, ◌<◌, ◌^◌, ◌&&◌, ◌∷◌, ◌⊎◌, not, List, [], option_map, slice_get, true};
 ghost use Rattle.std.specs.Prelude.{IfOk, IsSome, OnOk, OnErr};
 ghost use Rattle.bass_operations.specs.Reading.{op_of};
 ghost use Rattle.delegator_history.specs.Controls.{control_heard};
@@ -86,7 +86,8 @@ impl Delegator {
     }
 
     /// Puts the sink on a group of no slot, with these streams, this event as the first one, whose anchor is given in µs, and
-    /// this presentation delay in µs. It leaves what it was on. After want of memory all is as before.
+    /// this presentation delay in µs. It leaves what it was on. Memory is wanted only for streams, and where it was on the train or
+    /// the group of a slot; all is then as before.
     pub fn tune(
         &mut self,
         group: &Group,
@@ -109,6 +110,8 @@ impl Delegator {
             })) ∷ calls) self.new) }
         ensures settings { settings_of self.new ≡ settings_of self.old }
         ensures err { OnErr result (self.new ≡ self.old) }
+        ensures memory { (setup : Setup) (calls : List Call) → StandsFor setup calls self.old
+            → OnErr result ((0 < which) ⊎ IsSome (slot_of (sight_of setup (steps_of calls)).place)) }
     {
         self.put_on(&Joining {
             group: *group,
@@ -119,12 +122,15 @@ impl Delegator {
         })
     }
 
-    /// Puts the sink on a group of no slot: `tune` with its arguments as one. After want of memory all is as before.
+    /// Puts the sink on a group of no slot: `tune` with its arguments as one. Memory is wanted only for streams, and where it was
+    /// on the train or the group of a slot; all is then as before.
     pub fn put_on(&mut self, joining: &Joining) -> Result<(), Memory>
         ensures stands { (setup : Setup) (calls : List Call) → StandsFor setup calls self.old
             → OnOk result (StandsFor setup (control (put_on joining.now) ∷ calls) self.new) }
         ensures settings { settings_of self.new ≡ settings_of self.old }
         ensures err { OnErr result (self.new ≡ self.old) }
+        ensures memory { (setup : Setup) (calls : List Call) → StandsFor setup calls self.old
+            → OnErr result ((0 < joining.now.which) ⊎ IsSome (slot_of (sight_of setup (steps_of calls)).place)) }
     {
         let receivers = self.sink.receivers(&by_numbers(joining))?;
         self.scan.tune()?;
