@@ -32,6 +32,7 @@ fn is_pushed(alloc: Global) -> bool {
 #[test]
 fn a_list_is_written_as_it_was_read_or_pushed(rt: HostRuntime) {
     assert!(rt; is_written_as_read(rt.alloc(), &CONFIG));
+    assert!(rt; is_written_as_read(rt.alloc(), &[]));
     assert!(rt; is_pushed(rt.alloc()));
 }
 
