@@ -33,7 +33,13 @@ GAP = ['scenario 1', 'group unframed 20000 1000000 8 10000 4 4 1 1 1 1 0 0 0 1',
        'event', 'air 0 0', 'end']
 
 
-MADE = {'hundred': hundred, 'three-seconds': stereo, 'gap': lambda: GAP, 'no-end': lambda: GAP[:-1], 'ten-minutes': long_run}
+def often_shown():
+    """60 lines between two events, each of which brings marks: more than stand beside each other."""
+    return [*GAP[:3], 'start 0', 'event', *60 * ['show 0'], 'event', 'end']
+
+
+MADE = {'hundred': hundred, 'three-seconds': stereo, 'gap': lambda: GAP, 'no-end': lambda: GAP[:-1], 'often-shown': often_shown,
+        'ten-minutes': long_run}
 
 
 def explained(explain, text):

@@ -21,7 +21,7 @@ from timeline_data import tracks_of  # noqa: E402
 from timeline_page import page_of  # noqa: E402
 from timeline_reading import OCTETS  # noqa: E402
 
-SMALL = ('whole-life', 'two-sources', 'stereo', 'early-copies', 'framed-losses', 'gap', 'hundred')
+SMALL = ('whole-life', 'two-sources', 'stereo', 'early-copies', 'framed-losses', 'gap', 'often-shown', 'hundred')
 CTRL, SHIFT = 2, 8
 FIRST, NEXT = 1000, 300  # ms until the first picture, and until what an act of the reader brings is painted
 MOST_OCTETS = 10000000
@@ -90,6 +90,8 @@ def small_page(browser, page, name, run, data):
     if sum(browser.value(MARKS)) != len(data['marks']):
         yield 'not all marks are drawn'
     tracks = list(tracks_of(run.units).values())
+    if not tracks:
+        return
     browser.click_on(f'#unit-{len(tracks) - 1}-{len(tracks[-1]) - 1}')
     if told_pdus(browser) != cells_of(tracks[-1][-1].pdus()):
         yield f'a click on the last unit tells {told_pdus(browser)}'
@@ -108,6 +110,17 @@ def marks_told(browser, page):
         yield f'a click on event 1 tells {told_pdus(browser)}'
     if browser.value('document.querySelectorAll("#legend .mark").length') != 4:
         yield 'the legend has not four kinds of marks'
+
+
+def stacked(browser, page):
+    """Whether marks for which there is no room become one, and a click on it tells all of them."""
+    browser.open(page)
+    counts = browser.value(MARKS)
+    if max(counts) < 2:
+        yield f'marks are drawn together as {counts}'
+    browser.click_on('#picture .mark:not([data-marks="1"])')
+    if browser.value('document.querySelectorAll("#detail tr").length') - 1 not in counts:
+        yield f'a click on marks that are drawn together tells {text(browser, "detail")!r}'
 
 
 def pdus_drawn(browser, folder):
@@ -237,6 +250,8 @@ def merged_of_long(browser, all_units, lost):
     said = f'{all_units:,} of {all_units:,} units, {len(lost):,} of {len(lost):,} lost or never begun.'
     if not text(browser, 'shown').endswith(said):
         yield f'of the whole run is told {text(browser, "shown")!r}'
+    if 'Of each unit the first 12 octets are kept here.' not in text(browser, 'summary'):
+        yield f'the summary is {text(browser, "summary")!r}'
     bars = browser.value('Array.from(document.querySelectorAll("#overview .bar"), (it) => Number(it.dataset.missing))')
     if sum(bars) != len(lost):
         yield f'the bars of the loss rate have {sum(bars)} losses'
@@ -298,6 +313,7 @@ def over_pages(browser, explain, folder, figures):
         yield from ((name, it) for it in small_page(browser, page, name, run, data))
     page = os.path.join(folder, 'hundred.html')
     yield from (('whole-life', it) for it in marks_told(browser, os.path.join(folder, 'whole-life.html')))
+    yield from (('often-shown', it) for it in stacked(browser, os.path.join(folder, 'often-shown.html')))
     yield from (('PDUs', it) for it in pdus_drawn(browser, folder))
     for check in (losses_of_hundred, moves_of_hundred, looks):
         yield from (('hundred', it) for it in check(browser, page))

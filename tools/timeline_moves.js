@@ -53,12 +53,15 @@ function choose(id) {
 // Goes to a gap, so near that its units are told from each other.
 function toGap(place) {
   const gap = gaps[place], source = sourceOf(gap.track, gap.first), room = byId('picture').clientWidth - LABELS;
-  const most = Math.max(source.sdu * room / (2 * THIN), 3 * (gap.until - gap.at)), length = Math.min(shown.to - shown.from, most);
+  const most = Math.max(source.sdu * room / (2 * thinOf(room)), 3 * (gap.until - gap.at)), length = Math.min(shown.to - shown.from, most);
   if (gap.at < shown.from || gap.until > shown.to || length < shown.to - shown.from) {
     const around = (gap.at + gap.until) / 2, from = Math.max(wholeFrom, Math.min(around - length / 2, wholeTo - length));
     Object.assign(shown, { from, to: Math.min(wholeTo, from + length) });
   }
   choose(`unit-${tracks.indexOf(gap.track)}-${gap.first}`);
+  const ring = document.querySelector('.ring');
+  ring.style.scrollMarginBottom = `${byId('detail').offsetHeight + 8}px`;
+  ring.scrollIntoView({ block: 'nearest' });
   byId('loss').textContent = `Loss ${counted(place + 1)} of ${counted(gaps.length)}: ${several(gap.count, 'unit')} of ` +
     `${run.lanes[gap.track.lane]}.`;
 }

@@ -1,8 +1,9 @@
 // The picture: where a time stands, and what is drawn of a window. A lane is as high as LANE, one of PDUs as PDUS.
 const LANE = 30, PDUS = 20, AXIS = 20, NARROW = 640, LABELS = 130, MARGIN = 8, NAME = 15, FOLD = 26;
-const THIN = 3, CELL = 2, LEAST = 1 / 3; // px: units thinner than this are drawn in cells, and the least part of a cell that a loss fills
+const THIN = 3, LEAST = 1 / 3; // px: units thinner than this are drawn in cells, and the least part of a cell that a loss fills
+const MOST_BOXES = 6000; // about; of more lanes units are drawn in wider cells
 const MOST_PUSHED = 60; // px, how far a mark is moved to the right to stand beside another
-const MOST_PDUS = 4000, PDU = 5; // of a lane, and how many px a PDU and what is behind it take at least
+const PDU = 5; // px that a PDU and what is behind it take at least
 // The kinds of marks by how they are drawn; all others tell something.
 const MARKS = { begins: ['start', 'begun', 'joined'], ends: ['stop', 'left', 'dropped', 'stale', 'refused'], noticed: ['notice', 'read'] };
 const SHAPES = { begins: 'M-5 -7L6 0L-5 7z', ends: 'M-5 -5h10v10h-10z', noticed: 'M-5 0a5 5 0 1 0 10 0a5 5 0 1 0 -10 0z',
@@ -65,7 +66,7 @@ function showsPdus(track, scale) {
   return run.stays.some((stay) => {
     if (stay.sink !== track.sink || !stay.letters[track.stream]) return false;
     const source = sources[stay.source], events = (shown.to - shown.from) / source.interval;
-    return pduStep(source) * scale.perMicrosecond >= 4 && events * source.nse <= MOST_PDUS;
+    return pduStep(source) * scale.perMicrosecond >= 4 && events * source.nse * tracks.length <= MOST_BOXES;
   });
 }
 
@@ -99,7 +100,7 @@ function drawLanes(left, width, height, isNarrow) {
   const drawn = shown.rows.map((row) => element('g', {},
     element('rect', { class: 'lane', x: left, y: row.y, width: width - left, height: row.height }),
     element('text', { class: 'name', x: row.isOfPdus && !isNarrow ? 12 : 0, y: row.y + (isNarrow ? -3 : row.height / 2 + 4) }, row.name)));
-  for (const piece of shown.scale.pieces) drawn.push(...ticksOf(piece, height));
+  for (const piece of shown.scale.pieces) drawn.push(...ticksOf(piece, width, height));
   shown.scale.pieces.slice(1).forEach((piece, place) => {
     const skipped = piece.from - shown.scale.pieces[place].to, wide = Math.max(1, shown.scale.fold - 12);
     const x = piece.x - shown.scale.fold / 2 - wide / 2;
@@ -109,13 +110,14 @@ function drawLanes(left, width, height, isNarrow) {
   return drawn;
 }
 
-function ticksOf(piece, height) {
+function ticksOf(piece, width, height) {
   const drawn = [], least = 90 / shown.scale.perMicrosecond;
   const power = 10 ** Math.ceil(Math.log10(Math.max(least, 1)));
   const step = [power / 5, power / 2, power].find((it) => it >= least);
   for (let time = Math.ceil(piece.from / step) * step; time <= piece.to; time += step) {
     const x = shown.scale.place(time), label = step >= 1e6 ? `${counted(time / 1e6)} s` : `${counted(+(time / 1000).toFixed(3))} ms`;
-    drawn.push(element('line', { class: 'tick', x1: x, x2: x, y1: AXIS - 4, y2: height }), element('text', { x: x + 2, y: 12 }, label));
+    drawn.push(element('line', { class: 'tick', x1: x, x2: x, y1: AXIS - 4, y2: height }));
+    if (x + 60 < width) drawn.push(element('text', { x: x + 2, y: 12 }, label));
   }
   return drawn;
 }
@@ -145,14 +147,17 @@ function unitBox(row, track, index) {
     `${fate} at ${milliseconds(track.at[index])} ms`, { data: { 'data-lane': row.name } });
 }
 
+// How many px a unit must have to be drawn for itself. A cell of thinner ones is 1 px less.
+const thinOf = (width) => Math.max(THIN, width * tracks.length / MOST_BOXES);
+
 // The units of a stretch of a track in cells of a few px: of each cell its first and last unit, and how many have each fate.
 function cellsOf(track, first, end) {
-  const cells = [];
+  const cells = [], wide = thinOf(byId('picture').clientWidth) - 1;
   let cell = { until: -Infinity };
   for (let index = first; index < end; index += 1) {
     if (track.at[index] >= cell.until) {
-      const x = Math.floor(shown.scale.place(track.at[index]) / CELL);
-      cell = { x, until: shown.scale.time((x + 1) * CELL), first: index, counts: [0, 0, 0, 0] };
+      const x = Math.floor(shown.scale.place(track.at[index]) / wide);
+      cell = { x, until: shown.scale.time((x + 1) * wide), first: index, counts: [0, 0, 0, 0] };
       cells.push(cell);
     }
     cell.last = index;
@@ -193,10 +198,10 @@ function drawCells(row, track, first, end) {
 
 // The units of all streams; losses last.
 function drawUnits() {
-  const under = [], above = [];
+  const under = [], above = [], thin = thinOf(byId('picture').clientWidth);
   for (const row of shown.rows.filter((it) => it.track && !it.isOfPdus)) {
     const [first, end] = unitsIn(row.track, shown.from, shown.to);
-    if (end > first && sourceOf(row.track, first).sdu * shown.scale.perMicrosecond < THIN) {
+    if (end > first && sourceOf(row.track, first).sdu * shown.scale.perMicrosecond < thin) {
       const [empty, valid, lost] = drawCells(row, row.track, first, end);
       under.push(...empty, ...valid);
       above.push(...lost);

@@ -64,8 +64,8 @@ function tellRates(toGap) {
     cells.append(element('td', {}, button));
     return cells;
   });
-  byId('rates').replaceChildren(element('table', {}, heads('sink', 'source', 'stream', 'valid', 'lost', 'empty slots', 'never begun',
-    'loss rate, of the units given', 'longest gap'), ...rows));
+  const names = ['sink', 'source', 'stream', 'valid', 'lost', 'empty slots', 'never begun', 'lost of those given', 'longest gap'];
+  byId('rates').replaceChildren(...rows.length ? [element('table', {}, heads(...names), ...rows)] : []);
 }
 
 function tellUnit(unit) {
