@@ -3,6 +3,8 @@ import functools
 import re
 from dataclasses import dataclass, field
 
+import printed_rows
+
 OCTETS = 'latin-1'  # each octet of a text is a character, whatever it is
 REFUSAL = re.compile(r'line ([0-9]{1,18}): ')
 
@@ -55,7 +57,10 @@ def read_lines(rows):
         if row.startswith('  # '):
             line.notes.append(row[4:])
         elif row.startswith('  '):
-            line.rows.append(row[3:] if row.startswith('  ##') else row[2:])
+            printed = row[3:] if row.startswith('  ##') else row[2:]
+            if not printed_rows.is_row(printed):
+                raise RunFault(f'row {place} has no form that is known: {row[:60]!r}')
+            line.rows.append(printed)
         elif space and number == str(line.number + 1):
             yield line
             line = Line(line.number + 1, text)
