@@ -15,9 +15,10 @@ from collections import Counter
 sys.dont_write_bytecode = True
 from page_runs import TOP, explained, run_of, rows_of, text_of  # noqa: E402
 import scenarios  # noqa: E402
-from timeline_data import column, data_of, read_run  # noqa: E402
+from timeline_data import column, data_of, kept_marks, read_run  # noqa: E402
 from timeline_page import page_of  # noqa: E402
 from timeline_reading import OCTETS, RunFault, read_lines  # noqa: E402
+from timeline_run import Mark  # noqa: E402
 
 MOST_OCTETS = 1000000  # of the page of 3 s of stereo
 HEARD = ('heard', 'injected')
@@ -128,6 +129,10 @@ def worked(runs):
     size = len(page_of(runs['three-seconds'][1], '').encode())
     if size > MOST_OCTETS:
         yield f'three seconds of stereo are {size} octets'
+    marks = [Mark(('sink', 0), 1, kind, '') for kind in ('sum', *20000 * ['heard'], 'state')]
+    kept, left_out = kept_marks(marks)
+    if [it.kind for it in kept] != ['sum', 'state'] or left_out != {'heard': 20000} or kept_marks(marks[1:-1]) != (marks[1:-1], {}):
+        yield f'of {len(marks)} marks {len(kept)} are kept, and left out are {left_out}'
     if column([5, 15, 25, 25, None]) != [5, 1, 10, 2, 0, 1, -26, 1] or column([]) != []:
         yield f'a column is {column([5, 15, 25, 25, None])}'
 
